@@ -1,0 +1,4 @@
+pub mod Event
+pub mod Difference
+pub mod Schedule
+pub mod Horizon

@@ -1,0 +1,12 @@
+//! Events of a plan, bounds on the differences of their times, and the check of a schedule.
+#![tactic(auto)]
+
+pub use bound::{Bound, BoundFault};
+pub use decimal::{append_decimal, read_decimal};
+pub use event::{Event, MOST_EVENTS};
+pub use schedule::first_broken;
+
+mod bound;
+mod decimal;
+mod event;
+mod schedule;
