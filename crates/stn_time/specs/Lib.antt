@@ -1,1 +1,4 @@
+pub mod Near
+pub mod Text
 pub mod Time
+pub mod TimeOf

@@ -2,6 +2,12 @@
 #![tactic(auto)]
 
 pub use millis::{HORIZON, Ms};
+pub use printing::print_millis;
+pub use reading::TimeFault;
 pub use std::alloc::AllocError as Memory;
 
 mod millis;
+mod printing;
+mod reading;
+#[cfg(test)]
+mod tests;

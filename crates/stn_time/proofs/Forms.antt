@@ -1,0 +1,264 @@
+-- The parts of a text: that they are found, and that there is one set of them at most.
+use Rattle.std.proofs.Common.{◌≡◌, ℕ, ◌<◌, ◌≤◌, Bool, true, false, cond, ◌&&◌, List, [], ◌∷◌, ◌++◌, length, take, drop, ℤ, Option, Some, None, Result, Ok, Err, refl, sym, ap, ◌∙◌, subst, ◌↔◌, arith, eqb}
+use Rattle.std.specs.Char.{is_ascii_digit, digit_value}
+use Rattle.std.specs.Int.{IsInRange}
+use Rattle.std.specs.Fmt.{sign_text}
+use Rattle.std.specs.List.{prefix_len}
+use Rattle.std.specs.Str.{all_ascii_digits}
+use Rattle.std.specs.Str.Parse.{AllDigits, IsNumeral, digits_value, starts_with_minus}
+use Rattle.std.proofs.lemmas.Str.Parse.{IsNumeralModel, numerals_by_value, tells_all_ascii_digits, digit_from_value}
+use Rattle.std.proofs.lemmas.Bool.{false≢true, eqb-true}
+use Rattle.std.proofs.lemmas.Bool.Decides.{nat_tests}
+use Rattle.std.proofs.lemmas.Int.{ints}
+use Rattle.std.proofs.lemmas.List.{take-append-drop, length-take}
+use Rattle.std.proofs.lemmas.List.Sums.{take_while-cons, prefix_len-le-length}
+use Rattle.std.proofs.Math.Seq.{take-append_seam, drop-append_seam}
+use Rattle.std.proofs.lemmas.Option.{cond_some, none-some, same_Some}
+use Rattle.std.specs.Option.{option_map}
+use Rattle.stn_time.specs.Text.{Parts, these_parts, point_text, HasParts, IsTimeForm, is_fine, millis_of, Spells, IsTooFine, IsOutOfRange}
+use Rattle.stn_time.specs.TimeOf.{is_numeral, fraction_of, parts_with, parts_of, time_of_found, time_of, is_within_horizon}
+use Rattle.stn_time.specs.Time.{IsWithinHorizon}
+use Rattle.stn_time.specs.declared.reading.TimeFault.{TimeFault}
+use Rattle.stn_time.specs.declared.reading.TimeFault.TheVariants.{Malformed, TooFine, OutOfRange}
+
+-- the two tests of digits agree
+pub own : IsNumeralModel (λ ds. all_ascii_digits ds ≡ true) (digits_value 10)
+own = numerals_by_value _ tells_all_ascii_digits
+
+-- a byte with a decimal digit's value is a digit, and the other way round
+pub is_ascii_digit-from_value : (c : ℕ) → digit_value c < 10 → is_ascii_digit c ≡ true
+is_ascii_digit-from_value c h = let r : IsInRange 48 57 c = digit_from_value c h in grind (arith, nat_tests)
+
+pub digit_value-from_digit : (c : ℕ) → is_ascii_digit c ≡ true → digit_value c < 10
+digit_value-from_digit c h = grind (arith, nat_tests)
+
+-- the digits in front are those before the first byte that is none
+prefix_len-append : (whole tail : List ℕ) → AllDigits 10 whole → prefix_len is_ascii_digit tail ≡ 0 → prefix_len is_ascii_digit (whole ++ tail) ≡ length whole
+prefix_len-append [] tail h e = e
+prefix_len-append (c ∷ cs) tail h e =
+    let digit = is_ascii_digit-from_value c h.0 in
+    let more = prefix_len-append cs tail h.1 e in
+    rw digit (omega (arith, more))
+
+-- the front before the first byte that is no digit is all digits
+front-cons : (c : ℕ) (front : List ℕ) (b : Bool) → is_ascii_digit c ≡ b → AllDigits 10 front → AllDigits 10 (cond b (c ∷ front) [])
+front-cons c front true e rest = (digit_value-from_digit c e, rest)
+front-cons c front false e rest = tt
+
+AllDigits-front : (bytes : List ℕ) → AllDigits 10 (take (prefix_len is_ascii_digit bytes) bytes)
+AllDigits-front [] = tt
+AllDigits-front (c ∷ cs) = rw (take_while-cons is_ascii_digit c cs) (front-cons c (take (prefix_len is_ascii_digit cs) cs) (is_ascii_digit c) refl (AllDigits-front cs))
+
+-- behind the whole digits stands no digit
+prefix_len-point : (fraction : List ℕ) → prefix_len is_ascii_digit (point_text fraction) ≡ 0
+prefix_len-point [] = refl
+prefix_len-point (c ∷ cs) = refl
+
+-- a point and digits are the fraction that they spell
+fraction_of-point : (fraction : List ℕ) → AllDigits 10 fraction → fraction_of (point_text fraction) ≡ Some fraction
+fraction_of-point [] h = refl
+fraction_of-point (c ∷ cs) h = let digits : all_ascii_digits (c ∷ cs) ≡ true = own.from (c ∷ cs) h in rw digits refl
+
+-- one digit or more behind a point
+point-numeral : (digits : List ℕ) → is_numeral digits ≡ true → AllDigits 10 digits × (46 ∷ digits ≡ point_text digits)
+point-numeral [] h = absurd (false≢true h)
+point-numeral (digit ∷ digits) h = (own.to (digit ∷ digits) h, refl)
+
+-- a fraction that is found is spelled by a point and its digits, or by nothing
+point-fraction_of : (bytes fraction : List ℕ) → fraction_of bytes ≡ Some fraction → AllDigits 10 fraction × (bytes ≡ point_text fraction)
+point-fraction_of [] fraction e = let none : [] ≡ fraction = same_Some _ _ e in subst (λ (ds : List ℕ). AllDigits 10 ds × ([] ≡ point_text ds)) none (tt, refl)
+point-fraction_of (c ∷ cs) fraction e =
+    let found = cond_some (eqb c 46 && is_numeral cs) cs fraction e in
+    let point : c ≡ 46 = grind (arith, nat_tests, found.0) in
+    let numeral : is_numeral cs ≡ true = grind (arith, nat_tests, found.0) in
+    let shown = point-numeral cs numeral in
+    subst (λ (ds : List ℕ). AllDigits 10 ds × (c ∷ cs ≡ point_text ds)) found.1 (shown.0, ap (λ x. x ∷ cs) point ∙ shown.1)
+
+eqb-false-from : (n : ℕ) → 0 < n → eqb n 0 ≡ false
+eqb-false-from n h = grind (arith, nat_tests)
+
+-- the parts of digits followed by a point and digits
+parts_with-text : (negative : Bool) (whole fraction : List ℕ) → IsNumeral 10 whole → AllDigits 10 fraction → parts_with negative (whole ++ point_text fraction) ≡ Some (these_parts negative whole fraction)
+parts_with-text negative whole fraction numeral digits =
+    let end : prefix_len is_ascii_digit (whole ++ point_text fraction) ≡ length whole = prefix_len-append whole (point_text fraction) numeral.1 (prefix_len-point fraction) in
+    let front : take (length whole) (whole ++ point_text fraction) ≡ whole = take-append_seam whole (point_text fraction) in
+    let back : drop (length whole) (whole ++ point_text fraction) ≡ point_text fraction = drop-append_seam whole (point_text fraction) in
+    let found : fraction_of (point_text fraction) ≡ Some fraction = fraction_of-point fraction digits in
+    let some_digits : eqb (length whole) 0 ≡ false = eqb-false-from (length whole) numeral.0 in
+    rw end (rw some_digits (rw front (rw back (rw found refl))))
+
+-- what parts that were found behind the sign say of the bytes there
+record HasBytes (negative : Bool) (bytes : List ℕ) (parts : Parts) : Type 0 where
+  pub sign : parts.negative ≡ negative
+  pub whole : IsNumeral 10 parts.whole
+  pub fraction : AllDigits 10 parts.fraction
+  pub bytes_are : bytes ≡ parts.whole ++ point_text parts.fraction
+
+bytes-found : (negative : Bool) (bytes : List ℕ) (end : ℕ) (b : Bool) (o : Option (List ℕ)) (parts : Parts) → end ≤ length bytes → AllDigits 10 (take end bytes) → eqb end 0 ≡ b → fraction_of (drop end bytes) ≡ o → cond b None (option_map (λ (fraction : List ℕ). these_parts negative (take end bytes) fraction) o) ≡ Some parts → HasBytes negative bytes parts
+bytes-found negative bytes end true o parts within digits none found e = absurd (none-some _ e)
+bytes-found negative bytes end false None parts within digits some found e = absurd (none-some _ e)
+bytes-found negative bytes end false (Some fraction) parts within digits some found e =
+    let shown = point-fraction_of (drop end bytes) fraction found in
+    let nonzero : 0 < end = grind (arith, nat_tests) in
+    let numeral : 0 < length (take end bytes) = rw (length-take end bytes) (omega arith) in
+    let whole : bytes ≡ take end bytes ++ point_text fraction = sym (take-append-drop end bytes) ∙ ap (λ ds. take end bytes ++ ds) shown.1 in
+    subst (λ (p : Parts). HasBytes negative bytes p) (same_Some _ _ e) (record { sign = refl; whole = (numeral, digits); fraction = shown.0; bytes_are = whole })
+
+-- parts that are found have the text
+bytes-parts_with : (negative : Bool) (bytes : List ℕ) (parts : Parts) → parts_with negative bytes ≡ Some parts → HasBytes negative bytes parts
+bytes-parts_with negative bytes parts e = bytes-found negative bytes (prefix_len is_ascii_digit bytes) _ _ parts (prefix_len-le-length is_ascii_digit bytes) (AllDigits-front bytes) refl refl e
+
+parts_of-signed : (negative : Bool) (whole fraction : List ℕ) → IsNumeral 10 whole → AllDigits 10 fraction → parts_of (sign_text negative ++ (whole ++ point_text fraction)) ≡ Some (these_parts negative whole fraction)
+parts_of-signed true whole fraction numeral digits = parts_with-text true whole fraction numeral digits
+parts_of-signed false [] fraction numeral digits = absurd (omega (arith, numeral.0))
+parts_of-signed false (c ∷ cs) fraction numeral digits =
+    let r : IsInRange 48 57 c = digit_from_value c numeral.1.0 in
+    let no_minus : eqb c 45 ≡ false = grind (arith, nat_tests) in
+    rw no_minus (parts_with-text false (c ∷ cs) fraction numeral digits)
+
+-- a text of the form has the parts that are found
+pub parts_of-form : (text : List ℕ) (parts : Parts) → HasParts text parts → parts_of text ≡ Some parts
+parts_of-form text parts form = ap parts_of form.spelling ∙ parts_of-signed parts.negative parts.whole parts.fraction form.whole form.fraction
+
+minus-text : (text : List ℕ) → starts_with_minus text ≡ true → text ≡ 45 ∷ drop 1 text
+minus-text [] h = absurd (false≢true h)
+minus-text (c ∷ cs) h = ap (λ x. x ∷ cs) (eqb-true c 45 h)
+
+form-signed : (text : List ℕ) (b : Bool) (parts : Parts) → starts_with_minus text ≡ b → HasBytes b (cond b (drop 1 text) text) parts → HasParts text parts
+form-signed text true parts minus h = record {
+  whole = h.whole;
+  fraction = h.fraction;
+  spelling = rw h.sign (minus-text text minus ∙ ap (λ bytes. 45 ∷ bytes) h.bytes_are);
+}
+form-signed text false parts minus h = record { whole = h.whole; fraction = h.fraction; spelling = rw h.sign h.bytes_are }
+
+-- a text in which parts are found has the form, with these parts
+pub form-parts_of : (text : List ℕ) (parts : Parts) → parts_of text ≡ Some parts → HasParts text parts
+form-parts_of text parts e = form-signed text (starts_with_minus text) parts refl (bytes-parts_with _ _ parts e)
+
+-- a text has one set of parts at most
+pub same_parts : (text : List ℕ) (p q : Parts) → HasParts text p → HasParts text q → p ≡ q
+same_parts text p q a b = same_Some p q (sym (parts_of-form text p a) ∙ parts_of-form text q b)
+
+-- a text spells one number at most
+pub same_millis : (text : List ℕ) (m n : ℤ) → Spells text m → Spells text n → m ≡ n
+same_millis text m n a b = a.number ∙ (ap millis_of (same_parts text a.parts b.parts a.form b.form) ∙ sym b.number)
+
+-- what is known of a text whose parts were looked for
+no-form : (text : List ℕ) → parts_of text ≡ None → IsTimeForm text → ⊥
+no-form text e form = none-some _ (sym e ∙ parts_of-form text form.0 form.1)
+
+within-is : (t : ℤ) → is_within_horizon t ≡ true → IsWithinHorizon t
+within-is t h = grind (arith, ints)
+
+is-within : (t : ℤ) → IsWithinHorizon t → is_within_horizon t ≡ true
+is-within t h = grind (arith, ints)
+
+beyond-is : (t : ℤ) → is_within_horizon t ≡ false → IsWithinHorizon t → ⊥
+beyond-is t e h = false≢true (sym e ∙ is-within t h)
+
+-- the meaning of each answer, by the parts that were found and the two tests on them
+pub record Meaning (text : List ℕ) (answer : Result ℤ TimeFault) : Type 0 where
+  pub time : (t : ℤ) → answer ≡ Ok t → Spells text t × IsWithinHorizon t
+  pub malformed : answer ≡ Err Malformed → ¬ IsTimeForm text
+  pub too_fine : answer ≡ Err TooFine → IsTooFine text
+  pub out_of_range : answer ≡ Err OutOfRange → IsOutOfRange text
+
+meaning-time : (text : List ℕ) (t : ℤ) → Spells text t → IsWithinHorizon t → Meaning text (Ok t)
+meaning-time text t h w = record {
+  time = λ u e. let same : t ≡ u = cc in subst (λ (n : ℤ). Spells text n × IsWithinHorizon n) same (h, w);
+  malformed = λ e. absurd (cc);
+  too_fine = λ e. absurd (cc);
+  out_of_range = λ e. absurd (cc);
+}
+
+meaning-malformed : (text : List ℕ) → ¬ IsTimeForm text → Meaning text (Err Malformed)
+meaning-malformed text h = record {
+  time = λ u e. absurd (cc);
+  malformed = λ e. h;
+  too_fine = λ e. absurd (cc);
+  out_of_range = λ e. absurd (cc);
+}
+
+meaning-too_fine : (text : List ℕ) → IsTooFine text → Meaning text (Err TooFine)
+meaning-too_fine text h = record {
+  time = λ u e. absurd (cc);
+  malformed = λ e. absurd (cc);
+  too_fine = λ e. h;
+  out_of_range = λ e. absurd (cc);
+}
+
+meaning-out_of_range : (text : List ℕ) → IsOutOfRange text → Meaning text (Err OutOfRange)
+meaning-out_of_range text h = record {
+  time = λ u e. absurd (cc);
+  malformed = λ e. absurd (cc);
+  too_fine = λ e. absurd (cc);
+  out_of_range = λ e. h;
+}
+
+meaning-within : (text : List ℕ) (t : ℤ) (b : Bool) → is_within_horizon t ≡ b → Spells text t → Meaning text (cond b (Ok t) (Err OutOfRange))
+meaning-within text t true e h = meaning-time text t h (within-is t e)
+meaning-within text t false e h = meaning-out_of_range text (record { millis = t; spelled = h; beyond = beyond-is t e })
+
+meaning-fine : (text : List ℕ) (parts : Parts) (b : Bool) → is_fine parts ≡ b → HasParts text parts → Meaning text (cond b (cond (is_within_horizon (millis_of parts)) (Ok (millis_of parts)) (Err OutOfRange)) (Err TooFine))
+meaning-fine text parts true e form = meaning-within text (millis_of parts) (is_within_horizon (millis_of parts)) refl (record { parts = parts; form = form; fine = e; number = refl })
+meaning-fine text parts false e form = meaning-too_fine text (record { parts = parts; form = form; too_fine = e })
+
+meaning-found : (text : List ℕ) (o : Option Parts) → parts_of text ≡ o → Meaning text (time_of_found o)
+meaning-found text None e = meaning-malformed text (no-form text e)
+meaning-found text (Some parts) e = meaning-fine text parts (is_fine parts) refl (form-parts_of text parts e)
+
+-- the time of a text by the parts that were found
+pub time_of-found : (text : List ℕ) (o : Option Parts) → parts_of text ≡ o → time_of text ≡ time_of_found o
+unfolding time_of
+time_of-found text o e = ap time_of_found e
+
+-- each answer of `time_of` has its meaning
+pub time_of-meaning : (text : List ℕ) → Meaning text (time_of text)
+unfolding time_of
+time_of-meaning text = meaning-found text (parts_of text) refl
+
+-- each meaning has its answer
+pub time_of-spells : (text : List ℕ) (t : ℤ) → Spells text t → IsWithinHorizon t → time_of text ≡ Ok t
+time_of-spells text t h w =
+    let found : parts_of text ≡ Some h.parts = parts_of-form text h.parts h.form in
+    let fine : is_fine h.parts ≡ true = h.fine in
+    let within : is_within_horizon (millis_of h.parts) ≡ true = ap is_within_horizon (sym h.number) ∙ is-within t w in
+    time_of-found text _ found ∙ rw fine (rw within (ap Ok (sym h.number)))
+
+pub time_of-malformed : (text : List ℕ) → ¬ IsTimeForm text → time_of text ≡ Err Malformed
+time_of-malformed text h = time_of-found text _ refl ∙ malformed-found text (parts_of text) refl h
+  where
+    malformed-found : (text : List ℕ) (o : Option Parts) → parts_of text ≡ o → ¬ IsTimeForm text → time_of_found o ≡ Err Malformed
+    malformed-found text None e h = refl
+    malformed-found text (Some parts) e h = absurd (h (parts, form-parts_of text parts e))
+
+pub time_of-too_fine : (text : List ℕ) → IsTooFine text → time_of text ≡ Err TooFine
+time_of-too_fine text h =
+    let found : parts_of text ≡ Some h.parts = parts_of-form text h.parts h.form in
+    let fine : is_fine h.parts ≡ false = h.too_fine in
+    time_of-found text _ found ∙ rw fine refl
+
+beyond-test : (t : ℤ) (b : Bool) → is_within_horizon t ≡ b → ¬ IsWithinHorizon t → b ≡ false
+beyond-test t true e h = absurd (h (within-is t e))
+beyond-test t false e h = refl
+
+pub time_of-out_of_range : (text : List ℕ) → IsOutOfRange text → time_of text ≡ Err OutOfRange
+time_of-out_of_range text h =
+    let found : parts_of text ≡ Some h.spelled.parts = parts_of-form text h.spelled.parts h.spelled.form in
+    let fine : is_fine h.spelled.parts ≡ true = h.spelled.fine in
+    let beyond : is_within_horizon (millis_of h.spelled.parts) ≡ false = ap is_within_horizon (sym h.spelled.number) ∙ beyond-test h.millis (is_within_horizon h.millis) refl h.beyond in
+    time_of-found text _ found ∙ rw fine (rw beyond refl)
+
+-- what the clauses of `read` say of an answer that is the definition's
+pub read-time : (text : List ℕ) (answer : Result ℤ TimeFault) → answer ≡ time_of text → (t : ℤ) → (answer ≡ Ok t) ↔ (Spells text t × IsWithinHorizon t)
+read-time text answer same t = (λ e. (time_of-meaning text).time t (sym same ∙ e), λ h. same ∙ time_of-spells text t h.0 h.1)
+
+pub read-malformed : (text : List ℕ) (answer : Result ℤ TimeFault) → answer ≡ time_of text → (answer ≡ Err Malformed) ↔ (¬ IsTimeForm text)
+read-malformed text answer same = (λ e. (time_of-meaning text).malformed (sym same ∙ e), λ h. same ∙ time_of-malformed text h)
+
+pub read-too_fine : (text : List ℕ) (answer : Result ℤ TimeFault) → answer ≡ time_of text → (answer ≡ Err TooFine) ↔ IsTooFine text
+read-too_fine text answer same = (λ e. (time_of-meaning text).too_fine (sym same ∙ e), λ h. same ∙ time_of-too_fine text h)
+
+pub read-out_of_range : (text : List ℕ) (answer : Result ℤ TimeFault) → answer ≡ time_of text → (answer ≡ Err OutOfRange) ↔ IsOutOfRange text
+read-out_of_range text answer same = (λ e. (time_of-meaning text).out_of_range (sym same ∙ e), λ h. same ∙ time_of-out_of_range text h)

@@ -1,0 +1,93 @@
+-- The printed form of a number of milliseconds spells that number.
+use Rattle.std.proofs.Common.{◌≡◌, ℕ, ◌+◌, ◌*◌, ◌/◌, ◌%◌, ◌^◌, ◌<◌, Bool, true, false, cond, List, [], ◌∷◌, ◌++◌, map, length, ℤ, pos, negsuc, neg_ℤ, Ok, refl, sym, ap, ◌∙◌, arith, eqb, ltb, Result, Err, is_ok, OnOk, codes}
+use Rattle.std.specs.Prelude.{unsigned_abs}
+use Rattle.std.specs.Char.{digit_value}
+use Rattle.std.specs.Int.{is_negative}
+use Rattle.std.specs.Int.Digits.{AllBelowBase, digits_of, number_from_digits}
+use Rattle.std.specs.Fmt.{decimal, sign_text}
+use Rattle.std.proofs.lemmas.List.{length-map, append_assoc}
+use Rattle.std.specs.Str.Parse.{AllDigits, IsNumeral, digits_value}
+use Rattle.std.proofs.lemmas.Bool.{eqb-true}
+use Rattle.std.proofs.lemmas.Bool.Decides.{nat_tests}
+use Rattle.std.proofs.lemmas.Fmt.{decimal_digit, decimal-digits_of}
+use Rattle.std.proofs.lemmas.Int.Digits.{digits_value_is, all_below_base_digits_of, length-digits_of_step, number_digits_of}
+use Rattle.stn_time.specs.Text.{whole_text, three_digits, printed, these_parts, Spells, thousandths_of}
+use Rattle.stn_time.specs.TimeOf.{time_of}
+use Rattle.stn_time.specs.Time.{IsWithinHorizon}
+use Rattle.stn_time.proofs.Forms.{time_of-spells}
+
+-- the value of a digit's byte
+digit_value-byte : (d : ℕ) → d < 10 → digit_value (48 + d) ≡ d
+digit_value-byte d h = grind (arith, nat_tests)
+
+bytes-digits : (ds : List ℕ) → AllBelowBase 10 ds → AllDigits 10 (map (λ digit. 48 + digit) ds)
+bytes-digits [] h = tt
+bytes-digits (d ∷ ds) h = (rw (digit_value-byte d h.0) h.0, bytes-digits ds h.1)
+
+values-bytes : (ds : List ℕ) → AllBelowBase 10 ds → map digit_value (map (λ digit. 48 + digit) ds) ≡ ds
+values-bytes [] h = refl
+values-bytes (d ∷ ds) h = rw (digit_value-byte d h.0) (ap (λ rest. d ∷ rest) (values-bytes ds h.1))
+
+whole-positive : (n : ℕ) → 0 < n → IsNumeral 10 (map (λ digit. 48 + digit) (digits_of 10 n)) × (digits_value 10 (map (λ digit. 48 + digit) (digits_of 10 n)) ≡ n)
+whole-positive n h =
+    let ds = digits_of 10 n in
+    let below = all_below_base_digits_of 10 n (omega arith) in
+    let step = length-digits_of_step 10 n (omega arith) h in
+    let some : 0 < length (map (λ digit. 48 + digit) ds) = simp length-map (omega arith) in
+    ((some, bytes-digits ds below), digits_value_is 10 (map (λ digit. 48 + digit) ds) ∙ (ap (number_from_digits 10) (values-bytes ds below) ∙ number_digits_of 10 n (omega arith)))
+
+whole-tested : (n : ℕ) (b : Bool) → eqb n 0 ≡ b → IsNumeral 10 (cond b (48 ∷ []) (map (λ digit. 48 + digit) (digits_of 10 n))) × (digits_value 10 (cond b (48 ∷ []) (map (λ digit. 48 + digit) (digits_of 10 n))) ≡ n)
+whole-tested n true e = ((omega arith, (omega arith, tt)), sym (eqb-true n 0 e))
+whole-tested n false e = whole-positive n (grind (arith, nat_tests))
+
+-- the whole seconds are a numeral of their number
+pub whole_text-value : (n : ℕ) → IsNumeral 10 (whole_text n) × (digits_value 10 (whole_text n) ≡ n)
+whole_text-value n = whole-tested n (eqb n 0) refl
+
+-- three digits are digits, and their value is the number
+pub three_digits-value : (n : ℕ) → n < 1000 → AllDigits 10 (three_digits n) × (thousandths_of (three_digits n) ≡ n)
+three_digits-value n h =
+    let a = digit_value-byte (n / 100) (omega arith) in
+    let b = digit_value-byte (n / 10 % 10) (omega arith) in
+    let c = digit_value-byte (n % 10) (omega arith) in
+    ((omega (arith, a), (omega (arith, b), (omega (arith, c), tt))), omega (arith, a, b, c))
+
+-- a sign and a size are the number
+signed-size : (millis : ℤ) → millis ≡ cond (is_negative millis) (neg_ℤ (pos (unsigned_abs millis))) (pos (unsigned_abs millis))
+signed-size (pos n) = let no_sign : ltb n 0 ≡ false = grind (arith, nat_tests) in rw no_sign refl
+signed-size (negsuc n) = refl
+
+-- the printed form of each number spells it
+pub spells-printed : (millis : ℤ) → Spells (printed millis) millis
+unfolding printed
+spells-printed millis =
+    let n = unsigned_abs millis in
+    let whole = whole_text-value (n / 1000) in
+    let digits = three_digits-value (n % 1000) (omega arith) in
+    let size : 1000 * digits_value 10 (whole_text (n / 1000)) + thousandths_of (three_digits (n % 1000)) ≡ n = rw whole.1 (rw digits.1 (omega arith)) in
+    record {
+      parts = these_parts (is_negative millis) (whole_text (n / 1000)) (three_digits (n % 1000));
+      form = record { whole = whole.0; fraction = digits.0; spelling = refl };
+      fine = refl;
+      number = signed-size millis ∙ ap (λ (size : ℕ). cond (is_negative millis) (neg_ℤ (pos size)) (pos size)) (sym size);
+    }
+
+-- a printed time reads as itself
+pub time_of-printed : (millis : ℤ) → IsWithinHorizon millis → time_of (printed millis) ≡ Ok millis
+time_of-printed millis within = time_of-spells (printed millis) millis (spells-printed millis) within
+
+-- the whole seconds as the formatter of integers writes them
+decimal-tested : (n : ℕ) (b : Bool) → eqb n 0 ≡ b → n < 2 ^ 64 → decimal n ≡ cond b (48 ∷ []) (map (λ digit. 48 + digit) (digits_of 10 n))
+decimal-tested n true e small = ap decimal (eqb-true n 0 e) ∙ decimal_digit 0 (omega arith)
+decimal-tested n false e small = decimal-digits_of n (grind (arith, nat_tests)) small
+
+pub decimal-whole_text : (n : ℕ) → n < 2 ^ 64 → decimal n ≡ whole_text n
+decimal-whole_text n small = decimal-tested n (eqb n 0) refl small
+
+-- three pieces appended one after another are the printed form
+pub appends-printed : {E : Type 0} (r : Result (Unit {0}) E) (millis : ℤ) (old sign whole rest one two three : List ℕ) → sign ≡ sign_text (is_negative millis) → whole ≡ decimal (unsigned_abs millis / 1000) → unsigned_abs millis / 1000 < 2 ^ 64 → rest ≡ codes "." ++ three_digits (unsigned_abs millis % 1000) → one ≡ old ++ sign → two ≡ one ++ whole → three ≡ cond (is_ok r) (two ++ rest) two → OnOk r (three ≡ old ++ printed millis)
+unfolding printed
+appends-printed (Ok _) millis old sign whole rest one two three e f small g h i j =
+    let shown : whole ≡ whole_text (unsigned_abs millis / 1000) = f ∙ decimal-whole_text (unsigned_abs millis / 1000) small in
+    rw j (rw i (rw h (rw e (rw shown (rw g (simp append_assoc))))))
+appends-printed (Err _) millis old sign whole rest one two three e f small g h i j = tt

@@ -1,0 +1,48 @@
+-- The numbers that digits write, as the code adds them up.
+use Rattle.std.proofs.Common.{◌≡◌, ℕ, suc, ◌+◌, ◌-◌, ◌*◌, ◌<◌, min, Bool, true, false, cond, ◌&&◌, List, [], ◌∷◌, length, get_or, take, ℤ, pos, neg_ℤ, refl, arith, eqb}
+use Rattle.std.specs.Char.{is_ascii_digit, digit_value}
+use Rattle.std.specs.Int.{IsInRange}
+use Rattle.std.specs.List.{prefix_len}
+use Rattle.std.specs.Str.{all_ascii_digits}
+use Rattle.std.specs.Str.Parse.{AllDigits, digits_value}
+use Rattle.std.proofs.lemmas.Str.Parse.{digit_at}
+use Rattle.std.proofs.lemmas.Int.{ints}
+use Rattle.std.proofs.lemmas.Int.Digits.{digits_value_more}
+use Rattle.std.proofs.lemmas.Bool.Decides.{nat_tests}
+use Rattle.stn_time.specs.Near.{IsNear}
+use Rattle.stn_time.specs.TimeOf.{is_numeral}
+use Rattle.stn_time.specs.declared.reading.TheConstants.{BEYOND}
+
+pub digit_value-range : (c : ℕ) → IsInRange 48 57 c → digit_value c ≡ c - 48
+digit_value-range c h = grind (arith, nat_tests)
+
+-- a sum that saturates on the way is the saturated sum
+pub min-saturates : (most value digit : ℕ) → min (10 * min most value + digit) most ≡ min most (value * 10 + digit)
+min-saturates most value digit = omega arith
+
+pub seconds-more : (ds : List ℕ) (i s : ℕ) → AllDigits 10 ds → i < length ds → s ≡ min BEYOND (digits_value 10 (take i ds)) → min (10 * s + (get_or ds i 0 - 48)) BEYOND ≡ min BEYOND (digits_value 10 (take (i + 1) ds))
+seconds-more ds i s digits within e =
+    let more = digits_value_more 10 ds i within in
+    let digit = digit_value-range (get_or ds i 0) (digit_at ds i digits within) in
+    rw e (rw more (rw digit (min-saturates BEYOND (digits_value 10 (take i ds)) (get_or ds i 0 - 48))))
+
+-- the digits reach to the end exactly where there is nothing else
+all-step : (p n : ℕ) (b rest : Bool) → eqb p n ≡ rest → eqb (cond b (1 + p) 0) (suc n) ≡ (b && rest)
+all-step p n true rest e = grind (arith, nat_tests)
+all-step p n false rest e = grind (arith, nat_tests)
+
+pub all_ascii_digits-prefix : (bytes : List ℕ) → eqb (prefix_len is_ascii_digit bytes) (length bytes) ≡ all_ascii_digits bytes
+all_ascii_digits-prefix [] = refl
+all_ascii_digits-prefix (c ∷ cs) = all-step (prefix_len is_ascii_digit cs) (length cs) (is_ascii_digit c) (all_ascii_digits cs) (all_ascii_digits-prefix cs)
+
+pub is_numeral-prefix : (bytes : List ℕ) → 0 < length bytes → eqb (prefix_len is_ascii_digit bytes) (length bytes) ≡ is_numeral bytes
+is_numeral-prefix [] h = absurd (omega (arith, h))
+is_numeral-prefix (c ∷ cs) h = all_ascii_digits-prefix (c ∷ cs)
+
+abbrev signed : Bool → ℕ → ℤ
+signed negative size = cond negative (neg_ℤ (pos size)) (pos size)
+
+-- seconds that saturate beyond the horizon give the number itself, or one beyond the horizon
+pub near-size : (negative : Bool) (whole thousandths s t : ℕ) (kept : ℤ) → thousandths < 1000 → s ≡ min BEYOND whole → t ≡ thousandths → kept ≡ signed negative (1000 * s + t) → IsNear (signed negative (1000 * whole + thousandths)) kept
+near-size true whole thousandths s t kept small e f g = record { near = λ h. omega (arith, ints); far = λ h. omega (arith, ints) }
+near-size false whole thousandths s t kept small e f g = record { near = λ h. omega (arith, ints); far = λ h. omega (arith, ints) }
