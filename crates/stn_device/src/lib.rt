@@ -1,0 +1,10 @@
+//! Readers and writers that count their failed calls, and whole inputs and outputs over them.
+#![tactic(auto)]
+
+pub use counted::Counted;
+pub use whole::{ReadFault, WriteFault, read_whole, write_whole};
+
+mod counted;
+#[cfg(test)]
+mod tests;
+mod whole;

@@ -1,0 +1,208 @@
+use Rattle.std.proofs.Common.{◌≡◌, ◌≢◌, ℕ, ℤ, pos, w64, to_z, of_z, ◌+◌, ◌*◌, ◌<◌, ◌≤◌, ◌+ℤ◌, ◌≤ℤ◌, neg_ℤ, inl, inr, List, length, set, refl, sym, ap, ◌∙◌, arith, get_or-set_same, get_or-set_other}
+use Rattle.std.specs.Prelude.{IsTrue, ◌↔◌, Bool, false}
+use Rattle.std.specs.Int.{int_min}
+use Rattle.std.proofs.lemmas.Int.{ints}
+use Rattle.std.proofs.lemmas.Bool.{cases_eq, cases_lt}
+use Rattle.std.proofs.lemmas.Nat.{mul-add-lt, same_from_place}
+use Rattle.stn_time.specs.declared.millis.TheConstants.{HORIZON}
+use Rattle.stn_matrix.specs.Closed.{IsClosed, IsWidest}
+use Rattle.stn_net.specs.Difference.{Difference}
+use Rattle.stn_matrix.specs.Way.{IsWhole, entry, shorter, IsWritten, IsRowShortened, IsImplied, HasRoom}
+use Rattle.stn_matrix.proofs.Closure.{shorter-own_row, shorter-kept_row}
+
+-- the place of an entry lies in the square
+pub place_within : (events row column : ℕ) → row ≤ events → column ≤ events → row * (events + 1) + column < (events + 1) * (events + 1)
+place_within events row column rs cs = mul-add-lt row (events + 1) column (events + 1) (omega arith) (omega arith)
+
+-- a write at the place of an entry is a write of this entry alone
+pub written-set : (events : ℕ) (entries : List ℤ) (row column : ℕ) (value : ℤ) → IsWhole events entries → row ≤ events → column ≤ events
+    → IsWritten events (entry entries events) (entry (set entries (row * (events + 1) + column) value) events) row column value
+written-set events entries row column value whole rs cs =
+    let place = row * (events + 1) + column in
+    let within : place < length entries = omega (arith, place_within events row column rs cs, whole.square) in
+    record {
+      here = get_or-set_same entries place value (pos 0) within;
+      others = λ x y xs ys apart.
+          let differs : (x * (events + 1) + y) ≢ place = λ e.
+          let same = same_from_place x y row column (events + 1) (omega arith) (omega arith) e in
+          elim apart [ inl ne ↦ ne same.0 | inr ne ↦ ne same.1 ] in
+          get_or-set_other entries place (x * (events + 1) + y) value (pos 0) differs;
+    }
+
+-- the entry itself, written again, changes nothing
+pub written_kept : (events : ℕ) (far : ℕ → ℕ → ℤ) (row column : ℕ) (value : ℤ) → far row column ≡ value → IsWritten events far far row column value
+written_kept events far row column value e = record { here = e; others = λ x y xs ys apart. refl }
+
+-- the entries of the row before a column are shorter already, and the others are as they were
+pub record IsRowShortenedTo (events : ℕ) (old new : ℕ → ℕ → ℤ) (row by : ℕ) (through : ℤ) (column : ℕ) : Type 0 where
+  pub here : (y : ℕ) → y < column → y ≤ events → new row y ≡ int_min (old row y) (through +ℤ old by y)
+  pub left : (y : ℕ) → column ≤ y → y ≤ events → new row y ≡ old row y
+  pub others : (x y : ℕ) → x ≤ events → y ≤ events → x ≢ row → new x y ≡ old x y
+
+pub row_shortened_none : (events : ℕ) (far : ℕ → ℕ → ℤ) (row by : ℕ) (through : ℤ) → IsRowShortenedTo events far far row by through 0
+row_shortened_none events far row by through = record { here = λ y h ys. absurd (omega arith); left = λ y h ys. refl; others = λ x y xs ys ne. refl }
+
+-- the entry by which the row is shortened at a column is still as it was
+pub row_shortened-by : (events : ℕ) (old new : ℕ → ℕ → ℤ) (row by : ℕ) (through : ℤ) (column : ℕ) → IsRowShortenedTo events old new row by through column
+    → by ≤ events → column ≤ events → new by column ≡ old by column
+row_shortened-by events old new row by through column so_far bs cs = elim (cases_eq by row) [
+  | inl e ↦ rw e (so_far.left column (omega arith) cs)
+  | inr ne ↦ so_far.others by column bs cs ne
+]
+
+pub row_shortened_more : (events : ℕ) (old new next : ℕ → ℕ → ℤ) (row by : ℕ) (through : ℤ) (column : ℕ) → IsRowShortenedTo events old new row by through column
+    → row ≤ events → by ≤ events → column ≤ events
+    → IsWritten events new next row column (int_min (new row column) (through +ℤ new by column))
+    → IsRowShortenedTo events old next row by through (column + 1)
+row_shortened_more events old new next row by through column so_far rs bs cs written =
+    let way = row_shortened-by events old new row by through column so_far bs cs in
+    let own = so_far.left column (omega arith) cs in
+    record {
+      here = λ y h ys. elim (cases_eq y column) [
+        | inl e ↦ rw e (written.here ∙ (rw (way, own) refl))
+        | inr ne ↦ (written.others row y rs ys (inr ne) ∙ so_far.here y (omega arith) ys)
+      ];
+      left = λ y h ys. written.others row y rs ys (inr (omega arith)) ∙ so_far.left y (omega arith) ys;
+      others = λ x y xs ys ne. written.others x y xs ys (inl ne) ∙ so_far.others x y xs ys ne;
+    }
+
+pub row_shortened_all : (events : ℕ) (old new : ℕ → ℕ → ℤ) (row by : ℕ) (through : ℤ) (column : ℕ) → IsRowShortenedTo events old new row by through column → events < column
+    → IsRowShortened events old new row by through
+row_shortened_all events old new row by through column so_far end = record { here = λ y ys. so_far.here y (omega arith) ys; others = so_far.others }
+
+-- the rows before this one are shorter already by way of the link, and the others are as they were
+pub record IsShortenedTo (events : ℕ) (old new : ℕ → ℕ → ℤ) (u v : ℕ) (w : ℤ) (row : ℕ) : Type 0 where
+  pub here : (x y : ℕ) → x < row → x ≤ events → y ≤ events → new x y ≡ shorter old u v w x y
+  pub left : (x y : ℕ) → row ≤ x → x ≤ events → y ≤ events → new x y ≡ old x y
+
+pub shortened_none : (events : ℕ) (far : ℕ → ℕ → ℤ) (u v : ℕ) (w : ℤ) → IsShortenedTo events far far u v w 0
+shortened_none events far u v w = record { here = λ x y h xs ys. absurd (omega arith); left = λ x y h xs ys. refl }
+
+-- the row that the link leads to is as it was all the while
+pub shortened-own_row : (events : ℕ) (old new : ℕ → ℕ → ℤ) (u v : ℕ) (w : ℤ) (row : ℕ) → IsShortenedTo events old new u v w row
+    → u ≤ events → v ≤ events → pos 0 ≤ℤ (old v u +ℤ w) → (y : ℕ) → y ≤ events → new v y ≡ old v y
+shortened-own_row events old new u v w row so_far us vs round y ys = elim (cases_lt v row) [
+  | inl before ↦ so_far.here v y before vs ys ∙ shorter-own_row events old u v w us vs round y
+  | inr after ↦ so_far.left v y after vs ys
+]
+
+-- the row as it was
+pub shortened_skip : (events : ℕ) (old new : ℕ → ℕ → ℤ) (u v : ℕ) (w : ℤ) (row : ℕ) → IsShortenedTo events old new u v w row
+    → IsClosed events old → u ≤ events → v ≤ events → row ≤ events → new row v ≤ℤ (new row u +ℤ w) → IsShortenedTo events old new u v w (row + 1)
+shortened_skip events old new u v w row so_far closed us vs rs longer =
+    let own = so_far.left row v (omega arith) rs vs in
+    let way = so_far.left row u (omega arith) rs us in
+    record {
+      here = λ x y h xs ys. elim (cases_eq x row) [
+        | inl e ↦ (let kept = shorter-kept_row events old u v w closed vs row y rs ys (omega (arith, ints)) in rw e (so_far.left row y (omega arith) rs ys ∙ sym kept))
+        | inr ne ↦ so_far.here x y (omega arith) xs ys
+      ];
+      left = λ x y h xs ys. so_far.left x y (omega arith) xs ys;
+    }
+
+-- the row by way of the link
+pub shortened_turn : (events : ℕ) (old new next : ℕ → ℕ → ℤ) (u v : ℕ) (w : ℤ) (row : ℕ) → IsShortenedTo events old new u v w row
+    → u ≤ events → v ≤ events → pos 0 ≤ℤ (old v u +ℤ w) → row ≤ events
+    → IsRowShortened events new next row v (new row u +ℤ w) → IsShortenedTo events old next u v w (row + 1)
+shortened_turn events old new next u v w row so_far us vs round rs turned = record {
+  here = λ x y h xs ys. elim (cases_eq x row) [
+    | inl e ↦ (
+        let own = so_far.left row y (omega arith) rs ys in
+        let way = so_far.left row u (omega arith) rs us in
+        let onward = shortened-own_row events old new u v w row so_far us vs round y ys in
+        rw e (turned.here y ys ∙ (rw (own, way, onward) refl)))
+    | inr ne ↦ (turned.others x y xs ys ne ∙ so_far.here x y (omega arith) xs ys)
+  ];
+  left = λ x y h xs ys. turned.others x y xs ys (omega arith) ∙ so_far.left x y (omega arith) xs ys;
+}
+
+-- the differences by way of the row's own event and the link's end do not pass the least, minus the horizon
+pub least_way : (events : ℕ) (far : ℕ → ℕ → ℤ) (u v : ℕ) (w : ℤ) → IsClosed events far → u ≤ events → v ≤ events → pos 0 ≤ℤ (far v u +ℤ w)
+    → (x y : ℕ) → x ≤ events → y ≤ events → neg_ℤ HORIZON ≤ℤ ((far x u +ℤ w) +ℤ far v y)
+least_way events far u v w closed us vs round x y xs ys =
+    let back = closed.triangle v x u vs xs us in
+    let onward = closed.triangle v y x vs ys xs in
+    let most = closed.most y x ys xs in
+    omega (arith, ints)
+
+-- the rows before this one hold the widest differences already, and the others the horizon
+pub record IsWidenedTo (events : ℕ) (far : ℕ → ℕ → ℤ) (row : ℕ) : Type 0 where
+  pub origin : (x : ℕ) → x < row → x ≤ events → far x 0 ≡ pos 0
+  pub itself : (x : ℕ) → x < row → x ≤ events → far x x ≡ pos 0
+  pub others : (x y : ℕ) → x ≤ events → y ≤ events → y ≢ 0 → x ≢ y → far x y ≡ HORIZON
+  pub left : (x y : ℕ) → row ≤ x → x ≤ events → y ≤ events → far x y ≡ HORIZON
+
+pub widened_none : (events : ℕ) (far : ℕ → ℕ → ℤ) → ((x y : ℕ) → x ≤ events → y ≤ events → far x y ≡ HORIZON) → IsWidenedTo events far 0
+widened_none events far full = record {
+  origin = λ x h xs. absurd (omega arith);
+  itself = λ x h xs. absurd (omega arith);
+  others = λ x y xs ys apart differ. full x y xs ys;
+  left = λ x y h xs ys. full x y xs ys;
+}
+
+pub widened_more : (events : ℕ) (far next last : ℕ → ℕ → ℤ) (row : ℕ) → IsWidenedTo events far row → row ≤ events
+    → IsWritten events far next row 0 (pos 0) → IsWritten events next last row row (pos 0) → IsWidenedTo events last (row + 1)
+widened_more events far next last row so_far rs first second = record {
+  origin = λ x h xs. elim (cases_eq x row) [
+    | inl e ↦ elim (cases_eq row 0) [
+      | inl none ↦ rw e (ap (λ k. last row k) (sym none) ∙ second.here)
+      | inr some ↦ rw e (second.others row 0 rs (omega arith) (inr (omega arith)) ∙ first.here)
+    ]
+    | inr ne ↦ second.others x 0 xs (omega arith) (inl ne) ∙ (first.others x 0 xs (omega arith) (inl ne) ∙ so_far.origin x (omega arith) xs)
+  ];
+  itself = λ x h xs. elim (cases_eq x row) [
+    | inl e ↦ rw e second.here
+    | inr ne ↦ second.others x x xs xs (inl ne) ∙ (first.others x x xs xs (inl ne) ∙ so_far.itself x (omega arith) xs)
+  ];
+  others = λ x y xs ys apart differ. elim (cases_eq y row) [
+    | inl e ↦ second.others x y xs ys (inl (omega arith)) ∙ (first.others x y xs ys (inr apart) ∙ so_far.others x y xs ys apart differ)
+    | inr ne ↦ second.others x y xs ys (inr ne) ∙ (first.others x y xs ys (inr apart) ∙ so_far.others x y xs ys apart differ)
+  ];
+  left = λ x y h xs ys. second.others x y xs ys (inl (omega arith)) ∙ (first.others x y xs ys (inl (omega arith)) ∙ so_far.left x y (omega arith) xs ys);
+}
+
+pub widened_all : (events : ℕ) (far : ℕ → ℕ → ℤ) (row : ℕ) → IsWidenedTo events far row → events < row → IsWidest events far
+widened_all events far row so_far end = record {
+  origin = λ x xs. so_far.origin x (omega arith) xs;
+  itself = λ x xs. so_far.itself x (omega arith) xs;
+  others = so_far.others;
+}
+
+-- both sides of a bound are implied, or leave room, as two comparisons say
+pub implied_by : (far : ℕ → ℕ → ℤ) (bound : Difference) (from to : ℕ) (forth back upper lower : ℤ) (answer : Bool)
+    → from ≡ bound.from → to ≡ bound.to → forth ≡ far from to → back ≡ far to from → upper ≡ bound.hi → lower ≡ neg_ℤ bound.lo
+    → forth ≤ℤ upper → (IsTrue answer ↔ (back ≤ℤ lower)) → (IsTrue answer ↔ IsImplied far bound)
+implied_by far bound from to forth back upper lower answer is_from is_to is_forth is_back is_upper is_lower first second =
+    let forth_is : forth ≡ far bound.from bound.to = rw (← is_from, ← is_to) is_forth in
+    let back_is : back ≡ far bound.to bound.from = rw (← is_from, ← is_to) is_back in (
+      (λ t. let h = second.0 t in record { upper = omega (arith, ints); lower = omega (arith, ints) }),
+      (λ implied. let h = implied.lower in second.1 (omega (arith, ints))),
+    )
+
+pub room_by : (far : ℕ → ℕ → ℤ) (bound : Difference) (from to : ℕ) (forth back upper lower : ℤ) (answer : Bool)
+    → from ≡ bound.from → to ≡ bound.to → forth ≡ far from to → back ≡ far to from → upper ≡ neg_ℤ bound.hi → lower ≡ bound.lo
+    → upper ≤ℤ back → (IsTrue answer ↔ (lower ≤ℤ forth)) → (IsTrue answer ↔ HasRoom far bound)
+room_by far bound from to forth back upper lower answer is_from is_to is_forth is_back is_upper is_lower first second =
+    let forth_is : forth ≡ far bound.from bound.to = rw (← is_from, ← is_to) is_forth in
+    let back_is : back ≡ far bound.to bound.from = rw (← is_from, ← is_to) is_back in (
+      (λ t. let h = second.0 t in record { upper = omega (arith, ints); lower = omega (arith, ints) }),
+      (λ room. let h = room.lower in second.1 (omega (arith, ints))),
+    )
+
+pub no_room_by : (far : ℕ → ℕ → ℤ) (bound : Difference) (from to : ℕ) (back upper : ℤ) (answer : Bool)
+    → from ≡ bound.from → to ≡ bound.to → back ≡ far to from → upper ≡ neg_ℤ bound.hi
+    → (IsTrue answer ↔ (upper ≤ℤ back)) → answer ≡ false → (IsTrue answer ↔ HasRoom far bound)
+no_room_by far bound from to back upper answer is_from is_to is_back is_upper first fails =
+    let back_is : back ≡ far bound.to bound.from = rw (← is_from, ← is_to) is_back in (
+      (λ t. let clash : ⊥ = cc in absurd clash),
+      (λ room. let h = room.upper in first.1 (omega (arith, ints))),
+    )
+
+-- an equal value is written alike
+pub written_same : (events : ℕ) (old new : ℕ → ℕ → ℤ) (row column : ℕ) (value other : ℤ) → value ≡ other
+    → IsWritten events old new row column value → IsWritten events old new row column other
+written_same events old new row column value other e written = rw (← e) written
+
+-- a value that fits is itself, passed as bits
+pub passed : (z : ℤ) → neg_ℤ (pos 2147483648) ≤ℤ z → z ≤ℤ pos 2147483647 → to_z w64 (of_z w64 z) ≡ z
+passed z least most = omega (arith, ints)

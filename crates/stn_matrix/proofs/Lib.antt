@@ -1,0 +1,4 @@
+pub mod Tightest
+pub mod Closure
+pub mod Widest
+pub mod Entries

@@ -1,0 +1,17 @@
+use Rattle.std.proofs.Common.{◌≡◌, List, ℤ, sym, subst, arith}
+use Rattle.std.specs.Vec.{with_items}
+use Rattle.std.proofs.lemmas.List.{with_items_is}
+use Rattle.stn_matrix.specs.Table.{Table, far_of}
+use Rattle.stn_matrix.specs.Closed.{IsWidest}
+use Rattle.stn_matrix.specs.Way.{entry}
+use Rattle.stn_matrix.proofs.Widest.{exact_widest}
+use Rattle.stn_matrix.proofs.matrix.Matrix.bare.Goals as goal
+
+pub returns-clause-exact : goal.returns-clause-exact
+returns-clause-exact g c =
+    let table : Table = record { events = c.args.events; entries = (with_items c.in_ok-entries.entries c.widen.new.entries).items; steps = 0 } in
+    let items : table.entries ≡ c.widen.new.entries = with_items_is c.in_ok-entries.entries c.widen.new.entries (omega arith) in
+    let written : IsWidest c.args.events (entry c.widen.new.entries c.args.events) = rw c.from.ensures at c.widen.ensures in
+    let P : List ℤ → Type 0 = λ es. IsWidest c.args.events (entry es c.args.events) in
+    let widest : IsWidest table.events (far_of table) = subst P (sym items) written in
+    exact_widest table widest

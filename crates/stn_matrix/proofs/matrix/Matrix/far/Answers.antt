@@ -1,0 +1,18 @@
+use Rattle.std.proofs.Common.{◌≡◌, arith, rules}
+use Rattle.std.proofs.lemmas.Int.{ints}
+use Rattle.stn_matrix.specs.Table.{far_of}
+use Rattle.stn_matrix.specs.Closed.{IsClosedTable}
+use Rattle.stn_matrix.proofs.Closure.{closed_within}
+use Rattle.stn_matrix.proofs.matrix.Matrix.far.Goals as goal
+
+pub unwrap-requires : goal.unwrap-requires
+unwrap-requires g c =
+    let table : IsClosedTable c.args.self.now = rw (← c.self.view_is) c.self.invariant in
+    let within = closed_within c.args.self.now.events (far_of c.args.self.now) table.closed c.args.from c.args.to c.requires.from c.requires.to in
+    let millis : c.entry_of-millis.result ≡ far_of c.args.self.now c.args.from c.args.to = search rules in
+    c.new.ensures.within.1 (omega (arith, ints), omega (arith, ints))
+
+pub returns-clause-far : goal.returns-clause-far
+returns-clause-far g c = λ bounds e.
+    let entry : c.unwrap.result ≡ far_of c.args.self.now c.args.from c.args.to = search rules in
+    rw entry (e.far c.args.from c.args.to c.requires.from c.requires.to)

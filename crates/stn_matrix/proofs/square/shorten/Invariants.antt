@@ -1,0 +1,6 @@
+use Rattle.stn_matrix.specs.Way.{entry}
+use Rattle.stn_matrix.proofs.Entries.{IsShortenedTo}
+use Rattle.stn_matrix.proofs.square.shorten.Given as goal
+
+abbrev pub invariant-loop-row : goal.invariant-loop-row
+invariant-loop-row l = IsShortenedTo l.events (entry l.fn.entries l.events) (entry l.entries l.events) l.fn.link.from l.fn.link.to l.fn.link.most l.row

@@ -1,0 +1,4 @@
+pub mod Table
+pub mod Tightest
+pub mod Closed
+pub mod Way

@@ -1,0 +1,12 @@
+use Rattle.std.specs.Prelude.{ℕ, ℤ, pos, ◌+◌, ◌*◌, List, slice_index_or}
+
+-- a square of differences: one row for the origin and each of so many other events, row after row;
+-- and how many bounds it has been tightened by
+pub record Table : Type 0 where
+  pub events : ℕ
+  pub entries : List ℤ
+  pub steps : ℕ
+
+-- the entry in the row of x and the column of y
+abbrev pub far_of : Table → ℕ → ℕ → ℤ
+far_of table x y = slice_index_or table.entries (x * (table.events + 1) + y) (pos 0)

@@ -1,0 +1,42 @@
+use Rattle.std.specs.Prelude.{◌≡◌, ◌≢◌, ◌⊎◌, ℕ, ℤ, pos, ◌+◌, ◌*◌, ◌≤◌, ◌+ℤ◌, ◌≤ℤ◌, neg_ℤ, List, length, slice_index_or}
+use Rattle.std.specs.Int.{int_min}
+use Rattle.stn_net.specs.Difference.{Difference}
+use Rattle.stn_net.specs.declared.event.TheConstants.{MOST_EVENTS}
+
+-- the entries are a square of one row for the origin and each of so many other events, row after row
+pub record IsWhole (events : ℕ) (entries : List ℤ) : Type 0 where
+  pub few : events ≤ MOST_EVENTS
+  pub square : length entries ≡ (events + 1) * (events + 1)
+
+-- the entry in the row of x and the column of y
+abbrev pub entry : List ℤ → ℕ → ℕ → ℕ → ℤ
+entry entries events x y = slice_index_or entries (x * (events + 1) + y) (pos 0)
+
+-- the lesser of the difference of x and y and of that by way of v, which lies at most w after u
+abbrev pub shorter : (ℕ → ℕ → ℤ) → ℕ → ℕ → ℤ → ℕ → ℕ → ℤ
+shorter far u v w x y = int_min (far x y) ((far x u +ℤ w) +ℤ far v y)
+
+-- the differences by way of both sides of a bound: of the upper, and then of the lower
+abbrev pub narrower : (ℕ → ℕ → ℤ) → Difference → ℕ → ℕ → ℤ
+narrower far bound = shorter (shorter far bound.from bound.to bound.hi) bound.to bound.from (neg_ℤ bound.lo)
+
+-- the differences are no looser than the bound
+pub record IsImplied (far : ℕ → ℕ → ℤ) (bound : Difference) : Type 0 where
+  pub upper : far bound.from bound.to ≤ℤ bound.hi
+  pub lower : far bound.to bound.from ≤ℤ neg_ℤ bound.lo
+
+-- some time between the tightest differences of its events meets the bound
+pub record HasRoom (far : ℕ → ℕ → ℤ) (bound : Difference) : Type 0 where
+  pub upper : neg_ℤ bound.hi ≤ℤ far bound.to bound.from
+  pub lower : bound.lo ≤ℤ far bound.from bound.to
+
+-- one entry is this value, and the others are as they were
+pub record IsWritten (events : ℕ) (old new : ℕ → ℕ → ℤ) (row column : ℕ) (value : ℤ) : Type 0 where
+  pub here : new row column ≡ value
+  pub others : (x y : ℕ) → x ≤ events → y ≤ events → (x ≢ row) ⊎ (y ≢ column) → new x y ≡ old x y
+
+-- the entries of one row are shorter by way of an event that lies at most `through` after the row's own, and the other
+-- rows are as they were
+pub record IsRowShortened (events : ℕ) (old new : ℕ → ℕ → ℤ) (row by : ℕ) (through : ℤ) : Type 0 where
+  pub here : (y : ℕ) → y ≤ events → new row y ≡ int_min (old row y) (through +ℤ old by y)
+  pub others : (x y : ℕ) → x ≤ events → y ≤ events → x ≢ row → new x y ≡ old x y

@@ -1,0 +1,121 @@
+ghost use Rattle.std.specs.Prelude.{◌≡◌, ℕ, ◌+◌, ◌≤◌, ◌++◌, ◌∷◌, [], ◌↔◌, min, false, List, IsTrue, IfOk};
+ghost use Rattle.stn_net.specs.Difference.{Difference, NamesEvents};
+ghost use Rattle.stn_net.specs.Horizon.{horizon_bounds};
+ghost use Rattle.stn_net.specs.Schedule.{HasSchedule};
+ghost use Rattle.stn_net.specs.declared.event.TheConstants.{MOST_EVENTS};
+ghost use Rattle.stn_matrix.specs.Table.{far_of};
+ghost use Rattle.stn_matrix.specs.Tightest.{IsTightest, IsExact};
+
+use crate::square::{entry_of, has_room, is_implied, narrow, widen};
+use std::alloc::Allocator;
+use std::marker::Model;
+use stn_net::{Bound, Event};
+use stn_time::{HORIZON, Memory, Ms};
+
+// The horizon, as an entry.
+const FARTHEST: i32 = HORIZON as i32;
+
+/// The tightest differences of the events of a plan, in milliseconds: how much later than each
+/// event each other can be in the schedules of a list of bounds (Dechter, Meiri and Pearl, 1991).
+#[derive(Drop)]
+pub struct Matrix<A: Allocator> {
+    events: u16,
+    entries: Vec<i32, A>,
+    steps: u64,
+}
+
+impl<A: Allocator> Model for Matrix<A> {
+    ghost use Rattle.stn_matrix.specs.Table.{Table};
+    ghost use Rattle.stn_matrix.specs.Closed.{IsClosedTable};
+
+    ghost Value = { Table };
+
+    ghost view = { λ m. record { events = m.events; entries = m.entries.items; steps = m.steps } };
+
+    ghost invariant = { λ m. IsClosedTable (record { events = m.events; entries = m.entries.items; steps = m.steps }) };
+}
+
+impl<A: Allocator> Matrix<A> {
+    /// The matrix of so many events beside the origin and their horizon bounds alone; for want of
+    /// memory none. It asks for memory once, and no other call does.
+    pub fn bare(alloc: A, events: u16) -> Result<Matrix<A>, Memory>
+        requires { events ≤ MOST_EVENTS }
+        ensures exact { IfOk result (λ matrix. IsExact (horizon_bounds events) matrix) }
+        ensures events { IfOk result (λ matrix. matrix.events ≡ events) }
+        ensures steps { IfOk result (λ matrix. matrix.steps ≡ 0) }
+    {
+        let size = usize::from(events) + 1;
+        let mut entries = vec![in alloc; FARTHEST; size * size]?;
+        widen(&mut entries, usize::from(events));
+        Ok(Matrix {
+            events,
+            entries,
+            steps: 0,
+        })
+    }
+
+    /// The number of events beside the origin.
+    pub fn events(&self) -> u16
+        ensures value { result ≡ self.now.events }
+        ensures few { result ≤ MOST_EVENTS }
+    {
+        self.events
+    }
+
+    /// How often a bound was taken, here and in the matrices that were copied into this one, with
+    /// the copies; it stays at the greatest u64.
+    pub fn steps(&self) -> u64
+        ensures { result ≡ self.now.steps }
+    {
+        self.steps
+    }
+
+    /// How much later than one event another can be.
+    pub fn far(&self, from: Event, to: Event) -> Ms
+        requires from { from ≤ self.now.events }
+        requires to { to ≤ self.now.events }
+        ensures entry { result ≡ far_of self.now from to }
+        ensures far { (bounds : List Difference) → IsExact bounds self.now → IsTightest bounds from to result }
+    {
+        let events = usize::from(self.events());
+        let row = usize::from(from.number());
+        let column = usize::from(to.number());
+        let millis = entry_of(&self.entries, events, row, column);
+        Ms::new(millis).unwrap()
+    }
+
+    /// Takes one more bound, and answers true; false, and nothing changes, where the bounds taken
+    /// so far have no schedule together with it.
+    pub fn tighten(&mut self, bound: Bound) -> bool
+        requires { NamesEvents self.old.events bound }
+        ensures possible { (bounds : List Difference) → IsExact bounds self.old
+            → (IsTrue result ↔ HasSchedule (bounds ++ bound ∷ [])) }
+        ensures exact { (bounds : List Difference) → IsExact bounds self.old
+            → IsTrue result → IsExact (bounds ++ bound ∷ []) self.new }
+        ensures unchanged { result ≡ false → self.new ≡ self.old }
+        ensures events { self.new.events ≡ self.old.events }
+        ensures counted { IsTrue result → self.new.steps ≡ min (self.old.steps + 1) u64.MAX }
+    {
+        let events = usize::from(self.events);
+        if !is_implied(&self.entries, events, bound) {
+            if !has_room(&self.entries, events, bound) {
+                return false;
+            }
+            narrow(&mut self.entries, events, bound);
+        }
+        self.steps = self.steps.saturating_add(1);
+        true
+    }
+
+    /// Takes the entries of another matrix of as many events in place of its own.
+    pub fn copy_from(&mut self, other: &Matrix<A>)
+        requires { self.old.events ≡ other.now.events }
+        ensures exact { (bounds : List Difference) → IsExact bounds other.now → IsExact bounds self.new }
+        ensures events { self.new.events ≡ other.now.events }
+        ensures entries { self.new.entries ≡ other.now.entries }
+        ensures steps { self.new.steps ≡ min (self.old.steps + other.now.steps + 1) u64.MAX }
+    {
+        self.entries.copy_from_slice(&other.entries);
+        self.steps = self.steps.saturating_add(other.steps).saturating_add(1);
+    }
+}

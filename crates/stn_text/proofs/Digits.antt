@@ -1,0 +1,45 @@
+-- Digits read one after the other.
+use Rattle.std.proofs.Common.{◌≡◌, ℕ, ◌+◌, ◌-◌, ◌*◌, Bool, true, false, cond, ◌&&◌, List, [], ◌∷◌, length, drop, get_or, Option, Some, None, refl, sym, ap, ◌∙◌, ◌^◌, ◌<◌, ◌≤◌, arith, add-one}
+use Rattle.std.specs.Prelude.{nat_le, nat_lt, if◌then◌else◌}
+use Rattle.std.specs.Char.{is_ascii_digit}
+use Rattle.std.specs.Str.{all_ascii_digits}
+use Rattle.std.specs.Str.Parse.{digits_value, digits_value_after}
+use Rattle.std.proofs.lemmas.Bool.Decides.{nat_tests}
+use Rattle.std.proofs.lemmas.List.{drop_more}
+use Rattle.stn_text.specs.Numbers.{number_of}
+use Rattle.std.proofs.Math.Nat.{pow-succ', pow-le-pow_right}
+
+-- one digit more
+pub below-more : (n d i : ℕ) → n < 10 ^ i → d ≤ 9 → n * 10 + d < 10 ^ (i + 1)
+below-more n d i lt le = rw (add-one, pow-succ') (omega arith)
+
+-- a number of at most four digits
+pub below-four : (n i : ℕ) → n < 10 ^ i → i ≤ 4 → n < 10000
+below-four n i lt le = omega (arith, pow-le-pow_right {n = 10} (omega arith) le)
+
+-- a word that has too few or too many bytes is no number
+pub number_of-length : (word : List ℕ) → (nat_lt 0 (length word) && nat_le (length word) 5) ≡ false → number_of word ≡ None
+unfolding number_of
+number_of-length word e = ap (λ t. cond (t && all_ascii_digits word) (Some (digits_value 10 word)) None) e
+
+and_false : (t : Bool) → (t && false) ≡ false
+and_false true = refl
+and_false false = refl
+
+-- a word with another byte is no number
+pub number_of-other : (word : List ℕ) → all_ascii_digits word ≡ false → number_of word ≡ None
+unfolding number_of
+number_of-other word e =
+    ap (λ t. cond ((nat_lt 0 (length word) && nat_le (length word) 5) && t) (Some (digits_value 10 word)) None) e
+    ∙ ap (λ t. cond t (Some (digits_value 10 word)) None) (and_false (nat_lt 0 (length word) && nat_le (length word) 5))
+
+-- a word of digits alone
+pub number_of-digits : (word : List ℕ) → (nat_lt 0 (length word) && nat_le (length word) 5) ≡ true → all_ascii_digits word ≡ true → number_of word ≡ Some (digits_value 10 word)
+unfolding number_of
+number_of-digits word e d =
+    ap (λ t. cond (t && all_ascii_digits word) (Some (digits_value 10 word)) None) e ∙ ap (λ t. cond t (Some (digits_value 10 word)) None) d
+
+-- the byte at the place is no digit
+pub digits-stop : (word : List ℕ) (i byte : ℕ) → i < length word → byte ≡ get_or word i 0 → is_ascii_digit byte ≡ false → all_ascii_digits (drop i word) ≡ all_ascii_digits word → all_ascii_digits word ≡ false
+digits-stop word i byte lt is other e =
+    sym e ∙ ap all_ascii_digits (drop_more word i 0 lt) ∙ ap (λ t. t && all_ascii_digits (drop (i + 1) word)) (ap is_ascii_digit (sym is) ∙ other)

@@ -1,0 +1,10 @@
+-- Numbers of one to five decimal digits.
+use Rattle.std.specs.Prelude.{ℕ, ◌&&◌, List, length, nat_le, nat_lt, Option, Some, None, if◌then◌else◌}
+use Rattle.std.specs.Str.{all_ascii_digits}
+use Rattle.std.specs.Str.Parse.{digits_value}
+use Rattle.stn_text.specs.declared.numbers.TheConstants.{MOST_DIGITS}
+
+-- the number that a word of one to five decimal digits is
+unfoldable pub number_of : List ℕ → Option ℕ
+number_of word = if (nat_lt 0 (length word) && nat_le (length word) MOST_DIGITS) && all_ascii_digits word
+    then Some (digits_value 10 word) else None

@@ -1,0 +1,28 @@
+ghost use Rattle.std.specs.Prelude.{◌≡◌, ◌≤◌, List, neg_ℤ};
+ghost use Rattle.stn_net.specs.Difference.{Difference};
+ghost use Rattle.stn_matrix.specs.Tightest.{IsExact};
+ghost use Rattle.stn_windows.specs.Window.{IsWindow};
+
+use std::alloc::Allocator;
+use stn_matrix::Matrix;
+use stn_net::Event;
+use stn_time::Ms;
+
+/// The earliest and the latest time that an event takes in a schedule of the bounds that the
+/// matrix took; it takes each whole millisecond between in some schedule, too.
+pub fn window<A: Allocator>(matrix: &Matrix<A>, event: Event) -> (Ms, Ms)
+    requires { event ≤ matrix.now.events }
+    ensures { (bounds : List Difference) → IsExact bounds matrix.now → IsWindow bounds event result.0 result.1 }
+{
+    let origin = Event::origin();
+    let earliest = opposite(matrix.far(event, origin));
+    let latest = matrix.far(origin, event);
+    (earliest, latest)
+}
+
+// The time less than 0 by as much as this one is more.
+fn opposite(time: Ms) -> Ms
+    ensures { result ≡ neg_ℤ time }
+{
+    Ms::new(-time.get()).unwrap()
+}
