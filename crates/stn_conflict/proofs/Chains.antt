@@ -1,0 +1,84 @@
+use Rattle.std.proofs.Common.{◌≡◌, ℕ, ◌<◌, List, [], ◌∷◌, ◌++◌, length, take, sym, subst, ap, refl, ◌∙◌, arith}
+use Rattle.std.specs.Prelude.{ℤ, pos, ◌+ℤ◌}
+use Rattle.std.specs.List.{AllByRecursion}
+use Rattle.std.proofs.lemmas.Int.{ints}
+use Rattle.std.proofs.lemmas.List.{length-take}
+use Rattle.stn_net.specs.Difference.{Difference}
+use Rattle.stn_matrix.specs.Tightest.{IsTightest}
+use Rattle.stn_matrix.proofs.Tightest.{tightest_unique}
+use Rattle.stn_conflict.specs.declared.links.Link.{Link}
+use Rattle.stn_conflict.specs.Arcs.{Arc, arc_of, IsChain, weight_of}
+use Rattle.stn_conflict.specs.Named.{IsTight, IsTightChain, IsFirstStep, IsWay}
+use Rattle.stn_conflict.proofs.Distances.{arc_before}
+
+-- one chain and a link that begins where it ends are a chain
+pub chain-push : (bounds : List Difference) (links : List Link) (link : Link) (x y : ℕ) → IsChain bounds links x y → link.place < length bounds → (arc_of bounds link).from ≡ y → IsChain bounds (links ++ link ∷ []) x (arc_of bounds link).to
+chain-push bounds [] link x y chain there begins = (there, begins ∙ sym chain, refl)
+chain-push bounds (first ∷ links) link x y (placed, from, rest) there begins = (placed, from, chain-push bounds links link _ y rest there begins)
+
+-- the parts of a chain with a last link
+pub record IsPushedChain (bounds : List Difference) (links : List Link) (link : Link) (x y : ℕ) : Type 0 where
+  pub there : link.place < length bounds
+  pub before : IsChain bounds links x (arc_of bounds link).from
+  pub ends : (arc_of bounds link).to ≡ y
+
+pub chain-unpush : (bounds : List Difference) (links : List Link) (link : Link) (x y : ℕ) → IsChain bounds (links ++ link ∷ []) x y → IsPushedChain bounds links link x y
+chain-unpush bounds [] link x y (there, from, ends) = record { there = there; before = sym from; ends = ends }
+chain-unpush bounds (first ∷ links) link x y (placed, from, rest) =
+    let parts = chain-unpush bounds links link _ y rest in
+    record { there = parts.there; before = (placed, from, parts.before); ends = parts.ends }
+
+pub each-push : (P : Link → Type 0) (links : List Link) (link : Link) → AllByRecursion P links → P link → AllByRecursion P (links ++ link ∷ [])
+each-push P [] link all last = (last, tt)
+each-push P (first ∷ links) link all last = (all.0, each-push P links link all.1 last)
+
+pub each-unpush : (P : Link → Type 0) (links : List Link) (link : Link) → AllByRecursion P (links ++ link ∷ []) → AllByRecursion P links × P link
+each-unpush P [] link all = (tt, all.0)
+each-unpush P (first ∷ links) link all =
+    let rest = each-unpush P links link all.1 in
+    ((all.0, rest.0), rest.1)
+
+pub each-weaker : (P Q : Link → Type 0) → ((link : Link) → P link → Q link) → (links : List Link) → AllByRecursion P links → AllByRecursion Q links
+each-weaker P Q f [] all = tt
+each-weaker P Q f (link ∷ links) all = (f link all.0, each-weaker P Q f links all.1)
+
+-- a list that is not empty has a last element
+pub last_of : (link : Link) (links : List Link) → (init : List Link) × (last : Link) × (link ∷ links ≡ init ++ last ∷ [])
+last_of link [] = ([], link, refl)
+last_of link (next ∷ links) =
+    let (init, last, e) = last_of next links in
+    (link ∷ init, last, ap (λ l. link ∷ l) e)
+
+-- a way is a chain of tight links
+pub way_is_tight : (bounds : List Difference) (start x : ℕ) (links : List Link) → IsWay bounds start x links → IsTightChain bounds start x links
+way_is_tight bounds start x links way = record {
+  chain = way.chain;
+  tight = each-weaker (IsFirstStep bounds start) (IsTight bounds start) (λ link f. f.step.tight) links way.first;
+}
+
+-- over tight links the tightest difference grows by the sum of their weights
+pub weight_of_tight : (bounds : List Difference) (start : ℕ) (links : List Link) (x y : ℕ) (m : ℤ) → IsTightest bounds start x m → IsChain bounds links x y → AllByRecursion (IsTight bounds start) links → IsTightest bounds start y (m +ℤ weight_of bounds links)
+weight_of_tight bounds start [] x y m far chain tight =
+    let same : m ≡ m +ℤ pos 0 = omega (arith, ints) in
+    subst (λ z. IsTightest bounds start z (m +ℤ pos 0)) chain (subst (λ n. IsTightest bounds start x n) same far)
+weight_of_tight bounds start (link ∷ links) x y m far (placed, from, rest) (tight, others) =
+    let (near, near_is, far_is) = tight.tight in
+    let w = (arc_of bounds link).weight in
+    let here : IsTightest bounds start x near = subst (λ z. IsTightest bounds start z near) from near_is in
+    let e : near ≡ m = tightest_unique bounds start x near m here far in
+    let there : IsTightest bounds start (arc_of bounds link).to (m +ℤ w) = subst (λ n. IsTightest bounds start (arc_of bounds link).to (n +ℤ w)) e far_is in
+    let whole = weight_of_tight bounds start links _ y (m +ℤ w) there rest others in
+    let same : (m +ℤ w) +ℤ weight_of bounds links ≡ m +ℤ (w +ℤ weight_of bounds links) = omega (arith, ints) in
+    subst (λ n. IsTightest bounds start y n) same whole
+
+-- a chain over the bounds before a place is a chain over all of them, and as heavy
+pub chain_before : (bounds : List Difference) (place : ℕ) (links : List Link) (x y : ℕ) → IsChain (take place bounds) links x y → IsChain bounds links x y × (weight_of (take place bounds) links ≡ weight_of bounds links)
+chain_before bounds place [] x y chain = (chain, refl)
+chain_before bounds place (link ∷ links) x y (placed, from, rest) =
+    let below : link.place < place = omega (arith, placed, length-take place bounds) in
+    let there : link.place < length bounds = omega (arith, placed, length-take place bounds) in
+    let e = arc_before bounds place link below in
+    let (others, weights) = chain_before bounds place links _ y rest in (
+      (there, sym (ap (λ a. a.from) e) ∙ from, subst (λ (a : Arc). IsChain bounds links a.to y) e others),
+      ap (λ n. (arc_of (take place bounds) link).weight +ℤ n) weights ∙ ap (λ (a : Arc). a.weight +ℤ weight_of bounds links) e,
+    )

@@ -1,0 +1,68 @@
+use Rattle.std.proofs.Common.{◌≡◌, ℕ, ◌<◌, ◌≤◌, List, length, take, sym, subst, ap, ◌∙◌, arith}
+use Rattle.std.specs.Prelude.{ℤ, pos, ◌+ℤ◌, ◌-ℤ◌, ◌≤ℤ◌}
+use Rattle.std.specs.List.{All}
+use Rattle.std.proofs.lemmas.Int.{ints}
+use Rattle.std.proofs.lemmas.List.{get_or-take}
+use Rattle.std.proofs.lemmas.List.Elements.{All-take}
+use Rattle.stn_net.specs.Difference.{Difference, NamesEvents}
+use Rattle.stn_net.specs.Schedule.{Meets, IsSchedule}
+use Rattle.stn_matrix.proofs.Tightest.{tightest_unique}
+use Rattle.stn_matrix.specs.Tightest.{IsTightest}
+use Rattle.stn_conflict.specs.declared.links.Link.{Link}
+use Rattle.stn_conflict.specs.declared.links.Side.{Side}
+use Rattle.stn_conflict.specs.declared.links.Side.TheVariants.{Upper, Lower}
+use Rattle.stn_conflict.specs.Arcs.{arc, arc_of, bound_at}
+use Rattle.stn_conflict.specs.Named.{IsTight}
+
+-- an event lies at 0 from itself
+pub tightest_self : (bounds : List Difference) (x : ℕ) (m : ℤ) → IsTightest bounds x x m → m ≡ pos 0
+tightest_self bounds x m far =
+    let (s, s_is, s_at) = far.attained in
+    omega (arith, ints)
+
+-- a schedule of the bounds is one of those before a place
+pub schedule_before : (bounds : List Difference) (place : ℕ) (time : ℕ → ℤ) → IsSchedule bounds time → IsSchedule (take place bounds) time
+schedule_before bounds place time s = record { origin = s.origin; met = All-take (Meets time) place bounds s.met }
+
+-- times that meet a bound keep to what each of its sides says
+pub arc_kept : (bound : Difference) (side : Side) (time : ℕ → ℤ) → Meets time bound → (time (arc bound side).to -ℤ time (arc bound side).from) ≤ℤ (arc bound side).weight
+arc_kept bound Upper time met = met.1
+arc_kept bound Lower time met = let low = met.0 in omega (arith, ints)
+
+-- a schedule keeps to what each link says
+pub link_kept : (bounds : List Difference) (link : Link) (time : ℕ → ℤ) → link.place < length bounds → IsSchedule bounds time → (time (arc_of bounds link).to -ℤ time (arc_of bounds link).from) ≤ℤ (arc_of bounds link).weight
+link_kept bounds link time there s =
+    arc_kept (bound_at bounds link.place) link.side time (s.met link.place _ there)
+
+-- over a link the tightest differences from one event grow by its weight at most
+pub link_reaches : (bounds : List Difference) (start : ℕ) (link : Link) (m n : ℤ) → link.place < length bounds → IsTightest bounds start (arc_of bounds link).from m → IsTightest bounds start (arc_of bounds link).to n → n ≤ℤ (m +ℤ (arc_of bounds link).weight)
+link_reaches bounds start link m n there near far =
+    let (s, s_is, s_at) = far.attained in
+    omega (arith, ints, link_kept bounds link s there s_is, near.bound s s_is)
+
+-- a link of the bounds before a place is the same link of all the bounds
+pub arc_before : (bounds : List Difference) (place : ℕ) (link : Link) → link.place < place → arc_of (take place bounds) link ≡ arc_of bounds link
+arc_before bounds place link below = ap (λ b. arc b link.side) (get_or-take place bounds link.place _ below)
+
+-- a link is tight where the tightest differences to its ends differ by its weight
+pub tight_from_sum : (bounds : List Difference) (start : ℕ) (link : Link) (m n : ℤ) → link.place < length bounds → IsTightest bounds start (arc_of bounds link).from m → IsTightest bounds start (arc_of bounds link).to n → m +ℤ (arc_of bounds link).weight ≡ n → IsTight bounds start link
+tight_from_sum bounds start link m n there near far e = record {
+  there = there;
+  tight = (m, near, subst (λ k. IsTightest bounds start (arc_of bounds link).to k) (sym e) far);
+}
+
+-- the tightest differences to the ends of a tight link differ by its weight
+pub sum_from_tight : (bounds : List Difference) (start : ℕ) (link : Link) (m n : ℤ) → IsTightest bounds start (arc_of bounds link).from m → IsTightest bounds start (arc_of bounds link).to n → IsTight bounds start link → m +ℤ (arc_of bounds link).weight ≡ n
+sum_from_tight bounds start link m n near far tight =
+    let (k, k_is, sum_is) = tight.tight in
+    let same = tightest_unique bounds start (arc_of bounds link).from m k near k_is in
+    let e = tightest_unique bounds start (arc_of bounds link).to _ n sum_is far in
+    ap (λ z. z +ℤ (arc_of bounds link).weight) same ∙ e
+
+-- both ends of a link are events that the bounds name
+pub link_named : (bounds : List Difference) (events : ℕ) (link : Link) → All (NamesEvents events) bounds → link.place < length bounds → ((arc_of bounds link).from ≤ events) × ((arc_of bounds link).to ≤ events)
+link_named bounds events link named there = arc_named (bound_at bounds link.place) link.side (named link.place _ there)
+  where
+    arc_named : (bound : Difference) (side : Side) → NamesEvents events bound → ((arc bound side).from ≤ events) × ((arc bound side).to ≤ events)
+    arc_named bound Upper n = (n.from, n.to)
+    arc_named bound Lower n = (n.to, n.from)

@@ -1,0 +1,155 @@
+use Rattle.std.proofs.Common.{◌≡◌, ◌⊎◌, inl, inr, ℕ, zero, suc, ◌+◌, ◌<◌, ◌≤◌, Option, Some, None, List, [], ◌∷◌, ◌++◌, length, sym, subst, ap, refl, ◌∙◌, arith}
+use Rattle.std.specs.Prelude.{ℤ, pos, neg_ℤ, ◌+ℤ◌, ◌-ℤ◌, ◌≤ℤ◌, ◌<ℤ◌}
+use Rattle.std.specs.List.{AllByRecursion}
+use Rattle.std.proofs.lemmas.Int.{ints, by_lt_z}
+use Rattle.std.proofs.lemmas.List.{length_push}
+use Rattle.std.proofs.lemmas.List.Elements.{All-from_get_or}
+use Rattle.stn_net.specs.Difference.{Difference}
+use Rattle.stn_net.specs.Schedule.{Meets, IsSchedule}
+use Rattle.stn_matrix.specs.Table.{Table, far_of}
+use Rattle.stn_matrix.specs.Tightest.{IsTightest, IsExact}
+use Rattle.stn_conflict.specs.declared.links.Link.{Link}
+use Rattle.stn_conflict.specs.declared.links.Side.{Side}
+use Rattle.stn_conflict.specs.declared.links.Side.TheVariants.{Upper, Lower}
+use Rattle.stn_conflict.specs.Arcs.{arc, arc_of, bound_at, IsChain}
+use Rattle.stn_conflict.specs.Named.{IsTight, IsTightChain, IsLevel}
+use Rattle.stn_conflict.specs.Search.{HasLevelsUpTo}
+use Rattle.stn_conflict.proofs.Distances.{tightest_self, link_reaches, link_named}
+use Rattle.stn_conflict.proofs.Chains.{chain-push, each-push}
+
+pub some_or_none : (o : Option ℕ) → (o ≡ None) ⊎ ((k : ℕ) × (o ≡ Some k))
+some_or_none None = inl refl
+some_or_none (Some k) = inr (k, refl)
+
+pub some_same : (o : Option ℕ) (i k : ℕ) → o ≡ Some i → o ≡ Some k → i ≡ k
+some_same o i k p q = cc
+
+-- the levels of a search that has come to its end: each tight link from a level has been followed
+pub record IsClosed (bounds : List Difference) (start : ℕ) (levels : ℕ → Option ℕ) : Type 0 where
+  pub zero_at_start : levels start ≡ Some 0
+  pub only : (x : ℕ) → levels x ≡ Some 0 → x ≡ start
+  pub back : (x i : ℕ) → levels x ≡ Some (suc i)
+      → (link : Link) × IsTight bounds start link × ((arc_of bounds link).to ≡ x) × (levels (arc_of bounds link).from ≡ Some i)
+  pub on : (link : Link) → IsTight bounds start link → (i : ℕ) → levels (arc_of bounds link).from ≡ Some i
+      → (k : ℕ) × (levels (arc_of bounds link).to ≡ Some k) × (k ≤ suc i)
+
+-- a round that gave no level ends the search
+pub closed_at_end : (bounds : List Difference) (start level : ℕ) (levels : ℕ → Option ℕ) → HasLevelsUpTo bounds start level levels → HasLevelsUpTo bounds start (suc level) levels → IsClosed bounds start levels
+closed_at_end bounds start level levels now more = record {
+  zero_at_start = now.zero_at_start;
+  only = now.only;
+  back = now.back;
+  on = λ link tight i from. more.on link tight i from (omega (arith, now.under _ i from));
+}
+
+-- tight links lead from a level to one that is higher by their number at most
+pub level_along : (bounds : List Difference) (start : ℕ) (levels : ℕ → Option ℕ) (closed : IsClosed bounds start levels) (links : List Link) (x y i : ℕ) → IsChain bounds links x y → AllByRecursion (IsTight bounds start) links → levels x ≡ Some i → (k : ℕ) × (levels y ≡ Some k) × (k ≤ i + length links)
+level_along bounds start levels closed [] x y i chain tight at = (i, subst (λ z. levels z ≡ Some i) chain at, omega arith)
+level_along bounds start levels closed (link ∷ links) x y i (placed, from, rest) (tight, others) at =
+    let (k, k_at, k_le) = closed.on link tight i (ap levels from ∙ at) in
+    let (m, m_at, m_le) = level_along bounds start levels closed links _ y k rest others k_at in
+    (m, m_at, omega arith)
+
+-- to an event with a level leads a chain of so many tight links
+pub chain_to_level : (bounds : List Difference) (start : ℕ) (levels : ℕ → Option ℕ) (closed : IsClosed bounds start levels) (level x : ℕ) → levels x ≡ Some level → (links : List Link) × IsTightChain bounds start x links × (length links ≡ level)
+chain_to_level bounds start levels closed zero x at = ([], record { chain = sym (closed.only x at); tight = tt }, refl)
+chain_to_level bounds start levels closed (suc level) x at =
+    let (link, tight, ends, from) = closed.back x level at in
+    let (links, chain, long) = chain_to_level bounds start levels closed level _ from in (
+      links ++ link ∷ [],
+      record {
+        chain = subst (λ z. IsChain bounds (links ++ link ∷ []) start z) ends (chain-push bounds links link start _ chain.chain tight.there refl);
+        tight = each-push (IsTight bounds start) links link chain.tight tight;
+      },
+      omega (arith, length_push links link),
+    )
+
+-- an entry of a closed table is the event's level
+pub level_of_entry : (bounds : List Difference) (start : ℕ) (levels : ℕ → Option ℕ) (closed : IsClosed bounds start levels) (x level : ℕ) → levels x ≡ Some level → IsLevel bounds start x level
+level_of_entry bounds start levels closed x level at = record {
+  reached = chain_to_level bounds start levels closed level x at;
+  least = λ links chain.
+      let (k, k_at, k_le) = level_along bounds start levels closed links start x 0 chain.chain chain.tight closed.zero_at_start in
+      omega (arith, some_same (levels x) k level k_at at);
+}
+
+-- an event's level is its entry in a closed table
+pub entry_of_level : (bounds : List Difference) (start : ℕ) (levels : ℕ → Option ℕ) (closed : IsClosed bounds start levels) (x level : ℕ) → IsLevel bounds start x level → levels x ≡ Some level
+entry_of_level bounds start levels closed x level is =
+    let (links, chain, long) = is.reached in
+    let (k, k_at, k_le) = level_along bounds start levels closed links start x 0 chain.chain chain.tight closed.zero_at_start in
+    let here = chain_to_level bounds start levels closed k x k_at in
+    let e : k ≡ level = omega (arith, is.least here.0 here.1, here.2) in
+    k_at ∙ ap Some e
+
+-- one more for an event without a level
+abbrev raise : Option ℕ → ℤ
+raise None = pos 1
+raise (Some k) = pos 0
+
+raise_none : (o : Option ℕ) → o ≡ None → raise o ≡ pos 1
+raise_none o e = ap raise e
+
+raise_some : (o : Option ℕ) (k : ℕ) → o ≡ Some k → raise o ≡ pos 0
+raise_some o k e = ap raise e
+
+-- the tightest differences from the start, one more at each event without a level
+abbrev raised : Table → ℕ → (ℕ → Option ℕ) → ℕ → ℤ
+raised table start levels x = far_of table start x +ℤ raise (levels x)
+
+-- a link that is not tight has room for one more
+room_of_link : (bounds : List Difference) (start : ℕ) (link : Link) (m n : ℤ) → link.place < length bounds → IsTightest bounds start (arc_of bounds link).from m → IsTightest bounds start (arc_of bounds link).to n → (IsTight bounds start link → ⊥) → n <ℤ (m +ℤ (arc_of bounds link).weight)
+room_of_link bounds start link m n there near far loose =
+    let w = (arc_of bounds link).weight in
+    let reaches = link_reaches bounds start link m n there near far in
+    by_lt_z n (m +ℤ w) (λ h. h) (λ h.
+    let e : n ≡ m +ℤ w = omega (arith, ints) in
+    absurd (loose (record { there = there; tight = (m, near, subst (λ k. IsTightest bounds start (arc_of bounds link).to k) e far) })))
+
+-- the raised differences keep to each link
+raised_kept : (bounds : List Difference) (start : ℕ) (levels : ℕ → Option ℕ) (closed : IsClosed bounds start levels) (link : Link) (m n : ℤ) → link.place < length bounds → IsTightest bounds start (arc_of bounds link).from m → IsTightest bounds start (arc_of bounds link).to n → ((n +ℤ raise (levels (arc_of bounds link).to)) -ℤ (m +ℤ raise (levels (arc_of bounds link).from))) ≤ℤ (arc_of bounds link).weight
+raised_kept bounds start levels closed link m n there near far =
+    let a = arc_of bounds link in
+    let reaches = link_reaches bounds start link m n there near far in
+    elim (some_or_none (levels (arc_of bounds link).to)) [
+      | inr (k, e) ↦ elim (some_or_none (levels (arc_of bounds link).from)) [
+        | inl f ↦ omega (arith, ints, raise_some _ k e, raise_none _ f)
+        | inr (i, f) ↦ omega (arith, ints, raise_some _ k e, raise_some _ i f)
+      ]
+      | inl e ↦ elim (some_or_none (levels (arc_of bounds link).from)) [
+        | inl f ↦ omega (arith, ints, raise_none _ e, raise_none _ f)
+        | inr (i, f) ↦
+            let loose : IsTight bounds start link → ⊥ = λ tight. let (k, k_at, k_le) = closed.on link tight i f in cc in
+            omega (arith, ints, raise_none _ e, raise_some _ i f, room_of_link bounds start link m n there near far loose)
+      ]
+    ]
+
+-- times that keep to both sides of a bound meet it, also when all are moved
+meets_moved : (bound : Difference) (time : ℕ → ℤ) (by : ℤ) → ((side : Side) → (time (arc bound side).to -ℤ time (arc bound side).from) ≤ℤ (arc bound side).weight) → Meets (λ z. time z -ℤ by) bound
+meets_moved bound time by kept =
+    let low : (time bound.from -ℤ time bound.to) ≤ℤ neg_ℤ bound.lo = kept Lower in
+    let high : (time bound.to -ℤ time bound.from) ≤ℤ bound.hi = kept Upper in
+    (omega (arith, ints), omega (arith, ints))
+
+-- the raised differences, moved so that the origin stands at 0, are a schedule
+raised_schedule : (bounds : List Difference) (table : Table) (start : ℕ) (levels : ℕ → Option ℕ) → IsExact bounds table → start ≤ table.events → IsClosed bounds start levels → IsSchedule bounds (λ x. raised table start levels x -ℤ raised table start levels 0)
+raised_schedule bounds table start levels exact within closed = record {
+  origin = omega (arith, ints);
+  met = All-from_get_or (Meets (λ x. raised table start levels x -ℤ raised table start levels 0)) bounds (record { from = 0; to = 0; lo = pos 0; hi = pos 0 }) (λ place there.
+      meets_moved (bound_at bounds place) (raised table start levels) (raised table start levels 0) (λ side.
+      let link : Link = record { place = place; side = side } in
+      let named = link_named bounds table.events link exact.named there in
+      raised_kept bounds start levels closed link _ _ there (exact.far start _ within named.0) (exact.far start _ within named.1)));
+}
+
+-- where the search has come to its end, each event has a level
+pub level_of_event : (bounds : List Difference) (table : Table) (start : ℕ) (levels : ℕ → Option ℕ) → IsExact bounds table → start ≤ table.events → IsClosed bounds start levels → (x : ℕ) → x ≤ table.events → (level : ℕ) × (levels x ≡ Some level)
+level_of_event bounds table start levels exact within closed x x_within =
+    elim (some_or_none (levels x)) [
+      | inr found ↦ found
+      | inl none ↦
+          let far = exact.far start x within x_within in
+          let self = tightest_self bounds start _ (exact.far start start within within) in
+          let passed = far.bound _ (raised_schedule bounds table start levels exact within closed) in
+          absurd (omega (arith, ints, raise_none _ none, raise_some _ 0 closed.zero_at_start))
+    ]

@@ -1,0 +1,9 @@
+pub mod Distances
+pub mod Between
+pub mod Chains
+pub mod CycleSums
+pub mod LevelTable
+pub mod OneCycle
+pub mod Rounds
+pub mod Steps
+pub mod Known

@@ -1,0 +1,128 @@
+use Rattle.std.proofs.Common.{◌≡◌, inl, inr, ℕ, zero, suc, ◌+◌, ◌≤◌, List, [], ◌∷◌, ◌++◌, length, take, sym, subst, ap, refl, ◌∙◌, arith}
+use Rattle.std.proofs.lemmas.Int.{ints}
+use Rattle.std.proofs.lemmas.Bool.{cases_order}
+use Rattle.std.proofs.lemmas.List.{length_push, take-take}
+use Rattle.stn_net.specs.Difference.{Difference}
+use Rattle.stn_net.specs.Schedule.{IsSchedule, HasSchedule}
+use Rattle.stn_matrix.proofs.Tightest.{tightest_unique}
+use Rattle.stn_conflict.specs.declared.links.Link.{Link}
+use Rattle.stn_conflict.specs.declared.links.Side.{Side}
+use Rattle.stn_conflict.specs.declared.links.Side.TheVariants.{Upper, Lower}
+use Rattle.stn_conflict.specs.Arcs.{arc_of, bound_at, rank, side_rank}
+use Rattle.stn_conflict.specs.Culprit.{IsRefusedSide, IsCulprit}
+use Rattle.stn_conflict.specs.Named.{IsLevel, IsStep, IsFirstStep, IsWay, IsNamedCycle}
+use Rattle.stn_conflict.proofs.Distances.{schedule_before}
+use Rattle.stn_conflict.proofs.Chains.{IsPushedChain, chain-unpush, each-unpush, last_of}
+
+link_same : (p q : ℕ) (s t : Side) → p ≡ q → s ≡ t → (let one : Link = record { place = p; side = s } in let other : Link = record { place = q; side = t } in one ≡ other)
+link_same p q s t e f = cc
+
+-- links of equal rank are equal
+pub rank_tells : (one other : Link) → rank one ≡ rank other → one ≡ other
+rank_tells one other e = tells one.side other.side refl refl
+  where
+    tells : (s t : Side) → one.side ≡ s → other.side ≡ t → one ≡ other
+    tells Upper Upper p q =
+        let same : one.place ≡ other.place = omega (arith, e, ap side_rank p, ap side_rank q) in
+        link_same one.place other.place one.side other.side same (p ∙ sym q)
+    tells Lower Lower p q =
+        let same : one.place ≡ other.place = omega (arith, e, ap side_rank p, ap side_rank q) in
+        link_same one.place other.place one.side other.side same (p ∙ sym q)
+    tells Upper Lower p q = absurd (omega (arith, e, ap side_rank p, ap side_rank q))
+    tells Lower Upper p q = absurd (omega (arith, e, ap side_rank p, ap side_rank q))
+
+-- an event has one level
+pub level_unique : (bounds : List Difference) (start x i k : ℕ) → IsLevel bounds start x i → IsLevel bounds start x k → i ≡ k
+level_unique bounds start x i k one other =
+    let (cs, c, c_long) = one.reached in
+    let (ds, d, d_long) = other.reached in
+    omega (arith, one.least ds d, other.least cs c)
+
+-- the start has the level 0
+pub level_of_start : (bounds : List Difference) (start : ℕ) → IsLevel bounds start start 0
+level_of_start bounds start = record {
+  reached = ([], record { chain = refl; tight = tt }, refl);
+  least = λ links chain. omega arith;
+}
+
+-- no step ends at the start
+pub no_step_to_start : (bounds : List Difference) (start : ℕ) (link : Link) → (arc_of bounds link).to ≡ start → IsStep bounds start link → ⊥
+no_step_to_start bounds start link e step =
+    let (k, from, to) = step.level in
+    let here : IsLevel bounds start start (suc k) = subst (λ z. IsLevel bounds start z (suc k)) e to in
+    omega (arith, level_unique bounds start start 0 (suc k) (level_of_start bounds start) here)
+
+-- two first steps that end at one event are one link
+pub first_step_unique : (bounds : List Difference) (start : ℕ) (one other : Link) → (arc_of bounds one).to ≡ (arc_of bounds other).to → IsFirstStep bounds start one → IsFirstStep bounds start other → one ≡ other
+first_step_unique bounds start one other e p q =
+    elim (cases_order (rank one) (rank other)) [
+      | inl same ↦ rank_tells one other same
+      | inr (inl below) ↦ absurd (q.first one below e p.step)
+      | inr (inr above) ↦ absurd (p.first other above (sym e) q.step)
+    ]
+
+-- a way that is not empty has a last first step, and before it is a way to where that begins
+unpush_way : (bounds : List Difference) (start x : ℕ) (links : List Link) (link : Link) → IsWay bounds start x (links ++ link ∷ []) → IsPushedChain bounds links link start x × IsWay bounds start (arc_of bounds link).from links × IsFirstStep bounds start link
+unpush_way bounds start x links link way =
+    let parts = chain-unpush bounds links link start x way.chain in
+    let (others, last) = each-unpush (IsFirstStep bounds start) links link way.first in
+    (parts, record { chain = parts.before; first = others }, last)
+
+-- an event has one way at most; n bounds the length of one
+way_unique_by : (bounds : List Difference) (start : ℕ) (n : ℕ) (x : ℕ) (one other : List Link) → length one ≤ n → IsWay bounds start x one → IsWay bounds start x other → one ≡ other
+way_unique_by bounds start n x [] [] short p q = refl
+way_unique_by bounds start n x [] (link ∷ links) short p q =
+    let (init, last, e) = last_of link links in
+    let (parts, way, step) = unpush_way bounds start x init last (subst (IsWay bounds start x) e q) in
+    absurd (no_step_to_start bounds start last (parts.ends ∙ sym p.chain) step.step)
+way_unique_by bounds start n x (link ∷ links) [] short p q =
+    let (init, last, e) = last_of link links in
+    let (parts, way, step) = unpush_way bounds start x init last (subst (IsWay bounds start x) e p) in
+    absurd (no_step_to_start bounds start last (parts.ends ∙ sym q.chain) step.step)
+way_unique_by bounds start zero x (link ∷ links) (link' ∷ links') short p q = absurd (omega arith)
+way_unique_by bounds start (suc n) x (link ∷ links) (link' ∷ links') short p q =
+    let (init, last, e) = last_of link links in
+    let (init', last', e') = last_of link' links' in
+    let (parts, way, step) = unpush_way bounds start x init last (subst (IsWay bounds start x) e p) in
+    let (parts', way', step') = unpush_way bounds start x init' last' (subst (IsWay bounds start x) e' q) in
+    let same = first_step_unique bounds start last last' (parts.ends ∙ sym parts'.ends) step step' in
+    let long : length init ≤ n = omega (arith, ap length e, length_push init last) in
+    let before = way_unique_by bounds start n (arc_of bounds last).from init init' long way (subst (λ l. IsWay bounds start (arc_of bounds l).from init') (sym same) way') in
+    e ∙ ap (λ l. l ++ last ∷ []) before ∙ ap (λ l. init' ++ l ∷ []) same ∙ sym e'
+
+-- an event has one way at most
+pub way_unique : (bounds : List Difference) (start x : ℕ) (one other : List Link) → IsWay bounds start x one → IsWay bounds start x other → one ≡ other
+way_unique bounds start x one other = way_unique_by bounds start (length one) x one other (omega arith)
+
+-- bounds refuse one side of a bound
+refused_side_unique : (bounds : List Difference) (bound : Difference) (one other : Side) → IsRefusedSide bounds bound one → IsRefusedSide bounds bound other → one ≡ other
+refused_side_unique bounds bound Upper Upper p q = refl
+refused_side_unique bounds bound Lower Lower p q = refl
+refused_side_unique bounds bound Upper Lower (m, far, below) (n, far', above) = absurd (omega (arith, ints, below, above, tightest_unique bounds bound.to bound.from m n far far'))
+refused_side_unique bounds bound Lower Upper (m, far, above) (n, far', below) = absurd (omega (arith, ints, below, above, tightest_unique bounds bound.to bound.from m n far far'))
+
+-- bounds that have a schedule have one up to each place
+has_before : (bounds : List Difference) (i k : ℕ) → i ≤ k → HasSchedule (take k bounds) → HasSchedule (take i bounds)
+has_before bounds i k below (time, is) = (time, subst (λ l. IsSchedule l time) (take-take i k bounds below) (schedule_before (take k bounds) i time is))
+
+-- bounds have one culprit at most
+pub culprit_unique : (bounds : List Difference) (one other : Link) → IsCulprit bounds one → IsCulprit bounds other → one ≡ other
+culprit_unique bounds one other p q =
+    elim (cases_order one.place other.place) [
+      | inr (inl below) ↦ absurd (p.refused (has_before bounds (one.place + 1) other.place (omega arith) q.before))
+      | inr (inr above) ↦ absurd (q.refused (has_before bounds (other.place + 1) one.place (omega arith) p.before))
+      | inl place ↦
+          let side' : IsRefusedSide (take one.place bounds) (bound_at bounds one.place) other.side = subst (λ n. IsRefusedSide (take n bounds) (bound_at bounds n) other.side) (sym place) q.side in
+          let side = refused_side_unique (take one.place bounds) (bound_at bounds one.place) one.side other.side p.side side' in
+          link_same one.place other.place one.side other.side place side
+    ]
+
+-- bounds have one named cycle at most
+pub named_cycle_unique : (bounds : List Difference) (one other : List Link) → IsNamedCycle bounds one → IsNamedCycle bounds other → one ≡ other
+named_cycle_unique bounds [] other p q = absurd p
+named_cycle_unique bounds (link ∷ links) [] p q = absurd q
+named_cycle_unique bounds (link ∷ links) (link' ∷ links') (culprit, way) (culprit', way') =
+    let same = culprit_unique bounds link link' culprit culprit' in
+    let there : IsWay (take link.place bounds) (arc_of bounds link).to (arc_of bounds link).from links' = subst (λ (l : Link). IsWay (take l.place bounds) (arc_of bounds l).to (arc_of bounds l).from links') (sym same) way' in
+    let rest = way_unique (take link.place bounds) (arc_of bounds link).to (arc_of bounds link).from links links' way there in
+    ap (λ l. l ∷ links) same ∙ ap (λ l. link' ∷ l) rest

@@ -1,0 +1,18 @@
+use Rattle.std.proofs.Common.{◌≡◌, ◌+◌, ◌≤◌, ℕ, Some, length}
+use Rattle.std.specs.Prelude.{reverse, unwrap_or}
+use Rattle.std.specs.List.{AllByRecursion}
+use Rattle.stn_conflict.specs.Arcs.{IsChain}
+use Rattle.stn_conflict.specs.Named.{IsFirstStep}
+use Rattle.stn_conflict.specs.Search.{level_at}
+use Rattle.stn_conflict.proofs.way.way_back.Given as goal
+
+abbrev pub invariant-loop-start : goal.invariant-loop-start
+invariant-loop-start g l = record {
+  within : l.here ≤ l.matrix.events;
+  chain : IsChain l.bounds (reverse l.links.items) l.here l.fn.end;
+  first : AllByRecursion (IsFirstStep l.bounds l.start) (reverse l.links.items);
+  short : (level : ℕ) → level_at l.levels.items l.here ≡ Some level → length l.links.items + level ≤ l.matrix.events;
+}
+
+abbrev pub decreases-loop-start : goal.decreases-loop-start
+decreases-loop-start g l = unwrap_or (level_at l.levels.items l.here) 0

@@ -1,0 +1,4 @@
+pub mod Arcs
+pub mod Culprit
+pub mod Named
+pub mod Search

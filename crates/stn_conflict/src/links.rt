@@ -1,0 +1,49 @@
+ghost use Rattle.std.specs.Prelude.{◌≡◌, List};
+ghost use Rattle.stn_net.specs.Difference.{Difference};
+ghost use Rattle.stn_net.specs.Schedule.{HasSchedule};
+ghost use Rattle.stn_conflict.specs.Arcs.{IsNegativeCycle};
+ghost use Rattle.stn_conflict.specs.Named.{IsNamedCycle};
+
+use std::alloc::Allocator;
+
+/// One of the two sides of a bound.
+#[derive(Clone, Copy, Debug, PartialEq, Eq, Hash)]
+pub enum Side {
+    /// `to` comes at most `hi` after `from`.
+    Upper,
+    /// `to` comes at least `lo` after `from`.
+    Lower,
+}
+
+/// A side of the bound at a place of a list, counted from 0.
+#[derive(Clone, Copy, Debug, PartialEq, Eq, Hash)]
+pub struct Link {
+    /// The place of the bound.
+    pub place: usize,
+    /// The side of it.
+    pub side: Side,
+}
+
+/// Sides of bounds that contradict each other: each ends at the event at which the next begins, the
+/// last at that at which the first begins, and together they ask for less than no time.
+#[derive(Debug, Drop)]
+pub struct Cycle<A: Allocator> {
+    /// The links, the culprit's first.
+    pub links: Vec<Link, A>,
+    /// The sum of what they allow, in milliseconds: `hi` of an upper side, `-lo` of a lower.
+    pub sum: i64,
+}
+
+/// The law that bounds have one named cycle at most, so that all who hold the same bounds name the
+/// same; it does nothing.
+pub fn one_named_cycle()
+    ensures { (bounds : List Difference) → (one other : List Link)
+        → IsNamedCycle bounds one → IsNamedCycle bounds other → one ≡ other }
+{}
+
+/// The law that bounds with a negative cycle have no schedule, so that a cycle is reason enough
+/// (Dechter, Meiri and Pearl, 1991); it does nothing.
+pub fn negative_cycle_is_conflict()
+    ensures { (bounds : List Difference) → (links : List Link)
+        → IsNegativeCycle bounds links → ¬ HasSchedule bounds }
+{}

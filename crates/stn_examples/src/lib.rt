@@ -1,0 +1,7 @@
+//! Tests that cross crates: the worked examples, devices that fail, and refused memory.
+#![tactic(auto)]
+
+#[cfg(test)]
+mod devices;
+#[cfg(test)]
+mod scripts;

@@ -1,0 +1,219 @@
+use crate::devices::{EmptyLines, PieceReader, PieceWriter};
+use std::alloc::Global;
+use stn_exec::{Counted, MOST_BYTES, Ran, RunFault, run};
+use stn_net::Event;
+use stn_refusing::Refusing;
+
+const CHECK_TIMES: &[u8] =
+    b"steps 1\nsites 1\n1 add s1 e1 5.000 5.000\n1 check 2.000 7.000\n1 check 2.000 6.999\n1 check -0.001 4.999\n1 check 1.000\n";
+
+const CHECK_TIMES_OUTPUT: &[u8] = b"added 1.1\nschedule\nbroken 1.1\nbroken plan.1\nrefused 70 7\n";
+
+const CHECK_TIMES_RAN: Ran = Ran {
+    commands: 5,
+    refused: 1,
+};
+
+fn reader(script: &[u8], piece: usize, fails_at: u64) -> PieceReader<'_> {
+    PieceReader {
+        rest: script,
+        piece,
+        calls: 0,
+        fails_at,
+    }
+}
+
+fn writer(alloc: Global, piece: usize, fails_at: u64) -> PieceWriter {
+    PieceWriter {
+        held: Vec::new(alloc),
+        piece,
+        calls: 0,
+        fails_at,
+    }
+}
+
+// Whether the script prints the text, counts so many lines, and is read to its end.
+fn prints(alloc: Global, script: &[u8], text: &[u8], ran: Ran) -> bool {
+    let mut input = Counted::new(reader(script, 4096, 0));
+    let mut output = Counted::new(writer(alloc, 4096, 0));
+    let answer = run(alloc, &mut input, &mut output);
+    answer == Ok(ran)
+        && input.into_inner().rest.is_empty()
+        && output.into_inner().held.as_slice() == text
+}
+
+#[test]
+fn check_times(rt: HostRuntime) {
+    assert!(rt; prints(rt.alloc(), CHECK_TIMES, CHECK_TIMES_OUTPUT, CHECK_TIMES_RAN));
+}
+
+#[test]
+fn refused_lines(rt: HostRuntime) {
+    let script =
+        b"steps 1\nsites 1\n1 add s1 s1 1.000 2.000\n1 add s1 e1 3.000 2.000\n1 add s1 e9 3.000 2.000\n1 add s9 s9 0.000 0.000\n1 add s1 e1 0.0005 1.000\n2 check 0.000 0.000\n1 add s1\n";
+    let text = b"refused 5\nrefused 6\nrefused 4\nrefused 4\nrefused 2\nrefused 71\nrefused 70 9\n";
+    let ran = Ran {
+        commands: 7,
+        refused: 7,
+    };
+    assert!(rt; prints(rt.alloc(), script, text, ran));
+}
+
+#[test]
+fn plan_faults(rt: HostRuntime) {
+    let ran = Ran {
+        commands: 0,
+        refused: 1,
+    };
+    assert!(rt;
+        prints(
+            rt.alloc(),
+            b"steps 257\nsites 1\n1 check\n",
+            b"refused 34\n",
+            ran
+        )
+    );
+}
+
+#[test]
+fn limits(rt: HostRuntime) {
+    let mut input = Counted::new(EmptyLines {
+        left: MOST_BYTES + 1,
+    });
+    let mut output = Counted::new(writer(rt.alloc(), 4096, 0));
+    assert!(rt; run(rt.alloc(), &mut input, &mut output) == Err(RunFault::Bound));
+    let unwritten = output.into_inner();
+    assert!(rt; unwritten.calls == 0 && unwritten.held.is_empty());
+}
+
+#[test]
+fn lines_of_a_script(rt: HostRuntime) {
+    let plain = Ran {
+        commands: 2,
+        refused: 0,
+    };
+    let script =
+        b"# a comment\r\n\tsteps\t1 \r\n\n  # another\nsites 00001\r\n\r\n1 add z s1 * 1\r\n#1 check\n 1\tcheck  0.5 -7";
+    assert!(rt; prints(rt.alloc(), script, b"added 1.1\nbroken plan.2\n", plain));
+
+    let ended = Ran {
+        commands: 0,
+        refused: 1,
+    };
+    let headings: [(&[u8], &[u8]); 11] = [
+        (b"", b"refused 70 1\n"),
+        (b"\n# no heading\n", b"refused 70 3\n"),
+        (b"1 check\nsteps 0\nsites 1\n", b"refused 70 1\n"),
+        (b"steps 0", b"refused 70 1\n"),
+        (b"steps 0\n", b"refused 70 2\n"),
+        (b"steps 000000\nsites 1\n", b"refused 70 1\n"),
+        (b"steps 99999\nsites 1\n", b"refused 34\n"),
+        (b"domain\n", b"refused 70 1\n"),
+        (b"steps 0\nsites 0\n", b"refused 71\n"),
+        (b"steps 0\nsites 2\n", b"refused 71\n"),
+        (b"steps 0\nsites 65\n", b"refused 71\n"),
+    ];
+    for (script, text) in headings {
+        assert!(rt; prints(rt.alloc(), script, text, ended));
+    }
+
+    let empty_plan = Ran {
+        commands: 1,
+        refused: 0,
+    };
+    assert!(rt;
+        prints(
+            rt.alloc(),
+            b"steps 0\nsites 1\n1 check\n",
+            b"schedule\n",
+            empty_plan
+        )
+    );
+}
+
+#[test]
+fn events_read_as_printed(rt: HostRuntime) {
+    for number in 0..513u16 {
+        let mut text = Vec::new(rt.alloc());
+        let Some(event) = Event::new(number) else {
+            panic!(rt; "event {number}");
+        };
+        assert!(rt; event.print(&mut text).is_ok());
+        assert!(rt; Event::read(&text) == Some(event), "event {number}");
+    }
+    assert!(rt; Event::new(513).is_none());
+}
+
+#[test]
+fn a_reader_hands_on_one_byte_or_fails(rt: HostRuntime) {
+    // One call for each byte, and one that shows the end.
+    let calls = CHECK_TIMES.len() as u64 + 1;
+    for fails_at in 1..calls + 2 {
+        let mut input = Counted::new(reader(CHECK_TIMES, 1, fails_at));
+        let mut output = Counted::new(writer(rt.alloc(), 4096, 0));
+        let answer = run(rt.alloc(), &mut input, &mut output);
+        let held = output.into_inner().held;
+        if fails_at <= calls {
+            assert!(rt; answer == Err(RunFault::Read), "at call {fails_at}");
+            assert!(rt;
+                input.failures() == 1 && held.is_empty(),
+                "at call {fails_at}"
+            );
+        } else {
+            assert!(rt; answer == Ok(CHECK_TIMES_RAN));
+            assert!(rt; input.failures() == 0 && held.as_slice() == CHECK_TIMES_OUTPUT);
+        }
+    }
+}
+
+#[test]
+fn a_writer_fails_or_takes_none(rt: HostRuntime) {
+    let calls = CHECK_TIMES_OUTPUT.len() as u64;
+    for fails_at in 1..calls + 2 {
+        let mut input = Counted::new(reader(CHECK_TIMES, 4096, 0));
+        let mut output = Counted::new(writer(rt.alloc(), 1, fails_at));
+        let answer = run(rt.alloc(), &mut input, &mut output);
+        let failed = fails_at <= calls;
+        let failures = output.failures();
+        let held = output.into_inner().held;
+        assert!(rt;
+            answer
+                == if failed {
+                    Err(RunFault::Write)
+                } else {
+                    Ok(CHECK_TIMES_RAN)
+                },
+            "at call {fails_at}"
+        );
+        assert!(rt; failures == u64::from(failed), "at call {fails_at}");
+        assert!(rt;
+            held.as_slice() == &CHECK_TIMES_OUTPUT[..(fails_at - 1) as usize],
+            "at call {fails_at}"
+        );
+    }
+
+    let mut input = Counted::new(reader(CHECK_TIMES, 4096, 0));
+    let mut output = Counted::new(writer(rt.alloc(), 0, 0));
+    assert!(rt; run(rt.alloc(), &mut input, &mut output) == Err(RunFault::Write));
+    assert!(rt; output.failures() == 1 && output.into_inner().held.is_empty());
+}
+
+#[test]
+fn each_request_for_memory_is_refused(rt: HostRuntime) {
+    for number in 1..1000 {
+        let heap = Refusing::new(rt.alloc(), number);
+        let mut input = Counted::new(reader(CHECK_TIMES, 4096, 0));
+        let mut output = Counted::new(writer(rt.alloc(), 4096, 0));
+        let answer = run(&heap, &mut input, &mut output);
+        let held = output.into_inner().held;
+        if heap.is_waiting() {
+            assert!(rt; number > 5 && answer == Ok(CHECK_TIMES_RAN));
+            assert!(rt; held.as_slice() == CHECK_TIMES_OUTPUT);
+            return;
+        }
+        assert!(rt; answer == Err(RunFault::Memory), "request {number}");
+        assert!(rt; CHECK_TIMES_OUTPUT.starts_with(&held), "request {number}");
+        assert!(rt; prints(rt.alloc(), CHECK_TIMES, CHECK_TIMES_OUTPUT, CHECK_TIMES_RAN));
+    }
+    panic!(rt; "more than 999 requests");
+}

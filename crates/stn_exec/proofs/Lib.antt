@@ -1,0 +1,4 @@
+pub mod Places
+pub mod Plans
+pub mod Events
+pub mod Scripts

@@ -1,0 +1,21 @@
+use Rattle.std.proofs.Common.{◌≡◌, ◌+◌, ◌≤◌, ◌++◌, List, ℕ, length}
+use Rattle.std.specs.Io.KnownBytes.{Appends}
+use Rattle.stn_device.specs.Counted.{counted_device, KeepsCount}
+use Rattle.stn_text.specs.Lines.{lines_of}
+use Rattle.stn_exec.specs.Script.{lines_outcome}
+use Rattle.stn_exec.proofs.script.run_lines.Given as goal
+
+abbrev pub invariant-loop-rest : goal.invariant-loop-rest
+invariant-loop-rest g l = record {
+  text : (done : List ℕ) × Appends (g.W.Write.contents (counted_device l.fn.writer)) (g.W.Write.contents (counted_device l.writer)) done
+      × ((lines_outcome l.number l.fn.plan (lines_of l.text)).text ≡ done ++ (lines_outcome l.at l.plan (lines_of l.rest)).text);
+  commands : l.ran.commands + (lines_outcome l.at l.plan (lines_of l.rest)).commands ≡ (lines_outcome l.number l.fn.plan (lines_of l.text)).commands;
+  refused : l.ran.refused + (lines_outcome l.at l.plan (lines_of l.rest)).refused ≡ (lines_outcome l.number l.fn.plan (lines_of l.text)).refused;
+  kept : KeepsCount l.fn.writer l.writer;
+  within : l.at + length l.rest ≤ l.number + length l.text;
+  few_commands : l.ran.commands + l.number ≤ l.at;
+  few_refused : l.ran.refused + l.number ≤ l.at;
+}
+
+abbrev pub decreases-loop-rest : goal.decreases-loop-rest
+decreases-loop-rest g l = length l.rest

@@ -1,0 +1,44 @@
+-- What a command prints.
+use Rattle.std.specs.Prelude.{ℕ, Bool, true, false, List, [], ◌∷◌, ◌++◌, codes, decimal}
+use Rattle.stn_time.specs.declared.reading.TimeFault.TheVariants.{Malformed, TooFine, OutOfRange}
+use Rattle.stn_net.specs.declared.bound.BoundFault.TheVariants.{NoEvent, SameEvent, Crossed}
+use Rattle.stn_exec.specs.declared.answer.Refusal.{Refusal}
+use Rattle.stn_exec.specs.declared.answer.Refusal.TheVariants as refusal
+use Rattle.stn_exec.specs.declared.answer.BoundName.TheVariants as name
+use Rattle.stn_exec.specs.declared.answer.Answer.{Answer}
+use Rattle.stn_exec.specs.declared.answer.Answer.TheVariants.{Added, Schedule, Broken, Refused}
+
+-- the number that is printed for a refusal
+abbrev pub refusal_code : Refusal → ℕ
+refusal_code (refusal.Time Malformed) = 1
+refusal_code (refusal.Time TooFine) = 2
+refusal_code (refusal.Time OutOfRange) = 3
+refusal_code (refusal.Bound NoEvent) = 4
+refusal_code (refusal.Bound SameEvent) = 5
+refusal_code (refusal.Bound Crossed) = 6
+refusal_code refusal.TooManySteps = 34
+refusal_code refusal.Full = 41
+refusal_code (refusal.Line line) = 70
+refusal_code refusal.NoSite = 71
+
+-- a line of these words and a number
+abbrev pub line_with : List ℕ → ℕ → List ℕ
+line_with words number = words ++ (decimal number ++ 10 ∷ [])
+
+-- the line that is printed for a refusal
+abbrev pub refusal_text : Refusal → List ℕ
+refusal_text (refusal.Line line) = line_with (codes "refused 70 ") line
+refusal_text other = line_with (codes "refused ") (refusal_code other)
+
+-- the line that a command prints
+abbrev pub answer_text : Answer → List ℕ
+answer_text (Added number) = line_with (codes "added 1.") number
+answer_text Schedule = codes "schedule" ++ 10 ∷ []
+answer_text (Broken (name.Plan number)) = line_with (codes "broken plan.") number
+answer_text (Broken (name.Added number)) = line_with (codes "broken 1.") number
+answer_text (Refused refusal) = refusal_text refusal
+
+-- the command was refused
+abbrev pub is_refusal : Answer → Bool
+is_refusal (Refused refusal) = true
+is_refusal other = false

@@ -1,0 +1,71 @@
+-- The commands that lines are.
+use Rattle.std.specs.Prelude.{◌≡◌, ℕ, ◌+◌, ◌==◌, if◌then◌else◌, List, [], ◌∷◌, length, codes, find, Option, Some, None, option_and_then}
+use Rattle.std.specs.List.{range_with_len}
+use Rattle.std.specs.Option.{option_map}
+use Rattle.std.specs.Str.{bytes_eq}
+use Rattle.stn_net.specs.declared.event.TheConstants.{MOST_EVENTS}
+use Rattle.stn_net.specs.Event.{event_text}
+use Rattle.stn_text.specs.Lines.{words_of}
+use Rattle.stn_text.specs.Numbers.{number_of}
+use Rattle.stn_exec.specs.declared.command.Command.{Command as CommandOfLine}
+use Rattle.stn_exec.specs.declared.command.Action.{Action as ActionOfLine}
+use Rattle.stn_exec.specs.declared.command.Action.TheVariants as line
+
+-- what a command does: it adds the bound of two events and two sides, or checks times; sides and times are words
+pub data Action : Type 0 where
+  add : (from to : ℕ) (lo hi : List ℕ) → Action
+  check : (times : List (List ℕ)) → Action
+
+-- a command of one site
+pub record Command : Type 0 where
+  pub site : ℕ
+  pub action : Action
+
+-- the event below a number that is printed so
+unfoldable pub event_below : ℕ → List ℕ → Option ℕ
+event_below count word = find (λ event. bytes_eq word (event_text event)) (range_with_len 0 count)
+
+-- the event that is printed so
+abbrev pub event_of : List ℕ → Option ℕ
+event_of word = event_below (MOST_EVENTS + 1) word
+
+-- the form `add <event> <event> <bound> <bound>`, behind its name
+abbrev pub add_of : List (List ℕ) → Option Action
+add_of (from ∷ (to ∷ (lo ∷ (hi ∷ [])))) =
+    option_and_then (λ first. option_map (λ second. add first second lo hi) (event_of to)) (event_of from)
+add_of other = None
+
+-- the form `check <t> ..`, behind its name: one time for each event
+abbrev pub check_of : ℕ → List (List ℕ) → Option Action
+check_of events times = if length times == events then Some (check times) else None
+
+-- the forms by their names
+abbrev pub action_of : ℕ → List ℕ → List (List ℕ) → Option Action
+action_of events name words =
+    if bytes_eq name (codes "add") then add_of words else
+    (if bytes_eq name (codes "check") then check_of events words else None)
+
+-- a site's command
+abbrev pub sites_command : ℕ → Action → Command
+sites_command site action = record { site = site; action = action }
+
+-- the command that a line's words are, in a plan of so many events: a site, a name, and what belongs to the name
+abbrev pub command_of : ℕ → List (List ℕ) → Option Command
+command_of events [] = None
+command_of events (site ∷ []) = None
+command_of events (site ∷ (name ∷ words)) =
+    option_and_then (λ number. option_map (sites_command number) (action_of events name words)) (number_of site)
+
+-- the action that the code has read from a line
+abbrev pub seen_action : ActionOfLine → Action
+seen_action (line.Add from to lo hi) = add from to lo.now hi.now
+seen_action (line.Check times) = check (words_of times.now)
+
+-- the command that the code has read from a line
+abbrev pub seen_command : CommandOfLine → Command
+seen_command command = sites_command command.site (seen_action command.action)
+
+-- a check has one time for each event
+abbrev pub IsForEvents : ℕ → Action → Type 0
+IsForEvents events (add from to lo hi) = Unit {0}
+IsForEvents events (check times) = length times ≡ events

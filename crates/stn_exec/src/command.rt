@@ -1,0 +1,106 @@
+ghost use Rattle.std.specs.Prelude.{◌≡◌, ℕ, length, IfSome};
+ghost use Rattle.std.specs.Option.{option_map};
+ghost use Rattle.stn_text.specs.Lines.{words_of};
+ghost use Rattle.stn_exec.specs.Command.{command_of, action_of, add_of, check_of, event_of, seen_command, seen_action, IsForEvents};
+
+use stn_net::{Event, MOST_EVENTS};
+use stn_text::{first_word, read_number};
+
+/// A command of one site; the words that it reads later stand in its line.
+#[derive(Clone, Copy)]
+pub struct Command<'a> {
+    pub site: u32,
+    pub action: Action<'a>,
+}
+
+/// What a command does.
+#[derive(Clone, Copy)]
+pub enum Action<'a> {
+    /// Adds the bound of two events and two sides.
+    Add {
+        from: Event,
+        to: Event,
+        lo: &'a [u8],
+        hi: &'a [u8],
+    },
+    /// Checks the times of all events, which are the words of this part of the line.
+    Check(&'a [u8]),
+}
+
+/// The command that a line is, in a plan of so many events beside the origin.
+pub fn read_command(events: u16, line: &[u8]) -> Option<Command<'_>>
+    ensures command { option_map seen_command result ≡ command_of events (words_of line.now) }
+    ensures fits { IfSome result (λ command. IsForEvents events (seen_action command.action)) }
+{
+    let (site, named) = first_word(line)?;
+    let (name, rest) = first_word(named)?;
+    let site = read_number(site)?;
+    match read_action(events, name, rest) {
+        Some(action) => Some(Command { site, action }),
+        None => None,
+    }
+}
+
+fn read_action<'a>(events: u16, name: &[u8], rest: &'a [u8]) -> Option<Action<'a>>
+    ensures action { option_map seen_action result ≡ action_of events name.now (words_of rest.now) }
+    ensures fits { IfSome result (λ action. IsForEvents events (seen_action action)) }
+{
+    if name == b"add".as_slice() {
+        read_add(rest)
+    } else if name == b"check".as_slice() {
+        read_check(events, rest)
+    } else {
+        None
+    }
+}
+
+fn read_add(rest: &[u8]) -> Option<Action<'_>>
+    ensures action { option_map seen_action result ≡ add_of (words_of rest.now) }
+    ensures fits { (events : ℕ) → IfSome result (λ action. IsForEvents events (seen_action action)) }
+{
+    let (first, behind_first) = first_word(rest)?;
+    let (second, behind_second) = first_word(behind_first)?;
+    let (lo, behind_lo) = first_word(behind_second)?;
+    let (hi, behind_hi) = first_word(behind_lo)?;
+    if first_word(behind_hi).is_some() {
+        return None;
+    }
+    let from = read_event(first)?;
+    let to = read_event(second)?;
+    Some(Action::Add { from, to, lo, hi })
+}
+
+fn read_check(events: u16, rest: &[u8]) -> Option<Action<'_>>
+    ensures action { option_map seen_action result ≡ check_of events (words_of rest.now) }
+    ensures fits { IfSome result (λ action. IsForEvents events (seen_action action)) }
+{
+    if count_words(rest) == usize::from(events) {
+        Some(Action::Check(rest))
+    } else {
+        None
+    }
+}
+
+fn count_words(line: &[u8]) -> usize
+    ensures { result ≡ length (words_of line.now) }
+{
+    let mut count = 0;
+    let mut rest = line;
+    while let Some((_, behind)) = first_word(rest) {
+        count += 1;
+        rest = behind;
+    }
+    count
+}
+
+fn read_event(word: &[u8]) -> Option<Event>
+    ensures { result ≡ event_of word.now }
+{
+    match Event::read(word) {
+        Some(event) => {
+            prove!(event.number() <= MOST_EVENTS);
+            Some(event)
+        }
+        None => None,
+    }
+}

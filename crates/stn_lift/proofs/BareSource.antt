@@ -1,0 +1,48 @@
+use Rattle.std.proofs.Common.{◌≡◌, ℕ, pos, zero, suc, ◌*◌, ◌≤◌, [], ◌∷◌, length, All, refl, arith, length-append}
+use Rattle.std.proofs.lemmas.List.Elements.{All-nil, All-push}
+use Rattle.std.proofs.lemmas.Int.{ints}
+use Rattle.std.proofs.lemmas.List.{take_all}
+use Rattle.stn_net.specs.Difference.{NamesEvents}
+use Rattle.stn_net.specs.Schedule.{Meets}
+use Rattle.stn_net.specs.Horizon.{horizon_bound, horizon_bounds}
+use Rattle.stn_lift.specs.PlanSource.{PlanSource, bare, steps_of, IsSoundSource}
+
+-- there are as many horizon bounds as events
+pub length-horizon_bounds : (events : ℕ) → length (horizon_bounds events) ≡ events
+unfolding horizon_bounds
+length-horizon_bounds zero = refl
+length-horizon_bounds (suc events) = omega (arith, length-append (horizon_bounds events) (horizon_bound (suc events) ∷ []), length-horizon_bounds events)
+
+-- the horizon bounds of some of the events name these events
+pub horizon_bounds_named : (all events : ℕ) → events ≤ all → All (NamesEvents all) (horizon_bounds events)
+unfolding horizon_bounds
+horizon_bounds_named all zero within = All-nil (NamesEvents all)
+horizon_bounds_named all (suc events) within =
+    let last : NamesEvents all (horizon_bound (suc events)) = record { from = omega arith; to = within } in
+    All-push (NamesEvents all) (horizon_bounds events) (horizon_bound (suc events)) (horizon_bounds_named all events (omega arith)) last
+
+-- a time of 0 meets the horizon bound of its event
+pub horizon_met_at_zero : (event : ℕ) → Meets (λ _. pos 0) (horizon_bound event)
+horizon_met_at_zero event = (omega (arith, ints), omega (arith, ints))
+
+-- all events at 0 meet the horizon bounds
+pub horizon_bounds_met_at_zero : (events : ℕ) → All (Meets (λ _. pos 0)) (horizon_bounds events)
+unfolding horizon_bounds
+horizon_bounds_met_at_zero zero = All-nil (Meets (λ _. pos 0))
+horizon_bounds_met_at_zero (suc events) =
+    All-push (Meets (λ _. pos 0)) (horizon_bounds events) (horizon_bound (suc events))
+    (horizon_bounds_met_at_zero events) (horizon_met_at_zero (suc events))
+
+-- a bare source of at most 256 steps is sound
+pub sound_bare_source : (steps : ℕ) → steps ≤ 256 → IsSoundSource (bare steps)
+sound_bare_source steps small = record {
+  small = small;
+  horizon = take_all (2 * steps) (horizon_bounds (2 * steps)) (omega (arith, length-horizon_bounds (2 * steps)));
+  named = horizon_bounds_named (2 * steps) (2 * steps) (omega arith);
+  few = omega (arith, length-horizon_bounds (2 * steps));
+  possible = record { origin = refl; met = horizon_bounds_met_at_zero (2 * steps) };
+}
+
+-- a source of at most 256 steps is sound
+pub sound_source : (source : PlanSource) → steps_of source ≤ 256 → IsSoundSource source
+sound_source (bare steps) small = sound_bare_source steps small

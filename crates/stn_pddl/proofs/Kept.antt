@@ -1,0 +1,240 @@
+-- What reading conditions and effects keeps of an action.
+use Rattle.std.proofs.Common.{◌≡◌, ℕ, ◌+◌, ◌<◌, ◌≤◌, Bool, true, false, cond, nat_lt, List, [], ◌∷◌, ◌++◌, length, Option, Some, None, Result, Ok, Err, refl, sym, ◌∙◌, ap, subst, arith, position, codes}
+use Rattle.std.specs.List.{AllByRecursion, position_or_len}
+use Rattle.std.proofs.lemmas.Bool.{ltb-true}
+use Rattle.stn_tree.specs.Names.{is_same_word}
+use Rattle.stn_tree.specs.Trees.{Trees, End, Word, Group}
+use Rattle.stn_pddl.specs.declared.fault.DomainFault.{DomainFault}
+use Rattle.stn_pddl.specs.declared.fault.DomainFault.TheVariants.{Syntax, Unsupported, Variable}
+use Rattle.stn_pddl.specs.declared.action.Label.{Label}
+use Rattle.stn_pddl.specs.declared.action.Label.TheVariants.{StartCondition, OverAll, EndCondition, StartEffect, EndEffect}
+use Rattle.stn_pddl.specs.declared.action.Side.{Side}
+use Rattle.stn_pddl.specs.declared.action.Side.TheVariants.{Condition, Effect}
+use Rattle.stn_pddl.specs.declared.word.Head.{Head}
+use Rattle.stn_pddl.specs.declared.word.Head.TheVariants as head
+use Rattle.stn_pddl.specs.Faults.{◌>>=◌}
+use Rattle.stn_pddl.specs.Words.{is_variable, is_key, head_of}
+use Rattle.stn_pddl.specs.Schemas.{TermSchema, AtomSchema, ActionSchema, Parameter, Constant, with_literal}
+use Rattle.stn_pddl.specs.Atoms.{parameter_at, term, terms, atom, equality}
+use Rattle.stn_pddl.specs.Conditions.{is_effect, equal_tree, negated_tree, negated_first, negation, plain_row, plain_tree, labelled, start_of, end_of, at_tree, over_tree, timed_row, timed_tree, equal_at}
+use Rattle.stn_pddl.specs.Sound.{IsSoundTerm, IsSoundAtom, HasSoundAtoms}
+
+-- the action after has the name, the parameters and the duration of the one before, and sound atoms where that has them
+pub record Keeps (before after : ActionSchema) : Type 0 where
+  pub name : after.name ≡ before.name
+  pub parameters : after.parameters ≡ before.parameters
+  pub duration : after.duration ≡ before.duration
+  pub atoms : HasSoundAtoms before → HasSoundAtoms after
+
+same : (a : ActionSchema) → Keeps a a
+same a = record { name = refl; parameters = refl; duration = refl; atoms = λ h. h }
+
+chained : {a b c : ActionSchema} → Keeps a b → Keeps b c → Keeps a c
+chained p q = record { name = q.name ∙ p.name; parameters = q.parameters ∙ p.parameters; duration = q.duration ∙ p.duration; atoms = λ h. q.atoms (p.atoms h) }
+
+-- the step of a chain that gave a value
+pub bind_ok : {A B : Type 0} (r : Result A DomainFault) (f : A → Result B DomainFault) (y : B) → (r >>= f) ≡ Ok y → (x : A) × (r ≡ Ok x) × (f x ≡ Ok y)
+bind_ok (Ok x) f y is = (x, refl, is)
+bind_ok (Err e) f y is = cc
+
+pub guard_ok : {A : Type 0} (t : Bool) (r : Result A DomainFault) (e : DomainFault) (y : A) → cond t r (Err e) ≡ Ok y → r ≡ Ok y
+guard_ok true r e y is = is
+guard_ok false r e y is = cc
+
+pub unless_ok : {A : Type 0} (t : Bool) (r : Result A DomainFault) (e : DomainFault) (y : A) → cond t (Err e) r ≡ Ok y → r ≡ Ok y
+unless_ok true r e y is = cc
+unless_ok false r e y is = is
+
+abbrev pub okay : {A : Type 0} → A → Result A DomainFault
+okay x = Ok x
+
+pub ok_same : {A : Type 0} (x y : A) → okay x ≡ Ok y → x ≡ y
+ok_same x y is = cc
+
+refused : {A B : Type 0} (e : DomainFault) (y : A) → Err e ≡ Ok y → B
+refused e y is = cc
+
+-- one more
+pub All-push : {X : Type 0} (P : X → Type 0) (xs : List X) (x : X) → AllByRecursion P xs → P x → AllByRecursion P (xs ++ x ∷ [])
+All-push P [] x all p = (p, tt)
+All-push P (y ∷ xs) x all p = (all.0, All-push P xs x all.1 p)
+
+-- the place of a parameter is one of the list
+place-within : (test : List ℕ → Bool) (names : List (List ℕ)) (place : ℕ) → position test names ≡ Some place → place < length names
+place-within test names place is = within (nat_lt (position_or_len test names) (length names)) refl is
+  where
+    within : (t : Bool) → nat_lt (position_or_len test names) (length names) ≡ t → cond t (Some (position_or_len test names)) None ≡ Some place → place < length names
+    within true e found = let here : position_or_len test names ≡ place = cc in let lt = ltb-true _ _ e in omega (arith, here, lt)
+    within false e found = cc
+
+term-sound : (names : List (List ℕ)) (line : ℕ) (word : List ℕ) (found : TermSchema) → term names line word ≡ Ok found → IsSoundTerm (length names) found
+unfolding term
+term-sound names line word found is = by_kind (is_variable word) (is_key word) is
+  where
+    by_place : (place : Option ℕ) → position (is_same_word word) names ≡ place → parameter_at line place ≡ Ok found → IsSoundTerm (length names) found
+    by_place None e h = cc
+    by_place (Some place) e h = subst (IsSoundTerm (length names)) (ok_same _ _ h) (place-within (is_same_word word) names place e)
+
+    by_kind : (v k : Bool) → cond v (parameter_at line (position (is_same_word word) names)) (cond k (Err (Syntax line)) (Ok (Constant word))) ≡ Ok found → IsSoundTerm (length names) found
+    by_kind true k h = by_place (position (is_same_word word) names) refl h
+    by_kind false true h = cc
+    by_kind false false h = subst (IsSoundTerm (length names)) (ok_same _ _ h) tt
+
+terms-sound : (names : List (List ℕ)) (rest : Trees) (before found : List TermSchema) → AllByRecursion (IsSoundTerm (length names)) before → terms names rest before ≡ Ok found → AllByRecursion (IsSoundTerm (length names)) found
+unfolding terms
+terms-sound names End before found all is = subst (AllByRecursion (IsSoundTerm (length names))) (ok_same _ _ is) all
+terms-sound names (Word line word next) before found all is =
+    let step = bind_ok (term names line word) (λ t. terms names next (before ++ t ∷ [])) found is in
+    terms-sound names next (before ++ step.0 ∷ []) found (All-push (IsSoundTerm (length names)) before step.0 all (term-sound names line word step.0 step.1)) step.2
+terms-sound names (Group line children next) before found all is = cc
+
+literal-keeps : (label : Label) (negated : Bool) (found : AtomSchema) (a : ActionSchema) → IsSoundAtom (length a.parameters) found → Keeps a (with_literal label negated found a)
+unfolding with_literal
+literal-keeps StartCondition negated found a p = record { name = refl; parameters = refl; duration = refl; atoms = λ (h : HasSoundAtoms a). record { start_needs = All-push (IsSoundAtom (length a.parameters)) a.start_needs found h.start_needs p; all_needs = h.all_needs; end_needs = h.end_needs; start_adds = h.start_adds; start_deletes = h.start_deletes; end_adds = h.end_adds; end_deletes = h.end_deletes } }
+literal-keeps OverAll negated found a p = record { name = refl; parameters = refl; duration = refl; atoms = λ (h : HasSoundAtoms a). record { start_needs = h.start_needs; all_needs = All-push (IsSoundAtom (length a.parameters)) a.all_needs found h.all_needs p; end_needs = h.end_needs; start_adds = h.start_adds; start_deletes = h.start_deletes; end_adds = h.end_adds; end_deletes = h.end_deletes } }
+literal-keeps EndCondition negated found a p = record { name = refl; parameters = refl; duration = refl; atoms = λ (h : HasSoundAtoms a). record { start_needs = h.start_needs; all_needs = h.all_needs; end_needs = All-push (IsSoundAtom (length a.parameters)) a.end_needs found h.end_needs p; start_adds = h.start_adds; start_deletes = h.start_deletes; end_adds = h.end_adds; end_deletes = h.end_deletes } }
+literal-keeps StartEffect false found a p = record { name = refl; parameters = refl; duration = refl; atoms = λ (h : HasSoundAtoms a). record { start_needs = h.start_needs; all_needs = h.all_needs; end_needs = h.end_needs; start_adds = All-push (IsSoundAtom (length a.parameters)) a.start_adds found h.start_adds p; start_deletes = h.start_deletes; end_adds = h.end_adds; end_deletes = h.end_deletes } }
+literal-keeps StartEffect true found a p = record { name = refl; parameters = refl; duration = refl; atoms = λ (h : HasSoundAtoms a). record { start_needs = h.start_needs; all_needs = h.all_needs; end_needs = h.end_needs; start_adds = h.start_adds; start_deletes = All-push (IsSoundAtom (length a.parameters)) a.start_deletes found h.start_deletes p; end_adds = h.end_adds; end_deletes = h.end_deletes } }
+literal-keeps EndEffect false found a p = record { name = refl; parameters = refl; duration = refl; atoms = λ (h : HasSoundAtoms a). record { start_needs = h.start_needs; all_needs = h.all_needs; end_needs = h.end_needs; start_adds = h.start_adds; start_deletes = h.start_deletes; end_adds = All-push (IsSoundAtom (length a.parameters)) a.end_adds found h.end_adds p; end_deletes = h.end_deletes } }
+literal-keeps EndEffect true found a p = record { name = refl; parameters = refl; duration = refl; atoms = λ (h : HasSoundAtoms a). record { start_needs = h.start_needs; all_needs = h.all_needs; end_needs = h.end_needs; start_adds = h.start_adds; start_deletes = h.start_deletes; end_adds = h.end_adds; end_deletes = All-push (IsSoundAtom (length a.parameters)) a.end_deletes found h.end_deletes p } }
+
+module _ (a b : ActionSchema) where
+  atom-keeps : (label : Label) (negated : Bool) (word : List ℕ) (rest : Trees) → atom label negated word rest a ≡ Ok b → Keeps a b
+  unfolding atom
+  atom-keeps label negated word rest is =
+      let step = bind_ok (terms a.parameters rest []) (λ (ts : List TermSchema). Ok (with_literal label negated (record { predicate = word; terms = ts }) a)) b is in
+      subst (Keeps a) (ok_same _ _ step.2) (literal-keeps label negated (record { predicate = word; terms = step.0 }) a (terms-sound a.parameters rest [] step.0 tt step.1))
+
+  equality-keeps : (line : ℕ) (rest : Trees) → equality line rest a ≡ Ok b → Keeps a b
+  unfolding equality
+  equality-keeps line rest is =
+      let step = bind_ok (terms a.parameters rest []) (λ _. Ok a) b (guard_ok _ _ (Syntax line) b is) in
+      subst (Keeps a) (ok_same _ _ step.2) (same a)
+
+  equal-keeps : (label : Label) (line : ℕ) (rest : Trees) → equal_tree label line rest a ≡ Ok b → Keeps a b
+  equal-keeps label line rest is = equality-keeps line rest (unless_ok _ _ (Unsupported line) b is)
+
+  negated-keeps : (label : Label) (line : ℕ) (children : Trees) → negated_tree label line children a ≡ Ok b → Keeps a b
+  unfolding negated_tree
+  negated-keeps label line End is = cc
+  negated-keeps label line (Group at children next) is = cc
+  negated-keeps label line (Word at word rest) is = by (head_of word) is
+    where
+      by : (k : Head) → elim k as (λ _. Result ActionSchema DomainFault) [
+        | head.And ↦ Err (Unsupported line)
+        | head.Not ↦ Err (Unsupported line)
+        | head.Equal ↦ equal_tree label line rest a
+        | head.OtherLogic ↦ Err (Unsupported line)
+        | head.NoName ↦ Err (Syntax line)
+        | head.At ↦ atom label true word rest a
+        | head.Over ↦ atom label true word rest a
+        | head.Name ↦ atom label true word rest a
+      ] ≡ Ok b → Keeps a b
+      by head.And h = refused (Unsupported line) b h
+      by head.Not h = refused (Unsupported line) b h
+      by head.Equal h = equal-keeps label line rest h
+      by head.OtherLogic h = refused (Unsupported line) b h
+      by head.NoName h = refused (Syntax line) b h
+      by head.At h = atom-keeps label true word rest h
+      by head.Over h = atom-keeps label true word rest h
+      by head.Name h = atom-keeps label true word rest h
+
+  negation-keeps : (label : Label) (line : ℕ) (rest : Trees) → negation label line rest a ≡ Ok b → Keeps a b
+  unfolding negation
+  negation-keeps label line rest is = first rest (guard_ok _ _ (Syntax line) b is)
+    where
+      first : (trees : Trees) → negated_first label line trees a ≡ Ok b → Keeps a b
+      first End h = refused (Syntax line) b h
+      first (Word at word next) h = refused (Syntax at) b h
+      first (Group at children next) h = negated-keeps label at children h
+
+  plain-by : (label : Label) (line : ℕ) (word : List ℕ) (rest : Trees) → (plain_row label rest a ≡ Ok b → Keeps a b) → (k : Head) → elim k as (λ _. Result ActionSchema DomainFault) [
+    | head.And ↦ plain_row label rest a
+    | head.Not ↦ negation label line rest a
+    | head.Equal ↦ equal_tree label line rest a
+    | head.OtherLogic ↦ Err (Unsupported line)
+    | head.NoName ↦ Err (Syntax line)
+    | head.At ↦ atom label false word rest a
+    | head.Over ↦ atom label false word rest a
+    | head.Name ↦ atom label false word rest a
+  ] ≡ Ok b → Keeps a b
+  plain-by label line word rest row head.And h = row h
+  plain-by label line word rest row head.Not h = negation-keeps label line rest h
+  plain-by label line word rest row head.Equal h = equal-keeps label line rest h
+  plain-by label line word rest row head.OtherLogic h = refused (Unsupported line) b h
+  plain-by label line word rest row head.NoName h = refused (Syntax line) b h
+  plain-by label line word rest row head.At h = atom-keeps label false word rest h
+  plain-by label line word rest row head.Over h = atom-keeps label false word rest h
+  plain-by label line word rest row head.Name h = atom-keeps label false word rest h
+
+mutual
+  unfolding plain_row plain_tree
+
+  pub plain_row-keeps : (label : Label) (trees : Trees) (a b : ActionSchema) → plain_row label trees a ≡ Ok b → Keeps a b
+  plain_row-keeps label End a b is = subst (Keeps a) (ok_same _ _ is) (same a)
+  plain_row-keeps label (Word line word next) a b is = refused (Syntax line) b is
+  plain_row-keeps label (Group line children next) a b is =
+      let step = bind_ok (plain_tree label line children a) (λ found. plain_row label next found) b is in
+      chained (plain_tree-keeps label line children a step.0 step.1) (plain_row-keeps label next step.0 b step.2)
+
+  plain_tree-keeps : (label : Label) (line : ℕ) (trees : Trees) (a b : ActionSchema) → plain_tree label line trees a ≡ Ok b → Keeps a b
+  plain_tree-keeps label line End a b is = subst (Keeps a) (ok_same _ _ is) (same a)
+  plain_tree-keeps label line (Group at children next) a b is = refused (Syntax line) b is
+  plain_tree-keeps label line (Word at word rest) a b is = plain-by a b label line word rest (plain_row-keeps label rest a b) (head_of word) is
+
+module _ (a b : ActionSchema) where
+  labelled-keeps : (label : Label) (line : ℕ) (rest : Trees) → labelled label line rest a ≡ Ok b → Keeps a b
+  unfolding labelled
+  labelled-keeps label line rest is = plain_row-keeps label rest a b (guard_ok _ _ (Syntax line) b is)
+
+  at-keeps : (side : Side) (line : ℕ) (rest : Trees) → at_tree side line rest a ≡ Ok b → Keeps a b
+  unfolding at_tree
+  at-keeps side line End is = refused (Syntax line) b is
+  at-keeps side line (Group at children next) is = refused (Syntax line) b is
+  at-keeps side line (Word at word rest) is = by (is_same_word word (codes "start")) (is_same_word word (codes "end")) is
+    where
+      by : (s e : Bool) → cond s (labelled (start_of side) line rest a) (cond e (labelled (end_of side) line rest a) (Err (Syntax line))) ≡ Ok b → Keeps a b
+      by true e h = labelled-keeps (start_of side) line rest h
+      by false true h = labelled-keeps (end_of side) line rest h
+      by false false h = refused (Syntax line) b h
+
+  over-keeps : (side : Side) (line : ℕ) (rest : Trees) → over_tree side line rest a ≡ Ok b → Keeps a b
+  unfolding over_tree
+  over-keeps Effect line rest is = refused (Syntax line) b is
+  over-keeps Condition line End is = refused (Syntax line) b is
+  over-keeps Condition line (Group at children next) is = refused (Syntax line) b is
+  over-keeps Condition line (Word at word rest) is = labelled-keeps OverAll line rest (guard_ok (is_same_word word (codes "all")) _ (Syntax line) b is)
+
+  timed-by : (side : Side) (line : ℕ) (rest : Trees) → (timed_row side rest a ≡ Ok b → Keeps a b) → (k : Head) → elim k as (λ _. Result ActionSchema DomainFault) [
+    | head.And ↦ timed_row side rest a
+    | head.At ↦ at_tree side line rest a
+    | head.Over ↦ over_tree side line rest a
+    | head.OtherLogic ↦ Err (Unsupported line)
+    | head.Equal ↦ Err (equal_at side line)
+    | head.Not ↦ Err (Syntax line)
+    | head.NoName ↦ Err (Syntax line)
+    | head.Name ↦ Err (Syntax line)
+  ] ≡ Ok b → Keeps a b
+  timed-by side line rest row head.And h = row h
+  timed-by side line rest row head.At h = at-keeps side line rest h
+  timed-by side line rest row head.Over h = over-keeps side line rest h
+  timed-by side line rest row head.OtherLogic h = refused (Unsupported line) b h
+  timed-by side line rest row head.Equal h = refused (equal_at side line) b h
+  timed-by side line rest row head.Not h = refused (Syntax line) b h
+  timed-by side line rest row head.NoName h = refused (Syntax line) b h
+  timed-by side line rest row head.Name h = refused (Syntax line) b h
+
+mutual
+  unfolding timed_row timed_tree
+
+  timed_row-keeps : (side : Side) (trees : Trees) (a b : ActionSchema) → timed_row side trees a ≡ Ok b → Keeps a b
+  timed_row-keeps side End a b is = subst (Keeps a) (ok_same _ _ is) (same a)
+  timed_row-keeps side (Word line word next) a b is = refused (Syntax line) b is
+  timed_row-keeps side (Group line children next) a b is =
+      let step = bind_ok (timed_tree side line children a) (λ found. timed_row side next found) b is in
+      chained (timed_tree-keeps side line children a step.0 step.1) (timed_row-keeps side next step.0 b step.2)
+
+  pub timed_tree-keeps : (side : Side) (line : ℕ) (trees : Trees) (a b : ActionSchema) → timed_tree side line trees a ≡ Ok b → Keeps a b
+  timed_tree-keeps side line End a b is = subst (Keeps a) (ok_same _ _ is) (same a)
+  timed_tree-keeps side line (Group at children next) a b is = refused (Syntax line) b is
+  timed_tree-keeps side line (Word at word rest) a b is = timed-by a b side line rest (timed_row-keeps side rest a b) (head_of word) is

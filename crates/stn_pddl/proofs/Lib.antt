@@ -1,0 +1,4 @@
+pub mod Terms
+pub mod ActionMaps
+pub mod Kept
+pub mod SoundActions

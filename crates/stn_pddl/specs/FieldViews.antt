@@ -1,0 +1,18 @@
+-- What the values of an action's keys say.
+use Rattle.std.specs.Prelude.{Option}
+use Rattle.std.specs.Option.{option_map}
+use Rattle.stn_tree.specs.Cursors.{row_at}
+use Rattle.stn_pddl.specs.declared.fields.Listing.{Listing}
+use Rattle.stn_pddl.specs.declared.fields.Values.{Values}
+use Rattle.stn_pddl.specs.Fields as spec
+
+abbrev pub listing_of : Listing → spec.Listing
+listing_of listing = record { line = listing.line; children = row_at listing.inside }
+
+abbrev pub values_of : Values → spec.Values
+values_of values = record {
+  parameters = option_map listing_of values.parameters;
+  duration = option_map listing_of values.duration;
+  condition = option_map listing_of values.condition;
+  effect = option_map listing_of values.effect;
+}

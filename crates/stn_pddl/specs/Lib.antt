@@ -1,0 +1,11 @@
+pub mod Faults
+pub mod Words
+pub mod Schemas
+pub mod Atoms
+pub mod Conditions
+pub mod Fields
+pub mod Actions
+pub mod Domains
+pub mod Views
+pub mod FieldViews
+pub mod Sound

@@ -1,0 +1,27 @@
+-- What every action of a domain keeps.
+use Rattle.std.specs.Prelude.{ℕ, ◌<◌, List, length, ℤ, pos, ◌≤ℤ◌}
+use Rattle.std.specs.List.{AllByRecursion}
+use Rattle.stn_pddl.specs.Schemas.{TermSchema, AtomSchema, ActionSchema, Parameter, Constant}
+
+-- a parameter is one of so many
+abbrev pub IsSoundTerm : ℕ → TermSchema → Type 0
+IsSoundTerm arity (Parameter place) = place < arity
+IsSoundTerm arity (Constant word) = Unit {0}
+
+abbrev pub IsSoundAtom : ℕ → AtomSchema → Type 0
+IsSoundAtom arity atom = AllByRecursion (IsSoundTerm arity) atom.terms
+
+-- the parameters in the atoms are those of the action
+pub record HasSoundAtoms (action : ActionSchema) : Type 0 where
+  pub start_needs : AllByRecursion (IsSoundAtom (length action.parameters)) action.start_needs
+  pub all_needs : AllByRecursion (IsSoundAtom (length action.parameters)) action.all_needs
+  pub end_needs : AllByRecursion (IsSoundAtom (length action.parameters)) action.end_needs
+  pub start_adds : AllByRecursion (IsSoundAtom (length action.parameters)) action.start_adds
+  pub start_deletes : AllByRecursion (IsSoundAtom (length action.parameters)) action.start_deletes
+  pub end_adds : AllByRecursion (IsSoundAtom (length action.parameters)) action.end_adds
+  pub end_deletes : AllByRecursion (IsSoundAtom (length action.parameters)) action.end_deletes
+
+-- and the duration is not negative
+pub record IsSound (action : ActionSchema) : Type 0 where
+  pub atoms : HasSoundAtoms action
+  pub duration : pos 0 ≤ℤ action.duration

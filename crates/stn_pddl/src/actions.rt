@@ -1,0 +1,68 @@
+//! The actions of a domain by name.
+
+ghost use Rattle.std.specs.Prelude.{◌≡◌, ◌++◌, ◌∷◌, [], false, IfOk, MatchOption, Some, None};
+ghost use Rattle.stn_pddl.specs.Actions.{is_taken};
+ghost use Rattle.stn_pddl.specs.Domains.{action_named};
+ghost use Rattle.stn_pddl.specs.Views.{action_schema};
+
+use crate::action::Action;
+use indexmap::IndexMap;
+use std::alloc::{AllocError, Allocator};
+use std::hash::{BuildHasherDefault, FoldHasher};
+use std::marker::Model;
+use stn_tree::Name;
+
+/// Actions in their order, each with a name of its own.
+#[derive(Drop)]
+pub struct Actions<'a, A: Allocator> {
+    by_name: IndexMap<Name<'a>, Action<'a, A>, BuildHasherDefault<FoldHasher>, A>,
+}
+
+impl<'a, A: Allocator> Model for Actions<'a, A> {
+    ghost use Rattle.std.specs.Prelude.{List};
+    ghost use Rattle.stn_pddl.specs.Schemas.{ActionSchema};
+
+    ghost Value = { List ActionSchema };
+
+    ghost use Rattle.stn_pddl.specs.Views.{entries_schema, AreNamed};
+
+    ghost view = { λ actions. entries_schema actions.by_name.entries };
+
+    ghost invariant = { λ actions. AreNamed actions.by_name.entries };
+}
+
+impl<'a, A: Allocator + Copy> Actions<'a, A> {
+    /// No actions.
+    pub fn new(alloc: A) -> Actions<'a, A>
+        ensures { result ≡ [] }
+    {
+        Actions {
+            by_name: IndexMap::new(alloc),
+        }
+    }
+
+    /// Whether the name is that of an action.
+    pub fn is_taken(&self, name: Name<'a>) -> bool
+        ensures { result ≡ is_taken name.entry.bytes.now self.now }
+    {
+        self.by_name.contains_key(&name)
+    }
+
+    /// Takes an action up behind the others.
+    pub fn push(&mut self, action: Action<'a, A>) -> Result<(), AllocError>
+        requires { is_taken (action_schema action).name self.old ≡ false }
+        ensures { IfOk result (λ _. self.new ≡ self.old ++ action_schema action.entry ∷ []) }
+    {
+        self.by_name.insert(action.name, action)?;
+        Ok(())
+    }
+
+    /// The action of a name.
+    pub fn get(&self, name: Name<'a>) -> Option<&Action<'a, A>>
+        ensures { MatchOption result
+            (action_named name.entry.bytes.now self.now ≡ None)
+            (λ action. action_named name.entry.bytes.now self.now ≡ Some (action_schema action.now)) }
+    {
+        self.by_name.get(&name)
+    }
+}

@@ -1,0 +1,104 @@
+//! Terms, atoms and equalities.
+
+ghost use Rattle.std.specs.Prelude.{◌≡◌, ◌≤◌, [], IfOk};
+ghost use Rattle.stn_tree.specs.Cursors.{row_at, rows_at, behind_at, left_at};
+ghost use Rattle.stn_pddl.specs.Faults.{Gives};
+ghost use Rattle.stn_pddl.specs.Views.{term_schema, terms_schema, words_of, action_schema, word_of};
+ghost use Rattle.stn_pddl.specs.Atoms as spec;
+
+use crate::action::{Action, Atom, Label, Names, Term};
+use crate::fault::DomainFault;
+use crate::word::{is_key, is_variable};
+use std::alloc::Allocator;
+use stn_tree::{Child, Cursor, Name};
+
+/// A term that is a word on a line.
+#[tactic(auto, unfolding(crate::specs::Atoms::term))]
+fn read_term<'a, A: Allocator + Copy>(
+    parameters: &Names<'a, A>,
+    line: u32,
+    word: &'a [u8],
+) -> Result<Term<'a>, DomainFault>
+    ensures { Gives term_schema result (spec.term (words_of parameters.now.keys) line word.now) }
+{
+    let name = Name { bytes: word };
+    if is_variable(word) {
+        match parameters.get_index_of(&name) {
+            Some(place) => Ok(Term::Parameter(place)),
+            None => Err(DomainFault::Variable(line)),
+        }
+    } else if is_key(word) {
+        Err(DomainFault::Syntax(line))
+    } else {
+        Ok(Term::Constant(name))
+    }
+}
+
+/// The terms of a row, and the place behind the row.
+#[tactic(auto, unfolding(crate::specs::Atoms::terms))]
+fn read_terms<'a, A: Allocator + Copy>(
+    alloc: A,
+    parameters: &Names<'a, A>,
+    children: Cursor<'a>,
+) -> Result<(Vec<Term<'a>, A>, Cursor<'a>), DomainFault>
+    ensures given { Gives (λ found. terms_schema found.0.items) result
+        (spec.terms (words_of parameters.now.keys) (row_at children.entry) []) }
+    ensures behind { IfOk result (λ found. rows_at found.1 ≡ behind_at children.entry) }
+    ensures shorter { IfOk result (λ found. left_at found.1 ≤ left_at children.entry) }
+{
+    let mut terms = Vec::new(alloc);
+    let mut cursor = children;
+    'terms: loop {
+        match cursor.next_child() {
+            Child::End(behind) => return Ok((terms, behind)),
+            Child::Group(line, _) => return Err(DomainFault::Unsupported(line)),
+            Child::Word(line, word, rest) => {
+                terms.push(read_term(parameters, line, word)?)?;
+                cursor = rest;
+            }
+        }
+    }
+}
+
+impl<'a, A: Allocator + Copy> Action<'a, A> {
+    /// Takes up the atom of a predicate whose terms stand in a row, and gives the place behind the row.
+    #[tactic(auto, unfolding(crate::specs::Atoms::atom, crate::specs::Views::action_schema))]
+    pub fn read_atom(
+        &mut self,
+        alloc: A,
+        label: Label,
+        negated: bool,
+        predicate: &'a [u8],
+        children: Cursor<'a>,
+    ) -> Result<Cursor<'a>, DomainFault>
+        ensures given { Gives (λ _. action_schema self.new) result
+            (spec.atom label negated predicate.now (row_at children.entry) (action_schema self.old)) }
+        ensures behind { IfOk result (λ rest. rows_at rest ≡ behind_at children.entry) }
+        ensures shorter { IfOk result (λ rest. left_at rest ≤ left_at children.entry) }
+    {
+        let (terms, rest) = read_terms(alloc, &self.parameters, children)?;
+        let predicate = Name { bytes: predicate };
+        self.push_literal(label, negated, Atom { predicate, terms })?;
+        Ok(rest)
+    }
+
+    /// Reads the terms of an equality on a line, and gives the place behind them.
+    #[tactic(auto, unfolding(crate::specs::Atoms::equality, crate::specs::Views::action_schema))]
+    pub fn read_equality(
+        &self,
+        alloc: A,
+        line: u32,
+        children: Cursor<'a>,
+    ) -> Result<Cursor<'a>, DomainFault>
+        ensures given { Gives (λ _. action_schema self.now) result
+            (spec.equality line (row_at children.entry) (action_schema self.now)) }
+        ensures behind { IfOk result (λ rest. rows_at rest ≡ behind_at children.entry) }
+        ensures shorter { IfOk result (λ rest. left_at rest ≤ left_at children.entry) }
+    {
+        if children.count_children() != 2 {
+            return Err(DomainFault::Syntax(line));
+        }
+        let (_, rest) = read_terms(alloc, &self.parameters, children)?;
+        Ok(rest)
+    }
+}

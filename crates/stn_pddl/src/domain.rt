@@ -1,0 +1,258 @@
+//! Whole domains.
+
+ghost use Rattle.std.specs.Prelude.{◌≡◌, [], false, IfOk, IfSome, MatchOption, Some, None};
+ghost use Rattle.std.specs.Option.{option_map};
+ghost use Rattle.stn_tree.specs.Cursors.{row_at};
+ghost use Rattle.stn_pddl.specs.Faults.{Gives};
+ghost use Rattle.stn_pddl.specs.Actions as rule;
+ghost use Rattle.stn_pddl.specs.Domains.{part, parts, is_title, root, domain_of_tree, domain_of, action_named};
+ghost use Rattle.stn_pddl.specs.Sound.{IsSound};
+ghost use Rattle.stn_pddl.specs.Views.{action_schema, word_of};
+ghost use Rattle.stn_pddl.specs.FieldViews.{listing_of, values_of};
+
+use crate::action::{Action, Side};
+use crate::actions::Actions;
+use crate::fault::DomainFault;
+use crate::fields::{Listing, Values, read_duration, read_parameters};
+use crate::word::{Section, is_name, section_of};
+use std::alloc::Allocator;
+use std::marker::Model;
+use stn_tree::{Child, Cursor, Name, is_same_word};
+
+/// A domain read from a text, which it borrows.
+#[derive(Drop)]
+pub struct Domain<'a, A: Allocator> {
+    text: &'a [u8],
+    actions: Actions<'a, A>,
+}
+
+impl<'a, A: Allocator> Model for Domain<'a, A> {
+    ghost use Rattle.stn_pddl.specs.Domains.{DomainSchema};
+
+    ghost Value = { DomainSchema };
+
+    ghost view = { λ domain. record { text = domain.text.now; actions = domain.actions } };
+
+    ghost use Rattle.std.specs.List.{AllByRecursion};
+    ghost use Rattle.stn_pddl.specs.Sound.{IsSound};
+
+    ghost invariant = { λ domain. AllByRecursion IsSound domain.actions };
+}
+
+/// Takes up the value of `:condition` or `:effect`, where there is one.
+#[tactic(auto, unfolding(crate::specs::Actions::timed_value))]
+fn read_timed_value<'a, A: Allocator + Copy>(
+    alloc: A,
+    side: Side,
+    value: Option<Listing<'a>>,
+    action: &mut Action<'a, A>,
+) -> Result<(), DomainFault>
+    ensures { Gives (λ _. action_schema action.new) result
+        (rule.timed_value side (option_map listing_of value.entry) (action_schema action.old)) }
+{
+    if let Some(listing) = value {
+        action.read_timed_tree(alloc, side, listing.line, listing.inside)?;
+    }
+    Ok(())
+}
+
+/// The action of a name, from its values.
+#[tactic(auto, unfolding(crate::specs::Actions::action_of_lists))]
+fn read_lists<'a, A: Allocator + Copy>(
+    alloc: A,
+    name: Name<'a>,
+    parameters: Listing<'a>,
+    duration: Listing<'a>,
+    values: Values<'a>,
+) -> Result<Action<'a, A>, DomainFault>
+    ensures { Gives action_schema result
+        (rule.action_of_lists (word_of name.entry) (listing_of parameters.entry) (listing_of duration.entry) (values_of values.entry)) }
+{
+    let names = read_parameters(alloc, parameters.inside)?;
+    let time = read_duration(duration.line, duration.inside)?;
+    let mut action = Action::bare(alloc, name, names, time);
+    read_timed_value(alloc, Side::Condition, values.condition, &mut action)?;
+    read_timed_value(alloc, Side::Effect, values.effect, &mut action)?;
+    Ok(action)
+}
+
+/// The action of a name on a line, from its fields.
+#[tactic(auto, unfolding(crate::specs::Actions::named_action))]
+fn read_named_action<'a, A: Allocator + Copy>(
+    alloc: A,
+    line: u32,
+    name: Name<'a>,
+    children: Cursor<'a>,
+) -> Result<Action<'a, A>, DomainFault>
+    ensures { Gives action_schema result (rule.named_action line (word_of name.entry) (row_at children.entry)) }
+{
+    let values = Values::read(children)?;
+    let Some(parameters) = values.parameters else {
+        return Err(DomainFault::Syntax(line));
+    };
+    let Some(duration) = values.duration else {
+        return Err(DomainFault::Syntax(line));
+    };
+    read_lists(alloc, name, parameters, duration, values)
+}
+
+/// An action on a line, from what stands behind its head.
+#[tactic(auto, unfolding(crate::specs::Actions::action))]
+fn read_action<'a, A: Allocator + Copy>(
+    alloc: A,
+    line: u32,
+    children: Cursor<'a>,
+    earlier: &Actions<'a, A>,
+) -> Result<Action<'a, A>, DomainFault>
+    ensures given { Gives action_schema result (rule.action line (row_at children.entry) earlier.now) }
+    ensures new { IfOk result (λ action. rule.is_taken (action_schema action).name earlier.now ≡ false) }
+{
+    match children.next_child() {
+        Child::End(_) => Err(DomainFault::Syntax(line)),
+        Child::Group(_, _) => Err(DomainFault::Syntax(line)),
+        Child::Word(at, word, rest) => {
+            if !is_name(word) {
+                return Err(DomainFault::Syntax(line));
+            }
+            let name = Name { bytes: word };
+            if earlier.is_taken(name) {
+                return Err(DomainFault::Twice(at));
+            }
+            read_named_action(alloc, line, name, rest)
+        }
+    }
+}
+
+/// One part of a domain, a list on a line.
+#[tactic(auto, unfolding(crate::specs::Domains::part))]
+fn read_part<'a, A: Allocator + Copy>(
+    alloc: A,
+    line: u32,
+    children: Cursor<'a>,
+    actions: &mut Actions<'a, A>,
+) -> Result<(), DomainFault>
+    ensures { Gives (λ _. actions.new) result (part line (row_at children.entry) actions.old) }
+{
+    match children.next_child() {
+        Child::End(_) => Err(DomainFault::Syntax(line)),
+        Child::Group(_, _) => Err(DomainFault::Syntax(line)),
+        Child::Word(_, word, rest) => match section_of(word) {
+            Section::Skipped => Ok(()),
+            Section::Action => {
+                let action = read_action(alloc, line, rest, actions)?;
+                actions.push(action)?;
+                Ok(())
+            }
+            Section::Unknown => Err(DomainFault::Unsupported(line)),
+            Section::NoSection => Err(DomainFault::Syntax(line)),
+        },
+    }
+}
+
+/// The parts of a domain in a row.
+#[tactic(auto, unfolding(crate::specs::Domains::parts))]
+fn read_parts<'a, A: Allocator + Copy>(
+    alloc: A,
+    children: Cursor<'a>,
+) -> Result<Actions<'a, A>, DomainFault>
+    ensures { Gives (λ actions. actions) result (parts (row_at children.entry) []) }
+{
+    let mut actions = Actions::new(alloc);
+    let mut cursor = children;
+    'parts: loop {
+        match cursor.next_child() {
+            Child::End(_) => return Ok(actions),
+            Child::Word(line, _, _) => return Err(DomainFault::Syntax(line)),
+            Child::Group(line, inside) => {
+                read_part(alloc, line, inside, &mut actions)?;
+                cursor = inside.skip();
+            }
+        }
+    }
+}
+
+/// Whether a row is the word `domain` and a name.
+#[tactic(auto, unfolding(crate::specs::Domains::is_title))]
+fn is_title(children: Cursor<'_>) -> bool
+    ensures { result ≡ is_title (row_at children.entry) }
+{
+    let Child::Word(_, domain, rest) = children.next_child() else {
+        return false;
+    };
+    let Child::Word(_, name, rest) = rest.next_child() else {
+        return false;
+    };
+    let Child::End(_) = rest.next_child() else {
+        return false;
+    };
+    is_same_word(domain, b"domain") && is_name(name)
+}
+
+/// The list of a whole domain, on a line.
+#[tactic(auto, unfolding(crate::specs::Domains::root))]
+fn read_root<'a, A: Allocator + Copy>(
+    alloc: A,
+    line: u32,
+    children: Cursor<'a>,
+) -> Result<Actions<'a, A>, DomainFault>
+    ensures { Gives (λ actions. actions) result (root line (row_at children.entry)) }
+{
+    let Child::Word(_, define, rest) = children.next_child() else {
+        return Err(DomainFault::Syntax(line));
+    };
+    let Child::Group(_, title) = rest.next_child() else {
+        return Err(DomainFault::Syntax(line));
+    };
+    if is_same_word(define, b"define") && is_title(title) {
+        read_parts(alloc, title.skip())
+    } else {
+        Err(DomainFault::Syntax(line))
+    }
+}
+
+/// The actions of a text.
+#[tactic(auto, unfolding(crate::specs::Domains::domain_of, crate::specs::Domains::domain_of_tree))]
+fn read_actions<'a, A: Allocator + Copy>(
+    alloc: A,
+    text: &'a [u8],
+) -> Result<Actions<'a, A>, DomainFault>
+    ensures { Gives (λ actions. actions) result (domain_of text.now) }
+{
+    match stn_tree::start(text)?.next_child() {
+        Child::End(_) => Err(DomainFault::Syntax(1)),
+        Child::Word(line, _, _) => Err(DomainFault::Syntax(line)),
+        Child::Group(line, children) => read_root(alloc, line, children),
+    }
+}
+
+impl<'a, A: Allocator + Copy> Domain<'a, A> {
+    /// Reads a text. The first fault is the answer: 10 where the text is too long, else the first of its bytes, 11 or 12, else the
+    /// first of its forms, 11 to 16. `Memory` may come in place of any other answer.
+    pub fn read(alloc: A, text: &'a [u8]) -> Result<Domain<'a, A>, DomainFault>
+        // The domain that the text means, or its first fault.
+        ensures given { Gives (λ domain. domain.actions) result (domain_of text.now) }
+        ensures text { IfOk result (λ domain. domain.text ≡ text.now) }
+    {
+        let actions = read_actions(alloc, text)?;
+        Ok(Domain { text, actions })
+    }
+
+    /// The text that was read.
+    pub fn text(&self) -> &'a [u8]
+        ensures { result.now ≡ self.now.text }
+    {
+        self.text
+    }
+
+    /// The action of a name, without regard to ASCII case.
+    pub fn action(&self, name: &'a [u8]) -> Option<&Action<'a, A>>
+        ensures found { MatchOption result
+            (action_named name.now self.now.actions ≡ None)
+            (λ action. action_named name.now self.now.actions ≡ Some (action_schema action.now)) }
+
+        // Its parameters are in range, and its duration is not negative.
+        ensures sound { IfSome result (λ action. IsSound (action_schema action.now)) }
+    {
+        self.actions.get(Name { bytes: name })
+    }
+}

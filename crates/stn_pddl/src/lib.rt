@@ -1,0 +1,21 @@
+//! Domains of PDDL 2.1 with fixed durations and propositional conditions and effects, read from bytes that nobody has looked at.
+#![tactic(auto)]
+
+mod action;
+mod actions;
+mod atom;
+mod condition;
+mod domain;
+#[cfg(test)]
+mod examples;
+mod fault;
+mod fields;
+mod plain;
+#[cfg(test)]
+mod tests;
+mod word;
+
+pub use action::{Action, Atom, Names, Term};
+pub use domain::Domain;
+pub use fault::DomainFault;
+pub use stn_tree::Name;

@@ -1,0 +1,4 @@
+pub mod LineFacts
+pub mod TokenFacts
+pub mod StepFacts
+pub mod FaultFacts

@@ -1,0 +1,41 @@
+-- Why a text is refused, in the words of its lines.
+use Rattle.std.specs.Prelude.{◌≡◌, ℕ, ◌<◌, List, ◌∷◌, ◌++◌, length, All, Ok, Err, IsOk}
+use Rattle.stn_plan.specs.declared.TheConstants.{MAX_TEXT, MAX_STEPS}
+use Rattle.stn_plan.specs.declared.fault.PlanFault.{PlanFault}
+use Rattle.stn_plan.specs.declared.fault.PlanFault.TheVariants.{TooLong, Syntax, Number, Negative, TooManySteps, Memory}
+use Rattle.stn_plan.specs.Lines.{lines_of}
+use Rattle.stn_plan.specs.Steps.{PlannedStep, line_step, steps_of}
+
+-- a fault that names this line
+abbrev pub IsFaultOf : ℕ → PlanFault → Type 0
+IsFaultOf line TooLong = ⊥
+IsFaultOf line (Syntax number) = number ≡ line
+IsFaultOf line (Number number) = number ≡ line
+IsFaultOf line (Negative number) = number ≡ line
+IsFaultOf line TooManySteps = ⊥
+IsFaultOf line Memory = ⊥
+
+-- one of the lines has the fault by itself, which names that line, and no line before it has a fault
+pub record IsFirstFault (lines : List (ℕ × List ℕ)) (fault : PlanFault) : Type 0 where
+  pub earlier : List (ℕ × List ℕ)
+  pub line : ℕ × List ℕ
+  pub later : List (ℕ × List ℕ)
+  pub whole : lines ≡ earlier ++ line ∷ later
+  pub its_fault : line_step line ≡ Err fault
+  pub its_number : IsFaultOf line.0 fault
+  pub none_before : All (λ other. IsOk (line_step other)) earlier
+
+-- no line has a fault, and there are more steps than a plan may have
+pub record HasTooManySteps (lines : List (ℕ × List ℕ)) : Type 0 where
+  pub steps : List PlannedStep
+  pub found : steps_of lines ≡ Ok steps
+  pub many : MAX_STEPS < length steps
+
+-- the cause that a fault has
+abbrev pub IsCause : List ℕ → PlanFault → Type 0
+IsCause text TooLong = MAX_TEXT < length text
+IsCause text (Syntax line) = IsFirstFault (lines_of text) (Syntax line)
+IsCause text (Number line) = IsFirstFault (lines_of text) (Number line)
+IsCause text (Negative line) = IsFirstFault (lines_of text) (Negative line)
+IsCause text TooManySteps = HasTooManySteps (lines_of text)
+IsCause text Memory = Unit {0}

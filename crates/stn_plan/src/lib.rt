@@ -1,0 +1,21 @@
+//! Timed plans: texts of steps, each with its time, its action and the action's arguments, and perhaps a duration.
+#![tactic(auto)]
+
+mod bytes;
+mod fault;
+mod lines;
+mod plan;
+mod step;
+#[cfg(test)]
+mod tests;
+mod tokens;
+
+pub use fault::PlanFault;
+pub use plan::Plan;
+pub use step::Step;
+
+/// The greatest number of bytes of a plan text.
+pub const MAX_TEXT: usize = 65_536;
+
+/// The greatest number of steps of a plan.
+pub const MAX_STEPS: usize = 256;

@@ -1,0 +1,239 @@
+-- The count of the ids of four lists in order, by the least first id.
+use Rattle.std.proofs.Common.{◌≡◌, suc, ◌+◌, ◌<◌, ◌≤◌, ◌⊎◌, Bool, true, false, cond, not, ◌&&◌, ◌||◌, List, [], ◌∷◌, ◌++◌, length, Option, Some, None, is_some, slice_get, Less, Equal, Greater, is_eq, is_lt, sym, refl, ap, subst, ◌∙◌, inl, inr, ⊎_elim, arith, length-append}
+use Rattle.std.proofs.lemmas.List.{length-map}
+use Rattle.std.proofs.lemmas.Bool.{false≢true}
+use Rattle.std.specs.Cmp.{Equal-is, tied_itself, alike_right}
+use Rattle.std.specs.Set.{distinct_count, is_member}
+use Rattle.std.specs.FinMap.{is_sorted}
+use Rattle.std.specs.FinMap.Entries.{below_all}
+use Rattle.stn_records.specs.Id.{SiteCounter, id_cmp}
+use Rattle.stn_records.specs.Sorted.{keys_of, lesser_of, past_id}
+use Rattle.stn_records.specs.Content.{same_ids}
+use Rattle.stn_records.specs.ContentLaws.{ids_total, ids_exact}
+use Rattle.stn_records.proofs.Entries.{and_left, and_right, less_is, less_back, greater_back, tied_less}
+use Rattle.stn_records.proofs.Contents.{same_count, one_more, member-append}
+
+-- the id is not above the first id
+abbrev pub NotAbove : SiteCounter → Option SiteCounter → Type 0
+NotAbove id None = Unit {0}
+NotAbove id (Some x) = is_lt (id_cmp x id) ≡ false
+
+not_above_chain : (a x id : SiteCounter) → is_lt (id_cmp a x) ≡ false → is_lt (id_cmp x id) ≡ false → is_lt (id_cmp a id) ≡ false
+not_above_chain a x id p q = elim (id_cmp a id) as (λ r. id_cmp a id ≡ r → is_lt r ≡ false) [
+  | Less ↦ λ e. elim (id_cmp x id) as (λ r. id_cmp x id ≡ r → is_lt r ≡ false → true ≡ false) [
+    | Less ↦ λ f g. g
+    | Equal ↦ λ f g. sym (ap is_lt (alike_right ids_total x id a f ∙ e)) ∙ p
+    | Greater ↦ λ f g. sym (ap is_lt (ids_total.trans a id x e (greater_back ids_total x id f))) ∙ p
+  ] refl q
+  | Equal ↦ λ e. refl
+  | Greater ↦ λ e. refl
+] refl
+
+self_not_above : (x : SiteCounter) → is_lt (id_cmp x x) ≡ false
+self_not_above x = ap is_lt (tied_itself ids_total x)
+
+same_some : (x y : SiteCounter) → Some x ≡ Some y → x ≡ y
+same_some x y e = cc
+
+-- the lesser of two is above neither, and is one of them
+pub lesser_least : (f g : Option SiteCounter) (id : SiteCounter) → lesser_of f g ≡ Some id → NotAbove id f × NotAbove id g
+lesser_least None None id e = (tt, tt)
+lesser_least None (Some y) id e = (tt, subst (λ x. is_lt (id_cmp y x) ≡ false) (same_some y id e) (self_not_above y))
+lesser_least (Some x) None id e = (subst (λ y. is_lt (id_cmp x y) ≡ false) (same_some x id e) (self_not_above x), tt)
+lesser_least (Some x) (Some y) id e =
+    elim (is_lt (id_cmp y x)) as (λ b. is_lt (id_cmp y x) ≡ b → cond b (Some y) (Some x) ≡ Some id → (is_lt (id_cmp x id) ≡ false) × (is_lt (id_cmp y id) ≡ false)) [
+      | true ↦ λ t f. let same = same_some y id f in
+          (subst (λ z. is_lt (id_cmp x z) ≡ false) same (ap is_lt (less_back ids_total y x (less_is (id_cmp y x) t))), subst (λ z. is_lt (id_cmp y z) ≡ false) same (self_not_above y))
+      | false ↦ λ t f. let same = same_some x id f in
+          (subst (λ z. is_lt (id_cmp x z) ≡ false) same (self_not_above x), subst (λ z. is_lt (id_cmp y z) ≡ false) same t)
+    ] refl e
+
+lesser_member : (f g : Option SiteCounter) (id : SiteCounter) → lesser_of f g ≡ Some id → (f ≡ Some id) ⊎ (g ≡ Some id)
+lesser_member None g id e = inr e
+lesser_member (Some x) None id e = inl e
+lesser_member (Some x) (Some y) id e = elim (is_lt (id_cmp y x)) as (λ b. cond b (Some y) (Some x) ≡ Some id → (Some x ≡ Some id) ⊎ (Some y ≡ Some id)) [ true ↦ inr | false ↦ inl ] e
+
+not_above_within : (f g : Option SiteCounter) (id : SiteCounter) → NotAbove id (lesser_of f g) → NotAbove id f × NotAbove id g
+not_above_within f g id h = by (lesser_of f g) refl h
+  where
+    by : (o : Option SiteCounter) → lesser_of f g ≡ o → NotAbove id o → NotAbove id f × NotAbove id g
+    by None e h = none f g e
+      where
+        none : (f g : Option SiteCounter) → lesser_of f g ≡ None → NotAbove id f × NotAbove id g
+        none None None e = (tt, tt)
+        none None (Some y) e = absurd (false≢true (ap is_some (sym e)))
+        none (Some x) None e = absurd (false≢true (ap is_some (sym e)))
+        none (Some x) (Some y) e = absurd (false≢true (elim (is_lt (id_cmp y x)) as (λ b. cond b (Some y) (Some x) ≡ None → false ≡ true) [ true ↦ λ n. ap is_some (sym n) | false ↦ λ n. ap is_some (sym n) ] e))
+    by (Some x) e h = let least = lesser_least f g x e in (through f x least.0 h, through g x least.1 h)
+      where
+        through : (f : Option SiteCounter) (x : SiteCounter) → NotAbove x f → is_lt (id_cmp x id) ≡ false → NotAbove id f
+        through None x p q = tt
+        through (Some a) x p q = not_above_chain a x id p q
+
+dropped : (m t : Bool) → (t ≡ true → m ≡ false) → m ≡ (m && not t)
+dropped m true f = f refl ∙ sym (nothing m)
+  where
+    nothing : (m : Bool) → (m && false) ≡ false
+    nothing true = refl
+    nothing false = refl
+dropped m false f = sym (whole m)
+  where
+    whole : (m : Bool) → (m && true) ≡ m
+    whole true = refl
+    whole false = refl
+
+module _ {X : Type 0} where
+  -- an id below each entry is no key
+  absent_below : (id : SiteCounter) (es : List (SiteCounter × X)) → below_all id_cmp id es ≡ true → is_member same_ids (keys_of es) id ≡ false
+  absent_below id [] h = refl
+  absent_below id (e ∷ es) h = ap (λ r. is_eq r || is_member same_ids (keys_of es) id) (less_is (id_cmp id e.0) (and_left _ _ h)) ∙ absent_below id es (and_right _ _ h)
+
+  below_tie : (x y : SiteCounter) (es : List (SiteCounter × X)) → x ≡ y → below_all id_cmp y es ≡ true → below_all id_cmp x es ≡ true
+  below_tie x y es e h = ap (λ z. below_all id_cmp z es) e ∙ h
+
+  -- past an id that is not above the first, the list has its other keys
+  pub past_members : (id : SiteCounter) (es : List (SiteCounter × X)) → is_sorted id_cmp es ≡ true → NotAbove id (slice_get (keys_of es) 0) → (q : SiteCounter) → is_member same_ids (keys_of (past_id id es)) q ≡ (is_member same_ids (keys_of es) q && not (same_ids q id))
+  past_members id [] h n q = refl
+  past_members id (e ∷ es) h n q =
+      elim (id_cmp e.0 id) as (λ r. id_cmp e.0 id ≡ r → is_lt r ≡ false → is_member same_ids (keys_of (cond (is_eq r) es (e ∷ es))) q ≡ ((same_ids q e.0 || is_member same_ids (keys_of es) q) && not (same_ids q id))) [
+        | Less ↦ λ t f. absurd (false≢true (sym f))
+        | Equal ↦ λ t f.
+            let same = ids_exact e.0 id t in
+            dropped (is_member same_ids (keys_of es) q) (same_ids q e.0) (λ s. ap (is_member same_ids (keys_of es)) (ids_exact q e.0 ((Equal-is (id_cmp q e.0)).0 s)) ∙ absent_below e.0 es (and_left _ _ h))
+            ∙ unchanged (same_ids q e.0) (is_member same_ids (keys_of es) q)
+            ∙ ap (λ z. (same_ids q e.0 || is_member same_ids (keys_of es) q) && not (same_ids q z)) same
+        | Greater ↦ λ t f.
+            let below : id_cmp id e.0 ≡ Less = greater_back ids_total e.0 id t in
+            dropped (same_ids q e.0 || is_member same_ids (keys_of es) q) (same_ids q id) (λ s.
+            let same = ids_exact q id ((Equal-is (id_cmp q id)).0 s) in
+            ap (λ z. same_ids z e.0 || is_member same_ids (keys_of es) z) same
+            ∙ ap (λ r. is_eq r || is_member same_ids (keys_of es) id) below ∙ absent_below id es (Rattle.stn_records.proofs.Entries.below_less ids_total id e.0 es below (and_left _ _ h)))
+      ] refl n
+    where
+      unchanged : (t m : Bool) → (m && not t) ≡ ((t || m) && not t)
+      unchanged true true = refl
+      unchanged true false = refl
+      unchanged false m = refl
+
+  -- past the id, the list stays in order
+  pub past_sorted : (id : SiteCounter) (es : List (SiteCounter × X)) → is_sorted id_cmp es ≡ true → is_sorted id_cmp (past_id id es) ≡ true
+  past_sorted id [] h = refl
+  past_sorted id (e ∷ es) h = elim (is_eq (id_cmp e.0 id)) as (λ b. is_sorted id_cmp (cond b es (e ∷ es)) ≡ true) [ true ↦ and_right _ _ h | false ↦ h ]
+
+  -- past an id, the list is no longer, and shorter where it is the first
+  pub past_shorter : (id : SiteCounter) (es : List (SiteCounter × X)) → length (past_id id es) ≤ length es
+  past_shorter id [] = omega arith
+  past_shorter id (e ∷ es) = elim (is_eq (id_cmp e.0 id)) as (λ b. length (cond b es (e ∷ es)) ≤ suc (length es)) [ true ↦ omega arith | false ↦ omega arith ]
+
+  pub past_first : (id : SiteCounter) (es : List (SiteCounter × X)) → slice_get (keys_of es) 0 ≡ Some id → suc (length (past_id id es)) ≡ length es
+  past_first id [] e = absurd (false≢true (ap is_some e))
+  past_first id (e ∷ es) f = ap (λ r. suc (length (cond (is_eq r) es (e ∷ es)))) (ap (λ x. id_cmp e.0 x) (sym (same_some e.0 id f)) ∙ tied_itself ids_total e.0)
+
+  first_member : (id : SiteCounter) (es : List (SiteCounter × X)) → slice_get (keys_of es) 0 ≡ Some id → is_member same_ids (keys_of es) id ≡ true
+  first_member id [] e = absurd (false≢true (ap is_some e))
+  first_member id (e ∷ es) f = ap (λ x. same_ids id x || is_member same_ids (keys_of es) id) (same_some e.0 id f) ∙ ap (λ r. is_eq r || is_member same_ids (keys_of es) id) (tied_itself ids_total id)
+
+without_both : (a b c d t : Bool) → (a ≡ (b && not t)) → (c ≡ (d && not t)) → (a || c) ≡ ((b || d) && not t)
+without_both a b c d t p q = (λ i. p i || q i) ∙ by b d t
+  where
+    by : (b d t : Bool) → ((b && not t) || (d && not t)) ≡ ((b || d) && not t)
+    by true true true = refl
+    by true true false = refl
+    by true false true = refl
+    by true false false = refl
+    by false d t = refl
+
+or_has : (a b : Bool) → (a ≡ true) ⊎ (b ≡ true) → (a || b) ≡ true
+or_has true b h = refl
+or_has false b h = ⊎_elim (λ e. absurd (false≢true e)) (λ e. e) h
+
+-- ids without one of them are one less
+less_one : (all left : List SiteCounter) (id : SiteCounter) → is_member same_ids all id ≡ true → ((q : SiteCounter) → is_member same_ids left q ≡ (is_member same_ids all q && not (same_ids q id))) → suc (distinct_count same_ids left) ≡ distinct_count same_ids all
+less_one all left id there without =
+    let itself : same_ids id id ≡ true = ap is_eq (tied_itself ids_total id) in
+    let gone : is_member same_ids left id ≡ false = without id ∙ nothing (is_member same_ids all id) (same_ids id id) itself in
+    sym (one_more id left gone) ∙ same_count (id ∷ left) all (λ q. members q)
+  where
+    nothing : (m t : Bool) → t ≡ true → (m && not t) ≡ false
+    nothing true t e = ap not e
+    nothing false t e = refl
+
+    rejoined : (t m : Bool) → (t ≡ true → m ≡ true) → (t || (m && not t)) ≡ m
+    rejoined true m f = sym (f refl)
+    rejoined false true f = refl
+    rejoined false false f = refl
+
+    members : (q : SiteCounter) → (same_ids q id || is_member same_ids left q) ≡ is_member same_ids all q
+    members q = ap (λ m. same_ids q id || m) (without q) ∙ rejoined (same_ids q id) (is_member same_ids all q) (λ t. ap (is_member same_ids all) (ids_exact q id ((Equal-is (id_cmp q id)).0 t)) ∙ there)
+
+-- the keys of four lists
+abbrev pub all_keys : {X Y : Type 0} → List (SiteCounter × X) → List (SiteCounter × Y) → List (SiteCounter × X) → List (SiteCounter × Y) → List SiteCounter
+all_keys a b c d = (keys_of a ++ keys_of b) ++ (keys_of c ++ keys_of d)
+
+module _ {X Y : Type 0} (a : List (SiteCounter × X)) (b : List (SiteCounter × Y)) (c : List (SiteCounter × X)) (d : List (SiteCounter × Y)) where
+  four_members : (q : SiteCounter) → is_member same_ids (all_keys a b c d) q ≡ ((is_member same_ids (keys_of a) q || is_member same_ids (keys_of b) q) || (is_member same_ids (keys_of c) q || is_member same_ids (keys_of d) q))
+  four_members q = member-append (keys_of a ++ keys_of b) (keys_of c ++ keys_of d) q ∙ (λ i. member-append (keys_of a) (keys_of b) q i || member-append (keys_of c) (keys_of d) q i)
+
+  -- the least of the first ids
+  abbrev pub least_first : Option SiteCounter
+  least_first = lesser_of (lesser_of (slice_get (keys_of a) 0) (slice_get (keys_of b) 0)) (lesser_of (slice_get (keys_of c) 0) (slice_get (keys_of d) 0))
+
+  pub keys_length : length (all_keys a b c d) ≡ length a + length b + length c + length d
+  keys_length = omega (arith, length-append (keys_of a ++ keys_of b) (keys_of c ++ keys_of d), length-append (keys_of a) (keys_of b), length-append (keys_of c) (keys_of d), length-map a (λ (e : SiteCounter × X). e.0), length-map b (λ (e : SiteCounter × Y). e.0), length-map c (λ (e : SiteCounter × X). e.0), length-map d (λ (e : SiteCounter × Y). e.0))
+
+  -- where there is no first id, nothing is left
+  pub none_left : least_first ≡ None → distinct_count same_ids (all_keys a b c d) ≡ 0
+  none_left e = by a b c d e
+    where
+      lesser_none : (f g : Option SiteCounter) → lesser_of f g ≡ None → (f ≡ None) × (g ≡ None)
+      lesser_none None None e = (refl, refl)
+      lesser_none None (Some y) e = absurd (false≢true (ap is_some (sym e)))
+      lesser_none (Some x) None e = absurd (false≢true (ap is_some (sym e)))
+      lesser_none (Some x) (Some y) e = absurd (false≢true (elim (is_lt (id_cmp y x)) as (λ b. cond b (Some y) (Some x) ≡ None → false ≡ true) [ true ↦ λ n. ap is_some (sym n) | false ↦ λ n. ap is_some (sym n) ] e))
+
+      no_keys : (ks : List SiteCounter) → slice_get ks 0 ≡ None → ks ≡ []
+      no_keys [] e = refl
+      no_keys (k ∷ ks) e = absurd (false≢true (ap is_some (sym e)))
+
+      by : (a : List (SiteCounter × X)) (b : List (SiteCounter × Y)) (c : List (SiteCounter × X)) (d : List (SiteCounter × Y)) → lesser_of (lesser_of (slice_get (keys_of a) 0) (slice_get (keys_of b) 0)) (lesser_of (slice_get (keys_of c) 0) (slice_get (keys_of d) 0)) ≡ None → distinct_count same_ids (all_keys a b c d) ≡ 0
+      by a b c d e =
+          let both = lesser_none _ _ e in
+          let left = lesser_none _ _ both.0 in
+          let right = lesser_none _ _ both.1 in
+          let empty : all_keys a b c d ≡ [] = λ i. (no_keys (keys_of a) left.0 i ++ no_keys (keys_of b) left.1 i) ++ (no_keys (keys_of c) right.0 i ++ no_keys (keys_of d) right.1 i) in
+          ap (distinct_count same_ids) empty
+
+  module _ (id : SiteCounter) (least : least_first ≡ Some id) where
+    among : is_member same_ids (all_keys a b c d) id ≡ true
+    among = four_members id ∙ or_has _ _ (⊎_elim
+        (λ l. inl (or_has _ _ (⊎_elim (λ x. inl (first_member id a x)) (λ x. inr (first_member id b x)) (lesser_member _ _ id l))))
+        (λ r. inr (or_has _ _ (⊎_elim (λ x. inl (first_member id c x)) (λ x. inr (first_member id d x)) (lesser_member _ _ id r))))
+        (lesser_member _ _ id least))
+
+    -- one id is counted, and all lists go past it
+    pub one_counted : is_sorted id_cmp a ≡ true → is_sorted id_cmp b ≡ true → is_sorted id_cmp c ≡ true → is_sorted id_cmp d ≡ true → suc (distinct_count same_ids (all_keys (past_id id a) (past_id id b) (past_id id c) (past_id id d))) ≡ distinct_count same_ids (all_keys a b c d)
+    one_counted p q r s =
+        let two = lesser_least _ _ id least in
+        let left = not_above_within (slice_get (keys_of a) 0) (slice_get (keys_of b) 0) id two.0 in
+        let right = not_above_within (slice_get (keys_of c) 0) (slice_get (keys_of d) 0) id two.1 in
+        less_one (all_keys a b c d) (all_keys (past_id id a) (past_id id b) (past_id id c) (past_id id d)) id among (λ k.
+        past_four k ∙ without_both _ _ _ _ (same_ids k id)
+        (without_both _ _ _ _ (same_ids k id) (past_members id a p left.0 k) (past_members id b q left.1 k))
+        (without_both _ _ _ _ (same_ids k id) (past_members id c r right.0 k) (past_members id d s right.1 k))
+        ∙ ap (λ m. m && not (same_ids k id)) (sym (four_members k)))
+      where
+        past_four : (k : SiteCounter) → is_member same_ids (all_keys (past_id id a) (past_id id b) (past_id id c) (past_id id d)) k ≡ ((is_member same_ids (keys_of (past_id id a)) k || is_member same_ids (keys_of (past_id id b)) k) || (is_member same_ids (keys_of (past_id id c)) k || is_member same_ids (keys_of (past_id id d)) k))
+        past_four k = member-append (keys_of (past_id id a) ++ keys_of (past_id id b)) (keys_of (past_id id c) ++ keys_of (past_id id d)) k ∙ (λ i. member-append (keys_of (past_id id a)) (keys_of (past_id id b)) k i || member-append (keys_of (past_id id c)) (keys_of (past_id id d)) k i)
+
+    -- so fewer entries are left
+    pub fewer_left : length (past_id id a) + length (past_id id b) + length (past_id id c) + length (past_id id d) < length a + length b + length c + length d
+    fewer_left = ⊎_elim
+        (λ l. ⊎_elim (λ x. let n = past_first id a x in omega (arith, past_shorter id b, past_shorter id c, past_shorter id d)) (λ x. let n = past_first id b x in omega (arith, past_shorter id a, past_shorter id c, past_shorter id d)) (lesser_member _ _ id l))
+        (λ r. ⊎_elim (λ x. let n = past_first id c x in omega (arith, past_shorter id a, past_shorter id b, past_shorter id d)) (λ x. let n = past_first id d x in omega (arith, past_shorter id a, past_shorter id b, past_shorter id c)) (lesser_member _ _ id r))
+        (lesser_member _ _ id least)
+
+-- the least of the first ids, as it is read
+pub least_read : (fa fb fc fd f g h k l m n : Option SiteCounter) → f ≡ fa → g ≡ fb → h ≡ fc → k ≡ fd → l ≡ lesser_of f g → m ≡ lesser_of h k → n ≡ lesser_of l m → lesser_of (lesser_of fa fb) (lesser_of fc fd) ≡ n
+least_read fa fb fc fd f g h k l m n a b c d p q r =
+    (λ i. lesser_of (lesser_of (sym a i) (sym b i)) (lesser_of (sym c i) (sym d i)))
+    ∙ (λ i. lesser_of (sym p i) (sym q i)) ∙ sym r

@@ -1,0 +1,47 @@
+-- A text in two parts around its first dot.
+use Rattle.std.proofs.Common.{◌≡◌, ◌≢◌, ℕ, suc, ◌+◌, ◌<◌, ◌^◌, List, [], ◌∷◌, ◌++◌, length, get_or, take, drop, decimal, All, sym, refl, ap, subst, ◌∙◌, arith, append_assoc, take-append-drop, drop-cons, add-one}
+use Rattle.std.proofs.lemmas.List.Elements.{All-head, All-tail, All-nil, All-cons}
+use Rattle.std.proofs.lemmas.Fmt.{decimal_is_IsNumeral}
+use Rattle.std.specs.Str.Parse.{AllDigits}
+use Rattle.stn_records.specs.Id.{SiteCounter, id_text}
+
+abbrev NotDot : ℕ → Type 0
+NotDot byte = byte ≢ 46
+
+no_dot : (ds : List ℕ) → AllDigits 10 ds → All NotDot ds
+no_dot [] h = All-nil NotDot
+no_dot (c ∷ ds) h = All-cons NotDot c ds (λ is. absurd (digit c is h.0)) (no_dot ds h.1)
+  where
+    digit : (c : ℕ) → c ≡ 46 → Rattle.std.specs.Char.digit_value c < 10 → ⊥
+    digit c is below = let at : Rattle.std.specs.Char.digit_value 46 < 10 = subst (λ x. Rattle.std.specs.Char.digit_value x < 10) is below in omega arith
+
+-- the decimal form of a number has no dot
+pub decimal_no_dot : (n : ℕ) → n < 2 ^ 64 → All NotDot (decimal n)
+decimal_no_dot n small = no_dot (decimal n) (decimal_is_IsNumeral n small).0.1
+
+-- a text is split at its first dot in one way
+pub split_once : (xs ys us vs : List ℕ) → All NotDot xs → All NotDot us → xs ++ (46 ∷ ys) ≡ us ++ (46 ∷ vs) → (xs ≡ us) × (ys ≡ vs)
+split_once [] ys [] vs p q e = (refl, cc)
+split_once [] ys (u ∷ us) vs p q e = absurd (All-head NotDot u us q (cc))
+split_once (x ∷ xs) ys [] vs p q e = absurd (All-head NotDot x xs p (cc))
+split_once (x ∷ xs) ys (u ∷ us) vs p q e =
+    let first : x ≡ u = cc in
+    let rest : xs ++ (46 ∷ ys) ≡ us ++ (46 ∷ vs) = cc in
+    let both = split_once xs ys us vs (All-tail NotDot x xs p) (All-tail NotDot u us q) rest in
+    (λ i. first i ∷ both.0 i, both.1)
+
+-- a text with a dot has one
+pub dot_there : (xs ys : List ℕ) → All NotDot (xs ++ (46 ∷ ys)) → ⊥
+dot_there [] ys h = All-head NotDot 46 ys h refl
+dot_there (x ∷ xs) ys h = dot_there xs ys (All-tail NotDot x (xs ++ (46 ∷ ys)) h)
+
+-- the printed form, as what stands before its dot and behind it
+pub text_split : (id : SiteCounter) → id_text id ≡ decimal id.site ++ (46 ∷ decimal id.counter)
+text_split id = append_assoc (decimal id.site) (46 ∷ []) (decimal id.counter)
+
+-- a text at its dot
+pub split_at : (text : List ℕ) (place : ℕ) (d : ℕ) → place < length text → get_or text place d ≡ 46 → text ≡ take place text ++ (46 ∷ drop (place + 1) text)
+split_at text place d within is =
+    sym (take-append-drop place text)
+    ∙ ap (λ l. take place text ++ l) (drop-cons text place d within ∙ (λ i. is i ∷ drop (suc place) text))
+    ∙ ap (λ n. take place text ++ (46 ∷ drop n text)) (sym (add-one place))

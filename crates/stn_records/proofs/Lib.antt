@@ -1,0 +1,6 @@
+pub mod Entries
+pub mod Places
+pub mod Disputes
+pub mod Contents
+pub mod Counts
+pub mod Dots

@@ -1,0 +1,5 @@
+use Rattle.stn_records.proofs.Contents.{part_sound}
+use Rattle.stn_records.proofs.records.Records.part.Goals as goal
+
+pub invariant_of-result : goal.invariant_of-result
+invariant_of-result g c = part_sound c.self.inside.state c.in_ok-part.field-0 c.args.records.now c.args.tombstones.now c.self.invariant c.in_ok-part.ensures

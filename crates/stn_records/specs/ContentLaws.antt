@@ -1,0 +1,146 @@
+-- The joins of maps of records, of sets of ids and of contents are the unions of their items.
+use Rattle.std.specs.Prelude.{◌≡◌, ℕ, Bool, true, false, not, ◌↔◌, ◌⊎◌, Option, Some, None, option_and_then, is_some, refl}
+use Rattle.std.specs.Bool.{Decides}
+use Rattle.std.specs.Cmp.{IsTotalOrder, nat_cmp_total}
+use Rattle.std.specs.Ordering.{nat_cmp}
+use Rattle.std.specs.FinMap.{IsAntisymmetric}
+use Rattle.std.specs.FinMap as map
+use Rattle.std.proofs.Common.{ap, subst, ◌∙◌}
+use Rattle.std.proofs.lemmas.Bool.Decides.{Decides-eqb, Decides-int_eq, Decides-and, Decides-like}
+use Rattle.std.proofs.lemmas.Cmp.{on_total, then_total}
+use Rattle.std.proofs.lemmas.Map.Lookups.{exact_pairs, exact_unsigned}
+use Rattle.stn_net.specs.Difference.{Difference}
+use Rattle.stn_records.specs.Id.{SiteCounter, id_cmp}
+use Rattle.stn_records.specs.Record.{same_marks, same_bounds, same_records}
+use Rattle.stn_records.specs.declared.record.Mark.{Mark}
+use Rattle.stn_records.specs.declared.record.Mark.TheVariants.{Plain, Done}
+use Rattle.stn_records.specs.declared.record.Record.{Record}
+use Rattle.stn_records.specs.Join.{IsJoin}
+use Rattle.stn_records.specs.JoinLaws.{first_step, both_steps, commutes, regroups, repeats}
+use Rattle.stn_records.specs.Maps as maps
+use Rattle.stn_records.specs.MapLaws.{map_join, join_undisputed, undisputed, disputes}
+use Rattle.stn_records.specs.Content.{RecordMap, IdSet, Content, Item, addition, withdrawal, HasItem, dispute_records, join_records, dispute_ids, join_ids, dispute_contents, join_contents, joined_contents}
+
+-- ids that compare alike are one
+pub ids_exact : IsAntisymmetric id_cmp
+ids_exact a b h = ap (λ (p : ℕ × ℕ). record { site = p.0; counter = p.1 }) (exact_pairs nat_cmp nat_cmp exact_unsigned exact_unsigned (a.site, a.counter) (b.site, b.counter) h)
+
+pub ids_total : IsTotalOrder id_cmp
+ids_total = then_total (on_total (λ (i : SiteCounter). i.site) nat_cmp_total) (on_total (λ (i : SiteCounter). i.counter) nat_cmp_total)
+
+marks_decide : (m n : Mark) → Decides (same_marks m n) (m ≡ n)
+marks_decide Plain Plain = (λ _. refl, λ _. refl)
+marks_decide Plain Done = (λ e. cc, λ e. cc)
+marks_decide Done Plain = (λ e. cc, λ e. cc)
+marks_decide Done Done = (λ _. refl, λ _. refl)
+
+bounds_decide : (a b : Difference) → Decides (same_bounds a b) (a ≡ b)
+bounds_decide a b = Decides-like _
+    (λ p. λ i. record { from = p.0.0.0 i; to = p.0.0.1 i; lo = p.0.1 i; hi = p.1 i })
+    (λ e. (((ap (λ (d : Difference). d.from) e, ap (λ (d : Difference). d.to) e), ap (λ (d : Difference). d.lo) e), ap (λ (d : Difference). d.hi) e))
+    (Decides-and _ _ (Decides-and _ _ (Decides-and _ _ (Decides-eqb a.from b.from) (Decides-eqb a.to b.to)) (Decides-int_eq a.lo b.lo)) (Decides-int_eq a.hi b.hi))
+
+-- the test of two records tells whether they are equal
+pub records_decide : (r s : Record) → Decides (same_records r s) (r ≡ s)
+records_decide r s = Decides-like _
+    (λ p. λ i. record { mark = p.0 i; bound = p.1 i })
+    (λ e. (ap (λ (d : Record). d.mark) e, ap (λ (d : Record). d.bound) e))
+    (Decides-and _ _ (marks_decide r.mark s.mark) (bounds_decide r.bound s.bound))
+
+-- the join of two maps of records is the union of their entries
+pub records_join : IsJoin {C = RecordMap} {I = SiteCounter × Record} (maps.HasEntry {R = id_cmp}) join_records
+records_join = map_join ids_total ids_exact same_records records_decide
+
+-- a set of ids as the join of maps to nothing
+abbrev same_units : Unit {0} → Unit {0} → Bool
+same_units a b = true
+
+units_decide : (a b : Unit {0}) → Decides (same_units a b) (a ≡ b)
+units_decide a b = (λ _. refl, λ _. refl)
+
+never : (o p : Option (Unit {0})) → maps.differ same_units o p ≡ false
+never None p = refl
+never (Some x) None = refl
+never (Some x) (Some y) = refl
+
+no_dispute : (a b : IdSet) → maps.dispute same_units a b ≡ None
+no_dispute a b = undisputed ids_total ids_exact same_units units_decide a b (λ q. never (map.get a q) (map.get b q))
+
+ids_joined : (a b : IdSet) → maps.join same_units a b ≡ join_ids a b
+ids_joined a b = join_undisputed ids_total ids_exact same_units units_decide a b (no_dispute a b)
+
+-- the union of two sets of ids is the union of their items
+pub ids_join : IsJoin {C = IdSet} {I = SiteCounter × Unit {0}} (maps.HasEntry {R = id_cmp}) join_ids
+ids_join = subst (IsJoin {C = IdSet} {I = SiteCounter × Unit {0}} (maps.HasEntry {R = id_cmp})) (λ i a b. ids_joined a b i) (map_join ids_total ids_exact same_units units_decide)
+
+-- a join of contents is one of the records and one of the ids
+parts : (a b c : Content) → join_contents a b ≡ Some c → (join_records a.additions b.additions ≡ Some c.additions) × (join_ids a.tombstones b.tombstones ≡ Some c.tombstones)
+parts a b c e =
+    let first = first_step (λ additions. Some (record { additions = additions; tombstones = maps.union a.tombstones b.tombstones })) (join_records a.additions b.additions) c e in
+    let is : record { additions = first.0; tombstones = maps.union a.tombstones b.tombstones } ≡ c = cc in
+    (first.1 ∙ ap (λ (s : Content). Some s.additions) is, ap (λ (s : Content). Some s.tombstones) is)
+
+-- the join of two contents is the union of their items
+pub contents_join : IsJoin HasItem join_contents
+contents_join = record {
+  same = λ c d h. λ i. record {
+    additions = records_join.same c.additions d.additions (λ e. h (addition e.0 e.1)) i;
+    tombstones = ids_join.same c.tombstones d.tombstones (λ e. h (withdrawal e.0)) i;
+  };
+  union = λ a b c e item.
+      let both = parts a b c e in
+      item_union a b c both item;
+  defined = λ a b c f g.
+      let additions = records_join.defined a.additions b.additions c.additions (λ e. f (addition e.0 e.1)) (λ e. g (addition e.0 e.1)) in (
+        record { additions = additions.0; tombstones = maps.union a.tombstones b.tombstones },
+        both_steps (λ x. Some (record { additions = x; tombstones = maps.union a.tombstones b.tombstones })) (join_records a.additions b.additions) additions.0 additions.1,
+      );
+}
+  where
+    item_union : (a b c : Content) → (join_records a.additions b.additions ≡ Some c.additions) × (join_ids a.tombstones b.tombstones ≡ Some c.tombstones) → (item : Item) → HasItem c item ↔ (HasItem a item ⊎ HasItem b item)
+    item_union a b c both (addition id r) = records_join.union a.additions b.additions c.additions both.0 (id, r)
+    item_union a b c both (withdrawal id) = ids_join.union a.tombstones b.tombstones c.tombstones both.1 (id, tt)
+
+pub records_commute : (a b : RecordMap) → join_records a b ≡ join_records b a
+records_commute = commutes records_join
+
+pub records_regroup : (a b c : RecordMap) → option_and_then (λ ab. join_records ab c) (join_records a b) ≡ option_and_then (λ bc. join_records a bc) (join_records b c)
+records_regroup = regroups records_join
+
+pub records_repeat : (a : RecordMap) → join_records a a ≡ Some a
+records_repeat = repeats records_join
+
+pub records_dispute : (a b : RecordMap) → is_some (join_records a b) ≡ not (is_some (dispute_records a b))
+records_dispute = disputes ids_total ids_exact same_records records_decide
+
+pub ids_commute : (a b : IdSet) → join_ids a b ≡ join_ids b a
+ids_commute = commutes ids_join
+
+pub ids_regroup : (a b c : IdSet) → option_and_then (λ ab. join_ids ab c) (join_ids a b) ≡ option_and_then (λ bc. join_ids a bc) (join_ids b c)
+ids_regroup = regroups ids_join
+
+pub ids_repeat : (a : IdSet) → join_ids a a ≡ Some a
+ids_repeat = repeats ids_join
+
+pub ids_dispute : (a b : IdSet) → is_some (join_ids a b) ≡ not (is_some (dispute_ids a b))
+ids_dispute a b = refl
+
+pub contents_commute : (a b : Content) → join_contents a b ≡ join_contents b a
+contents_commute = commutes contents_join
+
+pub contents_regroup : (a b c : Content) → option_and_then (λ ab. join_contents ab c) (join_contents a b) ≡ option_and_then (λ bc. join_contents a bc) (join_contents b c)
+contents_regroup = regroups contents_join
+
+pub contents_repeat : (a : Content) → join_contents a a ≡ Some a
+contents_repeat = repeats contents_join
+
+chain_there : (o : Option RecordMap) (t : IdSet) → is_some {T = Content} (option_and_then (λ additions. Some (record { additions = additions; tombstones = t })) o) ≡ is_some o
+chain_there None t = refl
+chain_there (Some x) t = refl
+
+pub contents_dispute : (a b : Content) → is_some (join_contents a b) ≡ not (is_some (dispute_contents a b))
+contents_dispute a b = chain_there (join_records a.additions b.additions) (maps.union a.tombstones b.tombstones) ∙ records_dispute a.additions b.additions
+
+-- where no id is in dispute, the join is the union of both parts
+pub contents_undisputed : (a b : Content) → dispute_contents a b ≡ None → join_contents a b ≡ Some (joined_contents a b)
+contents_undisputed a b none = ap (option_and_then (λ additions. Some (record { additions = additions; tombstones = maps.union a.tombstones b.tombstones }))) (join_undisputed ids_total ids_exact same_records records_decide a.additions b.additions none)

@@ -1,0 +1,38 @@
+use Rattle.std.specs.Prelude.{◌≡◌, ◌≢◌, ℕ, ◌≤◌, List, ◌∷◌, ◌++◌, All, codes, decimal, refl}
+use Rattle.std.specs.Coded.{Coded, code_by, coded×, coded_ℕ}
+use Rattle.std.specs.Ordering.{nat_cmp, ordering_then}
+use Rattle.std.specs.declared.cmp.Ordering.{Ordering}
+use Rattle.stn_records.specs.declared.id.TheConstants.{MOST_SITES}
+
+-- the number of a site lies from 1 to the most sites
+pub record IsSite (number : ℕ) : Type 0 where
+  pub least : 1 ≤ number
+  pub most : number ≤ MOST_SITES
+
+-- an id as two numbers: the site that made a record, and that site's counter
+pub record SiteCounter : Type 0 where
+  pub site : ℕ
+  pub counter : ℕ
+
+-- both numbers lie in their ranges
+pub record IsId (id : SiteCounter) : Type 0 where
+  pub site : IsSite id.site
+  pub least : 1 ≤ id.counter
+  pub most : id.counter ≤ 65535
+
+-- by site, and then by counter
+abbrev pub id_cmp : SiteCounter → SiteCounter → Ordering
+id_cmp a b = ordering_then (nat_cmp a.site b.site) (nat_cmp a.counter b.counter)
+
+-- the printed form: both numbers without leading zeros, with a dot between
+abbrev pub id_text : SiteCounter → List ℕ
+id_text id = decimal id.site ++ codes "." ++ decimal id.counter
+
+-- as a pair of numbers
+abbrev pub coded_id : Coded SiteCounter
+coded_id = code_by (ℕ × ℕ) (coded× coded_ℕ coded_ℕ) (λ id. (id.site, id.counter)) (λ p. record { site = p.0; counter = p.1 }) (λ _. refl)
+
+-- the text is what stands before its first dot, the dot, and what stands behind it
+pub record SplitsAtDot (text before behind : List ℕ) : Type 0 where
+  pub parts : text ≡ before ++ (46 ∷ behind)
+  pub first : All (λ byte. byte ≢ 46) before

@@ -1,0 +1,9 @@
+pub mod Id
+pub mod Record
+pub mod Join
+pub mod JoinLaws
+pub mod Maps
+pub mod MapLaws
+pub mod Content
+pub mod Sorted
+pub mod ContentLaws

@@ -1,0 +1,32 @@
+-- The union of two finite maps, and their join, which is there where the maps agree.
+use Rattle.std.specs.Prelude.{◌≡◌, Bool, false, not, List, [], ◌∷◌, Option, Some, None, is_some, find, if◌then◌else◌}
+use Rattle.std.specs.declared.cmp.Ordering.{Ordering}
+use Rattle.std.specs.FinMap as map
+use Rattle.std.specs.FinMap.{FinMap}
+
+-- both values are there, and they differ
+abbrev pub differ : {X : Type 0} → (X → X → Bool) → Option X → Option X → Bool
+differ same (Some x) (Some y) = not (same x y)
+differ same _ _ = false
+
+module _ {K X : Type 0} {R : K → K → Ordering} where
+  -- the map with the entries put in, the first one last
+  abbrev pub with_entries : FinMap R X → List (K × X) → FinMap R X
+  with_entries m [] = m
+  with_entries m (e ∷ es) = map.insert (with_entries m es) e.0 e.1
+
+  -- the entries of both
+  abbrev pub union : FinMap R X → FinMap R X → FinMap R X
+  union a b = with_entries b (map.entries a)
+
+  -- the least key at which the two have different values
+  abbrev pub dispute : (X → X → Bool) → FinMap R X → FinMap R X → Option K
+  dispute same a b = find (λ k. differ same (map.get a k) (map.get b k)) (map.keys a)
+
+  -- the union, where no key is in dispute
+  abbrev pub join : (X → X → Bool) → FinMap R X → FinMap R X → Option (FinMap R X)
+  join same a b = if is_some (dispute same a b) then None else Some (union a b)
+
+  -- the map has the entry
+  abbrev pub HasEntry : FinMap R X → K × X → Type 0
+  HasEntry m entry = map.get m entry.0 ≡ Some entry.1

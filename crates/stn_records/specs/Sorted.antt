@@ -1,0 +1,44 @@
+-- Lists of entries in the order of their ids.
+use Rattle.std.specs.Prelude.{◌≡◌, ℕ, ◌<◌, ◌≤◌, List, [], ◌∷◌, length, map, insert, slice_index_or, Option, Some, None, if◌then◌else◌}
+use Rattle.std.specs.declared.cmp.Ordering.{Ordering}
+use Rattle.std.specs.Ordering.{eq_by_cmp, is_lt}
+use Rattle.std.specs.FinMap.{find, put}
+use Rattle.std.specs.FinMap.Entries.{by_order}
+use Rattle.stn_records.specs.Id.{SiteCounter, id_cmp}
+
+-- the ids of the entries
+abbrev pub keys_of : {K X : Type 0} → List (K × X) → List K
+keys_of entries = map (λ entry. entry.0) entries
+
+-- the entry at the place has the id
+pub record IsPlaceOf {X : Type 0} (entries : List (SiteCounter × X)) (id : SiteCounter) (place : ℕ) : Type 0 where
+  pub in_range : place < length entries
+  pub found : (entry : SiteCounter × X) → slice_index_or entries place entry ≡ entry → find id_cmp id entries ≡ Some entry.1
+
+-- no entry has the id, and one that has it would go to the place
+pub record IsGapFor {X : Type 0} (entries : List (SiteCounter × X)) (id : SiteCounter) (place : ℕ) : Type 0 where
+  pub in_range : place ≤ length entries
+  pub absent : find id_cmp id entries ≡ None
+  pub inserted : (x : X) → insert entries place (id, x) ≡ put id_cmp id x entries
+
+module _ {K X : Type 0} (R : K → K → Ordering) where
+  -- an entry and the rest of ours, and theirs; `rest` merges the rest of ours with what is left of theirs
+  abbrev pub merge_from : K × X → (List (K × X) → List (K × X)) → List (K × X) → List (K × X)
+  merge_from x rest [] = x ∷ rest []
+  merge_from x rest (y ∷ ys) = by_order (R x.0 y.0) (x ∷ rest (y ∷ ys)) (x ∷ rest ys) (y ∷ merge_from x rest ys)
+
+  -- both lists in order; where two keys tie, the entry of ours
+  abbrev pub merge : List (K × X) → List (K × X) → List (K × X)
+  merge [] ys = ys
+  merge (x ∷ xs) ys = merge_from x (merge xs) ys
+
+-- the lesser of two ids, or the one that is there
+abbrev pub lesser_of : Option SiteCounter → Option SiteCounter → Option SiteCounter
+lesser_of None b = b
+lesser_of (Some x) None = Some x
+lesser_of (Some x) (Some y) = if is_lt (id_cmp y x) then Some y else Some x
+
+-- the entries behind the first, where that has the id
+abbrev pub past_id : {X : Type 0} → SiteCounter → List (SiteCounter × X) → List (SiteCounter × X)
+past_id id [] = []
+past_id id (entry ∷ rest) = if eq_by_cmp id_cmp entry.0 id then rest else (entry ∷ rest)

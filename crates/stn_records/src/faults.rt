@@ -1,0 +1,99 @@
+use crate::id::Id;
+use std::alloc::AllocError;
+use thiserror::Error;
+
+/// Why an addition, or what another site holds, was refused. The faults come in this order.
+#[derive(Clone, Copy, Debug, PartialEq, Eq, Hash, Error)]
+pub enum RecordsFault {
+    /// The id has another record; the least such id, where there are several.
+    #[error("an id has two different records")]
+    Clash(Id),
+    /// More than 4,096 ids would be known.
+    #[error("too many ids")]
+    Full,
+    /// Memory ran out.
+    #[error("out of memory")]
+    Memory,
+}
+
+impl From<AllocError> for RecordsFault {
+    ghost use Rattle.std.specs.Prelude.{◌≡◌};
+    ghost use Rattle.stn_records.specs.declared.faults.RecordsFault.TheVariants.{Memory};
+
+    ghost from_gives = { λ _ fault. fault ≡ Memory };
+
+    fn from(_fault: AllocError) -> RecordsFault {
+        RecordsFault::Memory
+    }
+}
+
+/// Why an id that need not be known was not withdrawn. The faults come in this order.
+#[derive(Clone, Copy, Debug, PartialEq, Eq, Hash, Error)]
+pub enum BuryFault {
+    /// More than 4,096 ids would be known.
+    #[error("too many ids")]
+    Full,
+    /// Memory ran out.
+    #[error("out of memory")]
+    Memory,
+}
+
+impl From<AllocError> for BuryFault {
+    ghost use Rattle.std.specs.Prelude.{◌≡◌};
+    ghost use Rattle.stn_records.specs.declared.faults.BuryFault.TheVariants.{Memory};
+
+    ghost from_gives = { λ _ fault. fault ≡ Memory };
+
+    fn from(_fault: AllocError) -> BuryFault {
+        BuryFault::Memory
+    }
+}
+
+/// Why a record was not withdrawn. The faults come in this order.
+#[derive(Clone, Copy, Debug, PartialEq, Eq, Hash, Error)]
+pub enum WithdrawFault {
+    /// The id is not known.
+    #[error("no such record")]
+    Unknown,
+    /// Memory ran out.
+    #[error("out of memory")]
+    Memory,
+}
+
+impl From<AllocError> for WithdrawFault {
+    ghost use Rattle.std.specs.Prelude.{◌≡◌};
+    ghost use Rattle.stn_records.specs.declared.faults.WithdrawFault.TheVariants.{Memory};
+
+    ghost from_gives = { λ _ fault. fault ≡ Memory };
+
+    fn from(_fault: AllocError) -> WithdrawFault {
+        WithdrawFault::Memory
+    }
+}
+
+/// Why a part could not be made. The faults come in this order.
+#[derive(Clone, Copy, Debug, PartialEq, Eq, Hash, Error)]
+pub enum PartFault {
+    /// A record or a withdrawn id of the part is not held.
+    #[error("no such record")]
+    Unknown,
+    /// Memory ran out.
+    #[error("out of memory")]
+    Memory,
+}
+
+impl From<AllocError> for PartFault {
+    ghost use Rattle.std.specs.Prelude.{◌≡◌};
+    ghost use Rattle.stn_records.specs.declared.faults.PartFault.TheVariants.{Memory};
+
+    ghost from_gives = { λ _ fault. fault ≡ Memory };
+
+    fn from(_fault: AllocError) -> PartFault {
+        PartFault::Memory
+    }
+}
+
+/// The counter of a site would pass 65,535.
+#[derive(Clone, Copy, Debug, PartialEq, Eq, Hash, Error)]
+#[error("the counter is spent")]
+pub struct CounterSpent;

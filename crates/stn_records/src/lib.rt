@@ -1,0 +1,31 @@
+//! What a site holds: additions and withdrawals of bounds, and the join of what two sites hold.
+#![tactic(auto)]
+
+pub use additions::Additions;
+pub use faults::{BuryFault, CounterSpent, PartFault, RecordsFault, WithdrawFault};
+pub use id::{Id, MOST_SITES, Site};
+pub use join::{Join, JoinFault};
+pub use laws::{
+    additions_by_items_alone, states_by_items_alone, takes_agree, tombstones_by_items_alone,
+};
+pub use record::{Mark, Record};
+pub use records::Records;
+pub use state::State;
+pub use tombstones::Tombstones;
+
+mod additions;
+mod faults;
+mod id;
+mod id_map;
+mod join;
+mod laws;
+mod record;
+mod records;
+mod sorted;
+mod state;
+#[cfg(test)]
+mod tests;
+mod tombstones;
+
+/// The greatest number of ids that a site knows.
+pub const MOST_KNOWN: usize = 4096;

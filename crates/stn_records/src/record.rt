@@ -1,0 +1,28 @@
+ghost use Rattle.std.specs.Prelude.{◌≡◌, ◌↔◌, IsTrue};
+
+use stn_net::Bound;
+
+/// What a record says of its bound.
+#[derive(Clone, Copy, Debug, PartialEq, Eq, Hash)]
+pub enum Mark {
+    /// A bound that a site added.
+    Plain,
+    /// The time at which an event was run: a bound from the origin with equal sides.
+    Done,
+}
+
+/// A bound that a site added, with its mark.
+#[derive(Clone, Copy, Debug, PartialEq, Eq, Hash)]
+pub struct Record {
+    /// The mark.
+    pub mark: Mark,
+    /// The bound.
+    pub bound: Bound,
+}
+
+// Whether the records are equal.
+pub(crate) fn is_same(ours: &Record, theirs: &Record) -> bool
+    ensures { IsTrue result ↔ (ours.now ≡ theirs.now) }
+{
+    ours == theirs
+}

@@ -1,0 +1,176 @@
+// Lists of entries in the order of their ids.
+ghost use Rattle.std.specs.Prelude.{◌≡◌, ℕ, ◌+◌, ◌^◌, ◌<◌, ◌≤◌, ◌↔◌, ◌++◌, IsTrue, IsSome, IfOk, IfErr, Some, None, List, length, map, filter, find, slice_get, option_map};
+ghost use Rattle.std.specs.Set.{distinct_count, is_member};
+ghost use Rattle.std.specs.FinMap.{is_sorted};
+ghost use Rattle.std.specs.FinMap as fin;
+ghost use Rattle.stn_records.specs.Id.{SiteCounter, id_cmp};
+ghost use Rattle.stn_records.specs.Maps.{differ};
+ghost use Rattle.stn_records.specs.Record.{same_records};
+ghost use Rattle.stn_records.specs.Content.{same_ids, greatest_counter as greatest_of};
+ghost use Rattle.stn_records.specs.Sorted.{keys_of, IsPlaceOf, IsGapFor, merge, lesser_of, past_id};
+
+use crate::id::{Id, Site};
+use crate::record::{Record, is_same};
+use std::alloc::Allocator;
+use std::cmp::Ordering;
+use stn_time::Memory;
+
+// The place of the id, or the place where it would go.
+pub(crate) fn place_of<X>(entries: &[(Id, X)], id: Id) -> Result<usize, usize>
+    requires { IsTrue (is_sorted id_cmp entries.now) }
+    ensures found { IfOk result (IsPlaceOf entries.now id) }
+    ensures absent { IfErr result (IsGapFor entries.now id) }
+{
+    entries.binary_search_by_key(&id, |entry| entry.0)
+}
+
+// The entries of both; at an id of both, that of ours.
+pub(crate) fn merged<X: Copy, A: Allocator + Copy>(
+    alloc: A,
+    ours: &[(Id, X)],
+    theirs: &[(Id, X)],
+) -> Result<Vec<(Id, X), A>, Memory>
+    ensures { IfOk result (λ all. all.items ≡ merge id_cmp ours.now theirs.now) }
+{
+    let mut all = Vec::new(alloc);
+    let mut i = 0;
+    let mut j = 0;
+    while i < ours.len() && j < theirs.len() {
+        match ours[i].0.cmp(&theirs[j].0) {
+            Ordering::Less => {
+                all.push(ours[i])?;
+                i += 1;
+            }
+            Ordering::Equal => {
+                all.push(ours[i])?;
+                i += 1;
+                j += 1;
+            }
+            Ordering::Greater => {
+                all.push(theirs[j])?;
+                j += 1;
+            }
+        }
+    }
+    all.extend_from_slice(&ours[i..])?;
+    all.extend_from_slice(&theirs[j..])?;
+    Ok(all)
+}
+
+// The least id at which both have a record, and the records differ.
+pub(crate) fn first_dispute(ours: &[(Id, Record)], theirs: &[(Id, Record)]) -> Option<Id>
+    requires ours { IsTrue (is_sorted id_cmp ours.now) }
+    requires theirs { IsTrue (is_sorted id_cmp theirs.now) }
+    ensures { result ≡ find (λ id. differ same_records (fin.find id_cmp id ours.now) (fin.find id_cmp id theirs.now)) (keys_of ours.now) }
+{
+    let mut i = 0;
+    let mut j = 0;
+    while i < ours.len() && j < theirs.len() {
+        match ours[i].0.cmp(&theirs[j].0) {
+            Ordering::Less => i += 1,
+            Ordering::Equal => {
+                if !is_same(&ours[i].1, &theirs[j].1) {
+                    return Some(ours[i].0);
+                }
+                i += 1;
+                j += 1;
+            }
+            Ordering::Greater => j += 1,
+        }
+    }
+    None
+}
+
+// The entries whose ids are wanted.
+pub(crate) fn kept<X: Copy, A: Allocator + Copy>(
+    alloc: A,
+    entries: &[(Id, X)],
+    wanted: &[Id],
+) -> Result<Vec<(Id, X), A>, Memory>
+    ensures { IfOk result (λ all. all.items ≡ filter (λ entry. is_member same_ids wanted.now entry.0) entries.now) }
+{
+    let mut all = Vec::new(alloc);
+    for entry in entries {
+        if is_wanted(entry.0, wanted) {
+            all.push(*entry)?;
+        }
+    }
+    Ok(all)
+}
+
+// Whether the id is among the wanted ones.
+fn is_wanted(id: Id, wanted: &[Id]) -> bool
+    ensures { result ≡ is_member same_ids wanted.now id }
+{
+    wanted.contains(&id)
+}
+
+// The greatest counter of the site, or 0.
+pub(crate) fn greatest_counter<X>(entries: &[(Id, X)], site: Site) -> u16
+    ensures { result ≡ greatest_of site (keys_of entries.now) }
+{
+    let mut greatest = 0;
+    for entry in entries {
+        let id = entry.0;
+        if id.site() == site {
+            greatest = id.counter().max(greatest);
+        }
+    }
+    greatest
+}
+
+// How many ids four lists have together, each counted once.
+pub(crate) fn count_ids<X, Y>(a: &[(Id, X)], b: &[(Id, Y)], c: &[(Id, X)], d: &[(Id, Y)]) -> usize
+    requires a { IsTrue (is_sorted id_cmp a.now) }
+    requires b { IsTrue (is_sorted id_cmp b.now) }
+    requires c { IsTrue (is_sorted id_cmp c.now) }
+    requires d { IsTrue (is_sorted id_cmp d.now) }
+    requires fits { length a.now + length b.now + length c.now + length d.now < 2 ^ 64 }
+    ensures { result ≡ distinct_count same_ids ((keys_of a.now ++ keys_of b.now) ++ (keys_of c.now ++ keys_of d.now)) }
+{
+    let mut rest_a = a;
+    let mut rest_b = b;
+    let mut rest_c = c;
+    let mut rest_d = d;
+    let mut count = 0;
+    while let Some(id) = lesser(
+        lesser(first(rest_a), first(rest_b)),
+        lesser(first(rest_c), first(rest_d)),
+    ) {
+        rest_a = past(rest_a, id);
+        rest_b = past(rest_b, id);
+        rest_c = past(rest_c, id);
+        rest_d = past(rest_d, id);
+        count += 1;
+    }
+    count
+}
+
+// The first id.
+fn first<X>(entries: &[(Id, X)]) -> Option<Id>
+    ensures { result ≡ slice_get (keys_of entries.now) 0 }
+{
+    let (entry, _) = entries.split_first()?;
+    Some(entry.0)
+}
+
+// The lesser of two ids, where there are two.
+fn lesser(a: Option<Id>, b: Option<Id>) -> Option<Id>
+    ensures { result ≡ lesser_of a b }
+{
+    match (a, b) {
+        (Some(x), Some(y)) => { if y < x { b } else { a } }
+        (Some(_), None) => a,
+        (None, _) => b,
+    }
+}
+
+// The entries behind the first, where that is the id's.
+fn past<X>(entries: &[(Id, X)], id: Id) -> &[(Id, X)]
+    ensures { result.now ≡ past_id id entries.now }
+{
+    match entries.split_first() {
+        Some((entry, rest)) => { if entry.0 == id { rest } else { entries } }
+        None => entries,
+    }
+}

@@ -1,0 +1,13 @@
+pub mod Broken
+pub mod Changes
+pub mod Count
+pub mod Entries
+pub mod Live
+pub mod OneReport
+pub mod Opening
+pub mod Places
+pub mod Printing
+pub mod Schedules
+pub mod Sound
+pub mod Tightening
+pub mod Walk

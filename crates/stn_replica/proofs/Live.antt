@@ -1,0 +1,189 @@
+-- The live records of a state, and those that become live from one state to the next.
+use Rattle.std.proofs.Common.{◌≡◌, ◌≢◌, ℕ, ℤ, zero, suc, ◌+◌, ◌<◌, ◌≤◌, Bool, true, false, cond, not, ◌&&◌, ◌↔◌, List, [], ◌∷◌, ◌++◌, length, filter, map, Option, Some, None, is_some, refl, sym, ap, subst, ◌∙◌, arith, All}
+use Rattle.std.specs.List.{AllByRecursion}
+use Rattle.std.proofs.lemmas.Bool.{false≢true}
+use Rattle.std.proofs.lemmas.List.Elements.{All-from_recursion, recursion_from_All, All-map, All-weaker, All-filter}
+use Rattle.std.specs.FinMap.{entries, get, contains_key, get-empty}
+use Rattle.stn_net.specs.Difference.{Difference, NamesEvents}
+use Rattle.stn_net.specs.Schedule.{IsSchedule, HasSchedule, Meets}
+use Rattle.stn_matrix.specs.Table.{Table}
+use Rattle.stn_records.specs.Id.{SiteCounter, id_cmp}
+use Rattle.stn_records.specs.declared.record.Record.{Record}
+use Rattle.stn_records.specs.Content.{Content, is_live, live_of, no_content}
+use Rattle.stn_records.specs.ContentLaws.{ids_total, ids_exact}
+use Rattle.stn_replica.specs.Bounds.{bounds_of, live_bounds, RecordsName}
+use Rattle.stn_replica.specs.Invariant.{IsKnown}
+use Rattle.stn_replica.specs.Work.{is_risen, risen, KeepsLive}
+use Rattle.stn_replica.proofs.Entries.{entries_from_get, get_from_entries}
+use Rattle.stn_replica.proofs.Schedules.{schedule_before, met_behind, schedule_with, known_same_schedules}
+
+abbrev pub Entry : Type 0
+Entry = SiteCounter × Record
+
+module _ {X : Type 0} (p : X → Bool) (P : X → Type 0) where
+  kept : (xs : List X) → AllByRecursion (λ x. p x ≡ true → P x) xs → AllByRecursion P (filter p xs)
+  kept [] h = tt
+  kept (x ∷ xs) h =
+      elim (p x) as (λ b. p x ≡ b → AllByRecursion P (cond b (x ∷ filter p xs) (filter p xs))) [
+        | true ↦ λ t. (h.0 t, kept xs h.1)
+        | false ↦ λ t. kept xs h.1
+      ] refl
+
+  tested : (xs : List X) → AllByRecursion P (filter p xs) → AllByRecursion (λ x. p x ≡ true → P x) xs
+  tested [] h = tt
+  tested (x ∷ xs) h =
+      elim (p x) as (λ b. p x ≡ b → AllByRecursion P (cond b (x ∷ filter p xs) (filter p xs)) → AllByRecursion (λ x. p x ≡ true → P x) (x ∷ xs)) [
+        | true ↦ λ t g. ((λ _. g.0), tested xs g.1)
+        | false ↦ λ t g. ((λ u. absurd (false≢true (sym t ∙ u))), tested xs g)
+      ] refl h
+
+  -- what holds of each element that passes holds of each element of a filter
+  pub All-filter_passing : (xs : List X) → All (λ x. p x ≡ true → P x) xs → All P (filter p xs)
+  All-filter_passing xs h = All-from_recursion P (filter p xs) (kept xs (recursion_from_All (λ x. p x ≡ true → P x) xs h))
+
+  pub All-passing : (xs : List X) → All P (filter p xs) → All (λ x. p x ≡ true → P x) xs
+  All-passing xs h = All-from_recursion (λ x. p x ≡ true → P x) xs (tested xs (recursion_from_All P (filter p xs) h))
+
+-- what holds of the bound of each record holds of each of the bounds
+module _ (P : Difference → Type 0) where
+  bounds_each : (records : List Entry) → AllByRecursion P (bounds_of records) → AllByRecursion (λ entry. P entry.1.bound) records
+  bounds_each [] h = tt
+  bounds_each (entry ∷ records) h = (h.0, bounds_each records h.1)
+
+  pub records_from_bounds : (records : List Entry) → All P (bounds_of records) → All (λ entry. P entry.1.bound) records
+  records_from_bounds records h = All-from_recursion (λ entry. P entry.1.bound) records (bounds_each records (recursion_from_All P (bounds_of records) h))
+
+  pub bounds_from_records : (records : List Entry) → All (λ entry. P entry.1.bound) records → All P (bounds_of records)
+  bounds_from_records records h = All-map P (λ entry. entry.1.bound) records h
+
+-- what holds of each live record holds of each bound of the live ones
+abbrev pub LiveHold : (Difference → Type 0) → Content → Type 0
+LiveHold P s = (id : SiteCounter) (r : Record) → get s.additions id ≡ Some r → is_live s id ≡ true → P r.bound
+
+-- and of each that has become live
+abbrev pub RisenHold : (Difference → Type 0) → Content → Content → Type 0
+RisenHold P old new = (id : SiteCounter) (r : Record) → get new.additions id ≡ Some r → is_risen old new id ≡ true → P r.bound
+
+known_here : (o : Option Record) (r : Record) (b : Bool) → o ≡ Some r → (is_some o && b) ≡ b
+known_here o r b e = ap (λ x. is_some x && b) e
+
+module _ (P : Difference → Type 0) where
+  -- what holds of the bounds of all live records
+  pub live_from_bounds : (s : Content) → All P (live_bounds s) → LiveHold P s
+  live_from_bounds s h id r there live =
+      get_from_entries ids_total ids_exact s.additions (λ entry. not (contains_key s.tombstones entry.0) ≡ true → P entry.1.bound)
+      (All-passing (λ entry. not (contains_key s.tombstones entry.0)) (λ entry. P entry.1.bound) (entries s.additions) (records_from_bounds P (live_of s) h))
+      id r there (sym (known_here (get s.additions id) r _ there) ∙ live)
+
+  pub bounds_from_live : (s : Content) → LiveHold P s → All P (live_bounds s)
+  bounds_from_live s f =
+      bounds_from_records P (live_of s)
+      (All-filter_passing (λ entry. not (contains_key s.tombstones entry.0)) (λ entry. P entry.1.bound) (entries s.additions)
+      (entries_from_get ids_total ids_exact s.additions (λ entry. not (contains_key s.tombstones entry.0) ≡ true → P entry.1.bound)
+      (λ id r there untombed. f id r there (known_here (get s.additions id) r _ there ∙ untombed))))
+
+  pub risen_from_bounds : (old new : Content) → All P (bounds_of (risen old new)) → RisenHold P old new
+  risen_from_bounds old new h =
+      get_from_entries ids_total ids_exact new.additions (λ entry. is_risen old new entry.0 ≡ true → P entry.1.bound)
+      (All-passing (λ entry. is_risen old new entry.0) (λ entry. P entry.1.bound) (entries new.additions) (records_from_bounds P (risen old new) h))
+
+  pub bounds_from_risen : (old new : Content) → RisenHold P old new → All P (bounds_of (risen old new))
+  bounds_from_risen old new f =
+      bounds_from_records P (risen old new)
+      (All-filter_passing (λ entry. is_risen old new entry.0) (λ entry. P entry.1.bound) (entries new.additions)
+      (entries_from_get ids_total ids_exact new.additions (λ entry. is_risen old new entry.0 ≡ true → P entry.1.bound) f))
+
+-- each record of the old state is one of the new
+abbrev pub Extends : Content → Content → Type 0
+Extends old new = (id : SiteCounter) (r : Record) → get old.additions id ≡ Some r → get new.additions id ≡ Some r
+
+there_where_live : (o : Option Record) (b : Bool) → (is_some o && b) ≡ true → (r : Record) × (o ≡ Some r)
+there_where_live None b e = absurd (false≢true e)
+there_where_live (Some r) b e = (r, refl)
+
+left_true : (a b : Bool) → (a && b) ≡ true → a ≡ true
+left_true true b e = refl
+left_true false b e = e
+
+same_record : (o : Option Record) (r t : Record) → o ≡ Some r → o ≡ Some t → r ≡ t
+same_record o r t e f = cc
+
+module _ (P : Difference → Type 0) (old new : Content) (extends : Extends old new) (keeps : KeepsLive old new) where
+  -- where no record stops being live, the live ones are those of before and those that have become live
+  pub old_hold : LiveHold P new → LiveHold P old
+  old_hold f id r there live = f id r (extends id r there) (keeps id live)
+
+  pub risen_hold : LiveHold P new → RisenHold P old new
+  risen_hold f id r there is = f id r there (left_true (is_live new id) (not (is_live old id)) is)
+
+  pub new_hold : LiveHold P old → RisenHold P old new → LiveHold P new
+  new_hold f g id r there live =
+      elim (is_live old id) as (λ b. is_live old id ≡ b → P r.bound) [
+        | true ↦ λ t.
+            let before = there_where_live (get old.additions id) (not (contains_key old.tombstones id)) t in
+            let same = same_record (get new.additions id) before.0 r (extends id before.0 before.1) there in
+            subst (λ (x : Record). P x.bound) same (f id before.0 before.1 t)
+        | false ↦ λ t. g id r there (ap (λ b. b && not (is_live old id)) live ∙ ap not t)
+      ] refl
+
+-- what is known with the bounds of those that have become live is known of all
+pub known_grown : (base : List Difference) (old new : Content) (table : Table) (possible : Bool)
+    → Extends old new → KeepsLive old new
+    → All (NamesEvents table.events) (base ++ live_bounds new)
+    → IsKnown ((base ++ live_bounds old) ++ bounds_of (risen old new)) table possible
+    → IsKnown (base ++ live_bounds new) table possible
+known_grown base old new table possible extends keeps named known =
+    known_same_schedules ((base ++ live_bounds old) ++ bounds_of (risen old new)) (base ++ live_bounds new) table possible
+    (λ time s.
+    let before = schedule_before (base ++ live_bounds old) (bounds_of (risen old new)) time s in
+    schedule_with base (live_bounds new) time (schedule_before base (live_bounds old) time before)
+    (bounds_from_live (Meets time) new (new_hold (Meets time) old new extends keeps
+    (live_from_bounds (Meets time) old (met_behind base (live_bounds old) time before))
+    (risen_from_bounds (Meets time) old new (met_behind (base ++ live_bounds old) (bounds_of (risen old new)) time s)))))
+    (λ time s.
+    let all = live_from_bounds (Meets time) new (met_behind base (live_bounds new) time s) in
+    schedule_with (base ++ live_bounds old) (bounds_of (risen old new)) time
+    (schedule_with base (live_bounds old) time (schedule_before base (live_bounds new) time s) (bounds_from_live (Meets time) old (old_hold (Meets time) old new extends keeps all)))
+    (bounds_from_risen (Meets time) old new (risen_hold (Meets time) old new extends keeps all)))
+    named known
+
+-- bounds without a schedule have none with more
+pub conflict_stays : (base : List Difference) (old new : Content) → Extends old new → KeepsLive old new
+    → (HasSchedule (base ++ live_bounds old) → ⊥) → HasSchedule (base ++ live_bounds new) → ⊥
+conflict_stays base old new extends keeps none s =
+    let all = live_from_bounds (Meets s.0) new (met_behind base (live_bounds new) s.0 s.1) in
+    none (s.0, schedule_with base (live_bounds old) s.0 (schedule_before base (live_bounds new) s.0 s.1) (bounds_from_live (Meets s.0) old (old_hold (Meets s.0) old new extends keeps all)))
+
+not_false : (a b : Bool) → a ≡ true → (a && not b) ≡ false → b ≡ true
+not_false true true e h = refl
+not_false true false e h = absurd (false≢true (sym h))
+not_false false b e h = absurd (false≢true e)
+
+-- where no record has fallen, each that was live still is
+pub keeps_from_none_fallen : (old new : Content) → All (λ (entry : Entry). is_risen new old entry.0 ≡ false) (entries old.additions) → KeepsLive old new
+keeps_from_none_fallen old new h id live =
+    let there = there_where_live (get old.additions id) (not (contains_key old.tombstones id)) live in
+    not_false (is_live old id) (is_live new id) live
+    (get_from_entries ids_total ids_exact old.additions (λ entry. is_risen new old entry.0 ≡ false) h id there.0 there.1)
+
+-- records that name some events, named by the bounds of the live ones
+pub live_named : (events : ℕ) (s : Content) → RecordsName events s → All (NamesEvents events) (live_bounds s)
+live_named events s named = bounds_from_records (NamesEvents events) (live_of s) (All-filter (λ entry. not (contains_key s.tombstones entry.0)) (λ entry. NamesEvents events entry.1.bound) (entries s.additions) named)
+
+pub nothing_live : (none : Content) → none ≡ no_content → (id : SiteCounter) → is_live none id ≡ false
+nothing_live none is id = ap (λ s. is_live s id) is ∙ ap (λ o. is_some o && not (contains_key no_content.tombstones id)) (get-empty id_cmp id)
+
+-- what is known with the bounds of all that have become live since there was nothing is known of all
+pub known_rebuilt : (base : List Difference) (none new : Content) (table : Table) (possible : Bool) → none ≡ no_content
+    → All (NamesEvents table.events) (base ++ live_bounds new)
+    → IsKnown (base ++ bounds_of (risen none new)) table possible → IsKnown (base ++ live_bounds new) table possible
+known_rebuilt base none new table possible is named known =
+    known_same_schedules (base ++ bounds_of (risen none new)) (base ++ live_bounds new) table possible
+    (λ time s. schedule_with base (live_bounds new) time (schedule_before base (bounds_of (risen none new)) time s)
+    (bounds_from_live (Meets time) new (λ id r there live.
+    risen_from_bounds (Meets time) none new (met_behind base (bounds_of (risen none new)) time s) id r there
+    (ap (λ b. b && not (is_live none id)) live ∙ ap not (nothing_live none is id)))))
+    (λ time s. schedule_with base (bounds_of (risen none new)) time (schedule_before base (live_bounds new) time s)
+    (bounds_from_risen (Meets time) none new (λ id r there rose.
+    live_from_bounds (Meets time) new (met_behind base (live_bounds new) time s) id r there (left_true (is_live new id) (not (is_live none id)) rose))))
+    named known

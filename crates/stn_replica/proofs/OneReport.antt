@@ -1,0 +1,71 @@
+-- A plan and a state have one report.
+use Rattle.std.proofs.Common.{◌≡◌, ℕ, ℤ, zero, suc, ◌+◌, ◌≤ℤ◌, ◌↔◌, ◌⊎◌, List, [], ◌∷◌, ◌++◌, take, codes, Bool, Some, refl, sym, ap, subst, ◌∙◌, ⊎_elim, arith}
+use Rattle.std.proofs.lemmas.Int.{ints}
+use Rattle.std.proofs.lemmas.List.Elements.{All-take}
+use Rattle.std.specs.List.{flat_map}
+use Rattle.stn_net.specs.Difference.{Difference}
+use Rattle.stn_net.specs.Schedule.{IsSchedule, HasSchedule, Meets}
+use Rattle.stn_windows.specs.Window.{IsWindow}
+use Rattle.stn_lift.specs.PlanSource.{PlanSource, base_bounds, events_of}
+use Rattle.stn_records.specs.Content.{Content}
+use Rattle.stn_conflict.specs.declared.links.Link.{Link}
+use Rattle.stn_conflict.specs.Arcs.{weight_of}
+use Rattle.stn_conflict.specs.Named.{IsNamedCycle}
+use Rattle.stn_replica.specs.Bounds.{all_bounds, live_bounds}
+use Rattle.stn_replica.specs.Names.{live_ids}
+use Rattle.stn_replica.specs.Lines.{line, window_line, conflict_line, link_line}
+use Rattle.stn_replica.specs.Report.{is_done, IsWindowLines, IsWindowsPart, IsConflictPart, IsReport, heading}
+
+-- the ends of a window are its own
+one_window : (bounds : List Difference) (event : ℕ) (a b c d : ℤ) → HasSchedule bounds → IsWindow bounds event a b → IsWindow bounds event c d → (a ≡ c) × (b ≡ d)
+one_window bounds event a b c d s p q =
+    let mine = (p (s.0 event)).0 (s.0, s.1, refl) in
+    let theirs = (q (s.0 event)).0 (s.0, s.1, refl) in
+    let low : (c ≤ℤ a) × (a ≤ℤ d) = (q a).0 ((p a).1 (omega (arith, ints), omega (arith, ints))) in
+    let high : (c ≤ℤ b) × (b ≤ℤ d) = (q b).0 ((p b).1 (omega (arith, ints), omega (arith, ints))) in
+    let low_back : (a ≤ℤ c) × (c ≤ℤ b) = (p c).0 ((q c).1 (omega (arith, ints), omega (arith, ints))) in
+    let high_back : (a ≤ℤ d) × (d ≤ℤ b) = (p d).0 ((q d).1 (omega (arith, ints), omega (arith, ints))) in
+    (omega (arith, ints), omega (arith, ints))
+
+one_lines : (bounds : List Difference) (done : ℕ → Bool) → HasSchedule bounds → (n : ℕ) (text other : List ℕ) → IsWindowLines bounds done n text → IsWindowLines bounds done n other → text ≡ other
+one_lines bounds done s zero text other p q = p ∙ sym q
+one_lines bounds done s (suc n) text other p q =
+    let ends = one_window bounds (suc n) p.1 p.2 q.1 q.2 s p.4 q.4 in
+    let before = one_lines bounds done s n p.0 q.0 p.3 q.3 in
+    p.5 ∙ (λ i. before i ++ window_line (suc n) (ends.0 i) (ends.1 i) (done (suc n))) ∙ sym q.5
+
+-- bounds with a named cycle have no schedule
+no_schedule : (bounds : List Difference) (links : List Link) → IsNamedCycle bounds links → HasSchedule bounds → ⊥
+no_schedule bounds [] p s = p
+no_schedule bounds (link ∷ links) p s =
+    p.0.refused (s.0, record { origin = s.1.origin; met = All-take (Meets s.0) (link.place + 1) bounds s.1.met })
+
+one_rest : (source : PlanSource) (state : Content)
+    → ((bounds : List Difference) → (one other : List Link) → IsNamedCycle bounds one → IsNamedCycle bounds other → one ≡ other)
+    → (rest other : List ℕ) → IsWindowsPart source state rest ⊎ IsConflictPart source state rest → IsWindowsPart source state other ⊎ IsConflictPart source state other → rest ≡ other
+one_rest source state unique rest other p q =
+    ⊎_elim
+    (λ mine. ⊎_elim
+    (λ theirs. mine.whole ∙ ap (λ lines. line (codes "ok") ++ lines) (one_lines (all_bounds source state) (is_done state) mine.possible (events_of source) mine.lines theirs.lines mine.windows theirs.windows) ∙ sym theirs.whole)
+    (λ theirs. absurd (no_schedule (all_bounds source state) theirs.links theirs.named mine.possible)) q)
+    (λ mine. ⊎_elim
+    (λ theirs. absurd (no_schedule (all_bounds source state) mine.links mine.named theirs.possible))
+    (λ theirs. mine.whole
+    ∙ ap (λ links. conflict_line (weight_of (all_bounds source state) links) ++ flat_map (link_line (base_bounds source) (live_ids state) (live_bounds state)) links)
+    (unique (all_bounds source state) mine.links theirs.links mine.named theirs.named)
+    ∙ sym theirs.whole) q)
+    p
+
+-- where a list of bounds has one named cycle at most, a plan and a state have one report
+pub one_report : ((bounds : List Difference) → (one other : List Link) → IsNamedCycle bounds one → IsNamedCycle bounds other → one ≡ other)
+    → (source : PlanSource) (state : Content) (text other : List ℕ) → IsReport source state text → IsReport source state other → text ≡ other
+one_report unique source state text other p q =
+    p.whole ∙ ap (λ rest. heading source state ++ rest) (one_rest source state unique p.rest q.rest p.part q.part) ∙ sym q.whole
+
+-- equal states have one report
+pub same_states : (source : PlanSource) (s t : Content) (text other : List ℕ)
+    → ((state : Content) → (text other : List ℕ) → IsReport source state text → IsReport source state other → text ≡ other)
+    → Some s ≡ Some t → IsReport source s text → IsReport source t other → text ≡ other
+same_states source s t text other law is p q =
+    let same : s ≡ t = cc in
+    law t text other (subst (λ state. IsReport source state text) same p) q

@@ -1,0 +1,52 @@
+-- What is known of bounds depends on their schedules alone.
+use Rattle.std.proofs.Common.{◌≡◌, ℕ, ℤ, ◌+◌, Bool, true, false, ◌↔◌, List, [], ◌∷◌, ◌++◌, All, IsTrue, refl, sym, ap, subst}
+use Rattle.std.proofs.lemmas.Bool.{false≢true}
+use Rattle.std.proofs.lemmas.List.Elements.{All-append, All-push, All-from_recursion, recursion_from_All}
+use Rattle.std.specs.List.{AllByRecursion}
+use Rattle.stn_net.specs.Difference.{Difference, NamesEvents}
+use Rattle.stn_net.specs.Schedule.{IsSchedule, HasSchedule, Meets}
+use Rattle.stn_matrix.specs.Table.{Table}
+use Rattle.stn_matrix.specs.Tightest.{IsExact}
+use Rattle.stn_matrix.proofs.Tightest.{exact_same_schedules}
+use Rattle.stn_replica.specs.Invariant.{IsKnown}
+
+module _ {X : Type 0} (P : X → Type 0) where
+  parted : (xs ys : List X) → AllByRecursion P (xs ++ ys) → AllByRecursion P xs × AllByRecursion P ys
+  parted [] ys h = (tt, h)
+  parted (x ∷ xs) ys h = let rest = parted xs ys h.1 in ((h.0, rest.0), rest.1)
+
+  -- what holds of each element of a list holds of each of its parts
+  pub All-left : (xs ys : List X) → All P (xs ++ ys) → All P xs
+  All-left xs ys h = All-from_recursion P xs (parted xs ys (recursion_from_All P (xs ++ ys) h)).0
+
+  pub All-right : (xs ys : List X) → All P (xs ++ ys) → All P ys
+  All-right xs ys h = All-from_recursion P ys (parted xs ys (recursion_from_All P (xs ++ ys) h)).1
+
+-- a schedule of bounds and more is one of the bounds
+pub schedule_before : (bounds more : List Difference) (time : ℕ → ℤ) → IsSchedule (bounds ++ more) time → IsSchedule bounds time
+schedule_before bounds more time s = record { origin = s.origin; met = All-left (Meets time) bounds more s.met }
+
+-- and meets those behind
+pub met_behind : (bounds more : List Difference) (time : ℕ → ℤ) → IsSchedule (bounds ++ more) time → All (Meets time) more
+met_behind bounds more time s = All-right (Meets time) bounds more s.met
+
+-- a schedule that meets more bounds is one of all
+pub schedule_with : (bounds more : List Difference) (time : ℕ → ℤ) → IsSchedule bounds time → All (Meets time) more → IsSchedule (bounds ++ more) time
+schedule_with bounds more time s met = record { origin = s.origin; met = All-append (Meets time) bounds more s.met met }
+
+-- what is known of bounds is known of others with the same schedules
+pub known_same_schedules : (these those : List Difference) (table : Table) (possible : Bool)
+    → ((time : ℕ → ℤ) → IsSchedule these time → IsSchedule those time)
+    → ((time : ℕ → ℤ) → IsSchedule those time → IsSchedule these time)
+    → All (NamesEvents table.events) those
+    → IsKnown these table possible → IsKnown those table possible
+known_same_schedules these those table true forth back named known = exact_same_schedules these those table forth back named known
+known_same_schedules these those table false forth back named known = λ s. known (s.0, back s.0 s.1)
+
+-- what `tighten` answers is what is known with the bound
+pub known_tightened : (bounds : List Difference) (bound : Difference) (table : Table) (result : Bool)
+    → (IsTrue result ↔ HasSchedule (bounds ++ bound ∷ []))
+    → (IsTrue result → IsExact (bounds ++ bound ∷ []) table)
+    → IsKnown (bounds ++ bound ∷ []) table result
+known_tightened bounds bound table true possible exact = exact refl
+known_tightened bounds bound table false possible exact = λ s. false≢true (possible.1 s)

@@ -1,0 +1,245 @@
+-- That a replica stays sound, and what its work is.
+use Rattle.std.proofs.Common.{◌≡◌, ◌≢◌, ℕ, ◌+◌, ◌<◌, ◌≤◌, min, Bool, true, false, ◌↔◌, List, [], ◌∷◌, ◌++◌, length, Option, Some, None, Result, Ok, Err, IfSome, IsTrue, ⊎_elim, refl, sym, ap, subst, ◌∙◌, arith, All}
+use Rattle.std.proofs.lemmas.Bool.{false≢true, cases_lt}
+use Rattle.std.proofs.lemmas.List.Elements.{All-append}
+use Rattle.std.specs.FinMap.{get}
+use Rattle.stn_net.specs.Difference.{Difference, NamesEvents, IsBoundWithin}
+use Rattle.stn_net.specs.Schedule.{HasSchedule}
+use Rattle.stn_matrix.specs.Table.{Table}
+use Rattle.stn_matrix.specs.Tightest.{IsExact}
+use Rattle.stn_lift.specs.PlanSource.{PlanSource, base_bounds, events_of}
+use Rattle.stn_records.specs.Id.{SiteCounter}
+use Rattle.stn_records.specs.declared.record.Record.{Record}
+use Rattle.stn_records.specs.declared.faults.RecordsFault.{RecordsFault}
+use Rattle.stn_records.specs.declared.faults.RecordsFault.TheVariants as records
+use Rattle.stn_records.specs.declared.TheConstants.{MOST_KNOWN}
+use Rattle.stn_records.specs.Content.{Content, HasAnother, is_live, is_known, known_count, known_in_both, next_counter, dispute_contents, no_content, with_record, with_tombstone, join_contents}
+use Rattle.stn_replica.specs.Bounds.{all_bounds, live_bounds, bounds_of, RecordsName}
+use Rattle.stn_replica.specs.Faults.{next_id, CanAdd, IsAddFault, IsTakeFault, CanTake}
+use Rattle.stn_replica.specs.FaultsOf.{of_records_fault}
+use Rattle.stn_replica.specs.Held.{Held}
+use Rattle.stn_replica.specs.Invariant.{IsKnown, IsSoundReplica}
+use Rattle.stn_replica.specs.Work.{risen, KeepsLive, SparesWork}
+use Rattle.stn_replica.proofs.Changes.{unknown_absent, extends_added, keeps_with_record, one_risen, named_added, known_added, extends_joined, named_joined, withdrawn_dead, known_withdrawn, none_named, known_at_first}
+use Rattle.stn_replica.proofs.Live.{live_named, known_grown, conflict_stays}
+use Rattle.stn_replica.proofs.Schedules.{known_tightened}
+
+-- what an option holds, from what it is
+pub held_is : {X : Type 0} (o : Option X) (x y : X) → o ≡ Some x → IfSome o (λ v. v ≡ y) → x ≡ y
+held_is o x y e h = subst (λ p. IfSome p (λ v. v ≡ y)) e h
+
+-- a call that failed
+abbrev pub failed : (A : Type 0) → RecordsFault → Result A RecordsFault
+failed A fault = Err fault
+
+abbrev pub succeeded : (A : Type 0) → A → Result A RecordsFault
+succeeded A x = Ok x
+
+pub ok_not_err : {T E : Type 0} (x : T) (y : E) → Ok x ≡ Err y → ⊥
+ok_not_err x y e = cc
+
+-- a number that cannot pass a limit
+pub not_past : (n : ℕ) → (65535 < n → false ≡ true) → n ≤ 65535
+not_past n h = ⊎_elim (λ past. absurd (false≢true (h past))) (λ within. within) (cases_lt 65535 n)
+
+-- the table is exact where the bounds are known to have a schedule
+pub known_exact : (bounds : List Difference) (table : Table) (possible : Bool) → possible ≡ true → IsKnown bounds table possible → IsExact bounds table
+known_exact bounds table possible t known = subst (λ b. IsKnown bounds table b) t known
+
+pub known_conflict : (bounds : List Difference) (table : Table) (possible : Bool) → possible ≡ false → IsKnown bounds table possible → HasSchedule bounds → ⊥
+known_conflict bounds table possible t known = subst (λ b. IsKnown bounds table b) t known
+
+-- what `tighten` does to the steps
+pub tightened_steps : (current next : Table) (result : Bool) → current.steps ≤ 18446744073709551615
+    → (result ≡ false → next ≡ current) → (IsTrue result → next.steps ≡ min (current.steps + 1) 18446744073709551615)
+    → (current.steps ≤ next.steps) × (next.steps ≤ current.steps + 1) × (next.steps ≤ 18446744073709551615)
+tightened_steps current next true counted unchanged steps = let e = steps refl in (omega arith, omega arith, omega arith)
+tightened_steps current next false counted unchanged steps = let e : next.steps ≡ current.steps = ap (λ t. t.steps) (unchanged refl) in (omega arith, omega arith, omega arith)
+
+-- all bounds name the table's events
+pub all_named : (source : PlanSource) (state : Content) (opening table : Table) → IsExact (base_bounds source) opening → opening.events ≡ events_of source → table.events ≡ events_of source
+    → RecordsName (events_of source) state → All (NamesEvents table.events) (all_bounds source state)
+all_named source state opening table exact opens events named =
+    subst (λ n. All (NamesEvents n) (all_bounds source state)) (sym events)
+    (All-append (NamesEvents (events_of source)) (base_bounds source) (live_bounds state)
+    (subst (λ n. All (NamesEvents n) (base_bounds source)) opens exact.named)
+    (live_named (events_of source) state named))
+
+-- ---- additions
+pub sound_added : (source : PlanSource) (state : Content) (opening current next : Table) (possible result : Bool) (id : SiteCounter) (r : Record)
+    → IsSoundReplica source state opening current possible → possible ≡ true → is_known state id ≡ false → NamesEvents (events_of source) r.bound
+    → ((bounds : List Difference) → IsExact bounds current → (IsTrue result ↔ HasSchedule (bounds ++ r.bound ∷ [])))
+    → ((bounds : List Difference) → IsExact bounds current → IsTrue result → IsExact (bounds ++ r.bound ∷ []) next)
+    → next.events ≡ current.events → next.steps ≤ 18446744073709551615
+    → IsSoundReplica source (with_record state id r) opening next result
+sound_added source state opening current next possible result id r p t unknown this can exact events counted =
+    let before = known_exact (all_bounds source state) current possible t p.known in
+    let named = named_added state id r unknown (events_of source) p.named this in
+    record {
+      named = named;
+      opening_events = p.opening_events;
+      current_events = events ∙ p.current_events;
+      opening_exact = p.opening_exact;
+      known = known_added state id r unknown (base_bounds source) next result
+          (all_named source (with_record state id r) opening next p.opening_exact p.opening_events (events ∙ p.current_events) named)
+          (known_tightened (all_bounds source state) r.bound next result (can (all_bounds source state) before) (exact (all_bounds source state) before));
+      counted = counted;
+    }
+
+pub sound_in_conflict : (source : PlanSource) (state : Content) (opening current : Table) (possible : Bool) (id : SiteCounter) (r : Record)
+    → IsSoundReplica source state opening current possible → possible ≡ false → is_known state id ≡ false → NamesEvents (events_of source) r.bound
+    → IsSoundReplica source (with_record state id r) opening current possible
+sound_in_conflict source state opening current possible id r p t unknown this = record {
+  named = named_added state id r unknown (events_of source) p.named this;
+  opening_events = p.opening_events;
+  current_events = p.current_events;
+  opening_exact = p.opening_exact;
+  known = subst (λ b. IsKnown (all_bounds source (with_record state id r)) current b) (sym t)
+      (conflict_stays (base_bounds source) state (with_record state id r) (extends_added state id r unknown) (keeps_with_record state id r unknown) (known_conflict (all_bounds source state) current possible t p.known));
+  counted = p.counted;
+}
+
+pub spares_added : (old new : Held) (state : Content) (id : SiteCounter) (r : Record) → is_known state id ≡ false
+    → old.state ≡ state → new.state ≡ with_record state id r → old.steps ≤ new.steps → new.steps ≤ old.steps + 1 → SparesWork old new
+spares_added old new state id r unknown before after least most = λ _ _. (least, rw (before, after) (omega (arith, one_risen state id r unknown)))
+
+pub can_add : (held : Held) (bound : Difference) → IsBoundWithin (events_of held.source) bound → next_counter held.state held.site ≤ 65535 → known_count held.state ≢ MOST_KNOWN → CanAdd held bound
+can_add held bound sound counter room = record { sound = sound; counter = counter; room = room }
+
+pub add_fault : (held : Held) (bound : Difference) (r : Record) (id : SiteCounter) (fault : RecordsFault)
+    → id ≡ next_id held → IsBoundWithin (events_of held.source) bound → next_counter held.state held.site ≤ 65535 → is_known held.state id ≡ false
+    → ((other : SiteCounter) → failed (Unit {0}) fault ≡ Err (records.Clash other) → other ≡ id)
+    → ((failed (Unit {0}) fault ≡ Err (records.Clash id)) ↔ HasAnother (get held.state.additions id) r)
+    → ((failed (Unit {0}) fault ≡ Err records.Full) ↔ (is_known held.state id ≡ false) × (known_count held.state ≡ MOST_KNOWN))
+    → IsAddFault held bound (of_records_fault fault)
+add_fault held bound r id (records.Clash other) is sound counter unknown clash refused full =
+    absurd (subst (λ o. HasAnother o r) (unknown_absent held.state id unknown) (refused.0 (ap (λ k. Err (records.Clash k)) (clash other refl))))
+add_fault held bound r id records.Full is sound counter unknown clash refused full = (sound, counter, (full.0 refl).1)
+add_fault held bound r id records.Memory is sound counter unknown clash refused full =
+    can_add held bound sound counter (λ e. other_fault (full.1 (unknown, e)))
+  where
+    other_fault : failed (Unit {0}) records.Memory ≡ Err records.Full → ⊥
+    other_fault e = cc
+
+-- ---- takes
+pub take_fault : (held : Held) (other : Content) (A : Type 0) (fault : RecordsFault) → RecordsName (events_of held.source) other
+    → ((id : SiteCounter) → (failed A fault ≡ Err (records.Clash id)) ↔ (dispute_contents held.state other ≡ Some id))
+    → ((failed A fault ≡ Err records.Full) ↔ (dispute_contents held.state other ≡ None) × (MOST_KNOWN < known_in_both held.state other))
+    → IsTakeFault held other (of_records_fault fault)
+take_fault held other A (records.Clash id) named clash full = (named, (clash id).0 refl)
+take_fault held other A records.Full named clash full = (named, (full.0 refl).0, (full.0 refl).1)
+take_fault held other A records.Memory named clash full =
+    let agreed : dispute_contents held.state other ≡ None = elim (dispute_contents held.state other) as (λ o. dispute_contents held.state other ≡ o → o ≡ None) [ None ↦ λ e. refl | Some id ↦ λ e. absurd (other_clash id ((clash id).1 e)) ] refl in
+    record { named = named; agreed = agreed; room = within (λ past. other_full (full.1 (agreed, past))) }
+  where
+    other_clash : (id : SiteCounter) → failed A records.Memory ≡ Err (records.Clash id) → ⊥
+    other_clash id e = cc
+
+    other_full : failed A records.Memory ≡ Err records.Full → ⊥
+    other_full e = cc
+
+    within : (MOST_KNOWN < known_in_both held.state other → ⊥) → known_in_both held.state other ≤ MOST_KNOWN
+    within h = omega arith
+
+pub can_take : (held : Held) (other : Content) (A : Type 0) (all : A) → RecordsName (events_of held.source) other
+    → ((id : SiteCounter) → (succeeded A all ≡ Err (records.Clash id)) ↔ (dispute_contents held.state other ≡ Some id))
+    → ((succeeded A all ≡ Err records.Full) ↔ (dispute_contents held.state other ≡ None) × (MOST_KNOWN < known_in_both held.state other))
+    → CanTake held other
+can_take held other A all named clash full =
+    let agreed : dispute_contents held.state other ≡ None = elim (dispute_contents held.state other) as (λ o. dispute_contents held.state other ≡ o → o ≡ None) [ None ↦ λ e. refl | Some id ↦ λ e. absurd (no_clash id ((clash id).1 e)) ] refl in
+    record { named = named; agreed = agreed; room = within (λ past. no_full (full.1 (agreed, past))) }
+  where
+    no_clash : (id : SiteCounter) → succeeded A all ≡ Err (records.Clash id) → ⊥
+    no_clash id e = cc
+
+    no_full : succeeded A all ≡ Err records.Full → ⊥
+    no_full e = cc
+
+    within : (MOST_KNOWN < known_in_both held.state other → ⊥) → known_in_both held.state other ≤ MOST_KNOWN
+    within h = omega arith
+
+-- after a rebuild
+pub sound_rebuilt : (source : PlanSource) (state new : Content) (opening current next : Table) (possible result : Bool)
+    → IsSoundReplica source state opening current possible → RecordsName (events_of source) new
+    → ((bounds : List Difference) → IsExact bounds opening → IsKnown (bounds ++ live_bounds new) next result)
+    → next.events ≡ current.events → next.steps ≤ 18446744073709551615
+    → IsSoundReplica source new opening next result
+sound_rebuilt source state new opening current next possible result p named known events counted = record {
+  named = named;
+  opening_events = p.opening_events;
+  current_events = events ∙ p.current_events;
+  opening_exact = p.opening_exact;
+  known = known (base_bounds source) p.opening_exact;
+  counted = counted;
+}
+
+-- after a take by which no live record stops being live
+pub sound_taken : (source : PlanSource) (state other new : Content) (opening current next : Table) (possible result : Bool)
+    → IsSoundReplica source state opening current possible → possible ≡ true → KeepsLive state new → join_contents state other ≡ Some new → RecordsName (events_of source) other
+    → ((bounds : List Difference) → IsExact bounds current → IsKnown (bounds ++ bounds_of (risen state new)) next result)
+    → next.events ≡ current.events → next.steps ≤ 18446744073709551615
+    → IsSoundReplica source new opening next result
+sound_taken source state other new opening current next possible result p t keeps joined theirs known events counted =
+    let named = named_joined (events_of source) state other new joined p.named theirs in
+    record {
+      named = named;
+      opening_events = p.opening_events;
+      current_events = events ∙ p.current_events;
+      opening_exact = p.opening_exact;
+      known = known_grown (base_bounds source) state new next result (extends_joined state other new joined) keeps
+          (all_named source new opening next p.opening_exact p.opening_events (events ∙ p.current_events) named)
+          (known (all_bounds source state) (known_exact (all_bounds source state) current possible t p.known));
+      counted = counted;
+    }
+
+pub sound_taken_in_conflict : (source : PlanSource) (state other new : Content) (opening current : Table) (possible : Bool)
+    → IsSoundReplica source state opening current possible → possible ≡ false → KeepsLive state new → join_contents state other ≡ Some new → RecordsName (events_of source) other
+    → IsSoundReplica source new opening current possible
+sound_taken_in_conflict source state other new opening current possible p t keeps joined theirs = record {
+  named = named_joined (events_of source) state other new joined p.named theirs;
+  opening_events = p.opening_events;
+  current_events = p.current_events;
+  opening_exact = p.opening_exact;
+  known = subst (λ b. IsKnown (all_bounds source new) current b) (sym t)
+      (conflict_stays (base_bounds source) state new (extends_joined state other new joined) keeps (known_conflict (all_bounds source state) current possible t p.known));
+  counted = p.counted;
+}
+
+pub named_taken : (source : PlanSource) (state other new : Content) (opening current : Table) (possible : Bool) → IsSoundReplica source state opening current possible
+    → join_contents state other ≡ Some new → RecordsName (events_of source) other → RecordsName (events_of source) new
+named_taken source state other new opening current possible p joined theirs = named_joined (events_of source) state other new joined p.named theirs
+
+-- ---- withdrawals
+pub sound_withdrawn : (source : PlanSource) (state : Content) (opening current : Table) (possible : Bool) (id : SiteCounter)
+    → IsSoundReplica source state opening current possible → is_live state id ≡ false → IsSoundReplica source (with_tombstone state id) opening current possible
+sound_withdrawn source state opening current possible id p dead = record {
+  named = p.named;
+  opening_events = p.opening_events;
+  current_events = p.current_events;
+  opening_exact = p.opening_exact;
+  known = known_withdrawn state id (base_bounds source) current possible dead
+      (all_named source (with_tombstone state id) opening current p.opening_exact p.opening_events p.current_events p.named) p.known;
+  counted = p.counted;
+}
+
+-- where the withdrawn record was live, a live record has stopped being live
+pub spares_fallen : (old new : Held) (state : Content) (id : SiteCounter) → is_live state id ≡ true → old.state ≡ state → new.state ≡ with_tombstone state id → SparesWork old new
+spares_fallen old new state id live before after = λ keeps _.
+    absurd (false≢true (sym (withdrawn_dead state id) ∙ ap (λ s. is_live s id) (sym after) ∙ keeps id (ap (λ s. is_live s id) before ∙ live)))
+
+-- where the steps are the same
+pub spares_same : (old new : Held) → new.steps ≡ old.steps → SparesWork old new
+spares_same old new same = λ _ _. (omega arith, omega arith)
+
+-- ---- at first
+pub sound_at_first : (source : PlanSource) (none : Content) (opening current : Table) → none ≡ no_content → IsExact (base_bounds source) opening → opening.events ≡ events_of source
+    → IsExact (base_bounds source) current → current.events ≡ events_of source → current.steps ≤ 18446744073709551615
+    → IsSoundReplica source none opening current true
+sound_at_first source none opening current is opens opening_events exact events counted = record {
+  named = none_named (events_of source) none is;
+  opening_events = opening_events;
+  current_events = events;
+  opening_exact = opens;
+  known = known_at_first (base_bounds source) none current is exact;
+  counted = counted;
+}

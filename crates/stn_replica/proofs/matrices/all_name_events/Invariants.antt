@@ -1,0 +1,7 @@
+use Rattle.std.proofs.Common.{take, All}
+use Rattle.std.specs.FinMap.{entries}
+use Rattle.stn_net.specs.Difference.{NamesEvents}
+use Rattle.stn_replica.proofs.matrices.all_name_events.Given as goal
+
+abbrev pub invariant-loop-place : goal.invariant-loop-place
+invariant-loop-place g l = All (λ entry. NamesEvents l.events entry.1.bound) (take l.place (entries l.records.additions))

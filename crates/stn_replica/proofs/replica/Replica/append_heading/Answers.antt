@@ -1,0 +1,7 @@
+use Rattle.std.proofs.Common.{ap, length, arith}
+use Rattle.stn_records.specs.Content.{known_count}
+use Rattle.stn_replica.proofs.Count.{live_within}
+use Rattle.stn_replica.proofs.replica.Replica.append_heading.Goals as goal
+
+pub overflow_cast-live : goal.overflow_cast-live
+overflow_cast-live g c = omega (arith, live_within c.args.self.now.state, ap length c.requires, ap known_count c.records.ensures.value, c.withdrawn_count-withdrawn.ensures.limited)

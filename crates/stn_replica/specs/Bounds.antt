@@ -1,0 +1,23 @@
+use Rattle.std.specs.Prelude.{ℕ, List, ◌++◌, map, All}
+use Rattle.std.specs.FinMap.{entries}
+use Rattle.stn_net.specs.Difference.{Difference, NamesEvents}
+use Rattle.stn_lift.specs.PlanSource.{PlanSource, base_bounds}
+use Rattle.stn_records.specs.Id.{SiteCounter}
+use Rattle.stn_records.specs.declared.record.Record.{Record}
+use Rattle.stn_records.specs.Content.{Content, live_of}
+
+-- the bounds of records
+abbrev pub bounds_of : List (SiteCounter × Record) → List Difference
+bounds_of records = map (λ entry. entry.1.bound) records
+
+-- the bounds of the live records, in order of id
+abbrev pub live_bounds : Content → List Difference
+live_bounds state = bounds_of (live_of state)
+
+-- the plan's own bounds, and then those of the live records
+abbrev pub all_bounds : PlanSource → Content → List Difference
+all_bounds source state = base_bounds source ++ live_bounds state
+
+-- each record, live or not, names the origin or one of so many events
+abbrev pub RecordsName : ℕ → Content → Type 0
+RecordsName events state = All (λ entry. NamesEvents events entry.1.bound) (entries state.additions)

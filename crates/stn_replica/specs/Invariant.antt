@@ -1,0 +1,23 @@
+use Rattle.std.specs.Prelude.{◌≡◌, ℕ, ◌≤◌, Bool, true, false, List}
+use Rattle.stn_net.specs.Difference.{Difference}
+use Rattle.stn_net.specs.Schedule.{HasSchedule}
+use Rattle.stn_matrix.specs.Table.{Table}
+use Rattle.stn_matrix.specs.Tightest.{IsExact}
+use Rattle.stn_lift.specs.PlanSource.{PlanSource, base_bounds, events_of}
+use Rattle.stn_records.specs.Content.{Content}
+use Rattle.stn_replica.specs.Bounds.{all_bounds, RecordsName}
+
+-- the bounds have a schedule, and the table is exact for them; or they have none
+abbrev pub IsKnown : List Difference → Table → Bool → Type 0
+IsKnown bounds table true = IsExact bounds table
+IsKnown bounds table false = HasSchedule bounds → ⊥
+
+-- the records are about the plan's events, the opening table is exact for the plan's own bounds, and the current one
+-- for all bounds where these have a schedule
+pub record IsSoundReplica (source : PlanSource) (state : Content) (opening current : Table) (possible : Bool) : Type 0 where
+  pub named : RecordsName (events_of source) state
+  pub opening_events : opening.events ≡ events_of source
+  pub current_events : current.events ≡ events_of source
+  pub opening_exact : IsExact (base_bounds source) opening
+  pub known : IsKnown (all_bounds source state) current possible
+  pub counted : current.steps ≤ 18446744073709551615

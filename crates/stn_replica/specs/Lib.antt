@@ -1,0 +1,9 @@
+pub mod Held
+pub mod Bounds
+pub mod Names
+pub mod Invariant
+pub mod Work
+pub mod FaultsOf
+pub mod Faults
+pub mod Lines
+pub mod Report

@@ -1,0 +1,48 @@
+use Rattle.std.specs.Prelude.{◌≡◌, ℕ, ℤ, ◌+◌, ◌-◌, ◌<◌, nat_lt, List, ◌++◌, length, take, All, slice_index_or, if◌then◌else◌, codes, decimal, map}
+use Rattle.std.specs.List.{HoldsAt}
+use Rattle.std.specs.FinMap.{entries}
+use Rattle.stn_net.specs.Difference.{Difference}
+use Rattle.stn_net.specs.Schedule.{Meets, NamesTimes}
+use Rattle.stn_lift.specs.PlanSource.{PlanSource, base_bounds}
+use Rattle.stn_records.specs.Id.{SiteCounter, id_text}
+use Rattle.stn_records.specs.Content.{Content, live_of}
+use Rattle.stn_replica.specs.declared.names.BoundName.{BoundName}
+use Rattle.stn_replica.specs.declared.names.BoundName.TheVariants.{Plan, Record}
+use Rattle.stn_replica.specs.Bounds.{all_bounds, live_bounds}
+
+-- the ids of the live records, in order
+abbrev pub live_ids : Content → List SiteCounter
+live_ids state = map (λ entry. entry.0) (live_of state)
+
+-- the id at a place of a list
+abbrev pub id_at : List SiteCounter → ℕ → SiteCounter
+id_at ids place = slice_index_or ids place (record { site = 0; counter = 0 })
+
+-- the name of the bound at a place of a list of the plan's bounds, which are counted from 1, and then those of records, which have their ids
+abbrev pub name_in : List Difference → List SiteCounter → ℕ → BoundName
+name_in base ids place = if nat_lt place (length base) then Plan (place + 1) else Record (id_at ids (place - length base))
+
+-- the printed form of a name
+abbrev pub name_text : BoundName → List ℕ
+name_text (Plan number) = codes "plan." ++ decimal number
+name_text (Record id) = id_text id
+
+-- `first` is the name of the first of all bounds that the times break
+pub record IsFirstBroken (source : PlanSource) (state : Content) (time : ℕ → ℤ) (first : BoundName) : Type 0 where
+  pub place : ℕ
+  pub there : place < length (all_bounds source state)
+  pub broken : ¬ HoldsAt (Meets time) (all_bounds source state) place
+  pub earlier : All (Meets time) (take place (all_bounds source state))
+  pub name : first ≡ name_in (base_bounds source) (live_ids state) place
+
+-- `first` is the id of the first live record whose bound the times break
+pub record IsFirstBrokenRecord (state : Content) (time : ℕ → ℤ) (first : SiteCounter) : Type 0 where
+  pub place : ℕ
+  pub there : place < length (live_bounds state)
+  pub broken : ¬ HoldsAt (Meets time) (live_bounds state) place
+  pub earlier : All (Meets time) (take place (live_bounds state))
+  pub id : first ≡ id_at (live_ids state) place
+
+-- each record, live or not, names events that have a time
+abbrev pub RecordsTimed : List ℤ → Content → Type 0
+RecordsTimed times state = All (λ entry. NamesTimes times entry.1.bound) (entries state.additions)

@@ -1,0 +1,26 @@
+use Rattle.std.specs.Prelude.{◌≡◌, ℕ, ◌+◌, ◌≤◌, Bool, true, not, ◌&&◌, List, length, filter}
+use Rattle.std.specs.FinMap.{entries, contains_key}
+use Rattle.stn_net.specs.Schedule.{HasSchedule}
+use Rattle.stn_records.specs.Id.{SiteCounter}
+use Rattle.stn_records.specs.declared.record.Record.{Record}
+use Rattle.stn_records.specs.Content.{Content, is_live}
+use Rattle.stn_replica.specs.Bounds.{all_bounds}
+use Rattle.stn_replica.specs.Held.{Held}
+
+-- the record of the id is live in the new state, and was not in the old
+abbrev pub is_risen : Content → Content → SiteCounter → Bool
+is_risen old new id = is_live new id && not (is_live old id)
+
+-- the records that have become live, in order of id
+abbrev pub risen : Content → Content → List (SiteCounter × Record)
+risen old new = filter (λ entry. is_risen old new entry.0) (entries new.additions)
+
+-- no live record has stopped being live
+abbrev pub KeepsLive : Content → Content → Type 0
+KeepsLive old new = (id : SiteCounter) → is_live old id ≡ true → is_live new id ≡ true
+
+-- where no live record has stopped being live and all bounds have a schedule, the steps have not fallen, and have risen
+-- by no more than the number of records that have become live
+abbrev pub SparesWork : Held → Held → Type 0
+SparesWork old new = KeepsLive old.state new.state → HasSchedule (all_bounds new.source new.state)
+    → (old.steps ≤ new.steps) × (new.steps ≤ old.steps + length (risen old.state new.state))

@@ -1,0 +1,17 @@
+//! One site's replica of a plan, and its report.
+#![tactic(auto)]
+
+pub use faults::ReplicaFault;
+pub use laws::{one_report, same_items_same_bytes};
+pub use names::BoundName;
+pub use replica::Replica;
+
+mod faults;
+mod laws;
+mod lines;
+mod matrices;
+mod names;
+mod replica;
+mod report;
+#[cfg(test)]
+mod tests;

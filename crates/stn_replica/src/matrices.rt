@@ -1,0 +1,121 @@
+ghost use Rattle.std.specs.Prelude.{◌≡◌, ◌+◌, ◌≤◌, ◌++◌, ◌↔◌, List, length, IsTrue, IfOk};
+ghost use Rattle.stn_net.specs.Difference.{Difference, NamesEvents};
+ghost use Rattle.stn_records.specs.Content.{no_content};
+ghost use Rattle.stn_matrix.specs.Tightest.{IsExact};
+ghost use Rattle.stn_lift.specs.PlanSource.{base_bounds, events_of};
+ghost use Rattle.stn_replica.specs.Bounds.{bounds_of, live_bounds, RecordsName};
+ghost use Rattle.stn_replica.specs.Invariant.{IsKnown};
+ghost use Rattle.stn_replica.specs.Work.{is_risen, risen, KeepsLive};
+
+use std::alloc::Allocator;
+use stn_lift::Base;
+use stn_matrix::Matrix;
+use stn_net::Bound;
+use stn_records::{Id, Records};
+use stn_time::Memory;
+
+// The matrix of the plan's own bounds.
+pub fn opening_matrix<A: Allocator + Copy>(alloc: A, base: &Base<A>) -> Result<Matrix<A>, Memory>
+    ensures exact { IfOk result (λ matrix. IsExact (base_bounds base.now) matrix) }
+    ensures events { IfOk result (λ matrix. matrix.events ≡ events_of base.now) }
+{
+    let events = base.events();
+    let mut matrix = Matrix::bare(alloc, events)?;
+    let others = &base.bounds()[usize::from(events)..];
+    for bound in others {
+        let _fits = matrix.tighten(*bound);
+    }
+    Ok(matrix)
+}
+
+// Takes the opening matrix in place of the current one, and then the bounds of the live records.
+// Whether all these have a schedule.
+pub fn rebuild<A: Allocator + Copy>(
+    opening: &Matrix<A>,
+    current: &mut Matrix<A>,
+    records: &Records<A>,
+    none: &Records<A>,
+) -> bool
+    requires events { current.old.events ≡ opening.now.events }
+    requires named { RecordsName current.old.events records.now }
+    requires nothing { none.now ≡ no_content }
+    requires counted { current.old.steps ≤ u64.MAX }
+    ensures known { (bounds : List Difference) → IsExact bounds opening.now → IsKnown (bounds ++ live_bounds records.now) current.new result }
+    ensures events { current.new.events ≡ current.old.events }
+    ensures counted { current.new.steps ≤ u64.MAX }
+{
+    current.copy_from(opening);
+    tighten_risen(current, none, records)
+}
+
+// Takes the bounds of the records that have become live, up to one with which the bounds have no
+// schedule. Whether there is no such bound.
+pub fn tighten_risen<A: Allocator + Copy>(
+    matrix: &mut Matrix<A>,
+    before: &Records<A>,
+    after: &Records<A>,
+) -> bool
+    requires named { RecordsName matrix.old.events after.now }
+    requires counted { matrix.old.steps ≤ u64.MAX }
+    ensures known { (bounds : List Difference) → IsExact bounds matrix.old
+        → IsKnown (bounds ++ bounds_of (risen before.now after.now)) matrix.new result }
+    ensures events { matrix.new.events ≡ matrix.old.events }
+    ensures counted { matrix.new.steps ≤ u64.MAX }
+    ensures least { matrix.old.steps ≤ matrix.new.steps }
+    ensures most { matrix.new.steps ≤ matrix.old.steps + length (risen before.now after.now) }
+{
+    for place in 0..after.known() {
+        if let Some(entry) = after.record_at(place) {
+            let (id, _, bound) = entry;
+            if has_risen(before, after, id) {
+                if !matrix.tighten(bound) {
+                    return false;
+                }
+            }
+        }
+    }
+    true
+}
+
+// Whether the record of the id has become live.
+fn has_risen<A: Allocator + Copy>(before: &Records<A>, after: &Records<A>, id: Id) -> bool
+    ensures { result ≡ is_risen before.now after.now id }
+{
+    after.is_live(id) && !before.is_live(id)
+}
+
+// Whether each record that was live still is.
+pub fn keeps_live<A: Allocator + Copy>(before: &Records<A>, after: &Records<A>) -> bool
+    ensures { IsTrue result ↔ KeepsLive before.now after.now }
+{
+    for place in 0..before.known() {
+        if let Some(entry) = before.record_at(place) {
+            let (id, _, _) = entry;
+            if has_risen(after, before, id) {
+                return false;
+            }
+        }
+    }
+    true
+}
+
+// Whether each record names the origin or one of so many events.
+pub fn all_name_events<A: Allocator + Copy>(records: &Records<A>, events: u16) -> bool
+    ensures { IsTrue result ↔ RecordsName events records.now }
+{
+    for place in 0..records.known() {
+        if let Some(entry) = records.record_at(place) {
+            if !names_events(&entry.2, events) {
+                return false;
+            }
+        }
+    }
+    true
+}
+
+// Whether both events of the bound are the origin or one of so many others.
+fn names_events(bound: &Bound, events: u16) -> bool
+    ensures { IsTrue result ↔ NamesEvents events bound.now }
+{
+    bound.from().number() <= events && bound.to().number() <= events
+}

@@ -1,0 +1,258 @@
+ghost use Rattle.std.specs.Prelude.{◌≡◌, ◌+◌, ◌≤◌, pos, true, false, length, All, Some, IfOk, IfErr, IfSome, IfNone, OnOk, OnErr, MatchOption};
+ghost use Rattle.std.specs.Rc.{rc_value};
+ghost use Rattle.stn_net.specs.Schedule.{HasSchedule, IsSchedule, Meets, NamesTimes, times_of};
+ghost use Rattle.stn_matrix.specs.Tightest.{IsExact};
+ghost use Rattle.stn_windows.specs.Window.{IsWindow};
+ghost use Rattle.stn_lift.specs.PlanSource.{events_of};
+ghost use Rattle.stn_records.specs.Content.{no_content, is_known, one_record, one_tombstone, with_record, with_tombstone, join_contents};
+ghost use Rattle.stn_replica.specs.Bounds.{all_bounds, live_bounds, RecordsName};
+ghost use Rattle.stn_replica.specs.Names.{IsFirstBroken, IsFirstBrokenRecord, RecordsTimed};
+ghost use Rattle.stn_replica.specs.Held.{plain};
+ghost use Rattle.stn_replica.specs.Work.{SparesWork};
+ghost use Rattle.stn_replica.specs.Faults.{next_id, CanAdd, IsAddFault, IsWithdrawFault, CanTake, IsTakeFault};
+
+use crate::faults::ReplicaFault;
+use crate::matrices::{all_name_events, keeps_live, opening_matrix, rebuild, tighten_risen};
+use crate::names::BoundName;
+use std::alloc::Allocator;
+use std::marker::Model;
+use std::rc::Rc;
+use stn_lift::Base;
+use stn_matrix::Matrix;
+use stn_net::{Bound, Event, first_broken};
+use stn_records::{Id, Mark, Records, Site};
+use stn_time::{Memory, Ms};
+use stn_windows::window;
+
+/// One site's copy of a plan: the plan's base, what the site holds, and how far apart the events
+/// can be.
+#[derive(Drop)]
+pub struct Replica<A: Allocator> {
+    alloc: A,
+    site: Site,
+    base: Rc<Base<A>, A>,
+    records: Records<A>,
+    // The matrix of the plan's own bounds.
+    opening: Matrix<A>,
+    // The matrix of all bounds, where they have a schedule.
+    current: Matrix<A>,
+    possible: bool,
+}
+
+impl<A: Allocator> Model for Replica<A> {
+    ghost use Rattle.std.specs.Rc.{rc_value};
+    ghost use Rattle.stn_replica.specs.Held.{Held, coded_held};
+    ghost use Rattle.stn_replica.specs.Invariant.{IsSoundReplica};
+
+    ghost Value = { Held };
+
+    ghost coded = { coded_held };
+
+    ghost view = { λ r. record { site = r.site; source = rc_value r.base; state = r.records; steps = r.current.steps } };
+
+    ghost invariant = { λ r. IsSoundReplica (rc_value r.base) r.records r.opening r.current r.possible };
+}
+
+impl<A: Allocator + Copy> Replica<A> {
+    /// The replica of a site that holds nothing yet.
+    pub fn new(alloc: A, site: Site, base: Rc<Base<A>, A>) -> Result<Replica<A>, Memory>
+        ensures site { IfOk result (λ replica. replica.site ≡ site) }
+        ensures source { IfOk result (λ replica. replica.source ≡ rc_value base) }
+        ensures empty { IfOk result (λ replica. replica.state ≡ no_content) }
+    {
+        let opening = opening_matrix(alloc, &base)?;
+        let mut current = Matrix::bare(alloc, base.events())?;
+        current.copy_from(&opening);
+        Ok(Replica {
+            alloc,
+            site,
+            base,
+            records: Records::new(alloc),
+            opening,
+            current,
+            possible: true,
+        })
+    }
+
+    /// Adds a bound, under the site's next id, which is returned. A bound that contradicts others is
+    /// added like any other.
+    ///
+    /// Refused in this order: `NoEvent`, `SameEvent`, `Crossed`, `CounterSpent`, `Full`, `Memory`.
+    /// After a fault all is as before.
+    pub fn add(&mut self, from: Event, to: Event, lo: Ms, hi: Ms) -> Result<Id, ReplicaFault>
+        ensures id { IfOk result (λ id. id ≡ next_id self.old) }
+        ensures added { OnOk result (self.new.state ≡ with_record self.old.state (next_id self.old) (plain from to lo hi)) }
+        ensures joined { OnOk result (join_contents self.old.state (one_record (next_id self.old) (plain from to lo hi)) ≡ Some self.new.state) }
+        ensures site { OnOk result (self.new.site ≡ self.old.site) }
+        ensures source { OnOk result (self.new.source ≡ self.old.source) }
+        ensures work { OnOk result (SparesWork self.old self.new) }
+
+        ensures accepted { OnOk result (CanAdd self.old (record { from = from; to = to; lo = lo; hi = hi })) }
+        ensures fault { IfErr result (IsAddFault self.old (record { from = from; to = to; lo = lo; hi = hi })) }
+        ensures kept { OnErr result (self.new ≡ self.old) }
+    {
+        let bound = Bound::new(self.base.events(), from, to, lo, hi)?;
+        let counter = self.records.next_counter(self.site)?;
+        let id = Id::new(self.site, counter).unwrap();
+        self.records.add(id, Mark::Plain, bound)?;
+        if self.possible {
+            self.possible = self.current.tighten(bound);
+        }
+        Ok(id)
+    }
+
+    /// Withdraws a known record for good; one that is withdrawn already changes nothing.
+    ///
+    /// Refused in this order: `Unknown`, where the id is not known; `Memory`. After a fault all is as
+    /// before.
+    pub fn withdraw(&mut self, id: Id) -> Result<(), ReplicaFault>
+        ensures withdrawn { OnOk result (self.new.state ≡ with_tombstone self.old.state id) }
+        ensures joined { OnOk result (join_contents self.old.state (one_tombstone id) ≡ Some self.new.state) }
+        ensures site { OnOk result (self.new.site ≡ self.old.site) }
+        ensures source { OnOk result (self.new.source ≡ self.old.source) }
+        ensures work { OnOk result (SparesWork self.old self.new) }
+
+        ensures accepted { OnOk result (is_known self.old.state id ≡ true) }
+        ensures fault { IfErr result (IsWithdrawFault self.old id) }
+        ensures kept { OnErr result (self.new ≡ self.old) }
+    {
+        let was_live = self.records.is_live(id);
+        self.records.withdraw(id)?;
+        if was_live {
+            let none = Records::new(self.alloc);
+            self.possible = rebuild(&self.opening, &mut self.current, &self.records, &none);
+        }
+        Ok(())
+    }
+
+    /// Takes in all that another site holds.
+    ///
+    /// Refused in this order: `NoEvent`, where a record names an event that the plan has not;
+    /// `Clash`, with the least id that has two different records; `Full`, where both know more than
+    /// 4,096 ids together; `Memory`. After a fault all is as before.
+    pub fn take(&mut self, other: &Records<A>) -> Result<(), ReplicaFault>
+        ensures joined { OnOk result (join_contents self.old.state other.now ≡ Some self.new.state) }
+        ensures site { OnOk result (self.new.site ≡ self.old.site) }
+        ensures source { OnOk result (self.new.source ≡ self.old.source) }
+        ensures work { OnOk result (SparesWork self.old self.new) }
+
+        ensures accepted { OnOk result (CanTake self.old other.now) }
+        ensures fault { IfErr result (IsTakeFault self.old other.now) }
+        ensures kept { OnErr result (self.new ≡ self.old) }
+    {
+        if !all_name_events(other, self.base.events()) {
+            return Err(ReplicaFault::NoEvent);
+        }
+        let records = self.records.joined(other)?;
+        if !keeps_live(&self.records, &records) {
+            let none = Records::new(self.alloc);
+            self.possible = rebuild(&self.opening, &mut self.current, &records, &none);
+        } else if self.possible {
+            self.possible = tighten_risen(&mut self.current, &self.records, &records);
+        }
+        self.records = records;
+        Ok(())
+    }
+
+    /// The earliest and the latest time of an event; none where all bounds have no schedule.
+    pub fn window(&self, event: Event) -> Option<(Ms, Ms)>
+        requires { event ≤ events_of self.now.source }
+        ensures { MatchOption result (HasSchedule (all_bounds self.now.source self.now.state) → ⊥)
+            (λ window. HasSchedule (all_bounds self.now.source self.now.state)
+            × IsWindow (all_bounds self.now.source self.now.state) event window.0 window.1) }
+    {
+        if self.possible {
+            Some(window(&self.current, event))
+        } else {
+            None
+        }
+    }
+
+    /// The name of the first of all bounds that the times break; none where they are a schedule.
+    /// There is one time for each event, the origin's, 0, first.
+    pub fn check(&self, times: &[Ms]) -> Option<BoundName>
+        requires origin { times_of times.now 0 ≡ pos 0 }
+        requires one_each { length times.now ≡ events_of self.now.source + 1 }
+        ensures { MatchOption result (IsSchedule (all_bounds self.now.source self.now.state) (times_of times.now))
+            (IsFirstBroken self.now.source self.now.state (times_of times.now)) }
+    {
+        if let Some(place) = first_broken(self.base.bounds(), times) {
+            return Some(BoundName::Plan(place as u32 + 1));
+        }
+        match first_broken_record(&self.records, times) {
+            Some(id) => Some(BoundName::Record(id)),
+            None => None,
+        }
+    }
+
+    /// What the site holds.
+    pub fn records(&self) -> &Records<A>
+        ensures value { result.now ≡ self.now.state }
+        ensures named { RecordsName (events_of self.now.source) self.now.state }
+    {
+        &self.records
+    }
+
+    /// The site.
+    pub fn site(&self) -> Site
+        ensures { result ≡ self.now.site }
+    {
+        self.site
+    }
+
+    /// The plan's base.
+    pub fn base(&self) -> &Base<A>
+        ensures { result.now ≡ self.now.source }
+    {
+        &self.base
+    }
+
+    /// The matrix of all bounds; none where they have no schedule.
+    pub fn current(&self) -> Option<&Matrix<A>>
+        ensures exact { MatchOption result (HasSchedule (all_bounds self.now.source self.now.state) → ⊥)
+            (λ matrix. IsExact (all_bounds self.now.source self.now.state) matrix.now) }
+        ensures events { IfSome result (λ matrix. matrix.now.events ≡ events_of self.now.source) }
+        ensures steps { IfSome result (λ matrix. matrix.now.steps ≡ self.now.steps) }
+    {
+        if self.possible {
+            Some(&self.current)
+        } else {
+            None
+        }
+    }
+
+    // The allocator that the replica was made with.
+    pub(crate) fn alloc(&self) -> A {
+        self.alloc
+    }
+}
+
+// The id of the first live record whose bound the times break.
+fn first_broken_record<A: Allocator + Copy>(records: &Records<A>, times: &[Ms]) -> Option<Id>
+    requires origin { times_of times.now 0 ≡ pos 0 }
+    requires named { RecordsTimed times.now records.now }
+    ensures none { IfNone result (All (Meets (times_of times.now)) (live_bounds records.now)) }
+    ensures found { IfSome result (IsFirstBrokenRecord records.now (times_of times.now)) }
+{
+    for place in 0..records.known() {
+        if let Some(entry) = records.record_at(place) {
+            let (id, _, bound) = entry;
+            if records.is_live(id) {
+                if is_broken(bound, times) {
+                    return Some(id);
+                }
+            }
+        }
+    }
+    None
+}
+
+// Whether the times break the bound.
+fn is_broken(bound: Bound, times: &[Ms]) -> bool
+    requires origin { times_of times.now 0 ≡ pos 0 }
+    requires named { NamesTimes times.now bound }
+    ensures met { result ≡ false → Meets (times_of times.now) bound }
+    ensures broken { result ≡ true → ¬ Meets (times_of times.now) bound }
+{
+    first_broken(&[bound], times).is_some()
+}

@@ -1,0 +1,177 @@
+ghost use Rattle.std.specs.Prelude.{◌≡◌, ℕ, ◌+◌, ◌<◌, ◌≤◌, ◌++◌, ◌^◌, List, codes, length, map, All, IfOk, OnOk, OnErr};
+ghost use Rattle.std.specs.FinMap.{keys};
+ghost use Rattle.std.specs.List.{flat_map};
+ghost use Rattle.stn_net.specs.Difference.{Difference};
+ghost use Rattle.stn_net.specs.Schedule.{HasSchedule};
+ghost use Rattle.stn_matrix.specs.Tightest.{IsExact};
+ghost use Rattle.stn_lift.specs.PlanSource.{events_of};
+ghost use Rattle.stn_records.specs.Content.{known_count, live_of, listed};
+ghost use Rattle.stn_replica.specs.Bounds.{all_bounds, RecordsName};
+ghost use Rattle.stn_replica.specs.Lines.{line, conflict_line, link_line};
+ghost use Rattle.stn_replica.specs.Report.{is_done_in, IsWindowLines, IsReport, IsConflictPart, heading};
+
+use crate::lines::{
+    append_conflict_line, append_link_line, append_plan_line, append_records_line,
+    append_window_line,
+};
+use crate::replica::Replica;
+use std::alloc::Allocator;
+use stn_conflict::{Cycle, Link, cycle};
+use stn_matrix::Matrix;
+use stn_net::{Bound, Event};
+use stn_records::{Id, Mark, Records};
+use stn_time::Memory;
+use stn_windows::window;
+
+impl<A: Allocator + Copy> Replica<A> {
+    /// Appends the report: how many steps, events, live and withdrawn records there are; then, where
+    /// all bounds have a schedule, the window of each event, and else one cycle of bounds that
+    /// contradict each other. It depends on the plan and the state alone. For want of memory it
+    /// appends nothing.
+    pub fn report<B: Allocator>(&self, out: &mut Vec<u8, B>) -> Result<(), Memory>
+        ensures reported { OnOk result ((text : List ℕ) × IsReport self.now.source self.now.state text × (out.new.items ≡ out.old.items ++ text)) }
+        ensures kept { OnErr result (out.new.items ≡ out.old.items) }
+    {
+        let text = self.text()?;
+        out.extend_from_slice(&text)?;
+        Ok(())
+    }
+
+    // The report.
+    fn text(&self) -> Result<Vec<u8, A>, Memory>
+        ensures { IfOk result (λ text. IsReport self.now.source self.now.state text.items) }
+    {
+        let live = self.records().live()?;
+        let mut text = Vec::new(self.alloc());
+        self.append_heading(&live, &mut text)?;
+        match self.current() {
+            Some(matrix) => append_windows(matrix, &live, &mut text)?,
+            None => self.append_conflict(&live, &mut text)?,
+        }
+        Ok(text)
+    }
+
+    fn append_heading(&self, live: &[(Id, Mark, Bound)], out: &mut Vec<u8, A>) -> Result<(), Memory>
+        requires { live.now ≡ map listed (live_of self.now.state) }
+        ensures { OnOk result (out.new.items ≡ out.old.items ++ heading self.now.source self.now.state) }
+    {
+        let withdrawn = withdrawn_count(self.records());
+        append_plan_line(out, self.base().steps(), self.base().events())?;
+        append_records_line(out, live.len() as u16, withdrawn)?;
+        Ok(())
+    }
+
+    fn append_conflict(
+        &self,
+        live: &[(Id, Mark, Bound)],
+        out: &mut Vec<u8, A>,
+    ) -> Result<(), Memory>
+        requires live { live.now ≡ map listed (live_of self.now.state) }
+        requires named { RecordsName (events_of self.now.source) self.now.state }
+        requires conflict { HasSchedule (all_bounds self.now.source self.now.state) → ⊥ }
+        ensures { OnOk result ((text : List ℕ) × IsConflictPart self.now.source self.now.state text × (out.new.items ≡ out.old.items ++ text)) }
+    {
+        let all_ids = ids_of(self.alloc(), live)?;
+        let all_others = bounds_of(self.alloc(), live)?;
+        let ids = all_ids.as_slice();
+        let others = all_others.as_slice();
+        let base = self.base().bounds();
+        let found = cycle(self.alloc(), self.base().events(), base, others)?;
+        match found {
+            Some(named) => append_cycle(base, ids, others, &named, out)?,
+            None => {}
+        }
+        Ok(())
+    }
+}
+
+fn ids_of<A: Allocator>(alloc: A, records: &[(Id, Mark, Bound)]) -> Result<Vec<Id, A>, Memory>
+    ensures { IfOk result (λ ids. ids.items ≡ map (λ entry. entry.0) records.now) }
+{
+    records.iter().map(|entry| entry.0).collect(alloc)
+}
+
+fn bounds_of<A: Allocator>(alloc: A, records: &[(Id, Mark, Bound)]) -> Result<Vec<Bound, A>, Memory>
+    ensures { IfOk result (λ bounds. bounds.items ≡ map (λ entry. entry.2) records.now) }
+{
+    records.iter().map(|entry| entry.2).collect(alloc)
+}
+
+// How many ids are withdrawn.
+fn withdrawn_count<A: Allocator + Copy>(records: &Records<A>) -> u16
+    ensures value { result ≡ length (keys records.now.tombstones) }
+    ensures limited { known_count records.now ≤ 4096 }
+{
+    let mut count = 0;
+    for place in 0..records.known() {
+        if records.tomb_at(place).is_some() {
+            count = place as u16 + 1;
+        }
+    }
+    count
+}
+
+// `ok` and the windows of the matrix's events.
+fn append_windows<A: Allocator + Copy>(
+    matrix: &Matrix<A>,
+    live: &[(Id, Mark, Bound)],
+    out: &mut Vec<u8, A>,
+) -> Result<(), Memory>
+    ensures { OnOk result ((bounds : List Difference) → IsExact bounds matrix.now → (text : List ℕ)
+        × IsWindowLines bounds (is_done_in live.now) matrix.now.events text
+        × (out.new.items ≡ out.old.items ++ (line (codes "ok") ++ text))) }
+{
+    out.extend_from_slice(b"ok\n")?;
+    for before in 0..matrix.events() {
+        let event = Event::new(before + 1).unwrap();
+        let (earliest, latest) = window(matrix, event);
+        append_window_line(out, event, earliest, latest, is_done(live, event))?;
+    }
+    Ok(())
+}
+
+// Whether one of the records says that the event is done.
+fn is_done(records: &[(Id, Mark, Bound)], event: Event) -> bool
+    ensures { result ≡ is_done_in records.now event }
+{
+    records
+        .iter()
+        .any(|entry| entry.1 == Mark::Done && entry.2.to() == event)
+}
+
+// The sum of the cycle, and then its links.
+fn append_cycle<A: Allocator>(
+    base: &[Bound],
+    ids: &[Id],
+    others: &[Bound],
+    found: &Cycle<A>,
+    out: &mut Vec<u8, A>,
+) -> Result<(), Memory>
+    requires there { All (λ link. link.place < length base.now + length others.now) found.now.links.items }
+    requires few { length base.now < 2 ^ 32 }
+    requires one_each { length ids.now ≡ length others.now }
+    ensures { OnOk result (out.new.items ≡ out.old.items
+        ++ (conflict_line found.now.sum ++ flat_map (link_line base.now ids.now others.now) found.now.links.items)) }
+{
+    append_conflict_line(out, found.sum)?;
+    append_link_lines(base, ids, others, &found.links, out)?;
+    Ok(())
+}
+
+fn append_link_lines<B: Allocator>(
+    base: &[Bound],
+    ids: &[Id],
+    others: &[Bound],
+    links: &[Link],
+    out: &mut Vec<u8, B>,
+) -> Result<(), Memory>
+    requires there { All (λ link. link.place < length base.now + length others.now) links.now }
+    requires few { length base.now < 2 ^ 32 }
+    requires one_each { length ids.now ≡ length others.now }
+    ensures { OnOk result (out.new.items ≡ out.old.items ++ flat_map (link_line base.now ids.now others.now) links.now) }
+{
+    for link in links {
+        append_link_line(out, base, ids, others, *link)?;
+    }
+    Ok(())
+}

@@ -1,0 +1,12 @@
+use Rattle.std.proofs.Common.{◌≡◌, ◌∙◌, drop, fold, arith, sym, ap}
+use Rattle.std.proofs.lemmas.List.{drop_all}
+use Rattle.stn_tree.specs.Names.{hash_writes}
+use Rattle.stn_tree.proofs.NameLemmas.{hashed-at, hashed-end}
+use Rattle.stn_tree.proofs.name.hash_folded.Goals as goal
+
+pub loop-byte-preserved : goal.loop-byte-preserved
+loop-byte-preserved g c =
+    hashed-at g.H.Hasher.write c.loop-byte.state c.write_u8.new.self c.loop-byte.byte-index c.to_ascii_lowercase.result c.args.word.now c.loop-byte-test.true c.to_ascii_lowercase.ensures.value c.write_u8.ensures ∙ c.loop-byte.invariant
+
+pub returns : goal.returns
+returns g c = hashed-end g.H.Hasher.write c.loop-byte.state c.loop-byte.byte-index c.args.word.now c.loop-byte-test.false ∙ c.loop-byte.invariant

@@ -1,0 +1,5 @@
+pub mod Bytes
+pub mod Names
+pub mod Trees
+pub mod Scan
+pub mod Cursors
