@@ -6,8 +6,6 @@ mod actions;
 mod atom;
 mod condition;
 mod domain;
-#[cfg(test)]
-mod examples;
 mod fault;
 mod fields;
 mod plain;
