@@ -5,5 +5,3 @@
 mod devices;
 #[cfg(test)]
 mod scripts;
-#[cfg(test)]
-mod sites;

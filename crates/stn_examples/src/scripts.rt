@@ -48,6 +48,18 @@ fn check_times(rt: HostRuntime) {
 }
 
 #[test]
+fn refused_lines(rt: HostRuntime) {
+    let script =
+        b"steps 1\nsites 1\n1 add s1 s1 1.000 2.000\n1 add s1 e1 3.000 2.000\n1 add s1 e9 3.000 2.000\n1 add s9 s9 0.000 0.000\n1 add s1 e1 0.0005 1.000\n2 check 0.000 0.000\n1 add s1\n";
+    let text = b"refused 5\nrefused 6\nrefused 4\nrefused 4\nrefused 2\nrefused 71\nrefused 70 9\n";
+    let ran = Ran {
+        commands: 7,
+        refused: 7,
+    };
+    assert!(rt; prints(rt.alloc(), script, text, ran));
+}
+
+#[test]
 fn plan_faults(rt: HostRuntime) {
     let ran = Ran {
         commands: 0,
@@ -88,7 +100,7 @@ fn lines_of_a_script(rt: HostRuntime) {
         commands: 0,
         refused: 1,
     };
-    let headings: [(&[u8], &[u8]); 10] = [
+    let headings: [(&[u8], &[u8]); 11] = [
         (b"", b"refused 70 1\n"),
         (b"\n# no heading\n", b"refused 70 3\n"),
         (b"1 check\nsteps 0\nsites 1\n", b"refused 70 1\n"),
@@ -98,6 +110,7 @@ fn lines_of_a_script(rt: HostRuntime) {
         (b"steps 99999\nsites 1\n", b"refused 34\n"),
         (b"domain\n", b"refused 70 1\n"),
         (b"steps 0\nsites 0\n", b"refused 71\n"),
+        (b"steps 0\nsites 2\n", b"refused 71\n"),
         (b"steps 0\nsites 65\n", b"refused 71\n"),
     ];
     for (script, text) in headings {

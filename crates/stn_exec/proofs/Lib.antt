@@ -1,5 +1,4 @@
 pub mod Places
-pub mod Steps
+pub mod Plans
 pub mod Events
 pub mod Scripts
-pub mod Outputs

@@ -1,13 +1,9 @@
-ghost use Rattle.std.specs.Prelude.{◌≡◌, ◌↔◌, ◌++◌, [], ◌∷◌, IsTrue, OnOk, codes, decimal};
-ghost use Rattle.stn_records.specs.Id.{id_text};
-ghost use Rattle.stn_replica.specs.Names.{name_text};
+ghost use Rattle.std.specs.Prelude.{◌≡◌, ◌↔◌, ◌++◌, [], ◌∷◌, IsTrue, OnOk, decimal};
 ghost use Rattle.stn_exec.specs.Answer.{refusal_code, refusal_text, answer_text, is_refusal};
 
 use itoa::Buffer;
 use std::alloc::Allocator;
 use stn_net::BoundFault;
-use stn_records::Id;
-use stn_replica::BoundName;
 use stn_time::{Memory, TimeFault};
 
 /// Why a line is refused.
@@ -19,32 +15,31 @@ pub enum Refusal {
     Bound(BoundFault),
     /// A bare plan has too many steps.
     TooManySteps,
-    /// This id has two different records.
-    Clash(Id),
-    /// Too many ids would be known.
+    /// No further bound is taken.
     Full,
-    /// The id is not known.
-    Unknown,
-    /// The site's counter is spent.
-    CounterSpent,
     /// The line of this number has another form.
     Line(u32),
     /// There is no such site.
     NoSite,
 }
 
-/// What a command answers.
+/// The name of a bound.
+#[derive(Clone, Copy)]
+pub enum BoundName {
+    /// One of the plan's own bounds, by its number from 1.
+    Plan(u32),
+    /// An added bound, by its number from 1.
+    Added(u32),
+}
+
+/// What a command prints.
 #[derive(Clone, Copy)]
 pub enum Answer {
-    /// The bound was added as the record of this id.
-    Added(Id),
-    /// The record of this id was withdrawn.
-    Withdrawn(Id),
-    /// The site took in what the other holds.
-    Merged,
+    /// The bound of this number was added.
+    Added(u32),
     /// The times are a schedule.
     Schedule,
-    /// The times break the bound of this name.
+    /// The times break a bound.
     Broken(BoundName),
     /// The command is refused.
     Refused(Refusal),
@@ -63,10 +58,7 @@ impl Refusal {
             Refusal::Bound(BoundFault::SameEvent) => 5,
             Refusal::Bound(BoundFault::Crossed) => 6,
             Refusal::TooManySteps => 34,
-            Refusal::Clash(_) => 40,
             Refusal::Full => 41,
-            Refusal::Unknown => 42,
-            Refusal::CounterSpent => 43,
             Refusal::Line(_) => 70,
             Refusal::NoSite => 71,
         }
@@ -77,7 +69,6 @@ impl Refusal {
         ensures { OnOk result (out.new.items ≡ out.old.items ++ refusal_text self) }
     {
         match self {
-            Refusal::Clash(id) => append_id_line(out, b"refused 40 ", id),
             Refusal::Line(line) => append_line(out, b"refused 70 ", line),
             other => append_line(out, b"refused ", other.code()),
         }
@@ -86,34 +77,27 @@ impl Refusal {
 
 impl Answer {
     /// Appends the printed line.
-    pub fn print<A: Allocator>(&self, out: &mut Vec<u8, A>) -> Result<(), Memory>
-        ensures { OnOk result (out.new.items ≡ out.old.items ++ answer_text self.now) }
+    pub fn print<A: Allocator>(self, out: &mut Vec<u8, A>) -> Result<(), Memory>
+        ensures { OnOk result (out.new.items ≡ out.old.items ++ answer_text self) }
     {
         match self {
-            Answer::Added(id) => append_id_line(out, b"added ", *id),
-            Answer::Withdrawn(id) => append_id_line(out, b"withdrawn ", *id),
-            Answer::Merged => out.extend_from_slice(b"merged\n"),
+            Answer::Added(number) => append_line(out, b"added 1.", number),
             Answer::Schedule => out.extend_from_slice(b"schedule\n"),
-            Answer::Broken(name) => append_broken(out, *name),
+            Answer::Broken(BoundName::Plan(number)) => append_line(out, b"broken plan.", number),
+            Answer::Broken(BoundName::Added(number)) => append_line(out, b"broken 1.", number),
             Answer::Refused(refusal) => refusal.print(out),
         }
     }
 
     /// Whether the command was refused.
-    pub fn is_refusal(&self) -> bool
-        ensures { result ≡ is_refusal self.now }
+    pub fn is_refusal(self) -> bool
+        ensures { result ≡ is_refusal self }
     {
-        matches!(self, Answer::Refused(_))
+        match self {
+            Answer::Refused(_) => true,
+            Answer::Added(_) | Answer::Schedule | Answer::Broken(_) => false,
+        }
     }
-}
-
-// Appends the line that names a broken bound.
-fn append_broken<A: Allocator>(out: &mut Vec<u8, A>, name: BoundName) -> Result<(), Memory>
-    ensures { OnOk result (out.new.items ≡ out.old.items ++ (codes "broken " ++ (name_text name ++ 10 ∷ []))) }
-{
-    out.extend_from_slice(b"broken ")?;
-    name.print(out)?;
-    out.extend_from_slice(b"\n")
 }
 
 // Appends a line of these words and the number's decimal form.
@@ -124,14 +108,5 @@ fn append_line<A: Allocator>(out: &mut Vec<u8, A>, words: &[u8], number: u32) ->
     let digits = buffer.format(number).as_bytes();
     out.extend_from_slice(words)?;
     out.extend_from_slice(digits)?;
-    out.extend_from_slice(b"\n")
-}
-
-// Appends a line of these words and the id's printed form.
-fn append_id_line<A: Allocator>(out: &mut Vec<u8, A>, words: &[u8], id: Id) -> Result<(), Memory>
-    ensures { OnOk result (out.new.items ≡ out.old.items ++ (words.now ++ (id_text id ++ 10 ∷ []))) }
-{
-    out.extend_from_slice(words)?;
-    id.print(out)?;
     out.extend_from_slice(b"\n")
 }

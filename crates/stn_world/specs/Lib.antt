@@ -1,3 +1,0 @@
-pub mod World
-pub mod Sites
-pub mod Refused

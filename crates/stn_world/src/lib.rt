@@ -1,8 +1,0 @@
-//! Several sites over one plan.
-#![tactic(auto)]
-
-pub use faults::{SitesFault, WorldFault};
-pub use world::World;
-
-mod faults;
-mod world;
