@@ -8,7 +8,6 @@ use std::alloc::Allocator;
 use std::process::Abort;
 use std::test::Fail;
 use stn_net::{Bound, Event};
-use stn_refusing::Refusing;
 use stn_time::{HORIZON, Ms};
 
 // The horizon bounds of so many events.
@@ -170,27 +169,36 @@ fn ties_of_sides(rt: HostRuntime) -> Result<(), Fail> {
     Ok(())
 }
 
+// Bounds that say the same at several places: the first place counts.
+#[test]
+fn ties_of_parallel_bounds(rt: HostRuntime) -> Result<(), Fail> {
+    let parts = [(0, 1, -H, 3_000), (0, 1, -H, 3_000), (0, 1, 4_000, H)];
+    let found = find(rt.alloc(), 2, &parts)?;
+    expect(&rt, &found, &[lower(4), upper(2)], -1_000);
+
+    // A record that says what a horizon bound says comes after it.
+    let found = find(rt.alloc(), 2, &[(0, 1, 0, H), (0, 1, -H, -1)])?;
+    expect(&rt, &found, &[upper(3), lower(0)], -1);
+    Ok(())
+}
+
+// Both sides of a bound without slack are tight, and the one that leads back is no step, though it
+// stands before the link that is taken.
+#[test]
+fn ties_of_one_bound(rt: HostRuntime) -> Result<(), Fail> {
+    let exact = (1, 2, 5_000, 5_000);
+    let found = find(rt.alloc(), 2, &[exact, (0, 1, -H, 0), (0, 2, 6_000, H)])?;
+    expect(&rt, &found, &[lower(4), upper(3), upper(2)], -1_000);
+
+    let found = find(rt.alloc(), 2, &[(1, 2, 0, 0), (0, 2, -H, -1)])?;
+    expect(&rt, &found, &[upper(3), lower(1)], -1);
+    Ok(())
+}
+
 // A lower culprit, since the other side stands.
 #[test]
 fn lower_culprit(rt: HostRuntime) -> Result<(), Fail> {
     let found = find(rt.alloc(), 2, &[(0, 1, 1_000, 1_000), (0, 1, 2_000, 2_000)])?;
     expect(&rt, &found, &[lower(3), upper(2)], -1_000);
     Ok(())
-}
-
-#[test]
-fn want_of_memory(rt: HostRuntime) -> Result<(), Fail> {
-    let base = horizons(rt.alloc(), 2)?;
-    let extra = bounds(rt.alloc(), 2, &[(1, 2, 5_000, 5_000), (0, 2, -H, 4_000)])?;
-    let heap = Refusing::new(rt.alloc(), 0);
-    for number in 1..100 {
-        heap.refuse(number);
-        let found = cycle(&heap, 2, &base, &extra);
-        if heap.is_waiting() {
-            expect(&rt, &found?, &[upper(3), lower(2), lower(0)], -1_000);
-            return Ok(());
-        }
-        assert!(rt; found.is_err());
-    }
-    Err("more requests than there should be".into())
 }

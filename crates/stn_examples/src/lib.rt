@@ -5,3 +5,5 @@
 mod devices;
 #[cfg(test)]
 mod scripts;
+#[cfg(test)]
+mod sites;

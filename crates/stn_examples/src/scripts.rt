@@ -1,5 +1,6 @@
 use crate::devices::{EmptyLines, PieceReader, PieceWriter};
 use std::alloc::Global;
+use std::test::Fail;
 use stn_exec::{Counted, MOST_BYTES, Ran, RunFault, run};
 use stn_net::Event;
 use stn_refusing::Refusing;
@@ -48,18 +49,6 @@ fn check_times(rt: HostRuntime) {
 }
 
 #[test]
-fn refused_lines(rt: HostRuntime) {
-    let script =
-        b"steps 1\nsites 1\n1 add s1 s1 1.000 2.000\n1 add s1 e1 3.000 2.000\n1 add s1 e9 3.000 2.000\n1 add s9 s9 0.000 0.000\n1 add s1 e1 0.0005 1.000\n2 check 0.000 0.000\n1 add s1\n";
-    let text = b"refused 5\nrefused 6\nrefused 4\nrefused 4\nrefused 2\nrefused 71\nrefused 70 9\n";
-    let ran = Ran {
-        commands: 7,
-        refused: 7,
-    };
-    assert!(rt; prints(rt.alloc(), script, text, ran));
-}
-
-#[test]
 fn plan_faults(rt: HostRuntime) {
     let ran = Ran {
         commands: 0,
@@ -87,6 +76,27 @@ fn limits(rt: HostRuntime) {
 }
 
 #[test]
+fn full_and_spent(rt: HostRuntime) -> Result<(), Fail> {
+    let mut script = Vec::new(rt.alloc());
+    let mut text = Vec::new(rt.alloc());
+    script.extend_from_slice(b"steps 1\nsites 2\n")?;
+    for number in 1..4097u32 {
+        script.extend_from_slice(b"1 add z s1 * *\n")?;
+        text.extend_from_slice(format!(in rt.alloc(); "added 1.{number}\n")?.as_bytes())?;
+    }
+    script.extend_from_slice(b"1 add z s1 * *\n1 merge 2\n1 withdraw 1.1\n")?;
+    text.extend_from_slice(b"refused 41\nmerged\nwithdrawn 1.1\n")?;
+    script.extend_from_slice(b"2 add z s1 * *\n2 merge 1\n")?;
+    text.extend_from_slice(b"added 2.1\nrefused 41\n")?;
+    let ran = Ran {
+        commands: 4101,
+        refused: 2,
+    };
+    assert!(rt; prints(rt.alloc(), &script, &text, ran));
+    Ok(())
+}
+
+#[test]
 fn lines_of_a_script(rt: HostRuntime) {
     let plain = Ran {
         commands: 2,
@@ -100,7 +110,7 @@ fn lines_of_a_script(rt: HostRuntime) {
         commands: 0,
         refused: 1,
     };
-    let headings: [(&[u8], &[u8]); 11] = [
+    let headings: [(&[u8], &[u8]); 10] = [
         (b"", b"refused 70 1\n"),
         (b"\n# no heading\n", b"refused 70 3\n"),
         (b"1 check\nsteps 0\nsites 1\n", b"refused 70 1\n"),
@@ -110,7 +120,6 @@ fn lines_of_a_script(rt: HostRuntime) {
         (b"steps 99999\nsites 1\n", b"refused 34\n"),
         (b"domain\n", b"refused 70 1\n"),
         (b"steps 0\nsites 0\n", b"refused 71\n"),
-        (b"steps 0\nsites 2\n", b"refused 71\n"),
         (b"steps 0\nsites 65\n", b"refused 71\n"),
     ];
     for (script, text) in headings {

@@ -1,4 +1,5 @@
 pub mod Places
-pub mod Plans
+pub mod Steps
 pub mod Events
 pub mod Scripts
+pub mod Outputs

@@ -1,12 +1,13 @@
--- What a command prints.
+-- What a command answers.
 use Rattle.std.specs.Prelude.{ℕ, Bool, true, false, List, [], ◌∷◌, ◌++◌, codes, decimal}
 use Rattle.stn_time.specs.declared.reading.TimeFault.TheVariants.{Malformed, TooFine, OutOfRange}
 use Rattle.stn_net.specs.declared.bound.BoundFault.TheVariants.{NoEvent, SameEvent, Crossed}
+use Rattle.stn_records.specs.Id.{SiteCounter, id_text}
+use Rattle.stn_replica.specs.Names.{name_text}
 use Rattle.stn_exec.specs.declared.answer.Refusal.{Refusal}
 use Rattle.stn_exec.specs.declared.answer.Refusal.TheVariants as refusal
-use Rattle.stn_exec.specs.declared.answer.BoundName.TheVariants as name
 use Rattle.stn_exec.specs.declared.answer.Answer.{Answer}
-use Rattle.stn_exec.specs.declared.answer.Answer.TheVariants.{Added, Schedule, Broken, Refused}
+use Rattle.stn_exec.specs.declared.answer.Answer.TheVariants.{Added, Withdrawn, Merged, Schedule, Broken, Refused}
 
 -- the number that is printed for a refusal
 abbrev pub refusal_code : Refusal → ℕ
@@ -17,7 +18,10 @@ refusal_code (refusal.Bound NoEvent) = 4
 refusal_code (refusal.Bound SameEvent) = 5
 refusal_code (refusal.Bound Crossed) = 6
 refusal_code refusal.TooManySteps = 34
+refusal_code (refusal.Clash id) = 40
 refusal_code refusal.Full = 41
+refusal_code refusal.Unknown = 42
+refusal_code refusal.CounterSpent = 43
 refusal_code (refusal.Line line) = 70
 refusal_code refusal.NoSite = 71
 
@@ -25,17 +29,23 @@ refusal_code refusal.NoSite = 71
 abbrev pub line_with : List ℕ → ℕ → List ℕ
 line_with words number = words ++ (decimal number ++ 10 ∷ [])
 
+-- a line of these words and an id
+abbrev pub line_with_id : List ℕ → SiteCounter → List ℕ
+line_with_id words id = words ++ (id_text id ++ 10 ∷ [])
+
 -- the line that is printed for a refusal
 abbrev pub refusal_text : Refusal → List ℕ
+refusal_text (refusal.Clash id) = line_with_id (codes "refused 40 ") id
 refusal_text (refusal.Line line) = line_with (codes "refused 70 ") line
 refusal_text other = line_with (codes "refused ") (refusal_code other)
 
--- the line that a command prints
+-- the line that an answer is
 abbrev pub answer_text : Answer → List ℕ
-answer_text (Added number) = line_with (codes "added 1.") number
+answer_text (Added id) = line_with_id (codes "added ") id
+answer_text (Withdrawn id) = line_with_id (codes "withdrawn ") id
+answer_text Merged = codes "merged" ++ 10 ∷ []
 answer_text Schedule = codes "schedule" ++ 10 ∷ []
-answer_text (Broken (name.Plan number)) = line_with (codes "broken plan.") number
-answer_text (Broken (name.Added number)) = line_with (codes "broken 1.") number
+answer_text (Broken name) = codes "broken " ++ (name_text name ++ 10 ∷ [])
 answer_text (Refused refusal) = refusal_text refusal
 
 -- the command was refused

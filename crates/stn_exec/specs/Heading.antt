@@ -1,5 +1,6 @@
 -- What the code has read of a heading.
 use Rattle.std.specs.Prelude.{Result, Ok, Err}
+use Rattle.stn_lift.specs.PlanSource.{bare}
 use Rattle.stn_text.specs.Lines.{lines_of, words_of}
 use Rattle.stn_exec.specs.declared.heading.FoundLine.{FoundLine}
 use Rattle.stn_exec.specs.declared.heading.HeadingPart.{HeadingPart}
@@ -21,4 +22,4 @@ seen_part part = record { value = part.value; found = seen_found part.found }
 
 -- where the commands begin
 abbrev pub seen_start : CommandStart → Start
-seen_start start = record { events = start.events; number = start.number; lines = lines_of start.text.now }
+seen_start start = record { source = bare start.steps; sites = start.sites; number = start.number; lines = lines_of start.text.now }

@@ -1,5 +1,7 @@
 pub mod Answer
-pub mod Plan
 pub mod Command
+pub mod Sites
 pub mod Script
+pub mod Output
 pub mod Heading
+pub mod Refusals

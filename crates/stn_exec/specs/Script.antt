@@ -1,53 +1,55 @@
 -- A script: its heading, and the fold of its commands.
-use Rattle.std.specs.Prelude.{ℕ, ◌+◌, ◌*◌, Bool, true, ◌==◌, nat_le, if◌then◌else◌, List, [], ◌∷◌, ◌++◌, codes, slice_index, count_by, Option, Some, None, Result, Ok, Err}
+use Rattle.std.specs.Prelude.{ℕ, ◌+◌, ◌*◌, Bool, true, false, ◌==◌, ◌&&◌, nat_le, if◌then◌else◌, List, [], ◌∷◌, ◌++◌, codes, slice_index, count_by, Option, Some, None, Result, Ok, Err}
 use Rattle.std.specs.Str.{bytes_eq}
+use Rattle.stn_lift.specs.PlanSource.{PlanSource, bare, events_of}
+use Rattle.stn_records.specs.declared.id.TheConstants.{MOST_SITES}
 use Rattle.stn_text.specs.Lines.{is_line_end, lines_of, words_of}
 use Rattle.stn_text.specs.Numbers.{number_of}
+use Rattle.stn_world.specs.World.{World, content_at, held_at, opening_world}
 use Rattle.stn_exec.specs.declared.heading.TheConstants.{MOST_STEPS}
 use Rattle.stn_exec.specs.declared.answer.Refusal.{Refusal}
 use Rattle.stn_exec.specs.declared.answer.Refusal.TheVariants as refusal
 use Rattle.stn_exec.specs.declared.answer.Answer.TheVariants as answer
-use Rattle.stn_exec.specs.Answer.{answer_text, refusal_text, is_refusal}
-use Rattle.stn_exec.specs.Plan.{Plan, Step, and_then, added_bound, add_step, check_answer, times_from}
-use Rattle.stn_exec.specs.Command.{Action, add, check, Command, command_of}
+use Rattle.stn_exec.specs.Answer.{is_refusal}
+use Rattle.stn_exec.specs.Sites.{Reply, said, reported, Step, refused_step, has_site, and_then, added_bound, add_step, withdraw_step, merge_step, check_answer, times_from}
+use Rattle.stn_exec.specs.Command.{Action, add, withdraw, merge, report, check, Command, command_of}
 
--- what running lines leaves, prints and counts
+-- what running lines leaves, replies and counts
 pub record Outcome : Type 0 where
-  pub plan : Plan
-  pub text : List ℕ
+  pub world : World
+  pub replies : List Reply
   pub commands : ℕ
   pub refused : ℕ
 
 -- no line is run
-abbrev pub nothing_run : Plan → Outcome
-nothing_run plan = record { plan = plan; text = []; commands = 0; refused = 0 }
+abbrev pub nothing_run : World → Outcome
+nothing_run world = record { world = world; replies = []; commands = 0; refused = 0 }
 
 -- one outcome and then the next
 abbrev pub followed_by : Outcome → Outcome → Outcome
 followed_by first next = record {
-  plan = next.plan;
-  text = first.text ++ next.text;
+  world = next.world;
+  replies = first.replies ++ next.replies;
   commands = first.commands + next.commands;
   refused = first.refused + next.refused;
 }
 
--- an action on the plan of the one site
-abbrev pub action_step : Plan → Action → Step
-action_step plan (add from to lo hi) = add_step plan (added_bound plan from to lo hi)
-action_step plan (check times) = record { plan = plan; answer = check_answer plan (times_from times) }
+-- an action at a site
+abbrev pub action_step : World → ℕ → Action → Step
+action_step world site (add from to lo hi) = add_step world site (added_bound (held_at world site) from to lo hi)
+action_step world site (withdraw id) = withdraw_step world site id
+action_step world site (merge other) = merge_step world site other
+action_step world site report = record { world = world; reply = reported world.source (content_at world site) }
+action_step world site (check times) = record { world = world; reply = said (check_answer world.source (content_at world site) (times_from times)) }
 
--- a refused command changes nothing
-abbrev pub refused_step : Plan → Refusal → Step
-refused_step plan cause = record { plan = plan; answer = answer.Refused cause }
-
--- a command; site 1 is the only one
-abbrev pub command_step : Plan → Command → Step
-command_step plan command = if command.site == 1 then action_step plan command.action else refused_step plan refusal.NoSite
+-- a command of a site that is there
+abbrev pub command_step : World → Command → Step
+command_step world command = if has_site world command.site then action_step world command.site command.action else refused_step world refusal.NoSite
 
 -- a line that is a command, or has another form
-abbrev pub form_step : ℕ → Plan → Option Command → Step
-form_step number plan None = refused_step plan (refusal.Line number)
-form_step number plan (Some command) = command_step plan command
+abbrev pub form_step : ℕ → World → Option Command → Step
+form_step number world None = refused_step world (refusal.Line number)
+form_step number world (Some command) = command_step world command
 
 -- the line has no words, or is a comment
 abbrev pub is_skipped : List (List ℕ) → Bool
@@ -55,29 +57,34 @@ is_skipped [] = true
 is_skipped (word ∷ words) = slice_index word 0 == 35
 
 -- what a line that is not skipped does
-unfoldable pub line_step : ℕ → Plan → List (List ℕ) → Step
-line_step number plan words = form_step number plan (command_of plan.events words)
+unfoldable pub line_step : ℕ → World → List (List ℕ) → Step
+line_step number world words = form_step number world (command_of (events_of world.source) words)
 
--- a command is counted, and prints its answer
+-- the reply is a refusal
+abbrev pub refuses : Reply → Bool
+refuses (said answer) = is_refusal answer
+refuses (reported source state) = false
+
+-- a command is counted, and prints its reply
 abbrev pub step_outcome : Step → Outcome
 step_outcome step = record {
-  plan = step.plan;
-  text = answer_text step.answer;
+  world = step.world;
+  replies = step.reply ∷ [];
   commands = 1;
-  refused = if is_refusal step.answer then 1 else 0;
+  refused = if refuses step.reply then 1 else 0;
 }
 
 -- a line of a number
-unfoldable pub line_outcome : ℕ → Plan → List (List ℕ) → Outcome
-line_outcome number plan words =
-    if is_skipped words then nothing_run plan else step_outcome (line_step number plan words)
+unfoldable pub line_outcome : ℕ → World → List (List ℕ) → Outcome
+line_outcome number world words =
+    if is_skipped words then nothing_run world else step_outcome (line_step number world words)
 
 -- lines, one after the other; the first has this number
-unfoldable pub lines_outcome : ℕ → Plan → List (List ℕ) → Outcome
-lines_outcome number plan [] = nothing_run plan
-lines_outcome number plan (line ∷ lines) =
-    let first = line_outcome number plan (words_of line) in
-    followed_by first (lines_outcome (number + 1) first.plan lines)
+unfoldable pub lines_outcome : ℕ → World → List (List ℕ) → Outcome
+lines_outcome number world [] = nothing_run world
+lines_outcome number world (line ∷ lines) =
+    let first = line_outcome number world (words_of line) in
+    followed_by first (lines_outcome (number + 1) first.world lines)
 
 -- a line that is not skipped: its number, its words, and the lines behind it
 pub record Found : Type 0 where
@@ -114,17 +121,18 @@ abbrev pub part_of : ℕ → List ℕ → Option Found → Result Part Refusal
 part_of last name None = Err (refusal.Line last)
 part_of last name (Some found) = part_with found (heading_number name found.words)
 
--- the events of so many steps: a start and an end of each
-abbrev pub events_of : ℕ → Result ℕ Refusal
-events_of steps = if nat_le steps MOST_STEPS then Ok (2 * steps) else Err refusal.TooManySteps
+-- a bare plan has at most 256 steps
+abbrev pub source_of : ℕ → Result PlanSource Refusal
+source_of steps = if nat_le steps MOST_STEPS then Ok (bare steps) else Err refusal.TooManySteps
 
--- one site
-abbrev pub one_site : ℕ → Result ℕ Refusal
-one_site sites = if sites == 1 then Ok sites else Err refusal.NoSite
+-- from 1 to 64 sites
+abbrev pub sites_of : ℕ → Result ℕ Refusal
+sites_of sites = if nat_le 1 sites && nat_le sites MOST_SITES then Ok sites else Err refusal.NoSite
 
--- where the commands begin: the plan's events, the number of the first line, and the lines
+-- where the commands begin: what the plan is made from, how many sites there are, the number of the first line, and the lines
 pub record Start : Type 0 where
-  pub events : ℕ
+  pub source : PlanSource
+  pub sites : ℕ
   pub number : ℕ
   pub lines : List (List ℕ)
 
@@ -132,19 +140,15 @@ pub record Start : Type 0 where
 unfoldable pub heading_of : ℕ → List (List ℕ) → Result Start Refusal
 heading_of last lines =
     and_then (part_of last (codes "steps") (next_line 1 lines)) (λ steps.
-    and_then (events_of steps.value) (λ events.
+    and_then (source_of steps.value) (λ source.
     and_then (part_of last (codes "sites") (next_line (steps.found.number + 1) steps.found.behind)) (λ sites.
-    and_then (one_site sites.value) (λ one.
-    Ok (record { events = events; number = sites.found.number + 1; lines = sites.found.behind })))))
+    and_then (sites_of sites.value) (λ count.
+    Ok (record { source = source; sites = count; number = sites.found.number + 1; lines = sites.found.behind })))))
 
--- a plan to which nothing was added
-abbrev pub bare : ℕ → Plan
-bare events = record { events = events; added = [] }
-
--- a fault of the heading is printed, and ends the run; else the commands are run
+-- a fault of the heading is printed, and ends the run; else the commands are run, at sites that hold nothing yet
 abbrev pub started : Result Start Refusal → Outcome
-started (Ok start) = lines_outcome start.number (bare start.events) start.lines
-started (Err cause) = record { plan = bare 0; text = refusal_text cause; commands = 0; refused = 1 }
+started (Ok start) = lines_outcome start.number (opening_world start.source start.sites) start.lines
+started (Err cause) = record { world = opening_world (bare 0) 0; replies = said (answer.Refused cause) ∷ []; commands = 0; refused = 1 }
 
 -- the number of the line behind the last LF
 abbrev pub last_line : List ℕ → ℕ

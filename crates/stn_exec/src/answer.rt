@@ -1,9 +1,13 @@
-ghost use Rattle.std.specs.Prelude.{◌≡◌, ◌↔◌, ◌++◌, [], ◌∷◌, IsTrue, OnOk, decimal};
+ghost use Rattle.std.specs.Prelude.{◌≡◌, ◌↔◌, ◌++◌, [], ◌∷◌, IsTrue, OnOk, codes, decimal};
+ghost use Rattle.stn_records.specs.Id.{id_text};
+ghost use Rattle.stn_replica.specs.Names.{name_text};
 ghost use Rattle.stn_exec.specs.Answer.{refusal_code, refusal_text, answer_text, is_refusal};
 
 use itoa::Buffer;
 use std::alloc::Allocator;
 use stn_net::BoundFault;
+use stn_records::Id;
+use stn_replica::BoundName;
 use stn_time::{Memory, TimeFault};
 
 /// Why a line is refused.
@@ -15,31 +19,32 @@ pub enum Refusal {
     Bound(BoundFault),
     /// A bare plan has too many steps.
     TooManySteps,
-    /// No further bound is taken.
+    /// This id has two different records.
+    Clash(Id),
+    /// Too many ids would be known.
     Full,
+    /// The id is not known.
+    Unknown,
+    /// The site's counter is spent.
+    CounterSpent,
     /// The line of this number has another form.
     Line(u32),
     /// There is no such site.
     NoSite,
 }
 
-/// The name of a bound.
-#[derive(Clone, Copy)]
-pub enum BoundName {
-    /// One of the plan's own bounds, by its number from 1.
-    Plan(u32),
-    /// An added bound, by its number from 1.
-    Added(u32),
-}
-
-/// What a command prints.
+/// What a command answers.
 #[derive(Clone, Copy)]
 pub enum Answer {
-    /// The bound of this number was added.
-    Added(u32),
+    /// The bound was added as the record of this id.
+    Added(Id),
+    /// The record of this id was withdrawn.
+    Withdrawn(Id),
+    /// The site took in what the other holds.
+    Merged,
     /// The times are a schedule.
     Schedule,
-    /// The times break a bound.
+    /// The times break the bound of this name.
     Broken(BoundName),
     /// The command is refused.
     Refused(Refusal),
@@ -58,7 +63,10 @@ impl Refusal {
             Refusal::Bound(BoundFault::SameEvent) => 5,
             Refusal::Bound(BoundFault::Crossed) => 6,
             Refusal::TooManySteps => 34,
+            Refusal::Clash(_) => 40,
             Refusal::Full => 41,
+            Refusal::Unknown => 42,
+            Refusal::CounterSpent => 43,
             Refusal::Line(_) => 70,
             Refusal::NoSite => 71,
         }
@@ -69,6 +77,7 @@ impl Refusal {
         ensures { OnOk result (out.new.items ≡ out.old.items ++ refusal_text self) }
     {
         match self {
+            Refusal::Clash(id) => append_id_line(out, b"refused 40 ", id),
             Refusal::Line(line) => append_line(out, b"refused 70 ", line),
             other => append_line(out, b"refused ", other.code()),
         }
@@ -77,27 +86,34 @@ impl Refusal {
 
 impl Answer {
     /// Appends the printed line.
-    pub fn print<A: Allocator>(self, out: &mut Vec<u8, A>) -> Result<(), Memory>
-        ensures { OnOk result (out.new.items ≡ out.old.items ++ answer_text self) }
+    pub fn print<A: Allocator>(&self, out: &mut Vec<u8, A>) -> Result<(), Memory>
+        ensures { OnOk result (out.new.items ≡ out.old.items ++ answer_text self.now) }
     {
         match self {
-            Answer::Added(number) => append_line(out, b"added 1.", number),
+            Answer::Added(id) => append_id_line(out, b"added ", *id),
+            Answer::Withdrawn(id) => append_id_line(out, b"withdrawn ", *id),
+            Answer::Merged => out.extend_from_slice(b"merged\n"),
             Answer::Schedule => out.extend_from_slice(b"schedule\n"),
-            Answer::Broken(BoundName::Plan(number)) => append_line(out, b"broken plan.", number),
-            Answer::Broken(BoundName::Added(number)) => append_line(out, b"broken 1.", number),
+            Answer::Broken(name) => append_broken(out, *name),
             Answer::Refused(refusal) => refusal.print(out),
         }
     }
 
     /// Whether the command was refused.
-    pub fn is_refusal(self) -> bool
-        ensures { result ≡ is_refusal self }
+    pub fn is_refusal(&self) -> bool
+        ensures { result ≡ is_refusal self.now }
     {
-        match self {
-            Answer::Refused(_) => true,
-            Answer::Added(_) | Answer::Schedule | Answer::Broken(_) => false,
-        }
+        matches!(self, Answer::Refused(_))
     }
+}
+
+// Appends the line that names a broken bound.
+fn append_broken<A: Allocator>(out: &mut Vec<u8, A>, name: BoundName) -> Result<(), Memory>
+    ensures { OnOk result (out.new.items ≡ out.old.items ++ (codes "broken " ++ (name_text name ++ 10 ∷ []))) }
+{
+    out.extend_from_slice(b"broken ")?;
+    name.print(out)?;
+    out.extend_from_slice(b"\n")
 }
 
 // Appends a line of these words and the number's decimal form.
@@ -108,5 +124,14 @@ fn append_line<A: Allocator>(out: &mut Vec<u8, A>, words: &[u8], number: u32) ->
     let digits = buffer.format(number).as_bytes();
     out.extend_from_slice(words)?;
     out.extend_from_slice(digits)?;
+    out.extend_from_slice(b"\n")
+}
+
+// Appends a line of these words and the id's printed form.
+fn append_id_line<A: Allocator>(out: &mut Vec<u8, A>, words: &[u8], id: Id) -> Result<(), Memory>
+    ensures { OnOk result (out.new.items ≡ out.old.items ++ (words.now ++ (id_text id ++ 10 ∷ []))) }
+{
+    out.extend_from_slice(words)?;
+    id.print(out)?;
     out.extend_from_slice(b"\n")
 }

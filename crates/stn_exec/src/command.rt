@@ -1,9 +1,10 @@
 ghost use Rattle.std.specs.Prelude.{◌≡◌, ℕ, length, IfSome};
 ghost use Rattle.std.specs.Option.{option_map};
 ghost use Rattle.stn_text.specs.Lines.{words_of};
-ghost use Rattle.stn_exec.specs.Command.{command_of, action_of, add_of, check_of, event_of, seen_command, seen_action, IsForEvents};
+ghost use Rattle.stn_exec.specs.Command.{command_of, action_of, add_of, withdraw_of, merge_of, report_of, check_of, event_of, id_of, seen_command, seen_action, IsForEvents};
 
 use stn_net::{Event, MOST_EVENTS};
+use stn_records::Id;
 use stn_text::{first_word, read_number};
 
 /// A command of one site; the words that it reads later stand in its line.
@@ -23,6 +24,12 @@ pub enum Action<'a> {
         lo: &'a [u8],
         hi: &'a [u8],
     },
+    /// Withdraws the record of this id.
+    Withdraw(Id),
+    /// Takes in all that the site of this number holds.
+    Merge(u32),
+    /// Prints the report.
+    Report,
     /// Checks the times of all events, which are the words of this part of the line.
     Check(&'a [u8]),
 }
@@ -47,6 +54,12 @@ fn read_action<'a>(events: u16, name: &[u8], rest: &'a [u8]) -> Option<Action<'a
 {
     if name == b"add".as_slice() {
         read_add(rest)
+    } else if name == b"withdraw".as_slice() {
+        read_withdraw(rest)
+    } else if name == b"merge".as_slice() {
+        read_merge(rest)
+    } else if name == b"report".as_slice() {
+        read_report(rest)
     } else if name == b"check".as_slice() {
         read_check(events, rest)
     } else {
@@ -68,6 +81,44 @@ fn read_add(rest: &[u8]) -> Option<Action<'_>>
     let from = read_event(first)?;
     let to = read_event(second)?;
     Some(Action::Add { from, to, lo, hi })
+}
+
+fn read_withdraw(rest: &[u8]) -> Option<Action<'_>>
+    ensures action { option_map seen_action result ≡ withdraw_of (words_of rest.now) }
+    ensures fits { (events : ℕ) → IfSome result (λ action. IsForEvents events (seen_action action)) }
+{
+    let (word, behind) = first_word(rest)?;
+    if first_word(behind).is_some() {
+        return None;
+    }
+    match read_id(word) {
+        Some(id) => Some(Action::Withdraw(id)),
+        None => None,
+    }
+}
+
+fn read_merge(rest: &[u8]) -> Option<Action<'_>>
+    ensures action { option_map seen_action result ≡ merge_of (words_of rest.now) }
+    ensures fits { (events : ℕ) → IfSome result (λ action. IsForEvents events (seen_action action)) }
+{
+    let (word, behind) = first_word(rest)?;
+    if first_word(behind).is_some() {
+        return None;
+    }
+    match read_number(word) {
+        Some(other) => Some(Action::Merge(other)),
+        None => None,
+    }
+}
+
+fn read_report(rest: &[u8]) -> Option<Action<'_>>
+    ensures action { option_map seen_action result ≡ report_of (words_of rest.now) }
+    ensures fits { (events : ℕ) → IfSome result (λ action. IsForEvents events (seen_action action)) }
+{
+    match first_word(rest) {
+        Some(_) => None,
+        None => Some(Action::Report),
+    }
 }
 
 fn read_check(events: u16, rest: &[u8]) -> Option<Action<'_>>
@@ -100,6 +151,19 @@ fn read_event(word: &[u8]) -> Option<Event>
         Some(event) => {
             prove!(event.number() <= MOST_EVENTS);
             Some(event)
+        }
+        None => None,
+    }
+}
+
+fn read_id(word: &[u8]) -> Option<Id>
+    ensures { result ≡ id_of word.now }
+{
+    match Id::read(word) {
+        Some(id) => {
+            let _site = id.site();
+            let _counter = id.counter();
+            Some(id)
         }
         None => None,
     }

@@ -1,10 +1,12 @@
 ghost use Rattle.std.specs.Prelude.{◌≡◌, ◌+◌, ◌*◌, ◌^◌, ◌<◌, ◌≤◌, length, IfSome, IfOk, OnOk};
 ghost use Rattle.std.specs.Option.{option_map};
+ghost use Rattle.stn_records.specs.Id.{IsSite};
 ghost use Rattle.stn_text.specs.Lines.{lines_of, words_of};
 ghost use Rattle.stn_exec.specs.Heading.{seen_found, seen_part, seen_start, result_seen};
-ghost use Rattle.stn_exec.specs.Script.{is_skipped, next_line, heading_number, part_of, heading_of, events_of};
+ghost use Rattle.stn_exec.specs.Script.{is_skipped, next_line, heading_number, part_of, heading_of};
 
 use crate::answer::Refusal;
+use stn_records::MOST_SITES;
 use stn_text::{first_line, first_word, read_number};
 
 /// How many steps a bare plan has at most.
@@ -25,10 +27,12 @@ pub struct HeadingPart<'a> {
     pub found: FoundLine<'a>,
 }
 
-/// Where the commands begin: the plan's events beside the origin, the number of the first line, and the text.
+/// Where the commands begin: the steps of the bare plan, the number of sites, the number of the first line, and the
+/// text.
 #[derive(Clone, Copy)]
 pub struct CommandStart<'a> {
-    pub events: u16,
+    pub steps: u16,
+    pub sites: u8,
     pub number: u32,
     pub text: &'a [u8],
 }
@@ -37,7 +41,8 @@ pub struct CommandStart<'a> {
 pub fn read_heading(last: u32, script: &[u8]) -> Result<CommandStart<'_>, Refusal>
     requires { length script.now < 2 ^ 31 }
     ensures start { result_seen seen_start result ≡ heading_of last (lines_of script.now) }
-    ensures events { IfOk result (λ start. start.events ≤ 512) }
+    ensures steps { IfOk result (λ start. start.steps ≤ MOST_STEPS) }
+    ensures sites { IfOk result (λ start. IsSite start.sites) }
     ensures within { IfOk result (λ start. start.number + length start.text.now ≤ length script.now + 1) }
 {
     let steps = match read_part(last, b"steps", 1, script) {
@@ -47,16 +52,16 @@ pub fn read_heading(last: u32, script: &[u8]) -> Result<CommandStart<'_>, Refusa
     if steps.value > MOST_STEPS {
         return Err(Refusal::TooManySteps);
     }
-    let events = 2 * steps.value as u16;
     let sites = match read_part(last, b"sites", steps.found.number + 1, steps.found.behind) {
         Ok(part) => part,
         Err(refusal) => return Err(refusal),
     };
-    if sites.value != 1 {
+    if sites.value < 1 || sites.value > u32::from(MOST_SITES) {
         return Err(Refusal::NoSite);
     }
     Ok(CommandStart {
-        events,
+        steps: steps.value as u16,
+        sites: sites.value as u8,
         number: sites.found.number + 1,
         text: sites.found.behind,
     })

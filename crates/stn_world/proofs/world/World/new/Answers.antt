@@ -1,0 +1,24 @@
+use Rattle.std.proofs.Common.{◌≡◌, ℕ, ◌+◌, suc, ◌++◌, List, [], ◌∷◌, replicate, sym, ap, ◌∙◌, subst, arith}
+use Rattle.std.proofs.lemmas.Grind.{common_steps}
+use Rattle.std.specs.Rc.{rc_value}
+use Rattle.stn_replica.specs.Held.{Held}
+use Rattle.stn_records.specs.Content.{Content, no_content}
+use Rattle.stn_world.proofs.Sites.{IsStarted, started_more}
+use Rattle.stn_world.proofs.world.World.new.Goals as goal
+
+pub loop-before-preserved : goal.loop-before-preserved
+loop-before-preserved g c =
+    let one = c.in_ok-replica.replica in
+    let grown : c.push.new.self.items ≡ c.loop-before.replicas.items ++ one ∷ [] = grind (arith, common_steps) in
+    let made : c.unwrap-site.result ≡ c.loop-before.before + 1 = grind (arith, common_steps) in
+    let number : one.site ≡ suc c.loop-before.before = omega (arith, c.in_ok-replica.ensures.site, made) in
+    let more = started_more (rc_value c.args.base) c.loop-before.before c.loop-before.replicas.items one c.loop-before.invariant number
+    (c.in_ok-replica.ensures.source ∙ c.in_ok-clone.ensures.cases) c.in_ok-replica.ensures.empty in
+    let count : suc c.loop-before.before ≡ c.loop-before.before + 1 = omega arith in
+    subst (λ (n : ℕ). IsStarted (rc_value c.args.base) n c.push.new.self.items) count
+    (subst (λ (l : List Held). IsStarted (rc_value c.args.base) (suc c.loop-before.before) l) (sym grown) more)
+
+pub returns-clause-opening : goal.returns-clause-opening
+returns-clause-opening g c =
+    let all : c.loop-before.before ≡ c.args.sites = omega arith in
+    ap (λ (l : List Content). record { source = rc_value c.args.base; sites = l }) (c.loop-before.invariant.nothing ∙ ap (λ (n : ℕ). replicate n no_content) all)

@@ -1,0 +1,28 @@
+-- The replicas of a world.
+use Rattle.std.specs.Prelude.{◌≡◌, ℕ, ◌≤◌, List, length, map, replicate, slice_index_or, slice_set}
+use Rattle.std.specs.List.{range_with_len}
+use Rattle.stn_lift.specs.PlanSource.{PlanSource, bare}
+use Rattle.stn_records.specs.Content.{Content, no_content}
+use Rattle.stn_records.specs.declared.id.TheConstants.{MOST_SITES}
+use Rattle.stn_replica.specs.Held.{Held}
+
+-- what the replicas hold, in order of site
+abbrev pub contents_of : List Held → List Content
+contents_of replicas = map (λ replica. replica.state) replicas
+
+-- from 1 to 64 replicas of one plan, in order of site from 1 on
+pub record IsSites (source : PlanSource) (replicas : List Held) : Type 0 where
+  pub least : 1 ≤ length replicas
+  pub most : length replicas ≤ MOST_SITES
+  pub numbers : map (λ replica. replica.site) replicas ≡ range_with_len 1 (length replicas)
+  pub sources : map (λ replica. replica.source) replicas ≡ replicate (length replicas) source
+
+-- the replica at a place
+abbrev pub held_in : List Held → ℕ → Held
+held_in replicas place = slice_index_or replicas place (record { site = 0; source = bare 0; state = no_content; steps = 0 })
+
+-- the replica at a place has become another of the same site and plan
+pub record IsChanged (old : List Held) (place : ℕ) (one : Held) (new : List Held) : Type 0 where
+  pub list : new ≡ slice_set old place one
+  pub site : one.site ≡ (held_in old place).site
+  pub source : one.source ≡ (held_in old place).source
