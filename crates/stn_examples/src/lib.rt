@@ -2,7 +2,11 @@
 #![tactic(auto)]
 
 #[cfg(test)]
+mod conflict;
+#[cfg(test)]
 mod devices;
+#[cfg(test)]
+mod readers;
 #[cfg(test)]
 mod scripts;
 #[cfg(test)]
