@@ -45,10 +45,10 @@ def windows():
 
 
 def merges():
-    """64 sites over 512 events, 4,096 records, and 1,024 random merges before the sites report in a ring."""
+    """64 sites over 128 events, 4,096 records, 1,024 random merges, two rounds of a ring, and two reports."""
     rng = random.Random(2)
-    lines = ["steps 256", "sites 64"]
-    lines += [f"{number % 64 + 1} add {bound}" for number, bound in enumerate(bounds(rng, 512, 4096))]
+    lines = ["steps 64", "sites 64"]
+    lines += [f"{number % 64 + 1} add {bound}" for number, bound in enumerate(bounds(rng, 128, 4096))]
     lines += ["{} merge {}".format(*rng.sample(range(1, 65), 2)) for _ in range(1024)]
     lines += [f"{site % 64 + 1} merge {site}" for _ in range(2) for site in range(1, 65)]
     return lines + ["1 report", "64 report"]

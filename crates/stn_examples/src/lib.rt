@@ -8,6 +8,8 @@ mod devices;
 #[cfg(test)]
 mod readers;
 #[cfg(test)]
+mod requests;
+#[cfg(test)]
 mod scripts;
 #[cfg(test)]
 mod sites;

@@ -2,6 +2,7 @@ pub mod Broken
 pub mod Changes
 pub mod Count
 pub mod Entries
+pub mod Items
 pub mod Live
 pub mod OneReport
 pub mod Opening

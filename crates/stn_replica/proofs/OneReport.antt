@@ -69,3 +69,9 @@ pub same_states : (source : PlanSource) (s t : Content) (text other : List ℕ)
 same_states source s t text other law is p q =
     let same : s ≡ t = cc in
     law t text other (subst (λ state. IsReport source state text) same p) q
+
+-- equal plans and equal states have one report
+pub same_reports : ((source : PlanSource) (state : Content) (text other : List ℕ) → IsReport source state text → IsReport source state other → text ≡ other)
+    → (a b : PlanSource) (s t : Content) (text other : List ℕ) → a ≡ b → s ≡ t → IsReport a s text → IsReport b t other → text ≡ other
+same_reports law a b s t text other plan state p q =
+    law b t text other (subst (λ x. IsReport b x text) state (subst (λ x. IsReport x s text) plan p)) q

@@ -7,3 +7,4 @@ pub mod FaultsOf
 pub mod Faults
 pub mod Lines
 pub mod Report
+pub mod Calls

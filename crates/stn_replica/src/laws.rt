@@ -1,7 +1,9 @@
-ghost use Rattle.std.specs.Prelude.{◌≡◌, ℕ, List, ◌∷◌, Some};
+ghost use Rattle.std.specs.Prelude.{◌≡◌, ◌↔◌, ℕ, List, ◌∷◌, Some};
 ghost use Rattle.stn_lift.specs.PlanSource.{PlanSource};
-ghost use Rattle.stn_records.specs.Content.{Content, HasItem, join_contents};
+ghost use Rattle.stn_records.specs.Content.{Content, Item, HasItem, join_contents};
 ghost use Rattle.stn_records.specs.Join.{join_all, SameItems};
+ghost use Rattle.stn_replica.specs.Held.{Held};
+ghost use Rattle.stn_replica.specs.Calls.{Accepted, CameBy, Took, TookSame};
 ghost use Rattle.stn_replica.specs.Report.{IsReport};
 
 use stn_conflict::one_named_cycle;
@@ -24,5 +26,24 @@ pub fn same_items_same_bytes()
         → IsReport source s text → IsReport source t other → text ≡ other }
 {
     states_by_items_alone();
+    one_report();
+}
+
+/// The law that a replica's state is the union of what it took: whatever calls it accepted, since it
+/// held nothing, it has an addition or a withdrawal exactly where one of them brought it; it does
+/// nothing.
+pub fn state_is_union()
+    ensures { (calls : List Accepted) → (held : Held) → CameBy calls held → (item : Item) → HasItem held.state item ↔ Took calls item }
+{}
+
+/// The law that replicas of one plan that took the same additions and withdrawals, by whatever calls,
+/// in any order, more than once or merged in any grouping, hold the same and report the same bytes;
+/// it does nothing.
+pub fn took_same_same_bytes()
+    ensures states { (ours theirs : List Accepted) → (one other : Held) → CameBy ours one → CameBy theirs other → TookSame ours theirs → one.state ≡ other.state }
+    ensures bytes { (ours theirs : List Accepted) → (one other : Held) → CameBy ours one → CameBy theirs other → TookSame ours theirs → one.source ≡ other.source
+        → (text last : List ℕ) → IsReport one.source one.state text → IsReport other.source other.state last → text ≡ last }
+{
+    state_is_union();
     one_report();
 }

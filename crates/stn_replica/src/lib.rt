@@ -2,7 +2,7 @@
 #![tactic(auto)]
 
 pub use faults::ReplicaFault;
-pub use laws::{one_report, same_items_same_bytes};
+pub use laws::{one_report, same_items_same_bytes, state_is_union, took_same_same_bytes};
 pub use names::BoundName;
 pub use replica::Replica;
 

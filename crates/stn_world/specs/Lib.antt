@@ -1,3 +1,4 @@
 pub mod World
 pub mod Sites
 pub mod Refused
+pub mod Runs

@@ -2,7 +2,9 @@
 #![tactic(auto)]
 
 pub use faults::{SitesFault, WorldFault};
+pub use laws::{sites_are_unions, took_same_same_bytes};
 pub use world::World;
 
 mod faults;
+mod laws;
 mod world;

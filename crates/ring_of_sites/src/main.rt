@@ -1,0 +1,109 @@
+//! For tests: 64 sites of one plan each add a bound, one of them withdraws another of its own, and they merge in a ring
+//! until nothing that they report changes. It prints what they then report and how many of them do, and the same again
+//! once one of them has added a bound that contradicts others.
+#![tactic(auto)]
+
+use std::alloc::Global;
+use std::io;
+use std::io::Write;
+use stn_exec::{Counted, run};
+
+const SITES: u8 = 64;
+
+// What a script prints; none where it is not run to its end.
+fn output_of(alloc: Global, script: &str) -> Option<Vec<u8>> {
+    let mut reader = Counted::new(script.as_bytes());
+    let mut writer = Counted::new(Vec::new(alloc));
+    match run(alloc, &mut reader, &mut writer) {
+        Ok(_) => Some(writer.into_inner()),
+        Err(_) => None,
+    }
+}
+
+// What further lines print behind a script.
+fn printed_behind(alloc: Global, script: &str, lines: &str) -> io::Result<Option<Vec<u8>>> {
+    let longer = format!(in alloc; "{script}{lines}")?;
+    match (output_of(alloc, script), output_of(alloc, &longer)) {
+        (Some(before), Some(all)) => match all.strip_prefix(before.as_slice()) {
+            Some(more) => Ok(Some(more.to_vec(alloc)?)),
+            None => Ok(None),
+        },
+        _ => Ok(None),
+    }
+}
+
+// Each site's bound, and a bound of the last that it withdraws.
+fn opening(alloc: Global) -> io::Result<String> {
+    let mut script = format!(in alloc; "steps 2\nsites {SITES}\n")?;
+    for before in 0..SITES {
+        let site = before.saturating_add(1);
+        script.push_str(&format!(in alloc; "{site} add z s1 0.{site:03} *\n")?)?;
+    }
+    script.push_str("64 add z s1 70.000 80.000\n64 withdraw 64.2\n")?;
+    Ok(script)
+}
+
+// Each site merges the one before it, and the first the last.
+fn round(alloc: Global) -> io::Result<String> {
+    let mut script = format!(in alloc; "1 merge {SITES}\n")?;
+    for before in 1..SITES {
+        let site = before.saturating_add(1);
+        script.push_str(&format!(in alloc; "{site} merge {before}\n")?)?;
+    }
+    Ok(script)
+}
+
+fn reports(alloc: Global) -> io::Result<String> {
+    let mut script = String::new(alloc);
+    for before in 0..SITES {
+        let site = before.saturating_add(1);
+        script.push_str(&format!(in alloc; "{site} report\n")?)?;
+    }
+    Ok(script)
+}
+
+// The script with as many rounds as there are until the reports stay.
+fn settled(alloc: Global, script: String) -> io::Result<String> {
+    let all = reports(alloc)?;
+    let once = round(alloc)?;
+    let mut longer = script;
+    let mut before = printed_behind(alloc, &longer, &all)?;
+    for _ in 0..SITES {
+        longer.push_str(&once)?;
+        let after = printed_behind(alloc, &longer, &all)?;
+        if after == before {
+            break;
+        }
+        before = after;
+    }
+    Ok(longer)
+}
+
+// How many sites, from the first on, report this text behind the script.
+fn alike(alloc: Global, script: &str, text: &[u8]) -> io::Result<u8> {
+    let Some(all) = printed_behind(alloc, script, &reports(alloc)?)? else {
+        return Ok(0);
+    };
+    let mut rest = all.as_slice();
+    let mut count = 0u8;
+    for _ in 0..SITES {
+        if let Some(behind) = rest.strip_prefix(text) {
+            count = count.saturating_add(1);
+            rest = behind;
+        }
+    }
+    Ok(count)
+}
+
+fn main(rt: HostRuntime) -> io::Result<()> {
+    let mut script = opening(rt.alloc())?;
+    for line in ["", "33 add z s1 * 0.001\n"] {
+        script.push_str(line)?;
+        script = settled(rt.alloc(), script)?;
+        if let Some(text) = printed_behind(rt.alloc(), &script, "1 report\n")? {
+            io::writer(&rt).write_all(&text)?;
+            println!(rt; "{} sites alike", alike(rt.alloc(), &script, &text)?)?;
+        }
+    }
+    Ok(())
+}

@@ -1,0 +1,51 @@
+-- The calls that a replica accepted, and the items that they brought.
+use Rattle.std.specs.Prelude.{◌≡◌, ◌⊎◌, ◌↔◌, List, [], ◌∷◌, Some}
+use Rattle.stn_records.specs.declared.record.Record.{Record}
+use Rattle.stn_records.specs.Id.{SiteCounter}
+use Rattle.stn_records.specs.Content.{Content, Item, addition, withdrawal, HasItem, no_content, with_record, with_tombstone, join_contents}
+use Rattle.stn_replica.specs.Held.{Held}
+use Rattle.stn_replica.specs.Faults.{next_id}
+
+-- a call that was accepted: it added a record under an id, withdrew an id, or took in a state
+pub data Accepted : Type 0 where
+  added : SiteCounter → Record → Accepted
+  withdrew : SiteCounter → Accepted
+  took : Content → Accepted
+
+-- the state that the call leaves
+abbrev pub LeavesState : Held → Accepted → Content → Type 0
+LeavesState old (added id one) state = (id ≡ next_id old) × (state ≡ with_record old.state id one)
+LeavesState old (withdrew id) state = state ≡ with_tombstone old.state id
+LeavesState old (took other) state = join_contents old.state other ≡ Some state
+
+-- the replica that the call leaves: its site and its plan stay
+pub record Leaves (old : Held) (call : Accepted) (new : Held) : Type 0 where
+  pub site : new.site ≡ old.site
+  pub source : new.source ≡ old.source
+  pub state : LeavesState old call new.state
+
+-- the replica that the calls leave, one after the other
+abbrev pub AllLeave : Held → List Accepted → Held → Type 0
+AllLeave old [] new = new ≡ old
+AllLeave old (call ∷ calls) new = (next : Held) × Leaves old call next × AllLeave next calls new
+
+-- a replica that held nothing has become this one by the calls
+pub record CameBy (calls : List Accepted) (held : Held) : Type 0 where
+  pub first : Held
+  pub nothing : first.state ≡ no_content
+  pub steps : AllLeave first calls held
+
+-- the call brought the item: its own addition, its own withdrawal, or one of the state that it took in
+abbrev pub Brought : Accepted → Item → Type 0
+Brought (added id one) item = item ≡ addition id one
+Brought (withdrew id) item = item ≡ withdrawal id
+Brought (took other) item = HasItem other item
+
+-- one of the calls brought the item
+abbrev pub Took : List Accepted → Item → Type 0
+Took [] item = ⊥
+Took (call ∷ calls) item = Brought call item ⊎ Took calls item
+
+-- the calls of the two lists brought the same additions and withdrawals
+abbrev pub TookSame : List Accepted → List Accepted → Type 0
+TookSame ours theirs = (item : Item) → Took ours item ↔ Took theirs item
