@@ -2,8 +2,7 @@
 #![tactic(auto)]
 
 use std::fs::File;
-use std::io;
-use std::{env, fs};
+use std::{env, fs, io};
 use stn_exec::{Counted, run};
 
 // Runs a script, and prints what its run counts.

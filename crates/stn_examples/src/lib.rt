@@ -8,6 +8,8 @@ mod devices;
 #[cfg(test)]
 mod readers;
 #[cfg(test)]
+mod records;
+#[cfg(test)]
 mod requests;
 #[cfg(test)]
 mod scripts;
