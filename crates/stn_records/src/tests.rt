@@ -214,45 +214,50 @@ fn full(rt: HostRuntime) -> Result<(), Fail> {
     );
     assert_eq!(rt; records.bury(new), Err(BuryFault::Full));
     records.bury(first)?;
-    records.add(first, Mark::Plain, wide)?;
     let mut others = Records::new(rt.alloc());
     records.take(&others)?;
     others.add(new, Mark::Plain, wide)?;
     assert_eq!(rt; records.take(&others), Err(RecordsFault::Full));
-    assert!(rt; matches!(others.joined(&records), Err(RecordsFault::Full)));
     assert_eq!(rt; records.known(), 4_096);
-    assert_eq!(rt; others.known(), 1);
+    Ok(())
+}
+
+// The records 1.1 and 2.1.
+fn two_records(alloc: Global) -> Result<Records<Global>, Fail> {
+    let mut records = Records::new(alloc);
+    let five = bound(2, 5_000, 5_000).ok_or("bound")?;
+    let wide = bound(1, 2_000, 10_000).ok_or("bound")?;
+    records.add(id(1, 1).ok_or("id")?, Mark::Plain, five)?;
+    records.add(id(2, 1).ok_or("id")?, Mark::Plain, wide)?;
+    Ok(records)
+}
+
+#[test]
+fn copies(rt: HostRuntime) -> Result<(), Fail> {
+    let records = two_records(rt.alloc())?;
+    let copy = records.copy()?;
+    assert_eq!(rt; copy.live()?.as_slice(), records.live()?.as_slice());
     Ok(())
 }
 
 #[test]
-fn parts_and_copies(rt: HostRuntime) -> Result<(), Fail> {
-    let mine = id(1, 1).ok_or("id")?;
+fn parts(rt: HostRuntime) -> Result<(), Fail> {
+    let records = two_records(rt.alloc())?;
     let theirs = id(2, 1).ok_or("id")?;
-    let unknown = id(9, 9).ok_or("id")?;
-    let mut records = Records::new(rt.alloc());
-    records.add(mine, Mark::Plain, bound(2, 5_000, 5_000).ok_or("bound")?)?;
-    records.add(theirs, Mark::Plain, bound(1, 2_000, 10_000).ok_or("bound")?)?;
-    assert_eq!(rt;
-        records.copy()?.live()?.as_slice(),
-        records.live()?.as_slice()
-    );
-    let mut twice = Vec::new(rt.alloc());
-    twice.push(theirs)?;
-    twice.push(theirs)?;
-    let none: Vec<Id> = Vec::new(rt.alloc());
-    let part = records.part(twice.as_slice(), none.as_slice())?;
-    assert_eq!(rt; part.live()?.len(), 1);
-    assert_eq!(rt; part.is_live(theirs), true);
+    let part = records.part(&[theirs, theirs], &[])?;
     assert_eq!(rt; part.known(), 1);
-    let mut absent = Vec::new(rt.alloc());
-    absent.push(unknown)?;
-    let missing = records.part(absent.as_slice(), none.as_slice());
-    assert!(rt; matches!(missing, Err(PartFault::Unknown)));
-    let mut live = Vec::new(rt.alloc());
-    live.push(mine)?;
-    let unburied = records.part(none.as_slice(), live.as_slice());
-    assert!(rt; matches!(unburied, Err(PartFault::Unknown)));
+    assert_eq!(rt; part.live()?.len(), 1);
+    assert!(rt; part.is_live(theirs));
+    Ok(())
+}
+
+#[test]
+fn parts_of_absent_ids(rt: HostRuntime) -> Result<(), Fail> {
+    let records = two_records(rt.alloc())?;
+    let unknown = id(9, 9).ok_or("id")?;
+    let unburied = id(1, 1).ok_or("id")?;
+    assert!(rt; matches!(records.part(&[unknown], &[]), Err(PartFault::Unknown)));
+    assert!(rt; matches!(records.part(&[], &[unburied]), Err(PartFault::Unknown)));
     Ok(())
 }
 
@@ -348,21 +353,22 @@ fn tombstones_join(rt: HostRuntime) -> Result<(), Fail> {
 
 #[test]
 fn states_join(rt: HostRuntime) -> Result<(), Fail> {
-    let mine = id(2, 1).ok_or("id")?;
-    let theirs = id(1, 4).ok_or("id")?;
-    let low = bound(1, 0, 1).ok_or("bound")?;
-    let mut ours = Records::new(rt.alloc());
-    ours.add(mine, Mark::Plain, low)?;
+    let ours = two_records(rt.alloc())?;
     let mut others = Records::new(rt.alloc());
-    others.bury(theirs)?;
+    others.bury(id(1, 4).ok_or("id")?)?;
     let both = ours.state().joined(others.state())?;
-    assert_eq!(rt; both.additions().entries().len(), 1);
-    assert_eq!(rt; both.tombstones().entries(), [(theirs, ())].as_slice());
+    assert_eq!(rt; both.additions().entries().len(), 2);
+    assert_eq!(rt; both.tombstones().entries().len(), 1);
+    Ok(())
+}
+
+#[test]
+fn records_join(rt: HostRuntime) -> Result<(), Fail> {
+    let ours = two_records(rt.alloc())?;
+    let mut others = Records::new(rt.alloc());
+    others.bury(id(1, 1).ok_or("id")?)?;
     let all = ours.joined(&others)?;
-    assert_eq!(rt; (all.known(), ours.known(), others.known()), (2, 1, 1));
-    assert_eq!(rt;
-        all.live()?.as_slice(),
-        [(mine, Mark::Plain, low)].as_slice()
-    );
+    assert_eq!(rt; all.known(), 2);
+    assert_eq!(rt; all.live()?.len(), 1);
     Ok(())
 }
