@@ -1,15 +1,10 @@
-use Rattle.std.proofs.Common.{◌≡◌, ℕ, zero, suc, ◌+◌, ◌≤◌, List, [], ◌∷◌, ◌++◌, length, take, refl, ap, ◌∙◌, arith, length-append, add-one}
+use Rattle.std.proofs.Common.{◌≡◌, ℕ, ◌+◌, ◌≤◌, List, [], ◌∷◌, ◌++◌, length, take, refl, ap, ◌∙◌, arith, add-one}
 use Rattle.std.proofs.lemmas.List.{length-take, take-append-le, take_all}
 use Rattle.stn_net.specs.Difference.{Difference}
 use Rattle.stn_net.specs.Horizon.{horizon_bound, horizon_bounds}
 use Rattle.stn_net.specs.Schedule.{HasSchedule}
+use Rattle.stn_net.proofs.Horizons.{length-horizon_bounds}
 use Rattle.stn_conflict.proofs.Distances.{schedule_before}
-
--- there is one horizon bound for each event
-pub length-horizon_bounds : (events : ℕ) → length (horizon_bounds events) ≡ events
-unfolding horizon_bounds
-length-horizon_bounds zero = refl
-length-horizon_bounds (suc events) = omega (arith, length-append (horizon_bounds events) (horizon_bound (suc events) ∷ []), length-horizon_bounds events)
 
 -- bounds that begin with the horizon bounds are no fewer than the events
 pub known_within : (events : ℕ) (base : List Difference) → take events base ≡ horizon_bounds events → events ≤ length base

@@ -3,7 +3,7 @@ use Rattle.std.proofs.Common.{sym, ◌≡◌, ◌≢◌, ℕ, suc, zero, ◌+◌
 use Rattle.std.specs.List.{range_with_len}
 use Rattle.std.proofs.lemmas.Slice.Eq.{bytes_eq-Decides}
 use Rattle.stn_net.specs.Event.{event_text}
-use Rattle.stn_records.specs.Id.{SiteCounter, IsSite, IsId, id_text}
+use Rattle.stn_records.specs.Id.{SiteCounter, IsId, id_text}
 use Rattle.std.specs.Option.{option_map}
 use Rattle.stn_exec.specs.Command.{event_below, nth_id, id_below}
 

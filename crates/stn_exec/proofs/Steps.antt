@@ -1,6 +1,6 @@
 -- What commands do at the sites of a world.
-use Rattle.std.proofs.Common.{◌≡◌, ◌≢◌, ℕ, suc, zero, ◌+◌, ◌-◌, ◌<◌, ◌≤◌, Bool, true, false, cond, not, ◌&&◌, ltb, eqb, List, [], ◌∷◌, ◌++◌, length, get_or, take, Option, Some, None, Result, Ok, Err, IfOk, All, ℤ, pos, ◌-ℤ◌, ◌≤ℤ◌, neg_ℤ, refl, sym, ap, ◌∙◌, subst, arith, rules, length-append, append_assoc, add-one}
-use Rattle.std.specs.Prelude.{int_le, int_lt, nat_lt, nat_le, ◌==◌, if◌then◌else◌}
+use Rattle.std.proofs.Common.{◌≡◌, ◌≢◌, ℕ, suc, zero, ◌-◌, ◌<◌, ◌≤◌, Bool, true, false, cond, ◌&&◌, ltb, List, [], ◌∷◌, ◌++◌, length, get_or, take, Option, Some, None, Result, Ok, Err, IfOk, All, ℤ, ◌-ℤ◌, ◌≤ℤ◌, neg_ℤ, refl, sym, ap, ◌∙◌, subst, arith, append_assoc}
+use Rattle.std.specs.Prelude.{int_le, nat_le, ◌==◌}
 use Rattle.std.specs.FinMap.{entries}
 use Rattle.std.specs.List.{prefix_len, HoldsAt}
 use Rattle.std.specs.Bool.{Decides}
@@ -17,7 +17,7 @@ use Rattle.stn_records.specs.Id.{SiteCounter}
 use Rattle.stn_records.specs.declared.record.Record.{Record}
 use Rattle.stn_records.specs.Content.{Content, is_known, dispute_contents, known_in_both}
 use Rattle.stn_replica.specs.Held.{Held, plain}
-use Rattle.stn_replica.specs.Bounds.{all_bounds, RecordsName}
+use Rattle.stn_replica.specs.Bounds.{all_bounds}
 use Rattle.stn_replica.specs.Names.{IsFirstBroken}
 use Rattle.stn_replica.specs.declared.names.BoundName.{BoundName}
 use Rattle.stn_replica.specs.declared.faults.ReplicaFault.{ReplicaFault}
@@ -33,7 +33,7 @@ use Rattle.stn_exec.specs.declared.answer.Refusal.TheVariants as refusal
 use Rattle.stn_exec.specs.declared.answer.Answer.{Answer}
 use Rattle.stn_exec.specs.declared.answer.Answer.TheVariants as answer
 use Rattle.stn_exec.specs.Refusals.{refusal_of}
-use Rattle.stn_exec.specs.Sites.{Reply, said, Step, refused_step, has_site, side_of, bound_of, difference, added_bound, taken, add_step, withdraw_step, merge_step, take_step, agreed_step, all_name, is_met, broken_place, broken_answer, and_then, refusing_time, times_from}
+use Rattle.stn_exec.specs.Sites.{said, Step, refused_step, has_site, side_of, bound_of, difference, added_bound, taken, add_step, withdraw_step, merge_step, take_step, agreed_step, all_name, is_met, broken_place, broken_answer, and_then, refusing_time, times_from}
 use Rattle.stn_exec.proofs.Places.{prefix_len-at, prefix_len-all}
 
 -- the test of an order

@@ -1,5 +1,5 @@
 -- What commands do at the sites of a world.
-use Rattle.std.specs.Prelude.{ℕ, ◌+◌, Bool, true, ◌&&◌, ◌||◌, ◌==◌, nat_lt, nat_le, if◌then◌else◌, List, [], ◌∷◌, length, codes, ℤ, pos, neg_ℤ, ◌-ℤ◌, int_le, int_lt, Option, Some, None, Result, Ok, Err}
+use Rattle.std.specs.Prelude.{ℕ, Bool, true, ◌&&◌, ◌||◌, ◌==◌, nat_lt, nat_le, if◌then◌else◌, List, [], ◌∷◌, length, codes, ℤ, pos, neg_ℤ, ◌-ℤ◌, int_le, int_lt, Option, Some, None, Result, Ok, Err}
 use Rattle.std.specs.List.{prefix_len}
 use Rattle.std.specs.Str.{bytes_eq}
 use Rattle.std.specs.FinMap.{entries}
@@ -18,7 +18,7 @@ use Rattle.stn_records.specs.Content.{Content, is_known, known_count, known_in_b
 use Rattle.stn_replica.specs.Held.{Held}
 use Rattle.stn_replica.specs.Bounds.{all_bounds}
 use Rattle.stn_replica.specs.Names.{name_in, live_ids}
-use Rattle.stn_world.specs.World.{World, content_at, held_at, next_id_at, make, withdraw as withdraw_at, merge as merge_at}
+use Rattle.stn_world.specs.World.{World, content_at, next_id_at, make, withdraw as withdraw_at, merge as merge_at}
 use Rattle.stn_exec.specs.declared.answer.Refusal.{Refusal}
 use Rattle.stn_exec.specs.declared.answer.Refusal.TheVariants as refusal
 use Rattle.stn_exec.specs.declared.answer.Answer.{Answer}

@@ -3,12 +3,12 @@ ghost use Rattle.stn_net.specs.Schedule.{times_of};
 ghost use Rattle.stn_lift.specs.PlanSource.{events_of};
 ghost use Rattle.stn_replica.specs.Bounds.{all_bounds};
 ghost use Rattle.stn_text.specs.Lines.{words_of};
-ghost use Rattle.stn_world.specs.World.{HasSite, content_at, held_at};
+ghost use Rattle.stn_world.specs.World.{HasSite, held_at};
 ghost use Rattle.stn_exec.specs.declared.answer.Refusal.{Refusal};
 ghost use Rattle.stn_exec.specs.declared.answer.Answer.TheVariants.{Refused};
 ghost use Rattle.stn_world.specs.declared.faults.WorldFault.TheVariants.{Replica};
 ghost use Rattle.stn_exec.specs.Refusals.{refusal_of};
-ghost use Rattle.stn_exec.specs.Sites.{said, side_of, added_bound, add_step, withdraw_step, merge_step, broken_place, broken_answer, check_answer, times_from, refusing_time};
+ghost use Rattle.stn_exec.specs.Sites.{said, side_of, added_bound, add_step, withdraw_step, merge_step, broken_place, broken_answer, check_answer, times_from};
 
 use crate::answer::{Answer, Refusal};
 use std::alloc::{AllocError, Allocator};

@@ -1,4 +1,4 @@
-ghost use Rattle.std.specs.Prelude.{◌≡◌, ◌↔◌, ◌++◌, [], ◌∷◌, IsTrue, OnOk, codes, decimal};
+ghost use Rattle.std.specs.Prelude.{◌≡◌, ◌++◌, [], ◌∷◌, OnOk, codes, decimal};
 ghost use Rattle.stn_records.specs.Id.{id_text};
 ghost use Rattle.stn_replica.specs.Names.{name_text};
 ghost use Rattle.stn_exec.specs.Answer.{refusal_code, refusal_text, answer_text, is_refusal};

@@ -3,7 +3,7 @@ ghost use Rattle.std.specs.Option.{option_map};
 ghost use Rattle.stn_text.specs.Lines.{words_of};
 ghost use Rattle.stn_exec.specs.Command.{command_of, action_of, add_of, withdraw_of, merge_of, report_of, check_of, event_of, id_of, seen_command, seen_action, IsForEvents};
 
-use stn_net::{Event, MOST_EVENTS};
+use stn_net::Event;
 use stn_records::Id;
 use stn_text::{first_word, read_number};
 
@@ -147,24 +147,11 @@ fn count_words(line: &[u8]) -> usize
 fn read_event(word: &[u8]) -> Option<Event>
     ensures { result ≡ event_of word.now }
 {
-    match Event::read(word) {
-        Some(event) => {
-            prove!(event.number() <= MOST_EVENTS);
-            Some(event)
-        }
-        None => None,
-    }
+    Event::read(word)
 }
 
 fn read_id(word: &[u8]) -> Option<Id>
     ensures { result ≡ id_of word.now }
 {
-    match Id::read(word) {
-        Some(id) => {
-            let _site = id.site();
-            let _counter = id.counter();
-            Some(id)
-        }
-        None => None,
-    }
+    Id::read(word)
 }

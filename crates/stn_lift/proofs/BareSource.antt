@@ -5,13 +5,8 @@ use Rattle.std.proofs.lemmas.List.{take_all}
 use Rattle.stn_net.specs.Difference.{NamesEvents}
 use Rattle.stn_net.specs.Schedule.{Meets}
 use Rattle.stn_net.specs.Horizon.{horizon_bound, horizon_bounds}
+use Rattle.stn_net.proofs.Horizons.{length-horizon_bounds}
 use Rattle.stn_lift.specs.PlanSource.{PlanSource, bare, steps_of, IsSoundSource}
-
--- there are as many horizon bounds as events
-pub length-horizon_bounds : (events : ℕ) → length (horizon_bounds events) ≡ events
-unfolding horizon_bounds
-length-horizon_bounds zero = refl
-length-horizon_bounds (suc events) = omega (arith, length-append (horizon_bounds events) (horizon_bound (suc events) ∷ []), length-horizon_bounds events)
 
 -- the horizon bounds of some of the events name these events
 pub horizon_bounds_named : (all events : ℕ) → events ≤ all → All (NamesEvents all) (horizon_bounds events)

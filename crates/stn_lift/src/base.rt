@@ -1,4 +1,4 @@
-ghost use Rattle.std.specs.Prelude.{◌≡◌, ℕ, ◌*◌, ◌<◌, ◌≤◌, ◌↔◌, IsTrue, IfOk, OnOk, IsErrOf};
+ghost use Rattle.std.specs.Prelude.{◌≡◌, ◌*◌, ◌<◌, ◌≤◌, ◌↔◌, IsTrue, IfOk, IsErrOf};
 ghost use Rattle.stn_net.specs.Horizon.{horizon_bound, horizon_bounds};
 ghost use Rattle.stn_lift.specs.PlanSource.{bare, plan_source, steps_of, events_of, base_bounds, planned_of, IsSoundSource};
 ghost use Rattle.stn_lift.specs.declared.base.BaseFault.TheVariants.{Memory};

@@ -1,4 +1,4 @@
-ghost use Rattle.std.specs.Prelude.{◌≡◌, ◌≢◌, ℕ, ◌+◌, ◌*◌, ◌<◌, ◌≤◌, ◌↔◌, pos, neg_ℤ, ◌+ℤ◌, ◌≤ℤ◌, length, IsTrue, slice_set};
+ghost use Rattle.std.specs.Prelude.{◌≡◌, ℕ, ◌+◌, ◌*◌, ◌<◌, ◌≤◌, ◌↔◌, pos, neg_ℤ, ◌+ℤ◌, ◌≤ℤ◌, IsTrue};
 ghost use Rattle.std.specs.Int.{int_min};
 ghost use Rattle.stn_net.specs.Difference.{NamesEvents};
 ghost use Rattle.stn_net.specs.declared.event.TheConstants.{MOST_EVENTS};
@@ -38,7 +38,7 @@ pub(crate) fn is_implied(entries: &[i32], events: usize, bound: Bound) -> bool
 {
     let (from, to) = ends(bound);
     is_at_most(entry_of(entries, events, from, to), bound.hi())
-        && is_at_most(entry_of(entries, events, to, from), opposite(bound.lo()))
+        && is_at_most(entry_of(entries, events, to, from), -bound.lo())
 }
 
 // Whether some time between the entries of its events meets the bound.
@@ -48,7 +48,7 @@ pub(crate) fn has_room(entries: &[i32], events: usize, bound: Bound) -> bool
     ensures { IsTrue result ↔ HasRoom (entry entries.now events) bound }
 {
     let (from, to) = ends(bound);
-    is_at_least(entry_of(entries, events, to, from), opposite(bound.hi()))
+    is_at_least(entry_of(entries, events, to, from), -bound.hi())
         && is_at_least(entry_of(entries, events, from, to), bound.lo())
 }
 
@@ -70,7 +70,7 @@ pub(crate) fn narrow(entries: &mut [i32], events: usize, bound: Bound)
     let lower = Link {
         from: bound.to(),
         to: bound.from(),
-        most: opposite(bound.lo()),
+        most: -bound.lo(),
     };
     shorten(entries, events, upper);
     shorten(entries, events, lower);
@@ -189,11 +189,4 @@ fn is_at_least(millis: i64, time: Ms) -> bool
     ensures { IsTrue result ↔ (time ≤ℤ millis) }
 {
     millis >= time.get()
-}
-
-// The time less than 0 by as much as this one is more.
-fn opposite(time: Ms) -> Ms
-    ensures { result ≡ neg_ℤ time }
-{
-    Ms::new(-time.get()).unwrap()
 }

@@ -1,4 +1,4 @@
-ghost use Rattle.std.specs.Prelude.{◌≡◌, ◌≢◌, ◌<◌, ◌≤◌, ◌≤ℤ◌, ◌<ℤ◌, IfOk, IfErr};
+ghost use Rattle.std.specs.Prelude.{◌≡◌, ◌≢◌, ◌<◌, ◌≤◌, ◌≤ℤ◌, IfOk, IfErr};
 ghost use Rattle.stn_net.specs.Difference.{Difference, IsFaultOf, IsBoundWithin};
 ghost use Rattle.stn_net.specs.Horizon.{horizon_bound};
 

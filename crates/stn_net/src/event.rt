@@ -61,6 +61,7 @@ impl Event {
     /// end of step k, from 1 to 256 without leading zeros.
     pub fn read(text: &[u8]) -> Option<Event>
         ensures found { IfSome result (λ event. text.now ≡ event_text event) }
+        ensures within { IfSome result (λ event. event ≤ MOST_EVENTS) }
         ensures all { (event : ℕ) → event ≤ MOST_EVENTS → text.now ≡ event_text event → result ≡ Some event }
     {
         let (first, digits) = text.split_first()?;

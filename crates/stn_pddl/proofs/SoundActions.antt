@@ -1,5 +1,5 @@
 -- The actions of a domain are sound.
-use Rattle.std.proofs.Common.{◌≡◌, ℕ, Bool, true, false, cond, List, [], ◌∷◌, ◌++◌, length, Option, Some, None, Result, Ok, Err, IfOk, refl, sym, ◌∙◌, ap, subst, arith, ℤ, pos, negsuc, ◌≤ℤ◌, int_lt, find, MatchOption, IfSome}
+use Rattle.std.proofs.Common.{◌≡◌, ℕ, Bool, true, false, cond, List, [], ◌∷◌, ◌++◌, Option, Some, None, Result, Ok, Err, IfOk, refl, sym, ◌∙◌, ap, subst, arith, ℤ, pos, negsuc, ◌≤ℤ◌, int_lt, find, MatchOption, IfSome}
 use Rattle.std.specs.List.{AllByRecursion}
 use Rattle.std.specs.Borrow.{Bor}
 use Rattle.std.proofs.lemmas.Int.{ints}
@@ -21,9 +21,9 @@ use Rattle.stn_pddl.specs.Words.{section_of}
 use Rattle.stn_pddl.specs.Schemas.{ActionSchema, bare_action}
 use Rattle.stn_pddl.specs.Fields.{Listing, Values, no_values, parameters, duration, constant, not_negative, fields}
 use Rattle.stn_pddl.specs.Actions.{timed_value, action_of_lists, action_of_values, named_action, is_taken, action}
-use Rattle.stn_pddl.specs.Domains.{part, parts, is_title, root, domain_of_tree, domain_of_bytes, domain_of, action_named}
+use Rattle.stn_pddl.specs.Domains.{part, parts, root, domain_of_tree, domain_of_bytes, domain_of, action_named}
 use Rattle.stn_pddl.specs.Views.{action_schema}
-use Rattle.stn_pddl.specs.Sound.{HasSoundAtoms, IsSound}
+use Rattle.stn_pddl.specs.Sound.{IsSound}
 use Rattle.stn_pddl.proofs.Kept.{Keeps, bind_ok, guard_ok, unless_ok, ok_same, All-push, timed_tree-keeps}
 
 refused : {A B : Type 0} (e : DomainFault) (y : A) → Err e ≡ Ok y → B

@@ -1,5 +1,5 @@
 -- Terms, as the code finds them.
-use Rattle.std.proofs.Common.{◌≡◌, ℕ, ◌+◌, Bool, true, false, cond, List, [], ◌∷◌, ◌++◌, map, Option, Some, None, Result, Ok, Err, refl, sym, ◌∙◌, ap, position}
+use Rattle.std.proofs.Common.{◌≡◌, ℕ, Bool, true, false, cond, List, [], ◌∷◌, ◌++◌, Option, Result, Err, refl, sym, ◌∙◌, ap, position}
 use Rattle.std.proofs.lemmas.List.{length-map}
 use Rattle.std.specs.List.{position_or_len, list_any}
 use Rattle.stn_tree.specs.Trees.{Trees, Word}
@@ -9,9 +9,8 @@ use Rattle.stn_pddl.specs.Fields.{parameters, parameters_behind_type}
 use Rattle.stn_tree.specs.declared.name.Name.{Name}
 use Rattle.stn_tree.specs.Names.{is_same_word}
 use Rattle.stn_pddl.specs.declared.fault.DomainFault.{DomainFault}
-use Rattle.stn_pddl.specs.declared.fault.DomainFault.TheVariants.{Variable, Twice, Syntax}
-use Rattle.stn_pddl.specs.Words.{is_variable, is_key, item_of}
-use Rattle.stn_pddl.specs.Schemas.{TermSchema, Parameter, Constant}
+use Rattle.stn_pddl.specs.declared.fault.DomainFault.TheVariants.{Twice, Syntax}
+use Rattle.stn_pddl.specs.Words.{is_variable, item_of}
 use Rattle.stn_pddl.specs.Atoms.{term, parameter_at}
 use Rattle.stn_pddl.specs.Views.{word_of, words_of}
 

@@ -1,5 +1,5 @@
 -- A durative action.
-use Rattle.std.specs.Prelude.{ℕ, Bool, List, [], ◌∷◌, Option, Some, None, Result, Ok, Err, if◌then◌else◌}
+use Rattle.std.specs.Prelude.{ℕ, Bool, List, [], Option, Some, None, Result, Ok, Err, if◌then◌else◌}
 use Rattle.std.specs.List.{list_any}
 use Rattle.stn_tree.specs.Names.{is_same_word}
 use Rattle.stn_tree.specs.Trees.{Trees, End, Word, Group}

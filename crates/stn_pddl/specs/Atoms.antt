@@ -7,7 +7,7 @@ use Rattle.stn_pddl.specs.declared.fault.DomainFault.TheVariants.{Syntax, Unsupp
 use Rattle.stn_pddl.specs.declared.action.Label.{Label}
 use Rattle.stn_pddl.specs.Faults.{◌>>=◌}
 use Rattle.stn_pddl.specs.Words.{is_variable, is_key}
-use Rattle.stn_pddl.specs.Schemas.{TermSchema, AtomSchema, ActionSchema, Parameter, Constant, with_literal}
+use Rattle.stn_pddl.specs.Schemas.{TermSchema, ActionSchema, Parameter, Constant, with_literal}
 
 -- a word that begins with `?` is a parameter of the action
 abbrev pub parameter_at : ℕ → Option ℕ → Result TermSchema DomainFault

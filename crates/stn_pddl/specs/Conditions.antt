@@ -1,5 +1,5 @@
 -- Conditions and effects: trees with times, and the plain trees in them.
-use Rattle.std.specs.Prelude.{ℕ, Bool, true, false, ◌&&◌, List, Result, Ok, Err, ◌==◌, if◌then◌else◌, codes}
+use Rattle.std.specs.Prelude.{ℕ, Bool, true, false, Result, Ok, Err, ◌==◌, if◌then◌else◌, codes}
 use Rattle.stn_tree.specs.Names.{is_same_word}
 use Rattle.stn_tree.specs.Trees.{Trees, End, Word, Group, how_many}
 use Rattle.stn_pddl.specs.declared.fault.DomainFault.{DomainFault}
@@ -8,7 +8,6 @@ use Rattle.stn_pddl.specs.declared.action.Label.{Label}
 use Rattle.stn_pddl.specs.declared.action.Label.TheVariants.{StartCondition, OverAll, EndCondition, StartEffect, EndEffect}
 use Rattle.stn_pddl.specs.declared.action.Side.{Side}
 use Rattle.stn_pddl.specs.declared.action.Side.TheVariants.{Condition, Effect}
-use Rattle.stn_pddl.specs.declared.word.Head.{Head}
 use Rattle.stn_pddl.specs.declared.word.Head.TheVariants as head
 use Rattle.stn_pddl.specs.Faults.{◌>>=◌}
 use Rattle.stn_pddl.specs.Words.{head_of}

@@ -1,5 +1,4 @@
 -- What the values of an action's keys say.
-use Rattle.std.specs.Prelude.{Option}
 use Rattle.std.specs.Option.{option_map}
 use Rattle.stn_tree.specs.Cursors.{row_at}
 use Rattle.stn_pddl.specs.declared.fields.Listing.{Listing}

@@ -1,7 +1,6 @@
 -- What the values of the code say.
 use Rattle.std.specs.Prelude.{◌≡◌, ℕ, List, [], ◌∷◌, map}
 use Rattle.stn_tree.specs.declared.name.Name.{Name}
-use Rattle.stn_tree.specs.Cursors.{row_at}
 use Rattle.stn_pddl.specs.declared.action.Term.{Term}
 use Rattle.stn_pddl.specs.declared.action.Term.TheVariants as code
 use Rattle.stn_pddl.specs.declared.action.Atom.{Atom}

@@ -6,7 +6,6 @@ use Rattle.stn_pddl.specs.declared.word.Head.{Head}
 use Rattle.stn_pddl.specs.declared.word.Head.TheVariants as head
 use Rattle.stn_pddl.specs.declared.word.Item.{Item}
 use Rattle.stn_pddl.specs.declared.word.Item.TheVariants as item
-use Rattle.stn_pddl.specs.declared.word.Field.{Field}
 use Rattle.stn_pddl.specs.declared.word.Field.TheVariants as field
 use Rattle.stn_pddl.specs.declared.word.Key.{Key}
 use Rattle.stn_pddl.specs.declared.word.Key.TheVariants as key

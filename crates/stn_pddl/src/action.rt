@@ -1,6 +1,6 @@
 //! Durative actions.
 
-ghost use Rattle.std.specs.Prelude.{◌≡◌, IfOk, OnErr};
+ghost use Rattle.std.specs.Prelude.{◌≡◌, IfOk};
 ghost use Rattle.stn_pddl.specs.Schemas.{bare_action, with_literal};
 ghost use Rattle.stn_pddl.specs.Views.{action_schema, atom_schema, word_of, words_of};
 

@@ -3,7 +3,7 @@
 ghost use Rattle.std.specs.Prelude.{◌≡◌, ◌≤◌, [], IfOk};
 ghost use Rattle.stn_tree.specs.Cursors.{row_at, rows_at, behind_at, left_at};
 ghost use Rattle.stn_pddl.specs.Faults.{Gives};
-ghost use Rattle.stn_pddl.specs.Views.{term_schema, terms_schema, words_of, action_schema, word_of};
+ghost use Rattle.stn_pddl.specs.Views.{term_schema, terms_schema, words_of, action_schema};
 ghost use Rattle.stn_pddl.specs.Atoms as spec;
 
 use crate::action::{Action, Atom, Label, Names, Term};

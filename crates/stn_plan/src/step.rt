@@ -1,9 +1,9 @@
 //! The steps of a plan, and how one is read from a line.
 
-ghost use Rattle.std.specs.Prelude.{◌≡◌, ◌∷◌, map, MatchOption};
+ghost use Rattle.std.specs.Prelude.{◌≡◌};
 ghost use Rattle.std.specs.Int as int;
 ghost use Rattle.std.specs.Option.{option_map};
-ghost use Rattle.stn_plan.specs.Tokens.{Lexeme, tokens_of};
+ghost use Rattle.stn_plan.specs.Tokens.{tokens_of};
 ghost use Rattle.stn_plan.specs.Steps.{Gives, args_of, duration_form, form_of, number_of, duration_of, timed_step, step_of};
 ghost use Rattle.stn_plan.specs.Views.{names_of, word_of, form_in, planned_step};
 

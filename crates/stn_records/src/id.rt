@@ -106,6 +106,7 @@ impl Id {
     /// The id that is printed so: `site.counter`, both numbers without leading zeros.
     pub fn read(text: &[u8]) -> Option<Id>
         ensures found { IfSome result (λ id. text.now ≡ id_text id) }
+        ensures within { IfSome result IsId }
         ensures all { (id : SiteCounter) → IsId id → text.now ≡ id_text id → result ≡ Some id }
     {
         match split_at_dot(text) {

@@ -8,7 +8,7 @@ use Rattle.stn_net.specs.Schedule.{IsSchedule, HasSchedule, Meets}
 use Rattle.stn_matrix.specs.Table.{Table}
 use Rattle.stn_matrix.specs.Tightest.{IsExact}
 use Rattle.stn_lift.specs.PlanSource.{PlanSource, base_bounds, events_of, planned_of, IsSoundSource}
-use Rattle.stn_lift.proofs.BareSource.{length-horizon_bounds}
+use Rattle.stn_net.proofs.Horizons.{length-horizon_bounds}
 
 -- the bounds are no fewer than the events
 pub horizon_within : (source : PlanSource) → IsSoundSource source → events_of source ≤ length (base_bounds source)

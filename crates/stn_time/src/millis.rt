@@ -1,7 +1,8 @@
-ghost use Rattle.std.specs.Prelude.{◌≡◌, ℤ, ◌↔◌, IsSome, IfSome};
+ghost use Rattle.std.specs.Prelude.{◌≡◌, ℤ, neg_ℤ, ◌↔◌, IsSome, IfSome};
 ghost use Rattle.stn_time.specs.Time.{IsWithinHorizon};
 
 use std::marker::Model;
+use std::ops::Neg;
 
 /// The greatest time and the greatest difference of two times, in milliseconds.
 pub const HORIZON: i64 = 1_000_000_000;
@@ -41,5 +42,18 @@ impl Ms {
         ensures within { IsWithinHorizon result }
     {
         self.millis
+    }
+}
+
+/// The time as far from 0 on the other side.
+impl Neg for Ms {
+    type Output = Ms;
+
+    ghost neg_gives = { λ time opposite. opposite ≡ neg_ℤ time };
+
+    fn neg(self) -> Ms {
+        Ms {
+            millis: -self.millis,
+        }
     }
 }

@@ -1,4 +1,4 @@
-ghost use Rattle.std.specs.Prelude.{◌≡◌, ◌++◌, ◌∷◌, ◌<◌, OnOk, OnErr, codes, take, vec_len};
+ghost use Rattle.std.specs.Prelude.{◌≡◌, ◌++◌, ◌<◌, OnOk, OnErr, codes, take, vec_len};
 ghost use Rattle.std.specs.Fmt.{sign_text};
 ghost use Rattle.stn_time.specs.Text.{Spells, printed, three_digits};
 ghost use Rattle.stn_time.specs.TimeOf.{time_of};

@@ -1,12 +1,12 @@
 -- The rows before a byte of each kind.
-use Rattle.std.proofs.Common.{◌≡◌, ◌≢◌, ℕ, suc, ◌+◌, ◌-◌, ◌<◌, ◌≤◌, Bool, true, false, cond, eqb, List, [], ◌∷◌, length, get_or, take, drop, refl, sym, ◌∙◌, ap, subst, arith, add-one, drop-cons, zero-add, ◌⊎◌, inl, inr}
+use Rattle.std.proofs.Common.{◌≡◌, ◌≢◌, ℕ, suc, ◌+◌, ◌-◌, ◌<◌, ◌≤◌, Bool, true, false, cond, eqb, List, [], ◌∷◌, length, get_or, take, drop, refl, sym, ◌∙◌, ap, arith, add-one, drop-cons, ◌⊎◌, inl, inr}
 use Rattle.std.proofs.lemmas.List.{drop_all}
 use Rattle.std.proofs.lemmas.Slice.{between_to_end}
 use Rattle.std.proofs.lemmas.Bool.Decides.{nat_tests}
 use Rattle.stn_tree.specs.declared.bytes.Kind.{Kind}
 use Rattle.stn_tree.specs.declared.bytes.Kind.TheVariants.{Blank, Open, Close, Letter, Stray}
-use Rattle.stn_tree.specs.Bytes.{is_space, is_visible, kind_of, kind_in, comment_after, line_after}
-use Rattle.stn_tree.specs.Trees.{Trees, Word, Group, End, Rows, innermost, outer, behind, before_open, before_close, before_letter, before_byte, with_letter, is_letter, begins_word, word_len, rows_from}
+use Rattle.stn_tree.specs.Bytes.{kind_of, kind_in, comment_after, line_after}
+use Rattle.stn_tree.specs.Trees.{Word, Group, End, Rows, behind, before_open, before_close, before_letter, is_letter, begins_word, word_len, rows_from}
 
 -- no line feed and no semicolon is a token
 pub lf-blank : (b : ℕ) → kind_of b ≢ Blank → eqb b 10 ≡ false

@@ -1,5 +1,5 @@
 -- The first fault of the bytes of a text, or its one tree.
-use Rattle.std.specs.Prelude.{◌≡◌, ℕ, ◌+◌, ◌-◌, Bool, false, List, [], ◌∷◌, length, Result, Ok, Err, nat_lt, ◌==◌, if◌then◌else◌}
+use Rattle.std.specs.Prelude.{◌≡◌, ℕ, ◌+◌, ◌-◌, Bool, false, List, [], ◌∷◌, length, Result, Ok, Err, nat_lt, if◌then◌else◌}
 use Rattle.stn_tree.specs.declared.TheConstants.{MAX_TEXT, MAX_DEPTH}
 use Rattle.stn_tree.specs.declared.bytes.Kind.{Kind}
 use Rattle.stn_tree.specs.declared.bytes.Kind.TheVariants.{Blank, Open, Close, Letter, Stray}
@@ -8,7 +8,7 @@ use Rattle.stn_tree.specs.declared.scan.TreeFault.TheVariants.{TooLong, Syntax, 
 use Rattle.stn_tree.specs.declared.scan.Place.{Place}
 use Rattle.stn_tree.specs.declared.scan.Place.TheVariants.{Before, Inside, After}
 use Rattle.stn_tree.specs.Bytes.{kind_in, comment_after, line_after}
-use Rattle.stn_tree.specs.Trees.{Trees, End, Word, Group, rows_from}
+use Rattle.stn_tree.specs.Trees.{Trees, End, Group, rows_from}
 
 infixl 10 ◌>>=◌
 abbrev pub ◌>>=◌ : {A B : Type 0} → Result A TreeFault → (A → Result B TreeFault) → Result B TreeFault

@@ -1,6 +1,6 @@
 //! The word at the front of some bytes.
 
-ghost use Rattle.std.specs.Prelude.{◌≡◌, ◌≤◌, ◌+◌, ◌^◌, ◌<◌, length};
+ghost use Rattle.std.specs.Prelude.{◌≡◌, ◌≤◌, length};
 ghost use Rattle.stn_tree.specs.Trees as spec;
 
 use crate::bytes::{Kind, kind_of};

@@ -1,4 +1,4 @@
-ghost use Rattle.std.specs.Prelude.{◌≡◌, ◌≤◌, List, neg_ℤ};
+ghost use Rattle.std.specs.Prelude.{◌≤◌, List};
 ghost use Rattle.stn_net.specs.Difference.{Difference};
 ghost use Rattle.stn_matrix.specs.Tightest.{IsExact};
 ghost use Rattle.stn_windows.specs.Window.{IsWindow};
@@ -15,14 +15,7 @@ pub fn window<A: Allocator>(matrix: &Matrix<A>, event: Event) -> (Ms, Ms)
     ensures { (bounds : List Difference) → IsExact bounds matrix.now → IsWindow bounds event result.0 result.1 }
 {
     let origin = Event::origin();
-    let earliest = opposite(matrix.far(event, origin));
+    let earliest = -matrix.far(event, origin);
     let latest = matrix.far(origin, event);
     (earliest, latest)
-}
-
-// The time less than 0 by as much as this one is more.
-fn opposite(time: Ms) -> Ms
-    ensures { result ≡ neg_ℤ time }
-{
-    Ms::new(-time.get()).unwrap()
 }

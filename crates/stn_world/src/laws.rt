@@ -2,7 +2,7 @@ ghost use Rattle.std.specs.Prelude.{◌≡◌, ℕ, ◌↔◌, List};
 ghost use Rattle.stn_lift.specs.PlanSource.{PlanSource};
 ghost use Rattle.stn_records.specs.Content.{Item, HasItem};
 ghost use Rattle.stn_replica.specs.Report.{IsReport};
-ghost use Rattle.stn_world.specs.World.{World, HasSite, opening_world, content_at};
+ghost use Rattle.stn_world.specs.World.{HasSite, opening_world, content_at};
 ghost use Rattle.stn_world.specs.Runs.{Step, after_all, AreAccepted, TookAt};
 
 use stn_replica::one_report;

@@ -1,4 +1,4 @@
-use Rattle.std.proofs.Common.{refl, sym, arith}
+use Rattle.std.proofs.Common.{refl, arith}
 use Rattle.stn_exec.specs.declared.answer.Answer.TheVariants.{Refused}
 use Rattle.stn_exec.specs.declared.answer.Refusal.TheVariants.{NoSite}
 use Rattle.stn_exec.proofs.Steps.{if_ok, merge-made, merge-missing, merge-refused}

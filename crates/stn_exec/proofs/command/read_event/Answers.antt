@@ -1,13 +1,18 @@
-use Rattle.std.proofs.Common.{◌≢◌, ℕ, Some, None, sym, arith}
+use Rattle.std.proofs.Common.{◌≡◌, ◌≢◌, ℕ, ◌≤◌, List, Option, Some, None, IfSome, sym, arith}
+use Rattle.stn_net.specs.Event.{event_text}
+use Rattle.stn_net.specs.declared.event.TheConstants.{MOST_EVENTS}
+use Rattle.stn_exec.specs.Command.{event_of}
 use Rattle.stn_exec.proofs.Events.{event_below-some, event_below-none}
 use Rattle.stn_exec.proofs.command.read_event.Goals as goal
 
 none_some : (k : ℕ) → None ≢ Some k
 none_some k e = absurd (cc)
 
-pub returns-in-Some : goal.returns-in-Some
-returns-in-Some c =
-    sym (event_below-some 513 c.args.word.now c.in-Some.event (omega (arith, c.number.ensures.within)) c.in-Some.ensures.found (λ k lt. c.in-Some.ensures.all k (omega arith)))
+-- what a reader answers is the event that the word names
+is_named : (word : List ℕ) (result : Option ℕ) → IfSome result (λ event. word ≡ event_text event) → IfSome result (λ event. event ≤ MOST_EVENTS)
+    → ((event : ℕ) → event ≤ MOST_EVENTS → word ≡ event_text event → result ≡ Some event) → result ≡ event_of word
+is_named word None found within all = sym (event_below-none 513 word (λ k lt same. none_some k (all k (omega arith) same)))
+is_named word (Some event) found within all = sym (event_below-some 513 word event (omega (arith, within)) found (λ k lt. all k (omega arith)))
 
-pub returns-in-None : goal.returns-in-None
-returns-in-None c = sym (event_below-none 513 c.args.word.now (λ k lt same. none_some k (c.in-None.ensures.all k (omega arith) same)))
+pub returns : goal.returns
+returns c = is_named c.args.word.now c.read.result c.read.ensures.found c.read.ensures.within c.read.ensures.all

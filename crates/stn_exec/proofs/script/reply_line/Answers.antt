@@ -1,4 +1,4 @@
-use Rattle.std.proofs.Common.{◌≡◌, Some, None, IfOk, sym, subst, ap, ◌∙◌}
+use Rattle.std.proofs.Common.{Some, None, IfOk, subst, ap, ◌∙◌}
 use Rattle.stn_text.specs.Lines.{words_of}
 use Rattle.stn_lift.specs.PlanSource.{events_of}
 use Rattle.stn_exec.specs.Command.{seen_command, command_of}

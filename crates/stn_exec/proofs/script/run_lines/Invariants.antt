@@ -1,4 +1,4 @@
-use Rattle.std.proofs.Common.{◌≡◌, ◌+◌, ◌≤◌, ◌++◌, List, ℕ, length}
+use Rattle.std.proofs.Common.{◌≡◌, ◌+◌, ◌≤◌, ◌++◌, List, length}
 use Rattle.stn_exec.specs.Sites.{Reply}
 use Rattle.stn_exec.specs.Output.{WritesOutput}
 use Rattle.stn_device.specs.Counted.{counted_device, KeepsCount}

@@ -10,7 +10,7 @@ returns-then-is_at_least c =
     room_by (entry c.args.entries.now c.args.events) c.args.bound _ _ _ _ _ _ _
     c.ends-from.ensures.from c.ends-from.ensures.to
     (forth ∙ c.entry_of-then-is_at_least.ensures.value) (back ∙ c.entry_of.ensures.value)
-    (rw c.hi.ensures.value at c.opposite.ensures) c.lo.ensures.value
+    (rw c.hi.ensures.value at c.neg.ensures) c.lo.ensures.value
     (c.is_at_least.ensures.0 c.if-is_at_least.true) c.is_at_least-then-is_at_least.ensures
 
 pub returns-else-is_at_least : goal.returns-else-is_at_least
@@ -19,5 +19,5 @@ returns-else-is_at_least c =
     no_room_by (entry c.args.entries.now c.args.events) c.args.bound _ _ _ _ _
     c.ends-from.ensures.from c.ends-from.ensures.to
     (back ∙ c.entry_of.ensures.value)
-    (rw c.hi.ensures.value at c.opposite.ensures)
+    (rw c.hi.ensures.value at c.neg.ensures)
     c.is_at_least.ensures c.if-is_at_least.false

@@ -10,5 +10,5 @@ returns-then-is_at_most c =
     implied_by (entry c.args.entries.now c.args.events) c.args.bound _ _ _ _ _ _ _
     c.ends-from.ensures.from c.ends-from.ensures.to
     (forth ∙ c.entry_of.ensures.value) (back ∙ c.entry_of-then-is_at_most.ensures.value)
-    c.hi.ensures.value (rw c.lo.ensures.value at c.opposite.ensures)
+    c.hi.ensures.value (rw c.lo.ensures.value at c.neg.ensures)
     (c.is_at_most.ensures.0 c.if-is_at_most.true) c.is_at_most-then-is_at_most.ensures

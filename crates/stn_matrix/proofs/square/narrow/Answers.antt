@@ -21,7 +21,7 @@ shorten-requires-2-clause-round c =
     let same : entry c.shorten.new.entries c.args.events b.from b.to ≡ shorter old b.from b.to b.hi b.from b.to = rw (c.from.ensures.value, c.to.ensures.value, c.hi.ensures.value) at h in
     let ordered : b.lo ≤ℤ b.hi = rw c.hi.ensures.value at c.hi.ensures.ordered in
     let round = lower_round c.args.events old b c.requires.closed c.requires.named ordered c.requires.room in
-    rw (c.from-2.ensures.value, c.to-2.ensures.value, c.opposite.ensures, c.lo.ensures.value) (rw same round)
+    rw (c.from-2.ensures.value, c.to-2.ensures.value, c.neg.ensures, c.lo.ensures.value) (rw same round)
 
 narrowed : (c : goal.After-entries-2-1) → (x y : ℕ) → x ≤ c.args.events → y ≤ c.args.events
     → entry c.shorten-2.new.entries c.args.events x y ≡ narrower (entry c.args.entries.now c.args.events) c.args.bound x y
@@ -33,7 +33,7 @@ narrowed c = λ x y xs ys.
     λ x y xs ys. let h = c.shorten.ensures x y xs ys in rw (c.from.ensures.value, c.to.ensures.value, c.hi.ensures.value) at h in
     let h = c.shorten-2.ensures x y xs ys in
     let last : entry c.shorten-2.new.entries c.args.events x y ≡ shorter new b.to b.from (neg_ℤ b.lo) x y =
-    rw (c.from-2.ensures.value, c.to-2.ensures.value, c.opposite.ensures, c.lo.ensures.value) at h in
+    rw (c.from-2.ensures.value, c.to-2.ensures.value, c.neg.ensures, c.lo.ensures.value) at h in
     last ∙ rw (same x y xs ys, same x b.to xs c.requires.named.to, same b.from y c.requires.named.from ys) refl
 
 pub returns-clause-closed : goal.returns-clause-closed

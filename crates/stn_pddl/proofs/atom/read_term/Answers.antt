@@ -1,4 +1,4 @@
-use Rattle.std.proofs.Common.{◌≡◌, ◌∙◌, sym}
+use Rattle.std.proofs.Common.{sym}
 use Rattle.stn_pddl.proofs.Terms.{term-variable}
 use Rattle.stn_pddl.proofs.atom.read_term.Goals as goal
 

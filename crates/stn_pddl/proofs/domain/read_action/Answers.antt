@@ -1,4 +1,4 @@
-use Rattle.std.proofs.Common.{◌≡◌, ◌∙◌, sym}
+use Rattle.std.proofs.Common.{sym}
 use Rattle.stn_pddl.proofs.SoundActions.{new-name}
 use Rattle.stn_pddl.proofs.domain.read_action.Goals as goal
 

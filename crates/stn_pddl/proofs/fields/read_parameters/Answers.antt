@@ -1,8 +1,5 @@
-use Rattle.std.proofs.Common.{◌≡◌, ◌∙◌, sym, ap, refl, Bool, true, false, not, cond, List, ◌∷◌, [], ◌++◌}
-use Rattle.std.specs.List.{list_any}
+use Rattle.std.proofs.Common.{◌≡◌, ◌∙◌, sym, refl, Bool, true, false, not, cond, List}
 use Rattle.stn_tree.specs.declared.name.Name.{Name}
-use Rattle.stn_pddl.specs.Fields.{parameters}
-use Rattle.stn_pddl.specs.Views.{words_of}
 use Rattle.stn_pddl.proofs.Terms.{parameter-twice, parameter-new}
 use Rattle.stn_pddl.proofs.fields.read_parameters.Goals as goal
 

@@ -1,6 +1,4 @@
-use Rattle.std.proofs.Common.{◌≡◌, ◌∙◌, drop, fold, arith, sym, ap}
-use Rattle.std.proofs.lemmas.List.{drop_all}
-use Rattle.stn_tree.specs.Names.{hash_writes}
+use Rattle.std.proofs.Common.{◌∙◌}
 use Rattle.stn_tree.proofs.NameLemmas.{hashed-at, hashed-end}
 use Rattle.stn_tree.proofs.name.hash_folded.Goals as goal
 

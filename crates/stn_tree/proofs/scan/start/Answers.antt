@@ -1,4 +1,4 @@
-use Rattle.std.proofs.Common.{◌≡◌, sym}
+use Rattle.std.proofs.Common.{sym}
 use Rattle.stn_tree.specs.Trees.{rows_from}
 use Rattle.stn_tree.specs.Cursors.{rows_at}
 use Rattle.stn_tree.proofs.Scanned.{one-list}

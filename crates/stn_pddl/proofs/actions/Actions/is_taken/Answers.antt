@@ -1,4 +1,4 @@
-use Rattle.std.proofs.Common.{◌≡◌, ◌∙◌, sym, ap}
+use Rattle.std.proofs.Common.{◌∙◌, sym, ap}
 use Rattle.stn_pddl.specs.Actions.{is_taken}
 use Rattle.stn_pddl.proofs.ActionMaps.{taken-lookup}
 use Rattle.stn_pddl.proofs.actions.Actions.is_taken.Goals as goal

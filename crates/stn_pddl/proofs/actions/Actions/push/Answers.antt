@@ -1,5 +1,5 @@
-use Rattle.std.proofs.Common.{◌≡◌, ◌∙◌, sym, ap, refl, ◌++◌, ◌∷◌, []}
-use Rattle.stn_pddl.specs.Views.{entries_schema, AreNamed, action_schema}
+use Rattle.std.proofs.Common.{◌∙◌, ap, refl, ◌++◌, ◌∷◌, []}
+use Rattle.stn_pddl.specs.Views.{entries_schema, action_schema}
 use Rattle.indexmap.proofs.CallerLemmas.{insert_entry-new}
 use Rattle.stn_pddl.proofs.ActionMaps.{absent, AreNamed-push, entries_schema-push}
 use Rattle.stn_pddl.proofs.actions.Actions.push.Goals as goal

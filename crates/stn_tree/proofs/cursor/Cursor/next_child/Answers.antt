@@ -1,5 +1,5 @@
-use Rattle.std.proofs.Common.{◌≡◌, ◌∙◌, ◌<◌, ◌≤◌, ◌+◌, length, drop, get_or, Bool, arith, refl, sym, inl, inr, length-drop}
-use Rattle.stn_tree.specs.Cursors.{rows_at, left_at, IsFirst, IsShorter}
+use Rattle.std.proofs.Common.{◌∙◌, ◌+◌, get_or, arith, refl, sym, length-drop}
+use Rattle.stn_tree.specs.Cursors.{rows_at, left_at}
 use Rattle.stn_tree.proofs.Rows.{opened, closed, passed, begins-at, rows-at-letter, line_after-most, at-end, to_end}
 use Rattle.stn_tree.proofs.Cursors.{IsShorter-more}
 use Rattle.stn_tree.proofs.cursor.Cursor.next_child.Goals as goal

@@ -1,6 +1,5 @@
-use Rattle.std.proofs.Common.{◌≡◌, ◌+◌, ◌-◌, ◌<◌, ◌≤◌, length, arith, refl, ap}
-use Rattle.stn_tree.specs.Trees.{behind}
-use Rattle.stn_tree.specs.Cursors.{rows_at, row_at, behind_at, left_at}
+use Rattle.std.proofs.Common.{arith, refl}
+use Rattle.stn_tree.specs.Cursors.{left_at}
 use Rattle.stn_tree.proofs.Cursors.{further, further-ends, further-out, further-in}
 use Rattle.stn_tree.proofs.cursor.Cursor.skip.Goals as goal
 
