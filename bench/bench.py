@@ -103,4 +103,5 @@ def main():
             run(name, Path(folder))
 
 
-main()
+if __name__ == "__main__":
+    main()

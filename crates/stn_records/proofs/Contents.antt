@@ -9,18 +9,18 @@ use Rattle.stn_records.specs.Sorted.{keys_of}
 use Rattle.stn_records.specs.Content.{dispute_records, dispute_contents, taken, is_within, IsSound, part_of, greatest_counter, next_counter}
 use Rattle.stn_records.specs.ContentLaws.{contents_undisputed}
 use Rattle.stn_records.specs.Join.{passing}
-use Rattle.std.proofs.Common.{IfOk, IsErr}
+use Rattle.std.proofs.Common.{IfOk, IsErr, IsTrue}
 use Rattle.std.specs.Option.{SomeIff, ok_or}
 use Rattle.std.proofs.lemmas.Bool.{cases_lt}
 use Rattle.std.proofs.lemmas.Bool.{leb-true, le-leb, eq-eqb}
-use Rattle.std.proofs.Common.{get_or, le_trans, eqb, nat_le}
+use Rattle.std.proofs.Common.{get_or, le_trans, eqb, nat_le, length-append}
 use Rattle.stn_records.proofs.Entries.{find_at}
 use Rattle.stn_records.specs.declared.TheConstants.{MOST_KNOWN}
 use Rattle.std.specs.FinMap.{is_sorted}
 use Rattle.std.specs.FinMap.Entries.{below_all}
-use Rattle.stn_records.proofs.Entries.{and_left, and_right, less_is}
+use Rattle.stn_records.proofs.Entries.{and_left, and_right, or_right, less_is}
 use Rattle.stn_records.proofs.Places.{T_true}
-use Rattle.std.proofs.lemmas.Map.Made.{length-le_from_is_member}
+use Rattle.std.proofs.lemmas.Map.Made.{length-le_from_is_member, distinct_count-le}
 use Rattle.std.specs.Cmp.{IsEquivalence, eq_by_cmp_equiv, Equal-is, tied_itself}
 use Rattle.std.specs.List.{IsDistinct, AllByRecursion}
 use Rattle.std.specs.Option.{option_or}
@@ -103,10 +103,6 @@ or_true false b e = inr e
 
 or_left : (a b : Bool) → a ≡ true → (a || b) ≡ true
 or_left a b e = ap (λ x. x || b) e
-
-or_right : (a b : Bool) → b ≡ true → (a || b) ≡ true
-or_right true b e = refl
-or_right false b e = e
 
 there_is : {X : Type 0} (o : Option X) → is_some o ≡ true → (x : X) × (o ≡ Some x)
 there_is None e = absurd (false≢true e)
@@ -252,6 +248,12 @@ tombstones_within s =
     let within = keys_within (fin.keys s.tombstones) (known_ids s) (keys_distinct (fin.entries s.tombstones) (in_order s.tombstones)) (λ q m. member-append (fin.keys s.additions) (fin.keys s.tombstones) q ∙ or_right _ _ m) in
     omega (arith, keys_length (fin.entries s.tombstones), within)
 
+-- and no more ids are known than both parts have entries
+known_within : (s : Content) → known_count s ≤ length (fin.entries s.additions) + length (fin.entries s.tombstones)
+known_within s =
+    let within = distinct_count-le same_ids (known_ids s) in
+    omega (arith, within, length-append (fin.keys s.additions) (fin.keys s.tombstones), keys_length (fin.entries s.additions), keys_length (fin.entries s.tombstones))
+
 -- what the join of two contents knows is what they know together
 pub together : (s t : Content) → known_count (joined_contents s t) ≡ known_in_both s t
 together s t = same_count (known_ids (joined_contents s t)) (known_ids s ++ known_ids t) (λ q.
@@ -343,6 +345,12 @@ module _ (s : Content) (x : RecordMap) (y : IdSet) (seen : record { additions = 
   pub seen_record : (id : SiteCounter) (o : Option Record) → o ≡ fin.get x id → o ≡ fin.get s.additions id
   seen_record id o is = is ∙ ap (λ (t : Content). fin.get t.additions id) seen
 
+  -- too few entries for the most ids
+  pub not_full : (es : List (SiteCounter × Record)) (ts : List (SiteCounter × Unit {0})) → es ≡ fin.entries x → ts ≡ fin.entries y → length es + length ts < MOST_KNOWN → known_count s < MOST_KNOWN
+  not_full es ts p q few =
+      let here : known_count (record { additions = x; tombstones = y }) < MOST_KNOWN = omega (arith, known_within (record { additions = x; tombstones = y }), ap length p, ap length q) in
+      subst (λ t. known_count t < MOST_KNOWN) seen here
+
 -- an id of a record or a tombstone is known
 pub known_by_record : (s : Content) (id : SiteCounter) → fin.contains_key s.additions id ≡ true → is_known s id ≡ true
 known_by_record s id e = or_left _ _ e
@@ -352,6 +360,10 @@ known_by_tombstone s id e = or_right _ _ e
 
 pub no_room_needed : (s : Content) (id : SiteCounter) → is_known s id ≡ true → is_known s id ≡ false → known_count s < MOST_KNOWN
 no_room_needed s id known unknown = absurd (false≢true (sym unknown ∙ known))
+
+-- where not the most ids are known, there is room
+pub room_left : (s : Content) (full : Bool) → (IsTrue full ↔ (known_count s ≡ MOST_KNOWN)) → known_count s ≤ MOST_KNOWN → full ≡ false → known_count s < MOST_KNOWN
+room_left s full is most spare = ⊎_elim (λ few. few) (λ many. absurd (false≢true (sym spare ∙ is.1 (omega arith)))) (cases_lt (known_count s) MOST_KNOWN)
 
 -- the dispute of two contents that are seen as their parts
 pub seen_dispute : (s t : Content) (x u : RecordMap) (y v : IdSet) → record { additions = x; tombstones = y } ≡ s → record { additions = u; tombstones = v } ≡ t → (o : Option SiteCounter) → o ≡ dispute_records x u → o ≡ dispute_contents s t

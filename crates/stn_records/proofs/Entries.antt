@@ -1,5 +1,5 @@
 -- Lists of entries whose keys rise: what is found in them, and in their merge.
-use Rattle.std.proofs.Common.{◌≡◌, ℕ, zero, suc, ◌<◌, ◌≤◌, Bool, true, false, cond, ◌&&◌, T, List, [], ◌∷◌, ◌++◌, length, get_or, take, drop, Option, Some, None, Ordering, Less, Equal, Greater, is_lt, is_eq, sym, refl, ap, subst, ◌∙◌, inl, inr, arith, add-one, ◌⊎◌, append_assoc, append-nil, ◌-◌, length-drop, take_all}
+use Rattle.std.proofs.Common.{◌≡◌, ℕ, zero, suc, ◌<◌, ◌≤◌, Bool, true, false, cond, ◌&&◌, ◌||◌, T, List, [], ◌∷◌, ◌++◌, length, get_or, take, drop, Option, Some, None, Ordering, Less, Equal, Greater, is_lt, is_eq, sym, refl, ap, subst, ◌∙◌, inl, inr, arith, add-one, ◌⊎◌, append_assoc, append-nil, ◌-◌, length-drop, take_all}
 use Rattle.std.proofs.lemmas.Bool.{false≢true}
 use Rattle.std.specs.Option.{option_or}
 use Rattle.std.specs.List.{insert}
@@ -25,6 +25,10 @@ and_right false b e = absurd (false≢true e)
 
 pub and_both : (a b : Bool) → a ≡ true → b ≡ true → (a && b) ≡ true
 and_both a b e f = ap (λ x. x && b) e ∙ f
+
+pub or_right : (a b : Bool) → b ≡ true → (a || b) ≡ true
+or_right true b e = refl
+or_right false b e = e
 
 pub less_is : (r : Ordering) → is_lt r ≡ true → r ≡ Less
 less_is Less e = refl
@@ -84,7 +88,7 @@ module _ {K X : Type 0} {R : K → K → Ordering} (o : IsTotalOrder R) where
   neighbours_rise es h k d low high = rw add-one (next_rises es h k d (omega arith))
 
   -- a key at a place is above a key below each
-  above_at : (x : K) (es : List (K × X)) → below_all R x es ≡ true → (at : ℕ) (d : K × X) → at < length es → R x (get_or es at d).0 ≡ Less
+  pub above_at : (x : K) (es : List (K × X)) → below_all R x es ≡ true → (at : ℕ) (d : K × X) → at < length es → R x (get_or es at d).0 ≡ Less
   above_at x [] h at d within = absurd (omega arith)
   above_at x (e ∷ es) h zero d within = less_is (R x e.0) (and_left _ _ h)
   above_at x (e ∷ es) h (suc at) d within = above_at x es (and_right _ _ h) at d (omega arith)

@@ -3,4 +3,5 @@ pub mod Places
 pub mod Disputes
 pub mod Contents
 pub mod Counts
+pub mod Counters
 pub mod Dots

@@ -1,26 +1,25 @@
 -- What a search for an id finds, and what an edit at that place does.
-use Rattle.std.proofs.Common.{◌≡◌, Bool, T, Equal, ℕ, true, false, cond, List, [], ◌∷◌, length, get_or, Some, None, Result, Ok, Err, IfOk, IfErr, filter, sym, refl, ap, ◌∙◌, arith}
-use Rattle.std.specs.List.Sorted.{IsSearchInRange, IsBinarySearchResult}
-use Rattle.std.specs.Cmp.{tied_back, tied_itself, Equal-is}
-use Rattle.std.specs.List.{list_any}
-use Rattle.std.proofs.Common.{◌==◌, ◌&&◌, ◌||◌}
-use Rattle.std.proofs.lemmas.Bool.Decides.{same_from_decides, Decides-like, Decides-and, Decides-eqb}
+use Rattle.std.proofs.Common.{◌≡◌, ◌<◌, Bool, T, Equal, ℕ, zero, suc, is_eq, is_ok, ⊎_elim, true, false, cond, List, [], ◌∷◌, length, get_or, Some, None, Result, Ok, Err, IfOk, IfErr, filter, sym, refl, ap, ◌∙◌, arith}
+use Rattle.std.specs.List.Sorted.{IsSearchInRange, IsBinarySearchResult, IsSorted, IsPermutation}
+use Rattle.std.specs.Cmp.{tied_back}
+use Rattle.std.proofs.Common.{◌||◌}
 use Rattle.std.proofs.lemmas.List.{get_or_default}
-use Rattle.std.proofs.lemmas.Bool.{false≢true}
+use Rattle.std.proofs.lemmas.Bool.{false≢true, cases_lt}
 use Rattle.std.specs.Option.{option_or, is_some}
 use Rattle.std.specs.List.{insert}
 use Rattle.std.specs.Set.{is_member}
 use Rattle.std.specs.FinMap as fin
 use Rattle.std.specs.FinMap.{FinMap, is_sorted, put, entries-from_sorted, get-from_sorted, entries-insert, same_entries_map, same_map, get-retain_keys, empty_of_len, len-entries}
 use Rattle.std.specs.FinMap.Entries.{is_sorted-put, is_sorted-where_key, find-where_key}
-use Rattle.std.proofs.lemmas.List.Sorted.{searchable_from_sorted}
+use Rattle.std.proofs.lemmas.List.Sorted.{searchable_from_sorted, list_any-IsPermutation}
+use Rattle.std.proofs.lemmas.List.Elements.{filter_agree}
 use Rattle.stn_records.specs.Id.{SiteCounter, id_cmp}
 use Rattle.stn_records.specs.Sorted.{IsPlaceOf, IsGapFor, merge}
 use Rattle.stn_records.specs.Maps.{union}
 use Rattle.stn_records.specs.MapLaws.{get-union}
 use Rattle.stn_records.specs.Content.{same_ids}
 use Rattle.stn_records.specs.ContentLaws.{ids_total, ids_exact}
-use Rattle.stn_records.proofs.Entries.{holds, neighbours_rise, find_at, find_gap, put_gap, sorted-merge, find-merge}
+use Rattle.stn_records.proofs.Entries.{holds, or_right, less_back, greater_back, neighbours_rise, find_at, find_gap, put_gap, sorted-merge, find-merge}
 
 pub T_true : (b : Bool) → T b → b ≡ true
 T_true true h = refl
@@ -136,13 +135,29 @@ module _ {X : Type 0} where
 pub nothing_sorted : (X : Type 0) → (let m : FinMap id_cmp X = fin.from_sorted [] in m) ≡ fin.empty
 nothing_sorted X = let m : FinMap id_cmp X = fin.from_sorted [] in empty_of_len m (len-entries m ∙ ap length (entries-from_sorted id_cmp [] tt))
 
--- both numbers are equal exactly where two ids compare alike, in either order
-pub ids_equal : (a b : SiteCounter) → (a.site == b.site && a.counter == b.counter) ≡ same_ids b a
-ids_equal a b = same_from_decides _ (same_ids b a)
-    (Decides-like _ (λ p i. record { site = p.0 i; counter = p.1 i }) (λ e. (ap (λ (x : SiteCounter). x.site) e, ap (λ (x : SiteCounter). x.counter) e)) (Decides-and _ _ (Decides-eqb a.site b.site) (Decides-eqb a.counter b.counter)))
-    (λ e. sym (ids_exact b a ((Equal-is (id_cmp b a)).0 e)), λ e. (Equal-is (id_cmp b a)).1 (ap (λ x. id_cmp b x) e ∙ tied_itself ids_total b))
+-- an id at a place is a member, and one that is at none is not
+member_at : (ids : List SiteCounter) (id : SiteCounter) (at : ℕ) → at < length ids → id_cmp (get_or ids at id) id ≡ Equal → is_member same_ids ids id ≡ true
+member_at [] id at within e = absurd (omega arith)
+member_at (x ∷ ids) id zero within e = ap (λ r. is_eq r || is_member same_ids ids id) (tied_back ids_total x id e)
+member_at (x ∷ ids) id (suc at) within e = or_right (same_ids id x) _ (member_at ids id at (omega arith) e)
 
--- so a list has an id by either test
-pub wanted_member : (id : SiteCounter) (ids : List SiteCounter) → list_any (λ y. y.site == id.site && y.counter == id.counter) ids ≡ is_member same_ids ids id
-wanted_member id [] i = false
-wanted_member id (y ∷ ids) i = ids_equal y id i || wanted_member id ids i
+no_member : (ids : List SiteCounter) (id : SiteCounter) → ((k : ℕ) → k < length ids → same_ids id (get_or ids k id) ≡ false) → is_member same_ids ids id ≡ false
+no_member [] id apart = refl
+no_member (x ∷ ids) id apart = ap (λ b. b || is_member same_ids ids id) (apart 0 (omega arith)) ∙ no_member ids id (λ k l. apart (suc k) (omega arith))
+
+-- a binary search of ids in order finds exactly a member
+pub id_searched : (ids : List SiteCounter) (id : SiteCounter) → IsSorted id_cmp ids → (r : Result ℕ ℕ) → IsSearchInRange r (length ids) → IsBinarySearchResult (λ x. id_cmp x id) ids r → is_ok r ≡ is_member same_ids ids id
+id_searched ids id sorted (Ok at) in_range equal = sym (member_at ids id at in_range (equal id))
+id_searched ids id sorted (Err at) in_range parted =
+    let both = parted (searchable_from_sorted ids_total (λ x. x) ids id sorted) in
+    sym (no_member ids id (λ k l. ⊎_elim
+    (λ low. ap is_eq (less_back ids_total (get_or ids k id) id (both.0 k id (omega arith) low)))
+    (λ high. ap is_eq (greater_back ids_total (get_or ids k id) id (both.1 k id high l)))
+    (cases_lt k at)))
+
+-- sorted ids are the same ids, as they are read
+pub same_wanted : {X : Type 0} (es : List (SiteCounter × X)) (wanted copy sorted ids : List SiteCounter) → copy ≡ wanted → IsPermutation copy sorted → ids ≡ sorted → filter (λ e. is_member same_ids ids e.0) es ≡ filter (λ e. is_member same_ids wanted e.0) es
+same_wanted {X} es wanted copy sorted ids same moved is = filter_agree (λ e. is_member same_ids ids e.0) (λ e. is_member same_ids wanted e.0) by es
+  where
+    by : (e : SiteCounter × X) → is_member same_ids ids e.0 ≡ is_member same_ids wanted e.0
+    by e = ap (λ l. is_member same_ids l e.0) is ∙ sym (list_any-IsPermutation (same_ids e.0) copy sorted moved) ∙ ap (λ l. is_member same_ids l e.0) same

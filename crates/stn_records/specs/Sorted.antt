@@ -21,6 +21,12 @@ pub record IsGapFor {X : Type 0} (entries : List (SiteCounter × X)) (id : SiteC
   pub absent : find id_cmp id entries ≡ None
   pub inserted : (x : X) → insert entries place (id, x) ≡ put id_cmp id x entries
 
+-- the entries before the place are of the site or a lesser one, and those from it on of greater ones
+pub record IsEndOf {X : Type 0} (entries : List (SiteCounter × X)) (site : ℕ) (place : ℕ) : Type 0 where
+  pub in_range : place ≤ length entries
+  pub before : (k : ℕ) (entry : SiteCounter × X) → k < place → (slice_index_or entries k entry).0.site ≤ site
+  pub behind : (k : ℕ) (entry : SiteCounter × X) → place ≤ k → k < length entries → site < (slice_index_or entries k entry).0.site
+
 module _ {K X : Type 0} (R : K → K → Ordering) where
   -- an entry and the rest of ours, and theirs; `rest` merges the rest of ours with what is left of theirs
   abbrev pub merge_from : K × X → (List (K × X) → List (K × X)) → List (K × X) → List (K × X)

@@ -1,7 +1,7 @@
-ghost use Rattle.std.specs.Prelude.{◌≡◌, ◌↔◌, None, IfOk, IfSome, OnOk, OnErr, IsTrue};
+ghost use Rattle.std.specs.Prelude.{◌≡◌, ◌↔◌, None, IfOk, OnOk, OnErr, IsTrue};
 ghost use Rattle.std.specs.FinMap as map;
 ghost use Rattle.stn_records.specs.Maps.{union as union_of};
-ghost use Rattle.stn_records.specs.Id.{SiteCounter, id_cmp};
+ghost use Rattle.stn_records.specs.Id.{id_cmp};
 ghost use Rattle.stn_records.specs.Record.{IsProper};
 ghost use Rattle.stn_records.specs.Content.{dispute_records, join_records, same_ids, AllHeld, AllProper};
 ghost use Rattle.std.specs.Set.{is_member};

@@ -1,4 +1,4 @@
-ghost use Rattle.std.specs.Prelude.{◌≡◌, ◌≢◌, ℕ, ◌+◌, ◌<◌, ◌≤◌, ◌↔◌, IsTrue, Some, None, true, false, map, slice_get, option_map, is_some, length, IfOk, IfErr, IfSome, IsOk, Err, IsErr, IsErrOf, OnOk, OnErr, All};
+ghost use Rattle.std.specs.Prelude.{◌≡◌, ◌≢◌, ◌+◌, ◌<◌, ◌≤◌, ◌↔◌, IsTrue, Some, None, true, false, map, slice_get, option_map, is_some, IfOk, IfErr, IfSome, IsOk, Err, IsErr, IsErrOf, OnOk, OnErr};
 ghost use Rattle.std.specs.FinMap as fin;
 ghost use Rattle.stn_records.specs.Id.{SiteCounter};
 ghost use Rattle.stn_records.specs.Record.{IsProper};
@@ -78,7 +78,7 @@ impl<A: Allocator + Copy> Records<A> {
                 }
             }
             None => {
-                if !self.state.tombstones.contains(id) && self.known() >= MOST_KNOWN {
+                if !self.state.tombstones.contains(id) && self.is_full() {
                     return Err(RecordsFault::Full);
                 }
                 self.state.additions.insert(id, added)?;
@@ -124,7 +124,7 @@ impl<A: Allocator + Copy> Records<A> {
         if self.state.tombstones.contains(id) {
             return Ok(());
         }
-        if self.state.additions.get(id).is_none() && self.known() >= MOST_KNOWN {
+        if self.state.additions.get(id).is_none() && self.is_full() {
             return Err(BuryFault::Full);
         }
         self.state.tombstones.insert(id)?;
@@ -235,6 +235,15 @@ impl<A: Allocator + Copy> Records<A> {
             &[],
             &[],
         )
+    }
+
+    // Whether 4,096 ids are known. They are counted only where the two lists are long enough.
+    fn is_full(&self) -> bool
+        ensures { IsTrue result ↔ (known_count self.now ≡ MOST_KNOWN) }
+    {
+        let added = self.state.additions.entries().len();
+        let withdrawn = self.state.tombstones.entries().len();
+        added + withdrawn >= MOST_KNOWN && self.known() >= MOST_KNOWN
     }
 
     // How many ids both know together.

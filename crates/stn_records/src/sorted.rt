@@ -1,13 +1,14 @@
 // Lists of entries in the order of their ids.
-ghost use Rattle.std.specs.Prelude.{◌≡◌, ℕ, ◌+◌, ◌^◌, ◌<◌, ◌≤◌, ◌↔◌, ◌++◌, IsTrue, IsSome, IfOk, IfErr, Some, None, List, length, map, filter, find, slice_get, option_map};
+ghost use Rattle.std.specs.Prelude.{◌≡◌, ◌+◌, ◌^◌, ◌<◌, ◌++◌, IsTrue, IfOk, IfErr, Some, None, length, filter, find, slice_get};
 ghost use Rattle.std.specs.Set.{distinct_count, is_member};
+ghost use Rattle.std.specs.List.Sorted.{IsSorted};
 ghost use Rattle.std.specs.FinMap.{is_sorted};
 ghost use Rattle.std.specs.FinMap as fin;
-ghost use Rattle.stn_records.specs.Id.{SiteCounter, id_cmp};
+ghost use Rattle.stn_records.specs.Id.{id_cmp};
 ghost use Rattle.stn_records.specs.Maps.{differ};
 ghost use Rattle.stn_records.specs.Record.{same_records};
 ghost use Rattle.stn_records.specs.Content.{same_ids, greatest_counter as greatest_of};
-ghost use Rattle.stn_records.specs.Sorted.{keys_of, IsPlaceOf, IsGapFor, merge, lesser_of, past_id};
+ghost use Rattle.stn_records.specs.Sorted.{keys_of, IsPlaceOf, IsGapFor, IsEndOf, merge, lesser_of, past_id};
 
 use crate::id::{Id, Site};
 use crate::record::{Record, is_same};
@@ -89,34 +90,58 @@ pub(crate) fn kept<X: Copy, A: Allocator + Copy>(
 ) -> Result<Vec<(Id, X), A>, Memory>
     ensures { IfOk result (λ all. all.items ≡ filter (λ entry. is_member same_ids wanted.now entry.0) entries.now) }
 {
+    let mut ids = Vec::from_slice(alloc, wanted)?;
+    ids.sort_unstable();
+    among(alloc, entries, &ids)
+}
+
+// The entries whose ids are among ids in order.
+fn among<X: Copy, A: Allocator + Copy>(
+    alloc: A,
+    entries: &[(Id, X)],
+    ids: &[Id],
+) -> Result<Vec<(Id, X), A>, Memory>
+    requires { IsSorted id_cmp ids.now }
+    ensures { IfOk result (λ all. all.items ≡ filter (λ entry. is_member same_ids ids.now entry.0) entries.now) }
+{
     let mut all = Vec::new(alloc);
     for entry in entries {
-        if is_wanted(entry.0, wanted) {
+        if has_id(ids, entry.0) {
             all.push(*entry)?;
         }
     }
     Ok(all)
 }
 
-// Whether the id is among the wanted ones.
-fn is_wanted(id: Id, wanted: &[Id]) -> bool
-    ensures { result ≡ is_member same_ids wanted.now id }
+// Whether the id is among ids in order.
+fn has_id(ids: &[Id], id: Id) -> bool
+    requires { IsSorted id_cmp ids.now }
+    ensures { result ≡ is_member same_ids ids.now id }
 {
-    wanted.contains(&id)
+    ids.binary_search(&id).is_ok()
 }
 
 // The greatest counter of the site, or 0.
 pub(crate) fn greatest_counter<X>(entries: &[(Id, X)], site: Site) -> u16
+    requires { IsTrue (is_sorted id_cmp entries.now) }
     ensures { result ≡ greatest_of site (keys_of entries.now) }
 {
-    let mut greatest = 0;
-    for entry in entries {
-        let id = entry.0;
-        if id.site() == site {
-            greatest = id.counter().max(greatest);
-        }
+    let Some(last) = entries[..end_of(entries, site)].last() else {
+        return 0;
+    };
+    if last.0.site() == site {
+        last.0.counter()
+    } else {
+        0
     }
-    greatest
+}
+
+// The place behind the entries of the site and of lesser ones.
+fn end_of<X>(entries: &[(Id, X)], site: Site) -> usize
+    requires { IsTrue (is_sorted id_cmp entries.now) }
+    ensures { IsEndOf entries.now site result }
+{
+    entries.partition_point(|entry| entry.0.site() <= site)
 }
 
 // How many ids four lists have together, each counted once.

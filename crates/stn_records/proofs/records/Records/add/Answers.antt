@@ -1,9 +1,9 @@
-use Rattle.std.proofs.Common.{◌≡◌, ◌<◌, Some, is_some, sym, ap, subst, ◌∙◌}
+use Rattle.std.proofs.Common.{◌≡◌, Some, is_some, sym, ap, subst, ◌∙◌}
 use Rattle.std.proofs.lemmas.Bool.{false≢true}
 use Rattle.stn_records.specs.Content.{IsSound}
-use Rattle.stn_records.proofs.Contents.{record_again, record_joins, added_is, added_sound, seen_tombstone, seen_record, known_by_tombstone, no_room_needed}
+use Rattle.stn_records.proofs.Contents.{record_again, record_joins, added_is, added_sound, seen_tombstone, seen_record, known_by_tombstone, no_room_needed, room_left}
 use Rattle.stn_records.proofs.records.Records.add.Goals as goal
-use Rattle.stn_records.proofs.records.Records.add.Goals.{else-not-contains-via-then-not-contains+else-known-ge-MOST_KNOWN, else-not-contains-via-else-not-contains}
+use Rattle.stn_records.proofs.records.Records.add.Goals.{else-not-contains-via-then-not-contains+else-is_full, else-not-contains-via-else-not-contains}
 
 pub returns-then-is_same-clause-added : goal.returns-then-is_same-clause-added
 returns-then-is_same-clause-added g c =
@@ -23,7 +23,7 @@ invariant_of-self g c =
     let seen = ap (λ r. r.state) c.self-inside.view_is ∙ c.self.view_is in
     added_sound c.args.self.now c.self-inside.inside.0.0.additions c.self-inside.inside.0.0.tombstones seen c.insert.result c.args.id (record { mark = c.args.mark; bound = c.args.bound }) c.insert.new.self c.insert.ensures.inserted c.insert.ensures.kept (subst IsSound c.self.view_is c.self.invariant) c.requires
     (elim c.else-not-contains.branch [
-      | else-not-contains-via-then-not-contains+else-known-ge-MOST_KNOWN w ↦ λ unknown. subst (λ n. n < 4096) w.known.ensures.count w.if-known-ge-MOST_KNOWN.false
+      | else-not-contains-via-then-not-contains+else-is_full w ↦ λ unknown. room_left c.args.self.now w.is_full.result w.is_full.ensures (subst IsSound c.self.view_is c.self.invariant).limited w.if-is_full.false
       | else-not-contains-via-else-not-contains w ↦ no_room_needed c.args.self.now c.args.id (known_by_tombstone c.args.self.now c.args.id (seen_tombstone c.args.self.now c.self-inside.inside.0.0.additions c.self-inside.inside.0.0.tombstones seen c.args.id c.contains.result c.contains.ensures w.if-not-contains.false))
     ])
 

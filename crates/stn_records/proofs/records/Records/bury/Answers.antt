@@ -1,8 +1,8 @@
-use Rattle.std.proofs.Common.{◌<◌, not, Some, is_some, sym, ap, subst, ◌∙◌}
+use Rattle.std.proofs.Common.{not, Some, is_some, sym, ap, subst, ◌∙◌}
 use Rattle.stn_records.specs.Content.{IsSound}
-use Rattle.stn_records.proofs.Contents.{tombstone_again, tombstone_joins, withdrawn_is, withdrawn_sound, seen_tombstone, seen_record, known_by_record, no_room_needed}
+use Rattle.stn_records.proofs.Contents.{tombstone_again, tombstone_joins, withdrawn_is, withdrawn_sound, seen_tombstone, seen_record, known_by_record, no_room_needed, room_left}
 use Rattle.stn_records.proofs.records.Records.bury.Goals as goal
-use Rattle.stn_records.proofs.records.Records.bury.Goals.{else-is_none-via-then-is_none+else-known-ge-MOST_KNOWN, else-is_none-via-else-is_none}
+use Rattle.stn_records.proofs.records.Records.bury.Goals.{else-is_none-via-then-is_none+else-is_full, else-is_none-via-else-is_none}
 
 pub returns-then-contains-clause-withdrawn : goal.returns-then-contains-clause-withdrawn
 returns-then-contains-clause-withdrawn g c =
@@ -17,7 +17,7 @@ invariant_of-self g c =
     let seen = ap (λ r. r.state) c.self-inside.view_is ∙ c.self.view_is in
     withdrawn_sound c.args.self.now c.self-inside.inside.0.0.additions c.self-inside.inside.0.0.tombstones seen c.insert.result c.args.id c.insert.new.self c.insert.ensures.inserted c.insert.ensures.kept (subst IsSound c.self.view_is c.self.invariant)
     (elim c.else-is_none.branch [
-      | else-is_none-via-then-is_none+else-known-ge-MOST_KNOWN w ↦ λ unknown. subst (λ n. n < 4096) w.known.ensures.count w.if-known-ge-MOST_KNOWN.false
+      | else-is_none-via-then-is_none+else-is_full w ↦ λ unknown. room_left c.args.self.now w.is_full.result w.is_full.ensures (subst IsSound c.self.view_is c.self.invariant).limited w.if-is_full.false
       | else-is_none-via-else-is_none w ↦ no_room_needed c.args.self.now c.args.id (known_by_record c.args.self.now c.args.id
           (ap is_some (sym (seen_record c.args.self.now c.self-inside.inside.0.0.additions c.self-inside.inside.0.0.tombstones seen c.args.id c.get.result c.get.ensures)) ∙ c.is_none.ensures ∙ ap not w.if-is_none.false))
     ])

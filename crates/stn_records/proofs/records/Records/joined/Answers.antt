@@ -1,5 +1,5 @@
-use Rattle.std.proofs.Common.{◌≡◌, ◌<◌, ◌≤◌, None, sym, ap, subst, ◌∙◌}
-use Rattle.stn_records.specs.Content.{IsSound, joined_contents, dispute_contents}
+use Rattle.std.proofs.Common.{◌<◌, ◌≤◌, sym, ap, subst, ◌∙◌}
+use Rattle.stn_records.specs.Content.{IsSound, joined_contents}
 use Rattle.stn_records.proofs.Contents.{seen_dispute, too_many, taken_is, joined_sound}
 use Rattle.stn_records.proofs.records.Records.joined.Goals as goal
 

@@ -1,7 +1,0 @@
-use Rattle.std.proofs.Common.{◌≡◌, ◌++◌, filter, drop}
-use Rattle.std.specs.Set.{is_member}
-use Rattle.stn_records.specs.Content.{same_ids}
-use Rattle.stn_records.proofs.sorted.kept.Given as goal
-
-abbrev pub invariant-loop-entry : goal.invariant-loop-entry
-invariant-loop-entry g l = l.all.items ++ filter (λ entry. is_member same_ids l.wanted entry.0) (drop l.entry-index l.entries) ≡ filter (λ entry. is_member same_ids l.wanted entry.0) l.entries
