@@ -1,8 +1,7 @@
 -- The first of all bounds that times break.
-use Rattle.std.proofs.Common.{◌≡◌, ℕ, ℤ, pos, zero, suc, ◌+◌, ◌-◌, ◌<◌, ◌≤◌, nat_lt, Bool, true, false, cond, List, [], ◌∷◌, ◌++◌, length, get_or, take, Option, Some, None, IfSome, refl, sym, ap, subst, ◌∙◌, arith, zero-add, length-append, All}
-use Rattle.std.proofs.lemmas.Bool.{false≢true}
+use Rattle.std.proofs.Common.{◌≡◌, ℕ, ℤ, zero, suc, ◌+◌, ◌-◌, ◌<◌, ◌≤◌, nat_lt, Bool, true, false, cond, List, [], ◌∷◌, ◌++◌, length, get_or, take, Option, Some, IfSome, refl, sym, ap, subst, ◌∙◌, arith, zero-add, length-append, All}
 use Rattle.std.proofs.lemmas.Bool.Decides.{Decides-ltb}
-use Rattle.std.proofs.lemmas.List.{take-append-le, take-append-drop, take_all, get_or-append-add}
+use Rattle.std.proofs.lemmas.List.{take-append-le, get_or-append-add}
 use Rattle.std.proofs.lemmas.List.Elements.{All-append}
 use Rattle.std.specs.List.{HoldsAt}
 use Rattle.stn_net.specs.Difference.{Difference}
@@ -13,7 +12,7 @@ use Rattle.stn_records.specs.Content.{Content}
 use Rattle.stn_replica.specs.declared.names.BoundName.{BoundName}
 use Rattle.stn_replica.specs.declared.names.BoundName.TheVariants.{Plan, Record}
 use Rattle.stn_replica.specs.Bounds.{all_bounds, live_bounds}
-use Rattle.stn_replica.specs.Names.{live_ids, id_at, name_in, IsFirstBroken, IsFirstBrokenRecord}
+use Rattle.stn_replica.specs.Names.{live_ids, id_at, IsFirstBroken, IsFirstBrokenRecord}
 
 get_or-left : {X : Type 0} (xs ys : List X) (i : ℕ) (d : X) → i < length xs → get_or (xs ++ ys) i d ≡ get_or xs i d
 get_or-left [] ys i d within = absurd (omega arith)

@@ -1,23 +1,23 @@
 -- What an addition, a withdrawal and a take make of a state.
-use Rattle.std.proofs.Common.{◌≡◌, ◌≢◌, ℕ, ◌+◌, ◌<◌, ◌≤◌, Bool, true, false, cond, not, ◌&&◌, ◌||◌, ◌↔◌, ◌⊎◌, List, [], ◌∷◌, ◌++◌, length, filter, map, Option, Some, None, is_some, inl, ⊎_elim, refl, sym, ap, subst, ◌∙◌, arith, All}
+use Rattle.std.proofs.Common.{◌≡◌, ℕ, ◌<◌, ◌≤◌, Bool, true, false, cond, not, ◌&&◌, ◌||◌, List, [], ◌∷◌, ◌++◌, length, Option, Some, None, is_some, inl, ⊎_elim, refl, sym, ap, subst, ◌∙◌, arith, All}
 use Rattle.std.proofs.lemmas.Bool.{false≢true, cases_lt}
 use Rattle.std.proofs.lemmas.List.Elements.{All-append, All-nil, All-push}
 use Rattle.std.specs.Ordering.{eq_by_cmp}
 use Rattle.std.specs.Cmp.{Equal-is, tied_itself}
-use Rattle.std.specs.FinMap.{entries, get, contains_key, insert, get-insert, get-empty}
+use Rattle.std.specs.FinMap.{get, contains_key, get-insert, get-empty}
 use Rattle.stn_net.specs.Difference.{Difference, NamesEvents}
-use Rattle.stn_net.specs.Schedule.{IsSchedule, HasSchedule, Meets}
+use Rattle.stn_net.specs.Schedule.{Meets}
 use Rattle.stn_matrix.specs.Table.{Table}
 use Rattle.stn_matrix.specs.Tightest.{IsExact}
 use Rattle.stn_records.specs.Id.{SiteCounter, id_cmp}
 use Rattle.stn_records.specs.declared.record.Record.{Record}
-use Rattle.stn_records.specs.Content.{Content, addition, is_live, is_known, live_of, no_content, with_record, with_tombstone, join_contents}
+use Rattle.stn_records.specs.Content.{Content, addition, is_live, is_known, no_content, with_record, with_tombstone, join_contents}
 use Rattle.stn_records.specs.ContentLaws.{ids_total, ids_exact, contents_join}
 use Rattle.stn_replica.specs.Bounds.{bounds_of, live_bounds, RecordsName}
 use Rattle.stn_replica.specs.Invariant.{IsKnown}
 use Rattle.stn_replica.specs.Work.{is_risen, risen, KeepsLive}
 use Rattle.stn_replica.proofs.Entries.{entries_from_get, get_from_entries}
-use Rattle.stn_replica.proofs.Live.{Extends, LiveHold, RisenHold, live_from_bounds, bounds_from_live, risen_from_bounds, bounds_from_risen, old_hold, risen_hold, new_hold, live_named, nothing_live, known_grown}
+use Rattle.stn_replica.proofs.Live.{Extends, RisenHold, live_from_bounds, bounds_from_live, risen_from_bounds, old_hold, risen_hold, new_hold, live_named, nothing_live}
 use Rattle.stn_replica.proofs.Schedules.{schedule_before, met_behind, schedule_with, known_same_schedules}
 
 same_id : (q id : SiteCounter) → eq_by_cmp id_cmp q id ≡ true → q ≡ id

@@ -1,16 +1,11 @@
 -- How many records and withdrawn ids a state has.
-use Rattle.std.proofs.Common.{◌≡◌, ℕ, suc, ◌≤◌, Bool, true, false, cond, not, List, [], ◌∷◌, length, take, map, filter, arith}
+use Rattle.std.proofs.Common.{suc, ◌≤◌, Bool, true, false, cond, not, List, [], ◌∷◌, length, map, filter, arith}
 use Rattle.std.proofs.lemmas.List.{length-map}
-use Rattle.std.proofs.lemmas.List.{take_all}
 use Rattle.std.specs.FinMap.{entries, keys, contains_key}
 use Rattle.stn_records.specs.Id.{SiteCounter}
 use Rattle.stn_records.specs.declared.record.Record.{Record}
 use Rattle.stn_records.specs.Content.{Content, known_count, live_of, listed}
 use Rattle.stn_records.proofs.Contents.{additions_within, tombstones_within}
-
--- a walk over as many places as ids are known has seen all records
-pub all_seen : (s : Content) (place known : ℕ) → known ≡ known_count s → known ≤ place → take place (entries s.additions) ≡ entries s.additions
-all_seen s place known is past = take_all place (entries s.additions) (omega (arith, additions_within s))
 
 -- no more ids are withdrawn than are known
 pub withdrawn_within : (s : Content) → length (keys s.tombstones) ≤ known_count s

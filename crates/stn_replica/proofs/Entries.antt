@@ -1,5 +1,5 @@
 -- What is found in the entries of a finite map, and what holds of each of them.
-use Rattle.std.proofs.Common.{◌≡◌, ℕ, zero, suc, ◌+◌, ◌<◌, ◌≤◌, Bool, true, false, cond, ◌&&◌, T, List, [], ◌∷◌, ◌++◌, length, get_or, take, map, Option, Some, None, is_some, Ordering, Less, Equal, Greater, is_lt, is_eq, sym, refl, ap, subst, ◌∙◌, arith, All}
+use Rattle.std.proofs.Common.{◌≡◌, Bool, true, false, cond, ◌&&◌, T, List, [], ◌∷◌, Some, None, is_some, Ordering, Less, Equal, Greater, is_lt, is_eq, sym, refl, ap, subst, ◌∙◌, All}
 use Rattle.std.specs.List.{AllByRecursion}
 use Rattle.std.proofs.lemmas.Bool.{false≢true}
 use Rattle.std.proofs.lemmas.List.Elements.{All-from_recursion, recursion_from_All}

@@ -1,16 +1,15 @@
 -- The items of the state that calls leave.
-use Rattle.std.proofs.Common.{◌≡◌, ◌↔◌, ◌⊎◌, ℕ, inl, inr, ⊎_elim, Bool, true, false, cond, is_some, is_eq, Option, Some, None, List, [], ◌∷◌, refl, ap, sym, subst, ◌∙◌}
+use Rattle.std.proofs.Common.{◌≡◌, ◌↔◌, ◌⊎◌, ℕ, inl, inr, ⊎_elim, true, false, cond, is_some, is_eq, Some, List, [], ◌∷◌, refl, ap, sym, subst, ◌∙◌}
 use Rattle.std.proofs.lemmas.Bool.{false≢true}
 use Rattle.std.specs.Cmp.{Equal-is}
 use Rattle.std.specs.FinMap as fin
-use Rattle.std.specs.FinMap.{FinMap, get-empty, get-insert}
+use Rattle.std.specs.FinMap.{get-empty, get-insert}
 use Rattle.stn_records.specs.declared.record.Record.{Record}
 use Rattle.stn_records.specs.Id.{SiteCounter, id_cmp}
 use Rattle.stn_records.specs.Content.{Content, Item, addition, withdrawal, HasItem, no_content, one_record, one_tombstone, with_record, with_tombstone, join_contents, next_counter}
 use Rattle.stn_records.specs.ContentLaws.{ids_total, ids_exact, contents_join}
 use Rattle.stn_records.proofs.Contents.{inserted_here, record_joins, tombstone_joins, next_is_new}
 use Rattle.stn_replica.specs.Held.{Held}
-use Rattle.stn_replica.specs.Faults.{next_id}
 use Rattle.stn_replica.specs.Calls.{Accepted, added, withdrew, took, LeavesState, AllLeave, CameBy, Brought, Took, TookSame}
 use Rattle.stn_replica.proofs.Changes.{unknown_absent}
 

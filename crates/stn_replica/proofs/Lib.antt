@@ -2,7 +2,9 @@ pub mod Broken
 pub mod Changes
 pub mod Count
 pub mod Entries
+pub mod Flags
 pub mod Items
+pub mod Lengths
 pub mod Live
 pub mod OneReport
 pub mod Opening

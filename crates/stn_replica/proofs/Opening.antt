@@ -1,5 +1,5 @@
 -- The matrix of the plan's own bounds.
-use Rattle.std.proofs.Common.{◌≡◌, ℕ, ◌+◌, ◌<◌, ◌≤◌, Bool, true, ◌↔◌, List, [], ◌∷◌, ◌++◌, length, get_or, take, drop, min, IsTrue, refl, sym, ap, subst, ◌∙◌, All, arith, length-take, add-zero}
+use Rattle.std.proofs.Common.{◌≡◌, ℕ, ◌+◌, ◌<◌, ◌≤◌, Bool, ◌↔◌, [], ◌∷◌, ◌++◌, length, get_or, take, IsTrue, sym, ap, subst, ◌∙◌, arith, length-take, add-zero}
 use Rattle.std.proofs.lemmas.List.{take_more, take_all}
 use Rattle.std.proofs.lemmas.List.Elements.{All-take}
 use Rattle.stn_net.specs.Difference.{Difference}

@@ -1,6 +1,5 @@
 -- The parts of a report, from what was appended.
-use Rattle.std.proofs.Common.{◌≡◌, ℕ, ℤ, suc, ◌+◌, ◌≤◌, Bool, List, [], ◌∷◌, ◌++◌, map, length, codes, Option, Some, IfSome, refl, sym, ap, subst, ◌∙◌, inl, inr, add-one, append_assoc, All}
-use Rattle.std.proofs.lemmas.List.Elements.{All-append}
+use Rattle.std.proofs.Common.{◌≡◌, ℕ, ℤ, suc, ◌+◌, Bool, List, [], ◌∷◌, ◌++◌, map, codes, Option, Some, IfSome, refl, sym, ap, subst, ◌∙◌, inl, inr, add-one, All}
 use Rattle.std.specs.List.{flat_map}
 use Rattle.stn_net.specs.Difference.{Difference, NamesEvents}
 use Rattle.stn_matrix.specs.Table.{Table}
@@ -17,7 +16,7 @@ use Rattle.stn_conflict.specs.Named.{IsNamedCycle}
 use Rattle.stn_replica.specs.Bounds.{all_bounds, live_bounds, RecordsName}
 use Rattle.stn_replica.specs.Names.{live_ids}
 use Rattle.stn_replica.specs.Lines.{line, window_line, conflict_line, link_line}
-use Rattle.stn_replica.specs.Report.{is_done, is_done_in, IsWindowLines, IsWindowsPart, IsConflictPart, IsReport, heading}
+use Rattle.stn_replica.specs.Report.{is_done, is_done_in, IsWindowLines, IsConflictPart, IsReport, heading}
 use Rattle.stn_replica.proofs.Live.{live_named}
 
 abbrev pub Listed : Type 0

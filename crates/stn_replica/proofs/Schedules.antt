@@ -1,7 +1,7 @@
 -- What is known of bounds depends on their schedules alone.
-use Rattle.std.proofs.Common.{◌≡◌, ℕ, ℤ, ◌+◌, Bool, true, false, ◌↔◌, List, [], ◌∷◌, ◌++◌, All, IsTrue, refl, sym, ap, subst}
+use Rattle.std.proofs.Common.{ℕ, ℤ, Bool, true, false, ◌↔◌, List, [], ◌∷◌, ◌++◌, All, IsTrue, refl}
 use Rattle.std.proofs.lemmas.Bool.{false≢true}
-use Rattle.std.proofs.lemmas.List.Elements.{All-append, All-push, All-from_recursion, recursion_from_All}
+use Rattle.std.proofs.lemmas.List.Elements.{All-append, All-from_recursion, recursion_from_All}
 use Rattle.std.specs.List.{AllByRecursion}
 use Rattle.stn_net.specs.Difference.{Difference, NamesEvents}
 use Rattle.stn_net.specs.Schedule.{IsSchedule, HasSchedule, Meets}

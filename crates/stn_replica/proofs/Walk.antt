@@ -1,5 +1,5 @@
 -- A walk over the live records of a state.
-use Rattle.std.proofs.Common.{◌≡◌, ℕ, ℤ, ◌+◌, ◌<◌, ◌≤◌, Bool, true, false, cond, not, ◌&&◌, List, [], ◌∷◌, ◌++◌, length, get_or, take, drop, map, filter, Option, Some, None, is_some, refl, sym, ap, subst, ◌∙◌, arith, append-nil, append_assoc, length-append, All}
+use Rattle.std.proofs.Common.{◌≡◌, ℕ, ℤ, ◌+◌, Bool, true, false, cond, not, ◌&&◌, List, [], ◌∷◌, ◌++◌, length, get_or, take, drop, map, filter, is_some, refl, sym, ap, subst, ◌∙◌, arith, append-nil, append_assoc, length-append, All}
 use Rattle.std.proofs.lemmas.List.{map-append, take-append-drop, take-append-le, take_all, length-map}
 use Rattle.std.proofs.lemmas.Bool.{false≢true}
 use Rattle.std.proofs.lemmas.List.Elements.{filter-append, All-same, All-push, All-head, All-take}
@@ -85,9 +85,6 @@ pub seen_dead : (P : Difference → Type 0) (state : Content) (place : ℕ) (e :
     → is_live state e.0 ≡ false → All P (bounds_seen state place) → All P (bounds_seen state (place + 1))
 seen_dead P state place e more dead seen =
     All-same P (bounds_seen state (place + 1)) (bounds_seen state place) (ap bounds_of (one_more_dead state place e more (live_at state place e false more dead))) seen
-
-pub seen_same : (P : Difference → Type 0) (state : Content) (place : ℕ) → take (place + 1) (entries state.additions) ≡ take place (entries state.additions) → All P (bounds_seen state place) → All P (bounds_seen state (place + 1))
-seen_same P state place same seen = All-same P (bounds_seen state (place + 1)) (bounds_seen state place) (ap (λ records. bounds_of (filter (λ entry. not (contains_key state.tombstones entry.0)) records)) same) seen
 
 -- the first live record whose bound is broken
 pub found_record : (state : Content) (time : ℕ → ℤ) (place : ℕ) (e : SiteCounter × Record) → take (place + 1) (entries state.additions) ≡ take place (entries state.additions) ++ e ∷ []

@@ -5,6 +5,7 @@ pub use faults::ReplicaFault;
 pub use laws::{one_report, same_items_same_bytes, state_is_union, took_same_same_bytes};
 pub use names::BoundName;
 pub use replica::Replica;
+pub use report::MOST_REPORT;
 
 mod faults;
 mod laws;

@@ -1,4 +1,4 @@
-ghost use Rattle.std.specs.Prelude.{◌≡◌, ◌+◌, ◌^◌, ◌<◌, ◌++◌, codes, length, OnOk};
+ghost use Rattle.std.specs.Prelude.{◌≡◌, ◌+◌, ◌^◌, ◌<◌, ◌≤◌, ◌++◌, codes, length, OnOk};
 ghost use Rattle.stn_replica.specs.Lines.{
   plan_line,
   records_line,
@@ -9,18 +9,21 @@ ghost use Rattle.stn_replica.specs.Lines.{
   side_text,
   limit_of,
   limit_text,
-  bound_line,
   link_line,
 };
-ghost use Rattle.stn_replica.specs.Names.{name_in, name_text};
+ghost use Rattle.stn_replica.specs.Names.{name_in};
+ghost use Rattle.stn_net.specs.Event.{event_text};
 ghost use Rattle.stn_conflict.specs.Arcs.{bound_at};
 
 use crate::names::BoundName;
 use std::alloc::Allocator;
 use stn_conflict::{Link, Side};
-use stn_net::{Bound, Event, append_decimal};
+use stn_net::{Bound, Event, MOST_EVENTS, append_decimal};
 use stn_records::Id;
 use stn_time::{Memory, Ms, print_millis};
+
+/// The most bytes of a line.
+pub const MOST_LINE: usize = 64;
 
 // After an error, a part of a line may stand in the output.
 
@@ -29,7 +32,8 @@ pub fn append_plan_line<B: Allocator>(
     steps: u16,
     events: u16,
 ) -> Result<(), Memory>
-    ensures { OnOk result (out.new.items ≡ out.old.items ++ plan_line steps events) }
+    ensures line { OnOk result (out.new.items ≡ out.old.items ++ plan_line steps events) }
+    ensures short { OnOk result (length out.new.items ≤ length out.old.items + MOST_LINE) }
 {
     append_decimal(out, b"plan ", steps)?;
     append_decimal(out, b" steps ", events)?;
@@ -42,7 +46,8 @@ pub fn append_records_line<B: Allocator>(
     live: u16,
     withdrawn: u16,
 ) -> Result<(), Memory>
-    ensures { OnOk result (out.new.items ≡ out.old.items ++ records_line live withdrawn) }
+    ensures line { OnOk result (out.new.items ≡ out.old.items ++ records_line live withdrawn) }
+    ensures short { OnOk result (length out.new.items ≤ length out.old.items + MOST_LINE) }
 {
     append_decimal(out, b"records ", live)?;
     append_decimal(out, b" live ", withdrawn)?;
@@ -57,9 +62,10 @@ pub fn append_window_line<B: Allocator>(
     latest: Ms,
     done: bool,
 ) -> Result<(), Memory>
-    ensures { OnOk result (out.new.items ≡ out.old.items ++ window_line event earliest latest done) }
+    ensures line { OnOk result (out.new.items ≡ out.old.items ++ window_line event earliest latest done) }
+    ensures short { OnOk result (length out.new.items ≤ length out.old.items + MOST_LINE) }
 {
-    event.print(out)?;
+    append_event(out, event)?;
     out.extend_from_slice(b" ")?;
     append_times(out, earliest, latest)?;
     out.extend_from_slice(done_text(done))?;
@@ -67,8 +73,17 @@ pub fn append_window_line<B: Allocator>(
     Ok(())
 }
 
+fn append_event<B: Allocator>(out: &mut Vec<u8, B>, event: Event) -> Result<(), Memory>
+    ensures text { OnOk result (out.new.items ≡ out.old.items ++ event_text event) }
+    ensures short { OnOk result (length out.new.items ≤ length out.old.items + 6) }
+{
+    prove!(event.number() <= MOST_EVENTS);
+    event.print(out)
+}
+
 fn append_times<B: Allocator>(out: &mut Vec<u8, B>, earliest: Ms, latest: Ms) -> Result<(), Memory>
-    ensures { OnOk result (out.new.items ≡ out.old.items ++ times_text earliest latest) }
+    ensures text { OnOk result (out.new.items ≡ out.old.items ++ times_text earliest latest) }
+    ensures short { OnOk result (length out.new.items ≤ length out.old.items + 43) }
 {
     earliest.print(out)?;
     out.extend_from_slice(b" ")?;
@@ -83,7 +98,8 @@ fn done_text(done: bool) -> &'static [u8]
 }
 
 pub fn append_conflict_line<B: Allocator>(out: &mut Vec<u8, B>, sum: i64) -> Result<(), Memory>
-    ensures { OnOk result (out.new.items ≡ out.old.items ++ conflict_line sum) }
+    ensures line { OnOk result (out.new.items ≡ out.old.items ++ conflict_line sum) }
+    ensures short { OnOk result (length out.new.items ≤ length out.old.items + MOST_LINE) }
 {
     out.extend_from_slice(b"conflict ")?;
     print_millis(sum, out)?;
@@ -102,7 +118,8 @@ pub fn append_link_line<B: Allocator>(
     requires there { link.place < length base.now + length others.now }
     requires few { length base.now < 2 ^ 32 }
     requires one_each { length ids.now ≡ length others.now }
-    ensures { OnOk result (out.new.items ≡ out.old.items ++ link_line base.now ids.now others.now link) }
+    ensures line { OnOk result (out.new.items ≡ out.old.items ++ link_line base.now ids.now others.now link) }
+    ensures short { OnOk result (length out.new.items ≤ length out.old.items + MOST_LINE) }
 {
     bound_name(base, ids, link.place).print(out)?;
     out.extend_from_slice(side_text(link.side))?;
@@ -144,11 +161,12 @@ fn side_text(side: Side) -> &'static [u8]
 }
 
 fn append_limit<B: Allocator>(out: &mut Vec<u8, B>, bound: Bound, side: Side) -> Result<(), Memory>
-    ensures { OnOk result (out.new.items ≡ out.old.items ++ limit_text bound side) }
+    ensures text { OnOk result (out.new.items ≡ out.old.items ++ limit_text bound side) }
+    ensures short { OnOk result (length out.new.items ≤ length out.old.items + 35) }
 {
-    bound.from().print(out)?;
+    append_event(out, bound.from())?;
     out.extend_from_slice(b" ")?;
-    bound.to().print(out)?;
+    append_event(out, bound.to())?;
     out.extend_from_slice(b" ")?;
     limit_of(bound, side).print(out)?;
     Ok(())

@@ -64,14 +64,9 @@ pub fn tighten_risen<A: Allocator + Copy>(
     ensures least { matrix.old.steps ≤ matrix.new.steps }
     ensures most { matrix.new.steps ≤ matrix.old.steps + length (risen before.now after.now) }
 {
-    for place in 0..after.known() {
-        if let Some(entry) = after.record_at(place) {
-            let (id, _, bound) = entry;
-            if has_risen(before, after, id) {
-                if !matrix.tighten(bound) {
-                    return false;
-                }
-            }
+    for &(id, record) in after.state().additions().entries() {
+        if has_risen(before, after, id) && !matrix.tighten(record.bound) {
+            return false;
         }
     }
     true
@@ -88,12 +83,9 @@ fn has_risen<A: Allocator + Copy>(before: &Records<A>, after: &Records<A>, id: I
 pub fn keeps_live<A: Allocator + Copy>(before: &Records<A>, after: &Records<A>) -> bool
     ensures { IsTrue result ↔ KeepsLive before.now after.now }
 {
-    for place in 0..before.known() {
-        if let Some(entry) = before.record_at(place) {
-            let (id, _, _) = entry;
-            if has_risen(after, before, id) {
-                return false;
-            }
+    for &(id, _) in before.state().additions().entries() {
+        if has_risen(after, before, id) {
+            return false;
         }
     }
     true
@@ -103,11 +95,9 @@ pub fn keeps_live<A: Allocator + Copy>(before: &Records<A>, after: &Records<A>) 
 pub fn all_name_events<A: Allocator + Copy>(records: &Records<A>, events: u16) -> bool
     ensures { IsTrue result ↔ RecordsName events records.now }
 {
-    for place in 0..records.known() {
-        if let Some(entry) = records.record_at(place) {
-            if !names_events(&entry.2, events) {
-                return false;
-            }
+    for (_, record) in records.state().additions().entries() {
+        if !names_events(&record.bound, events) {
+            return false;
         }
     }
     true

@@ -9,6 +9,7 @@ ghost use Rattle.stn_replica.specs.Bounds.{all_bounds, live_bounds, RecordsName}
 ghost use Rattle.stn_replica.specs.Names.{IsFirstBroken, IsFirstBrokenRecord, RecordsTimed};
 ghost use Rattle.stn_replica.specs.Held.{plain};
 ghost use Rattle.stn_replica.specs.Work.{SparesWork};
+ghost use Rattle.stn_replica.specs.Calls.{added, withdrew, took, Leaves};
 ghost use Rattle.stn_replica.specs.Faults.{next_id, CanAdd, IsAddFault, IsWithdrawFault, CanTake, IsTakeFault};
 
 use crate::faults::ReplicaFault;
@@ -85,6 +86,7 @@ impl<A: Allocator + Copy> Replica<A> {
         ensures joined { OnOk result (join_contents self.old.state (one_record (next_id self.old) (plain from to lo hi)) ≡ Some self.new.state) }
         ensures site { OnOk result (self.new.site ≡ self.old.site) }
         ensures source { OnOk result (self.new.source ≡ self.old.source) }
+        ensures leaves { OnOk result (Leaves self.old (added (next_id self.old) (plain from to lo hi)) self.new) }
         ensures work { OnOk result (SparesWork self.old self.new) }
 
         ensures accepted { OnOk result (CanAdd self.old (record { from = from; to = to; lo = lo; hi = hi })) }
@@ -110,6 +112,7 @@ impl<A: Allocator + Copy> Replica<A> {
         ensures joined { OnOk result (join_contents self.old.state (one_tombstone id) ≡ Some self.new.state) }
         ensures site { OnOk result (self.new.site ≡ self.old.site) }
         ensures source { OnOk result (self.new.source ≡ self.old.source) }
+        ensures leaves { OnOk result (Leaves self.old (withdrew id) self.new) }
         ensures work { OnOk result (SparesWork self.old self.new) }
 
         ensures accepted { OnOk result (is_known self.old.state id ≡ true) }
@@ -134,6 +137,7 @@ impl<A: Allocator + Copy> Replica<A> {
         ensures joined { OnOk result (join_contents self.old.state other.now ≡ Some self.new.state) }
         ensures site { OnOk result (self.new.site ≡ self.old.site) }
         ensures source { OnOk result (self.new.source ≡ self.old.source) }
+        ensures leaves { OnOk result (Leaves self.old (took other.now) self.new) }
         ensures work { OnOk result (SparesWork self.old self.new) }
 
         ensures accepted { OnOk result (CanTake self.old other.now) }
@@ -234,14 +238,10 @@ fn first_broken_record<A: Allocator + Copy>(records: &Records<A>, times: &[Ms]) 
     ensures none { IfNone result (All (Meets (times_of times.now)) (live_bounds records.now)) }
     ensures found { IfSome result (IsFirstBrokenRecord records.now (times_of times.now)) }
 {
-    for place in 0..records.known() {
-        if let Some(entry) = records.record_at(place) {
-            let (id, _, bound) = entry;
-            if records.is_live(id) {
-                if is_broken(bound, times) {
-                    return Some(id);
-                }
-            }
+    for &(id, record) in records.state().additions().entries() {
+        let live = records.is_live(id);
+        if live && is_broken(record.bound, times) {
+            return Some(id);
         }
     }
     None

@@ -1,4 +1,4 @@
-ghost use Rattle.std.specs.Prelude.{◌≡◌, ℕ, ◌+◌, ◌<◌, ◌≤◌, ◌++◌, ◌^◌, List, codes, length, map, All, IfOk, OnOk, OnErr};
+ghost use Rattle.std.specs.Prelude.{◌≡◌, ℕ, ◌+◌, ◌*◌, ◌<◌, ◌≤◌, ◌++◌, ◌^◌, List, codes, length, map, All, IfOk, OnOk, OnErr, false, slice_index_or, vec_len};
 ghost use Rattle.std.specs.FinMap.{keys};
 ghost use Rattle.std.specs.List.{flat_map};
 ghost use Rattle.stn_net.specs.Difference.{Difference};
@@ -8,10 +8,10 @@ ghost use Rattle.stn_lift.specs.PlanSource.{events_of};
 ghost use Rattle.stn_records.specs.Content.{known_count, live_of, listed};
 ghost use Rattle.stn_replica.specs.Bounds.{all_bounds, RecordsName};
 ghost use Rattle.stn_replica.specs.Lines.{line, conflict_line, link_line};
-ghost use Rattle.stn_replica.specs.Report.{is_done_in, IsWindowLines, IsReport, IsConflictPart, heading};
+ghost use Rattle.stn_replica.specs.Report.{is_done_mark, is_done_in, IsWindowLines, IsReport, IsConflictPart, heading};
 
 use crate::lines::{
-    append_conflict_line, append_link_line, append_plan_line, append_records_line,
+    MOST_LINE, append_conflict_line, append_link_line, append_plan_line, append_records_line,
     append_window_line,
 };
 use crate::replica::Replica;
@@ -23,13 +23,17 @@ use stn_records::{Id, Mark, Records};
 use stn_time::Memory;
 use stn_windows::window;
 
+/// The most bytes of a report.
+pub const MOST_REPORT: usize = 65_536;
+
 impl<A: Allocator + Copy> Replica<A> {
     /// Appends the report: how many steps, events, live and withdrawn records there are; then, where
     /// all bounds have a schedule, the window of each event, and else one cycle of bounds that
-    /// contradict each other. It depends on the plan and the state alone. For want of memory it
-    /// appends nothing.
+    /// contradict each other. It depends on the plan and the state alone, and has at most
+    /// `MOST_REPORT` bytes. For want of memory it appends nothing.
     pub fn report<B: Allocator>(&self, out: &mut Vec<u8, B>) -> Result<(), Memory>
         ensures reported { OnOk result ((text : List ℕ) × IsReport self.now.source self.now.state text × (out.new.items ≡ out.old.items ++ text)) }
+        ensures short { OnOk result (length out.new.items ≤ length out.old.items + MOST_REPORT) }
         ensures kept { OnErr result (out.new.items ≡ out.old.items) }
     {
         let text = self.text()?;
@@ -39,13 +43,14 @@ impl<A: Allocator + Copy> Replica<A> {
 
     // The report.
     fn text(&self) -> Result<Vec<u8, A>, Memory>
-        ensures { IfOk result (λ text. IsReport self.now.source self.now.state text.items) }
+        ensures report { IfOk result (λ text. IsReport self.now.source self.now.state text.items) }
+        ensures short { IfOk result (λ text. length text.items ≤ MOST_REPORT) }
     {
         let live = self.records().live()?;
         let mut text = Vec::new(self.alloc());
         self.append_heading(&live, &mut text)?;
         match self.current() {
-            Some(matrix) => append_windows(matrix, &live, &mut text)?,
+            Some(matrix) => append_windows(self.alloc(), matrix, &live, &mut text)?,
             None => self.append_conflict(&live, &mut text)?,
         }
         Ok(text)
@@ -53,7 +58,8 @@ impl<A: Allocator + Copy> Replica<A> {
 
     fn append_heading(&self, live: &[(Id, Mark, Bound)], out: &mut Vec<u8, A>) -> Result<(), Memory>
         requires { live.now ≡ map listed (live_of self.now.state) }
-        ensures { OnOk result (out.new.items ≡ out.old.items ++ heading self.now.source self.now.state) }
+        ensures text { OnOk result (out.new.items ≡ out.old.items ++ heading self.now.source self.now.state) }
+        ensures short { OnOk result (length out.new.items ≤ length out.old.items + MOST_LINE * 2) }
     {
         let withdrawn = withdrawn_count(self.records());
         append_plan_line(out, self.base().steps(), self.base().events())?;
@@ -69,7 +75,8 @@ impl<A: Allocator + Copy> Replica<A> {
         requires live { live.now ≡ map listed (live_of self.now.state) }
         requires named { RecordsName (events_of self.now.source) self.now.state }
         requires conflict { HasSchedule (all_bounds self.now.source self.now.state) → ⊥ }
-        ensures { OnOk result ((text : List ℕ) × IsConflictPart self.now.source self.now.state text × (out.new.items ≡ out.old.items ++ text)) }
+        ensures part { OnOk result ((text : List ℕ) × IsConflictPart self.now.source self.now.state text × (out.new.items ≡ out.old.items ++ text)) }
+        ensures short { OnOk result (length out.new.items ≤ length out.old.items + MOST_LINE * 514) }
     {
         let all_ids = ids_of(self.alloc(), live)?;
         let all_others = bounds_of(self.alloc(), live)?;
@@ -102,41 +109,55 @@ fn withdrawn_count<A: Allocator + Copy>(records: &Records<A>) -> u16
     ensures value { result ≡ length (keys records.now.tombstones) }
     ensures limited { known_count records.now ≤ 4096 }
 {
-    let mut count = 0;
-    for place in 0..records.known() {
-        if records.tomb_at(place).is_some() {
-            count = place as u16 + 1;
-        }
-    }
-    count
+    records.state().tombstones().entries().len() as u16
 }
 
 // `ok` and the windows of the matrix's events.
 fn append_windows<A: Allocator + Copy>(
+    alloc: A,
     matrix: &Matrix<A>,
     live: &[(Id, Mark, Bound)],
     out: &mut Vec<u8, A>,
 ) -> Result<(), Memory>
-    ensures { OnOk result ((bounds : List Difference) → IsExact bounds matrix.now → (text : List ℕ)
+    ensures part { OnOk result ((bounds : List Difference) → IsExact bounds matrix.now → (text : List ℕ)
         × IsWindowLines bounds (is_done_in live.now) matrix.now.events text
         × (out.new.items ≡ out.old.items ++ (line (codes "ok") ++ text))) }
+    ensures short { OnOk result (length out.new.items ≤ length out.old.items + MOST_LINE * 513) }
 {
+    let done = done_flags(alloc, live, matrix.events())?;
     out.extend_from_slice(b"ok\n")?;
     for before in 0..matrix.events() {
         let event = Event::new(before + 1).unwrap();
         let (earliest, latest) = window(matrix, event);
-        append_window_line(out, event, earliest, latest, is_done(live, event))?;
+        append_window_line(out, event, earliest, latest, done[usize::from(before) + 1])?;
     }
     Ok(())
 }
 
-// Whether one of the records says that the event is done.
-fn is_done(records: &[(Id, Mark, Bound)], event: Event) -> bool
-    ensures { result ≡ is_done_in records.now event }
+// For each event, the origin first, whether one of the records says that it is done.
+fn done_flags<A: Allocator>(
+    alloc: A,
+    live: &[(Id, Mark, Bound)],
+    events: u16,
+) -> Result<Vec<bool, A>, Memory>
+    ensures one_each { IfOk result (λ flags. vec_len flags ≡ events + 1) }
+    ensures done { IfOk result (λ flags. (event : ℕ) → event ≤ events
+        → slice_index_or flags.items event false ≡ is_done_in live.now event) }
 {
-    records
-        .iter()
-        .any(|entry| entry.1 == Mark::Done && entry.2.to() == event)
+    let mut flags = vec![in alloc; false; usize::from(events) + 1]?;
+    for entry in live {
+        let event = usize::from(entry.2.to().number());
+        if is_done_mark(entry.1) && event < flags.len() {
+            flags[event] = true;
+        }
+    }
+    Ok(flags)
+}
+
+fn is_done_mark(mark: Mark) -> bool
+    ensures { result ≡ is_done_mark mark }
+{
+    mark == Mark::Done
 }
 
 // The sum of the cycle, and then its links.
@@ -150,8 +171,9 @@ fn append_cycle<A: Allocator>(
     requires there { All (λ link. link.place < length base.now + length others.now) found.now.links.items }
     requires few { length base.now < 2 ^ 32 }
     requires one_each { length ids.now ≡ length others.now }
-    ensures { OnOk result (out.new.items ≡ out.old.items
+    ensures text { OnOk result (out.new.items ≡ out.old.items
         ++ (conflict_line found.now.sum ++ flat_map (link_line base.now ids.now others.now) found.now.links.items)) }
+    ensures short { OnOk result (length out.new.items ≤ length out.old.items + MOST_LINE * (length found.now.links.items + 1)) }
 {
     append_conflict_line(out, found.sum)?;
     append_link_lines(base, ids, others, &found.links, out)?;
@@ -168,7 +190,8 @@ fn append_link_lines<B: Allocator>(
     requires there { All (λ link. link.place < length base.now + length others.now) links.now }
     requires few { length base.now < 2 ^ 32 }
     requires one_each { length ids.now ≡ length others.now }
-    ensures { OnOk result (out.new.items ≡ out.old.items ++ flat_map (link_line base.now ids.now others.now) links.now) }
+    ensures text { OnOk result (out.new.items ≡ out.old.items ++ flat_map (link_line base.now ids.now others.now) links.now) }
+    ensures short { OnOk result (length out.new.items ≤ length out.old.items + MOST_LINE * length links.now) }
 {
     for link in links {
         append_link_line(out, base, ids, others, *link)?;

@@ -1,5 +1,5 @@
 -- Two replicas of a list, of which one takes in what the other holds.
-use Rattle.std.proofs.Common.{◌≡◌, ℕ, zero, suc, ◌+◌, ◌-◌, ◌<◌, ◌≤◌, Some, Ok, Err, OnOk, OnErr, IfErr, List, [], ◌∷◌, ◌++◌, length, set, get_or, take, drop, refl, ap, sym, ◌∙◌, arith, subst}
+use Rattle.std.proofs.Common.{◌≡◌, ℕ, zero, suc, ◌-◌, ◌<◌, ◌≤◌, Some, Ok, Err, OnOk, OnErr, IfErr, List, [], ◌∷◌, ◌++◌, length, set, get_or, take, drop, refl, ap, sym, ◌∙◌, arith, subst}
 use Rattle.std.specs.Prelude.{Result}
 use Rattle.std.proofs.lemmas.List.{length-set, set-get_or}
 use Rattle.stn_lift.specs.PlanSource.{PlanSource}
@@ -8,9 +8,9 @@ use Rattle.stn_records.specs.ContentLaws.{contents_repeat}
 use Rattle.stn_replica.specs.Held.{Held}
 use Rattle.stn_replica.specs.declared.faults.ReplicaFault.{ReplicaFault}
 use Rattle.stn_replica.specs.Faults.{CanTake, IsTakeFault}
-use Rattle.stn_world.specs.World.{World, HasSite, content_at, held_at, with_content, merge}
+use Rattle.stn_world.specs.World.{World, HasSite, content_at, with_content, merge}
 use Rattle.stn_world.specs.Sites.{contents_of, IsSites, held_in, IsChanged}
-use Rattle.stn_world.proofs.Sites.{IsHeldAt, held_at_place, world_set, sites_set, join_is_joined, joined_itself, can_take_at, take_fault_at}
+use Rattle.stn_world.proofs.Sites.{IsHeldAt, held_at_place, world_set, sites_set, join_is_joined, joined_itself}
 
 -- what holds in each case of a result
 pub on_ok : {T E P Q R : Type 0} (r : Result T E) → (P → Q → R) → OnOk r P → OnOk r Q → OnOk r R

@@ -1,13 +1,11 @@
 -- What the sites of a world hold after a run.
-use Rattle.std.proofs.Common.{◌≡◌, ◌↔◌, ◌⊎◌, inl, inr, ⊎_elim, ℕ, zero, suc, ◌+◌, ◌-◌, ◌<◌, ◌≤◌, Some, Bool, true, false, eqb, List, [], ◌∷◌, length, set, get_or, replicate, refl, ap, sym, subst, ◌∙◌, arith}
+use Rattle.std.proofs.Common.{◌≡◌, ◌↔◌, ◌⊎◌, inl, inr, ⊎_elim, ℕ, zero, suc, ◌-◌, ◌<◌, ◌≤◌, Some, List, [], ◌∷◌, length, set, get_or, replicate, refl, ap, sym, subst, ◌∙◌, arith}
 use Rattle.std.proofs.lemmas.List.{length-set}
 use Rattle.stn_lift.specs.PlanSource.{PlanSource}
-use Rattle.stn_records.specs.declared.record.Record.{Record}
 use Rattle.stn_records.specs.Content.{Content, Item, HasItem, no_content, with_record, with_tombstone, join_contents, joined_contents, addition, withdrawal}
 use Rattle.stn_records.specs.ContentLaws.{contents_join}
 use Rattle.stn_replica.proofs.Items.{nothing_there, record_brought, withdrawal_brought}
-use Rattle.stn_replica.specs.Report.{IsReport}
-use Rattle.stn_world.specs.World.{World, HasSite, opening_world, content_at, next_id_at, with_content, make, withdraw, merge}
+use Rattle.stn_world.specs.World.{World, HasSite, opening_world, content_at, next_id_at, with_content}
 use Rattle.stn_world.specs.Runs.{Step, made, withdrew, merged, after, after_all, IsAccepted, AreAccepted, Brings, TookAt}
 
 -- a place of a list that was set, or another

@@ -1,7 +1,7 @@
 -- The replicas of a world, as they are made and as one of them changes.
 use Rattle.std.proofs.Common.{◌≡◌, true, false, not, is_some, Some, None, Option, ℕ, zero, suc, ◌+◌, ◌-◌, ◌<◌, ◌≤◌, List, [], ◌∷◌, ◌++◌, length, map, replicate, set, get_or, refl, ap, sym, ◌∙◌, arith, subst}
-use Rattle.std.proofs.lemmas.List.{map-append, map-set, length-set, length-append, replicate-append-replicate, get_or-map, length-map}
-use Rattle.std.proofs.lemmas.List.FromFn.{get_or-range_with_len, length-range_with_len}
+use Rattle.std.proofs.lemmas.List.{map-append, map-set, length-set, length-append, get_or-map, length-map}
+use Rattle.std.proofs.lemmas.List.FromFn.{get_or-range_with_len}
 use Rattle.std.proofs.Math.Seq.{map-set_same}
 use Rattle.std.specs.List.{range_with_len}
 use Rattle.stn_lift.specs.PlanSource.{PlanSource}
@@ -14,7 +14,7 @@ use Rattle.stn_records.specs.declared.record.Record.{Record}
 use Rattle.stn_replica.specs.declared.faults.ReplicaFault.{ReplicaFault}
 use Rattle.stn_replica.specs.declared.faults.ReplicaFault.TheVariants.{NoEvent, SameEvent, Crossed, CounterSpent, Full, Unknown, Clash, Memory}
 use Rattle.stn_replica.specs.Faults.{next_id, CanAdd, IsAddFault, IsWithdrawFault, CanTake, IsTakeFault}
-use Rattle.stn_world.specs.World.{World, HasSite, content_at, held_at, next_id_at, with_content, make, withdraw, merge}
+use Rattle.stn_world.specs.World.{World, HasSite, content_at, held_at, next_id_at, with_content, make, withdraw}
 use Rattle.stn_world.specs.Sites.{contents_of, IsSites}
 
 -- one number more

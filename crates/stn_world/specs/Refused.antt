@@ -1,6 +1,5 @@
 -- Why a world refuses a call.
 use Rattle.std.specs.Prelude.{ℕ}
-use Rattle.stn_records.specs.declared.id.TheConstants.{MOST_SITES}
 use Rattle.stn_records.specs.Id.{IsSite}
 use Rattle.stn_replica.specs.declared.faults.ReplicaFault.{ReplicaFault}
 use Rattle.stn_world.specs.declared.faults.SitesFault.{SitesFault}

@@ -1,5 +1,5 @@
 -- A plan at several sites, as a value, and its changes.
-use Rattle.std.specs.Prelude.{ℕ, ◌-◌, ◌<◌, ◌≤◌, List, length, slice_index_or, slice_set, replicate, refl}
+use Rattle.std.specs.Prelude.{ℕ, ◌-◌, ◌≤◌, List, length, slice_index_or, slice_set, replicate, refl}
 use Rattle.std.specs.Coded.{Coded, code_by, coded×, coded_list}
 use Rattle.stn_lift.specs.PlanSource.{PlanSource, coded_source}
 use Rattle.stn_records.specs.declared.record.Record.{Record}

@@ -1,6 +1,3 @@
-use Rattle.std.proofs.Common.{◌≡◌, List, subst, ap}
-use Rattle.stn_lift.specs.PlanSource.{PlanSource}
-use Rattle.stn_records.specs.Content.{Content}
 use Rattle.stn_replica.proofs.Items.{same_state}
 use Rattle.stn_replica.proofs.OneReport.{same_reports}
 use Rattle.stn_replica.proofs.laws.took_same_same_bytes.Goals as goal

@@ -3,5 +3,5 @@ use Rattle.std.specs.FinMap.{entries}
 use Rattle.stn_net.specs.Difference.{NamesEvents}
 use Rattle.stn_replica.proofs.matrices.all_name_events.Given as goal
 
-abbrev pub invariant-loop-place : goal.invariant-loop-place
-invariant-loop-place g l = All (λ entry. NamesEvents l.events entry.1.bound) (take l.place (entries l.records.additions))
+abbrev pub invariant-loop-record : goal.invariant-loop-record
+invariant-loop-record g l = All (λ entry. NamesEvents l.events entry.1.bound) (take l.record-index (entries l.records.additions))

@@ -3,5 +3,5 @@ use Rattle.std.specs.FinMap.{entries}
 use Rattle.stn_replica.specs.Work.{is_risen}
 use Rattle.stn_replica.proofs.matrices.keeps_live.Given as goal
 
-abbrev pub invariant-loop-place : goal.invariant-loop-place
-invariant-loop-place g l = All (λ entry. is_risen l.after l.before entry.0 ≡ false) (take l.place (entries l.before.additions))
+abbrev pub invariant-loop-id : goal.invariant-loop-id
+invariant-loop-id g l = All (λ entry. is_risen l.after l.before entry.0 ≡ false) (take l.id-index (entries l.before.additions))

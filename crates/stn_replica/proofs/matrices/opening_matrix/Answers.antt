@@ -1,4 +1,4 @@
-use Rattle.std.proofs.Common.{◌≤◌, length, subst, sym, ap, ◌∙◌, arith}
+use Rattle.std.proofs.Common.{length, ap, arith}
 use Rattle.stn_replica.proofs.Opening.{horizon_within}
 use Rattle.stn_replica.proofs.matrices.opening_matrix.Goals as goal
 

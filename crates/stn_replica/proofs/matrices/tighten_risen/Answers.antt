@@ -1,57 +1,58 @@
-use Rattle.std.proofs.Common.{◌≡◌, refl, sym, ap, ◌∙◌, take, arith}
+use Rattle.std.proofs.Common.{◌≡◌, ◌+◌, [], ◌∷◌, ◌++◌, refl, sym, ap, ◌∙◌, take, arith}
 use Rattle.std.proofs.lemmas.Bool.{false≢true}
 use Rattle.std.specs.FinMap.{entries}
-use Rattle.stn_replica.proofs.Count.{all_seen}
-use Rattle.stn_replica.proofs.Places.{entry_of, one_more_seen, no_more_seen}
+use Rattle.stn_replica.proofs.Places.{walked_are, one_more_seen, all_seen}
 use Rattle.stn_replica.proofs.Tightening.{none_taken, one_taken, none_more, taken_same, conflict_ahead, fewer_risen}
 use Rattle.stn_replica.proofs.matrices.tighten_risen.Goals as goal
-use Rattle.stn_replica.proofs.matrices.tighten_risen.Goals.{in-Some+then-has_risen+else-not-tighten, in-Some+else-has_risen, in_default}
+use Rattle.stn_replica.proofs.matrices.tighten_risen.Goals.{else-has_risen-via-then-has_risen+else-not-tighten, else-has_risen-via-else-has_risen}
 
 pub returns-then-not-tighten-clause-known : goal.returns-then-not-tighten-clause-known
 returns-then-not-tighten-clause-known g c = λ bounds exact.
-    conflict_ahead c.args.before.now c.args.after.now (entries c.args.after.now.additions) c.loop-place.place
-    (entry_of c.in-Some.entry.0 c.in-Some.entry.1 c.in-Some.entry.2) bounds
-    (one_more_seen (entries c.args.after.now.additions) c.loop-place.place c.in-Some.entry.0 c.in-Some.entry.1 c.in-Some.entry.2 c.in-Some.ensures.value)
+    conflict_ahead c.args.before.now c.args.after.now (entries c.args.after.now.additions) c.loop-id.id-index c.loop-id-item.result bounds
+    (one_more_seen (entries c.args.after.now.additions) c.entries-id-items.result.now c.loop-id.id-index c.loop-id-item.result
+    (walked_are c.args.after.now c.state.result.now c.additions.result.now c.entries-id-items.result.now c.entries-id-items.ensures.value c.additions.ensures c.state.ensures.value)
+    c.loop-id-test.true c.loop-id-item.is)
     (sym c.has_risen.ensures ∙ c.if-has_risen.true)
-    (λ s. false≢true ((c.if-not-tighten.ensures.possible _ (c.loop-place.invariant.exact bounds exact)).1 s))
+    (λ s. false≢true ((c.if-not-tighten.ensures.possible _ (c.loop-id.invariant.exact bounds exact)).1 s))
 
 pub returns-then-not-tighten-clause-most : goal.returns-then-not-tighten-clause-most
 returns-then-not-tighten-clause-most g c =
-    omega (arith, fewer_risen c.args.before.now c.args.after.now (entries c.args.after.now.additions) c.loop-place.place, c.loop-place.invariant.most, ap (λ t. t.steps) (c.if-not-tighten.ensures.unchanged refl))
+    omega (arith, fewer_risen c.args.before.now c.args.after.now (entries c.args.after.now.additions) c.loop-id.id-index, c.loop-id.invariant.most, ap (λ t. t.steps) (c.if-not-tighten.ensures.unchanged refl))
 
-pub loop-place-preserved : goal.loop-place-preserved
-loop-place-preserved g c =
-    elim c.match-record_at.branch [
-      | in-Some+then-has_risen+else-not-tighten w ↦
-          let e = entry_of w.in-Some.entry.0 w.in-Some.entry.1 w.in-Some.entry.2 in
-          taken_same c.args.before.now c.args.after.now _ _ c.args.matrix.now w.tighten.new.self c.match-record_at.matrix
-          (one_more_seen (entries c.args.after.now.additions) c.loop-place.place w.in-Some.entry.0 w.in-Some.entry.1 w.in-Some.entry.2 w.in-Some.ensures.value)
+pub loop-id-preserved : goal.loop-id-preserved
+loop-id-preserved g c =
+    let records = entries c.args.after.now.additions in
+    let seen = take c.loop-id.id-index records in
+    let more : take (c.loop-id.id-index + 1) records ≡ seen ++ c.loop-id-item.result ∷ [] =
+    one_more_seen (entries c.args.after.now.additions) c.entries-id-items.result.now c.loop-id.id-index c.loop-id-item.result
+    (walked_are c.args.after.now c.state.result.now c.additions.result.now c.entries-id-items.result.now c.entries-id-items.ensures.value c.additions.ensures c.state.ensures.value)
+    c.loop-id-test.true c.loop-id-item.is in
+    elim c.else-has_risen.branch [
+      | else-has_risen-via-then-has_risen+else-not-tighten w ↦
+          taken_same c.args.before.now c.args.after.now (seen ++ c.loop-id-item.result ∷ []) (take (c.loop-id.id-index + 1) records) c.args.matrix.now w.tighten.new.self c.else-has_risen.matrix more
           w.matrix-is
-          (one_taken c.args.before.now c.args.after.now (take c.loop-place.place (entries c.args.after.now.additions)) e c.args.matrix.now c.loop-place.matrix w.tighten.new.self
-          c.loop-place.invariant (sym w.has_risen.ensures ∙ w.if-has_risen.true)
+          (one_taken c.args.before.now c.args.after.now seen c.loop-id-item.result c.args.matrix.now c.loop-id.matrix w.tighten.new.self
+          c.loop-id.invariant (sym c.has_risen.ensures ∙ w.if-has_risen.true)
           (λ bounds exact. w.if-not-tighten.ensures.exact bounds exact refl) w.if-not-tighten.ensures.events (w.if-not-tighten.ensures.counted refl))
-      | in-Some+else-has_risen w ↦
-          let e = entry_of w.in-Some.entry.0 w.in-Some.entry.1 w.in-Some.entry.2 in
-          taken_same c.args.before.now c.args.after.now _ _ c.args.matrix.now c.loop-place.matrix c.match-record_at.matrix
-          (one_more_seen (entries c.args.after.now.additions) c.loop-place.place w.in-Some.entry.0 w.in-Some.entry.1 w.in-Some.entry.2 w.in-Some.ensures.value)
+      | else-has_risen-via-else-has_risen w ↦
+          taken_same c.args.before.now c.args.after.now (seen ++ c.loop-id-item.result ∷ []) (take (c.loop-id.id-index + 1) records) c.args.matrix.now c.loop-id.matrix c.else-has_risen.matrix more
           w.matrix-is
-          (none_more c.args.before.now c.args.after.now (take c.loop-place.place (entries c.args.after.now.additions)) e c.args.matrix.now c.loop-place.matrix
-          c.loop-place.invariant (sym w.has_risen.ensures ∙ w.if-has_risen.false))
-      | in_default w ↦
-          taken_same c.args.before.now c.args.after.now _ _ c.args.matrix.now c.loop-place.matrix c.match-record_at.matrix
-          (no_more_seen (entries c.args.after.now.additions) c.loop-place.place w.in_default.ensures.value)
-          w.matrix-is c.loop-place.invariant
+          (none_more c.args.before.now c.args.after.now seen c.loop-id-item.result c.args.matrix.now c.loop-id.matrix c.loop-id.invariant (sym c.has_risen.ensures ∙ w.if-has_risen.false))
     ]
 
-pub loop-place-init : goal.loop-place-init
-loop-place-init g c = none_taken c.args.before.now c.args.after.now c.args.matrix.now c.requires.counted
+pub loop-id-init : goal.loop-id-init
+loop-id-init g c = none_taken c.args.before.now c.args.after.now c.args.matrix.now c.requires.counted
 
 pub returns-clause-known : goal.returns-clause-known
 returns-clause-known g c = λ bounds exact.
-    (taken_same c.args.before.now c.args.after.now _ _ c.args.matrix.now c.loop-place.matrix c.loop-place.matrix
-    (sym (all_seen c.args.after.now c.loop-place.place c.known-place-end.result c.known-place-end.ensures.count c.loop-place-test.false)) refl c.loop-place.invariant).exact bounds exact
+    (taken_same c.args.before.now c.args.after.now _ _ c.args.matrix.now c.loop-id.matrix c.loop-id.matrix
+    (sym (all_seen (entries c.args.after.now.additions) c.entries-id-items.result.now c.loop-id.id-index
+    (walked_are c.args.after.now c.state.result.now c.additions.result.now c.entries-id-items.result.now c.entries-id-items.ensures.value c.additions.ensures c.state.ensures.value)
+    c.loop-id-test.false)) refl c.loop-id.invariant).exact bounds exact
 
 pub returns-clause-most : goal.returns-clause-most
 returns-clause-most g c =
-    (taken_same c.args.before.now c.args.after.now _ _ c.args.matrix.now c.loop-place.matrix c.loop-place.matrix
-    (sym (all_seen c.args.after.now c.loop-place.place c.known-place-end.result c.known-place-end.ensures.count c.loop-place-test.false)) refl c.loop-place.invariant).most
+    (taken_same c.args.before.now c.args.after.now _ _ c.args.matrix.now c.loop-id.matrix c.loop-id.matrix
+    (sym (all_seen (entries c.args.after.now.additions) c.entries-id-items.result.now c.loop-id.id-index
+    (walked_are c.args.after.now c.state.result.now c.additions.result.now c.entries-id-items.result.now c.entries-id-items.ensures.value c.additions.ensures c.state.ensures.value)
+    c.loop-id-test.false)) refl c.loop-id.invariant).most

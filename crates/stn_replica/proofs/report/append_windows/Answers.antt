@@ -1,4 +1,5 @@
-use Rattle.std.proofs.Common.{◌≡◌, ◌+◌, ◌++◌, codes, subst, sym, ap, ◌∙◌, arith, append_assoc}
+use Rattle.std.proofs.Common.{◌≡◌, ◌+◌, ◌++◌, codes, subst, sym, ap, ◌∙◌, false, arith, append_assoc}
+use Rattle.std.proofs.lemmas.List.{get_or_read}
 use Rattle.stn_replica.specs.Lines.{line, window_line}
 use Rattle.stn_replica.specs.Report.{is_done_in, IsWindowLines}
 use Rattle.stn_replica.proofs.Printing.{one_more_line}
@@ -6,20 +7,28 @@ use Rattle.stn_replica.proofs.Sound.{held_is}
 use Rattle.stn_replica.proofs.report.append_windows.Goals as goal
 
 pub loop-before-preserved : goal.loop-before-preserved
-loop-before-preserved g c = λ bounds exact.
-    let seen = c.loop-before.invariant bounds exact in
-    let is = held_is c.new.result c.unwrap-event.result (c.loop-before.before + 1) c.unwrap-event.ensures c.new.ensures.value in
-    let last = window_line c.unwrap-event.result c.window-earliest.result.0 c.window-earliest.result.1 (is_done_in c.args.live.now c.unwrap-event.result) in (
-      seen.0 ++ last,
-      one_more_line bounds (is_done_in c.args.live.now) c.loop-before.before c.unwrap-event.result c.window-earliest.result.0 c.window-earliest.result.1 seen.0 seen.1 is (c.window-earliest.ensures bounds exact),
-      c.in_ok-append_window_line.ensures
-          ∙ ap (λ done. c.loop-before.out.items ++ window_line c.unwrap-event.result c.window-earliest.result.0 c.window-earliest.result.1 done) c.is_done.ensures
-          ∙ ap (λ front. front ++ last) seen.2 ∙ append_assoc c.extend_from_slice.new.self.items seen.0 last,
-    )
+loop-before-preserved g c = record {
+  lines = λ bounds exact.
+      let seen = c.loop-before.invariant.lines bounds exact in
+      let is = held_is c.new.result c.unwrap-event.result (c.loop-before.before + 1) c.unwrap-event.ensures c.new.ensures.value in
+      let place : c.from.result + 1 ≡ c.loop-before.before + 1 = ap (λ n. n + 1) c.from.ensures in
+      let events : c.events.result ≡ c.events-before-end.result = c.events.ensures.value ∙ sym c.events-before-end.ensures.value in
+      let flag : c.index.result.now ≡ is_done_in c.args.live.now c.unwrap-event.result =
+      get_or_read c.in_ok-done.done.items (c.from.result + 1) c.index.result.now (omega (arith, place, events, c.in_ok-done.ensures.one_each, c.in_ok-done.done.ok.0, c.loop-before-test.true, c.loop-before.auto.before-end)) c.index.ensures false
+      ∙ c.in_ok-done.ensures.done (c.from.result + 1) (omega (arith, place, events, c.loop-before-test.true)) ∙ ap (is_done_in c.args.live.now) (place ∙ sym is) in
+      let last = window_line c.unwrap-event.result c.window-earliest.result.0 c.window-earliest.result.1 (is_done_in c.args.live.now c.unwrap-event.result) in (
+        seen.0 ++ last,
+        one_more_line bounds (is_done_in c.args.live.now) c.loop-before.before c.unwrap-event.result c.window-earliest.result.0 c.window-earliest.result.1 seen.0 seen.1 is (c.window-earliest.ensures bounds exact),
+        c.in_ok-append_window_line.ensures.line
+            ∙ ap (λ done. c.loop-before.out.items ++ window_line c.unwrap-event.result c.window-earliest.result.0 c.window-earliest.result.1 done) flag
+            ∙ ap (λ front. front ++ last) seen.2 ∙ append_assoc c.extend_from_slice.new.self.items seen.0 last,
+      );
+  short = omega (arith, c.loop-before.invariant.short, c.in_ok-append_window_line.ensures.short);
+}
 
-pub returns : goal.returns
-returns g c = λ bounds exact.
-    let seen = c.loop-before.invariant bounds exact in
+pub returns-clause-part : goal.returns-clause-part
+returns-clause-part g c = λ bounds exact.
+    let seen = c.loop-before.invariant.lines bounds exact in
     let all : c.loop-before.before ≡ c.args.matrix.now.events = omega (arith, c.events-before-end.ensures.value, c.loop-before.auto.before-end, c.loop-before-test.false) in (
       seen.0,
       subst (λ n. IsWindowLines bounds (is_done_in c.args.live.now) n seen.0) all seen.1,

@@ -1,4 +1,4 @@
-use Rattle.std.proofs.Common.{◌≡◌, sym, ap, ◌∙◌, get_or, arith}
+use Rattle.std.proofs.Common.{ap, ◌∙◌, get_or, arith}
 use Rattle.stn_replica.specs.Held.{Held}
 use Rattle.stn_world.proofs.Pair.{on_ok, on_err, if_err, one_front, one_back, changed_front, changed_back, kept_front, moved_fault, moved_take, joined_front, joined_back}
 use Rattle.stn_world.proofs.world.take_from.Goals as goal

@@ -1,4 +1,4 @@
-use Rattle.std.proofs.Common.{◌≡◌, ◌+◌, ◌<◌, ◌++◌, length, length-append, IsNone, refl, sym, ap, subst, ◌∙◌, All}
+use Rattle.std.proofs.Common.{◌≡◌, ◌+◌, ◌<◌, ◌≤◌, ◌++◌, length, length-append, IsNone, refl, sym, ap, subst, ◌∙◌, arith, All}
 use Rattle.std.specs.List.{flat_map}
 use Rattle.stn_net.specs.Schedule.{HasSchedule}
 use Rattle.stn_lift.specs.PlanSource.{events_of, base_bounds}
@@ -22,8 +22,8 @@ append_cycle-requires-clause-there g c =
     subst (λ n. All (λ link. link.place < n) c.in-Some.named.links.items) (length-append c.bounds-base.result.now c.as_slice-others.result.now)
     (if_some c.in_ok-found.found c.in-Some.named (λ cycle. All (λ link. link.place < length (c.bounds-base.result.now ++ c.as_slice-others.result.now)) cycle.links.items) c.in-Some.is c.in_ok-found.ensures.places)
 
-pub returns : goal.returns
-returns g c =
+pub returns-clause-part : goal.returns-clause-part
+returns-clause-part g c =
     let b : c.bounds-base.result.now ≡ base_bounds c.args.self.now.source = c.bounds-base.ensures.value ∙ ap base_bounds c.base.ensures in
     let i = c.as_slice-ids.ensures.value ∙ ids_are c.args.self.now.state c.args.live.now c.in_ok-all_ids.all_ids.items c.requires.live c.in_ok-all_ids.ensures in
     let o : c.as_slice-others.result.now ≡ live_bounds c.args.self.now.state = c.as_slice-others.ensures.value ∙ bounds_are c.args.self.now.state c.args.live.now c.in_ok-all_others.all_others.items c.requires.live c.in_ok-all_others.ensures in
@@ -35,9 +35,23 @@ returns g c =
                 (if_some c.in_ok-found.found w.in-Some.named (λ cycle. IsNamedCycle all cycle.links.items) w.in-Some.is c.in_ok-found.ensures.named)
                 (if_some c.in_ok-found.found w.in-Some.named (λ cycle. IsNegativeCycle all cycle.links.items) w.in-Some.is c.in_ok-found.ensures.negative)
                 (if_some c.in_ok-found.found w.in-Some.named (λ cycle. cycle.sum ≡ weight_of all cycle.links.items) w.in-Some.is c.in_ok-found.ensures.sum),
-            ap (λ v. v.items) w.out-is ∙ w.in_ok-append_cycle-in-Some.ensures,
+            ap (λ v. v.items) w.out-is ∙ w.in_ok-append_cycle-in-Some.ensures.text,
           )
       | in-None w ↦
           let has : HasSchedule (c.bounds-base.result.now ++ c.as_slice-others.result.now) = c.in_ok-found.ensures.none.0 (subst IsNone (sym w.in-None.is) refl) in
           absurd (c.requires.conflict (subst HasSchedule (ap (λ front. front ++ c.as_slice-others.result.now) b ∙ ap (λ back. base_bounds c.args.self.now.source ++ back) o) has))
+    ]
+
+pub returns-clause-short : goal.returns-clause-short
+returns-clause-short g c =
+    elim c.match-found.branch [
+      | in-Some+in_ok-append_cycle-in-Some w ↦
+          omega (
+            arith,
+            w.in_ok-append_cycle-in-Some.ensures.short,
+            if_some c.in_ok-found.found w.in-Some.named (λ cycle. length cycle.links.items ≤ c.events.result + 1) w.in-Some.is c.in_ok-found.ensures.short,
+            c.events.ensures.small,
+            ap (λ v. length v.items) w.out-is,
+          )
+      | in-None w ↦ omega (arith, ap (λ v. length v.items) w.out-is)
     ]

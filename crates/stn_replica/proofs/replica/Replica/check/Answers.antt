@@ -1,4 +1,4 @@
-use Rattle.std.proofs.Common.{◌≡◌, refl, sym, ap, ◌∙◌}
+use Rattle.std.proofs.Common.{◌≡◌, refl, ap, ◌∙◌}
 use Rattle.std.specs.Rc.{rc_value}
 use Rattle.stn_net.specs.Schedule.{IsSchedule, times_of}
 use Rattle.stn_lift.specs.PlanSource.{base_bounds}

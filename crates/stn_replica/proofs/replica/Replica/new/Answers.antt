@@ -1,4 +1,4 @@
-use Rattle.std.proofs.Common.{◌≡◌, sym, ap, subst, ◌∙◌, arith}
+use Rattle.std.proofs.Common.{◌≡◌, ap, subst, ◌∙◌, arith}
 use Rattle.std.specs.Rc.{rc_value}
 use Rattle.stn_matrix.specs.Tightest.{IsExact}
 use Rattle.stn_lift.specs.PlanSource.{events_of, base_bounds}

@@ -1,6 +1,6 @@
 use Rattle.stn_replica.specs.Bounds.{all_bounds}
 use Rattle.std.specs.Rc.{rc_value}
-use Rattle.stn_replica.proofs.Sound.{known_exact, known_conflict}
+use Rattle.stn_replica.proofs.Sound.{known_exact}
 use Rattle.stn_replica.proofs.replica.Replica.window.Goals as goal
 
 pub returns-then-self : goal.returns-then-self

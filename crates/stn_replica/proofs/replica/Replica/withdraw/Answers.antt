@@ -1,4 +1,4 @@
-use Rattle.std.proofs.Common.{◌≡◌, sym, ap, ◌∙◌}
+use Rattle.std.proofs.Common.{sym, ap, ◌∙◌}
 use Rattle.std.specs.Rc.{rc_value}
 use Rattle.stn_lift.specs.PlanSource.{events_of}
 use Rattle.stn_replica.specs.Bounds.{RecordsName}

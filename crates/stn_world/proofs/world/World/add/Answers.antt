@@ -1,12 +1,9 @@
-use Rattle.std.proofs.Common.{◌≡◌, sym, ap, ◌∙◌, get_or, refl, rules, arith}
+use Rattle.std.proofs.Common.{ap, ◌∙◌, arith}
 use Rattle.std.proofs.lemmas.Grind.{common_steps}
-use Rattle.std.specs.Rc.{rc_value}
 use Rattle.stn_replica.specs.Held.{plain}
 use Rattle.stn_replica.specs.Faults.{IsAddFault}
-use Rattle.stn_world.specs.Refused.{IsWorldFault}
 use Rattle.stn_world.specs.World.{HasSite, held_at}
-use Rattle.stn_world.specs.declared.faults.WorldFault.TheVariants as world_fault
-use Rattle.stn_world.proofs.Sites.{IsHeldAt, held_there, made_there, next_id_at-held, can_add_at, add_fault_at, sites_set}
+use Rattle.stn_world.proofs.Sites.{held_there, made_there, next_id_at-held, can_add_at, add_fault_at, sites_set}
 use Rattle.stn_world.proofs.Pair.{on_err-any, kept_there}
 use Rattle.stn_world.proofs.world.World.add.Goals as goal
 

@@ -1,4 +1,4 @@
-use Rattle.std.proofs.Common.{◌≡◌, sym, ap, ◌∙◌, arith}
+use Rattle.std.proofs.Common.{◌∙◌, arith}
 use Rattle.std.proofs.lemmas.Grind.{common_steps}
 use Rattle.stn_replica.specs.Faults.{IsTakeFault}
 use Rattle.stn_world.specs.World.{HasSite, held_at, content_at}

@@ -1,4 +1,3 @@
-use Rattle.std.proofs.Common.{◌≡◌}
 use Rattle.std.specs.Rc.{rc_value}
 use Rattle.stn_world.proofs.Sites.{IsStarted}
 use Rattle.stn_world.proofs.world.World.new.Given as goal

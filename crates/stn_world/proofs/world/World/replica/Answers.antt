@@ -1,4 +1,3 @@
-use Rattle.std.proofs.Common.{◌≡◌, sym, ap, ◌∙◌}
 use Rattle.stn_world.proofs.Sites.{held_there}
 use Rattle.stn_world.proofs.world.World.replica.Goals as goal
 

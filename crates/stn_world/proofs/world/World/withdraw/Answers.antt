@@ -1,4 +1,4 @@
-use Rattle.std.proofs.Common.{◌≡◌, true, sym, ap, ◌∙◌, get_or, subst}
+use Rattle.std.proofs.Common.{◌≡◌, true, ap, ◌∙◌, subst}
 use Rattle.stn_world.proofs.Sites.{held_there, withdrawn_there, sites_set}
 use Rattle.stn_records.specs.Content.{Content, is_known}
 use Rattle.stn_world.proofs.Pair.{on_err-any, kept_there}

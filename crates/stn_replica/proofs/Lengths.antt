@@ -1,0 +1,79 @@
+-- How long the parts of a report's lines are.
+use Rattle.std.proofs.Common.{◌≡◌, ℕ, ◌+◌, ◌/◌, ◌%◌, ◌^◌, ◌<◌, ◌≤◌, Bool, true, false, cond, eqb, List, ◌++◌, length, ℤ, pos, negsuc, Result, Ok, Err, OnOk, refl, ap, subst, ◌∙◌, arith, codes, length-append}
+use Rattle.std.proofs.lemmas.Int.{ints}
+use Rattle.std.specs.Prelude.{unsigned_abs}
+use Rattle.std.specs.Int.{is_negative}
+use Rattle.std.specs.Int.RustNames.{FitsSigned}
+use mir.Syntax.{w64}
+use Rattle.std.specs.Fmt.{decimal, sign_text}
+use Rattle.std.proofs.lemmas.Fmt.{length-decimal-le_wide}
+use Rattle.stn_time.specs.Text.{whole_text, three_digits, printed}
+use Rattle.stn_time.specs.Time.{IsWithinHorizon}
+use Rattle.stn_time.specs.TimeOf.{time_of}
+use Rattle.stn_time.proofs.Forms.{read-time}
+use Rattle.stn_time.proofs.Prints.{decimal-whole_text}
+use Rattle.stn_net.specs.Event.{event_text}
+use Rattle.stn_records.specs.Id.{SiteCounter, id_text}
+
+-- a number of 16 bits, and one of 32
+pub short_number : (n : ℕ) → n < 2 ^ 16 → length (decimal n) ≤ 5
+short_number n small = length-decimal-le_wide 5 n (omega arith) (omega arith) (omega arith)
+
+pub number_length : (n : ℕ) → n < 2 ^ 32 → length (decimal n) ≤ 10
+number_length n small = length-decimal-le_wide 10 n (omega arith) (omega arith) (omega arith)
+
+sign_length : (negative : Bool) → length (sign_text negative) ≤ 1
+sign_length true = omega arith
+sign_length false = omega arith
+
+whole_length : (n : ℕ) → n < 10 ^ 16 → length (whole_text n) ≤ 16
+whole_length n small = subst (λ text. length text ≤ 16) (decimal-whole_text n (omega arith)) (length-decimal-le_wide 16 n (omega arith) (omega arith) (omega arith))
+
+-- a number of milliseconds
+millis_length : (millis : ℤ) → unsigned_abs millis < 2 ^ 63 + 1 → length (printed millis) ≤ 21
+unfolding printed
+millis_length millis small =
+    let size = unsigned_abs millis in
+    let whole = whole_length (size / 1000) (omega arith) in
+    let sign = sign_length (is_negative millis) in
+    let rest = codes "." ++ three_digits (size % 1000) in
+    omega (arith, length-append (sign_text (is_negative millis)) (whole_text (size / 1000) ++ rest), length-append (whole_text (size / 1000)) rest)
+
+fits_size : (millis : ℤ) → FitsSigned w64 millis → unsigned_abs millis < 2 ^ 63 + 1
+fits_size (pos n) fits = omega (arith, ints, fits)
+fits_size (negsuc n) fits = omega (arith, ints, fits)
+
+-- one of 64 bits
+pub sum_length : (millis : ℤ) → FitsSigned w64 millis → length (printed millis) ≤ 21
+sum_length millis fits = millis_length millis (fits_size millis fits)
+
+within_size : (millis : ℤ) → IsWithinHorizon millis → unsigned_abs millis < 2 ^ 63 + 1
+within_size (pos n) within = omega (arith, ints)
+within_size (negsuc n) within = omega (arith, ints)
+
+-- a time, which reads as itself
+pub time_length : (time : ℤ) → time_of (printed time) ≡ Ok time → length (printed time) ≤ 21
+time_length time reads = millis_length time (within_size time ((read-time (printed time) (time_of (printed time)) refl time).0 reads).1)
+
+event_cases : (event : ℕ) → event ≤ 512 → (origin start : Bool)
+    → length (cond origin (codes "z") (cond start (codes "s" ++ decimal (event / 2 + 1)) (codes "e" ++ decimal (event / 2)))) ≤ 6
+event_cases event few true start = omega arith
+event_cases event few false true = omega (arith, short_number (event / 2 + 1) (omega arith))
+event_cases event few false false = omega (arith, short_number (event / 2) (omega arith))
+
+-- an event
+pub event_length : (event : ℕ) → event ≤ 512 → length (event_text event) ≤ 6
+event_length event few = event_cases event few (eqb event 0) (eqb (event % 2) 1)
+
+-- an id
+pub id_length : (id : SiteCounter) → id.site ≤ 64 → id.counter < 2 ^ 16 → length (id_text id) ≤ 11
+id_length id site counter =
+    omega (arith, short_number id.site (omega arith), short_number id.counter counter, length-append (decimal id.site ++ codes ".") (decimal id.counter), length-append (decimal id.site) (codes "."))
+
+-- what a text of so many bytes adds
+pub length_appended : (new old text : List ℕ) → new ≡ old ++ text → length new ≡ length old + length text
+length_appended new old text is = ap length is ∙ length-append old text
+
+pub length_appended_ok : {E : Type 0} (r : Result (Unit {0}) E) (new old text : List ℕ) (most : ℕ) → OnOk r (new ≡ old ++ text) → length text ≤ most → OnOk r (length new ≤ length old + most)
+length_appended_ok (Ok _) new old text most is short = omega (arith, length_appended new old text is)
+length_appended_ok (Err _) new old text most is short = tt
