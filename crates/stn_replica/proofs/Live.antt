@@ -13,7 +13,7 @@ use Rattle.stn_records.specs.Content.{Content, is_live, live_of, no_content}
 use Rattle.stn_records.specs.ContentLaws.{ids_total, ids_exact}
 use Rattle.stn_replica.specs.Bounds.{bounds_of, live_bounds, RecordsName}
 use Rattle.stn_replica.specs.Invariant.{IsKnown}
-use Rattle.stn_replica.specs.Work.{is_risen, risen, KeepsLive}
+use Rattle.stn_replica.specs.Work.{is_risen, risen, Extends, KeepsLive}
 use Rattle.stn_replica.proofs.Entries.{entries_from_get, get_from_entries}
 use Rattle.stn_replica.proofs.Schedules.{schedule_before, met_behind, schedule_with, known_same_schedules}
 
@@ -93,9 +93,9 @@ module _ (P : Difference → Type 0) where
       (All-filter_passing (λ entry. is_risen old new entry.0) (λ entry. P entry.1.bound) (entries new.additions)
       (entries_from_get ids_total ids_exact new.additions (λ entry. is_risen old new entry.0 ≡ true → P entry.1.bound) f))
 
--- each record of the old state is one of the new
-abbrev pub Extends : Content → Content → Type 0
-Extends old new = (id : SiteCounter) (r : Record) → get old.additions id ≡ Some r → get new.additions id ≡ Some r
+and_false : (a : Bool) → (a && false) ≡ false
+and_false true = refl
+and_false false = refl
 
 there_where_live : (o : Option Record) (b : Bool) → (is_some o && b) ≡ true → (r : Record) × (o ≡ Some r)
 there_where_live None b e = absurd (false≢true e)
@@ -154,17 +154,26 @@ conflict_stays base old new extends keeps none s =
     let all = live_from_bounds (Meets s.0) new (met_behind base (live_bounds new) s.0 s.1) in
     none (s.0, schedule_with base (live_bounds old) s.0 (schedule_before base (live_bounds new) s.0 s.1) (bounds_from_live (Meets s.0) old (old_hold (Meets s.0) old new extends keeps all)))
 
-not_false : (a b : Bool) → a ≡ true → (a && not b) ≡ false → b ≡ true
-not_false true true e h = refl
-not_false true false e h = absurd (false≢true (sym h))
-not_false false b e h = absurd (false≢true e)
+-- each record that was added is found
+pub added_there : (s : Content) → All (λ (entry : Entry). contains_key s.additions entry.0 ≡ true) (entries s.additions)
+added_there s = entries_from_get ids_total ids_exact s.additions (λ entry. contains_key s.additions entry.0 ≡ true) (λ id r there. ap is_some there)
 
--- where no record has fallen, each that was live still is
-pub keeps_from_none_fallen : (old new : Content) → All (λ (entry : Entry). is_risen new old entry.0 ≡ false) (entries old.additions) → KeepsLive old new
-keeps_from_none_fallen old new h id live =
+-- and each id that was withdrawn
+pub tombs_there : (s : Content) → All (λ (entry : SiteCounter × Unit {0}). contains_key s.tombstones entry.0 ≡ true) (entries s.tombstones)
+tombs_there s = entries_from_get ids_total ids_exact s.tombstones (λ entry. contains_key s.tombstones entry.0 ≡ true) (λ id u there. ap is_some there)
+
+-- where no id that is withdrawn now was live, each record that was live still is
+pub keeps_from_tombs : (old new : Content) → Extends old new → All (λ (entry : SiteCounter × Unit {0}). is_live old entry.0 ≡ false) (entries new.tombstones) → KeepsLive old new
+keeps_from_tombs old new extends dead id live =
     let there = there_where_live (get old.additions id) (not (contains_key old.tombstones id)) live in
-    not_false (is_live old id) (is_live new id) live
-    (get_from_entries ids_total ids_exact old.additions (λ entry. is_risen new old entry.0 ≡ false) h id there.0 there.1)
+    elim (get new.tombstones id) as (λ o. get new.tombstones id ≡ o → (is_some (get new.additions id) && not (is_some o)) ≡ true) [
+      | None ↦ λ e. ap (λ o. is_some o && true) (extends id there.0 there.1)
+      | Some u ↦ λ e. absurd (false≢true (sym (get_from_entries ids_total ids_exact new.tombstones (λ entry. is_live old entry.0 ≡ false) dead id u e) ∙ live))
+    ] refl
+
+-- where an id that is withdrawn now was live, it no longer is
+pub falls_from_tomb : (old new : Content) (id : SiteCounter) → contains_key new.tombstones id ≡ true → is_live old id ≡ true → KeepsLive old new → ⊥
+falls_from_tomb old new id tomb live keeps = false≢true (sym (ap (λ b. contains_key new.additions id && not b) tomb ∙ and_false (contains_key new.additions id)) ∙ keeps id live)
 
 -- records that name some events, named by the bounds of the live ones
 pub live_named : (events : ℕ) (s : Content) → RecordsName events s → All (NamesEvents events) (live_bounds s)

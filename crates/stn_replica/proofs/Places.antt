@@ -1,28 +1,36 @@
 -- A walk over the records of a state, one after another.
 use Rattle.std.proofs.Common.{◌≡◌, ℕ, ◌+◌, ◌<◌, ◌≤◌, List, [], ◌∷◌, ◌++◌, length, get_or, take, sym, ap, subst, ◌∙◌, All}
 use Rattle.std.proofs.lemmas.List.{take_all, take_more}
-use Rattle.std.proofs.lemmas.List.Elements.{All-push, All-same}
+use Rattle.std.proofs.lemmas.List.Elements.{All-push, All-same, All-get_or}
 use Rattle.std.specs.FinMap.{entries}
 use Rattle.stn_records.specs.Id.{SiteCounter}
 use Rattle.stn_records.specs.declared.record.Record.{Record}
-use Rattle.stn_records.specs.Content.{Content, RecordMap}
+use Rattle.stn_records.specs.Content.{Content, RecordMap, IdSet}
 
 -- the records that are walked are those of the state
 pub walked_are : (s held : Content) (additions : RecordMap) (items : List (SiteCounter × Record)) → items ≡ entries additions → additions ≡ held.additions → held ≡ s → items ≡ entries s.additions
 walked_are s held additions items all part whole = all ∙ ap entries (part ∙ ap (λ (t : Content). t.additions) whole)
 
--- with the next record, one more has been seen
-pub one_more_seen : (records items : List (SiteCounter × Record)) (place : ℕ) (e : SiteCounter × Record) → items ≡ records → place < length items → e ≡ get_or items place e
-    → take (place + 1) records ≡ take place records ++ e ∷ []
-one_more_seen records items place e same within at =
-    subst (λ all. take (place + 1) all ≡ take place all ++ e ∷ []) same (take_more items place e within ∙ ap (λ x. take place items ++ x ∷ []) (sym at))
+-- and so are the withdrawn ids
+pub tombs_walked_are : (s held : Content) (tombstones : IdSet) (items : List (SiteCounter × Unit {0})) → items ≡ entries tombstones → tombstones ≡ held.tombstones → held ≡ s → items ≡ entries s.tombstones
+tombs_walked_are s held tombstones items all part whole = all ∙ ap entries (part ∙ ap (λ (t : Content). t.tombstones) whole)
 
--- what holds of each record seen, and of the next, holds of one more
-pub seen_with : (P : SiteCounter × Record → Type 0) (records items : List (SiteCounter × Record)) (place : ℕ) (e : SiteCounter × Record) → items ≡ records → place < length items → e ≡ get_or items place e
-    → All P (take place records) → P e → All P (take (place + 1) records)
-seen_with P records items place e same within at seen this =
-    All-same P (take (place + 1) records) (take place records ++ e ∷ []) (one_more_seen records items place e same within at) (All-push P (take place records) e seen this)
+module _ {X : Type 0} where
+  -- with the next one, one more has been seen
+  pub one_more_seen : (all items : List X) (place : ℕ) (e : X) → items ≡ all → place < length items → e ≡ get_or items place e → take (place + 1) all ≡ take place all ++ e ∷ []
+  one_more_seen all items place e same within at =
+      subst (λ xs. take (place + 1) xs ≡ take place xs ++ e ∷ []) same (take_more items place e within ∙ ap (λ x. take place items ++ x ∷ []) (sym at))
 
--- behind the last all have been seen
-pub all_seen : (records items : List (SiteCounter × Record)) (place : ℕ) → items ≡ records → length items ≤ place → take place records ≡ records
-all_seen records items place same past = take_all place records (subst (λ all. length all ≤ place) same past)
+  -- what holds of each one seen, and of the next, holds of one more
+  pub seen_with : (P : X → Type 0) (all items : List X) (place : ℕ) (e : X) → items ≡ all → place < length items → e ≡ get_or items place e
+      → All P (take place all) → P e → All P (take (place + 1) all)
+  seen_with P all items place e same within at seen this =
+      All-same P (take (place + 1) all) (take place all ++ e ∷ []) (one_more_seen all items place e same within at) (All-push P (take place all) e seen this)
+
+  -- behind the last all have been seen
+  pub all_seen : (all items : List X) (place : ℕ) → items ≡ all → length items ≤ place → take place all ≡ all
+  all_seen all items place same past = take_all place all (subst (λ xs. length xs ≤ place) same past)
+
+  -- what holds of all holds of the next
+  pub next_of : (P : X → Type 0) (all items : List X) (place : ℕ) (e : X) → items ≡ all → place < length items → e ≡ get_or items place e → All P all → P e
+  next_of P all items place e same within at each = subst P (sym at) (All-get_or P items place e within (All-same P items all same each))

@@ -1,11 +1,12 @@
-ghost use Rattle.std.specs.Prelude.{◌≡◌, ◌+◌, ◌≤◌, ◌++◌, ◌↔◌, List, length, IsTrue, IfOk};
+ghost use Rattle.std.specs.Prelude.{◌≡◌, true, ◌+◌, ◌≤◌, ◌++◌, ◌↔◌, List, length, IsTrue, IfOk};
+ghost use Rattle.std.specs.FinMap.{contains_key};
 ghost use Rattle.stn_net.specs.Difference.{Difference, NamesEvents};
 ghost use Rattle.stn_records.specs.Content.{no_content};
 ghost use Rattle.stn_matrix.specs.Tightest.{IsExact};
 ghost use Rattle.stn_lift.specs.PlanSource.{base_bounds, events_of};
 ghost use Rattle.stn_replica.specs.Bounds.{bounds_of, live_bounds, RecordsName};
 ghost use Rattle.stn_replica.specs.Invariant.{IsKnown};
-ghost use Rattle.stn_replica.specs.Work.{is_risen, risen, KeepsLive};
+ghost use Rattle.stn_replica.specs.Work.{is_risen, risen, Extends, KeepsLive};
 
 use std::alloc::Allocator;
 use stn_lift::Base;
@@ -72,19 +73,21 @@ pub fn tighten_risen<A: Allocator + Copy>(
     true
 }
 
-// Whether the record of the id has become live.
+// Whether the record of an id that is added has become live.
 fn has_risen<A: Allocator + Copy>(before: &Records<A>, after: &Records<A>, id: Id) -> bool
+    requires { contains_key after.now.additions id ≡ true }
     ensures { result ≡ is_risen before.now after.now id }
 {
-    after.is_live(id) && !before.is_live(id)
+    !after.state().tombstones().contains(id) && !before.is_live(id)
 }
 
-// Whether each record that was live still is.
+// Whether each record that was live still is: none of those that are withdrawn now was.
 pub fn keeps_live<A: Allocator + Copy>(before: &Records<A>, after: &Records<A>) -> bool
+    requires { Extends before.now after.now }
     ensures { IsTrue result ↔ KeepsLive before.now after.now }
 {
-    for &(id, _) in before.state().additions().entries() {
-        if has_risen(after, before, id) {
+    for &(id, _) in after.state().tombstones().entries() {
+        if before.is_live(id) {
             return false;
         }
     }

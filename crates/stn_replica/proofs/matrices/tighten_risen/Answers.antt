@@ -1,10 +1,17 @@
-use Rattle.std.proofs.Common.{◌≡◌, ◌+◌, [], ◌∷◌, ◌++◌, refl, sym, ap, ◌∙◌, take, arith}
+use Rattle.std.proofs.Common.{◌≡◌, true, ◌+◌, [], ◌∷◌, ◌++◌, refl, sym, ap, ◌∙◌, take, arith}
 use Rattle.std.proofs.lemmas.Bool.{false≢true}
-use Rattle.std.specs.FinMap.{entries}
-use Rattle.stn_replica.proofs.Places.{walked_are, one_more_seen, all_seen}
+use Rattle.std.specs.FinMap.{entries, contains_key}
+use Rattle.stn_replica.proofs.Places.{walked_are, one_more_seen, all_seen, next_of}
+use Rattle.stn_replica.proofs.Live.{added_there}
 use Rattle.stn_replica.proofs.Tightening.{none_taken, one_taken, none_more, taken_same, conflict_ahead, fewer_risen}
 use Rattle.stn_replica.proofs.matrices.tighten_risen.Goals as goal
 use Rattle.stn_replica.proofs.matrices.tighten_risen.Goals.{else-has_risen-via-then-has_risen+else-not-tighten, else-has_risen-via-else-has_risen}
+
+pub has_risen-requires : goal.has_risen-requires
+has_risen-requires g c =
+    next_of (λ entry. contains_key c.args.after.now.additions entry.0 ≡ true) (entries c.args.after.now.additions) c.entries-id-items.result.now c.loop-id.id-index c.loop-id-item.result
+    (walked_are c.args.after.now c.state.result.now c.additions.result.now c.entries-id-items.result.now c.entries-id-items.ensures.value c.additions.ensures c.state.ensures.value)
+    c.loop-id-test.true c.loop-id-item.is (added_there c.args.after.now)
 
 pub returns-then-not-tighten-clause-known : goal.returns-then-not-tighten-clause-known
 returns-then-not-tighten-clause-known g c = λ bounds exact.

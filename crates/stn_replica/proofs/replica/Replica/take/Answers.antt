@@ -6,6 +6,7 @@ use Rattle.stn_lift.specs.PlanSource.{events_of}
 use Rattle.stn_replica.specs.Bounds.{RecordsName}
 use Rattle.stn_replica.specs.Held.{Held}
 use Rattle.stn_replica.specs.Work.{risen, KeepsLive}
+use Rattle.stn_replica.proofs.Changes.{extends_joined}
 use Rattle.stn_replica.proofs.Sound.{take_fault, can_take, named_taken, sound_rebuilt, sound_taken, sound_taken_in_conflict}
 use Rattle.stn_replica.proofs.replica.Replica.take.Goals as goal
 use Rattle.stn_replica.proofs.replica.Replica.take.Goals.{then-not-keeps_live, else-not-keeps_live+then-self, else-not-keeps_live+else-self}
@@ -37,6 +38,9 @@ tighten_risen-self-inside-requires-clause-named g c =
     subst (λ n. RecordsName n c.args.other.now) (c.events.ensures.value ∙ ap events_of c.deref.ensures) (c.if-not-all_name_events.ensures.0 refl) in
     subst (λ n. RecordsName n c.in_ok-records.records) (sym c.self.invariant.current_events)
     (named_taken (rc_value c.self.inside.base) c.self.inside.records c.args.other.now c.in_ok-records.records c.self.inside.opening c.self.inside.current c.self.inside.possible c.self.invariant c.in_ok-records.ensures.joined theirs)
+
+pub keeps_live-requires : goal.keeps_live-requires
+keeps_live-requires g c = extends_joined c.self.inside.records c.args.other.now c.in_ok-records.records c.in_ok-records.ensures.joined
 
 pub invariant_of-self : goal.invariant_of-self
 invariant_of-self g c =
