@@ -25,17 +25,6 @@ pub record AreMarking (bounds : List Difference) (start level seen : ℕ) (level
   pub looked_at : (link : Link) → rank link < seen → IsTight bounds start link → levels (arc_of bounds link).from ≡ Some level
       → (k : ℕ) × (levels (arc_of bounds link).to ≡ Some k) × (k ≤ suc level)
 
--- a round begins
-pub marking_none : (bounds : List Difference) (start level : ℕ) (levels : ℕ → Option ℕ) → HasLevelsUpTo bounds start level levels → AreMarking bounds start level 0 levels
-marking_none bounds start level levels h = record {
-  zero_at_start = h.zero_at_start;
-  only = h.only;
-  under = λ x i at. omega (arith, h.under x i at);
-  back = h.back;
-  on = h.on;
-  looked_at = λ link below. absurd (omega arith);
-}
-
 -- a link that does not lead on
 pub marking_skips : (bounds : List Difference) (start level seen : ℕ) (levels : ℕ → Option ℕ) (link : Link) → rank link ≡ seen → (LeadsOn bounds start level levels link → ⊥) → AreMarking bounds start level seen levels → AreMarking bounds start level (seen + 1) levels
 marking_skips bounds start level seen levels link at stays h = record {
@@ -105,22 +94,6 @@ marking_marks bounds start level seen levels marked link at leads here others h 
     was x i e below =
         let differs : x ≢ (arc_of bounds link).to = λ same. omega (arith, some_same (marked x) i (suc level) e (ap marked same ∙ here)) in
         sym (others x differs) ∙ e
-
--- a round ends
-pub marking_all : (bounds : List Difference) (start level seen : ℕ) (levels : ℕ → Option ℕ) → ((link : Link) → link.place < length bounds → rank link < seen) → AreMarking bounds start level seen levels → HasLevelsUpTo bounds start (suc level) levels
-marking_all bounds start level seen levels all h = record {
-  zero_at_start = h.zero_at_start;
-  only = h.only;
-  under = h.under;
-  back = h.back;
-  on = λ link tight i e below.
-      elim (cases_eq i level) [
-        | inr differs ↦ h.on link tight i e (omega arith)
-        | inl same ↦
-            let (k, k_at, k_le) = h.looked_at link (all link tight.there) tight (e ∙ ap Some same) in
-            (k, k_at, omega arith)
-      ];
-}
 
 -- an event that gets a level is one more that has one
 pub count_marked : (levels : List (Option ℕ)) (x k : ℕ) → x < length levels → level_at levels x ≡ None → count_by is_some (set levels x (Some k)) ≡ count_by is_some levels + 1

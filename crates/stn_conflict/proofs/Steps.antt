@@ -104,10 +104,6 @@ rank_below bounds link there = by_side link.side refl
     by_side Upper e = omega (arith, ap side_rank e)
     by_side Lower e = omega (arith, ap side_rank e)
 
--- a link that ranks below twice the number of the bounds is one of theirs
-pub rank_there : (bounds : List Difference) (link : Link) → rank link < 2 * length bounds → link.place < length bounds
-rank_there bounds link below = omega arith
-
 -- one more bound
 pub take_bound : (bounds : List Difference) (place : ℕ) (bound : Difference) → place < length bounds → bound ≡ bound_at bounds place → take (place + 1) bounds ≡ take place bounds ++ bound ∷ []
 take_bound bounds place bound there e = take_more bounds place _ there ∙ ap (λ b. take place bounds ++ b ∷ []) (sym e)

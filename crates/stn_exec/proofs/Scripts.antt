@@ -6,15 +6,14 @@ use Rattle.stn_device.specs.Bytes.{AppendsPart}
 use Rattle.stn_text.specs.Lines.{lines_of, words_of}
 use Rattle.stn_exec.specs.declared.answer.Refusal.{Refusal}
 use Rattle.stn_exec.specs.declared.answer.Refusal.TheVariants as refusal
-use Rattle.stn_exec.specs.Sites.{Step, Reply, said, refused_step}
+use Rattle.stn_exec.specs.Sites.{Step, Reply, said}
 use Rattle.stn_exec.specs.Command.{Command, command_of}
 use Rattle.stn_lift.specs.PlanSource.{bare, events_of}
-use Rattle.stn_world.specs.World.{World, HasSite}
+use Rattle.stn_world.specs.World.{World}
 use Rattle.stn_exec.specs.declared.answer.Answer.{Answer}
 use Rattle.stn_exec.specs.Answer.{answer_text, is_refusal}
-use Rattle.stn_exec.proofs.Steps.{has_site-there, has_site-missing}
 use Rattle.stn_exec.specs.Output.{IsReplyText, IsOutput, WritesOutput, WritesOutputPart, IsReplied}
-use Rattle.stn_exec.specs.Script.{action_step, command_step, nothing_run, followed_by, form_step, is_skipped, line_step, step_outcome, line_outcome, lines_outcome, next_line, Part, part_of, source_of, sites_of, Start, heading_of, started, last_line, script_outcome}
+use Rattle.stn_exec.specs.Script.{nothing_run, followed_by, form_step, is_skipped, line_step, step_outcome, line_outcome, lines_outcome, next_line, Part, part_of, source_of, sites_of, Start, heading_of, started, last_line, script_outcome}
 
 -- an empty text has no lines
 pub lines_of-none : (text : List ℕ) → length text ≡ 0 → lines_of text ≡ []
@@ -170,15 +169,3 @@ pub said_replied : {E : Type 0} (result : Result Bool E) (world : World) (old ne
     → IfOk result (IsReplied world old new (record { world = world; reply = said answer }))
 said_replied (Ok refused) world old new answer e f = record { text = answer_text answer; left = refl; printed = refl; appended = e; answered = f }
 said_replied (Err fault) world old new answer e f = tt
-
--- an answer that was appended, for what a step does
-pub step_replied : {E : Type 0} (result : Result Bool E) (world : World) (old new : List ℕ) (answer : Answer) (step : Step) → record { world = world; reply = said answer } ≡ step
-    → OnOk result (new ≡ old ++ answer_text answer) → IfOk result (λ refused. refused ≡ is_refusal answer) → IfOk result (IsReplied world old new step)
-step_replied result world old new answer step same e f = subst (λ (s : Step). IfOk result (IsReplied world old new s)) same (said_replied result world old new answer e f)
-
--- a command of a site that is there, or of one that is not
-pub command_step-there : (world : World) (command : Command) → HasSite world command.site → command_step world command ≡ action_step world command.site command.action
-command_step-there world command there = ap (λ t. cond t (action_step world command.site command.action) (refused_step world refusal.NoSite)) (has_site-there world command.site there)
-
-pub command_step-missing : (world : World) (command : Command) → (HasSite world command.site → ⊥) → refused_step world refusal.NoSite ≡ command_step world command
-command_step-missing world command missing = sym (ap (λ t. cond t (action_step world command.site command.action) (refused_step world refusal.NoSite)) (has_site-missing world command.site missing))

@@ -7,7 +7,6 @@ use Rattle.std.specs.Bool.{Decides}
 use Rattle.std.proofs.lemmas.Bool.Decides.{nat_tests, Decides-and}
 use Rattle.std.proofs.lemmas.Int.{ints}
 use Rattle.stn_time.specs.declared.millis.TheConstants.{HORIZON}
-use Rattle.stn_time.specs.TimeOf.{time_of}
 use Rattle.stn_net.specs.declared.bound.BoundFault.{BoundFault}
 use Rattle.stn_net.specs.declared.bound.BoundFault.TheVariants.{NoEvent, SameEvent, Crossed}
 use Rattle.stn_net.specs.Difference.{Difference, NamesEvents, IsBoundWithin, IsFaultOf}
@@ -15,25 +14,25 @@ use Rattle.stn_net.specs.Schedule.{Meets, IsSchedule, times_of}
 use Rattle.stn_lift.specs.PlanSource.{PlanSource, events_of}
 use Rattle.stn_records.specs.Id.{SiteCounter}
 use Rattle.stn_records.specs.declared.record.Record.{Record}
-use Rattle.stn_records.specs.Content.{Content, is_known, dispute_contents, known_in_both}
+use Rattle.stn_records.specs.Content.{Content, dispute_contents, known_in_both}
 use Rattle.stn_replica.specs.Held.{Held, plain}
 use Rattle.stn_replica.specs.Bounds.{all_bounds}
 use Rattle.stn_replica.specs.Names.{IsFirstBroken}
 use Rattle.stn_replica.specs.declared.names.BoundName.{BoundName}
 use Rattle.stn_replica.specs.declared.faults.ReplicaFault.{ReplicaFault}
 use Rattle.stn_replica.specs.declared.faults.ReplicaFault.TheVariants as replica
-use Rattle.stn_replica.specs.Faults.{CanAdd, IsAddFault, IsWithdrawFault, CanTake, IsTakeFault}
+use Rattle.stn_replica.specs.Faults.{CanAdd, IsAddFault, CanTake, IsTakeFault}
 use Rattle.stn_world.specs.declared.faults.WorldFault.{WorldFault}
 use Rattle.stn_world.specs.declared.faults.WorldFault.TheVariants as world_fault
 use Rattle.stn_world.specs.Refused.{IsWorldFault, IsPairFault}
-use Rattle.stn_world.specs.World.{World, HasSite, content_at, held_at, next_id_at, make, withdraw, merge}
+use Rattle.stn_world.specs.World.{World, HasSite, content_at, held_at, next_id_at, make, merge}
 use Rattle.stn_world.proofs.Pair.{merged_itself}
 use Rattle.stn_exec.specs.declared.answer.Refusal.{Refusal}
 use Rattle.stn_exec.specs.declared.answer.Refusal.TheVariants as refusal
 use Rattle.stn_exec.specs.declared.answer.Answer.{Answer}
 use Rattle.stn_exec.specs.declared.answer.Answer.TheVariants as answer
 use Rattle.stn_exec.specs.Refusals.{refusal_of}
-use Rattle.stn_exec.specs.Sites.{said, Step, refused_step, has_site, side_of, bound_of, difference, added_bound, taken, add_step, withdraw_step, merge_step, take_step, agreed_step, all_name, is_met, broken_place, broken_answer, and_then, refusing_time, times_from}
+use Rattle.stn_exec.specs.Sites.{said, Step, refused_step, has_site, side_of, bound_of, difference, added_bound, taken, add_step, merge_step, take_step, agreed_step, all_name, is_met, broken_place, broken_answer, and_then}
 use Rattle.stn_exec.proofs.Places.{prefix_len-at, prefix_len-all}
 
 -- the test of an order
@@ -91,23 +90,10 @@ unfolding bound_of
 bound_of-bound events bound sound =
     let from = sound.named.from in let to = sound.named.to in let differs = sound.differs in let ordered = sound.ordered in grind (arith, nat_tests, ints)
 
--- times that are read one after the other
-pub times_from-start : (read : Result (List ℤ) Refusal) → read ≡ and_then read (λ times. Ok ([] ++ times))
-times_from-start (Ok times) = refl
-times_from-start (Err cause) = refl
-
 joined : (rest : Result (List ℤ) Refusal) (read : List ℤ) (time : ℤ)
     → and_then (and_then rest (λ times. Ok (time ∷ times))) (λ times. Ok (read ++ times)) ≡ and_then rest (λ times. Ok ((read ++ time ∷ []) ++ times))
 joined (Ok times) read time = ap (λ l. Ok l) (sym (append_assoc read (time ∷ []) times))
 joined (Err cause) read time = refl
-
-pub times_from-more : (word : List ℕ) (words : List (List ℕ)) (read : List ℤ) (time : ℤ) → refusing_time (time_of word) ≡ Ok time
-    → and_then (times_from (word ∷ words)) (λ times. Ok (read ++ times)) ≡ and_then (times_from words) (λ times. Ok ((read ++ time ∷ []) ++ times))
-times_from-more word words read time e = rw e (joined (times_from words) read time)
-
-pub times_from-fault : (word : List ℕ) (words : List (List ℕ)) (read : List ℤ) (cause : Refusal) → refusing_time (time_of word) ≡ Err cause
-    → and_then (times_from (word ∷ words)) (λ times. Ok (read ++ times)) ≡ Err cause
-times_from-fault word words read cause e = rw e refl
 
 -- a result's value has one property where it has another
 pub if_ok : {T E : Type 0} {P Q : T → Type 0} (r : Result T E) → ((v : T) → P v → Q v) → IfOk r P → IfOk r Q
@@ -205,34 +191,6 @@ add-fault old site from to lo hi low high world_fault.NoSite cause e f there sta
 add-fault old site from to lo hi low high (world_fault.Replica fault) cause e f there stands is =
     added_bound-read (held_at old site) from to lo hi low high e f ∙ refused_bound (held_at old site) (difference from to low high) fault cause stands.1 is
 
--- a withdrawal that a world took in, and one that was refused
-pub withdraw-made : (old new : World) (site : ℕ) (id : SiteCounter) → is_known (content_at old site) id ≡ true → new ≡ withdraw old site id
-    → record { world = new; reply = said (answer.Withdrawn id) } ≡ withdraw_step old site id
-withdraw-made old new site id known made =
-    ap (λ (w : World). record { world = w; reply = said (answer.Withdrawn id) }) made
-    ∙ ap (λ t. cond t (record { world = withdraw old site id; reply = said (answer.Withdrawn id) }) (record { world = old; reply = said (answer.Refused refusal.Unknown) })) (sym known)
-
-unknown_step : (old : World) (site : ℕ) (id : SiteCounter) → is_known (content_at old site) id ≡ false → record { world = old; reply = said (answer.Refused refusal.Unknown) } ≡ withdraw_step old site id
-unknown_step old site id unknown =
-    ap (λ t. cond t (record { world = withdraw old site id; reply = said (answer.Withdrawn id) }) (record { world = old; reply = said (answer.Refused refusal.Unknown) })) (sym unknown)
-
-pub withdraw-refused : (old new : World) (site : ℕ) (id : SiteCounter) (fault : WorldFault) (cause : Refusal) (said_so : Answer) → HasSite old site
-    → IsWorldFault old site (IsWithdrawFault (held_at old site) id) fault → refusal_of fault ≡ Some cause → said_so ≡ answer.Refused cause → new ≡ old
-    → record { world = new; reply = said said_so } ≡ withdraw_step old site id
-withdraw-refused old new site id world_fault.NoSite cause said_so there stands e is kept = absurd (stands there)
-withdraw-refused old new site id (world_fault.Replica fault) cause said_so there stands e is kept =
-    ap (λ (w : World). record { world = w; reply = said said_so }) kept ∙ (ap (λ (a : Answer). record { world = old; reply = said a }) is ∙ unknown fault stands.1 e)
-  where
-    unknown : (f : ReplicaFault) → IsWithdrawFault (held_at old site) id f → refusal_of (world_fault.Replica f) ≡ Some cause → record { world = old; reply = said (answer.Refused cause) } ≡ withdraw_step old site id
-    unknown replica.Unknown st q = let one : cause ≡ refusal.Unknown = cc in ap (λ (r : Refusal). record { world = old; reply = said (answer.Refused r) }) one ∙ unknown_step old site id st
-    unknown replica.Memory st q = absurd (cc)
-    unknown replica.NoEvent st q = absurd st
-    unknown replica.SameEvent st q = absurd st
-    unknown replica.Crossed st q = absurd st
-    unknown replica.CounterSpent st q = absurd st
-    unknown replica.Full st q = absurd st
-    unknown (replica.Clash other) st q = absurd st
-
 -- the records name events of the plan
 named_test : (from to events : ℕ) → from ≤ events → to ≤ events → (nat_le from events && nat_le to events) ≡ true
 named_test from to events a b = grind (arith, nat_tests)
@@ -287,9 +245,6 @@ take-made old site other can =
 
 same_sites : (site other : ℕ) → site ≡ other → (site == other) ≡ true
 same_sites site other e = grind (arith, nat_tests)
-
-other_sites : (site other : ℕ) → site ≢ other → (site == other) ≡ false
-other_sites site other e = grind (arith, nat_tests)
 
 merge_inner : (old new : World) (site other : ℕ) (b : Bool) → (site == other) ≡ b → HasSite old site → HasSite old other
     → (site ≢ other → CanTake (held_at old site) (content_at old other)) → new ≡ merge old site other

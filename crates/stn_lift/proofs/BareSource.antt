@@ -1,4 +1,4 @@
-use Rattle.std.proofs.Common.{◌≡◌, ℕ, pos, zero, suc, ◌*◌, ◌≤◌, [], ◌∷◌, length, All, refl, arith, length-append}
+use Rattle.std.proofs.Common.{ℕ, pos, zero, suc, ◌*◌, ◌≤◌, All, refl, arith}
 use Rattle.std.proofs.lemmas.List.Elements.{All-nil, All-push}
 use Rattle.std.proofs.lemmas.Int.{ints}
 use Rattle.std.proofs.lemmas.List.{take_all}

@@ -69,9 +69,6 @@ schedule_before bounds b time s = record {
 pub schedule_last : (bounds : List Difference) (b : Difference) (time : ℕ → ℤ) → IsSchedule (bounds ++ b ∷ []) time → Meets time b
 schedule_last bounds b time s = (All-pop (Meets time) (bounds ++ b ∷ []) bounds (Some b) refl s.met).1
 
-pub schedule_push : (bounds : List Difference) (b : Difference) (time : ℕ → ℤ) → IsSchedule bounds time → Meets time b → IsSchedule (bounds ++ b ∷ []) time
-schedule_push bounds b time s m = record { origin = s.origin; met = All-push (Meets time) bounds b s.met m }
-
 -- equal entries are closed alike
 pub closed_same : (events : ℕ) (far other : ℕ → ℕ → ℤ) → ((x y : ℕ) → x ≤ events → y ≤ events → other x y ≡ far x y) → IsClosed events far → IsClosed events other
 closed_same events far other same closed = record {

@@ -1,11 +1,11 @@
-use Rattle.std.proofs.Common.{◌≡◌, ◌≢◌, ℕ, ℤ, pos, w64, to_z, of_z, ◌+◌, ◌*◌, ◌<◌, ◌≤◌, ◌+ℤ◌, ◌≤ℤ◌, neg_ℤ, inl, inr, List, length, set, refl, sym, ap, ◌∙◌, arith, get_or-set_same, get_or-set_other}
+use Rattle.std.proofs.Common.{◌≡◌, ◌≢◌, ℕ, ℤ, pos, w64, to_z, of_z, ◌+◌, ◌*◌, ◌<◌, ◌≤◌, ◌+ℤ◌, ◌≤ℤ◌, neg_ℤ, inl, inr, List, length, set, refl, sym, ◌∙◌, arith, get_or-set_same, get_or-set_other}
 use Rattle.std.specs.Prelude.{IsTrue, ◌↔◌, Bool, false}
 use Rattle.std.specs.Int.{int_min}
 use Rattle.std.proofs.lemmas.Int.{ints}
 use Rattle.std.proofs.lemmas.Bool.{cases_eq, cases_lt}
 use Rattle.std.proofs.lemmas.Nat.{mul-add-lt, same_from_place}
 use Rattle.stn_time.specs.declared.millis.TheConstants.{HORIZON}
-use Rattle.stn_matrix.specs.Closed.{IsClosed, IsWidest}
+use Rattle.stn_matrix.specs.Closed.{IsClosed}
 use Rattle.stn_net.specs.Difference.{Difference}
 use Rattle.stn_matrix.specs.Way.{IsWhole, entry, shorter, IsWritten, IsRowShortened, IsImplied, HasRoom}
 use Rattle.stn_matrix.proofs.Closure.{shorter-own_row, shorter-kept_row}
@@ -29,18 +29,11 @@ written-set events entries row column value whole rs cs =
           get_or-set_other entries place (x * (events + 1) + y) value (pos 0) differs;
     }
 
--- the entry itself, written again, changes nothing
-pub written_kept : (events : ℕ) (far : ℕ → ℕ → ℤ) (row column : ℕ) (value : ℤ) → far row column ≡ value → IsWritten events far far row column value
-written_kept events far row column value e = record { here = e; others = λ x y xs ys apart. refl }
-
 -- the entries of the row before a column are shorter already, and the others are as they were
 pub record IsRowShortenedTo (events : ℕ) (old new : ℕ → ℕ → ℤ) (row by : ℕ) (through : ℤ) (column : ℕ) : Type 0 where
   pub here : (y : ℕ) → y < column → y ≤ events → new row y ≡ int_min (old row y) (through +ℤ old by y)
   pub left : (y : ℕ) → column ≤ y → y ≤ events → new row y ≡ old row y
   pub others : (x y : ℕ) → x ≤ events → y ≤ events → x ≢ row → new x y ≡ old x y
-
-pub row_shortened_none : (events : ℕ) (far : ℕ → ℕ → ℤ) (row by : ℕ) (through : ℤ) → IsRowShortenedTo events far far row by through 0
-row_shortened_none events far row by through = record { here = λ y h ys. absurd (omega arith); left = λ y h ys. refl; others = λ x y xs ys ne. refl }
 
 -- the entry by which the row is shortened at a column is still as it was
 pub row_shortened-by : (events : ℕ) (old new : ℕ → ℕ → ℤ) (row by : ℕ) (through : ℤ) (column : ℕ) → IsRowShortenedTo events old new row by through column
@@ -74,9 +67,6 @@ row_shortened_all events old new row by through column so_far end = record { her
 pub record IsShortenedTo (events : ℕ) (old new : ℕ → ℕ → ℤ) (u v : ℕ) (w : ℤ) (row : ℕ) : Type 0 where
   pub here : (x y : ℕ) → x < row → x ≤ events → y ≤ events → new x y ≡ shorter old u v w x y
   pub left : (x y : ℕ) → row ≤ x → x ≤ events → y ≤ events → new x y ≡ old x y
-
-pub shortened_none : (events : ℕ) (far : ℕ → ℕ → ℤ) (u v : ℕ) (w : ℤ) → IsShortenedTo events far far u v w 0
-shortened_none events far u v w = record { here = λ x y h xs ys. absurd (omega arith); left = λ x y h xs ys. refl }
 
 -- the row that the link leads to is as it was all the while
 pub shortened-own_row : (events : ℕ) (old new : ℕ → ℕ → ℤ) (u v : ℕ) (w : ℤ) (row : ℕ) → IsShortenedTo events old new u v w row
@@ -131,42 +121,6 @@ pub record IsWidenedTo (events : ℕ) (far : ℕ → ℕ → ℤ) (row : ℕ) : 
   pub itself : (x : ℕ) → x < row → x ≤ events → far x x ≡ pos 0
   pub others : (x y : ℕ) → x ≤ events → y ≤ events → y ≢ 0 → x ≢ y → far x y ≡ HORIZON
   pub left : (x y : ℕ) → row ≤ x → x ≤ events → y ≤ events → far x y ≡ HORIZON
-
-pub widened_none : (events : ℕ) (far : ℕ → ℕ → ℤ) → ((x y : ℕ) → x ≤ events → y ≤ events → far x y ≡ HORIZON) → IsWidenedTo events far 0
-widened_none events far full = record {
-  origin = λ x h xs. absurd (omega arith);
-  itself = λ x h xs. absurd (omega arith);
-  others = λ x y xs ys apart differ. full x y xs ys;
-  left = λ x y h xs ys. full x y xs ys;
-}
-
-pub widened_more : (events : ℕ) (far next last : ℕ → ℕ → ℤ) (row : ℕ) → IsWidenedTo events far row → row ≤ events
-    → IsWritten events far next row 0 (pos 0) → IsWritten events next last row row (pos 0) → IsWidenedTo events last (row + 1)
-widened_more events far next last row so_far rs first second = record {
-  origin = λ x h xs. elim (cases_eq x row) [
-    | inl e ↦ elim (cases_eq row 0) [
-      | inl none ↦ rw e (ap (λ k. last row k) (sym none) ∙ second.here)
-      | inr some ↦ rw e (second.others row 0 rs (omega arith) (inr (omega arith)) ∙ first.here)
-    ]
-    | inr ne ↦ second.others x 0 xs (omega arith) (inl ne) ∙ (first.others x 0 xs (omega arith) (inl ne) ∙ so_far.origin x (omega arith) xs)
-  ];
-  itself = λ x h xs. elim (cases_eq x row) [
-    | inl e ↦ rw e second.here
-    | inr ne ↦ second.others x x xs xs (inl ne) ∙ (first.others x x xs xs (inl ne) ∙ so_far.itself x (omega arith) xs)
-  ];
-  others = λ x y xs ys apart differ. elim (cases_eq y row) [
-    | inl e ↦ second.others x y xs ys (inl (omega arith)) ∙ (first.others x y xs ys (inr apart) ∙ so_far.others x y xs ys apart differ)
-    | inr ne ↦ second.others x y xs ys (inr ne) ∙ (first.others x y xs ys (inr apart) ∙ so_far.others x y xs ys apart differ)
-  ];
-  left = λ x y h xs ys. second.others x y xs ys (inl (omega arith)) ∙ (first.others x y xs ys (inl (omega arith)) ∙ so_far.left x y (omega arith) xs ys);
-}
-
-pub widened_all : (events : ℕ) (far : ℕ → ℕ → ℤ) (row : ℕ) → IsWidenedTo events far row → events < row → IsWidest events far
-widened_all events far row so_far end = record {
-  origin = λ x xs. so_far.origin x (omega arith) xs;
-  itself = λ x xs. so_far.itself x (omega arith) xs;
-  others = so_far.others;
-}
 
 -- both sides of a bound are implied, or leave room, as two comparisons say
 pub implied_by : (far : ℕ → ℕ → ℤ) (bound : Difference) (from to : ℕ) (forth back upper lower : ℤ) (answer : Bool)

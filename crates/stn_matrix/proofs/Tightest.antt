@@ -1,4 +1,4 @@
-use Rattle.std.proofs.Common.{◌≡◌, ℕ, ℤ, pos, ◌≤◌, ◌+ℤ◌, ◌-ℤ◌, ◌≤ℤ◌, neg_ℤ, List, get_or, arith}
+use Rattle.std.proofs.Common.{◌≡◌, ℕ, ℤ, ◌≤◌, ◌-ℤ◌, ◌≤ℤ◌, neg_ℤ, List, get_or, arith}
 use Rattle.std.specs.Prelude.{All}
 use Rattle.std.proofs.lemmas.Int.{ints}
 use Rattle.stn_net.specs.Difference.{Difference, NamesEvents}
@@ -100,51 +100,3 @@ exact_from_tight bounds table named closed tight =
             attained = ((λ z. far_of table x z -ℤ far_of table x 0), row x xs, omega (arith, ints));
           };
     }
-
--- an exact table has 0 on its diagonal
-pub exact_itself : (bounds : List Difference) (table : Table) → IsExact bounds table → (x : ℕ) → x ≤ table.events → far_of table x x ≡ pos 0
-exact_itself bounds table p x xs =
-    let attains = (p.far x x xs xs).attained.2 in
-    omega (arith, ints)
-
--- an exact table meets the triangle inequality
-pub exact_triangle : (bounds : List Difference) (table : Table) → IsExact bounds table → (x y z : ℕ) → x ≤ table.events → y ≤ table.events → z ≤ table.events
-    → far_of table x z ≤ℤ (far_of table x y +ℤ far_of table y z)
-exact_triangle bounds table p x y z xs ys zs =
-    let best = (p.far x z xs zs).attained in
-    let attains = best.2 in
-    let first = (p.far x y xs ys).bound best.0 best.1 in
-    let second = (p.far y z ys zs).bound best.0 best.1 in
-    omega (arith, ints)
-
--- there and back is never below 0
-pub exact_round : (bounds : List Difference) (table : Table) → IsExact bounds table → (x y : ℕ) → x ≤ table.events → y ≤ table.events
-    → pos 0 ≤ℤ (far_of table x y +ℤ far_of table y x)
-exact_round bounds table p x y xs ys =
-    let itself = exact_itself bounds table p x xs in
-    let round = exact_triangle bounds table p x y x xs ys xs in
-    omega (arith, ints)
-
--- a row of an exact table, shifted so that the origin is at 0, is a schedule
-pub row_schedule : (bounds : List Difference) (table : Table) → IsExact bounds table → (x : ℕ) → x ≤ table.events
-    → IsSchedule bounds (λ z. far_of table x z -ℤ far_of table x 0)
-row_schedule bounds table p x xs =
-    let tight = tight_from_exact bounds table p in
-    record {
-      origin = omega (arith, ints);
-      met = λ k d h.
-          let b = get_or bounds k d in
-          let ends = p.named k d h in
-          let upper = tight.upper k d h in
-          let lower = tight.lower k d h in
-          let onward = exact_triangle bounds table p x b.from b.to xs ends.from ends.to in
-          let back = exact_triangle bounds table p x b.to b.from xs ends.to ends.from in
-          (omega (arith, ints), omega (arith, ints));
-    }
-
--- the shifted row attains each entry of the row
-pub row_attains : (bounds : List Difference) (table : Table) → IsExact bounds table → (x y : ℕ) → x ≤ table.events
-    → ((far_of table x y -ℤ far_of table x 0) -ℤ (far_of table x x -ℤ far_of table x 0)) ≡ far_of table x y
-row_attains bounds table p x y xs =
-    let itself = exact_itself bounds table p x xs in
-    omega (arith, ints)

@@ -88,9 +88,6 @@ module _ {X : Type 0} where
   absent_below id [] h = refl
   absent_below id (e ∷ es) h = ap (λ r. is_eq r || is_member same_ids (keys_of es) id) (less_is (id_cmp id e.0) (and_left _ _ h)) ∙ absent_below id es (and_right _ _ h)
 
-  below_tie : (x y : SiteCounter) (es : List (SiteCounter × X)) → x ≡ y → below_all id_cmp y es ≡ true → below_all id_cmp x es ≡ true
-  below_tie x y es e h = ap (λ z. below_all id_cmp z es) e ∙ h
-
   -- past an id that is not above the first, the list has its other keys
   pub past_members : (id : SiteCounter) (es : List (SiteCounter × X)) → is_sorted id_cmp es ≡ true → NotAbove id (slice_get (keys_of es) 0) → (q : SiteCounter) → is_member same_ids (keys_of (past_id id es)) q ≡ (is_member same_ids (keys_of es) q && not (same_ids q id))
   past_members id [] h n q = refl

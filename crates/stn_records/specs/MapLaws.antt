@@ -13,9 +13,6 @@ use Rattle.stn_records.specs.Join.{IsJoin}
 use Rattle.stn_records.specs.JoinLaws.{same_options}
 use Rattle.stn_records.specs.Maps.{differ, with_entries, union, dispute, join, HasEntry}
 
-none_first : {X : Type 0} (o p : Option X) (b : Bool) (x : X) → o ≡ p → cond b (Some x) o ≡ cond b (Some x) p
-none_first o p b x e = ap (cond b (Some x)) e
-
 or_after : {X : Type 0} (b : Bool) (x : X) (o p : Option X) → cond b (Some x) (option_or o p) ≡ option_or (cond b (Some x) o) p
 or_after true x o p = refl
 or_after false x o p = refl

@@ -19,9 +19,6 @@ use Rattle.stn_records.specs.Id.{SiteCounter, id_text}
 pub short_number : (n : ℕ) → n < 2 ^ 16 → length (decimal n) ≤ 5
 short_number n small = length-decimal-le_wide 5 n (omega arith) (omega arith) (omega arith)
 
-pub number_length : (n : ℕ) → n < 2 ^ 32 → length (decimal n) ≤ 10
-number_length n small = length-decimal-le_wide 10 n (omega arith) (omega arith) (omega arith)
-
 sign_length : (negative : Bool) → length (sign_text negative) ≤ 1
 sign_length true = omega arith
 sign_length false = omega arith

@@ -20,7 +20,7 @@ use Rattle.stn_replica.specs.FaultsOf.{of_records_fault}
 use Rattle.stn_replica.specs.Held.{Held}
 use Rattle.stn_replica.specs.Invariant.{IsKnown, IsSoundReplica}
 use Rattle.stn_replica.specs.Work.{risen, KeepsLive, SparesWork}
-use Rattle.stn_replica.proofs.Changes.{unknown_absent, extends_added, keeps_with_record, one_risen, named_added, known_added, extends_joined, named_joined, withdrawn_dead, known_withdrawn, none_named, known_at_first}
+use Rattle.stn_replica.proofs.Changes.{unknown_absent, extends_added, keeps_with_record, one_risen, named_added, known_added, extends_joined, named_joined, withdrawn_dead, none_named, known_at_first}
 use Rattle.stn_replica.proofs.Live.{live_named, known_grown, conflict_stays}
 use Rattle.stn_replica.proofs.Schedules.{known_tightened}
 
@@ -208,19 +208,6 @@ sound_taken_in_conflict source state other new opening current possible p t keep
 pub named_taken : (source : PlanSource) (state other new : Content) (opening current : Table) (possible : Bool) → IsSoundReplica source state opening current possible
     → join_contents state other ≡ Some new → RecordsName (events_of source) other → RecordsName (events_of source) new
 named_taken source state other new opening current possible p joined theirs = named_joined (events_of source) state other new joined p.named theirs
-
--- ---- withdrawals
-pub sound_withdrawn : (source : PlanSource) (state : Content) (opening current : Table) (possible : Bool) (id : SiteCounter)
-    → IsSoundReplica source state opening current possible → is_live state id ≡ false → IsSoundReplica source (with_tombstone state id) opening current possible
-sound_withdrawn source state opening current possible id p dead = record {
-  named = p.named;
-  opening_events = p.opening_events;
-  current_events = p.current_events;
-  opening_exact = p.opening_exact;
-  known = known_withdrawn state id (base_bounds source) current possible dead
-      (all_named source (with_tombstone state id) opening current p.opening_exact p.opening_events p.current_events p.named) p.known;
-  counted = p.counted;
-}
 
 -- where the withdrawn record was live, a live record has stopped being live
 pub spares_fallen : (old new : Held) (state : Content) (id : SiteCounter) → is_live state id ≡ true → old.state ≡ state → new.state ≡ with_tombstone state id → SparesWork old new

@@ -1,20 +1,11 @@
 -- Digits read one after the other.
-use Rattle.std.proofs.Common.{◌≡◌, ℕ, ◌+◌, ◌*◌, Bool, true, false, cond, ◌&&◌, List, length, drop, get_or, Some, None, refl, sym, ap, ◌∙◌, ◌^◌, ◌<◌, ◌≤◌, arith, add-one}
+use Rattle.std.proofs.Common.{◌≡◌, ℕ, ◌+◌, Bool, true, false, cond, ◌&&◌, List, length, drop, get_or, Some, None, refl, sym, ap, ◌∙◌, ◌<◌}
 use Rattle.std.specs.Prelude.{nat_le, nat_lt}
 use Rattle.std.specs.Char.{is_ascii_digit}
 use Rattle.std.specs.Str.{all_ascii_digits}
 use Rattle.std.specs.Str.Parse.{digits_value}
 use Rattle.std.proofs.lemmas.List.{drop_more}
 use Rattle.stn_text.specs.Numbers.{number_of}
-use Rattle.std.proofs.Math.Nat.{pow-succ', pow-le-pow_right}
-
--- one digit more
-pub below-more : (n d i : ℕ) → n < 10 ^ i → d ≤ 9 → n * 10 + d < 10 ^ (i + 1)
-below-more n d i lt le = rw (add-one, pow-succ') (omega arith)
-
--- a number of at most four digits
-pub below-four : (n i : ℕ) → n < 10 ^ i → i ≤ 4 → n < 10000
-below-four n i lt le = omega (arith, pow-le-pow_right {n = 10} (omega arith) le)
 
 -- a word that has too few or too many bytes is no number
 pub number_of-length : (word : List ℕ) → (nat_lt 0 (length word) && nat_le (length word) 5) ≡ false → number_of word ≡ None

@@ -5,7 +5,7 @@ use Rattle.std.proofs.lemmas.List.FromFn.{get_or-range_with_len}
 use Rattle.std.proofs.Math.Seq.{map-set_same}
 use Rattle.std.specs.List.{range_with_len}
 use Rattle.stn_lift.specs.PlanSource.{PlanSource}
-use Rattle.stn_records.specs.Content.{Content, no_content, with_record, with_tombstone, is_known, dispute_contents, join_contents, joined_contents}
+use Rattle.stn_records.specs.Content.{Content, no_content, with_record, with_tombstone, dispute_contents, join_contents, joined_contents}
 use Rattle.stn_records.specs.ContentLaws.{contents_dispute, contents_undisputed, contents_repeat}
 use Rattle.stn_replica.specs.Held.{Held}
 use Rattle.stn_net.specs.Difference.{Difference}
@@ -13,7 +13,7 @@ use Rattle.stn_records.specs.Id.{SiteCounter}
 use Rattle.stn_records.specs.declared.record.Record.{Record}
 use Rattle.stn_replica.specs.declared.faults.ReplicaFault.{ReplicaFault}
 use Rattle.stn_replica.specs.declared.faults.ReplicaFault.TheVariants.{NoEvent, SameEvent, Crossed, CounterSpent, Full, Unknown, Clash, Memory}
-use Rattle.stn_replica.specs.Faults.{next_id, CanAdd, IsAddFault, IsWithdrawFault, CanTake, IsTakeFault}
+use Rattle.stn_replica.specs.Faults.{next_id, CanAdd, IsAddFault, CanTake, IsTakeFault}
 use Rattle.stn_world.specs.World.{World, HasSite, content_at, held_at, next_id_at, with_content, make, withdraw}
 use Rattle.stn_world.specs.Sites.{contents_of, IsSites}
 
@@ -34,9 +34,6 @@ pub record IsStarted (source : PlanSource) (count : ℕ) (replicas : List Held) 
   pub sources : map (λ replica. replica.source) replicas ≡ replicate count source
   pub nothing : contents_of replicas ≡ replicate count no_content
 
-pub started_none : (source : PlanSource) → IsStarted source 0 []
-started_none source = record { counted = refl; numbers = refl; sources = refl; nothing = refl }
-
 -- one replica more
 pub started_more : (source : PlanSource) (count : ℕ) (replicas : List Held) (one : Held) → IsStarted source count replicas
     → one.site ≡ suc count → one.source ≡ source → one.state ≡ no_content → IsStarted source (suc count) (replicas ++ one ∷ [])
@@ -45,15 +42,6 @@ started_more source count replicas one so_far site src state = let site_is : one
   numbers = map-append (λ (r : Held). r.site) replicas (one ∷ []) ∙ (ap (λ ks. ks ++ one.site ∷ []) so_far.numbers ∙ (ap (λ k. range_with_len 1 count ++ k ∷ []) site_is ∙ sym (range_more 1 count)));
   sources = map-append (λ (r : Held). r.source) replicas (one ∷ []) ∙ (ap (λ ks. ks ++ one.source ∷ []) so_far.sources ∙ (ap (λ k. replicate count source ++ k ∷ []) src ∙ sym (replicate_more count source)));
   nothing = map-append (λ (r : Held). r.state) replicas (one ∷ []) ∙ (ap (λ ks. ks ++ one.state ∷ []) so_far.nothing ∙ (ap (λ k. replicate count no_content ++ k ∷ []) state ∙ sym (replicate_more count no_content)));
-}
-
--- these are a world's replicas
-pub sites_of_started : (source : PlanSource) (count : ℕ) (replicas : List Held) → IsStarted source count replicas → 1 ≤ count → count ≤ 64 → IsSites source replicas
-sites_of_started source count replicas so_far least most = record {
-  least = omega (arith, so_far.counted);
-  most = omega (arith, so_far.counted);
-  numbers = so_far.numbers ∙ ap (range_with_len 1) (sym so_far.counted);
-  sources = so_far.sources ∙ ap (λ n. replicate n source) (sym so_far.counted);
 }
 
 -- a replica's site is its place and one
@@ -145,17 +133,6 @@ pub add_fault_at : (world : World) (site : ℕ) (one : Held) (bound : Difference
     → IsAddFault one bound fault → IsAddFault (held_at world site) bound fault
 add_fault_at world site one bound fault held stands =
     add_fault_with (held_at world site) one.steps bound fault (subst (λ (h : Held). IsAddFault h bound fault) (held_is world site one held) stands)
-
-pub withdraw_fault_at : (world : World) (site : ℕ) (one : Held) (id : SiteCounter) (fault : ReplicaFault) → IsHeldAt world site one
-    → IsWithdrawFault one id fault → IsWithdrawFault (held_at world site) id fault
-withdraw_fault_at world site one id Unknown held stands = subst (λ (c : Content). is_known c id ≡ false) held.state stands
-withdraw_fault_at world site one id Memory held stands = subst (λ (c : Content). is_known c id ≡ true) held.state stands
-withdraw_fault_at world site one id NoEvent held stands = stands
-withdraw_fault_at world site one id SameEvent held stands = stands
-withdraw_fault_at world site one id Crossed held stands = stands
-withdraw_fault_at world site one id CounterSpent held stands = stands
-withdraw_fault_at world site one id Full held stands = stands
-withdraw_fault_at world site one id (Clash other) held stands = stands
 
 can_take_with : (held : Held) (steps : ℕ) (other : Content) → CanTake (record held { steps = steps }) other → CanTake held other
 can_take_with held steps other can = record { named = can.named; agreed = can.agreed; room = can.room }
