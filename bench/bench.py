@@ -76,7 +76,7 @@ def run(name, folder):
     made = BENCHMARKS[name]()
     script = folder / f"{name}.stn"
     script.write_text("\n".join(made) + "\n")
-    words = [str(TOP / "crates" / "stn" / "out" / "stn")]
+    words = [str(TOP / "crates" / "stn" / "out" / "launcher" / "stn")]
     best = None
     for _ in range(3):
         with script.open() as given:

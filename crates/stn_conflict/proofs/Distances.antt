@@ -1,10 +1,10 @@
-use Rattle.std.proofs.Common.{◌≡◌, ℕ, ◌<◌, ◌≤◌, List, length, take, sym, subst, ap, ◌∙◌, arith}
+use Rattle.std.proofs.Common.{◌≡◌, ℕ, ◌<◌, List, length, take, sym, subst, ap, ◌∙◌, arith}
 use Rattle.std.specs.Prelude.{ℤ, pos, ◌+ℤ◌, ◌-ℤ◌, ◌≤ℤ◌}
 use Rattle.std.specs.List.{All}
 use Rattle.std.proofs.lemmas.Int.{ints}
 use Rattle.std.proofs.lemmas.List.{get_or-take}
 use Rattle.std.proofs.lemmas.List.Elements.{All-take}
-use Rattle.stn_net.specs.Difference.{Difference, NamesEvents}
+use Rattle.stn_net.specs.Difference.{Difference}
 use Rattle.stn_net.specs.Schedule.{Meets, IsSchedule}
 use Rattle.stn_matrix.proofs.Tightest.{tightest_unique}
 use Rattle.stn_matrix.specs.Tightest.{IsTightest}
@@ -12,6 +12,7 @@ use Rattle.stn_conflict.specs.declared.links.Link.{Link}
 use Rattle.stn_conflict.specs.declared.links.Side.{Side}
 use Rattle.stn_conflict.specs.declared.links.Side.TheVariants.{Upper, Lower}
 use Rattle.stn_conflict.specs.Arcs.{arc, arc_of, bound_at}
+use Rattle.stn_conflict.specs.Distances.{NamesAmong}
 use Rattle.stn_conflict.specs.Named.{IsTight}
 
 -- an event lies at 0 from itself
@@ -59,10 +60,10 @@ sum_from_tight bounds start link m n near far tight =
     let e = tightest_unique bounds start (arc_of bounds link).to _ n sum_is far in
     ap (λ z. z +ℤ (arc_of bounds link).weight) same ∙ e
 
--- both ends of a link are events that the bounds name
-pub link_named : (bounds : List Difference) (events : ℕ) (link : Link) → All (NamesEvents events) bounds → link.place < length bounds → ((arc_of bounds link).from ≤ events) × ((arc_of bounds link).to ≤ events)
-link_named bounds events link named there = arc_named (bound_at bounds link.place) link.side (named link.place _ there)
+-- both ends of a link are among the events that the bounds name
+pub link_among : (bounds : List Difference) (count : ℕ) (link : Link) → All (NamesAmong count) bounds → link.place < length bounds → ((arc_of bounds link).from < count) × ((arc_of bounds link).to < count)
+link_among bounds count link named there = arc_among (bound_at bounds link.place) link.side (named link.place _ there)
   where
-    arc_named : (bound : Difference) (side : Side) → NamesEvents events bound → ((arc bound side).from ≤ events) × ((arc bound side).to ≤ events)
-    arc_named bound Upper n = (n.from, n.to)
-    arc_named bound Lower n = (n.to, n.from)
+    arc_among : (bound : Difference) (side : Side) → NamesAmong count bound → ((arc bound side).from < count) × ((arc bound side).to < count)
+    arc_among bound Upper n = (n.0, n.1)
+    arc_among bound Lower n = (n.1, n.0)

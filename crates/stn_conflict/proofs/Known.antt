@@ -1,9 +1,13 @@
-use Rattle.std.proofs.Common.{◌≡◌, ℕ, ◌+◌, ◌≤◌, List, [], ◌∷◌, ◌++◌, length, take, refl, ap, ◌∙◌, arith, add-one}
-use Rattle.std.proofs.lemmas.List.{length-take, take-append-le, take_all}
+use Rattle.std.proofs.Common.{◌≡◌, inl, inr, ℕ, ◌+◌, ◌<◌, ◌≤◌, List, [], ◌∷◌, ◌++◌, length, take, refl, sym, subst, ap, ◌∙◌, arith, add-one}
+use Rattle.std.specs.Prelude.{ℤ, pos}
+use Rattle.std.proofs.lemmas.Int.{ints}
+use Rattle.std.proofs.lemmas.Bool.{cases_lt}
+use Rattle.std.proofs.lemmas.List.{length-take, take-append-le, take-take, take_all}
 use Rattle.stn_net.specs.Difference.{Difference}
 use Rattle.stn_net.specs.Horizon.{horizon_bound, horizon_bounds}
-use Rattle.stn_net.specs.Schedule.{HasSchedule}
+use Rattle.stn_net.specs.Schedule.{Meets, HasSchedule}
 use Rattle.stn_net.proofs.Horizons.{length-horizon_bounds}
+use Rattle.stn_matrix.proofs.Widest.{horizon_each}
 use Rattle.stn_conflict.proofs.Distances.{schedule_before}
 
 -- bounds that begin with the horizon bounds are no fewer than the events
@@ -17,6 +21,29 @@ known_first events base extra begins = take-append-le events base extra (known_w
 -- bounds that have no schedule up to a place have none at all
 pub no_schedule : (bounds : List Difference) (place : ℕ) → (HasSchedule (take place bounds) → ⊥) → HasSchedule bounds → ⊥
 no_schedule bounds place refused (time, is) = refused (time, schedule_before bounds place time is)
+
+-- and so do those before the next of them
+pub begins_before : (events : ℕ) (bounds : List Difference) → take events bounds ≡ horizon_bounds events → take events (take events bounds) ≡ horizon_bounds events
+begins_before events bounds begins = take-take events events bounds (omega arith) ∙ begins
+
+-- the horizon bounds have a schedule: all events at once
+bare_schedule : (events : ℕ) → HasSchedule (horizon_bounds events)
+bare_schedule events =
+    let time : ℕ → ℤ = λ x. pos 0 in
+    (time, record { origin = refl; met = horizon_each (Meets time) events (λ event apart within. (omega (arith, ints), omega (arith, ints))) })
+
+-- bounds that begin with the horizon bounds and have no schedule are more than these, which have one
+pub more_than_known : (events : ℕ) (bounds : List Difference) → take events bounds ≡ horizon_bounds events → (HasSchedule bounds → ⊥)
+    → (events < length bounds) × HasSchedule (take events bounds) × (HasSchedule (take (length bounds) bounds) → ⊥)
+more_than_known events bounds begins none =
+    let first : HasSchedule (take events bounds) = subst HasSchedule (sym begins) (bare_schedule events) in (
+      elim (cases_lt events (length bounds)) [
+        | inl more ↦ more
+        | inr all ↦ absurd (none (subst HasSchedule (take_all events bounds all) first))
+      ],
+      first,
+      λ has. none (subst HasSchedule (take_all (length bounds) bounds (omega arith)) has),
+    )
 
 -- no event has no horizon bound
 pub horizon_bounds_none : [] ≡ horizon_bounds 0

@@ -5,16 +5,16 @@ use Rattle.std.proofs.lemmas.Int.{ints, by_lt_z}
 use Rattle.std.proofs.lemmas.List.{length_push}
 use Rattle.std.proofs.lemmas.List.Elements.{All-from_get_or}
 use Rattle.stn_net.specs.Difference.{Difference}
-use Rattle.stn_net.specs.Schedule.{Meets, IsSchedule}
-use Rattle.stn_matrix.specs.Table.{Table, far_of}
-use Rattle.stn_matrix.specs.Tightest.{IsTightest, IsExact}
+use Rattle.stn_net.specs.Schedule.{Meets, IsSchedule, times_of}
+use Rattle.stn_matrix.specs.Tightest.{IsTightest}
 use Rattle.stn_conflict.specs.declared.links.Link.{Link}
 use Rattle.stn_conflict.specs.declared.links.Side.{Side}
 use Rattle.stn_conflict.specs.declared.links.Side.TheVariants.{Upper, Lower}
 use Rattle.stn_conflict.specs.Arcs.{arc, arc_of, bound_at, IsChain}
+use Rattle.stn_conflict.specs.Distances.{AreDistances}
 use Rattle.stn_conflict.specs.Named.{IsTight, IsTightChain, IsLevel}
-use Rattle.stn_conflict.specs.Search.{HasLevelsUpTo}
-use Rattle.stn_conflict.proofs.Distances.{tightest_self, link_reaches, link_named}
+use Rattle.stn_conflict.specs.Search.{HasLevelsUpTo, AreStepsBack}
+use Rattle.stn_conflict.proofs.Distances.{tightest_self, link_reaches, link_among}
 use Rattle.stn_conflict.proofs.Chains.{chain-push, each-push}
 
 pub some_or_none : (o : Option ℕ) → (o ≡ None) ⊎ ((k : ℕ) × (o ≡ Some k))
@@ -34,11 +34,12 @@ pub record IsClosed (bounds : List Difference) (start : ℕ) (levels : ℕ → O
       → (k : ℕ) × (levels (arc_of bounds link).to ≡ Some k) × (k ≤ suc i)
 
 -- a round that gave no level ends the search
-pub closed_at_end : (bounds : List Difference) (start level : ℕ) (levels : ℕ → Option ℕ) → HasLevelsUpTo bounds start level levels → HasLevelsUpTo bounds start (suc level) levels → IsClosed bounds start levels
-closed_at_end bounds start level levels now more = record {
+pub closed_at_end : (bounds : List Difference) (start level : ℕ) (levels : ℕ → Option ℕ) (back : ℕ → Link) → HasLevelsUpTo bounds start level levels → HasLevelsUpTo bounds start (suc level) levels
+    → AreStepsBack bounds start levels back → IsClosed bounds start levels
+closed_at_end bounds start level levels back now more steps = record {
   zero_at_start = now.zero_at_start;
   only = now.only;
-  back = now.back;
+  back = λ x i at. let (tight, ends, from) = steps.step x i at in (back x, tight, ends, from);
   on = λ link tight i from. more.on link tight i from (omega (arith, now.under _ i from));
 }
 
@@ -94,8 +95,8 @@ raise_some : (o : Option ℕ) (k : ℕ) → o ≡ Some k → raise o ≡ pos 0
 raise_some o k e = ap raise e
 
 -- the tightest differences from the start, one more at each event without a level
-abbrev raised : Table → ℕ → (ℕ → Option ℕ) → ℕ → ℤ
-raised table start levels x = far_of table start x +ℤ raise (levels x)
+abbrev raised : List ℤ → (ℕ → Option ℕ) → ℕ → ℤ
+raised far levels x = times_of far x +ℤ raise (levels x)
 
 -- a link that is not tight has room for one more
 room_of_link : (bounds : List Difference) (start : ℕ) (link : Link) (m n : ℤ) → link.place < length bounds → IsTightest bounds start (arc_of bounds link).from m → IsTightest bounds start (arc_of bounds link).to n → (IsTight bounds start link → ⊥) → n <ℤ (m +ℤ (arc_of bounds link).weight)
@@ -125,31 +126,31 @@ raised_kept bounds start levels closed link m n there near far =
     ]
 
 -- times that keep to both sides of a bound meet it, also when all are moved
-meets_moved : (bound : Difference) (time : ℕ → ℤ) (by : ℤ) → ((side : Side) → (time (arc bound side).to -ℤ time (arc bound side).from) ≤ℤ (arc bound side).weight) → Meets (λ z. time z -ℤ by) bound
+pub meets_moved : (bound : Difference) (time : ℕ → ℤ) (by : ℤ) → ((side : Side) → (time (arc bound side).to -ℤ time (arc bound side).from) ≤ℤ (arc bound side).weight) → Meets (λ z. time z -ℤ by) bound
 meets_moved bound time by kept =
     let low : (time bound.from -ℤ time bound.to) ≤ℤ neg_ℤ bound.lo = kept Lower in
     let high : (time bound.to -ℤ time bound.from) ≤ℤ bound.hi = kept Upper in
     (omega (arith, ints), omega (arith, ints))
 
 -- the raised differences, moved so that the origin stands at 0, are a schedule
-raised_schedule : (bounds : List Difference) (table : Table) (start : ℕ) (levels : ℕ → Option ℕ) → IsExact bounds table → start ≤ table.events → IsClosed bounds start levels → IsSchedule bounds (λ x. raised table start levels x -ℤ raised table start levels 0)
-raised_schedule bounds table start levels exact within closed = record {
+raised_schedule : (bounds : List Difference) (far : List ℤ) (start : ℕ) (levels : ℕ → Option ℕ) → AreDistances bounds start far → IsClosed bounds start levels → IsSchedule bounds (λ x. raised far levels x -ℤ raised far levels 0)
+raised_schedule bounds far start levels exact closed = record {
   origin = omega (arith, ints);
-  met = All-from_get_or (Meets (λ x. raised table start levels x -ℤ raised table start levels 0)) bounds (record { from = 0; to = 0; lo = pos 0; hi = pos 0 }) (λ place there.
-      meets_moved (bound_at bounds place) (raised table start levels) (raised table start levels 0) (λ side.
+  met = All-from_get_or (Meets (λ x. raised far levels x -ℤ raised far levels 0)) bounds (record { from = 0; to = 0; lo = pos 0; hi = pos 0 }) (λ place there.
+      meets_moved (bound_at bounds place) (raised far levels) (raised far levels 0) (λ side.
       let link : Link = record { place = place; side = side } in
-      let named = link_named bounds table.events link exact.named there in
-      raised_kept bounds start levels closed link _ _ there (exact.far start _ within named.0) (exact.far start _ within named.1)));
+      let named = link_among bounds (length far) link exact.named there in
+      raised_kept bounds start levels closed link _ _ there (exact.tightest _ named.0) (exact.tightest _ named.1)));
 }
 
 -- where the search has come to its end, each event has a level
-pub level_of_event : (bounds : List Difference) (table : Table) (start : ℕ) (levels : ℕ → Option ℕ) → IsExact bounds table → start ≤ table.events → IsClosed bounds start levels → (x : ℕ) → x ≤ table.events → (level : ℕ) × (levels x ≡ Some level)
-level_of_event bounds table start levels exact within closed x x_within =
+pub level_of_event : (bounds : List Difference) (far : List ℤ) (start : ℕ) (levels : ℕ → Option ℕ) → AreDistances bounds start far → IsClosed bounds start levels → (x : ℕ) → x < length far → (level : ℕ) × (levels x ≡ Some level)
+level_of_event bounds far start levels exact closed x x_within =
     elim (some_or_none (levels x)) [
       | inr found ↦ found
       | inl none ↦
-          let far = exact.far start x within x_within in
-          let self = tightest_self bounds start _ (exact.far start start within within) in
-          let passed = far.bound _ (raised_schedule bounds table start levels exact within closed) in
+          let most = exact.tightest x x_within in
+          let self = tightest_self bounds start _ (exact.tightest start exact.start_named) in
+          let passed = most.bound _ (raised_schedule bounds far start levels exact closed) in
           absurd (omega (arith, ints, raise_none _ none, raise_some _ 0 closed.zero_at_start))
     ]

@@ -7,3 +7,4 @@ pub mod OneCycle
 pub mod Rounds
 pub mod Steps
 pub mod Known
+pub mod Relaxing

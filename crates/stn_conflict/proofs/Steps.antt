@@ -1,19 +1,17 @@
-use Rattle.std.proofs.Common.{◌≡◌, ◌≢◌, ℕ, zero, suc, ◌+◌, ◌*◌, ◌<◌, ◌≤◌, Option, Some, List, [], ◌∷◌, ◌++◌, length, take, eqb, eqb-true, eq-eqb, sym, subst, ap, refl, ◌∙◌, arith, to_z, of_z, w64}
+use Rattle.std.proofs.Common.{◌≡◌, ◌≢◌, ℕ, zero, suc, ◌<◌, Option, Some, List, [], ◌∷◌, ◌++◌, length, eqb, eqb-true, eq-eqb, sym, subst, ap, refl, ◌∙◌, arith, to_z, of_z, w64}
 use Rattle.std.specs.Prelude.{ℤ, ◌+ℤ◌, IsTrue, reverse}
 use Rattle.std.specs.List.{AllByRecursion}
-use Rattle.std.proofs.lemmas.List.{length_push, take_more, reverse-append}
+use Rattle.std.proofs.lemmas.List.{reverse-append}
 use Rattle.std.proofs.lemmas.Int.{ints}
 use Rattle.stn_time.specs.Time.{IsWithinHorizon}
 use Rattle.stn_net.specs.Difference.{Difference}
 use Rattle.stn_matrix.specs.Tightest.{IsTightest}
 use Rattle.stn_conflict.specs.declared.links.Link.{Link}
-use Rattle.stn_conflict.specs.declared.links.Side.{Side}
-use Rattle.stn_conflict.specs.declared.links.Side.TheVariants.{Upper, Lower}
-use Rattle.stn_conflict.specs.Arcs.{arc_of, bound_at, rank, side_rank, IsChain}
-use Rattle.stn_conflict.specs.Named.{IsTight, IsTightChain, IsLevel, IsStep, IsFirstStep}
-use Rattle.stn_conflict.specs.Search.{HasLevels}
+use Rattle.stn_conflict.specs.Arcs.{arc_of, IsChain}
+use Rattle.stn_conflict.specs.Named.{IsTight, IsLevel, IsStep, IsFirstStep}
+use Rattle.stn_conflict.specs.Search.{HasLevels, AreStepsBack}
 use Rattle.stn_conflict.proofs.Distances.{tight_from_sum, sum_from_tight}
-use Rattle.stn_conflict.proofs.Chains.{chain-push, chain-unpush, each-push, each-unpush, last_of}
+use Rattle.stn_conflict.proofs.LevelTable.{some_same}
 
 -- what a test of a sum of two times says
 pub sum_test : (m w n : ℤ) → IsWithinHorizon m → IsWithinHorizon w → IsWithinHorizon n
@@ -56,57 +54,35 @@ level_zero bounds start x is =
     empty [] chain long = sym chain
     empty (link ∷ links) chain long = absurd (omega arith)
 
--- to an event with a level above 0 leads a step
-step_into : (bounds : List Difference) (start x level : ℕ) → IsLevel bounds start x (suc level) → (link : Link) × IsStep bounds start link × ((arc_of bounds link).to ≡ x)
-step_into bounds start x level is =
-    let (links, chain, long) = is.reached in
-    from_last links chain long
-  where
-    from_last : (links : List Link) → IsTightChain bounds start x links → length links ≡ suc level → (link : Link) × IsStep bounds start link × ((arc_of bounds link).to ≡ x)
-    from_last [] chain long = absurd (omega arith)
-    from_last (first ∷ links) chain long =
-        let (init, last, e) = last_of first links in
-        let parts = chain-unpush bounds init last start x (subst (λ l. IsChain bounds l start x) e chain.chain) in
-        let (tight, last_tight) = each-unpush (IsTight bounds start) init last (subst (AllByRecursion (IsTight bounds start)) e chain.tight) in
-        let short : length init ≡ level = omega (arith, ap length e, length_push init last) in
-        let before : IsLevel bounds start (arc_of bounds last).from level = record {
-          reached = (init, record { chain = parts.before; tight = tight }, short);
-          least = λ others other.
-              let longer = is.least (others ++ last ∷ []) (record {
-                chain = subst (λ z. IsChain bounds (others ++ last ∷ []) start z) parts.ends (chain-push bounds others last start _ other.chain parts.there refl);
-                tight = each-push (IsTight bounds start) others last other.tight last_tight;
-              }) in
-              omega (arith, length_push others last);
-        } in (
-          last,
-          record {
-            tight = last_tight;
-            level = (level, before, subst (λ z. IsLevel bounds start z (suc level)) (sym parts.ends) is);
-          },
-          parts.ends,
-        )
+-- the link is the first step to the event
+pub record IsStepBack (bounds : List Difference) (start : ℕ) (levels : ℕ → Option ℕ) (x : ℕ) (link : Link) : Type 0 where
+  pub first : IsFirstStep bounds start link
+  pub ends : (arc_of bounds link).to ≡ x
+  pub lower : (level : ℕ) × (levels (arc_of bounds link).from ≡ Some level) × (levels x ≡ Some (suc level))
 
--- to each event but the start leads a step
-pub step_to : (bounds : List Difference) (start events : ℕ) (levels : ℕ → Option ℕ) (x : ℕ) → HasLevels bounds start events levels → x ≤ events → x ≢ start → (link : Link) × IsStep bounds start link × ((arc_of bounds link).to ≡ x)
-step_to bounds start events levels x has within differs =
+-- the link beside an event's level is the first step to it
+pub first_step_back : (bounds : List Difference) (start count : ℕ) (levels : ℕ → Option ℕ) (back : ℕ → Link) (x : ℕ) → HasLevels bounds start count levels → AreStepsBack bounds start levels back
+    → x < count → x ≢ start → IsStepBack bounds start levels x (back x)
+first_step_back bounds start count levels back x has steps within differs =
     let (level, at) = has.every x within in
-    by_level level ((has.level x level).0 at)
+    by_level level at
   where
-    by_level : (level : ℕ) → IsLevel bounds start x level → (link : Link) × IsStep bounds start link × ((arc_of bounds link).to ≡ x)
-    by_level zero is = absurd (differs (level_zero bounds start x is))
-    by_level (suc level) is = step_into bounds start x level is
-
--- each link of the bounds ranks below twice their number
-pub rank_below : (bounds : List Difference) (link : Link) → link.place < length bounds → rank link < 2 * length bounds
-rank_below bounds link there = by_side link.side refl
-  where
-    by_side : (side : Side) → link.side ≡ side → rank link < 2 * length bounds
-    by_side Upper e = omega (arith, ap side_rank e)
-    by_side Lower e = omega (arith, ap side_rank e)
-
--- one more bound
-pub take_bound : (bounds : List Difference) (place : ℕ) (bound : Difference) → place < length bounds → bound ≡ bound_at bounds place → take (place + 1) bounds ≡ take place bounds ++ bound ∷ []
-take_bound bounds place bound there e = take_more bounds place _ there ∙ ap (λ b. take place bounds ++ b ∷ []) (sym e)
+    by_level : (level : ℕ) → levels x ≡ Some level → IsStepBack bounds start levels x (back x)
+    by_level zero at = absurd (differs (level_zero bounds start x ((has.level x 0).0 at)))
+    by_level (suc level) at =
+        let (tight, ends, from) = steps.step x level at in
+        let end_at : levels (arc_of bounds (back x)).to ≡ Some (suc level) = ap levels ends ∙ at in
+        record {
+          first = record {
+            step = step_from_entries bounds start count levels (back x) _ _ has refl refl tight (level, from, end_at);
+            first = λ other below same step.
+                let (k, low, high) = entries_from_step bounds start count levels other _ _ has refl refl step in
+                let k_is : k ≡ level = omega (arith, some_same (levels x) (suc k) (suc level) (sym (ap levels (same ∙ ends)) ∙ high) at) in
+                steps.first x level at other below step.tight (same ∙ ends) (low ∙ ap Some k_is);
+          };
+          ends = ends;
+          lower = (level, from, at);
+        }
 
 -- a first step added before a way to its end
 pub chain_before_way : (bounds : List Difference) (start here x : ℕ) (links : List Link) (link : Link) → IsFirstStep bounds start link → (arc_of bounds link).to ≡ here → IsChain bounds (reverse links) here x → AllByRecursion (IsFirstStep bounds start) (reverse links) → IsChain bounds (reverse (links ++ link ∷ [])) (arc_of bounds link).from x × AllByRecursion (IsFirstStep bounds start) (reverse (links ++ link ∷ []))

@@ -1,4 +1,5 @@
 pub mod Arcs
 pub mod Culprit
+pub mod Distances
 pub mod Named
 pub mod Search

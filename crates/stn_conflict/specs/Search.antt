@@ -1,8 +1,9 @@
 use Rattle.std.specs.Prelude.{◌≡◌, ℕ, ℤ, pos, neg_ℤ, ◌*ℤ◌, ◌≤ℤ◌, suc, ◌+◌, ◌<◌, ◌≤◌, ◌↔◌, List, length, All, Option, Some, None, slice_index_or}
-use Rattle.stn_time.specs.declared.millis.TheConstants.{HORIZON}
+use Rattle.stn_time.specs.Time.{horizon}
 use Rattle.stn_net.specs.Difference.{Difference}
 use Rattle.stn_conflict.specs.declared.links.Link.{Link}
-use Rattle.stn_conflict.specs.Arcs.{arc_of, weight_of, IsNegativeCycle}
+use Rattle.stn_conflict.specs.declared.links.Side.TheVariants.{Upper}
+use Rattle.stn_conflict.specs.Arcs.{arc_of, rank, weight_of, IsNegativeCycle}
 use Rattle.stn_conflict.specs.Named.{IsTight, IsLevel, IsNamedCycle}
 
 -- the level that a table has of an event, if it has one yet
@@ -14,10 +15,19 @@ pub record HasLevelsUpTo (bounds : List Difference) (start level : ℕ) (levels 
   pub zero_at_start : levels start ≡ Some 0
   pub only : (x : ℕ) → levels x ≡ Some 0 → x ≡ start
   pub under : (x i : ℕ) → levels x ≡ Some i → i ≤ level
-  pub back : (x i : ℕ) → levels x ≡ Some (suc i)
-      → (link : Link) × IsTight bounds start link × ((arc_of bounds link).to ≡ x) × (levels (arc_of bounds link).from ≡ Some i)
   pub on : (link : Link) → IsTight bounds start link → (i : ℕ) → levels (arc_of bounds link).from ≡ Some i → i < level
       → (k : ℕ) × (levels (arc_of bounds link).to ≡ Some k) × (k ≤ suc i)
+
+-- the link that a table keeps beside the level of an event
+abbrev pub link_of : List Link → ℕ → Link
+link_of back event = slice_index_or back event (record { place = 0; side = Upper })
+
+-- the link beside each level above 0 is tight, ends there and begins one level lower, and no link before it does so too
+pub record AreStepsBack (bounds : List Difference) (start : ℕ) (levels : ℕ → Option ℕ) (back : ℕ → Link) : Type 0 where
+  pub step : (x i : ℕ) → levels x ≡ Some (suc i)
+      → IsTight bounds start (back x) × ((arc_of bounds (back x)).to ≡ x) × (levels (arc_of bounds (back x)).from ≡ Some i)
+  pub first : (x i : ℕ) → levels x ≡ Some (suc i) → (other : Link) → rank other < rank (back x) → IsTight bounds start other
+      → (arc_of bounds other).to ≡ x → levels (arc_of bounds other).from ≡ Some i → ⊥
 
 -- a tight link from an event of this level to an event without one
 pub record LeadsOn (bounds : List Difference) (start level : ℕ) (levels : ℕ → Option ℕ) (link : Link) : Type 0 where
@@ -25,17 +35,17 @@ pub record LeadsOn (bounds : List Difference) (start level : ℕ) (levels : ℕ 
   pub from : levels (arc_of bounds link).from ≡ Some level
   pub to : levels (arc_of bounds link).to ≡ None
 
--- each event's entry is its level
-pub record HasLevels (bounds : List Difference) (start events : ℕ) (levels : ℕ → Option ℕ) : Type 0 where
+-- each entry is its event's level, and each of the first so many events has one
+pub record HasLevels (bounds : List Difference) (start count : ℕ) (levels : ℕ → Option ℕ) : Type 0 where
   pub level : (x level : ℕ) → (levels x ≡ Some level) ↔ IsLevel bounds start x level
-  pub every : (x : ℕ) → x ≤ events → (level : ℕ) × (levels x ≡ Some level)
-  pub most : (x level : ℕ) → levels x ≡ Some level → level ≤ events
+  pub every : (x : ℕ) → x < count → (level : ℕ) × (levels x ≡ Some level)
+  pub most : (x level : ℕ) → levels x ≡ Some level → level < count
 
 -- a named cycle of bounds about so many events, with its sum
 pub record IsCycleOf (bounds : List Difference) (events : ℕ) (links : List Link) (sum : ℤ) : Type 0 where
   pub named : IsNamedCycle bounds links
   pub negative : IsNegativeCycle bounds links
   pub sum_is : sum ≡ weight_of bounds links
-  pub least : neg_ℤ (pos 2 *ℤ HORIZON) ≤ℤ sum
+  pub least : neg_ℤ (pos 2 *ℤ horizon) ≤ℤ sum
   pub places : All (λ link. link.place < length bounds) links
   pub short : length links ≤ events + 1

@@ -7,6 +7,7 @@ pub use search::cycle;
 mod levels;
 mod links;
 mod listed;
+mod relaxation;
 mod search;
 #[cfg(test)]
 mod tests;

@@ -1,21 +1,21 @@
-ghost use Rattle.std.specs.Prelude.{◌≡◌, ◌+◌, ◌<◌, ◌≤◌, ◌↔◌, ◌≤ℤ◌, neg_ℤ, pos, ◌*ℤ◌, ◌++◌, length, take, All, IsNone, IfOk, IfNone, IfSome, List};
-ghost use Rattle.stn_time.specs.declared.millis.TheConstants.{HORIZON};
-ghost use Rattle.stn_net.specs.declared.event.TheConstants.{MOST_EVENTS};
+ghost use Rattle.std.specs.Prelude.{◌≡◌, ℕ, ◌+◌, ◌<◌, ◌≤◌, ◌↔◌, ◌≤ℤ◌, neg_ℤ, pos, ◌*ℤ◌, ◌++◌, length, take, All, IsNone, IfOk, IfNone, IfSome, List};
+ghost use Rattle.stn_time.specs.Time.{horizon, IsWithinHorizon};
+ghost use Rattle.stn_net.specs.Event.{most_events};
 ghost use Rattle.stn_net.specs.Difference.{Difference, NamesEvents};
-ghost use Rattle.stn_net.specs.Schedule.{HasSchedule};
+ghost use Rattle.stn_net.specs.Schedule.{HasSchedule, times_of};
 ghost use Rattle.stn_net.specs.Horizon.{horizon_bounds};
-ghost use Rattle.stn_matrix.specs.Tightest.{IsExact};
 ghost use Rattle.stn_conflict.specs.Arcs.{weight_of, IsNegativeCycle};
 ghost use Rattle.stn_conflict.specs.Culprit.{IsRefusedSide};
+ghost use Rattle.stn_conflict.specs.Distances.{AreDistances, HasTables};
 ghost use Rattle.stn_conflict.specs.Named.{IsNamedCycle};
 ghost use Rattle.stn_conflict.specs.Search.{IsCycleOf};
 
 use crate::links::{Cycle, Link, Side};
 use crate::listed::Listed;
+use crate::relaxation::{Tables, distances, estimates, settle};
 use crate::way::way_back;
 use std::alloc::Allocator;
-use stn_matrix::Matrix;
-use stn_net::Bound;
+use stn_net::{Bound, Event};
 use stn_time::Memory;
 
 /// The named cycle of the bounds of `base` followed by those of `extra`, with places counted from
@@ -28,7 +28,7 @@ pub fn cycle<A: Allocator + Copy>(
     base: &[Bound],
     extra: &[Bound],
 ) -> Result<Option<Cycle<A>>, Memory>
-    requires few { events ≤ MOST_EVENTS }
+    requires few { events ≤ most_events }
     requires begins { take events base.now ≡ horizon_bounds events }
     requires base_named { All (NamesEvents events) base.now }
     requires extra_named { All (NamesEvents events) extra.now }
@@ -40,84 +40,108 @@ pub fn cycle<A: Allocator + Copy>(
     ensures sum { IfOk result (λ found. IfSome found
         (λ cycle. cycle.sum ≡ weight_of (base.now ++ extra.now) cycle.links.items)) }
     ensures least { IfOk result (λ found. IfSome found
-        (λ cycle. neg_ℤ (pos 2 *ℤ HORIZON) ≤ℤ cycle.sum)) }
+        (λ cycle. neg_ℤ (pos 2 *ℤ horizon) ≤ℤ cycle.sum)) }
     ensures places { IfOk result (λ found. IfSome found
         (λ cycle. All (λ link. link.place < length (base.now ++ extra.now)) cycle.links.items)) }
     ensures short { IfOk result (λ found. IfSome found
         (λ cycle. length cycle.links.items ≤ events + 1)) }
 {
     let bounds = Listed::new(base, extra);
-    let mut matrix = Matrix::bare(alloc, events)?;
-    match first_refused(&bounds, &mut matrix, usize::from(events)) {
-        Some(place) => Ok(Some(named(alloc, &bounds, &matrix, place)?)),
+    let mut tables = Tables::new(alloc, events, &bounds)?;
+    match first_refused(alloc, events, &bounds, &mut tables)? {
+        Some(place) => Ok(Some(named(alloc, events, &bounds, &mut tables, place)?)),
         None => Ok(None),
     }
 }
 
-// The place of the first bound with which the bounds have no schedule. The matrix, exact for the
-// `known` first bounds, becomes exact for all before that place.
+// The place of the first bound with which the bounds have no schedule, by bisection. The distances of
+// bounds that have a schedule are estimates for more of them.
 fn first_refused<A: Allocator + Copy>(
+    alloc: A,
+    events: u16,
     bounds: &Listed<'_>,
-    matrix: &mut Matrix<A>,
-    known: usize,
-) -> Option<usize>
-    requires known { known ≤ length bounds.now }
-    requires exact { IsExact (take known bounds.now) matrix.old }
-    requires named { All (NamesEvents matrix.old.events) bounds.now }
-    ensures none { IfNone result (HasSchedule bounds.now) }
-    ensures there { IfSome result (λ place. place < length bounds.now) }
-    ensures exact { IfSome result (λ place. IsExact (take place bounds.now) matrix.new) }
-    ensures refused { IfSome result (λ place. HasSchedule (take (place + 1) bounds.now) → ⊥) }
-    ensures events { matrix.new.events ≡ matrix.old.events }
+    tables: &mut Tables<A>,
+) -> Result<Option<usize>, Memory>
+    requires few { events ≤ most_events }
+    requires begins { take events bounds.now ≡ horizon_bounds events }
+    requires named { All (NamesEvents events) bounds.now }
+    requires tables { HasTables (events + 1) tables.old }
+    ensures none { IfOk result (λ found. IfNone found (HasSchedule bounds.now)) }
+    ensures there { IfOk result (λ found. IfSome found (λ place. place < length bounds.now)) }
+    ensures past { IfOk result (λ found. IfSome found (λ place. events ≤ place)) }
+    ensures before { IfOk result (λ found. IfSome found (λ place. HasSchedule (take place bounds.now))) }
+    ensures refused { IfOk result (λ found. IfSome found
+        (λ place. HasSchedule (take (place + 1) bounds.now) → ⊥)) }
+    ensures tables { HasTables (events + 1) tables.new }
 {
-    for place in known..bounds.len() {
-        if !matrix.tighten(bounds.bound(place)) {
-            return Some(place);
+    let origin = Event::origin();
+    let mut known = estimates(alloc, events, origin)?;
+    let mut far = estimates(alloc, events, origin)?;
+    if settle(bounds, tables, origin, &mut far) {
+        return Ok(None);
+    }
+    let mut low = usize::from(events);
+    let mut high = bounds.len();
+    while high - low > 1 {
+        let middle = low + (high - low) / 2;
+        far.copy_from_slice(&known);
+        if settle(&bounds.before(middle), tables, origin, &mut far) {
+            known.copy_from_slice(&far);
+            low = middle;
+        } else {
+            high = middle;
         }
     }
-    None
+    Ok(Some(low))
 }
 
-// The side of a bound that other bounds, for which the matrix is exact, refuse.
-fn refused_side<A: Allocator + Copy>(matrix: &Matrix<A>, bound: &Bound) -> Side
-    requires { NamesEvents matrix.now.events bound.now }
-    ensures side { (bounds : List Difference) → IsExact bounds matrix.now
+// The side of a bound that other bounds refuse, by the distances from its end over these.
+fn refused_side(far: &[i64], bound: &Bound) -> Side
+    requires from { bound.now.from < length far.now }
+    requires within { (x : ℕ) → x < length far.now → IsWithinHorizon (times_of far.now x) }
+    ensures side { (bounds : List Difference) → AreDistances bounds bound.now.to far.now
         → IsRefusedSide bounds bound.now result }
     ensures ordered { bound.now.lo ≤ℤ bound.now.hi }
 {
-    if matrix.far(bound.to(), bound.from()).get() + bound.hi().get() < 0 {
+    if far[usize::from(bound.from().number())] + bound.hi().get() < 0 {
         Side::Upper
     } else {
         Side::Lower
     }
 }
 
-// The named cycle, where the bound at the place is the first with which the bounds have no schedule
-// and the matrix is exact for those before it.
+// The named cycle, where the bound at the place is the first with which the bounds have no schedule.
 fn named<A: Allocator + Copy>(
     alloc: A,
+    events: u16,
     bounds: &Listed<'_>,
-    matrix: &Matrix<A>,
+    tables: &mut Tables<A>,
     place: usize,
 ) -> Result<Cycle<A>, Memory>
+    requires few { events ≤ most_events }
+    requires begins { take events bounds.now ≡ horizon_bounds events }
+    requires named { All (NamesEvents events) bounds.now }
+    requires tables { HasTables (events + 1) tables.old }
     requires there { place < length bounds.now }
-    requires exact { IsExact (take place bounds.now) matrix.now }
-    requires named { All (NamesEvents matrix.now.events) bounds.now }
+    requires past { events ≤ place }
+    requires before { HasSchedule (take place bounds.now) }
     requires refused { HasSchedule (take (place + 1) bounds.now) → ⊥ }
-    ensures { IfOk result
-        (λ cycle. IsCycleOf bounds.now matrix.now.events cycle.links.items cycle.sum) }
+    ensures { IfOk result (λ cycle. IsCycleOf bounds.now events cycle.links.items cycle.sum) }
 {
     let before = bounds.before(place);
+    let bound = bounds.bound(place);
+    let ahead = distances(alloc, events, &before, tables, bound.to())?;
     let link = Link {
         place,
-        side: refused_side(matrix, &bounds.bound(place)),
+        side: refused_side(&ahead, &bound),
     };
     let arc = bounds.arc(link);
-    let mut links = way_back(alloc, &before, matrix, arc.to, arc.from)?;
+    let far = distances(alloc, events, &before, tables, arc.to)?;
+    let mut links = way_back(alloc, &before, &far, arc.to, arc.from)?;
     links.push(link)?;
     links.reverse();
     Ok(Cycle {
         links,
-        sum: arc.weight + matrix.far(arc.to, arc.from).get(),
+        sum: arc.weight + far[usize::from(arc.from.number())],
     })
 }

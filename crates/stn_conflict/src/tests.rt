@@ -1,7 +1,8 @@
 ghost use Rattle.std.specs.Prelude.{◌≡◌, ◌≤◌, take, All, IfOk};
-ghost use Rattle.stn_net.specs.declared.event.TheConstants.{MOST_EVENTS};
+ghost use Rattle.stn_net.specs.Event.{most_events};
 ghost use Rattle.stn_net.specs.Difference.{NamesEvents};
 ghost use Rattle.stn_net.specs.Horizon.{horizon_bounds};
+ghost use Rattle.stn_time.specs.Time.{horizon};
 
 use crate::{Cycle, Link, Side, cycle, negative_cycle_is_conflict, one_named_cycle};
 use std::alloc::Allocator;
@@ -12,7 +13,7 @@ use stn_time::{HORIZON, Ms};
 
 // The horizon bounds of so many events.
 fn horizons<A: Allocator + Copy>(alloc: A, events: u16) -> Result<Vec<Bound, A>, Fail>
-    requires { events ≤ MOST_EVENTS }
+    requires { events ≤ most_events }
     ensures begins { IfOk result (λ base. take events base.items ≡ horizon_bounds events) }
     ensures named { IfOk result (λ base. All (NamesEvents events) base.items) }
 {
@@ -49,7 +50,7 @@ fn find<A: Allocator + Copy>(
     events: u16,
     parts: &[(u16, u16, i64, i64)],
 ) -> Result<Option<Cycle<A>>, Fail>
-    requires { events ≤ MOST_EVENTS }
+    requires { events ≤ most_events }
 {
     let base = horizons(alloc, events)?;
     let extra = bounds(alloc, events, parts)?;

@@ -1,6 +1,10 @@
 use Rattle.std.specs.Prelude.{◌≡◌, ℕ, ◌≤◌, List, ◌++◌, length, Option}
 use Rattle.std.specs.Io.KnownBytes.{Appends, Consumes}
 
+-- so many bytes of a script, a session, a log or a stream of replies are read at most
+abbrev pub most_bytes : ℕ
+most_bytes = 16777216
+
 -- of the known bytes at most n were used
 abbrev pub ConsumesAtMost : Option (List ℕ) → Option (List ℕ) → ℕ → Type 0
 ConsumesAtMost old new n = (bytes : List ℕ) × Consumes old new bytes × (length bytes ≤ n)

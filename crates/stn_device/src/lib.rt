@@ -2,7 +2,7 @@
 #![tactic(auto)]
 
 pub use counted::Counted;
-pub use whole::{ReadFault, WriteFault, read_whole, write_whole};
+pub use whole::{MOST_BYTES, ReadFault, WriteFault, read_whole, write_whole};
 
 mod counted;
 #[cfg(test)]

@@ -137,3 +137,47 @@ fn a_write_that_takes_none_is_a_failed_one(rt: HostRuntime) {
     assert_eq!(rt; writer.failures(), 1);
     assert_eq!(rt; writer.into_inner().calls, 1);
 }
+
+// The kind of the error of a call.
+fn kind_of<T>(answer: io::Result<T>) -> Option<ErrorKind>
+where
+    T: Drop,
+{
+    answer.err().map(|error| error.kind())
+}
+
+#[test]
+fn a_failed_read_gives_the_error_of_the_device(rt: HostRuntime) {
+    for room in [0usize, 3] {
+        let mut failing = reader(1, 1);
+        let mut buffer = [0u8; 3];
+        assert!(rt; kind_of(failing.read(&mut buffer[..room])) == Some(ErrorKind::Interrupted));
+        assert_eq!(rt; failing.failures(), 1);
+    }
+}
+
+fn failing_writer(rt: &HostRuntime) -> Counted<PieceWriter> {
+    Counted::new(PieceWriter {
+        held: Vec::new(rt.alloc()),
+        piece: 3,
+        calls: 0,
+        fails_at: 1,
+    })
+}
+
+#[test]
+fn a_failed_write_gives_the_error_of_the_device(rt: HostRuntime) {
+    for piece in [b"".as_slice(), b"abc"] {
+        let mut failing = failing_writer(&rt);
+        assert!(rt; kind_of(failing.write(piece)) == Some(ErrorKind::Interrupted));
+        assert_eq!(rt; failing.failures(), 1);
+    }
+}
+
+#[test]
+fn a_failed_flush_gives_the_error_of_the_device(rt: HostRuntime) {
+    let mut failing = failing_writer(&rt);
+    assert!(rt; kind_of(failing.flush()) == Some(ErrorKind::Interrupted));
+    assert_eq!(rt; failing.failures(), 1);
+    assert!(rt; failing.flush().is_ok());
+}

@@ -9,6 +9,9 @@ use std::alloc::{AllocError, Allocator};
 use std::io::{Read, Write};
 use thiserror::Error;
 
+/// How many bytes of a script, a session, a log or a stream of replies are read at most.
+pub const MOST_BYTES: usize = 16_777_216;
+
 /// How many bytes one call of a reader is asked for at most.
 const PIECE: usize = 4096;
 

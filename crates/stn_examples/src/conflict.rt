@@ -1,11 +1,12 @@
 ghost use Rattle.std.specs.Prelude.{IfOk};
 ghost use Rattle.stn_net.specs.Difference.{NamesEvents};
 
+use crate::sweep::{judged, refuse_each};
+use std::alloc::Allocator;
 use std::test::Fail;
-use stn_conflict::{Link, Side, cycle};
+use stn_conflict::{Cycle, Link, Side, cycle};
 use stn_lift::Base;
 use stn_net::{Bound, Event};
-use stn_refusing::Refusing;
 use stn_time::{HORIZON, Ms};
 
 // The bound of these events and milliseconds, in a plan of one step.
@@ -19,39 +20,31 @@ fn bound(from: u16, to: u16, lo: i64, hi: i64) -> Result<Bound, Fail>
     Ok(Bound::new(2, from, to, lo, hi)?)
 }
 
+// Whether the cycle is the upper link of the bound at place 3, the lower of that at 2 and the lower of that at 0.
+fn is_named<A: Allocator>(cycle: &Cycle<A>) -> bool {
+    let places = [(3, Side::Upper), (2, Side::Lower), (0, Side::Lower)];
+    cycle.sum == -1_000
+        && cycle.links.len() == 3
+        && cycle
+            .links
+            .iter()
+            .zip(places.iter())
+            .all(|(link, place)| (link.place, link.side) == *place)
+}
+
 #[test]
 fn want_of_memory(rt: HostRuntime) -> Result<(), Fail> {
     let base = Base::bare(rt.alloc(), 1)?;
     let extra = [bound(1, 2, 5_000, 5_000)?, bound(0, 2, -HORIZON, 4_000)?];
-    let links = [
-        Link {
-            place: 3,
-            side: Side::Upper,
-        },
-        Link {
-            place: 2,
-            side: Side::Lower,
-        },
-        Link {
-            place: 0,
-            side: Side::Lower,
-        },
-    ];
-    let heap = Refusing::new(rt.alloc(), 0);
-    for number in 1..100 {
+    let requests = refuse_each(&rt, rt.alloc(), |heap, number| {
         heap.refuse(number);
-        let found = cycle(&heap, 2, base.bounds(), &extra);
-        if heap.is_waiting() {
-            match found? {
-                Some(cycle) => {
-                    assert_eq!(rt; cycle.links.as_slice(), links.as_slice());
-                    assert_eq!(rt; cycle.sum, -1_000);
-                }
-                None => assert!(rt; false, "no cycle"),
-            }
-            return Ok(());
-        }
-        assert!(rt; found.is_err());
-    }
-    Err("more requests than there should be".into())
+        let (right, memory) = match cycle(heap, 2, base.bounds(), &extra) {
+            Ok(Some(cycle)) => (is_named(&cycle), false),
+            Ok(None) => (false, false),
+            Err(_) => (false, true),
+        };
+        Ok(judged(heap, right, memory))
+    })?;
+    assert!(rt; requests > 2);
+    Ok(())
 }

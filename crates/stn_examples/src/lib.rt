@@ -15,3 +15,5 @@ mod requests;
 mod scripts;
 #[cfg(test)]
 mod sites;
+#[cfg(test)]
+mod sweep;

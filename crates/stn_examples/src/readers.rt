@@ -1,6 +1,7 @@
+use crate::sweep::{judged, refuse_each};
+use std::test::Fail;
 use stn_pddl::{Domain, DomainFault};
 use stn_plan::{Plan, PlanFault};
-use stn_refusing::Refusing;
 
 const DOMAIN: &[u8] =
     b"(define (domain d) (:durative-action mend :parameters (?f) :duration (= ?duration 5) :effect (at end (p ?f c))))";
@@ -8,39 +9,29 @@ const DOMAIN: &[u8] =
 const PLAN: &[u8] = b"0: (mend f) [5]\n6: (mend g)\n";
 
 #[test]
-fn each_request_of_a_domain_is_refused(rt: HostRuntime) {
-    for number in 1..1000 {
-        let heap = Refusing::new(rt.alloc(), number);
-        match Domain::read(&heap, DOMAIN) {
-            Ok(domain) => {
-                assert!(rt; heap.is_waiting() && number > 4);
-                assert!(rt; domain.action(b"mend").is_some());
-                return;
-            }
-            Err(fault) => {
-                assert!(rt; fault == DomainFault::Memory, "request {number}");
-                assert!(rt; !heap.is_waiting(), "request {number}");
-            }
-        }
-    }
-    panic!(rt; "more than 999 requests");
+fn domains(rt: HostRuntime) -> Result<(), Fail> {
+    let requests = refuse_each(&rt, rt.alloc(), |heap, number| {
+        heap.refuse(number);
+        let (right, memory) = match Domain::read(heap, DOMAIN) {
+            Ok(domain) => (domain.action(b"mend").is_some(), false),
+            Err(fault) => (false, fault == DomainFault::Memory),
+        };
+        Ok(judged(heap, right, memory))
+    })?;
+    assert!(rt; requests > 4);
+    Ok(())
 }
 
 #[test]
-fn each_request_of_a_plan_is_refused(rt: HostRuntime) {
-    for number in 1..1000 {
-        let heap = Refusing::new(rt.alloc(), number);
-        match Plan::read(&heap, PLAN) {
-            Ok(plan) => {
-                assert!(rt; heap.is_waiting() && number > 3);
-                assert!(rt; plan.steps().len() == 2);
-                return;
-            }
-            Err(fault) => {
-                assert!(rt; fault == PlanFault::Memory, "request {number}");
-                assert!(rt; !heap.is_waiting(), "request {number}");
-            }
-        }
-    }
-    panic!(rt; "more than 999 requests");
+fn plans(rt: HostRuntime) -> Result<(), Fail> {
+    let requests = refuse_each(&rt, rt.alloc(), |heap, number| {
+        heap.refuse(number);
+        let (right, memory) = match Plan::read(heap, PLAN) {
+            Ok(plan) => (plan.steps().len() == 2, false),
+            Err(fault) => (false, fault == PlanFault::Memory),
+        };
+        Ok(judged(heap, right, memory))
+    })?;
+    assert!(rt; requests > 3);
+    Ok(())
 }

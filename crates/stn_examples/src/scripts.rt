@@ -1,9 +1,9 @@
 use crate::devices::{EmptyLines, PieceReader, PieceWriter};
+use crate::sweep::{judged, refuse_each};
 use std::alloc::Global;
 use std::test::Fail;
 use stn_exec::{Counted, MOST_BYTES, Ran, RunFault, run};
 use stn_net::Event;
-use stn_refusing::Refusing;
 
 const CHECK_TIMES: &[u8] =
     b"steps 1\nsites 1\n1 add s1 e1 5.000 5.000\n1 check 2.000 7.000\n1 check 2.000 6.999\n1 check -0.001 4.999\n1 check 1.000\n";
@@ -208,21 +208,18 @@ fn a_writer_fails_or_takes_none(rt: HostRuntime) {
 }
 
 #[test]
-fn each_request_for_memory_is_refused(rt: HostRuntime) {
-    for number in 1..1000 {
-        let heap = Refusing::new(rt.alloc(), number);
+fn each_request_for_memory_is_refused(rt: HostRuntime) -> Result<(), Fail> {
+    let alloc = rt.alloc();
+    let requests = refuse_each(&rt, alloc, |heap, number| {
         let mut input = Counted::new(reader(CHECK_TIMES, 4096, 0));
-        let mut output = Counted::new(writer(rt.alloc(), 4096, 0));
-        let answer = run(&heap, &mut input, &mut output);
+        let mut output = Counted::new(writer(alloc, 4096, 0));
+        heap.refuse(number);
+        let answer = run(heap, &mut input, &mut output);
         let held = output.into_inner().held;
-        if heap.is_waiting() {
-            assert!(rt; number > 5 && answer == Ok(CHECK_TIMES_RAN));
-            assert!(rt; held.as_slice() == CHECK_TIMES_OUTPUT);
-            return;
-        }
-        assert!(rt; answer == Err(RunFault::Memory), "request {number}");
-        assert!(rt; CHECK_TIMES_OUTPUT.starts_with(&held), "request {number}");
-        assert!(rt; prints(rt.alloc(), CHECK_TIMES, CHECK_TIMES_OUTPUT, CHECK_TIMES_RAN));
-    }
-    panic!(rt; "more than 999 requests");
+        let right = answer == Ok(CHECK_TIMES_RAN) && held.as_slice() == CHECK_TIMES_OUTPUT;
+        let memory = answer == Err(RunFault::Memory) && CHECK_TIMES_OUTPUT.starts_with(&held);
+        Ok(judged(heap, right, memory))
+    })?;
+    assert!(rt; requests > 5);
+    Ok(())
 }

@@ -19,6 +19,7 @@ fn spent_counter(rt: HostRuntime) -> Result<(), Fail> {
     replica.take(&held)?;
     let answer = replica.add(Event::origin(), start, zero, zero);
     assert!(rt; answer == Err(ReplicaFault::CounterSpent));
+    assert!(rt; replica.done(start, zero) == Err(ReplicaFault::CounterSpent));
     assert_eq!(rt; replica.records().known(), 1);
     Ok(())
 }

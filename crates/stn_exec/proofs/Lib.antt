@@ -1,5 +1,6 @@
-pub mod Places
-pub mod Steps
+pub mod Effects
 pub mod Events
+pub mod Foresight
 pub mod Scripts
 pub mod Outputs
+pub mod Reports

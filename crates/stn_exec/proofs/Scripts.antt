@@ -1,19 +1,20 @@
 -- The heading and the lines of a script, one after the other.
-use Rattle.std.proofs.Common.{◌≡◌, ℕ, ◌+◌, ◌<◌, ◌≤◌, true, false, cond, List, [], ◌∷◌, ◌++◌, length, Option, Some, None, Result, Ok, Err, Bool, IfSome, IfOk, OnOk, OnErr, refl, sym, ap, ◌∙◌, arith, codes, append_assoc, subst}
+use Rattle.std.proofs.Common.{◌≡◌, ℕ, ⊎_elim, ◌+◌, ◌<◌, ◌≤◌, true, false, cond, List, [], ◌∷◌, ◌++◌, length, Option, Some, None, Result, Ok, Err, Bool, IfSome, IfOk, OnOk, refl, sym, ap, ◌∙◌, arith, codes, append_assoc, subst}
 use Rattle.std.proofs.KnownBytes.{Appends-nil, Appends-trans}
+use Rattle.std.proofs.lemmas.Bool.{cases_lt}
 use Rattle.std.proofs.lemmas.Bool.Decides.{nat_tests}
 use Rattle.stn_device.specs.Bytes.{AppendsPart}
 use Rattle.stn_text.specs.Lines.{lines_of, words_of}
 use Rattle.stn_exec.specs.declared.answer.Refusal.{Refusal}
 use Rattle.stn_exec.specs.declared.answer.Refusal.TheVariants as refusal
-use Rattle.stn_exec.specs.Sites.{Step, Reply, said}
+use Rattle.stn_exec.specs.Effect.{Reply, said, and_then}
 use Rattle.stn_exec.specs.Command.{Command, command_of}
 use Rattle.stn_lift.specs.PlanSource.{bare, events_of}
-use Rattle.stn_world.specs.World.{World}
+use Rattle.stn_world.specs.World.{World, opening_world}
 use Rattle.stn_exec.specs.declared.answer.Answer.{Answer}
 use Rattle.stn_exec.specs.Answer.{answer_text, is_refusal}
 use Rattle.stn_exec.specs.Output.{IsReplyText, IsOutput, WritesOutput, WritesOutputPart, IsReplied}
-use Rattle.stn_exec.specs.Script.{nothing_run, followed_by, form_step, is_skipped, line_step, step_outcome, line_outcome, lines_outcome, next_line, Part, part_of, source_of, sites_of, Start, heading_of, started, last_line, script_outcome}
+use Rattle.stn_exec.specs.Script.{Outcome, nothing_run, followed_by, form_effect, is_skipped, line_effect, effect_outcome, line_outcome, lines_outcome, next_line, Part, part_of, source_of, sites_of, Based, Start, based, with_sites, heading_of, refuses, started, last_line, script_outcome}
 
 -- an empty text has no lines
 pub lines_of-none : (text : List ℕ) → length text ≡ 0 → lines_of text ≡ []
@@ -41,58 +42,76 @@ source_of-few steps le = grind (arith, nat_tests)
 source_of-many : (steps : ℕ) → 256 < steps → source_of steps ≡ Err refusal.TooManySteps
 source_of-many steps lt = grind (arith, nat_tests)
 
-sites_of-some : (sites : ℕ) → 1 ≤ sites → sites ≤ 64 → sites_of sites ≡ Ok sites
+pub sites_of-some : (sites : ℕ) → 1 ≤ sites → sites ≤ 64 → sites_of sites ≡ Ok sites
 sites_of-some sites least most = grind (arith, nat_tests)
 
-sites_of-none : (sites : ℕ) → sites < 1 → sites_of sites ≡ Err refusal.NoSite
-sites_of-none sites lt = grind (arith, nat_tests)
+pub sites_of-none : (sites : ℕ) → (1 ≤ sites → sites ≤ 64 → ⊥) → sites_of sites ≡ Err refusal.NoSite
+sites_of-none sites none = ⊎_elim (λ few. some few) (λ many. past many) (cases_lt sites 1)
+  where
+    some : sites < 1 → sites_of sites ≡ Err refusal.NoSite
+    some few = grind (arith, nat_tests)
 
-sites_of-many : (sites : ℕ) → 64 < sites → sites_of sites ≡ Err refusal.NoSite
-sites_of-many sites lt = grind (arith, nat_tests)
+    past : 1 ≤ sites → sites_of sites ≡ Err refusal.NoSite
+    past least = let many : 64 < sites = omega_many least in grind (arith, nat_tests)
+      where
+        omega_many : 1 ≤ sites → 64 < sites
+        omega_many least = ⊎_elim (λ lt. lt) (λ le. absurd (none least le)) (cases_lt 64 sites)
 
 -- the faults of the heading in their order, and the heading
-pub heading_of-first : (last : ℕ) (lines : List (List ℕ)) (cause : Refusal) → part_of last (codes "steps") (next_line 1 lines) ≡ Err cause → heading_of last lines ≡ Err cause
-unfolding heading_of
-heading_of-first last lines cause e = rw e refl
+pub based-fault : (last : ℕ) (lines : List (List ℕ)) (cause : Refusal) → part_of last (codes "steps") (next_line 1 lines) ≡ Err cause → based last lines ≡ Err cause
+unfolding based
+based-fault last lines cause e = rw e refl
 
-pub heading_of-steps : (last : ℕ) (lines : List (List ℕ)) (steps : Part) → part_of last (codes "steps") (next_line 1 lines) ≡ Ok steps → 256 < steps.value → heading_of last lines ≡ Err refusal.TooManySteps
-unfolding heading_of
-heading_of-steps last lines steps e many = rw e (rw (source_of-many steps.value many) refl)
+pub based-many : (last : ℕ) (lines : List (List ℕ)) (steps : Part) → part_of last (codes "steps") (next_line 1 lines) ≡ Ok steps → 256 < steps.value → based last lines ≡ Err refusal.TooManySteps
+unfolding based
+based-many last lines steps e many = rw e (rw (source_of-many steps.value many) refl)
 
-pub heading_of-second : (last : ℕ) (lines : List (List ℕ)) (steps : Part) (cause : Refusal) → part_of last (codes "steps") (next_line 1 lines) ≡ Ok steps → steps.value ≤ 256
-    → part_of last (codes "sites") (next_line (steps.found.number + 1) steps.found.behind) ≡ Err cause → heading_of last lines ≡ Err cause
-unfolding heading_of
-heading_of-second last lines steps cause e few f = rw e (rw (source_of-few steps.value few) (rw f refl))
+pub based-made : (last : ℕ) (lines : List (List ℕ)) (steps : Part) → part_of last (codes "steps") (next_line 1 lines) ≡ Ok steps → steps.value ≤ 256
+    → based last lines ≡ Ok (record { source = bare steps.value; number = steps.found.number + 1; lines = steps.found.behind })
+unfolding based
+based-made last lines steps e few = rw e (rw (source_of-few steps.value few) refl)
 
-pub heading_of-none : (last : ℕ) (lines : List (List ℕ)) (steps sites : Part) → part_of last (codes "steps") (next_line 1 lines) ≡ Ok steps → steps.value ≤ 256
-    → part_of last (codes "sites") (next_line (steps.found.number + 1) steps.found.behind) ≡ Ok sites → sites_of sites.value ≡ Err refusal.NoSite → heading_of last lines ≡ Err refusal.NoSite
-unfolding heading_of
-heading_of-none last lines steps sites e few f other = rw e (rw (source_of-few steps.value few) (rw f (rw other refl)))
+pub heading-fault : (last : ℕ) (lines : List (List ℕ)) (base : Based) (cause : Refusal) → based last lines ≡ Ok base
+    → part_of last (codes "sites") (next_line base.number base.lines) ≡ Err cause → heading_of last lines ≡ Err cause
+unfolding with_sites
+heading-fault last lines base cause e f = ap (λ r. and_then r (with_sites last)) e ∙ rw f refl
 
-pub sites-none : (sites : ℕ) → sites < 1 → sites_of sites ≡ Err refusal.NoSite
-sites-none = sites_of-none
+pub heading-none : (last : ℕ) (lines : List (List ℕ)) (base : Based) (sites : Part) → based last lines ≡ Ok base
+    → part_of last (codes "sites") (next_line base.number base.lines) ≡ Ok sites → sites_of sites.value ≡ Err refusal.NoSite → heading_of last lines ≡ Err refusal.NoSite
+unfolding with_sites
+heading-none last lines base sites e f none = ap (λ r. and_then r (with_sites last)) e ∙ rw f (rw none refl)
 
-pub sites-many : (sites : ℕ) → 64 < sites → sites_of sites ≡ Err refusal.NoSite
-sites-many = sites_of-many
-
-pub heading_of-made : (last : ℕ) (lines : List (List ℕ)) (steps sites : Part) → part_of last (codes "steps") (next_line 1 lines) ≡ Ok steps → steps.value ≤ 256
-    → part_of last (codes "sites") (next_line (steps.found.number + 1) steps.found.behind) ≡ Ok sites → 1 ≤ sites.value → sites.value ≤ 64
-    → heading_of last lines ≡ Ok (record { source = bare steps.value; sites = sites.value; number = sites.found.number + 1; lines = sites.found.behind })
-unfolding heading_of
-heading_of-made last lines steps sites e few f least most = rw e (rw (source_of-few steps.value few) (rw f (rw (sites_of-some sites.value least most) refl)))
+pub heading-made : (last : ℕ) (lines : List (List ℕ)) (base : Based) (sites : Part) → based last lines ≡ Ok base
+    → part_of last (codes "sites") (next_line base.number base.lines) ≡ Ok sites → sites_of sites.value ≡ Ok sites.value
+    → heading_of last lines ≡ Ok (record { source = base.source; sites = sites.value; number = sites.found.number + 1; lines = sites.found.behind })
+unfolding with_sites
+heading-made last lines base sites e f some = ap (λ r. and_then r (with_sites last)) e ∙ rw f (rw some refl)
 
 -- a line that is skipped, and one that is run
 pub line_outcome-skipped : (number : ℕ) (world : World) (words : List (List ℕ)) → is_skipped words ≡ true → line_outcome number world words ≡ nothing_run world
 unfolding line_outcome
-line_outcome-skipped number world words e = ap (λ t. cond t (nothing_run world) (step_outcome (line_step number world words))) e
+line_outcome-skipped number world words e = ap (λ t. cond t (nothing_run world) (effect_outcome (line_effect number world words))) e
 
-pub line_outcome-run : (number : ℕ) (world : World) (words : List (List ℕ)) (step : Step) → is_skipped words ≡ false → step ≡ line_step number world words → line_outcome number world words ≡ step_outcome step
+pub line_outcome-run : (number : ℕ) (world : World) (words : List (List ℕ)) → is_skipped words ≡ false → line_outcome number world words ≡ effect_outcome (line_effect number world words)
 unfolding line_outcome
-line_outcome-run number world words step e is = ap (λ t. cond t (nothing_run world) (step_outcome (line_step number world words))) e ∙ ap step_outcome (sym is)
+line_outcome-run number world words e = ap (λ t. cond t (nothing_run world) (effect_outcome (line_effect number world words))) e
 
-pub line_step-is : (number : ℕ) (world : World) (words : List (List ℕ)) (command : Option Command) → command ≡ command_of (events_of world.source) words → form_step number world command ≡ line_step number world words
-unfolding line_step
-line_step-is number world words command e = ap (form_step number world) e
+pub line_effect-is : (number : ℕ) (world : World) (words : List (List ℕ)) (command : Option Command) → command ≡ command_of (events_of world.source) words → form_effect number world command ≡ line_effect number world words
+unfolding line_effect
+line_effect-is number world words command e = ap (form_effect number world) e
+
+-- a line is at most one command
+pub line_outcome-counts : (number : ℕ) (world : World) (words : List (List ℕ)) → ((line_outcome number world words).commands ≤ 1) × ((line_outcome number world words).refused ≤ 1)
+line_outcome-counts number world words = tested (is_skipped words) refl
+  where
+    one : (b : Bool) → cond b 1 0 ≤ 1
+    one true = omega arith
+    one false = omega arith
+
+    tested : (b : Bool) → is_skipped words ≡ b → ((line_outcome number world words).commands ≤ 1) × ((line_outcome number world words).refused ≤ 1)
+    tested true e = let is = line_outcome-skipped number world words e in (omega (arith, ap (λ (o : Outcome). o.commands) is), omega (arith, ap (λ (o : Outcome). o.refused) is))
+    tested false e = let is = line_outcome-run number world words e in
+        (omega (arith, ap (λ (o : Outcome). o.commands) is), omega (arith, ap (λ (o : Outcome). o.refused) is, one (refuses (line_effect number world words).reply)))
 
 -- no lines, and one line more
 pub lines_outcome-none : (number : ℕ) (world : World) (text : List ℕ) → length text ≡ 0 → lines_outcome number world (lines_of text) ≡ nothing_run world
@@ -159,10 +178,14 @@ pub script_outcome-is : (script : List ℕ) (start : Result Start Refusal) → s
 unfolding script_outcome
 script_outcome-is script start e = ap started e
 
--- a fact that holds whatever the result is
-pub OnErr-any : {T E P : Type 0} (result : Result T E) → P → OnErr result P
-OnErr-any (Ok value) held = tt
-OnErr-any (Err fault) held = held
+-- the lines behind a heading that was read
+pub opened_outcome : (script : List ℕ) (start : Start) (world : World) (number : ℕ) (lines : List (List ℕ)) → heading_of (last_line script) (lines_of script) ≡ Ok start
+    → world ≡ opening_world start.source start.sites → start.number ≡ number → start.lines ≡ lines → lines_outcome number world lines ≡ script_outcome script
+opened_outcome script start world number lines read opening at behind =
+    ap (λ (n : ℕ). lines_outcome n world lines) (sym at)
+    ∙ (ap (λ (w : World). lines_outcome start.number w lines) opening
+    ∙ (ap (lines_outcome start.number (opening_world start.source start.sites)) (sym behind)
+    ∙ script_outcome-is script (Ok start) (sym read)))
 
 -- an answer that was appended
 pub said_replied : {E : Type 0} (result : Result Bool E) (world : World) (old new : List ℕ) (answer : Answer) → OnOk result (new ≡ old ++ answer_text answer) → IfOk result (λ refused. refused ≡ is_refusal answer)

@@ -2,6 +2,7 @@
 use Rattle.std.specs.Prelude.{ℕ, Bool, true, false, List, [], ◌∷◌, ◌++◌, codes, decimal}
 use Rattle.stn_time.specs.declared.reading.TimeFault.TheVariants.{Malformed, TooFine, OutOfRange}
 use Rattle.stn_net.specs.declared.bound.BoundFault.TheVariants.{NoEvent, SameEvent, Crossed}
+use Rattle.stn_net.specs.Event.{event_text}
 use Rattle.stn_records.specs.Id.{SiteCounter, id_text}
 use Rattle.stn_replica.specs.Names.{name_text}
 use Rattle.stn_exec.specs.declared.answer.Refusal.{Refusal}
@@ -24,6 +25,8 @@ refusal_code refusal.Unknown = 42
 refusal_code refusal.CounterSpent = 43
 refusal_code (refusal.Line line) = 70
 refusal_code refusal.NoSite = 71
+refusal_code refusal.NoPacket = 72
+refusal_code refusal.TooManyPackets = 73
 
 -- a line of these words and a number
 abbrev pub line_with : List ℕ → ℕ → List ℕ
@@ -32,6 +35,10 @@ line_with words number = words ++ (decimal number ++ 10 ∷ [])
 -- a line of these words and an id
 abbrev pub line_with_id : List ℕ → SiteCounter → List ℕ
 line_with_id words id = words ++ (id_text id ++ 10 ∷ [])
+
+-- a line of these words and an event
+abbrev pub line_with_event : List ℕ → ℕ → List ℕ
+line_with_event words event = words ++ (event_text event ++ 10 ∷ [])
 
 -- the line that is printed for a refusal
 abbrev pub refusal_text : Refusal → List ℕ

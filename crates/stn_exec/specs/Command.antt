@@ -3,23 +3,24 @@ use Rattle.std.specs.Prelude.{◌≡◌, ℕ, ◌+◌, ◌*◌, ◌/◌, ◌%◌
 use Rattle.std.specs.List.{range_with_len}
 use Rattle.std.specs.Option.{option_map}
 use Rattle.std.specs.Str.{bytes_eq}
-use Rattle.stn_net.specs.declared.event.TheConstants.{MOST_EVENTS}
-use Rattle.stn_net.specs.Event.{event_text}
-use Rattle.stn_records.specs.Id.{SiteCounter, id_text}
+use Rattle.stn_net.specs.Event.{most_events, event_text}
+use Rattle.stn_records.specs.Id.{most_sites, most_counter, SiteCounter, id_text}
 use Rattle.stn_text.specs.Lines.{words_of}
 use Rattle.stn_text.specs.Numbers.{number_of}
 use Rattle.stn_exec.specs.declared.command.Command.{Command as CommandOfLine}
 use Rattle.stn_exec.specs.declared.command.Action.{Action as ActionOfLine}
 use Rattle.stn_exec.specs.declared.command.Action.TheVariants as line
 
--- what a command does: it adds the bound of two events and two sides, withdraws a record, merges another site, prints
--- the report, or checks times; sides and times are words
+-- what a command does: it adds the bound of two events and two sides, records the time at which an event was executed, withdraws a
+-- record, merges another site, prints the report, checks times, or asks what comes next from a time on; sides and times are words
 pub data Action : Type 0 where
   add : (from to : ℕ) (lo hi : List ℕ) → Action
+  done : (event : ℕ) (time : List ℕ) → Action
   withdraw : (id : SiteCounter) → Action
   merge : (other : ℕ) → Action
   report : Action
   check : (times : List (List ℕ)) → Action
+  next : (now : List ℕ) → Action
 
 -- a command of one site
 pub record Command : Type 0 where
@@ -32,25 +33,30 @@ event_below count word = find (λ event. bytes_eq word (event_text event)) (rang
 
 -- the event that is printed so
 abbrev pub event_of : List ℕ → Option ℕ
-event_of word = event_below (MOST_EVENTS + 1) word
+event_of word = event_below (most_events + 1) word
 
--- the ids in their order, from 0 on: each site has 65,535
+-- the ids in their order, from 0 on
 abbrev pub nth_id : ℕ → SiteCounter
-nth_id place = record { site = place / 65535 + 1; counter = place % 65535 + 1 }
+nth_id place = record { site = place / most_counter + 1; counter = place % most_counter + 1 }
 
 -- the id, among so many, that is printed so
 unfoldable pub id_below : ℕ → List ℕ → Option SiteCounter
 id_below count word = option_map nth_id (find (λ place. bytes_eq word (id_text (nth_id place))) (range_with_len 0 count))
 
--- the id of one of 64 sites that is printed so
+-- the id that is printed so
 abbrev pub id_of : List ℕ → Option SiteCounter
-id_of word = id_below (64 * 65535) word
+id_of word = id_below (most_sites * most_counter) word
 
 -- the form `add <event> <event> <bound> <bound>`, behind its name
 abbrev pub add_of : List (List ℕ) → Option Action
 add_of (from ∷ (to ∷ (lo ∷ (hi ∷ [])))) =
     option_and_then (λ first. option_map (λ second. add first second lo hi) (event_of to)) (event_of from)
 add_of other = None
+
+-- the form `done <event> <t>`
+abbrev pub done_of : List (List ℕ) → Option Action
+done_of (event ∷ (time ∷ [])) = option_map (λ which. done which time) (event_of event)
+done_of other = None
 
 -- the form `withdraw <id>`
 abbrev pub withdraw_of : List (List ℕ) → Option Action
@@ -71,14 +77,21 @@ report_of other = None
 abbrev pub check_of : ℕ → List (List ℕ) → Option Action
 check_of events times = if length times == events then Some (check times) else None
 
+-- the form `next <t>`
+abbrev pub next_of : List (List ℕ) → Option Action
+next_of (now ∷ []) = Some (next now)
+next_of other = None
+
 -- the forms by their names
 abbrev pub action_of : ℕ → List ℕ → List (List ℕ) → Option Action
 action_of events name words =
     if bytes_eq name (codes "add") then add_of words else
+    (if bytes_eq name (codes "done") then done_of words else
     (if bytes_eq name (codes "withdraw") then withdraw_of words else
     (if bytes_eq name (codes "merge") then merge_of words else
     (if bytes_eq name (codes "report") then report_of words else
-    (if bytes_eq name (codes "check") then check_of events words else None))))
+    (if bytes_eq name (codes "check") then check_of events words else
+    (if bytes_eq name (codes "next") then next_of words else None))))))
 
 -- a site's command
 abbrev pub sites_command : ℕ → Action → Command
@@ -94,10 +107,12 @@ command_of events (site ∷ (name ∷ words)) =
 -- the action that the code has read from a line
 abbrev pub seen_action : ActionOfLine → Action
 seen_action (line.Add from to lo hi) = add from to lo.now hi.now
+seen_action (line.Done event time) = done event time.now
 seen_action (line.Withdraw id) = withdraw id
 seen_action (line.Merge other) = merge other
 seen_action line.Report = report
 seen_action (line.Check times) = check (words_of times.now)
+seen_action (line.Next now) = next now.now
 
 -- the command that the code has read from a line
 abbrev pub seen_command : CommandOfLine → Command

@@ -1,11 +1,15 @@
 -- What the code has read of a heading.
-use Rattle.std.specs.Prelude.{Result, Ok, Err}
-use Rattle.stn_lift.specs.PlanSource.{bare}
+use Rattle.std.specs.Prelude.{◌≡◌, ◌∷◌, Result, Ok, Err, ⊤}
+use Rattle.stn_lift.specs.PlanSource.{PlanSource}
 use Rattle.stn_text.specs.Lines.{lines_of, words_of}
+use Rattle.stn_world.specs.World.{World, opening_world}
+use Rattle.stn_exec.specs.declared.answer.Refusal.{Refusal}
 use Rattle.stn_exec.specs.declared.heading.FoundLine.{FoundLine}
 use Rattle.stn_exec.specs.declared.heading.HeadingPart.{HeadingPart}
-use Rattle.stn_exec.specs.declared.heading.CommandStart.{CommandStart}
-use Rattle.stn_exec.specs.Script.{Found, Part, Start}
+use Rattle.stn_exec.specs.declared.heading.Rest.{Rest}
+use Rattle.stn_exec.specs.declared.heading.HeadingFault.{HeadingFault}
+use Rattle.stn_exec.specs.declared.heading.HeadingFault.TheVariants as heading_fault
+use Rattle.stn_exec.specs.Script.{Found, Part, Based, Start}
 
 -- the value that was read, or the same fault
 abbrev pub result_seen : {A B E : Type 0} → (A → B) → Result A E → Result B E
@@ -14,12 +18,25 @@ result_seen seen (Err fault) = Err fault
 
 -- the line that was found
 abbrev pub seen_found : FoundLine → Found
-seen_found found = record { number = found.number; words = words_of found.line.now; behind = lines_of found.behind.now }
+seen_found found = record { number = found.number; words = found.word.now ∷ words_of found.rest.now; behind = lines_of found.behind.now }
 
 -- the part that was read
 abbrev pub seen_part : HeadingPart → Part
 seen_part part = record { value = part.value; found = seen_found part.found }
 
--- where the commands begin
-abbrev pub seen_start : CommandStart → Start
-seen_start start = record { source = bare start.steps; sites = start.sites; number = start.number; lines = lines_of start.text.now }
+-- what the first part gives
+abbrev pub seen_base : PlanSource → Rest → Based
+seen_base source rest = record { source = source; number = rest.number; lines = lines_of rest.text.now }
+
+-- the world and the commands are those that the heading gives
+pub record IsOpened (heading : Result Start Refusal) (world : World) (rest : Rest) : Type 0 where
+  pub start : Start
+  pub read : heading ≡ Ok start
+  pub opening : world ≡ opening_world start.source start.sites
+  pub number : start.number ≡ rest.number
+  pub lines : start.lines ≡ lines_of rest.text.now
+
+-- the refusal is the one wanted; want of memory is none
+abbrev pub IsHeadingFault : {T : Type 0} → Result T Refusal → HeadingFault → Type 0
+IsHeadingFault wanted (heading_fault.Refused cause) = wanted ≡ Err cause
+IsHeadingFault wanted heading_fault.Memory = ⊤

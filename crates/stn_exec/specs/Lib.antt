@@ -1,7 +1,9 @@
 pub mod Answer
 pub mod Command
-pub mod Sites
-pub mod Script
-pub mod Output
-pub mod Heading
+pub mod Dispatch
 pub mod Refusals
+pub mod Effect
+pub mod Script
+pub mod Heading
+pub mod Output
+pub mod Reports

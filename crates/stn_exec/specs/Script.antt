@@ -1,18 +1,18 @@
 -- A script: its heading, and the fold of its commands.
 use Rattle.std.specs.Prelude.{ℕ, ◌+◌, Bool, true, false, ◌==◌, ◌&&◌, nat_le, if◌then◌else◌, List, [], ◌∷◌, ◌++◌, codes, slice_index, count_by, Option, Some, None, Result, Ok, Err}
 use Rattle.std.specs.Str.{bytes_eq}
+use Rattle.stn_net.specs.Event.{most_steps}
 use Rattle.stn_lift.specs.PlanSource.{PlanSource, bare, events_of}
-use Rattle.stn_records.specs.declared.id.TheConstants.{MOST_SITES}
+use Rattle.stn_records.specs.Id.{most_sites}
 use Rattle.stn_text.specs.Lines.{is_line_end, lines_of, words_of}
 use Rattle.stn_text.specs.Numbers.{number_of}
-use Rattle.stn_world.specs.World.{World, content_at, held_at, opening_world}
-use Rattle.stn_exec.specs.declared.heading.TheConstants.{MOST_STEPS}
+use Rattle.stn_world.specs.World.{World, opening_world}
 use Rattle.stn_exec.specs.declared.answer.Refusal.{Refusal}
 use Rattle.stn_exec.specs.declared.answer.Refusal.TheVariants as refusal
 use Rattle.stn_exec.specs.declared.answer.Answer.TheVariants as answer
 use Rattle.stn_exec.specs.Answer.{is_refusal}
-use Rattle.stn_exec.specs.Sites.{Reply, said, reported, Step, refused_step, has_site, and_then, added_bound, add_step, withdraw_step, merge_step, check_answer, times_from}
-use Rattle.stn_exec.specs.Command.{Action, add, withdraw, merge, report, check, Command, command_of}
+use Rattle.stn_exec.specs.Effect.{Reply, said, reported, foreseen, Effect, refusing, and_then, command_effect}
+use Rattle.stn_exec.specs.Command.{Command, command_of}
 
 -- what running lines leaves, replies and counts
 pub record Outcome : Type 0 where
@@ -34,22 +34,10 @@ followed_by first next = record {
   refused = first.refused + next.refused;
 }
 
--- an action at a site
-abbrev pub action_step : World → ℕ → Action → Step
-action_step world site (add from to lo hi) = add_step world site (added_bound (held_at world site) from to lo hi)
-action_step world site (withdraw id) = withdraw_step world site id
-action_step world site (merge other) = merge_step world site other
-action_step world site report = record { world = world; reply = reported world.source (content_at world site) }
-action_step world site (check times) = record { world = world; reply = said (check_answer world.source (content_at world site) (times_from times)) }
-
--- a command of a site that is there
-abbrev pub command_step : World → Command → Step
-command_step world command = if has_site world command.site then action_step world command.site command.action else refused_step world refusal.NoSite
-
 -- a line that is a command, or has another form
-abbrev pub form_step : ℕ → World → Option Command → Step
-form_step number world None = refused_step world (refusal.Line number)
-form_step number world (Some command) = command_step world command
+abbrev pub form_effect : ℕ → World → Option Command → Effect
+form_effect number world None = refusing world (refusal.Line number)
+form_effect number world (Some command) = command_effect world command
 
 -- the line has no words, or is a comment
 abbrev pub is_skipped : List (List ℕ) → Bool
@@ -57,27 +45,28 @@ is_skipped [] = true
 is_skipped (word ∷ words) = slice_index word 0 == 35
 
 -- what a line that is not skipped does
-unfoldable pub line_step : ℕ → World → List (List ℕ) → Step
-line_step number world words = form_step number world (command_of (events_of world.source) words)
+unfoldable pub line_effect : ℕ → World → List (List ℕ) → Effect
+line_effect number world words = form_effect number world (command_of (events_of world.source) words)
 
 -- the reply is a refusal
 abbrev pub refuses : Reply → Bool
 refuses (said answer) = is_refusal answer
 refuses (reported source state) = false
+refuses (foreseen source state now) = false
 
 -- a command is counted, and prints its reply
-abbrev pub step_outcome : Step → Outcome
-step_outcome step = record {
-  world = step.world;
-  replies = step.reply ∷ [];
+abbrev pub effect_outcome : Effect → Outcome
+effect_outcome effect = record {
+  world = effect.world;
+  replies = effect.reply ∷ [];
   commands = 1;
-  refused = if refuses step.reply then 1 else 0;
+  refused = if refuses effect.reply then 1 else 0;
 }
 
 -- a line of a number
 unfoldable pub line_outcome : ℕ → World → List (List ℕ) → Outcome
 line_outcome number world words =
-    if is_skipped words then nothing_run world else step_outcome (line_step number world words)
+    if is_skipped words then nothing_run world else effect_outcome (line_effect number world words)
 
 -- lines, one after the other; the first has this number
 unfoldable pub lines_outcome : ℕ → World → List (List ℕ) → Outcome
@@ -121,29 +110,43 @@ abbrev pub part_of : ℕ → List ℕ → Option Found → Result Part Refusal
 part_of last name None = Err (refusal.Line last)
 part_of last name (Some found) = part_with found (heading_number name found.words)
 
--- a bare plan has at most 256 steps
+-- a bare plan has at most so many steps
 abbrev pub source_of : ℕ → Result PlanSource Refusal
-source_of steps = if nat_le steps MOST_STEPS then Ok (bare steps) else Err refusal.TooManySteps
+source_of steps = if nat_le steps most_steps then Ok (bare steps) else Err refusal.TooManySteps
 
--- from 1 to 64 sites
+-- there is a site, and no more than the most
 abbrev pub sites_of : ℕ → Result ℕ Refusal
-sites_of sites = if nat_le 1 sites && nat_le sites MOST_SITES then Ok sites else Err refusal.NoSite
+sites_of sites = if nat_le 1 sites && nat_le sites most_sites then Ok sites else Err refusal.NoSite
 
--- where the commands begin: what the plan is made from, how many sites there are, the number of the first line, and the lines
+-- where a part of a script begins: what the plan is made from, how many sites there are, the number of the first line, and the lines
+pub record Based : Type 0 where
+  pub source : PlanSource
+  pub number : ℕ
+  pub lines : List (List ℕ)
+
 pub record Start : Type 0 where
   pub source : PlanSource
   pub sites : ℕ
   pub number : ℕ
   pub lines : List (List ℕ)
 
--- the heading: the steps of the bare plan, and then the number of sites
-unfoldable pub heading_of : ℕ → List (List ℕ) → Result Start Refusal
-heading_of last lines =
+-- the first part of the heading: the steps of the bare plan, whose base is made
+unfoldable pub based : ℕ → List (List ℕ) → Result Based Refusal
+based last lines =
     and_then (part_of last (codes "steps") (next_line 1 lines)) (λ steps.
     and_then (source_of steps.value) (λ source.
-    and_then (part_of last (codes "sites") (next_line (steps.found.number + 1) steps.found.behind)) (λ sites.
+    Ok (record { source = source; number = steps.found.number + 1; lines = steps.found.behind })))
+
+-- the second part: the number of sites
+unfoldable pub with_sites : ℕ → Based → Result Start Refusal
+with_sites last base =
+    and_then (part_of last (codes "sites") (next_line base.number base.lines)) (λ sites.
     and_then (sites_of sites.value) (λ count.
-    Ok (record { source = source; sites = count; number = sites.found.number + 1; lines = sites.found.behind })))))
+    Ok (record { source = base.source; sites = count; number = sites.found.number + 1; lines = sites.found.behind })))
+
+-- the heading: where the commands begin, or the first fault
+abbrev pub heading_of : ℕ → List (List ℕ) → Result Start Refusal
+heading_of last lines = and_then (based last lines) (with_sites last)
 
 -- a fault of the heading is printed, and ends the run; else the commands are run, at sites that hold nothing yet
 abbrev pub started : Result Start Refusal → Outcome

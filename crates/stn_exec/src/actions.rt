@@ -1,18 +1,23 @@
-ghost use Rattle.std.specs.Prelude.{◌≡◌, ◌+◌, Some, length, pos, IfOk};
+ghost use Rattle.std.specs.Prelude.{◌≡◌, ℕ, ◌+◌, Some, Ok, Err, length, pos, neg_ℤ, IfOk, IfErr, if◌then◌else◌};
+ghost use Rattle.std.specs.Option.{option_map_or};
+ghost use Rattle.stn_time.specs.Time.{horizon};
+ghost use Rattle.stn_time.specs.TimeOf.{time_of};
 ghost use Rattle.stn_net.specs.Schedule.{times_of};
 ghost use Rattle.stn_lift.specs.PlanSource.{events_of};
-ghost use Rattle.stn_replica.specs.Bounds.{all_bounds};
+ghost use Rattle.stn_replica.specs.Names.{broken_bound};
 ghost use Rattle.stn_text.specs.Lines.{words_of};
-ghost use Rattle.stn_world.specs.World.{HasSite, held_at};
+ghost use Rattle.stn_world.specs.World.{has_site};
 ghost use Rattle.stn_exec.specs.declared.answer.Refusal.{Refusal};
-ghost use Rattle.stn_exec.specs.declared.answer.Answer.TheVariants.{Refused};
+ghost use Rattle.stn_exec.specs.declared.answer.Refusal.TheVariants.{NoSite};
 ghost use Rattle.stn_world.specs.declared.faults.WorldFault.TheVariants.{Replica};
+ghost use Rattle.stn_exec.specs.declared.answer.Answer.TheVariants.{Broken, Schedule, Refused};
+ghost use Rattle.stn_exec.specs.Command.{add, done, withdraw, merge, check, sites_command};
 ghost use Rattle.stn_exec.specs.Refusals.{refusal_of};
-ghost use Rattle.stn_exec.specs.Sites.{said, side_of, added_bound, add_step, withdraw_step, merge_step, broken_place, broken_answer, check_answer, times_from};
+ghost use Rattle.stn_exec.specs.Effect.{said, refusing_time, side_of, difference_read, command_effect, check_answer, times_from};
 
 use crate::answer::{Answer, Refusal};
 use std::alloc::{AllocError, Allocator};
-use stn_net::{BoundFault, Event};
+use stn_net::Event;
 use stn_records::Id;
 use stn_replica::{Replica as SiteReplica, ReplicaFault};
 use stn_text::first_word;
@@ -22,38 +27,51 @@ use stn_world::{World, WorldFault};
 /// Adds at a site the bound of these events and sides, which are words of a line.
 pub fn add<A: Allocator + Copy>(
     world: &mut World<A>,
-    site: u8,
+    site: u32,
     from: Event,
     to: Event,
     lo: &[u8],
     hi: &[u8],
 ) -> Result<Answer, Memory>
-    requires { HasSite world.old site }
     ensures { IfOk result (λ answer. record { world = world.new; reply = said answer }
-        ≡ add_step world.old site (added_bound (held_at world.old site) from to lo.now hi.now)) }
+        ≡ command_effect world.old (sites_command site (add from to lo.now hi.now))) }
 {
-    let low = match read_side(lo, Ms::new(-HORIZON).unwrap()) {
-        Ok(low) => low,
-        Err(refusal) => return Ok(Answer::Refused(refusal)),
-    };
-    let high = match read_side(hi, Ms::new(HORIZON).unwrap()) {
-        Ok(high) => high,
-        Err(refusal) => return Ok(Answer::Refused(refusal)),
-    };
-    match world.add(site, from, to, low, high) {
-        Ok(id) => Ok(Answer::Added(id)),
-        Err(fault) => refused(fault),
+    match read_sides(lo, hi) {
+        Ok((low, high)) => match world.add(site, from, to, low, high) {
+            Ok(id) => Ok(Answer::Added(id)),
+            Err(fault) => refused(fault),
+        },
+        Err(refusal) => Ok(Answer::Refused(at_site(world, site, refusal))),
+    }
+}
+
+/// Records at a site the time at which an event was executed, which is a word of a line.
+pub fn done<A: Allocator + Copy>(
+    world: &mut World<A>,
+    site: u32,
+    event: Event,
+    time: &[u8],
+) -> Result<Answer, Memory>
+    ensures { IfOk result (λ answer. record { world = world.new; reply = said answer }
+        ≡ command_effect world.old (sites_command site (done event time.now))) }
+{
+    match read_time(time) {
+        Ok(time) => match world.done(site, event, time) {
+            Ok(id) => Ok(Answer::Added(id)),
+            Err(fault) => refused(fault),
+        },
+        Err(refusal) => Ok(Answer::Refused(at_site(world, site, refusal))),
     }
 }
 
 /// Withdraws a record at a site.
 pub fn withdraw<A: Allocator + Copy>(
     world: &mut World<A>,
-    site: u8,
+    site: u32,
     id: Id,
 ) -> Result<Answer, Memory>
-    requires { HasSite world.old site }
-    ensures { IfOk result (λ answer. record { world = world.new; reply = said answer } ≡ withdraw_step world.old site id) }
+    ensures { IfOk result (λ answer. record { world = world.new; reply = said answer }
+        ≡ command_effect world.old (sites_command site (withdraw id))) }
 {
     match world.withdraw(site, id) {
         Ok(()) => Ok(Answer::Withdrawn(id)),
@@ -61,26 +79,23 @@ pub fn withdraw<A: Allocator + Copy>(
     }
 }
 
-/// Takes in at a site all that the site of this number holds.
+/// Takes in at a site all that another holds.
 pub fn merge<A: Allocator + Copy>(
     world: &mut World<A>,
-    site: u8,
+    site: u32,
     other: u32,
 ) -> Result<Answer, Memory>
-    requires { HasSite world.old site }
-    ensures { IfOk result (λ answer. record { world = world.new; reply = said answer } ≡ merge_step world.old site other) }
+    ensures { IfOk result (λ answer. record { world = world.new; reply = said answer }
+        ≡ command_effect world.old (sites_command site (merge other))) }
 {
-    if other < 1 || other > u32::from(world.sites()) {
-        return Ok(Answer::Refused(Refusal::NoSite));
-    }
-    match world.merge(site, other as u8) {
+    match world.merge(site, other) {
         Ok(()) => Ok(Answer::Merged),
         Err(fault) => refused(fault),
     }
 }
 
-/// Checks at a site the times of the events from 1 on, which are the words of a line.
-pub fn check<A: Allocator + Copy>(
+// Checks the times of the events from 1 on, which are the words of a line.
+fn check<A: Allocator + Copy>(
     alloc: A,
     replica: &SiteReplica<A>,
     line: &[u8],
@@ -101,15 +116,43 @@ pub fn check<A: Allocator + Copy>(
     Ok(check_times(replica, &times))
 }
 
+/// Checks at a site the times of the events from 1 on, which are the words of a line.
+pub fn check_at<A: Allocator + Copy>(
+    alloc: A,
+    world: &World<A>,
+    site: u32,
+    line: &[u8],
+) -> Result<Answer, Memory>
+    requires { length (words_of line.now) ≡ events_of world.now.source }
+    ensures { IfOk result (λ answer. record { world = world.now; reply = said answer }
+        ≡ command_effect world.now (sites_command site (check (words_of line.now)))) }
+{
+    match world.replica(site) {
+        Some(replica) => check(alloc, replica, line),
+        None => Ok(Answer::Refused(Refusal::NoSite)),
+    }
+}
+
 fn check_times<A: Allocator + Copy>(replica: &SiteReplica<A>, times: &[Ms]) -> Answer
     requires origin { times_of times.now 0 ≡ pos 0 }
     requires count { length times.now ≡ events_of replica.now.source + 1 }
-    ensures { result ≡ broken_answer replica.now.source replica.now.state (broken_place (all_bounds replica.now.source replica.now.state) times.now) }
+    ensures { result ≡ option_map_or Broken (broken_bound replica.now.source replica.now.state (times_of times.now)) Schedule }
 {
     match replica.check(times) {
         Some(name) => Answer::Broken(name),
         None => Answer::Schedule,
     }
+}
+
+// Both sides of a bound, the lower one first, or the first refusal.
+fn read_sides(lo: &[u8], hi: &[u8]) -> Result<(Ms, Ms), Refusal>
+    ensures low { IfOk result (λ sides. side_of (neg_ℤ horizon) lo.now ≡ Ok sides.0) }
+    ensures high { IfOk result (λ sides. side_of horizon hi.now ≡ Ok sides.1) }
+    ensures refused { IfErr result (λ refusal. (from to : ℕ) → difference_read from to lo.now hi.now ≡ Err refusal) }
+{
+    let low = read_side(lo, Ms::new(-HORIZON).unwrap())?;
+    let high = read_side(hi, Ms::new(HORIZON).unwrap())?;
+    Ok((low, high))
 }
 
 // The side of a bound that a word is: the open one for `*`, else a time.
@@ -119,30 +162,48 @@ fn read_side(word: &[u8], open_side: Ms) -> Result<Ms, Refusal>
     if word == b"*".as_slice() {
         return Ok(open_side);
     }
+    read_time(word)
+}
+
+/// The time that a word spells.
+pub fn read_time(word: &[u8]) -> Result<Ms, Refusal>
+    ensures { result ≡ refusing_time (time_of word.now) }
+{
     match Ms::read(word) {
         Ok(time) => Ok(time),
         Err(fault) => Err(Refusal::Time(fault)),
     }
 }
 
-// The answer where a world refused a call.
+// The refusal of a command of a site, where the site is there.
+fn at_site<A: Allocator + Copy>(world: &World<A>, site: u32, refusal: Refusal) -> Refusal
+    ensures { result ≡ (if has_site world.now site then refusal else NoSite) }
+{
+    match world.replica(site) {
+        Some(_replica) => refusal,
+        None => Refusal::NoSite,
+    }
+}
+
+// The answer where a world refused a call; want of memory is none.
 fn refused(fault: WorldFault) -> Result<Answer, Memory>
     ensures { IfOk result (λ answer. (cause : Refusal) × (refusal_of fault ≡ Some cause) × (answer ≡ Refused cause)) }
 {
     match fault {
         WorldFault::NoSite => Ok(Answer::Refused(Refusal::NoSite)),
+        WorldFault::NoPacket => Ok(Answer::Refused(Refusal::NoPacket)),
+        WorldFault::TooManyPackets => Ok(Answer::Refused(Refusal::TooManyPackets)),
         WorldFault::Replica(fault) => refused_by(fault),
+        WorldFault::Memory => Err(AllocError),
     }
 }
 
-// The answer where a replica refused a call; want of memory is none.
+// The answer where a replica refused a call.
 fn refused_by(fault: ReplicaFault) -> Result<Answer, Memory>
     ensures { IfOk result (λ answer. (cause : Refusal) × (refusal_of (Replica fault) ≡ Some cause) × (answer ≡ Refused cause)) }
 {
     let refusal = match fault {
-        ReplicaFault::NoEvent => Refusal::Bound(BoundFault::NoEvent),
-        ReplicaFault::SameEvent => Refusal::Bound(BoundFault::SameEvent),
-        ReplicaFault::Crossed => Refusal::Bound(BoundFault::Crossed),
+        ReplicaFault::Bound(fault) => Refusal::Bound(fault),
         ReplicaFault::CounterSpent => Refusal::CounterSpent,
         ReplicaFault::Full => Refusal::Full,
         ReplicaFault::Unknown => Refusal::Unknown,

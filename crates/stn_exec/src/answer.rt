@@ -1,11 +1,11 @@
 ghost use Rattle.std.specs.Prelude.{◌≡◌, ◌++◌, [], ◌∷◌, OnOk, codes, decimal};
 ghost use Rattle.stn_records.specs.Id.{id_text};
 ghost use Rattle.stn_replica.specs.Names.{name_text};
-ghost use Rattle.stn_exec.specs.Answer.{refusal_code, refusal_text, answer_text, is_refusal};
+ghost use Rattle.stn_exec.specs.Answer.{line_with_event, refusal_code, refusal_text, answer_text, is_refusal};
 
 use itoa::Buffer;
 use std::alloc::Allocator;
-use stn_net::BoundFault;
+use stn_net::{BoundFault, Event};
 use stn_records::Id;
 use stn_replica::BoundName;
 use stn_time::{Memory, TimeFault};
@@ -31,6 +31,10 @@ pub enum Refusal {
     Line(u32),
     /// There is no such site.
     NoSite,
+    /// There is no such packet.
+    NoPacket,
+    /// There are as many packets as there may be.
+    TooManyPackets,
 }
 
 /// What a command answers.
@@ -69,6 +73,8 @@ impl Refusal {
             Refusal::CounterSpent => 43,
             Refusal::Line(_) => 70,
             Refusal::NoSite => 71,
+            Refusal::NoPacket => 72,
+            Refusal::TooManyPackets => 73,
         }
     }
 
@@ -133,5 +139,18 @@ fn append_id_line<A: Allocator>(out: &mut Vec<u8, A>, words: &[u8], id: Id) -> R
 {
     out.extend_from_slice(words)?;
     id.print(out)?;
+    out.extend_from_slice(b"\n")
+}
+
+/// Appends a line of these words and the event's printed form.
+pub fn append_event_line<A: Allocator>(
+    out: &mut Vec<u8, A>,
+    words: &[u8],
+    event: Event,
+) -> Result<(), Memory>
+    ensures { OnOk result (out.new.items ≡ out.old.items ++ line_with_event words.now event) }
+{
+    out.extend_from_slice(words)?;
+    event.print(out)?;
     out.extend_from_slice(b"\n")
 }

@@ -1,7 +1,7 @@
-ghost use Rattle.std.specs.Prelude.{◌≡◌, ℕ, length, IfSome};
+ghost use Rattle.std.specs.Prelude.{◌≡◌, ℕ, ◌∷◌, length, IfSome};
 ghost use Rattle.std.specs.Option.{option_map};
 ghost use Rattle.stn_text.specs.Lines.{words_of};
-ghost use Rattle.stn_exec.specs.Command.{command_of, action_of, add_of, withdraw_of, merge_of, report_of, check_of, event_of, id_of, seen_command, seen_action, IsForEvents};
+ghost use Rattle.stn_exec.specs.Command.{command_of, action_of, add_of, done_of, withdraw_of, merge_of, report_of, check_of, next_of, event_of, id_of, seen_command, seen_action, IsForEvents};
 
 use stn_net::Event;
 use stn_records::Id;
@@ -24,6 +24,11 @@ pub enum Action<'a> {
         lo: &'a [u8],
         hi: &'a [u8],
     },
+    /// Records the time at which an event was executed.
+    Done {
+        event: Event,
+        time: &'a [u8],
+    },
     /// Withdraws the record of this id.
     Withdraw(Id),
     /// Takes in all that the site of this number holds.
@@ -32,17 +37,19 @@ pub enum Action<'a> {
     Report,
     /// Checks the times of all events, which are the words of this part of the line.
     Check(&'a [u8]),
+    /// Prints what comes next from this time on.
+    Next(&'a [u8]),
 }
 
-/// The command that a line is, in a plan of so many events beside the origin.
-pub fn read_command(events: u16, line: &[u8]) -> Option<Command<'_>>
-    ensures command { option_map seen_command result ≡ command_of events (words_of line.now) }
+/// The command that a line is, in a plan of so many events beside the origin, by its first word and
+/// what stands behind it.
+pub fn read_command<'a>(events: u16, word: &[u8], rest: &'a [u8]) -> Option<Command<'a>>
+    ensures command { option_map seen_command result ≡ command_of events (word.now ∷ words_of rest.now) }
     ensures fits { IfSome result (λ command. IsForEvents events (seen_action command.action)) }
 {
-    let (site, named) = first_word(line)?;
-    let (name, rest) = first_word(named)?;
-    let site = read_number(site)?;
-    match read_action(events, name, rest) {
+    let (name, words) = first_word(rest)?;
+    let site = read_number(word)?;
+    match read_action(events, name, words) {
         Some(action) => Some(Command { site, action }),
         None => None,
     }
@@ -54,6 +61,8 @@ fn read_action<'a>(events: u16, name: &[u8], rest: &'a [u8]) -> Option<Action<'a
 {
     if name == b"add".as_slice() {
         read_add(rest)
+    } else if name == b"done".as_slice() {
+        read_done(rest)
     } else if name == b"withdraw".as_slice() {
         read_withdraw(rest)
     } else if name == b"merge".as_slice() {
@@ -62,6 +71,8 @@ fn read_action<'a>(events: u16, name: &[u8], rest: &'a [u8]) -> Option<Action<'a
         read_report(rest)
     } else if name == b"check".as_slice() {
         read_check(events, rest)
+    } else if name == b"next".as_slice() {
+        read_next(rest)
     } else {
         None
     }
@@ -81,6 +92,19 @@ fn read_add(rest: &[u8]) -> Option<Action<'_>>
     let from = read_event(first)?;
     let to = read_event(second)?;
     Some(Action::Add { from, to, lo, hi })
+}
+
+fn read_done(rest: &[u8]) -> Option<Action<'_>>
+    ensures action { option_map seen_action result ≡ done_of (words_of rest.now) }
+    ensures fits { (events : ℕ) → IfSome result (λ action. IsForEvents events (seen_action action)) }
+{
+    let (word, behind) = first_word(rest)?;
+    let (time, behind_time) = first_word(behind)?;
+    if first_word(behind_time).is_some() {
+        return None;
+    }
+    let event = read_event(word)?;
+    Some(Action::Done { event, time })
 }
 
 fn read_withdraw(rest: &[u8]) -> Option<Action<'_>>
@@ -129,6 +153,17 @@ fn read_check(events: u16, rest: &[u8]) -> Option<Action<'_>>
         Some(Action::Check(rest))
     } else {
         None
+    }
+}
+
+fn read_next(rest: &[u8]) -> Option<Action<'_>>
+    ensures action { option_map seen_action result ≡ next_of (words_of rest.now) }
+    ensures fits { (events : ℕ) → IfSome result (λ action. IsForEvents events (seen_action action)) }
+{
+    let (now, behind) = first_word(rest)?;
+    match first_word(behind) {
+        Some(_) => None,
+        None => Some(Action::Next(now)),
     }
 }
 

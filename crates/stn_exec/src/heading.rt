@@ -1,22 +1,23 @@
-ghost use Rattle.std.specs.Prelude.{◌≡◌, ◌+◌, ◌^◌, ◌<◌, ◌≤◌, length, IfSome, IfOk};
+ghost use Rattle.std.specs.Prelude.{◌≡◌, ◌+◌, ◌^◌, ◌<◌, ◌≤◌, ◌∷◌, true, false, length, min, Ok, IfSome, IfNone, IfOk, IfErr};
 ghost use Rattle.std.specs.Option.{option_map};
-ghost use Rattle.stn_records.specs.Id.{IsSite};
 ghost use Rattle.stn_text.specs.Lines.{lines_of, words_of};
-ghost use Rattle.stn_exec.specs.Heading.{seen_found, seen_part, seen_start, result_seen};
-ghost use Rattle.stn_exec.specs.Script.{is_skipped, next_line, heading_number, part_of, heading_of};
+ghost use Rattle.stn_exec.specs.Heading.{seen_found, seen_part, seen_base, result_seen, IsOpened, IsHeadingFault};
+ghost use Rattle.stn_exec.specs.Script.{is_skipped, next_line, heading_number, part_of, based, heading_of};
 
 use crate::answer::Refusal;
-use stn_records::MOST_SITES;
+use std::alloc::{AllocFailed, Allocator};
+use std::rc::Rc;
+use stn_lift::{Base, BaseFault};
 use stn_text::{first_line, first_word, read_number};
+use stn_world::{SitesFault, World};
 
-/// How many steps a bare plan has at most.
-pub const MOST_STEPS: u32 = 256;
-
-/// A line that is not skipped, its number, and the text behind it.
+/// A line that is not skipped: its number, its first word, what stands behind the word, and the text
+/// behind the line.
 #[derive(Clone, Copy)]
 pub struct FoundLine<'a> {
     pub number: u32,
-    pub line: &'a [u8],
+    pub word: &'a [u8],
+    pub rest: &'a [u8],
     pub behind: &'a [u8],
 }
 
@@ -27,46 +28,92 @@ pub struct HeadingPart<'a> {
     pub found: FoundLine<'a>,
 }
 
-/// Where the commands begin: the steps of the bare plan, the number of sites, the number of the first line, and the
-/// text.
+/// The rest of a script: the number of its first line, and its text.
 #[derive(Clone, Copy)]
-pub struct CommandStart<'a> {
-    pub steps: u16,
-    pub sites: u8,
+pub struct Rest<'a> {
     pub number: u32,
     pub text: &'a [u8],
 }
 
-/// Reads the heading of a script; `last` is the number of the line behind its last LF.
-pub fn read_heading(last: u32, script: &[u8]) -> Result<CommandStart<'_>, Refusal>
-    requires { length script.now < 2 ^ 31 }
-    ensures start { result_seen seen_start result ≡ heading_of last (lines_of script.now) }
-    ensures steps { IfOk result (λ start. start.steps ≤ MOST_STEPS) }
-    ensures sites { IfOk result (λ start. IsSite start.sites) }
-    ensures within { IfOk result (λ start. start.number + length start.text.now ≤ length script.now + 1) }
-{
-    let steps = match read_part(last, b"steps", 1, script) {
-        Ok(part) => part,
-        Err(refusal) => return Err(refusal),
-    };
-    if steps.value > MOST_STEPS {
-        return Err(Refusal::TooManySteps);
-    }
-    let sites = match read_part(last, b"sites", steps.found.number + 1, steps.found.behind) {
-        Ok(part) => part,
-        Err(refusal) => return Err(refusal),
-    };
-    if sites.value < 1 || sites.value > u32::from(MOST_SITES) {
-        return Err(Refusal::NoSite);
-    }
-    Ok(CommandStart {
-        steps: steps.value as u16,
-        sites: sites.value as u8,
-        number: sites.found.number + 1,
-        text: sites.found.behind,
-    })
+/// Why a heading opens no world.
+#[derive(Clone, Copy)]
+pub enum HeadingFault {
+    /// The heading is refused.
+    Refused(Refusal),
+    /// Memory was refused.
+    Memory,
 }
 
+impl From<Refusal> for HeadingFault {
+    ghost use Rattle.stn_exec.specs.declared.heading.HeadingFault.TheVariants.{Refused};
+
+    ghost from_gives = { λ refusal fault. fault ≡ Refused refusal };
+
+    fn from(refusal: Refusal) -> HeadingFault {
+        HeadingFault::Refused(refusal)
+    }
+}
+
+impl<T: Drop> From<AllocFailed<T>> for HeadingFault {
+    ghost use Rattle.stn_exec.specs.declared.heading.HeadingFault.TheVariants.{Memory};
+
+    ghost from_gives = { λ _ fault. fault ≡ Memory };
+
+    fn from(_failed: AllocFailed<T>) -> HeadingFault {
+        HeadingFault::Memory
+    }
+}
+
+/// Reads the heading of a script: its sites, which hold nothing yet, and its commands; `last` is the
+/// number of the line behind its last LF.
+pub fn open<A: Allocator + Copy>(
+    alloc: A,
+    last: u32,
+    script: &[u8],
+) -> Result<(World<A>, Rest<'_>), HeadingFault>
+    requires { length script.now < 2 ^ 31 }
+    ensures opened { IfOk result (λ opened. IsOpened (heading_of last (lines_of script.now)) opened.0 opened.1) }
+    ensures within { IfOk result (λ opened. opened.1.number + length opened.1.text.now ≤ length script.now + 1) }
+    ensures refused { IfErr result (IsHeadingFault (heading_of last (lines_of script.now))) }
+{
+    let (base, behind) = read_base(alloc, last, script)?;
+    let sites = read_part(last, b"sites", behind.number, behind.text)?;
+    let rest = Rest {
+        number: sites.found.number + 1,
+        text: sites.found.behind,
+    };
+    match World::new(alloc, Rc::new(alloc, base)?, sites.value.min(255) as u8) {
+        Ok(world) => Ok((world, rest)),
+        Err(SitesFault::NoSite) => Err(HeadingFault::Refused(Refusal::NoSite)),
+        Err(SitesFault::Memory) => Err(HeadingFault::Memory),
+    }
+}
+
+// The base that the first part of a heading gives, and what stands behind that part.
+fn read_base<A: Allocator + Copy>(
+    alloc: A,
+    last: u32,
+    script: &[u8],
+) -> Result<(Base<A>, Rest<'_>), HeadingFault>
+    requires { length script.now < 2 ^ 31 }
+    ensures base { IfOk result (λ read. based last (lines_of script.now) ≡ Ok (seen_base read.0 read.1)) }
+    ensures within { IfOk result (λ read. read.1.number + length read.1.text.now ≤ length script.now + 1) }
+    ensures refused { IfErr result (IsHeadingFault (based last (lines_of script.now))) }
+{
+    let steps = read_part(last, b"steps", 1, script)?;
+    let rest = Rest {
+        number: steps.found.number + 1,
+        text: steps.found.behind,
+    };
+    match Base::bare(alloc, steps.value.min(65_535) as u16) {
+        Ok(base) => Ok((base, rest)),
+        Err(BaseFault::TooManySteps) => Err(HeadingFault::Refused(Refusal::TooManySteps)),
+        // A bare plan has no other fault.
+        Err(_) => Err(HeadingFault::Memory),
+    }
+}
+
+// The part of a heading that has this name.
 fn read_part<'a>(
     last: u32,
     name: &[u8],
@@ -78,7 +125,7 @@ fn read_part<'a>(
     ensures within { IfOk result (λ part. part.found.number + 1 + length part.found.behind.now ≤ number + length text.now) }
 {
     match find_line(number, text) {
-        Some(found) => match read_value(name, found.line) {
+        Some(found) => match read_value(name, found.word, found.rest) {
             Some(value) => Ok(HeadingPart { value, found }),
             None => Err(Refusal::Line(found.number)),
         },
@@ -86,47 +133,56 @@ fn read_part<'a>(
     }
 }
 
-// The number of a line that is a name and a number.
-fn read_value(name: &[u8], line: &[u8]) -> Option<u32>
-    ensures { result ≡ heading_number name.now (words_of line.now) }
+// The number of a line that is a name and a number, by its first word and what stands behind it.
+fn read_value(name: &[u8], word: &[u8], rest: &[u8]) -> Option<u32>
+    ensures { result ≡ heading_number name.now (word.now ∷ words_of rest.now) }
 {
-    let (word, behind_word) = first_word(line)?;
-    let (digits, behind_digits) = first_word(behind_word)?;
-    if first_word(behind_digits).is_some() || word != name {
+    let (digits, behind) = first_word(rest)?;
+    if first_word(behind).is_some() || word != name {
         return None;
     }
     read_number(digits)
 }
 
-/// The first line that is not skipped, of a text whose first line has this number.
-pub fn find_line(number: u32, text: &[u8]) -> Option<FoundLine<'_>>
+// The first line that is not skipped, of a text whose first line has this number.
+fn find_line(number: u32, text: &[u8]) -> Option<FoundLine<'_>>
     requires { number + length text.now < 2 ^ 32 }
     ensures found { option_map seen_found result ≡ next_line number (lines_of text.now) }
     ensures within { IfSome result (λ found. found.number + 1 + length found.behind.now ≤ number + length text.now) }
 {
     let mut at = number;
-    let mut rest = text;
-    while !rest.is_empty() {
-        let (line, behind) = first_line(rest);
-        if !skips(line) {
+    let mut left = text;
+    while !left.is_empty() {
+        let (line, behind) = first_line(left);
+        if let Some((word, rest)) = opening_word(line) {
             return Some(FoundLine {
                 number: at,
-                line,
+                word,
+                rest,
                 behind,
             });
         }
         at += 1;
-        rest = behind;
+        left = behind;
     }
     None
 }
 
-/// Whether a line has no words, or is a comment.
-pub fn skips(line: &[u8]) -> bool
-    ensures { result ≡ is_skipped (words_of line.now) }
+/// The first word of a line, and what stands behind it; none where the line has no words, or is a
+/// comment.
+pub fn opening_word(line: &[u8]) -> Option<(&[u8], &[u8])>
+    ensures skipped { IfNone result (is_skipped (words_of line.now) ≡ true) }
+    ensures kept { IfSome result (λ parts. is_skipped (words_of line.now) ≡ false) }
+    ensures cut { IfSome result (λ parts. words_of line.now ≡ parts.0.now ∷ words_of parts.1.now) }
 {
     match first_word(line) {
-        Some((word, _)) => word.first() == Some(&b'#'),
-        None => true,
+        Some((word, rest)) => {
+            if word.first() == Some(&b'#') {
+                None
+            } else {
+                Some((word, rest))
+            }
+        }
+        None => None,
     }
 }

@@ -1,13 +1,15 @@
 //! Scripts: a text of commands, run from a reader to a writer.
 #![tactic(auto)]
 
-pub use laws::one_script;
-pub use script::{MOST_BYTES, Ran, RunFault, run};
-pub use stn_device::Counted;
+pub use laws::{one_script, scripts_are_runs};
+pub use script::{Ran, RunFault, run};
+pub use stn_device::{Counted, MOST_BYTES};
+pub use stn_world::World;
 
 mod actions;
 mod answer;
 mod command;
+mod dispatch;
 mod heading;
 mod laws;
 mod script;

@@ -1,34 +1,28 @@
-ghost use Rattle.std.specs.Prelude.{◌≡◌, ◌≢◌, ◌+◌, ◌-◌, ◌^◌, ◌<◌, ◌≤◌, ◌++◌, List, ℕ, length, Err, OnOk, OnErr, IfOk, IfSome, IsErrOf};
+ghost use Rattle.std.specs.Prelude.{◌≡◌, ◌≢◌, ◌+◌, ◌-◌, ◌^◌, ◌<◌, ◌≤◌, ◌++◌, ◌∷◌, List, ℕ, length, Err, OnOk, OnErr, IfOk, IfSome, IsErrOf};
 ghost use Rattle.std.specs.Io.KnownBytes.{Consumes, IsAtEnd, Keeps};
-ghost use Rattle.stn_device.specs.Counted.{counted_device, failure_count, CountsFailure, KeepsCount};
-ghost use Rattle.stn_device.specs.Bytes.{ConsumesAtMost};
-ghost use Rattle.stn_lift.specs.PlanSource.{bare, events_of};
-ghost use Rattle.stn_records.specs.Id.{IsSite};
-ghost use Rattle.stn_world.specs.World.{opening_world};
-ghost use Rattle.stn_exec.specs.Answer.{answer_text, is_refusal};
-ghost use Rattle.stn_exec.specs.Output.{WritesOutput, WritesOutputPart, IsReplied};
-ghost use Rattle.stn_exec.specs.declared.heading.TheConstants.{MOST_STEPS};
+ghost use Rattle.stn_device.specs.Counted.{counted_device, failure_count, KeepsCount};
+ghost use Rattle.stn_device.specs.Bytes.{most_bytes, ConsumesAtMost};
+ghost use Rattle.stn_lift.specs.PlanSource.{events_of};
 ghost use Rattle.stn_text.specs.Lines.{lines_of, words_of};
-ghost use Rattle.stn_exec.specs.Script.{line_step, line_outcome, lines_outcome, script_outcome, command_step, last_line};
-ghost use Rattle.stn_exec.specs.Command.{seen_action, seen_command, IsForEvents};
+ghost use Rattle.stn_exec.specs.Answer.{answer_text, is_refusal};
+ghost use Rattle.stn_exec.specs.Command.{report, next, sites_command, seen_action, seen_command, IsForEvents};
+ghost use Rattle.stn_exec.specs.Effect.{command_effect};
+ghost use Rattle.stn_exec.specs.Output.{WritesOutput, WritesOutputPart, IsReplied, IsRun};
+ghost use Rattle.stn_exec.specs.Script.{line_effect, line_outcome, lines_outcome, started, script_outcome, last_line};
 ghost use Rattle.stn_exec.specs.declared.script.RunFault.TheVariants.{Read, Write, Bound, Memory};
 
-use crate::actions::{add, check, merge, withdraw};
+use crate::actions::{add, check_at, done, merge, read_time, withdraw};
 use crate::answer::{Answer, Refusal};
 use crate::command::{Action, Command, read_command};
-use crate::heading::{read_heading, skips};
+use crate::dispatch::append_next;
+use crate::heading::{HeadingFault, open, opening_word};
 use std::alloc::{AllocError, Allocator};
 use std::io::{Read, Write};
-use std::rc::Rc;
-use stn_device::{Counted, ReadFault, WriteFault, read_whole, write_whole};
-use stn_lift::Base;
+use stn_device::{Counted, MOST_BYTES, ReadFault, WriteFault, read_whole, write_whole};
 use stn_text::first_line;
 use stn_time::Memory;
 use stn_world::World;
 use thiserror::Error;
-
-/// How many bytes a script has at most.
-pub const MOST_BYTES: usize = 16_777_216;
 
 /// What a run did: how many lines behind the heading are not skipped, and how many refused lines were printed, a
 /// refused heading too.
@@ -80,16 +74,8 @@ fn run_lines<W: Write, A: Allocator + Copy>(
     writer: &mut Counted<W>,
 ) -> Result<Ran, RunFault>
     requires { number + length text.now < 2 ^ 32 }
-    ensures text { OnOk result (WritesOutput (W.contents (counted_device writer.old)) (W.contents (counted_device writer.new))
-        (lines_outcome number world.old (lines_of text.now)).replies) }
-    ensures commands { IfOk result (λ ran. ran.commands ≡ (lines_outcome number world.old (lines_of text.now)).commands) }
-    ensures refused { IfOk result (λ ran. ran.refused ≡ (lines_outcome number world.old (lines_of text.now)).refused) }
-    ensures part { OnErr result (WritesOutputPart (W.contents (counted_device writer.old)) (W.contents (counted_device writer.new))
-        (lines_outcome number world.old (lines_of text.now)).replies) }
-    ensures write { IsErrOf result RunFault.Write → CountsFailure writer.old writer.new }
-    ensures kept { result ≢ Err RunFault.Write → KeepsCount writer.old writer.new }
-    ensures no_read { result ≢ Err RunFault.Read }
-    ensures no_bound { result ≢ Err RunFault.Bound }
+    ensures run { IsRun (lines_outcome number world.old (lines_of text.now))
+        (W.contents (counted_device writer.old)) (W.contents (counted_device writer.new)) (failure_count writer.old) (failure_count writer.new) result }
 {
     let mut ran = Ran {
         commands: 0,
@@ -116,45 +102,40 @@ fn run_line<W: Write, A: Allocator + Copy>(
     line: &[u8],
     writer: &mut Counted<W>,
 ) -> Result<Ran, RunFault>
-    ensures text { OnOk result (WritesOutput (W.contents (counted_device writer.old)) (W.contents (counted_device writer.new))
-        (line_outcome number world.old (words_of line.now)).replies) }
+    ensures run { IsRun (line_outcome number world.old (words_of line.now))
+        (W.contents (counted_device writer.old)) (W.contents (counted_device writer.new)) (failure_count writer.old) (failure_count writer.new) result }
     ensures world { OnOk result (world.new ≡ (line_outcome number world.old (words_of line.now)).world) }
-    ensures commands { IfOk result (λ ran. ran.commands ≡ (line_outcome number world.old (words_of line.now)).commands) }
-    ensures refused { IfOk result (λ ran. ran.refused ≡ (line_outcome number world.old (words_of line.now)).refused) }
-    ensures few { IfOk result (λ ran. (ran.commands ≤ 1) × (ran.refused ≤ 1)) }
-    ensures part { OnErr result (WritesOutputPart (W.contents (counted_device writer.old)) (W.contents (counted_device writer.new))
-        (line_outcome number world.old (words_of line.now)).replies) }
-    ensures write { IsErrOf result RunFault.Write → CountsFailure writer.old writer.new }
-    ensures kept { result ≢ Err RunFault.Write → KeepsCount writer.old writer.new }
-    ensures no_read { result ≢ Err RunFault.Read }
-    ensures no_bound { result ≢ Err RunFault.Bound }
 {
-    if skips(line) {
-        return Ok(Ran {
+    match opening_word(line) {
+        Some((word, rest)) => {
+            let mut out = Vec::new(alloc);
+            let refused = reply_line(alloc, world, number, word, rest, &mut out)?;
+            write_whole(writer, &out)?;
+            Ok(Ran {
+                commands: 1,
+                refused: u32::from(refused),
+            })
+        }
+        None => Ok(Ran {
             commands: 0,
             refused: 0,
-        });
+        }),
     }
-    let mut out = Vec::new(alloc);
-    let refused = reply_line(alloc, world, number, line, &mut out)?;
-    write_whole(writer, &out)?;
-    Ok(Ran {
-        commands: 1,
-        refused: u32::from(refused),
-    })
 }
 
-// Appends what a line that is not skipped prints. Whether it is refused.
+// Appends what a line that is not skipped prints, by its first word and what stands behind it.
+// Whether it is refused.
 fn reply_line<A: Allocator + Copy>(
     alloc: A,
     world: &mut World<A>,
     number: u32,
-    line: &[u8],
+    word: &[u8],
+    rest: &[u8],
     out: &mut Vec<u8, A>,
 ) -> Result<bool, Memory>
-    ensures { IfOk result (IsReplied world.new out.old.items out.new.items (line_step number world.old (words_of line.now))) }
+    ensures { IfOk result (IsReplied world.new out.old.items out.new.items (line_effect number world.old (word.now ∷ words_of rest.now))) }
 {
-    match read_command(world.base().events(), line) {
+    match read_command(world.base().events(), word, rest) {
         Some(command) => reply_command(alloc, world, &command, out),
         None => say(&Answer::Refused(Refusal::Line(number)), out),
     }
@@ -168,21 +149,55 @@ fn reply_command<A: Allocator + Copy>(
     out: &mut Vec<u8, A>,
 ) -> Result<bool, Memory>
     requires { IsForEvents (events_of world.old.source) (seen_action command.now.action) }
-    ensures { IfOk result (IsReplied world.new out.old.items out.new.items (command_step world.old (seen_command command.now))) }
+    ensures { IfOk result (IsReplied world.new out.old.items out.new.items (command_effect world.old (seen_command command.now))) }
 {
-    if command.site < 1 || command.site > u32::from(world.sites()) {
-        return say(&Answer::Refused(Refusal::NoSite), out);
-    }
-    let site = command.site as u8;
+    let site = command.site;
     match &command.action {
         Action::Add { from, to, lo, hi } => say(&add(world, site, *from, *to, lo, hi)?, out),
+        Action::Done { event, time } => say(&done(world, site, *event, time)?, out),
         Action::Withdraw(id) => say(&withdraw(world, site, *id)?, out),
         Action::Merge(other) => say(&merge(world, site, *other)?, out),
-        Action::Report => {
-            world.replica(site).unwrap().report(out)?;
+        Action::Report => report_at(world, site, out),
+        Action::Check(times) => say(&check_at(alloc, world, site, times)?, out),
+        Action::Next(now) => next_at(world, site, now, out),
+    }
+}
+
+// Appends the report of a site, or the refusal where it is not there. Whether it is refused.
+fn report_at<A: Allocator + Copy>(
+    world: &World<A>,
+    site: u32,
+    out: &mut Vec<u8, A>,
+) -> Result<bool, Memory>
+    ensures { IfOk result (IsReplied world.now out.old.items out.new.items (command_effect world.now (sites_command site report))) }
+{
+    match world.replica(site) {
+        Some(replica) => {
+            replica.report(out)?;
             Ok(false)
         }
-        Action::Check(times) => say(&check(alloc, world.replica(site).unwrap(), times)?, out),
+        None => say(&Answer::Refused(Refusal::NoSite), out),
+    }
+}
+
+// Appends what comes next at a site from a time on, which is a word of a line. Whether it is refused.
+fn next_at<A: Allocator + Copy>(
+    world: &World<A>,
+    site: u32,
+    now: &[u8],
+    out: &mut Vec<u8, A>,
+) -> Result<bool, Memory>
+    ensures { IfOk result (IsReplied world.now out.old.items out.new.items (command_effect world.now (sites_command site (next now.now)))) }
+{
+    match world.replica(site) {
+        Some(replica) => match read_time(now) {
+            Ok(time) => {
+                append_next(replica, time, out)?;
+                Ok(false)
+            }
+            Err(refusal) => say(&Answer::Refused(refusal), out),
+        },
+        None => say(&Answer::Refused(Refusal::NoSite), out),
     }
 }
 
@@ -201,54 +216,40 @@ fn run_script<W: Write, A: Allocator + Copy>(
     script: &[u8],
     writer: &mut Counted<W>,
 ) -> Result<Ran, RunFault>
-    requires { length script.now ≤ MOST_BYTES }
-    ensures text { OnOk result (WritesOutput (W.contents (counted_device writer.old)) (W.contents (counted_device writer.new))
-        (script_outcome script.now).replies) }
-    ensures commands { IfOk result (λ ran. ran.commands ≡ (script_outcome script.now).commands) }
-    ensures refused { IfOk result (λ ran. ran.refused ≡ (script_outcome script.now).refused) }
-    ensures part { OnErr result (WritesOutputPart (W.contents (counted_device writer.old)) (W.contents (counted_device writer.new))
-        (script_outcome script.now).replies) }
-    ensures write { IsErrOf result RunFault.Write → CountsFailure writer.old writer.new }
-    ensures kept { result ≢ Err RunFault.Write → KeepsCount writer.old writer.new }
-    ensures no_read { result ≢ Err RunFault.Read }
-    ensures no_bound { result ≢ Err RunFault.Bound }
+    requires { length script.now ≤ most_bytes }
+    ensures run { IsRun (script_outcome script.now)
+        (W.contents (counted_device writer.old)) (W.contents (counted_device writer.new)) (failure_count writer.old) (failure_count writer.new) result }
 {
-    match read_heading(number_behind(script), script) {
-        Ok(start) => {
-            let mut world = open(alloc, start.steps, start.sites)?;
-            run_lines(alloc, &mut world, start.number, start.text, writer)
+    match open(alloc, number_behind(script), script) {
+        Ok((mut world, commands)) => {
+            run_lines(alloc, &mut world, commands.number, commands.text, writer)
         }
-        Err(refusal) => {
-            let mut out = Vec::new(alloc);
-            refusal.print(&mut out)?;
-            write_whole(writer, &out)?;
-            Ok(Ran {
-                commands: 0,
-                refused: 1,
-            })
-        }
+        Err(HeadingFault::Refused(refusal)) => refuse(alloc, refusal, writer),
+        Err(HeadingFault::Memory) => Err(RunFault::Memory),
     }
 }
 
-// So many sites over a bare plan, which hold nothing yet.
-fn open<A: Allocator + Copy>(alloc: A, steps: u16, sites: u8) -> Result<World<A>, Memory>
-    requires steps { steps ≤ MOST_STEPS }
-    requires sites { IsSite sites }
-    ensures { IfOk result (λ world. world ≡ opening_world (bare steps) sites) }
+// Writes the refusal of a heading.
+fn refuse<W: Write, A: Allocator + Copy>(
+    alloc: A,
+    refusal: Refusal,
+    writer: &mut Counted<W>,
+) -> Result<Ran, RunFault>
+    ensures run { IsRun (started (Err refusal))
+        (W.contents (counted_device writer.old)) (W.contents (counted_device writer.new)) (failure_count writer.old) (failure_count writer.new) result }
 {
-    let base = match Base::bare(alloc, steps) {
-        Ok(base) => base,
-        Err(_fault) => return Err(AllocError),
-    };
-    match World::new(alloc, Rc::new(alloc, base)?, sites) {
-        Ok(world) => Ok(world),
-        Err(_fault) => Err(AllocError),
-    }
+    let mut out = Vec::new(alloc);
+    refusal.print(&mut out)?;
+    write_whole(writer, &out)?;
+    Ok(Ran {
+        commands: 0,
+        refused: 1,
+    })
 }
 
 // The number of the line behind the last LF.
 fn number_behind(script: &[u8]) -> u32
-    requires { length script.now ≤ MOST_BYTES }
+    requires { length script.now ≤ most_bytes }
     ensures { result ≡ last_line script.now }
 {
     script.iter().filter(|byte| **byte == b'\n').count() as u32 + 1
@@ -266,7 +267,7 @@ pub fn run<R: Read, W: Write, A: Allocator + Copy>(
     // The whole script was read, and just its output was written.
     ensures ran { IfOk result (λ ran. (script : List ℕ)
         × Consumes (R.remaining (counted_device reader.old)) (R.remaining (counted_device reader.new)) script
-        × (length script ≤ MOST_BYTES)
+        × (length script ≤ most_bytes)
         × WritesOutput (W.contents (counted_device writer.old)) (W.contents (counted_device writer.new)) (script_outcome script).replies
         × (ran.commands ≡ (script_outcome script).commands)
         × (ran.refused ≡ (script_outcome script).refused)) }
@@ -276,7 +277,7 @@ pub fn run<R: Read, W: Write, A: Allocator + Copy>(
     ensures read { IsErrOf result RunFault.Read → failure_count reader.old < failure_count reader.new }
     ensures write { IsErrOf result RunFault.Write → failure_count writer.old < failure_count writer.new }
     ensures bound { IsErrOf result RunFault.Bound
-        → IfSome (R.remaining (counted_device reader.old)) (λ script. MOST_BYTES < length script) }
+        → IfSome (R.remaining (counted_device reader.old)) (λ script. most_bytes < length script) }
 
     // What a fault leaves.
     ensures read_unwritten { IsErrOf result RunFault.Read
@@ -290,7 +291,7 @@ pub fn run<R: Read, W: Write, A: Allocator + Copy>(
     ensures reader_kept { result ≢ Err RunFault.Read → KeepsCount reader.old reader.new }
     ensures writer_kept { result ≢ Err RunFault.Write → KeepsCount writer.old writer.new }
     ensures used { ConsumesAtMost (R.remaining (counted_device reader.old))
-        (R.remaining (counted_device reader.new)) (MOST_BYTES + 1) }
+        (R.remaining (counted_device reader.new)) (most_bytes + 1) }
 {
     match read_whole(alloc, reader, MOST_BYTES) {
         Ok(script) => run_script(alloc, &script, writer),

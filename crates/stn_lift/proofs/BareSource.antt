@@ -1,12 +1,13 @@
 use Rattle.std.proofs.Common.{ℕ, pos, zero, suc, ◌*◌, ◌≤◌, All, refl, arith}
 use Rattle.std.proofs.lemmas.List.Elements.{All-nil, All-push}
 use Rattle.std.proofs.lemmas.Int.{ints}
+use Rattle.std.proofs.lemmas.Bool.{false≢true}
 use Rattle.std.proofs.lemmas.List.{take_all}
 use Rattle.stn_net.specs.Difference.{NamesEvents}
 use Rattle.stn_net.specs.Schedule.{Meets}
 use Rattle.stn_net.specs.Horizon.{horizon_bound, horizon_bounds}
 use Rattle.stn_net.proofs.Horizons.{length-horizon_bounds}
-use Rattle.stn_lift.specs.PlanSource.{PlanSource, bare, steps_of, IsSoundSource}
+use Rattle.stn_lift.specs.PlanSource.{bare, IsSoundSource}
 
 -- the horizon bounds of some of the events name these events
 pub horizon_bounds_named : (all events : ℕ) → events ≤ all → All (NamesEvents all) (horizon_bounds events)
@@ -36,8 +37,10 @@ sound_bare_source steps small = record {
   named = horizon_bounds_named (2 * steps) (2 * steps) (omega arith);
   few = omega (arith, length-horizon_bounds (2 * steps));
   possible = record { origin = refl; met = horizon_bounds_met_at_zero (2 * steps) };
+  ordered = record {
+    before = λ time one other schedule pair planned. absurd (false≢true pair.share);
+    after = λ time one other schedule pair planned. absurd (false≢true pair.share);
+    together = λ time one other schedule pair planned. absurd (false≢true pair.share);
+  };
+  texts = tt;
 }
-
--- a source of at most 256 steps is sound
-pub sound_source : (source : PlanSource) → steps_of source ≤ 256 → IsSoundSource source
-sound_source (bare steps) small = sound_bare_source steps small

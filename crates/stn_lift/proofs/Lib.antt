@@ -1,1 +1,12 @@
 pub mod BareSource
+pub mod Steps
+pub mod Texts
+pub mod Shared
+pub mod Numbered
+pub mod NumberedAtoms
+pub mod NumberLists
+pub mod TimelineFacts
+pub mod Sharing
+pub mod SoundBounds
+pub mod FewBounds
+pub mod LiftedBase

@@ -1,1 +1,9 @@
+pub mod Faults
+pub mod Footprints
+pub mod Numbering
+pub mod AtomViews
+pub mod Views
+pub mod Activities
+pub mod BaseBounds
+pub mod Timelines
 pub mod PlanSource

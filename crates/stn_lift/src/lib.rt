@@ -1,8 +1,17 @@
 //! The base of a plan: its events, the bounds that it sets itself and its planned times.
 #![tactic(auto)]
 
-pub use base::{Base, BaseFault, MOST_STEPS};
+pub use base::{Base, lift};
+pub use fault::{BaseFault, LiftFault};
+pub use laws::interference_by_atoms;
 pub use source::Source;
 
+mod atoms;
 mod base;
+mod bounds;
+mod fault;
+mod footprint;
+mod laws;
+mod numbers;
 mod source;
+mod timeline;

@@ -2,7 +2,7 @@ use Rattle.std.proofs.Common.{◌≡◌, ℕ, ℤ, pos, ◌≤◌, ◌+ℤ◌, �
 use Rattle.std.specs.Prelude.{All}
 use Rattle.std.proofs.lemmas.Int.{ints, clamps}
 use Rattle.std.proofs.lemmas.List.Elements.{All-push, All-pop}
-use Rattle.stn_time.specs.declared.millis.TheConstants.{HORIZON}
+use Rattle.stn_time.specs.Time.{horizon}
 use Rattle.stn_net.specs.Difference.{Difference, NamesEvents}
 use Rattle.stn_net.specs.Schedule.{IsSchedule, HasSchedule, Meets}
 use Rattle.stn_matrix.specs.Table.{Table, far_of}
@@ -196,7 +196,7 @@ exact_implied bounds table other b ends closed events entries implied exact =
 
 -- no entry of a closed square is beyond the horizon, on either side of 0
 pub closed_within : (events : ℕ) (far : ℕ → ℕ → ℤ) → IsClosed events far → (x y : ℕ) → x ≤ events → y ≤ events
-    → (neg_ℤ HORIZON ≤ℤ far x y) × (far x y ≤ℤ HORIZON)
+    → (neg_ℤ horizon ≤ℤ far x y) × (far x y ≤ℤ horizon)
 closed_within events far closed x y xs ys =
     let itself = closed.itself x xs in
     let round = closed.triangle x y x xs ys xs in

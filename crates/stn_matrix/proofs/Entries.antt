@@ -1,13 +1,14 @@
-use Rattle.std.proofs.Common.{◌≡◌, ◌≢◌, ℕ, ℤ, pos, w64, to_z, of_z, ◌+◌, ◌*◌, ◌<◌, ◌≤◌, ◌+ℤ◌, ◌≤ℤ◌, neg_ℤ, inl, inr, List, length, set, refl, sym, ◌∙◌, arith, get_or-set_same, get_or-set_other}
-use Rattle.std.specs.Prelude.{IsTrue, ◌↔◌, Bool, false}
+use Rattle.std.proofs.Common.{◌≡◌, ◌≢◌, ℕ, ℤ, pos, w64, to_z, of_z, ◌+◌, ◌*◌, ◌<◌, ◌≤◌, ◌+ℤ◌, ◌≤ℤ◌, ◌<ℤ◌, ◌⊎◌, neg_ℤ, inl, inr, List, [], ◌∷◌, ◌++◌, length, set, refl, ap, sym, ◌∙◌, arith, get_or-set_same, get_or-set_other}
+use Rattle.std.specs.Prelude.{IsTrue, ◌↔◌, Bool, false, Contains}
 use Rattle.std.specs.Int.{int_min}
-use Rattle.std.proofs.lemmas.Int.{ints}
+use Rattle.std.proofs.lemmas.Int.{ints, clamps}
+use Rattle.std.proofs.lemmas.List.Elements.{All-push, Contains-push, Contains-push_cases, Contains-append_left}
 use Rattle.std.proofs.lemmas.Bool.{cases_eq, cases_lt}
 use Rattle.std.proofs.lemmas.Nat.{mul-add-lt, same_from_place}
-use Rattle.stn_time.specs.declared.millis.TheConstants.{HORIZON}
+use Rattle.stn_time.specs.Time.{horizon}
 use Rattle.stn_matrix.specs.Closed.{IsClosed}
 use Rattle.stn_net.specs.Difference.{Difference}
-use Rattle.stn_matrix.specs.Way.{IsWhole, entry, shorter, IsWritten, IsRowShortened, IsImplied, HasRoom}
+use Rattle.stn_matrix.specs.Way.{IsWhole, entry, shorter, IsInReach, AreNearer, IsWritten, IsRowShortened, IsImplied, HasRoom}
 use Rattle.stn_matrix.proofs.Closure.{shorter-own_row, shorter-kept_row}
 
 -- the place of an entry lies in the square
@@ -59,9 +60,88 @@ row_shortened_more events old new next row by through column so_far rs bs cs wri
       others = λ x y xs ys ne. written.others x y xs ys (inl ne) ∙ so_far.others x y xs ys ne;
     }
 
-pub row_shortened_all : (events : ℕ) (old new : ℕ → ℕ → ℤ) (row by : ℕ) (through : ℤ) (column : ℕ) → IsRowShortenedTo events old new row by through column → events < column
+-- a row's entries in these columns are shorter already, and the others are as they were, or shorter too
+pub record AreShortened (events : ℕ) (old new : ℕ → ℕ → ℤ) (row by : ℕ) (through : ℤ) (columns : List ℕ) : Type 0 where
+  pub here : (y : ℕ) → y ≤ events → Contains columns y → new row y ≡ int_min (old row y) (through +ℤ old by y)
+  pub either : (y : ℕ) → y ≤ events → (new row y ≡ old row y) ⊎ (new row y ≡ int_min (old row y) (through +ℤ old by y))
+  pub others : (x y : ℕ) → x ≤ events → y ≤ events → x ≢ row → new x y ≡ old x y
+
+-- one more column, which may be among them already
+pub shortened_column : (events : ℕ) (old new next : ℕ → ℕ → ℤ) (row by : ℕ) (through : ℤ) (columns : List ℕ) (column : ℕ)
+    → AreShortened events old new row by through columns → row ≤ events → by ≤ events → column ≤ events → row ≢ by
+    → IsWritten events new next row column (int_min (new row column) (through +ℤ new by column))
+    → AreShortened events old next row by through (columns ++ column ∷ [])
+shortened_column events old new next row by through columns column so_far rs bs cs apart written =
+    let way : new by column ≡ old by column = so_far.others by column bs cs (λ e. apart (sym e)) in
+    let least : next row column ≡ int_min (old row column) (through +ℤ old by column) = elim (so_far.either column cs) [
+      | inl own ↦ (written.here ∙ rw (own, way) refl)
+      | inr own ↦ (let here = written.here in omega (arith, ints, clamps))
+    ] in
+    record {
+      here = λ y ys there. elim (cases_eq y column) [
+        | inl e ↦ rw e least
+        | inr ne ↦ elim (Contains-push_cases columns column y there) [
+          | inl before ↦ (written.others row y rs ys (inr ne) ∙ so_far.here y ys before)
+          | inr e ↦ absurd (ne (sym e))
+        ]
+      ];
+      either = λ y ys. elim (cases_eq y column) [
+        | inl e ↦ inr (rw e least)
+        | inr ne ↦ elim (so_far.either y ys) [
+          | inl own ↦ inl (written.others row y rs ys (inr ne) ∙ own)
+          | inr own ↦ inr (written.others row y rs ys (inr ne) ∙ own)
+        ]
+      ];
+      others = λ x y xs ys ne. written.others x y xs ys (inl ne) ∙ so_far.others x y xs ys ne;
+    }
+
+-- the columns that are left out do not change
+pub shortened_columns : (events : ℕ) (old new : ℕ → ℕ → ℤ) (row by : ℕ) (through : ℤ) (columns : List ℕ)
+    → AreShortened events old new row by through columns
+    → ((y : ℕ) → y ≤ events → Contains columns y ⊎ (old row y ≤ℤ (through +ℤ old by y)))
     → IsRowShortened events old new row by through
-row_shortened_all events old new row by through column so_far end = record { here = λ y ys. so_far.here y (omega arith) ys; others = so_far.others }
+shortened_columns events old new row by through columns so_far left_out = record {
+  here = λ y ys. elim (left_out y ys) [
+    | inl there ↦ so_far.here y ys there
+    | inr longer ↦ elim (so_far.either y ys) [
+      | inl own ↦ omega (arith, ints, clamps)
+      | inr own ↦ own
+    ]
+  ];
+  others = so_far.others;
+}
+
+-- a column that comes no nearer is left out
+pub nearer_skip : (events : ℕ) (far : ℕ → ℕ → ℤ) (u v : ℕ) (w : ℤ) (columns : List ℕ) (column : ℕ) → AreNearer events far u v w columns column
+    → far u column ≤ℤ (w +ℤ far v column) → AreNearer events far u v w columns (column + 1)
+nearer_skip events far u v w columns column so_far longer = record {
+  within = so_far.within;
+  left_out = λ y below. elim (cases_eq y column) [
+    | inl e ↦ inr (rw e longer)
+    | inr ne ↦ so_far.left_out y (omega arith)
+  ];
+}
+
+-- the others are listed
+pub nearer_more : (events : ℕ) (far : ℕ → ℕ → ℤ) (u v : ℕ) (w : ℤ) (columns : List ℕ) (column : ℕ) → AreNearer events far u v w columns column
+    → column ≤ events → AreNearer events far u v w (columns ++ column ∷ []) (column + 1)
+nearer_more events far u v w columns column so_far cs = record {
+  within = All-push (λ y. y ≤ events) columns column so_far.within cs;
+  left_out = λ y below. elim (cases_eq y column) [
+    | inl e ↦ inl (rw e (Contains-push columns column))
+    | inr ne ↦ elim (so_far.left_out y (omega arith)) [
+      | inl there ↦ inl (Contains-append_left columns (column ∷ []) y there)
+      | inr longer ↦ inr longer
+    ]
+  ];
+}
+
+-- a column that comes no nearer to u by way of v comes no nearer to any row's event
+pub kept_column : (events : ℕ) (far : ℕ → ℕ → ℤ) (u v : ℕ) (w : ℤ) → IsClosed events far → u ≤ events
+    → (x y : ℕ) → x ≤ events → y ≤ events → far u y ≤ℤ (w +ℤ far v y) → far x y ≤ℤ ((far x u +ℤ w) +ℤ far v y)
+kept_column events far u v w closed us x y xs ys longer =
+    let onward = closed.triangle x u y xs us ys in
+    omega (arith, ints)
 
 -- the rows before this one are shorter already by way of the link, and the others are as they were
 pub record IsShortenedTo (events : ℕ) (old new : ℕ → ℕ → ℤ) (u v : ℕ) (w : ℤ) (row : ℕ) : Type 0 where
@@ -108,19 +188,61 @@ shortened_turn events old new next u v w row so_far us vs round rs turned = reco
 
 -- the differences by way of the row's own event and the link's end do not pass the least, minus the horizon
 pub least_way : (events : ℕ) (far : ℕ → ℕ → ℤ) (u v : ℕ) (w : ℤ) → IsClosed events far → u ≤ events → v ≤ events → pos 0 ≤ℤ (far v u +ℤ w)
-    → (x y : ℕ) → x ≤ events → y ≤ events → neg_ℤ HORIZON ≤ℤ ((far x u +ℤ w) +ℤ far v y)
+    → (x y : ℕ) → x ≤ events → y ≤ events → neg_ℤ horizon ≤ℤ ((far x u +ℤ w) +ℤ far v y)
 least_way events far u v w closed us vs round x y xs ys =
     let back = closed.triangle v x u vs xs us in
     let onward = closed.triangle v y x vs ys xs in
     let most = closed.most y x ys xs in
     omega (arith, ints)
 
+-- a row from which v comes nearer by way of the arc is not v's own, and no sum of its differences goes beyond reach
+pub record IsNearerRow (events : ℕ) (far : ℕ → ℕ → ℤ) (row v : ℕ) (through : ℤ) : Type 0 where
+  pub apart : row ≢ v
+  pub reach : IsInReach through
+  pub ways : (y : ℕ) → y ≤ events → IsInReach (through +ℤ far v y)
+
+pub nearer_row : (events : ℕ) (old new : ℕ → ℕ → ℤ) (u v : ℕ) (w : ℤ) (row : ℕ) (through : ℤ) → IsShortenedTo events old new u v w row
+    → IsClosed events old → u ≤ events → v ≤ events → pos 0 ≤ℤ (old v u +ℤ w) → row ≤ events
+    → through ≡ (new row u +ℤ w) → through <ℤ new row v → IsNearerRow events new row v through
+nearer_row events old new u v w row through so_far closed us vs round rs is nearer =
+    let start = so_far.left row u (omega arith) rs us in
+    let end = so_far.left row v (omega arith) rs vs in
+    let most = closed.most row v rs vs in
+    let itself = closed.itself v vs in
+    let least = least_way events old u v w closed us vs round row v rs vs in
+    record {
+      apart = λ e.
+          let own : old row v ≡ old v v = ap (λ x. old x v) e in
+          let way : old row u ≡ old v u = ap (λ x. old x u) e in
+          omega (arith, ints);
+      reach = (omega (arith, ints), omega (arith, ints));
+      ways = λ y ys.
+          let onward = shortened-own_row events old new u v w row so_far us vs round y ys in
+          let far = closed.most v y vs ys in
+          let below = least_way events old u v w closed us vs round row y rs ys in
+          (omega (arith, ints), omega (arith, ints));
+    }
+
+-- in the row the columns that are not listed do not come nearer
+pub row_left_out : (events : ℕ) (old new : ℕ → ℕ → ℤ) (u v : ℕ) (w : ℤ) (row : ℕ) (columns : List ℕ) (through : ℤ) → IsShortenedTo events old new u v w row
+    → IsClosed events old → u ≤ events → v ≤ events → pos 0 ≤ℤ (old v u +ℤ w) → row ≤ events
+    → through ≡ (new row u +ℤ w) → AreNearer events old u v w columns (events + 1)
+    → (y : ℕ) → y ≤ events → Contains columns y ⊎ (new row y ≤ℤ (through +ℤ new v y))
+row_left_out events old new u v w row columns through so_far closed us vs round rs is listed y ys =
+    let start = so_far.left row u (omega arith) rs us in
+    let own = so_far.left row y (omega arith) rs ys in
+    let onward = shortened-own_row events old new u v w row so_far us vs round y ys in
+    elim (listed.left_out y (omega arith)) [
+      | inl there ↦ inl there
+      | inr longer ↦ inr (let kept = kept_column events old u v w closed us row y rs ys longer in omega (arith, ints))
+    ]
+
 -- the rows before this one hold the widest differences already, and the others the horizon
 pub record IsWidenedTo (events : ℕ) (far : ℕ → ℕ → ℤ) (row : ℕ) : Type 0 where
   pub origin : (x : ℕ) → x < row → x ≤ events → far x 0 ≡ pos 0
   pub itself : (x : ℕ) → x < row → x ≤ events → far x x ≡ pos 0
-  pub others : (x y : ℕ) → x ≤ events → y ≤ events → y ≢ 0 → x ≢ y → far x y ≡ HORIZON
-  pub left : (x y : ℕ) → row ≤ x → x ≤ events → y ≤ events → far x y ≡ HORIZON
+  pub others : (x y : ℕ) → x ≤ events → y ≤ events → y ≢ 0 → x ≢ y → far x y ≡ horizon
+  pub left : (x y : ℕ) → row ≤ x → x ≤ events → y ≤ events → far x y ≡ horizon
 
 -- both sides of a bound are implied, or leave room, as two comparisons say
 pub implied_by : (far : ℕ → ℕ → ℤ) (bound : Difference) (from to : ℕ) (forth back upper lower : ℤ) (answer : Bool)

@@ -3,7 +3,7 @@ use Rattle.std.specs.Prelude.{All}
 use Rattle.std.proofs.lemmas.Int.{ints}
 use Rattle.std.proofs.lemmas.Bool.{cases_eq}
 use Rattle.std.proofs.lemmas.List.Elements.{All-push, All-nil}
-use Rattle.stn_time.specs.declared.millis.TheConstants.{HORIZON}
+use Rattle.stn_time.specs.Time.{horizon}
 use Rattle.stn_net.specs.Difference.{Difference, NamesEvents}
 use Rattle.stn_net.specs.Horizon.{horizon_bound, horizon_bounds}
 use Rattle.stn_net.specs.Schedule.{IsSchedule}
@@ -14,7 +14,7 @@ use Rattle.stn_matrix.proofs.Tightest.{IsTight, exact_from_tight}
 use Rattle.stn_matrix.proofs.Closure.{schedule_before, schedule_last}
 
 -- the widest difference of two events is 0 or the horizon
-widest_cases : (events : ℕ) (far : ℕ → ℕ → ℤ) → IsWidest events far → (x y : ℕ) → x ≤ events → y ≤ events → (far x y ≡ pos 0) ⊎ (far x y ≡ HORIZON)
+widest_cases : (events : ℕ) (far : ℕ → ℕ → ℤ) → IsWidest events far → (x y : ℕ) → x ≤ events → y ≤ events → (far x y ≡ pos 0) ⊎ (far x y ≡ horizon)
 widest_cases events far widest x y xs ys = elim (cases_eq y 0) [
   | inl e ↦ inl (let here = widest.origin x xs in rw e here)
   | inr apart ↦ elim (cases_eq x y) [
@@ -26,7 +26,7 @@ widest_cases events far widest x y xs ys = elim (cases_eq y 0) [
 widest_least : (events : ℕ) (far : ℕ → ℕ → ℤ) → IsWidest events far → (x y : ℕ) → x ≤ events → y ≤ events → pos 0 ≤ℤ far x y
 widest_least events far widest x y xs ys = elim (widest_cases events far widest x y xs ys) [ inl e ↦ omega (arith, ints) | inr e ↦ omega (arith, ints) ]
 
-widest_most : (events : ℕ) (far : ℕ → ℕ → ℤ) → IsWidest events far → (x y : ℕ) → x ≤ events → y ≤ events → far x y ≤ℤ HORIZON
+widest_most : (events : ℕ) (far : ℕ → ℕ → ℤ) → IsWidest events far → (x y : ℕ) → x ≤ events → y ≤ events → far x y ≤ℤ horizon
 widest_most events far widest x y xs ys = elim (widest_cases events far widest x y xs ys) [ inl e ↦ omega (arith, ints) | inr e ↦ omega (arith, ints) ]
 
 widest_triangle : (events : ℕ) (far : ℕ → ℕ → ℤ) → IsWidest events far → (x y z : ℕ) → x ≤ events → y ≤ events → z ≤ events → far x z ≤ℤ (far x y +ℤ far y z)
@@ -60,7 +60,7 @@ horizon_each P (suc events) each =
     (each (suc events) (omega arith) (omega arith))
 
 -- in a schedule of the horizon bounds each event lies from the origin to the horizon
-pub horizon_times : (events : ℕ) (time : ℕ → ℤ) → IsSchedule (horizon_bounds events) time → (event : ℕ) → event ≤ events → (pos 0 ≤ℤ time event) × (time event ≤ℤ HORIZON)
+pub horizon_times : (events : ℕ) (time : ℕ → ℤ) → IsSchedule (horizon_bounds events) time → (event : ℕ) → event ≤ events → (pos 0 ≤ℤ time event) × (time event ≤ℤ horizon)
 unfolding horizon_bounds
 horizon_times zero time s event within =
     let first : event ≡ 0 = omega arith in

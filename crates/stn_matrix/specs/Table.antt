@@ -1,7 +1,7 @@
 use Rattle.std.specs.Prelude.{ℕ, ℤ, pos, ◌+◌, ◌*◌, List, slice_index_or}
 
 -- a square of differences: one row for the origin and each of so many other events, row after row;
--- and how many bounds it has been tightened by
+-- and how often it was tightened by a bound, where a copy counts as one and as all that were copied
 pub record Table : Type 0 where
   pub events : ℕ
   pub entries : List ℤ

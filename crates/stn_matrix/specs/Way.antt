@@ -1,11 +1,12 @@
-use Rattle.std.specs.Prelude.{◌≡◌, ◌≢◌, ◌⊎◌, ℕ, ℤ, pos, ◌+◌, ◌*◌, ◌≤◌, ◌+ℤ◌, ◌≤ℤ◌, neg_ℤ, List, length, slice_index_or}
+use Rattle.std.specs.Prelude.{◌≡◌, ◌≢◌, ◌⊎◌, ℕ, ℤ, pos, ◌+◌, ◌*◌, ◌≤◌, ◌<◌, ◌+ℤ◌, ◌≤ℤ◌, neg_ℤ, List, length, slice_index_or, All, Contains}
 use Rattle.std.specs.Int.{int_min}
+use Rattle.stn_time.specs.Time.{horizon}
 use Rattle.stn_net.specs.Difference.{Difference}
-use Rattle.stn_net.specs.declared.event.TheConstants.{MOST_EVENTS}
+use Rattle.stn_net.specs.Event.{most_events}
 
 -- the entries are a square of one row for the origin and each of so many other events, row after row
 pub record IsWhole (events : ℕ) (entries : List ℤ) : Type 0 where
-  pub few : events ≤ MOST_EVENTS
+  pub few : events ≤ most_events
   pub square : length entries ≡ (events + 1) * (events + 1)
 
 -- the entry in the row of x and the column of y
@@ -29,6 +30,16 @@ pub record IsImplied (far : ℕ → ℕ → ℤ) (bound : Difference) : Type 0 w
 pub record HasRoom (far : ℕ → ℕ → ℤ) (bound : Difference) : Type 0 where
   pub upper : neg_ℤ bound.hi ≤ℤ far bound.to bound.from
   pub lower : bound.lo ≤ℤ far bound.from bound.to
+
+-- the difference is no more than twice the horizon, on either side of zero
+abbrev pub IsInReach : ℤ → Type 0
+IsInReach millis = (neg_ℤ (horizon +ℤ horizon) ≤ℤ millis) × (millis ≤ℤ (horizon +ℤ horizon))
+
+-- these columns are about the events, and among them is each one before `column` whose event comes nearer to u by way
+-- of v, which lies at most w after u
+pub record AreNearer (events : ℕ) (far : ℕ → ℕ → ℤ) (u v : ℕ) (w : ℤ) (columns : List ℕ) (column : ℕ) : Type 0 where
+  pub within : All (λ y. y ≤ events) columns
+  pub left_out : (y : ℕ) → y < column → Contains columns y ⊎ (far u y ≤ℤ (w +ℤ far v y))
 
 -- one entry is this value, and the others are as they were
 pub record IsWritten (events : ℕ) (old new : ℕ → ℕ → ℤ) (row column : ℕ) (value : ℤ) : Type 0 where

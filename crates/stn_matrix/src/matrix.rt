@@ -2,9 +2,10 @@ ghost use Rattle.std.specs.Prelude.{◌≡◌, ◌+◌, ◌≤◌, ◌++◌, ◌
 ghost use Rattle.stn_net.specs.Difference.{Difference, NamesEvents};
 ghost use Rattle.stn_net.specs.Horizon.{horizon_bounds};
 ghost use Rattle.stn_net.specs.Schedule.{HasSchedule};
-ghost use Rattle.stn_net.specs.declared.event.TheConstants.{MOST_EVENTS};
+ghost use Rattle.stn_net.specs.Event.{most_events};
 ghost use Rattle.stn_matrix.specs.Table.{far_of};
 ghost use Rattle.stn_matrix.specs.Tightest.{IsTightest, IsExact};
+ghost use Rattle.stn_time.specs.Time.{horizon};
 
 use crate::square::{entry_of, has_room, is_implied, narrow, widen};
 use std::alloc::Allocator;
@@ -21,7 +22,7 @@ const FARTHEST: i32 = HORIZON as i32;
 pub struct Matrix<A: Allocator> {
     events: u16,
     entries: Vec<i32, A>,
-    steps: u64,
+    tightenings: u64,
 }
 
 impl<A: Allocator> Model for Matrix<A> {
@@ -30,16 +31,16 @@ impl<A: Allocator> Model for Matrix<A> {
 
     ghost Value = { Table };
 
-    ghost view = { λ m. record { events = m.events; entries = m.entries.items; steps = m.steps } };
+    ghost view = { λ m. record { events = m.events; entries = m.entries.items; steps = m.tightenings } };
 
-    ghost invariant = { λ m. IsClosedTable (record { events = m.events; entries = m.entries.items; steps = m.steps }) };
+    ghost invariant = { λ m. IsClosedTable (record { events = m.events; entries = m.entries.items; steps = m.tightenings }) };
 }
 
 impl<A: Allocator> Matrix<A> {
     /// The matrix of so many events beside the origin and their horizon bounds alone; for want of
     /// memory none. It asks for memory once, and no other call does.
     pub fn bare(alloc: A, events: u16) -> Result<Matrix<A>, Memory>
-        requires { events ≤ MOST_EVENTS }
+        requires { events ≤ most_events }
         ensures exact { IfOk result (λ matrix. IsExact (horizon_bounds events) matrix) }
         ensures events { IfOk result (λ matrix. matrix.events ≡ events) }
         ensures steps { IfOk result (λ matrix. matrix.steps ≡ 0) }
@@ -50,14 +51,14 @@ impl<A: Allocator> Matrix<A> {
         Ok(Matrix {
             events,
             entries,
-            steps: 0,
+            tightenings: 0,
         })
     }
 
     /// The number of events beside the origin.
     pub fn events(&self) -> u16
         ensures value { result ≡ self.now.events }
-        ensures few { result ≤ MOST_EVENTS }
+        ensures few { result ≤ most_events }
     {
         self.events
     }
@@ -67,7 +68,7 @@ impl<A: Allocator> Matrix<A> {
     pub fn steps(&self) -> u64
         ensures { result ≡ self.now.steps }
     {
-        self.steps
+        self.tightenings
     }
 
     /// How much later than one event another can be.
@@ -103,7 +104,7 @@ impl<A: Allocator> Matrix<A> {
             }
             narrow(&mut self.entries, events, bound);
         }
-        self.steps = self.steps.saturating_add(1);
+        self.tightenings = self.tightenings.saturating_add(1);
         true
     }
 
@@ -116,6 +117,9 @@ impl<A: Allocator> Matrix<A> {
         ensures steps { self.new.steps ≡ min (self.old.steps + other.now.steps + 1) u64.MAX }
     {
         self.entries.copy_from_slice(&other.entries);
-        self.steps = self.steps.saturating_add(other.steps).saturating_add(1);
+        self.tightenings = self
+            .tightenings
+            .saturating_add(other.tightenings)
+            .saturating_add(1);
     }
 }

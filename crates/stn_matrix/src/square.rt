@@ -1,27 +1,30 @@
-ghost use Rattle.std.specs.Prelude.{◌≡◌, ℕ, ◌+◌, ◌*◌, ◌<◌, ◌≤◌, ◌↔◌, pos, neg_ℤ, ◌+ℤ◌, ◌≤ℤ◌, IsTrue};
+ghost use Rattle.std.specs.Prelude.{◌≡◌, ◌≢◌, ◌⊎◌, ℕ, ◌+◌, ◌*◌, ◌<◌, ◌≤◌, ◌↔◌, pos, neg_ℤ, ◌+ℤ◌, ◌≤ℤ◌, IsTrue, length, take, All, Contains};
 ghost use Rattle.std.specs.Int.{int_min};
 ghost use Rattle.stn_net.specs.Difference.{NamesEvents};
-ghost use Rattle.stn_net.specs.declared.event.TheConstants.{MOST_EVENTS};
-ghost use Rattle.stn_time.specs.declared.millis.TheConstants.{HORIZON};
+ghost use Rattle.stn_net.specs.Event.{most_events};
+ghost use Rattle.stn_time.specs.Time.{horizon};
 ghost use Rattle.stn_matrix.specs.Closed.{IsClosed, IsWidest};
-ghost use Rattle.stn_matrix.specs.Way.{IsWhole, entry, shorter, narrower, IsImplied, HasRoom, IsRowShortened, IsWritten};
+ghost use Rattle.stn_matrix.specs.Way.{IsWhole, entry, shorter, narrower, IsImplied, HasRoom, IsInReach, AreNearer, IsRowShortened, IsWritten};
 
 use stn_net::{Bound, Event};
 use stn_time::Ms;
 
-// One event lies at most so long after another.
+// The most columns: the origin's, and one for each event.
+const COLUMNS: usize = 513;
+
+// One event comes at most so long after another.
 #[derive(Clone, Copy)]
-struct Link {
+struct Arc {
     from: Event,
     to: Event,
-    most: Ms,
+    weight: Ms,
 }
 
 // Writes the differences of events that lie anywhere from the origin to the horizon into a square
 // that is full of the horizon.
 pub(crate) fn widen(entries: &mut [i32], events: usize)
     requires whole { IsWhole events entries.old }
-    requires full { (x y : ℕ) → x ≤ events → y ≤ events → entry entries.old events x y ≡ HORIZON }
+    requires full { (x y : ℕ) → x ≤ events → y ≤ events → entry entries.old events x y ≡ horizon }
     ensures { IsWidest events (entry entries.new events) }
 {
     for event in 0..=events {
@@ -37,8 +40,8 @@ pub(crate) fn is_implied(entries: &[i32], events: usize, bound: Bound) -> bool
     ensures { IsTrue result ↔ IsImplied (entry entries.now events) bound }
 {
     let (from, to) = ends(bound);
-    is_at_most(entry_of(entries, events, from, to), bound.hi())
-        && is_at_most(entry_of(entries, events, to, from), -bound.lo())
+    at_least(bound.hi(), entry_of(entries, events, from, to))
+        && at_least(-bound.lo(), entry_of(entries, events, to, from))
 }
 
 // Whether some time between the entries of its events meets the bound.
@@ -48,8 +51,8 @@ pub(crate) fn has_room(entries: &[i32], events: usize, bound: Bound) -> bool
     ensures { IsTrue result ↔ HasRoom (entry entries.now events) bound }
 {
     let (from, to) = ends(bound);
-    is_at_least(entry_of(entries, events, to, from), -bound.hi())
-        && is_at_least(entry_of(entries, events, from, to), bound.lo())
+    at_most(-bound.hi(), entry_of(entries, events, to, from))
+        && at_most(bound.lo(), entry_of(entries, events, from, to))
 }
 
 // Shortens each entry by way of both sides of the bound.
@@ -62,70 +65,157 @@ pub(crate) fn narrow(entries: &mut [i32], events: usize, bound: Bound)
     ensures narrower { (x y : ℕ) → x ≤ events → y ≤ events
         → entry entries.new events x y ≡ narrower (entry entries.old events) bound x y }
 {
-    let upper = Link {
+    let upper = Arc {
         from: bound.from(),
         to: bound.to(),
-        most: bound.hi(),
+        weight: bound.hi(),
     };
-    let lower = Link {
+    let lower = Arc {
         from: bound.to(),
         to: bound.from(),
-        most: -bound.lo(),
+        weight: -bound.lo(),
     };
     shorten(entries, events, upper);
     shorten(entries, events, lower);
 }
 
-// Shortens each entry by way of the link; only a row from which the link's end comes nearer can
-// change.
-fn shorten(entries: &mut [i32], events: usize, link: Link)
+// Shortens each entry by way of the arc; only a row from which the arc's end comes nearer can
+// change, and only in a column that comes nearer to the arc's beginning.
+fn shorten(entries: &mut [i32], events: usize, arc: Arc)
     requires whole { IsWhole events entries.old }
     requires closed { IsClosed events (entry entries.old events) }
-    requires from { link.from ≤ events }
-    requires to { link.to ≤ events }
-    requires round { pos 0 ≤ℤ (entry entries.old events link.to link.from +ℤ link.most) }
+    requires from { arc.from ≤ events }
+    requires to { arc.to ≤ events }
+    requires round { pos 0 ≤ℤ (entry entries.old events arc.to arc.from +ℤ arc.weight) }
     ensures { (x y : ℕ) → x ≤ events → y ≤ events
-        → entry entries.new events x y ≡ shorter (entry entries.old events) link.from link.to link.most x y }
+        → entry entries.new events x y ≡ shorter (entry entries.old events) arc.from arc.to arc.weight x y }
 {
-    let from = usize::from(link.from.number());
-    let to = usize::from(link.to.number());
-    let most = link.most.get();
+    let from = usize::from(arc.from.number());
+    let to = usize::from(arc.to.number());
+    let weight = arc.weight.get();
+    let mut columns = [0; COLUMNS];
+    let count = nearer_columns(entries, events, arc, &mut columns);
     for row in 0..=events {
-        let through = entry_of(entries, events, row, from) + most;
+        let through = entry_of(entries, events, row, from) + weight;
         if through < entry_of(entries, events, row, to) {
-            shorten_row(entries, events, row, to, through);
+            shorten_row(entries, events, row, to, through, &columns[..count]);
         }
     }
 }
 
-// Shortens each entry of a row by way of an event that lies at most so long after the row's own.
-fn shorten_row(entries: &mut [i32], events: usize, row: usize, by: usize, through: i64)
+// Lists the columns that come nearer to the arc's beginning by way of it, and answers their number.
+fn nearer_columns(entries: &[i32], events: usize, arc: Arc, columns: &mut [u16]) -> usize
+    requires whole { IsWhole events entries.now }
+    requires from { arc.from ≤ events }
+    requires to { arc.to ≤ events }
+    requires long { events < length columns.old }
+    ensures few { result ≤ length columns.new }
+    ensures listed { AreNearer events (entry entries.now events) arc.from arc.to arc.weight
+        (take result columns.new) (events + 1) }
+{
+    let from = usize::from(arc.from.number());
+    let to = usize::from(arc.to.number());
+    let weight = arc.weight.get();
+    let mut count = 0;
+    for column in 0..events + 1 {
+        let through = weight + entry_of(entries, events, to, column);
+        if through < entry_of(entries, events, from, column) {
+            columns[count] = column as u16;
+            count += 1;
+        }
+    }
+    count
+}
+
+// Shortens each entry of a row by way of an event that lies at most so long after the row's own; only
+// these columns can change. Where they are many, all of them take less time.
+fn shorten_row(
+    entries: &mut [i32],
+    events: usize,
+    row: usize,
+    by: usize,
+    through: i64,
+    columns: &[u16],
+)
     requires whole { IsWhole events entries.old }
     requires row { row ≤ events }
     requires by { by ≤ events }
-    requires through { through ≤ℤ HORIZON }
-    requires least { (y : ℕ) → y ≤ events → neg_ℤ HORIZON ≤ℤ (through +ℤ entry entries.old events by y) }
+    requires apart { row ≢ by }
+    requires reach { IsInReach through }
+    requires ways { (y : ℕ) → y ≤ events → IsInReach (through +ℤ entry entries.old events by y) }
+    requires within { All (λ y. y ≤ events) columns.now }
+    requires left_out { (y : ℕ) → y ≤ events → Contains columns.now y
+        ⊎ (entry entries.old events row y ≤ℤ (through +ℤ entry entries.old events by y)) }
     ensures { IsRowShortened events (entry entries.old events) (entry entries.new events) row by through }
 {
-    for column in 0..=events {
-        let longest = through + entry_of(entries, events, by, column);
-        shorten_entry(entries, events, row, column, longest);
+    let through = through as i32;
+    if columns.len() < events / 4 {
+        shorten_columns(entries, events, row, by, through, columns);
+    } else {
+        shorten_all(entries, events, row, by, through);
     }
 }
 
-// Shortens the entry in a row and a column to the difference, where that is shorter.
-#[inline]
-fn shorten_entry(entries: &mut [i32], events: usize, row: usize, column: usize, longest: i64)
+// Shortens each entry of a row, of which only these columns can change.
+fn shorten_columns(
+    entries: &mut [i32],
+    events: usize,
+    row: usize,
+    by: usize,
+    through: i32,
+    columns: &[u16],
+)
     requires whole { IsWhole events entries.old }
     requires row { row ≤ events }
-    requires column { column ≤ events }
-    requires least { neg_ℤ HORIZON ≤ℤ longest }
-    ensures { IsWritten events (entry entries.old events) (entry entries.new events) row column
-        (int_min (entry entries.old events row column) longest) }
+    requires by { by ≤ events }
+    requires apart { row ≢ by }
+    requires ways { (y : ℕ) → y ≤ events → IsInReach (through +ℤ entry entries.old events by y) }
+    requires within { All (λ y. y ≤ events) columns.now }
+    requires left_out { (y : ℕ) → y ≤ events → Contains columns.now y
+        ⊎ (entry entries.old events row y ≤ℤ (through +ℤ entry entries.old events by y)) }
+    ensures { IsRowShortened events (entry entries.old events) (entry entries.new events) row by through }
 {
-    if longest < entry_of(entries, events, row, column) {
-        set_entry(entries, events, row, column, longest);
+    for column in columns {
+        shorten_entry(entries, events, row, by, through, usize::from(*column));
     }
+}
+
+// Shortens each entry of a row: a loop that the compiler turns into vectors, as long as it stands
+// alone.
+#[inline(never)]
+fn shorten_all(entries: &mut [i32], events: usize, row: usize, by: usize, through: i32)
+    requires whole { IsWhole events entries.old }
+    requires row { row ≤ events }
+    requires by { by ≤ events }
+    requires ways { (y : ℕ) → y ≤ events → IsInReach (through +ℤ entry entries.old events by y) }
+    ensures { IsRowShortened events (entry entries.old events) (entry entries.new events) row by through }
+{
+    for column in 0..events + 1 {
+        shorten_entry(entries, events, row, by, through, column);
+    }
+}
+
+// Shortens the entry in a row and a column by way of an event.
+#[inline]
+fn shorten_entry(
+    entries: &mut [i32],
+    events: usize,
+    row: usize,
+    by: usize,
+    through: i32,
+    column: usize,
+)
+    requires whole { IsWhole events entries.old }
+    requires row { row ≤ events }
+    requires by { by ≤ events }
+    requires column { column ≤ events }
+    requires way { IsInReach (through +ℤ entry entries.old events by column) }
+    ensures { IsWritten events (entry entries.old events) (entry entries.new events) row column
+        (int_min (entry entries.old events row column) (through +ℤ entry entries.old events by column)) }
+{
+    let way = through + millis_of(entries, events, by, column);
+    let own = millis_of(entries, events, row, column);
+    set_entry(entries, events, row, column, own.min(way));
 }
 
 // The entry in a row and a column.
@@ -138,26 +228,35 @@ pub(crate) fn entry_of(entries: &[i32], events: usize, row: usize, column: usize
     ensures least { neg_ℤ (pos 2147483648) ≤ℤ result }
     ensures most { result ≤ℤ pos 2147483647 }
 {
-    i64::from(entries[place(events, row, column)])
+    i64::from(millis_of(entries, events, row, column))
+}
+
+// The entry in a row and a column, as it is kept.
+#[inline]
+fn millis_of(entries: &[i32], events: usize, row: usize, column: usize) -> i32
+    requires whole { IsWhole events entries.now }
+    requires row { row ≤ events }
+    requires column { column ≤ events }
+    ensures { result ≡ entry entries.now events row column }
+{
+    entries[place(events, row, column)]
 }
 
 // Writes the entry in a row and a column.
 #[inline]
-fn set_entry(entries: &mut [i32], events: usize, row: usize, column: usize, value: i64)
+fn set_entry(entries: &mut [i32], events: usize, row: usize, column: usize, value: i32)
     requires whole { IsWhole events entries.old }
     requires row { row ≤ events }
     requires column { column ≤ events }
-    requires least { neg_ℤ (pos 2147483648) ≤ℤ value }
-    requires most { value ≤ℤ pos 2147483647 }
     ensures { IsWritten events (entry entries.old events) (entry entries.new events) row column value }
 {
-    entries[place(events, row, column)] = value as i32;
+    entries[place(events, row, column)] = value;
 }
 
 // The place of the entry in a row and a column.
 #[inline]
 fn place(events: usize, row: usize, column: usize) -> usize
-    requires few { events ≤ MOST_EVENTS }
+    requires few { events ≤ most_events }
     requires row { row ≤ events }
     requires column { column ≤ events }
     ensures value { result ≡ row * (events + 1) + column }
@@ -177,16 +276,16 @@ fn ends(bound: Bound) -> (usize, usize)
     )
 }
 
-// Whether the difference is at most the time.
-fn is_at_most(millis: i64, time: Ms) -> bool
-    ensures { IsTrue result ↔ (millis ≤ℤ time) }
-{
-    millis <= time.get()
-}
-
-// Whether the difference is at least the time.
-fn is_at_least(millis: i64, time: Ms) -> bool
+// Whether the time is at most the difference.
+fn at_most(time: Ms, millis: i64) -> bool
     ensures { IsTrue result ↔ (time ≤ℤ millis) }
 {
-    millis >= time.get()
+    time.get() <= millis
+}
+
+// Whether the time is at least the difference.
+fn at_least(time: Ms, millis: i64) -> bool
+    ensures { IsTrue result ↔ (millis ≤ℤ time) }
+{
+    time.get() >= millis
 }

@@ -1,5 +1,12 @@
 use Rattle.std.specs.Prelude.{◌≡◌, ℕ, ◌+◌, ◌*◌, ◌/◌, ◌%◌, ◌≤◌, List, codes, decimal, ◌++◌, ◌==◌, if◌then◌else◌}
-use Rattle.stn_net.specs.declared.event.TheConstants.{MOST_EVENTS}
+
+-- a plan has at most so many steps
+abbrev pub most_steps : ℕ
+most_steps = 256
+
+-- the two events of each of them
+abbrev pub most_events : ℕ
+most_events = 512
 
 -- the printed form of an event: the origin, the start of a step, the end of a step
 abbrev pub event_text : ℕ → List ℕ
@@ -11,4 +18,4 @@ event_text event = if event == 0 then codes "z" else (if event % 2 == 1
 pub record IsStepText (text : List ℕ) (step : ℕ) : Type 0 where
   pub digits : text ≡ decimal step
   pub least : 1 ≤ step
-  pub most : 2 * step ≤ MOST_EVENTS
+  pub most : step ≤ most_steps

@@ -1,13 +1,16 @@
 ghost use Rattle.std.specs.Prelude.{◌≡◌, ℕ, ◌≤◌, ◌++◌, ◌↔◌, IsSome, IfSome, OnOk, OnErr};
-ghost use Rattle.stn_net.specs.Event.{event_text, IsStepText};
+ghost use Rattle.stn_net.specs.Event.{most_events, event_text, IsStepText};
 
 use crate::decimal::{append_decimal, read_decimal};
 use std::alloc::Allocator;
 use std::marker::Model;
 use stn_time::Memory;
 
-/// The greatest number of events beside the origin: the two ends of 256 steps.
-pub const MOST_EVENTS: u16 = 512;
+/// The greatest number of steps of a plan.
+pub const MOST_STEPS: u16 = 256;
+
+/// The greatest number of events beside the origin: the start and the end of each step.
+pub const MOST_EVENTS: u16 = 2 * MOST_STEPS;
 
 /// An event of a plan, by its number: 0 is the origin, at which all times begin; step k, counted
 /// from 1, starts at event 2k - 1 and ends at event 2k.
@@ -18,13 +21,13 @@ pub struct Event {
 
 impl Model for Event {
     ghost use Rattle.std.specs.Prelude.{ℕ, ◌≤◌};
-    ghost use Rattle.stn_net.specs.declared.event.TheConstants.{MOST_EVENTS};
+    ghost use Rattle.stn_net.specs.Event.{most_events};
 
     ghost Value = { ℕ };
 
     ghost view = { λ e. e.number };
 
-    ghost invariant = { λ e. e.number ≤ MOST_EVENTS };
+    ghost invariant = { λ e. e.number ≤ most_events };
 
     ghost inverse = { λ n. record { number = n } };
 }
@@ -32,7 +35,7 @@ impl Model for Event {
 impl Event {
     /// The event of this number, where it is at most 512.
     pub fn new(number: u16) -> Option<Event>
-        ensures within { IsSome result ↔ (number ≤ MOST_EVENTS) }
+        ensures within { IsSome result ↔ (number ≤ most_events) }
         ensures value { IfSome result (λ event. event ≡ number) }
     {
         if number <= MOST_EVENTS {
@@ -52,7 +55,7 @@ impl Event {
     /// The number of the event.
     pub fn number(self) -> u16
         ensures value { result ≡ self }
-        ensures within { result ≤ MOST_EVENTS }
+        ensures within { result ≤ most_events }
     {
         self.number
     }
@@ -61,8 +64,8 @@ impl Event {
     /// end of step k, from 1 to 256 without leading zeros.
     pub fn read(text: &[u8]) -> Option<Event>
         ensures found { IfSome result (λ event. text.now ≡ event_text event) }
-        ensures within { IfSome result (λ event. event ≤ MOST_EVENTS) }
-        ensures all { (event : ℕ) → event ≤ MOST_EVENTS → text.now ≡ event_text event → result ≡ Some event }
+        ensures within { IfSome result (λ event. event ≤ most_events) }
+        ensures all { (event : ℕ) → event ≤ most_events → text.now ≡ event_text event → result ≡ Some event }
     {
         let (first, digits) = text.split_first()?;
         match *first {
@@ -103,13 +106,13 @@ impl Event {
     }
 }
 
-// The number of a step, from 1 to half of the most events.
+// The number of a step, from 1 on.
 fn read_step(digits: &[u8]) -> Option<u16>
     ensures found { IfSome result (λ step. IsStepText digits.now step) }
     ensures all { (step : ℕ) → IsStepText digits.now step → result ≡ Some step }
 {
     let step = read_decimal(digits)?;
-    if 1 <= step && step <= MOST_EVENTS / 2 {
+    if 1 <= step && step <= MOST_STEPS {
         Some(step)
     } else {
         None

@@ -3,7 +3,7 @@
 
 pub use bound::{Bound, BoundFault};
 pub use decimal::{append_decimal, read_decimal};
-pub use event::{Event, MOST_EVENTS};
+pub use event::{Event, MOST_EVENTS, MOST_STEPS};
 pub use schedule::first_broken;
 
 mod bound;

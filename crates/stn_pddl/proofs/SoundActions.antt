@@ -1,14 +1,17 @@
 -- The actions of a domain are sound.
-use Rattle.std.proofs.Common.{◌≡◌, ℕ, Bool, true, false, cond, List, [], ◌∷◌, ◌++◌, Option, Some, None, Result, Ok, Err, IfOk, refl, sym, ◌∙◌, ap, subst, arith, ℤ, pos, negsuc, ◌≤ℤ◌, int_lt, find, MatchOption, IfSome}
+use Rattle.std.proofs.Common.{◌≡◌, ℕ, ◌≤◌, Bool, true, false, cond, nat_lt, List, [], ◌∷◌, ◌++◌, length, Option, Some, None, Result, Ok, Err, IfOk, refl, sym, ◌∙◌, ap, subst, arith, ℤ, pos, negsuc, ◌≤ℤ◌, int_lt, find, MatchOption, IfSome}
 use Rattle.std.specs.List.{AllByRecursion}
 use Rattle.std.specs.Borrow.{Bor}
+use Rattle.std.proofs.lemmas.Bool.Decides.{nat_tests}
 use Rattle.std.proofs.lemmas.Int.{ints}
 use Rattle.stn_time.specs.declared.reading.TimeFault.{TimeFault}
 use Rattle.stn_time.specs.TimeOf.{time_of}
+use Rattle.stn_tree.specs.declared.scan.Place.TheVariants.{Before}
 use Rattle.stn_tree.specs.declared.scan.TreeFault.{TreeFault}
+use Rattle.stn_tree.specs.declared.scan.TreeFault.TheVariants.{TooLong}
 use Rattle.stn_tree.specs.Names.{is_same_word}
-use Rattle.stn_tree.specs.Trees.{Trees, End, Word, Group}
-use Rattle.stn_tree.specs.Scan.{tree_of}
+use Rattle.stn_tree.specs.Trees.{Trees, End, Word, Group, rows_from}
+use Rattle.stn_tree.specs.Scan.{most_text, tree_of, scanned, ◌>>=◌ as ◌>>=tree◌}
 use Rattle.stn_pddl.specs.declared.fault.DomainFault.{DomainFault}
 use Rattle.stn_pddl.specs.declared.fault.DomainFault.TheVariants.{Syntax, Unsupported, Number, Twice}
 use Rattle.stn_pddl.specs.declared.action.Side.{Side}
@@ -141,6 +144,16 @@ tree-sound (Group line children next) actions is = root-sound line children acti
 bytes-sound : (tree : Result Trees TreeFault) (actions : List ActionSchema) → domain_of_bytes tree ≡ Ok actions → AllByRecursion IsSound actions
 bytes-sound (Ok tree) actions is = tree-sound tree actions is
 bytes-sound (Err fault) actions is = refused (of_tree fault) actions is
+
+-- A domain's text is not too long.
+pub domain-short : (text : List ℕ) (actions : List ActionSchema) → domain_of text ≡ Ok actions → length text ≤ most_text
+unfolding domain_of tree_of
+domain-short text actions is = by (nat_lt most_text (length text)) refl is
+  where
+    by : (long : Bool) → nat_lt most_text (length text) ≡ long
+        → domain_of_bytes (cond long (Err TooLong) (scanned false 1 Before text >>=tree λ end. Ok (rows_from false 1 text).row)) ≡ Ok actions → length text ≤ most_text
+    by true e h = cc
+    by false e h = grind (arith, nat_tests)
 
 -- The actions of a text are sound.
 pub domain-sound : (text : List ℕ) (actions : List ActionSchema) → domain_of text ≡ Ok actions → AllByRecursion IsSound actions

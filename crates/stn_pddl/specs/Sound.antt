@@ -1,7 +1,9 @@
--- What every action of a domain keeps.
-use Rattle.std.specs.Prelude.{ℕ, ◌<◌, length, pos, ◌≤ℤ◌}
+-- What every domain and each of its actions keeps.
+use Rattle.std.specs.Prelude.{◌≡◌, ℕ, ◌<◌, ◌≤◌, length, pos, ◌≤ℤ◌, Ok}
 use Rattle.std.specs.List.{AllByRecursion}
+use Rattle.stn_tree.specs.Scan.{most_text}
 use Rattle.stn_pddl.specs.Schemas.{TermSchema, AtomSchema, ActionSchema, Parameter, Constant}
+use Rattle.stn_pddl.specs.Domains.{DomainSchema, domain_of}
 
 -- a parameter is one of so many
 abbrev pub IsSoundTerm : ℕ → TermSchema → Type 0
@@ -25,3 +27,9 @@ pub record HasSoundAtoms (action : ActionSchema) : Type 0 where
 pub record IsSound (action : ActionSchema) : Type 0 where
   pub atoms : HasSoundAtoms action
   pub duration : pos 0 ≤ℤ action.duration
+
+-- what every domain keeps to: its text gives its actions, which are sound
+pub record IsDomain (domain : DomainSchema) : Type 0 where
+  pub given : domain_of domain.text ≡ Ok domain.actions
+  pub short : length domain.text ≤ most_text
+  pub sound : AllByRecursion IsSound domain.actions

@@ -76,7 +76,12 @@ pub enum Label {
 impl<'a, A: Allocator + Copy> Action<'a, A> {
     /// An action without conditions and effects.
     #[tactic(auto, unfolding(crate::specs::Views::action_schema))]
-    pub fn bare(alloc: A, name: Name<'a>, parameters: Names<'a, A>, duration: Ms) -> Action<'a, A>
+    pub(crate) fn bare(
+        alloc: A,
+        name: Name<'a>,
+        parameters: Names<'a, A>,
+        duration: Ms,
+    ) -> Action<'a, A>
         ensures { action_schema result ≡ bare_action (word_of name.entry) (words_of parameters.entry.keys) duration }
     {
         Action {
@@ -95,7 +100,7 @@ impl<'a, A: Allocator + Copy> Action<'a, A> {
 
     /// Takes an atom up as a condition or an effect.
     #[tactic(auto, unfolding(crate::specs::Views::action_schema, crate::specs::Schemas::with_literal))]
-    pub fn push_literal(
+    pub(crate) fn push_literal(
         &mut self,
         label: Label,
         negated: bool,

@@ -63,7 +63,7 @@ fn read_terms<'a, A: Allocator + Copy>(
 impl<'a, A: Allocator + Copy> Action<'a, A> {
     /// Takes up the atom of a predicate whose terms stand in a row, and gives the place behind the row.
     #[tactic(auto, unfolding(crate::specs::Atoms::atom, crate::specs::Views::action_schema))]
-    pub fn read_atom(
+    pub(crate) fn read_atom(
         &mut self,
         alloc: A,
         label: Label,
@@ -84,7 +84,7 @@ impl<'a, A: Allocator + Copy> Action<'a, A> {
 
     /// Reads the terms of an equality on a line, and gives the place behind them.
     #[tactic(auto, unfolding(crate::specs::Atoms::equality, crate::specs::Views::action_schema))]
-    pub fn read_equality(
+    pub(crate) fn read_equality(
         &self,
         alloc: A,
         line: u32,

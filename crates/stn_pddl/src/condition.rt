@@ -148,7 +148,7 @@ impl<'a, A: Allocator + Copy> Action<'a, A> {
     /// Takes up a list on a line as a condition or an effect with its times, and gives the place behind the list.
     #[cycle(timed)]
     #[tactic(auto, unfolding(crate::specs::Conditions::timed_tree))]
-    pub fn read_timed_tree(
+    pub(crate) fn read_timed_tree(
         &mut self,
         alloc: A,
         side: Side,

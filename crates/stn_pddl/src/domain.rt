@@ -1,8 +1,9 @@
 //! Whole domains.
 
-ghost use Rattle.std.specs.Prelude.{◌≡◌, [], false, IfOk, IfSome, MatchOption, Some, None};
+ghost use Rattle.std.specs.Prelude.{◌≡◌, ◌≤◌, [], false, length, IfOk, IfSome, MatchOption, Some, None, Ok};
 ghost use Rattle.std.specs.Option.{option_map};
 ghost use Rattle.stn_tree.specs.Cursors.{row_at};
+ghost use Rattle.stn_tree.specs.Scan.{most_text};
 ghost use Rattle.stn_pddl.specs.Faults.{Gives};
 ghost use Rattle.stn_pddl.specs.Actions as rule;
 ghost use Rattle.stn_pddl.specs.Domains.{part, parts, is_title, root, domain_of_tree, domain_of, action_named};
@@ -33,10 +34,9 @@ impl<'a, A: Allocator> Model for Domain<'a, A> {
 
     ghost view = { λ domain. record { text = domain.text.now; actions = domain.actions } };
 
-    ghost use Rattle.std.specs.List.{AllByRecursion};
-    ghost use Rattle.stn_pddl.specs.Sound.{IsSound};
+    ghost use Rattle.stn_pddl.specs.Sound.{IsDomain};
 
-    ghost invariant = { λ domain. AllByRecursion IsSound domain.actions };
+    ghost invariant = { λ domain. IsDomain (record { text = domain.text.now; actions = domain.actions }) };
 }
 
 /// Takes up the value of `:condition` or `:effect`, where there is one.
@@ -227,7 +227,7 @@ fn read_actions<'a, A: Allocator + Copy>(
 
 impl<'a, A: Allocator + Copy> Domain<'a, A> {
     /// Reads a text. The first fault is the answer: 10 where the text is too long, else the first of its bytes, 11 or 12, else the
-    /// first of its forms, 11 to 16. `Memory` may come in place of any other answer.
+    /// first of its forms, 11 or 13 to 16. `Memory` may come in place of any other answer.
     pub fn read(alloc: A, text: &'a [u8]) -> Result<Domain<'a, A>, DomainFault>
         // The domain that the text means, or its first fault.
         ensures given { Gives (λ domain. domain.actions) result (domain_of text.now) }
@@ -239,7 +239,11 @@ impl<'a, A: Allocator + Copy> Domain<'a, A> {
 
     /// The text that was read.
     pub fn text(&self) -> &'a [u8]
-        ensures { result.now ≡ self.now.text }
+        ensures text { result.now ≡ self.now.text }
+        ensures short { length result.now ≤ most_text }
+
+        // The text gives the actions.
+        ensures given { domain_of result.now ≡ Ok self.now.actions }
     {
         self.text
     }

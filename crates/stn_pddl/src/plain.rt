@@ -99,7 +99,7 @@ impl<'a, A: Allocator + Copy> Action<'a, A> {
     /// Takes up the plain trees of a row, and gives the place behind the row.
     #[cycle(plain)]
     #[tactic(auto, unfolding(crate::specs::Conditions::plain_row))]
-    pub fn read_plain_row(
+    pub(crate) fn read_plain_row(
         &mut self,
         alloc: A,
         label: Label,

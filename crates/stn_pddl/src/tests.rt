@@ -1,5 +1,5 @@
 //! The limits of a text, and the calls of a domain; tables of texts and their answers are the input of
-//! the program `domain_faults`.
+//! the program `text_answers`.
 
 use crate::{Domain, DomainFault};
 use std::alloc::{AllocError, Global};

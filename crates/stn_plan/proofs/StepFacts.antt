@@ -1,16 +1,16 @@
 -- How the steps of a text are read one after another.
-use Rattle.std.proofs.Common.{◌≡◌, ℕ, ℤ, pos, negsuc, ◌≤ℤ◌, Bool, true, false, ◌||◌, cond, ◌≤◌, nat_lt, length, List, [], ◌∷◌, ◌++◌, Option, Some, None, IfSome, Result, Ok, Err, refl, subst, rules}
+use Rattle.std.proofs.Common.{◌≡◌, ℕ, ℤ, pos, negsuc, ◌≤ℤ◌, Bool, true, false, ◌||◌, cond, ◌≤◌, nat_lt, length, List, [], ◌∷◌, ◌++◌, Option, Some, None, IfSome, Result, Ok, Err, refl, subst, arith, rules}
 use Rattle.std.specs.Int.{is_negative}
 use Rattle.std.specs.List.{All}
 use Rattle.std.specs.Option.{option_to_list, option_map_or}
 use Rattle.std.proofs.lemmas.Bool.{or_parts, le-ltb}
+use Rattle.std.proofs.lemmas.Bool.Decides.{nat_tests}
 use Rattle.std.proofs.lemmas.List.Elements.{All-nil, All-cons, All-append}
-use Rattle.stn_plan.specs.declared.TheConstants.{MAX_TEXT, MAX_STEPS}
 use Rattle.stn_plan.specs.declared.fault.PlanFault.{PlanFault}
-use Rattle.stn_plan.specs.declared.fault.PlanFault.TheVariants.{Negative}
+use Rattle.stn_plan.specs.declared.fault.PlanFault.TheVariants.{TooLong, Negative, TooManySteps}
 use Rattle.stn_plan.specs.Tokens.{Lexeme, tokens_of}
 use Rattle.stn_plan.specs.Lines.{lines_of}
-use Rattle.stn_plan.specs.Steps.{PlannedStep, Form, IsPlan, IsTimely, ◌>>=◌, form_of, number_of, duration_of, step_at, timed_step, step_of, line_step, steps_of, limited, plan_of}
+use Rattle.stn_plan.specs.Steps.{most_text, most_steps, PlannedStep, Form, IsPlan, IsTimely, ◌>>=◌, form_of, number_of, duration_of, step_at, timed_step, step_of, line_step, steps_of, limited, plan_of}
 
 -- names that were read before those that are found
 abbrev pub behind_names : List (List ℕ) → Result (List (List ℕ) × List Lexeme) PlanFault → Result (List (List ℕ) × List Lexeme) PlanFault
@@ -79,16 +79,30 @@ steps_of-timely (line ∷ lines) steps e =
     (All-append IsTimely (option_to_list step.0) behind.0 (All-option step.0 (step_of-timely line.0 (tokens_of line.1) step.0 step.1)) (steps_of-timely lines behind.0 behind.1))
 
 -- a text that is short enough, and whose lines give few enough steps, gives these
-plan_of-Ok : (text : List ℕ) (steps : List PlannedStep) → length text ≤ MAX_TEXT → length steps ≤ MAX_STEPS → steps_of (lines_of text) ≡ Ok steps
+plan_of-Ok : (text : List ℕ) (steps : List PlannedStep) → length text ≤ most_text → length steps ≤ most_steps → steps_of (lines_of text) ≡ Ok steps
     → plan_of text ≡ Ok steps
 unfolding plan_of limited
 plan_of-Ok text steps short few found =
-    let fits : nat_lt MAX_TEXT (length text) ≡ false = le-ltb MAX_TEXT (length text) short in
-    let limits : nat_lt MAX_STEPS (length steps) ≡ false = le-ltb MAX_STEPS (length steps) few in
+    let fits : nat_lt most_text (length text) ≡ false = le-ltb most_text (length text) short in
+    let limits : nat_lt most_steps (length steps) ≡ false = le-ltb most_steps (length steps) few in
     rw (fits, found, limits) refl
 
+-- a plan text gives few enough steps
+pub plan_of-few : (text : List ℕ) (steps : List PlannedStep) → plan_of text ≡ Ok steps → length steps ≤ most_steps
+unfolding plan_of limited
+plan_of-few text steps given = by (nat_lt most_text (length text)) given
+  where
+    few : (found : List PlannedStep) → limited found ≡ Ok steps → length steps ≤ most_steps
+    few found e =
+        let limits = guard_ok (nat_lt most_steps (length found)) TooManySteps found steps e in
+        subst (λ (s : List PlannedStep). length s ≤ most_steps) limits.1 (grind (arith, nat_tests, limits.0))
+
+    by : (long : Bool) → cond long (Err TooLong) (steps_of (lines_of text) >>= limited) ≡ Ok steps → length steps ≤ most_steps
+    by true e = cc
+    by false e = let found = bind_ok (steps_of (lines_of text)) limited steps e in few found.0 found.2
+
 -- such a text and its steps are a plan
-pub is_plan : (text : List ℕ) (steps : List PlannedStep) → length text ≤ MAX_TEXT → length steps ≤ MAX_STEPS → steps_of (lines_of text) ≡ Ok steps
+pub is_plan : (text : List ℕ) (steps : List PlannedStep) → length text ≤ most_text → length steps ≤ most_steps → steps_of (lines_of text) ≡ Ok steps
     → IsPlan (record { text = text; steps = steps })
 is_plan text steps short few found = record {
   given = plan_of-Ok text steps short few found;

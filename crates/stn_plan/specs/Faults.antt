@@ -1,10 +1,9 @@
 -- Why a text is refused, in the words of its lines.
 use Rattle.std.specs.Prelude.{◌≡◌, ℕ, ◌<◌, List, ◌∷◌, ◌++◌, length, All, Ok, Err, IsOk}
-use Rattle.stn_plan.specs.declared.TheConstants.{MAX_TEXT, MAX_STEPS}
 use Rattle.stn_plan.specs.declared.fault.PlanFault.{PlanFault}
 use Rattle.stn_plan.specs.declared.fault.PlanFault.TheVariants.{TooLong, Syntax, Number, Negative, TooManySteps, Memory}
 use Rattle.stn_plan.specs.Lines.{lines_of}
-use Rattle.stn_plan.specs.Steps.{PlannedStep, line_step, steps_of}
+use Rattle.stn_plan.specs.Steps.{PlannedStep, most_text, most_steps, line_step, steps_of}
 
 -- a fault that names this line
 abbrev pub IsFaultOf : ℕ → PlanFault → Type 0
@@ -29,11 +28,11 @@ pub record IsFirstFault (lines : List (ℕ × List ℕ)) (fault : PlanFault) : T
 pub record HasTooManySteps (lines : List (ℕ × List ℕ)) : Type 0 where
   pub steps : List PlannedStep
   pub found : steps_of lines ≡ Ok steps
-  pub many : MAX_STEPS < length steps
+  pub many : most_steps < length steps
 
 -- the cause that a fault has
 abbrev pub IsCause : List ℕ → PlanFault → Type 0
-IsCause text TooLong = MAX_TEXT < length text
+IsCause text TooLong = most_text < length text
 IsCause text (Syntax line) = IsFirstFault (lines_of text) (Syntax line)
 IsCause text (Number line) = IsFirstFault (lines_of text) (Number line)
 IsCause text (Negative line) = IsFirstFault (lines_of text) (Negative line)

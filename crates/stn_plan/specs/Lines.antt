@@ -1,11 +1,11 @@
 -- The lines of a text.
-use Rattle.std.specs.Prelude.{ℕ, ◌==◌, List}
+use Rattle.std.specs.Prelude.{ℕ, List}
 use Rattle.std.specs.List.{slice_split, enumerate_from}
-use Rattle.stn_plan.specs.declared.bytes.TheConstants.{LINE_FEED}
+use Rattle.stn_text.specs.Lines.{is_line_end}
 
 -- the parts of a text between its line feeds
 abbrev pub parts_of : List ℕ → List (List ℕ)
-parts_of text = slice_split (λ b. b == LINE_FEED) text
+parts_of text = slice_split is_line_end text
 
 -- the parts, numbered from a number on
 unfoldable pub lines_from : ℕ → List ℕ → List (ℕ × List ℕ)

@@ -4,7 +4,8 @@ use Rattle.std.specs.Int.{is_negative}
 use Rattle.std.specs.Option.{option_map_or, option_to_list}
 use Rattle.stn_time.specs.declared.reading.TimeFault.{TimeFault}
 use Rattle.stn_time.specs.TimeOf.{time_of}
-use Rattle.stn_plan.specs.declared.TheConstants.{MAX_TEXT, MAX_STEPS}
+pub use Rattle.stn_text.specs.Bytes.{most_text}
+pub use Rattle.stn_net.specs.Event.{most_steps}
 use Rattle.stn_plan.specs.declared.bytes.Mark.TheVariants.{Colon, Open, Close, OpenSquare, CloseSquare}
 use Rattle.stn_plan.specs.declared.fault.PlanFault.{PlanFault}
 use Rattle.stn_plan.specs.declared.fault.PlanFault.TheVariants.{TooLong, Syntax, Number, Negative, TooManySteps, Memory}
@@ -101,11 +102,11 @@ steps_of (line ∷ lines) =
 
 -- the steps, where they are no more than a plan may have
 unfoldable pub limited : List PlannedStep → Result (List PlannedStep) PlanFault
-limited steps = if nat_lt MAX_STEPS (length steps) then Err TooManySteps else Ok steps
+limited steps = if nat_lt most_steps (length steps) then Err TooManySteps else Ok steps
 
 -- the steps of a plan text, or its first fault
 unfoldable pub plan_of : List ℕ → Result (List PlannedStep) PlanFault
-plan_of text = if nat_lt MAX_TEXT (length text) then Err TooLong else (steps_of (lines_of text) >>= limited)
+plan_of text = if nat_lt most_text (length text) then Err TooLong else (steps_of (lines_of text) >>= limited)
 
 -- The fault is the one that the meaning gives, unless memory ran out.
 abbrev pub Fails : {Y : Type 0} → PlanFault → Result Y PlanFault → Type 0
@@ -134,6 +135,6 @@ pub record Contents : Type 0 where
 -- what every plan keeps to: its text gives its steps
 pub record IsPlan (plan : Contents) : Type 0 where
   pub given : plan_of plan.text ≡ Ok plan.steps
-  pub short : length plan.text ≤ MAX_TEXT
-  pub few : length plan.steps ≤ MAX_STEPS
+  pub short : length plan.text ≤ most_text
+  pub few : length plan.steps ≤ most_steps
   pub timely : All IsTimely plan.steps

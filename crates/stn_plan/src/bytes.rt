@@ -3,11 +3,7 @@
 ghost use Rattle.std.specs.Prelude.{◌≡◌};
 ghost use Rattle.stn_plan.specs.Bytes as spec;
 
-/// The byte that ends a line.
-pub const LINE_FEED: u8 = b'\n';
-
-/// The byte that begins a comment.
-pub const SEMICOLON: u8 = b';';
+use stn_text::{begins_comment, is_space, is_visible};
 
 /// A token of one byte.
 #[derive(Clone, Copy, Debug, PartialEq, Eq, Hash)]
@@ -39,20 +35,6 @@ pub enum Kind {
     Stray,
 }
 
-/// Whether the byte is a tab, a line feed, a vertical tab, a form feed, a carriage return or a space.
-pub fn is_space(byte: u8) -> bool
-    ensures { result ≡ spec.is_space byte }
-{
-    matches!(byte, 9..=13 | 32)
-}
-
-/// Whether the byte prints in ASCII and is no space.
-pub fn is_visible(byte: u8) -> bool
-    ensures { result ≡ spec.is_visible byte }
-{
-    33 <= byte && byte <= 126
-}
-
 /// What a byte is, outside comments.
 #[tactic(auto, unfolding(crate::specs::Bytes::kind_of))]
 pub fn kind_of(byte: u8) -> Kind
@@ -64,7 +46,7 @@ pub fn kind_of(byte: u8) -> Kind
         b')' => Kind::Mark(Mark::Close),
         b'[' => Kind::Mark(Mark::OpenSquare),
         b']' => Kind::Mark(Mark::CloseSquare),
-        SEMICOLON => Kind::Comment,
+        _ if begins_comment(byte) => Kind::Comment,
         _ if is_space(byte) => Kind::Space,
         _ if is_visible(byte) => Kind::Letter,
         _ => Kind::Stray,

@@ -10,7 +10,7 @@ use thiserror::Error;
 /// `Negative`.
 #[derive(Clone, Copy, Debug, PartialEq, Eq, Hash, Error)]
 pub enum PlanFault {
-    /// The text has more than `MAX_TEXT` bytes.
+    /// The text has more than 65,536 bytes.
     #[error("the plan is too long")]
     TooLong,
     /// This line has not the form of a step.
@@ -22,7 +22,7 @@ pub enum PlanFault {
     /// On this line a time is below 0.
     #[error("a negative time on line {0} of the plan")]
     Negative(u32),
-    /// No line has a fault, and there are more than `MAX_STEPS` steps.
+    /// No line has a fault, and there are more than 256 steps.
     #[error("the plan has too many steps")]
     TooManySteps,
     /// Out of memory.

@@ -13,9 +13,3 @@ mod tokens;
 pub use fault::PlanFault;
 pub use plan::Plan;
 pub use step::Step;
-
-/// The greatest number of bytes of a plan text.
-pub const MAX_TEXT: usize = 65_536;
-
-/// The greatest number of steps of a plan.
-pub const MAX_STEPS: usize = 256;

@@ -1,12 +1,13 @@
 //! The lines of a text.
 
-ghost use Rattle.std.specs.Prelude.{◌≡◌, ◌==◌, ◌-◌, ◌^◌, ◌<◌, ◌∷◌, [], length, MatchOption, IfSome};
+ghost use Rattle.std.specs.Prelude.{◌≡◌, ◌-◌, ◌^◌, ◌<◌, ◌∷◌, [], length, MatchOption, IfSome};
 ghost use Rattle.std.specs.List.{position};
 ghost use Rattle.std.specs.Option.{option_map_or};
 ghost use Rattle.stn_plan.specs.Lines.{lines_of, parts_of};
+ghost use Rattle.stn_text.specs.Lines.{is_line_end};
 
-use crate::bytes::LINE_FEED;
 use std::marker::Model;
+use stn_text::LINE_FEED;
 
 /// The lines of a text that are still to come, with their numbers.
 #[derive(Drop)]
@@ -29,7 +30,7 @@ impl<'a> Model for Lines<'a> {
 
 /// Where the first line feed stands.
 fn find_line_feed(text: &[u8]) -> Option<usize>
-    ensures { result ≡ position (λ b. b == LINE_FEED) text.now }
+    ensures { result ≡ position is_line_end text.now }
 {
     text.iter().position(|byte| *byte == LINE_FEED)
 }

@@ -1,16 +1,17 @@
 //! Plans, and how one is read from its text.
 
 ghost use Rattle.std.specs.Prelude.{◌≡◌, ◌≤◌, length, map, All, Ok, IfOk, IfErr};
-ghost use Rattle.stn_plan.specs.Steps.{Gives, IsTimely, steps_of, plan_of};
+ghost use Rattle.stn_plan.specs.Steps.{Gives, IsTimely, most_steps, most_text, steps_of, plan_of};
 ghost use Rattle.stn_plan.specs.Faults.{IsCause};
 ghost use Rattle.stn_plan.specs.Views.{planned_step};
 
 use crate::fault::PlanFault;
 use crate::lines::Lines;
 use crate::step::{Step, read_step};
-use crate::{MAX_STEPS, MAX_TEXT};
 use std::alloc::Allocator;
 use std::marker::Model;
+use stn_net::MOST_STEPS;
+use stn_text::is_too_long;
 
 /// A plan: its text, and its steps in the order of their lines. It borrows the text, and each name in it is a slice of
 /// the text.
@@ -60,11 +61,11 @@ impl<'a, A: Allocator + Copy> Plan<'a, A> {
         // The text is too long, or the first line with a fault has it, or there are too many steps.
         ensures cause { IfErr result (IsCause text.now) }
     {
-        if text.len() > MAX_TEXT {
+        if is_too_long(text) {
             return Err(PlanFault::TooLong);
         }
         let steps = read_steps(alloc, Lines::new(text))?;
-        if steps.len() > MAX_STEPS {
+        if steps.len() > usize::from(MOST_STEPS) {
             return Err(PlanFault::TooManySteps);
         }
         Ok(Plan { text, steps })
@@ -75,7 +76,7 @@ impl<'a, A: Allocator> Plan<'a, A> {
     /// The text that the plan was read from.
     pub fn text(&self) -> &'a [u8]
         ensures text { result.now ≡ self.now.text }
-        ensures short { length result.now ≤ MAX_TEXT }
+        ensures short { length result.now ≤ most_text }
     {
         self.text
     }
@@ -84,7 +85,7 @@ impl<'a, A: Allocator> Plan<'a, A> {
     pub fn steps(&self) -> &[Step<'a, A>]
         ensures steps { map planned_step result.now ≡ self.now.steps }
         ensures given { plan_of self.now.text ≡ Ok self.now.steps }
-        ensures few { length result.now ≤ MAX_STEPS }
+        ensures few { length result.now ≤ most_steps }
         ensures timely { All (λ step. IsTimely (planned_step step)) result.now }
     {
         &self.steps

@@ -1,7 +1,8 @@
-use crate::{MAX_STEPS, MAX_TEXT, Plan, PlanFault, Step};
+use crate::{Plan, PlanFault, Step};
 use std::alloc::{AllocError, Global};
 use std::process::Abort;
 use std::test::Fail;
+use stn_text::MOST_TEXT;
 use stn_time::Ms;
 
 // A step as a test expects it, with its times in milliseconds.
@@ -264,11 +265,11 @@ fn accepted(rt: HostRuntime) {
 #[test]
 fn limits(rt: HostRuntime) -> Result<(), Fail> {
     let alloc = rt.alloc();
-    let mut text = vec![in alloc; b' '; MAX_TEXT]?;
+    let mut text = vec![in alloc; b' '; MOST_TEXT]?;
     assert_steps(&rt, alloc, &text, &[]);
     text.push(b'\n')?;
     assert_fault(&rt, alloc, &text, PlanFault::TooLong);
-    let mut text = vec![in alloc; b'\n'; MAX_TEXT]?;
+    let mut text = vec![in alloc; b'\n'; MOST_TEXT]?;
     assert_steps(&rt, alloc, &text, &[]);
     text.pop();
     text.push(b'(')?;
@@ -276,11 +277,11 @@ fn limits(rt: HostRuntime) -> Result<(), Fail> {
     assert_fault(
         &rt,
         alloc,
-        &vec![in alloc; b'('; MAX_TEXT + 1]?,
+        &vec![in alloc; b'('; MOST_TEXT + 1]?,
         PlanFault::TooLong,
     );
 
-    let mut text = steps_text(alloc, MAX_STEPS)?;
+    let mut text = steps_text(alloc, 256)?;
     text.extend_from_slice(b"\n; no step\n")?;
     let plan = Plan::read(alloc, &text).ok().ok_or("refused")?;
     assert_eq!(&rt; plan.steps().len(), 256);

@@ -6,7 +6,7 @@ use Rattle.std.specs.FinMap.{get-entries}
 use Rattle.stn_records.specs.Maps.{differ}
 use Rattle.stn_records.specs.Record.{same_records}
 use Rattle.stn_records.specs.Sorted.{keys_of}
-use Rattle.stn_records.specs.Content.{dispute_records, dispute_contents, taken, is_within, IsSound, part_of, greatest_counter, next_counter}
+use Rattle.stn_records.specs.Content.{most_known, dispute_records, dispute_contents, taken, is_within, IsSound, part_of, greatest_counter, next_counter}
 use Rattle.stn_records.specs.ContentLaws.{contents_undisputed}
 use Rattle.stn_records.specs.Join.{passing}
 use Rattle.std.proofs.Common.{IfOk, IsErr, IsTrue}
@@ -15,7 +15,6 @@ use Rattle.std.proofs.lemmas.Bool.{cases_lt}
 use Rattle.std.proofs.lemmas.Bool.{leb-true, le-leb, eq-eqb}
 use Rattle.std.proofs.Common.{get_or, le_trans, eqb, nat_le, length-append}
 use Rattle.stn_records.proofs.Entries.{find_at}
-use Rattle.stn_records.specs.declared.TheConstants.{MOST_KNOWN}
 use Rattle.std.specs.FinMap.{is_sorted}
 use Rattle.std.specs.FinMap.Entries.{below_all}
 use Rattle.stn_records.proofs.Entries.{and_left, and_right, or_right, less_is}
@@ -33,7 +32,7 @@ use Rattle.stn_records.specs.declared.record.Record.{Record}
 use Rattle.stn_records.specs.Maps.{union}
 use Rattle.stn_records.specs.MapLaws.{get-union, either_value}
 use Rattle.stn_records.specs.JoinLaws.{join_is}
-use Rattle.stn_records.specs.Content.{RecordMap, IdSet, Content, Item, addition, withdrawal, HasItem, AllProper, same_ids, known_ids, known_count, known_in_both, is_known, join_contents, joined_contents, with_record, with_tombstone, one_record, one_tombstone, no_content}
+use Rattle.stn_records.specs.Content.{most_known, RecordMap, IdSet, Content, Item, addition, withdrawal, HasItem, AllProper, same_ids, known_ids, known_count, known_in_both, is_known, join_contents, joined_contents, with_record, with_tombstone, one_record, one_tombstone, no_content}
 use Rattle.stn_records.specs.ContentLaws.{ids_total, ids_exact, contents_join}
 
 -- ---- how many ids are known
@@ -293,7 +292,7 @@ module _ (s t : Content) (id : SiteCounter) (more : (q : SiteCounter) → is_kno
   cons_count : distinct_count same_ids (id ∷ known_ids s) ≡ known_count t
   cons_count = same_count (id ∷ known_ids s) (known_ids t) (λ q. ap (λ m. same_ids q id || m) (known_member s q) ∙ sym (more q) ∙ sym (known_member t q))
 
-  known_more : (b : Bool) → is_known s id ≡ b → (b ≡ false → known_count s < MOST_KNOWN) → known_count s ≤ MOST_KNOWN → known_count t ≤ MOST_KNOWN
+  known_more : (b : Bool) → is_known s id ≡ b → (b ≡ false → known_count s < most_known) → known_count s ≤ most_known → known_count t ≤ most_known
   known_more true k room most =
       let member : is_member same_ids (known_ids s) id ≡ true = known_member s id ∙ k in
       let same : distinct_count same_ids (id ∷ known_ids s) ≡ known_count s = ap (λ m. length (cond m (unique_keys same_ids (known_ids s)) (id ∷ unique_keys same_ids (known_ids s)))) member in
@@ -303,10 +302,10 @@ module _ (s t : Content) (id : SiteCounter) (more : (q : SiteCounter) → is_kno
       let left = room refl in
       omega (arith, cons_count, one, left)
 
-pub record_limited : (s : Content) (id : SiteCounter) (r : Record) → (is_known s id ≡ false → known_count s < MOST_KNOWN) → known_count s ≤ MOST_KNOWN → known_count (with_record s id r) ≤ MOST_KNOWN
+pub record_limited : (s : Content) (id : SiteCounter) (r : Record) → (is_known s id ≡ false → known_count s < most_known) → known_count s ≤ most_known → known_count (with_record s id r) ≤ most_known
 record_limited s id r room most = known_more s (with_record s id r) id (with_member s id r) (is_known s id) refl room most
 
-pub tombstone_limited : (s : Content) (id : SiteCounter) → (is_known s id ≡ false → known_count s < MOST_KNOWN) → known_count s ≤ MOST_KNOWN → known_count (with_tombstone s id) ≤ MOST_KNOWN
+pub tombstone_limited : (s : Content) (id : SiteCounter) → (is_known s id ≡ false → known_count s < most_known) → known_count s ≤ most_known → known_count (with_tombstone s id) ≤ most_known
 tombstone_limited s id room most = known_more s (with_tombstone s id) id (tombed_member s id) (is_known s id) refl room most
 
 pub part_limited : (s : Content) (p q : SiteCounter → Bool) → known_count (record { additions = fin.retain_keys s.additions p; tombstones = fin.retain_keys s.tombstones q }) ≤ known_count s
@@ -319,7 +318,7 @@ part_limited s p q = known_fewer (record { additions = fin.retain_keys s.additio
 nothing_known : (q : SiteCounter) → is_member same_ids (known_ids no_content) q ≡ false
 nothing_known q = known_member no_content q ∙ (λ i. is_some (get-empty {X = Record} id_cmp q i) || is_some (get-empty {X = Unit {0}} id_cmp q i))
 
-pub empty_limited : known_count no_content ≤ MOST_KNOWN
+pub empty_limited : known_count no_content ≤ most_known
 empty_limited = let none = fewer (known_ids no_content) [] (λ q m. absurd (false≢true (sym (nothing_known q) ∙ m))) in omega (arith, none)
 
 -- ---- what the calls leave
@@ -331,11 +330,11 @@ module _ (s : Content) (x : RecordMap) (y : IdSet) (seen : record { additions = 
   pub added_is : (id : SiteCounter) (r : Record) (new : RecordMap) → new ≡ fin.insert x id r → with_record s id r ≡ record { additions = new; tombstones = y }
   added_is id r new is = ap (λ (t : Content). with_record t id r) (sym seen) ∙ (λ i. record { additions = sym is i; tombstones = y })
 
-  pub withdrawn_sound : {T E : Type 0} (result : Result T E) (id : SiteCounter) (new : IdSet) → OnOk result (new ≡ fin.insert y id tt) → OnErr result (new ≡ y) → IsSound s → (is_known s id ≡ false → known_count s < MOST_KNOWN) → IsSound (record { additions = x; tombstones = new })
+  pub withdrawn_sound : {T E : Type 0} (result : Result T E) (id : SiteCounter) (new : IdSet) → OnOk result (new ≡ fin.insert y id tt) → OnErr result (new ≡ y) → IsSound s → (is_known s id ≡ false → known_count s < most_known) → IsSound (record { additions = x; tombstones = new })
   withdrawn_sound (Ok v) id new is kept sound room = subst IsSound (withdrawn_is id new is) (record { proper = sound.proper; limited = tombstone_limited s id room sound.limited })
   withdrawn_sound (Err e) id new is kept sound room = subst IsSound (sym seen ∙ (λ i. record { additions = x; tombstones = sym kept i })) sound
 
-  pub added_sound : {T E : Type 0} (result : Result T E) (id : SiteCounter) (r : Record) (new : RecordMap) → OnOk result (new ≡ fin.insert x id r) → OnErr result (new ≡ x) → IsSound s → IsProper r.mark r.bound → (is_known s id ≡ false → known_count s < MOST_KNOWN) → IsSound (record { additions = new; tombstones = y })
+  pub added_sound : {T E : Type 0} (result : Result T E) (id : SiteCounter) (r : Record) (new : RecordMap) → OnOk result (new ≡ fin.insert x id r) → OnErr result (new ≡ x) → IsSound s → IsProper r.mark r.bound → (is_known s id ≡ false → known_count s < most_known) → IsSound (record { additions = new; tombstones = y })
   added_sound (Ok v) id r new is kept sound proper room = subst IsSound (added_is id r new is) (record { proper = insert_proper s.additions id r sound.proper proper; limited = record_limited s id r room sound.limited })
   added_sound (Err e) id r new is kept sound proper room = subst IsSound (sym seen ∙ (λ i. record { additions = sym kept i; tombstones = y })) sound
 
@@ -346,10 +345,10 @@ module _ (s : Content) (x : RecordMap) (y : IdSet) (seen : record { additions = 
   seen_record id o is = is ∙ ap (λ (t : Content). fin.get t.additions id) seen
 
   -- too few entries for the most ids
-  pub not_full : (es : List (SiteCounter × Record)) (ts : List (SiteCounter × Unit {0})) → es ≡ fin.entries x → ts ≡ fin.entries y → length es + length ts < MOST_KNOWN → known_count s < MOST_KNOWN
+  pub not_full : (es : List (SiteCounter × Record)) (ts : List (SiteCounter × Unit {0})) → es ≡ fin.entries x → ts ≡ fin.entries y → length es + length ts < most_known → known_count s < most_known
   not_full es ts p q few =
-      let here : known_count (record { additions = x; tombstones = y }) < MOST_KNOWN = omega (arith, known_within (record { additions = x; tombstones = y }), ap length p, ap length q) in
-      subst (λ t. known_count t < MOST_KNOWN) seen here
+      let here : known_count (record { additions = x; tombstones = y }) < most_known = omega (arith, known_within (record { additions = x; tombstones = y }), ap length p, ap length q) in
+      subst (λ t. known_count t < most_known) seen here
 
 -- an id of a record or a tombstone is known
 pub known_by_record : (s : Content) (id : SiteCounter) → fin.contains_key s.additions id ≡ true → is_known s id ≡ true
@@ -358,35 +357,35 @@ known_by_record s id e = or_left _ _ e
 pub known_by_tombstone : (s : Content) (id : SiteCounter) → fin.contains_key s.tombstones id ≡ true → is_known s id ≡ true
 known_by_tombstone s id e = or_right _ _ e
 
-pub no_room_needed : (s : Content) (id : SiteCounter) → is_known s id ≡ true → is_known s id ≡ false → known_count s < MOST_KNOWN
+pub no_room_needed : (s : Content) (id : SiteCounter) → is_known s id ≡ true → is_known s id ≡ false → known_count s < most_known
 no_room_needed s id known unknown = absurd (false≢true (sym unknown ∙ known))
 
 -- where not the most ids are known, there is room
-pub room_left : (s : Content) (full : Bool) → (IsTrue full ↔ (known_count s ≡ MOST_KNOWN)) → known_count s ≤ MOST_KNOWN → full ≡ false → known_count s < MOST_KNOWN
-room_left s full is most spare = ⊎_elim (λ few. few) (λ many. absurd (false≢true (sym spare ∙ is.1 (omega arith)))) (cases_lt (known_count s) MOST_KNOWN)
+pub room_left : (s : Content) (full : Bool) → (IsTrue full ↔ (known_count s ≡ most_known)) → known_count s ≤ most_known → full ≡ false → known_count s < most_known
+room_left s full is most spare = ⊎_elim (λ few. few) (λ many. absurd (false≢true (sym spare ∙ is.1 (omega arith)))) (cases_lt (known_count s) most_known)
 
 -- the dispute of two contents that are seen as their parts
 pub seen_dispute : (s t : Content) (x u : RecordMap) (y v : IdSet) → record { additions = x; tombstones = y } ≡ s → record { additions = u; tombstones = v } ≡ t → (o : Option SiteCounter) → o ≡ dispute_records x u → o ≡ dispute_contents s t
 seen_dispute s t x u y v p q o is = is ∙ (λ i. dispute_contents (p i) (q i))
 
 -- a join that knows too much is refused
-pub too_many : (s t : Content) → dispute_contents s t ≡ None → MOST_KNOWN < known_in_both s t → taken s t ≡ None
+pub too_many : (s t : Content) → dispute_contents s t ≡ None → most_known < known_in_both s t → taken s t ≡ None
 too_many s t none many =
-    let wide : MOST_KNOWN < known_count (joined_contents s t) = omega (arith, together s t, many) in
+    let wide : most_known < known_count (joined_contents s t) = omega (arith, together s t, many) in
     ap (option_and_then (passing is_within)) (contents_undisputed s t none)
-    ∙ ap (λ b. cond b (Some (joined_contents s t)) None) (lt-leb-false (known_count (joined_contents s t)) MOST_KNOWN wide)
+    ∙ ap (λ b. cond b (Some (joined_contents s t)) None) (lt-leb-false (known_count (joined_contents s t)) most_known wide)
   where
     lt-leb-false : (a b : ℕ) → b < a → nat_le a b ≡ false
     lt-leb-false a b h = elim (nat_le a b) as (λ v. nat_le a b ≡ v → v ≡ false) [ true ↦ λ e. let w : a ≤ b = leb-true a b e in absurd (omega arith) | false ↦ λ e. refl ] refl
 
 -- and one within the limit is what a take leaves
-pub taken_is : (s t all : Content) → dispute_contents s t ≡ None → known_in_both s t ≤ MOST_KNOWN → all ≡ joined_contents s t → taken s t ≡ Some all
+pub taken_is : (s t all : Content) → dispute_contents s t ≡ None → known_in_both s t ≤ most_known → all ≡ joined_contents s t → taken s t ≡ Some all
 taken_is s t all none few is =
-    let within : known_count (joined_contents s t) ≤ MOST_KNOWN = omega (arith, together s t, few) in
+    let within : known_count (joined_contents s t) ≤ most_known = omega (arith, together s t, few) in
     ap (option_and_then (passing is_within)) (contents_undisputed s t none)
-    ∙ ap (λ b. cond b (Some (joined_contents s t)) None) (le-leb (known_count (joined_contents s t)) MOST_KNOWN within) ∙ ap Some (sym is)
+    ∙ ap (λ b. cond b (Some (joined_contents s t)) None) (le-leb (known_count (joined_contents s t)) most_known within) ∙ ap Some (sym is)
 
-pub joined_sound : (s t all : Content) → IsSound s → IsSound t → known_in_both s t ≤ MOST_KNOWN → all ≡ joined_contents s t → IsSound all
+pub joined_sound : (s t all : Content) → IsSound s → IsSound t → known_in_both s t ≤ most_known → all ≡ joined_contents s t → IsSound all
 joined_sound s t all p q few is = subst IsSound (sym is) (record { proper = union_proper s.additions t.additions p.proper q.proper; limited = omega (arith, together s t, few) })
 
 pub part_sound : (s part : Content) (records tombstones : List SiteCounter) → IsSound s → part ≡ part_of s records tombstones → IsSound part

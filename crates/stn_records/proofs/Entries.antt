@@ -1,8 +1,9 @@
 -- Lists of entries whose keys rise: what is found in them, and in their merge.
-use Rattle.std.proofs.Common.{◌≡◌, ℕ, zero, suc, ◌<◌, ◌≤◌, Bool, true, false, cond, ◌&&◌, ◌||◌, T, List, [], ◌∷◌, ◌++◌, length, get_or, take, drop, Option, Some, None, Ordering, Less, Equal, Greater, is_lt, is_eq, sym, refl, ap, subst, ◌∙◌, inl, inr, arith, add-one, ◌⊎◌, append_assoc, append-nil, ◌-◌, length-drop, take_all}
+use Rattle.std.proofs.Common.{◌≡◌, ℕ, zero, suc, ◌+◌, ◌<◌, ◌≤◌, Bool, true, false, cond, ◌&&◌, ◌||◌, T, List, [], ◌∷◌, ◌++◌, length, get_or, take, drop, Option, Some, None, Ordering, Less, Equal, Greater, is_lt, is_eq, sym, refl, ap, subst, ◌∙◌, inl, inr, arith, add-one, ◌⊎◌, append_assoc, append-nil, ◌-◌, length-drop, take_all}
 use Rattle.std.proofs.lemmas.Bool.{false≢true}
 use Rattle.std.specs.Option.{option_or}
-use Rattle.std.specs.List.{insert}
+use Rattle.std.specs.List.{insert, IsAllAdjacentAnswer}
+use Rattle.std.specs.Prelude.{IsTrue, ◌↔◌}
 use Rattle.std.specs.List.Sorted.{IsSortedBy}
 use Rattle.std.specs.Ordering.{eq_by_cmp, ordering_reverse}
 use Rattle.std.specs.Cmp.{IsTotalOrder, alike_right, tied_back, Equal-is}
@@ -86,6 +87,33 @@ module _ {K X : Type 0} {R : K → K → Ordering} (o : IsTotalOrder R) where
   -- neighbours rise
   pub neighbours_rise : (es : List (K × X)) → is_sorted R es ≡ true → IsSortedBy (λ a b. is_lt (R a.0 b.0)) es
   neighbours_rise es h k d low high = rw add-one (next_rises es h k d (omega arith))
+
+  -- entries whose neighbours rise are in order, and those of a list in order rise
+  pub risen : (es : List (K × X)) → ((k : ℕ) (d : K × X) → k + 1 < length es → true ≡ is_lt (R (get_or es k d).0 (get_or es (k + 1) d).0)) → is_sorted R es ≡ true
+  risen [] h = refl
+  risen (e ∷ []) h = refl
+  risen (e ∷ f ∷ es) h =
+      let first : is_lt (R e.0 f.0) ≡ true = sym (h 0 e (omega arith)) in
+      let rest = risen (f ∷ es) (λ k d l. rw add-one (rw add-one at (h (suc k) d (omega arith)))) in
+      and_both _ _ (and_both _ _ first (below_less e.0 f.0 es (less_is _ first) (and_left _ _ rest))) rest
+
+  pub rising_on : (es : List (K × X)) → is_sorted R es ≡ true → (k : ℕ) (d : K × X) → suc k < length es → is_lt (R (get_or es k d).0 (get_or es (suc k) d).0) ≡ true
+  rising_on [] h k d high = absurd (omega arith)
+  rising_on (e ∷ []) h k d high = absurd (omega arith)
+  rising_on (e ∷ f ∷ es) h zero d high = and_left _ _ (and_left _ _ h)
+  rising_on (e ∷ f ∷ es) h (suc k) d high = rising_on (f ∷ es) (and_right _ _ h) k d (omega arith)
+
+  -- a test of neighbours tells whether the entries are in order
+  pub rising_test : (es : List (K × X)) (r : Bool) → IsAllAdjacentAnswer (λ x y b. b ≡ is_lt (R x.0 y.0)) es r → IsTrue r ↔ IsTrue (is_sorted R es)
+  rising_test es true h = (λ _. risen es h, λ _. refl)
+  rising_test es false h = (
+    λ f. absurd (false≢true f),
+    λ sorted. absurd (no_fall es h sorted),
+  )
+    where
+      no_fall : (es : List (K × X)) → (k : ℕ) × (k + 1 < length es) × ((d : K × X) → false ≡ is_lt (R (get_or es k d).0 (get_or es (k + 1) d).0)) → is_sorted R es ≡ true → ⊥
+      no_fall [] h sorted = omega (arith, h.1)
+      no_fall (e ∷ es) h sorted = false≢true (h.2 e ∙ rw add-one (rising_on (e ∷ es) sorted h.0 e (omega (arith, h.1))))
 
   -- a key at a place is above a key below each
   pub above_at : (x : K) (es : List (K × X)) → below_all R x es ≡ true → (at : ℕ) (d : K × X) → at < length es → R x (get_or es at d).0 ≡ Less

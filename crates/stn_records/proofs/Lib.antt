@@ -1,4 +1,5 @@
 pub mod Entries
+pub mod Lists
 pub mod Places
 pub mod Disputes
 pub mod Contents

@@ -3,13 +3,14 @@ use Rattle.std.proofs.Common.{◌≡◌, ◌<◌, Bool, T, Equal, ℕ, zero, suc
 use Rattle.std.specs.List.Sorted.{IsSearchInRange, IsBinarySearchResult, IsSorted, IsPermutation}
 use Rattle.std.specs.Cmp.{tied_back}
 use Rattle.std.proofs.Common.{◌||◌}
+use Rattle.std.specs.Prelude.{◌↔◌}
 use Rattle.std.proofs.lemmas.List.{get_or_default}
 use Rattle.std.proofs.lemmas.Bool.{false≢true, cases_lt}
 use Rattle.std.specs.Option.{option_or, is_some}
 use Rattle.std.specs.List.{insert}
 use Rattle.std.specs.Set.{is_member}
 use Rattle.std.specs.FinMap as fin
-use Rattle.std.specs.FinMap.{FinMap, is_sorted, put, entries-from_sorted, get-from_sorted, entries-insert, same_entries_map, same_map, get-retain_keys, empty_of_len, len-entries}
+use Rattle.std.specs.FinMap.{FinMap, is_sorted, put, entries-from_sorted, get-from_sorted, entries-insert, entries_sorted, same_entries_map, same_map, get-retain_keys, empty_of_len, len-entries}
 use Rattle.std.specs.FinMap.Entries.{is_sorted-put, is_sorted-where_key, find-where_key}
 use Rattle.std.proofs.lemmas.List.Sorted.{searchable_from_sorted, list_any-IsPermutation}
 use Rattle.std.proofs.lemmas.List.Elements.{filter_agree}
@@ -52,6 +53,14 @@ module _ {X : Type 0} where
   -- the entries of the map of a list in order
   pub entries_of_sorted : (es : List (SiteCounter × X)) (m : FinMap id_cmp X) → is_sorted id_cmp es ≡ true → fin.from_sorted es ≡ m → fin.entries m ≡ es
   entries_of_sorted es m sorted is = ap fin.entries (sym is) ∙ entries-from_sorted id_cmp es (holds _ sorted)
+
+  -- the map of the entries, where they are in order
+  pub map_of_sorted : (es seen : List (SiteCounter × X)) → seen ≡ es → is_sorted id_cmp seen ≡ true → fin.entries (fin.from_sorted {R = id_cmp} es) ≡ es
+  map_of_sorted es seen same sorted = entries-from_sorted id_cmp es (holds _ (ap (is_sorted id_cmp) (sym same) ∙ sorted))
+
+  -- and no map has them where they are not
+  pub no_map : (es seen : List (SiteCounter × X)) → seen ≡ es → (b : Bool) → (b ≡ true ↔ is_sorted id_cmp seen ≡ true) → b ≡ false → (m : FinMap id_cmp X) → fin.entries m ≡ es → ⊥
+  no_map es seen same b tells f m is = false≢true (sym f ∙ tells.1 (ap (is_sorted id_cmp) (same ∙ sym is) ∙ T_true _ (entries_sorted m)))
 
   -- what the map has of an id is what is found in the list
   pub get_of_sorted : (es : List (SiteCounter × X)) (m : FinMap id_cmp X) (id : SiteCounter) → is_sorted id_cmp es ≡ true → fin.from_sorted es ≡ m → fin.get m id ≡ fin.find id_cmp id es

@@ -13,7 +13,10 @@ use Rattle.stn_records.specs.Maps as maps
 use Rattle.stn_records.specs.Join.{join_within}
 use Rattle.stn_records.specs.declared.record.Mark.{Mark}
 use Rattle.stn_records.specs.declared.record.Record.{Record}
-use Rattle.stn_records.specs.declared.TheConstants.{MOST_KNOWN}
+
+-- a replica knows at most so many ids
+abbrev pub most_known : ℕ
+most_known = 4096
 
 -- a map from ids to records, and a set of ids
 abbrev pub RecordMap : Type 0
@@ -105,7 +108,7 @@ known_in_both a b = distinct_count same_ids (known_ids a ++ known_ids b)
 
 -- what a take leaves: the join, where it is there and knows no more ids than the most
 abbrev pub is_within : Content → Bool
-is_within s = nat_le (known_count s) MOST_KNOWN
+is_within s = nat_le (known_count s) most_known
 
 abbrev pub taken : Content → Content → Option Content
 taken = join_within is_within join_contents
@@ -163,4 +166,4 @@ AllHeld m ids = All (λ id. IsTrue (map.contains_key m id)) ids
 -- what is true of each content of a site: its Done records are proper, and it knows no more ids than the most
 pub record IsSound (s : Content) : Type 0 where
   pub proper : AllProper s.additions
-  pub limited : known_count s ≤ MOST_KNOWN
+  pub limited : known_count s ≤ most_known

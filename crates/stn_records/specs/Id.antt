@@ -2,12 +2,19 @@ use Rattle.std.specs.Prelude.{◌≡◌, ◌≢◌, ℕ, ◌≤◌, List, ◌∷
 use Rattle.std.specs.Coded.{Coded, code_by, coded×, coded_ℕ}
 use Rattle.std.specs.Ordering.{nat_cmp, ordering_then}
 use Rattle.std.specs.declared.cmp.Ordering.{Ordering}
-use Rattle.stn_records.specs.declared.id.TheConstants.{MOST_SITES}
+
+-- sites are numbered from 1 to this
+abbrev pub most_sites : ℕ
+most_sites = 64
+
+-- and the records of each are counted from 1 to this
+abbrev pub most_counter : ℕ
+most_counter = 65535
 
 -- the number of a site lies from 1 to the most sites
 pub record IsSite (number : ℕ) : Type 0 where
   pub least : 1 ≤ number
-  pub most : number ≤ MOST_SITES
+  pub most : number ≤ most_sites
 
 -- an id as two numbers: the site that made a record, and that site's counter
 pub record SiteCounter : Type 0 where
@@ -18,7 +25,7 @@ pub record SiteCounter : Type 0 where
 pub record IsId (id : SiteCounter) : Type 0 where
   pub site : IsSite id.site
   pub least : 1 ≤ id.counter
-  pub most : id.counter ≤ 65535
+  pub most : id.counter ≤ most_counter
 
 -- by site, and then by counter
 abbrev pub id_cmp : SiteCounter → SiteCounter → Ordering

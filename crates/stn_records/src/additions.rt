@@ -1,15 +1,15 @@
-ghost use Rattle.std.specs.Prelude.{◌≡◌, ◌↔◌, None, IfOk, OnOk, OnErr, IsTrue};
+ghost use Rattle.std.specs.Prelude.{◌≡◌, ◌↔◌, Some, None, IfSome, IfOk, OnOk, OnErr, IsTrue, All};
 ghost use Rattle.std.specs.FinMap as map;
 ghost use Rattle.stn_records.specs.Maps.{union as union_of};
 ghost use Rattle.stn_records.specs.Id.{id_cmp};
 ghost use Rattle.stn_records.specs.Record.{IsProper};
-ghost use Rattle.stn_records.specs.Content.{dispute_records, join_records, same_ids, AllHeld, AllProper};
+ghost use Rattle.stn_records.specs.Content.{RecordMap, dispute_records, join_records, same_ids, AllHeld, AllProper};
 ghost use Rattle.std.specs.Set.{is_member};
 
 use crate::id::Id;
 use crate::id_map::IdMap;
 use crate::join::{Join, JoinFault};
-use crate::record::Record;
+use crate::record::{Record, is_proper};
 use crate::sorted::first_dispute;
 use std::alloc::Allocator;
 use std::marker::Model;
@@ -41,6 +41,18 @@ impl<A: Allocator + Copy> Additions<A> {
         Additions {
             records: IdMap::new(alloc),
         }
+    }
+
+    // The records of these entries, where their ids rise and each Done record is proper.
+    pub(crate) fn from_entries(entries: Vec<(Id, Record), A>) -> Option<Self>
+        ensures made { IfSome result (λ made. map.entries made ≡ entries.items) }
+        ensures all { (m : RecordMap) → AllProper m → map.entries m ≡ entries.items → result ≡ Some m }
+    {
+        if !are_proper(&entries) {
+            return None;
+        }
+        let records = IdMap::from_entries(entries)?;
+        Some(Additions { records })
     }
 
     /// The entries, in order of id.
@@ -113,6 +125,12 @@ impl<A: Allocator + Copy> Additions<A> {
     pub(crate) fn allocator(&self) -> A {
         self.records.allocator()
     }
+}
+
+fn are_proper(entries: &[(Id, Record)]) -> bool
+    ensures { IsTrue result ↔ All (λ entry. IsProper entry.1.mark entry.1.bound) entries.now }
+{
+    entries.iter().all(|entry| is_proper(&entry.1))
 }
 
 impl<A: Allocator + Copy> Join for Additions<A> {

@@ -1,4 +1,4 @@
-ghost use Rattle.std.specs.Prelude.{◌≡◌, ◌↔◌, IsTrue, None, IfOk, OnOk, OnErr};
+ghost use Rattle.std.specs.Prelude.{◌≡◌, ◌↔◌, IsTrue, Some, None, IfSome, IfOk, OnOk, OnErr};
 ghost use Rattle.std.specs.Set.{is_member};
 ghost use Rattle.std.specs.FinMap.{is_sorted};
 ghost use Rattle.std.specs.FinMap as map;
@@ -7,7 +7,7 @@ ghost use Rattle.stn_records.specs.Maps.{union as union_of};
 ghost use Rattle.stn_records.specs.Content.{same_ids, AllHeld};
 
 use crate::id::Id;
-use crate::sorted::{kept, merged, place_of};
+use crate::sorted::{is_rising, kept, merged, place_of};
 use std::alloc::Allocator;
 use std::marker::Model;
 use stn_time::Memory;
@@ -38,6 +38,18 @@ impl<X: Copy, A: Allocator + Copy> IdMap<X, A> {
     {
         IdMap {
             entries: Vec::new(alloc),
+        }
+    }
+
+    // The map with these entries, where their ids rise.
+    pub(crate) fn from_entries(entries: Vec<(Id, X), A>) -> Option<Self>
+        ensures made { IfSome result (λ made. map.entries made ≡ entries.items) }
+        ensures all { (m : map.FinMap id_cmp X) → map.entries m ≡ entries.items → result ≡ Some m }
+    {
+        if is_rising(&entries) {
+            Some(IdMap { entries })
+        } else {
+            None
         }
     }
 

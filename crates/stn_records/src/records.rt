@@ -1,15 +1,17 @@
 ghost use Rattle.std.specs.Prelude.{◌≡◌, ◌≢◌, ◌+◌, ◌<◌, ◌≤◌, ◌↔◌, IsTrue, Some, None, true, false, map, slice_get, option_map, is_some, IfOk, IfErr, IfSome, IsOk, Err, IsErr, IsErrOf, OnOk, OnErr};
 ghost use Rattle.std.specs.FinMap as fin;
-ghost use Rattle.stn_records.specs.Id.{SiteCounter};
+ghost use Rattle.stn_records.specs.Id.{most_counter, SiteCounter};
 ghost use Rattle.stn_records.specs.Record.{IsProper};
-ghost use Rattle.stn_records.specs.Content.{Content, IsSound, AllHeld, no_content, one_record, one_tombstone, with_record, with_tombstone, is_known, is_live as is_live_in, known_count, known_in_both, live_of, listed, next_counter as next_counter_of, part_of, dispute_contents, join_contents, taken as taken_of, HasAnother};
+ghost use Rattle.stn_records.specs.Content.{most_known, Content, IsSound, AllHeld, no_content, one_record, one_tombstone, with_record, with_tombstone, is_known, is_live as is_live_in, known_count, known_in_both, live_of, listed, next_counter as next_counter_of, part_of, dispute_contents, join_contents, taken as taken_of, HasAnother};
 
 use crate::MOST_KNOWN;
+use crate::additions::Additions;
 use crate::faults::{BuryFault, CounterSpent, PartFault, RecordsFault, WithdrawFault};
 use crate::id::{Id, Site};
 use crate::record::{Mark, Record, is_same};
 use crate::sorted::{count_ids, greatest_counter};
 use crate::state::State;
+use crate::tombstones::Tombstones;
 use std::alloc::Allocator;
 use std::marker::Model;
 use stn_net::Bound;
@@ -23,7 +25,7 @@ pub struct Records<A: Allocator> {
 }
 
 impl<A: Allocator> Model for Records<A> {
-    ghost use Rattle.stn_records.specs.Content.{Content, coded_content, IsSound};
+    ghost use Rattle.stn_records.specs.Content.{most_known, Content, coded_content, IsSound};
 
     ghost Value = { Content };
 
@@ -42,6 +44,28 @@ impl<A: Allocator + Copy> Records<A> {
         Records {
             state: State::new(alloc),
         }
+    }
+
+    /// The records and the withdrawn ids of two lists, each of them in order of id. None exactly where
+    /// no site holds these lists: where ids don't rise, a Done record is not one of a time at which
+    /// an event was run, or more than 4,096 ids are known. It takes linear time, and no memory.
+    pub fn from_lists(
+        additions: Vec<(Id, Record), A>,
+        tombstones: Vec<(Id, ()), A>,
+    ) -> Option<Records<A>>
+        ensures additions { IfSome result (λ made. fin.entries made.additions ≡ additions.items) }
+        ensures tombstones { IfSome result (λ made. fin.entries made.tombstones ≡ tombstones.items) }
+        ensures sound { IfSome result IsSound }
+        ensures all { (s : Content) → IsSound s → fin.entries s.additions ≡ additions.items → fin.entries s.tombstones ≡ tombstones.items → result ≡ Some s }
+    {
+        let state = State {
+            additions: Additions::from_entries(additions)?,
+            tombstones: Tombstones::from_entries(tombstones)?,
+        };
+        if state.known() > MOST_KNOWN {
+            return None;
+        }
+        Some(Records { state })
     }
 
     /// The state that is held.
@@ -65,7 +89,7 @@ impl<A: Allocator + Copy> Records<A> {
 
         ensures clash { (other : SiteCounter) → result ≡ Err (RecordsFault.Clash other) → other ≡ id }
         ensures refused { IsErrOf result (RecordsFault.Clash id) ↔ HasAnother (fin.get self.old.additions id) (record { mark = mark; bound = bound }) }
-        ensures full { IsErrOf result RecordsFault.Full ↔ (is_known self.old id ≡ false) × (known_count self.old ≡ MOST_KNOWN) }
+        ensures full { IsErrOf result RecordsFault.Full ↔ (is_known self.old id ≡ false) × (known_count self.old ≡ most_known) }
         ensures kept { OnErr result (self.new ≡ self.old) }
     {
         let added = Record { mark, bound };
@@ -118,7 +142,7 @@ impl<A: Allocator + Copy> Records<A> {
         ensures joined { OnOk result (join_contents self.old (one_tombstone id) ≡ Some self.new) }
         ensures again { fin.contains_key self.old.tombstones id ≡ true → IsOk result × (self.new ≡ self.old) }
 
-        ensures full { IsErrOf result BuryFault.Full ↔ (is_known self.old id ≡ false) × (known_count self.old ≡ MOST_KNOWN) }
+        ensures full { IsErrOf result BuryFault.Full ↔ (is_known self.old id ≡ false) × (known_count self.old ≡ most_known) }
         ensures kept { OnErr result (self.new ≡ self.old) }
     {
         if self.state.tombstones.contains(id) {
@@ -137,7 +161,7 @@ impl<A: Allocator + Copy> Records<A> {
         ensures taken { IfOk result (λ all. taken_of self.now other.now ≡ Some all) }
 
         ensures clash { (id : SiteCounter) → (result ≡ Err (RecordsFault.Clash id)) ↔ (dispute_contents self.now other.now ≡ Some id) }
-        ensures full { IsErrOf result RecordsFault.Full ↔ (dispute_contents self.now other.now ≡ None) × (MOST_KNOWN < known_in_both self.now other.now) }
+        ensures full { IsErrOf result RecordsFault.Full ↔ (dispute_contents self.now other.now ≡ None) × (most_known < known_in_both self.now other.now) }
         ensures refused { IfErr result (λ fault. fault ≢ RecordsFault.Memory → taken_of self.now other.now ≡ None) }
     {
         if let Some(id) = self.state.additions.dispute(&other.state.additions) {
@@ -159,7 +183,7 @@ impl<A: Allocator + Copy> Records<A> {
         ensures taken { OnOk result (taken_of self.old other.now ≡ Some self.new) }
 
         ensures clash { (id : SiteCounter) → (result ≡ Err (RecordsFault.Clash id)) ↔ (dispute_contents self.old other.now ≡ Some id) }
-        ensures full { IsErrOf result RecordsFault.Full ↔ (dispute_contents self.old other.now ≡ None) × (MOST_KNOWN < known_in_both self.old other.now) }
+        ensures full { IsErrOf result RecordsFault.Full ↔ (dispute_contents self.old other.now ≡ None) × (most_known < known_in_both self.old other.now) }
         ensures refused { IfErr result (λ fault. fault ≢ RecordsFault.Memory → taken_of self.old other.now ≡ None) }
         ensures kept { OnErr result (self.new ≡ self.old) }
     {
@@ -215,7 +239,7 @@ impl<A: Allocator + Copy> Records<A> {
     /// withdrawn ones too, or 1. Refused where it would pass 65,535.
     pub fn next_counter(&self, site: Site) -> Result<u16, CounterSpent>
         ensures next { IfOk result (λ counter. counter ≡ next_counter_of self.now site) }
-        ensures spent { IsErr result ↔ (65535 < next_counter_of self.now site) }
+        ensures spent { IsErr result ↔ (most_counter < next_counter_of self.now site) }
         ensures new { IfOk result (λ counter. is_known self.now (record { site = site; counter = counter }) ≡ false) }
     {
         let added = greatest_counter(self.state.additions.entries(), site);
@@ -226,20 +250,15 @@ impl<A: Allocator + Copy> Records<A> {
     /// How many ids are known.
     pub fn known(&self) -> usize
         ensures count { result ≡ known_count self.now }
-        ensures most { result ≤ MOST_KNOWN }
+        ensures most { result ≤ most_known }
         ensures sound { IsSound self.now }
     {
-        count_ids(
-            self.state.additions.entries(),
-            self.state.tombstones.entries(),
-            &[],
-            &[],
-        )
+        self.state.known()
     }
 
     // Whether 4,096 ids are known. They are counted only where the two lists are long enough.
     fn is_full(&self) -> bool
-        ensures { IsTrue result ↔ (known_count self.now ≡ MOST_KNOWN) }
+        ensures { IsTrue result ↔ (known_count self.now ≡ most_known) }
     {
         let added = self.state.additions.entries().len();
         let withdrawn = self.state.tombstones.entries().len();

@@ -1,5 +1,5 @@
 // Lists of entries in the order of their ids.
-ghost use Rattle.std.specs.Prelude.{◌≡◌, ◌+◌, ◌^◌, ◌<◌, ◌++◌, IsTrue, IfOk, IfErr, Some, None, length, filter, find, slice_get};
+ghost use Rattle.std.specs.Prelude.{◌≡◌, ◌↔◌, ◌+◌, ◌^◌, ◌<◌, ◌++◌, IsTrue, IfOk, IfErr, Some, None, length, filter, find, slice_get};
 ghost use Rattle.std.specs.Set.{distinct_count, is_member};
 ghost use Rattle.std.specs.List.Sorted.{IsSorted};
 ghost use Rattle.std.specs.FinMap.{is_sorted};
@@ -15,6 +15,13 @@ use crate::record::{Record, is_same};
 use std::alloc::Allocator;
 use std::cmp::Ordering;
 use stn_time::Memory;
+
+// Whether the ids rise.
+pub(crate) fn is_rising<X>(entries: &[(Id, X)]) -> bool
+    ensures { IsTrue result ↔ IsTrue (is_sorted id_cmp entries.now) }
+{
+    entries.is_sorted_by(|before, after| before.0 < after.0)
+}
 
 // The place of the id, or the place where it would go.
 pub(crate) fn place_of<X>(entries: &[(Id, X)], id: Id) -> Result<usize, usize>

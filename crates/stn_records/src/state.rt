@@ -1,9 +1,10 @@
 ghost use Rattle.std.specs.Prelude.{◌≡◌, IfOk};
-ghost use Rattle.stn_records.specs.Content.{Content, no_content, dispute_contents, join_contents, joined_contents, part_of};
+ghost use Rattle.stn_records.specs.Content.{Content, no_content, dispute_contents, join_contents, joined_contents, known_count, part_of};
 
 use crate::additions::Additions;
 use crate::id::Id;
 use crate::join::{Join, JoinFault};
+use crate::sorted::count_ids;
 use crate::tombstones::Tombstones;
 use std::alloc::Allocator;
 use std::marker::Model;
@@ -50,6 +51,18 @@ impl<A: Allocator + Copy> State<A> {
         ensures { result.now ≡ self.now.tombstones }
     {
         &self.tombstones
+    }
+
+    // How many ids are known.
+    pub(crate) fn known(&self) -> usize
+        ensures { result ≡ known_count self.now }
+    {
+        count_ids(
+            self.additions.entries(),
+            self.tombstones.entries(),
+            &[],
+            &[],
+        )
     }
 
     // Both parts of both; of an id with two records, that of self.

@@ -1,9 +1,9 @@
-ghost use Rattle.std.specs.Prelude.{◌≡◌, ◌↔◌, None, IfOk, OnOk, OnErr, IsTrue};
+ghost use Rattle.std.specs.Prelude.{◌≡◌, ◌↔◌, Some, None, IfSome, IfOk, OnOk, OnErr, IsTrue};
 ghost use Rattle.std.specs.Set.{is_member};
 ghost use Rattle.std.specs.FinMap as map;
 ghost use Rattle.stn_records.specs.Maps.{union as union_of};
 ghost use Rattle.stn_records.specs.Id.{id_cmp};
-ghost use Rattle.stn_records.specs.Content.{same_ids, AllHeld};
+ghost use Rattle.stn_records.specs.Content.{IdSet, same_ids, AllHeld};
 
 use crate::id::Id;
 use crate::id_map::IdMap;
@@ -36,6 +36,16 @@ impl<A: Allocator + Copy> Tombstones<A> {
         Tombstones {
             ids: IdMap::new(alloc),
         }
+    }
+
+    // The ids of these entries, where they rise.
+    pub(crate) fn from_entries(entries: Vec<(Id, ()), A>) -> Option<Self>
+        ensures made { IfSome result (λ made. map.entries made ≡ entries.items) }
+        ensures all { (m : IdSet) → map.entries m ≡ entries.items → result ≡ Some m }
+    {
+        Some(Tombstones {
+            ids: IdMap::from_entries(entries)?,
+        })
     }
 
     /// The ids, in their order.

@@ -1,7 +1,13 @@
 -- The first of all bounds that times break.
-use Rattle.std.proofs.Common.{◌≡◌, ℕ, ℤ, zero, suc, ◌+◌, ◌-◌, ◌<◌, ◌≤◌, nat_lt, Bool, true, false, cond, List, [], ◌∷◌, ◌++◌, length, get_or, take, Option, Some, IfSome, refl, sym, ap, subst, ◌∙◌, arith, zero-add, length-append, All}
-use Rattle.std.proofs.lemmas.Bool.Decides.{Decides-ltb}
-use Rattle.std.proofs.lemmas.List.{take-append-le, get_or-append-add}
+use Rattle.std.proofs.Common.{◌≡◌, ℕ, ℤ, pos, ◌-ℤ◌, ◌≤ℤ◌, zero, suc, ◌+◌, ◌-◌, ◌<◌, ◌≤◌, nat_lt, Bool, true, false, not, cond, List, [], ◌∷◌, ◌++◌, length, get_or, take, Option, Some, None, IfSome, refl, sym, ap, subst, ◌∙◌, arith, zero-add, length-append, length-take, All}
+use Rattle.std.specs.Prelude.{int_le, position, option_map}
+use Rattle.std.specs.List.{position_or_len}
+use Rattle.std.specs.Bool.{Decides}
+use Rattle.std.proofs.lemmas.Bool.{false_from_ne_true}
+use Rattle.std.proofs.lemmas.Bool.Decides.{nat_tests, Decides-ltb, Decides-and}
+use Rattle.std.proofs.lemmas.Int.{ints}
+use Rattle.std.proofs.lemmas.List.{take-append-le, get_or-append-add, get_or-take, get_or_default}
+use Rattle.std.proofs.lemmas.List.Sums.{position_or_len_is}
 use Rattle.std.proofs.lemmas.List.Elements.{All-append}
 use Rattle.std.specs.List.{HoldsAt}
 use Rattle.stn_net.specs.Difference.{Difference}
@@ -12,7 +18,15 @@ use Rattle.stn_records.specs.Content.{Content}
 use Rattle.stn_replica.specs.declared.names.BoundName.{BoundName}
 use Rattle.stn_replica.specs.declared.names.BoundName.TheVariants.{Plan, Record}
 use Rattle.stn_replica.specs.Bounds.{all_bounds, live_bounds}
-use Rattle.stn_replica.specs.Names.{live_ids, id_at, IsFirstBroken, IsFirstBrokenRecord}
+use Rattle.stn_replica.specs.Names.{live_ids, id_at, name_in, is_met, broken_bound, IsFirstBrokenRecord}
+
+-- the first of all bounds that the times break, and its name
+pub record IsFirstBroken (source : PlanSource) (state : Content) (time : ℕ → ℤ) (first : BoundName) : Type 0 where
+  pub place : ℕ
+  pub there : place < length (all_bounds source state)
+  pub broken : ¬ HoldsAt (Meets time) (all_bounds source state) place
+  pub earlier : All (Meets time) (take place (all_bounds source state))
+  pub name : first ≡ name_in (base_bounds source) (live_ids state) place
 
 get_or-left : {X : Type 0} (xs ys : List X) (i : ℕ) (d : X) → i < length xs → get_or (xs ++ ys) i d ≡ get_or xs i d
 get_or-left [] ys i d within = absurd (omega arith)
@@ -70,6 +84,57 @@ none_broken source state base time is s met = record {
   origin = s.origin;
   met = All-append (Meets time) (base_bounds source) (live_bounds state) (subst (All (Meets time)) is s.met) met;
 }
+
+-- ---- the first broken bound by the test of each
+met_decides : (time : ℕ → ℤ) (bound : Difference) → Decides (is_met time bound) (Meets time bound)
+met_decides time bound =
+    Decides-and (int_le bound.lo (time bound.to -ℤ time bound.from)) (int_le (time bound.to -ℤ time bound.from) bound.hi)
+    (ordered bound.lo (time bound.to -ℤ time bound.from)) (ordered (time bound.to -ℤ time bound.from) bound.hi)
+  where
+    ordered : (a b : ℤ) → Decides (int_le a b) (a ≤ℤ b)
+    ordered a b = (λ e. grind (arith, ints), λ p. grind (arith, ints))
+
+-- the test of a bound that the times break
+abbrev is_broken : (ℕ → ℤ) → Difference → Bool
+is_broken time bound = not (is_met time bound)
+
+any_bound : Difference
+any_bound = record { from = 0; to = 0; lo = pos 0; hi = pos 0 }
+
+place_of : (met count place : ℕ) → met ≡ place → place < count → cond (nat_lt met count) (Some met) None ≡ Some place
+place_of met count place e lt = grind (arith, nat_tests)
+
+no_place : (met count : ℕ) → met ≡ count → cond (nat_lt met count) (Some met) None ≡ None
+no_place met count e = grind (arith, nat_tests)
+
+first_place : (time : ℕ → ℤ) (bounds : List Difference) (place : ℕ) → place < length bounds → (HoldsAt (Meets time) bounds place → ⊥) → All (Meets time) (take place bounds)
+    → position (is_broken time) bounds ≡ Some place
+first_place time bounds place lt broken earlier =
+    place_of (position_or_len (is_broken time) bounds) (length bounds) place
+    (position_or_len_is (is_broken time) bounds place any_bound (omega arith)
+    (λ k below. ap not ((met_decides time (get_or bounds k any_bound)).1
+    (subst (Meets time) (get_or-take place bounds k any_bound below) (earlier k any_bound (omega (arith, length-take place bounds))))))
+    (λ _. ap not (false_from_ne_true (is_met time (get_or bounds place any_bound)) (λ e. broken (λ d. subst (Meets time) (get_or_default bounds place any_bound d lt)
+    ((met_decides time (get_or bounds place any_bound)).0 e))))))
+    lt
+
+nothing_broken : (time : ℕ → ℤ) (bounds : List Difference) → All (Meets time) bounds → position (is_broken time) bounds ≡ None
+nothing_broken time bounds met =
+    no_place (position_or_len (is_broken time) bounds) (length bounds)
+    (position_or_len_is (is_broken time) bounds (length bounds) any_bound (omega arith) (λ k lt. ap not ((met_decides time (get_or bounds k any_bound)).1 (met k any_bound lt))) (λ lt. absurd (omega arith)))
+
+pub broken_some : (source : PlanSource) (state : Content) (time : ℕ → ℤ) (name : BoundName) → IsFirstBroken source state time name → Some name ≡ broken_bound source state time
+unfolding broken_bound
+broken_some source state time name first =
+    ap Some first.name ∙ sym (ap (option_map (name_in (base_bounds source) (live_ids state))) (first_place time (all_bounds source state) first.place first.there first.broken first.earlier))
+
+pub broken_none : (source : PlanSource) (state : Content) (time : ℕ → ℤ) → IsSchedule (all_bounds source state) time → None ≡ broken_bound source state time
+unfolding broken_bound
+broken_none source state time schedule =
+    sym (ap (option_map (name_in (base_bounds source) (live_ids state))) (nothing_broken time (all_bounds source state) schedule.met))
+
+pub broken_no_schedule : (source : PlanSource) (state : Content) (time : ℕ → ℤ) (name : BoundName) → IsFirstBroken source state time name → IsSchedule (all_bounds source state) time → ⊥
+broken_no_schedule source state time name first schedule = first.broken (λ d. schedule.met first.place d first.there)
 
 pub if_some : {X : Type 0} (o : Option X) (x : X) (P : X → Type 0) → o ≡ Some x → IfSome o P → P x
 if_some o x P e h = subst (λ p. IfSome p P) e h

@@ -6,7 +6,7 @@ use Rattle.std.specs.FinMap as fin
 use Rattle.std.specs.FinMap.{get-empty, get-insert}
 use Rattle.stn_records.specs.declared.record.Record.{Record}
 use Rattle.stn_records.specs.Id.{SiteCounter, id_cmp}
-use Rattle.stn_records.specs.Content.{Content, Item, addition, withdrawal, HasItem, no_content, one_record, one_tombstone, with_record, with_tombstone, join_contents, next_counter}
+use Rattle.stn_records.specs.Content.{Content, Item, addition, withdrawal, HasItem, is_known, no_content, one_record, one_tombstone, with_record, with_tombstone, next_counter}
 use Rattle.stn_records.specs.ContentLaws.{ids_total, ids_exact, contents_join}
 use Rattle.stn_records.proofs.Contents.{inserted_here, record_joins, tombstone_joins, next_is_new}
 use Rattle.stn_replica.specs.Held.{Held}
@@ -43,17 +43,18 @@ one_withdrawal id item = (only id item, λ e. subst (HasItem (one_tombstone id))
     only id (addition q y) there = nothing_at q y there
     only id (withdrawal q) there = ap withdrawal (only_value id tt q tt there).0
 
--- a site's next record joins its state
-pub next_joins : (s : Content) (site : ℕ) (one : Record) → let id : SiteCounter = record { site = site; counter = next_counter s site } in join_contents s (one_record id one) ≡ Some (with_record s id one)
-next_joins s site one = let id : SiteCounter = record { site = site; counter = next_counter s site } in
-    record_joins s id one (λ z there. absurd (false≢true (ap is_some (sym (unknown_absent s id (next_is_new s site (next_counter s site) refl)) ∙ there))))
+-- a record under an id that is not known is one item more
+pub addition_items : (s : Content) (id : SiteCounter) (one : Record) → is_known s id ≡ false → (item : Item) → HasItem (with_record s id one) item ↔ (HasItem s item ⊎ (item ≡ addition id one))
+addition_items s id one unknown item =
+    let union = contents_join.union s (one_record id one) (with_record s id one)
+    (record_joins s id one (λ z there. absurd (false≢true (ap is_some (sym (unknown_absent s id unknown) ∙ there))))) item in
+    (λ h. ⊎_elim inl (λ x. inr ((one_addition id one item).0 x)) (union.0 h), λ h. union.1 (⊎_elim inl (λ x. inr ((one_addition id one item).1 x)) h))
 
 pub record_brought : (s new : Content) (site : ℕ) (id : SiteCounter) (one : Record) → id ≡ record { site = site; counter = next_counter s site } → new ≡ with_record s id one
     → (item : Item) → HasItem new item ↔ (HasItem s item ⊎ (item ≡ addition id one))
 record_brought s new site id one next is item =
-    let joins : join_contents s (one_record id one) ≡ Some new = subst (λ (i : SiteCounter). join_contents s (one_record i one) ≡ Some (with_record s i one)) (sym next) (next_joins s site one) ∙ ap Some (sym is) in
-    let union = contents_join.union s (one_record id one) new joins item in
-    (λ h. ⊎_elim inl (λ x. inr ((one_addition id one item).0 x)) (union.0 h), λ h. union.1 (⊎_elim inl (λ x. inr ((one_addition id one item).1 x)) h))
+    let unknown : is_known s id ≡ false = subst (λ (i : SiteCounter). is_known s i ≡ false) (sym next) (next_is_new s site (next_counter s site) refl) in
+    subst (λ (n : Content). HasItem n item ↔ (HasItem s item ⊎ (item ≡ addition id one))) (sym is) (addition_items s id one unknown item)
 
 pub withdrawal_brought : (s new : Content) (id : SiteCounter) → new ≡ with_tombstone s id → (item : Item) → HasItem new item ↔ (HasItem s item ⊎ (item ≡ withdrawal id))
 withdrawal_brought s new id is item =

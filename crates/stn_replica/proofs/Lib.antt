@@ -10,6 +10,8 @@ pub mod OneReport
 pub mod Opening
 pub mod Places
 pub mod Printing
+pub mod Refused
+pub mod Rest
 pub mod Schedules
 pub mod Sound
 pub mod Tightening

@@ -16,7 +16,7 @@ use Rattle.stn_conflict.specs.Named.{IsNamedCycle}
 use Rattle.stn_replica.specs.Bounds.{all_bounds, live_bounds, RecordsName}
 use Rattle.stn_replica.specs.Names.{live_ids}
 use Rattle.stn_replica.specs.Lines.{line, window_line, conflict_line, link_line}
-use Rattle.stn_replica.specs.Report.{is_done, is_done_in, IsWindowLines, IsConflictPart, IsReport, heading}
+use Rattle.stn_replica.specs.Report.{is_done, IsWindowLines, IsConflictPart, IsReport, heading}
 use Rattle.stn_replica.proofs.Live.{live_named}
 
 abbrev pub Listed : Type 0
@@ -63,17 +63,16 @@ conflict_part source state base others ids links sum b i o named negative s =
     }
 
 -- the report of bounds with a schedule
-pub windows_report : (source : PlanSource) (state : Content) (live : List Listed) (table : Table) (text lines : List ℕ)
-    → live ≡ map listed (live_of state) → IsExact (all_bounds source state) table → table.events ≡ events_of source
-    → IsWindowLines (all_bounds source state) (is_done_in live) table.events lines
+pub windows_report : (source : PlanSource) (state : Content) (table : Table) (text lines : List ℕ)
+    → IsExact (all_bounds source state) table → table.events ≡ events_of source
+    → IsWindowLines (all_bounds source state) (is_done state) table.events lines
     → text ≡ heading source state ++ (line (codes "ok") ++ lines) → IsReport source state text
-windows_report source state live table text lines is exact events windows whole = record {
+windows_report source state table text lines exact events windows whole = record {
   rest = line (codes "ok") ++ lines;
   part = inl (record {
     possible = exact.possible;
     lines = lines;
-    windows = subst (λ n. IsWindowLines (all_bounds source state) (is_done state) n lines) events
-        (subst (λ all. IsWindowLines (all_bounds source state) (is_done_in all) table.events lines) is windows);
+    windows = subst (λ n. IsWindowLines (all_bounds source state) (is_done state) n lines) events windows;
     whole = refl;
   });
   whole = whole;

@@ -1,39 +1,26 @@
 -- That a replica stays sound, and what its work is.
-use Rattle.std.proofs.Common.{◌≡◌, ◌≢◌, ℕ, ◌+◌, ◌<◌, ◌≤◌, min, Bool, true, false, ◌↔◌, List, [], ◌∷◌, ◌++◌, Option, Some, None, Result, Ok, Err, IfSome, IsTrue, ⊎_elim, refl, sym, ap, subst, ◌∙◌, arith, All}
+use Rattle.std.proofs.Common.{◌≡◌, ℕ, ◌+◌, ◌<◌, ◌≤◌, min, Bool, true, false, ◌↔◌, List, [], ◌∷◌, ◌++◌, Option, Some, Ok, Err, IfSome, IsTrue, ⊎_elim, refl, sym, ap, subst, ◌∙◌, arith, All}
 use Rattle.std.proofs.lemmas.Bool.{false≢true, cases_lt}
 use Rattle.std.proofs.lemmas.List.Elements.{All-append}
-use Rattle.std.specs.FinMap.{get}
-use Rattle.stn_net.specs.Difference.{Difference, NamesEvents, IsBoundWithin}
+use Rattle.stn_net.specs.Difference.{Difference, NamesEvents}
 use Rattle.stn_net.specs.Schedule.{HasSchedule}
 use Rattle.stn_matrix.specs.Table.{Table}
 use Rattle.stn_matrix.specs.Tightest.{IsExact}
 use Rattle.stn_lift.specs.PlanSource.{PlanSource, base_bounds, events_of}
 use Rattle.stn_records.specs.Id.{SiteCounter}
 use Rattle.stn_records.specs.declared.record.Record.{Record}
-use Rattle.stn_records.specs.declared.faults.RecordsFault.{RecordsFault}
-use Rattle.stn_records.specs.declared.faults.RecordsFault.TheVariants as records
-use Rattle.stn_records.specs.declared.TheConstants.{MOST_KNOWN}
-use Rattle.stn_records.specs.Content.{Content, HasAnother, is_live, is_known, known_count, known_in_both, next_counter, dispute_contents, no_content, with_record, with_tombstone, join_contents}
+use Rattle.stn_records.specs.Content.{Content, is_live, is_known, no_content, with_record, with_tombstone, join_contents}
 use Rattle.stn_replica.specs.Bounds.{all_bounds, live_bounds, bounds_of, RecordsName}
-use Rattle.stn_replica.specs.Faults.{next_id, CanAdd, IsAddFault, IsTakeFault, CanTake}
-use Rattle.stn_replica.specs.FaultsOf.{of_records_fault}
 use Rattle.stn_replica.specs.Held.{Held}
 use Rattle.stn_replica.specs.Invariant.{IsKnown, IsSoundReplica}
 use Rattle.stn_replica.specs.Work.{risen, KeepsLive, SparesWork}
-use Rattle.stn_replica.proofs.Changes.{unknown_absent, extends_added, keeps_with_record, one_risen, named_added, known_added, extends_joined, named_joined, withdrawn_dead, none_named, known_at_first}
+use Rattle.stn_replica.proofs.Changes.{extends_added, keeps_with_record, one_risen, named_added, known_added, extends_joined, named_joined, withdrawn_dead, none_named, known_at_first}
 use Rattle.stn_replica.proofs.Live.{live_named, known_grown, conflict_stays}
 use Rattle.stn_replica.proofs.Schedules.{known_tightened}
 
 -- what an option holds, from what it is
 pub held_is : {X : Type 0} (o : Option X) (x y : X) → o ≡ Some x → IfSome o (λ v. v ≡ y) → x ≡ y
 held_is o x y e h = subst (λ p. IfSome p (λ v. v ≡ y)) e h
-
--- a call that failed
-abbrev pub failed : (A : Type 0) → RecordsFault → Result A RecordsFault
-failed A fault = Err fault
-
-abbrev pub succeeded : (A : Type 0) → A → Result A RecordsFault
-succeeded A x = Ok x
 
 pub ok_not_err : {T E : Type 0} (x : T) (y : E) → Ok x ≡ Err y → ⊥
 ok_not_err x y e = cc
@@ -102,61 +89,6 @@ sound_in_conflict source state opening current possible id r p t unknown this = 
 pub spares_added : (old new : Held) (state : Content) (id : SiteCounter) (r : Record) → is_known state id ≡ false
     → old.state ≡ state → new.state ≡ with_record state id r → old.steps ≤ new.steps → new.steps ≤ old.steps + 1 → SparesWork old new
 spares_added old new state id r unknown before after least most = λ _ _. (least, rw (before, after) (omega (arith, one_risen state id r unknown)))
-
-pub can_add : (held : Held) (bound : Difference) → IsBoundWithin (events_of held.source) bound → next_counter held.state held.site ≤ 65535 → known_count held.state ≢ MOST_KNOWN → CanAdd held bound
-can_add held bound sound counter room = record { sound = sound; counter = counter; room = room }
-
-pub add_fault : (held : Held) (bound : Difference) (r : Record) (id : SiteCounter) (fault : RecordsFault)
-    → id ≡ next_id held → IsBoundWithin (events_of held.source) bound → next_counter held.state held.site ≤ 65535 → is_known held.state id ≡ false
-    → ((other : SiteCounter) → failed (Unit {0}) fault ≡ Err (records.Clash other) → other ≡ id)
-    → ((failed (Unit {0}) fault ≡ Err (records.Clash id)) ↔ HasAnother (get held.state.additions id) r)
-    → ((failed (Unit {0}) fault ≡ Err records.Full) ↔ (is_known held.state id ≡ false) × (known_count held.state ≡ MOST_KNOWN))
-    → IsAddFault held bound (of_records_fault fault)
-add_fault held bound r id (records.Clash other) is sound counter unknown clash refused full =
-    absurd (subst (λ o. HasAnother o r) (unknown_absent held.state id unknown) (refused.0 (ap (λ k. Err (records.Clash k)) (clash other refl))))
-add_fault held bound r id records.Full is sound counter unknown clash refused full = (sound, counter, (full.0 refl).1)
-add_fault held bound r id records.Memory is sound counter unknown clash refused full =
-    can_add held bound sound counter (λ e. other_fault (full.1 (unknown, e)))
-  where
-    other_fault : failed (Unit {0}) records.Memory ≡ Err records.Full → ⊥
-    other_fault e = cc
-
--- ---- takes
-pub take_fault : (held : Held) (other : Content) (A : Type 0) (fault : RecordsFault) → RecordsName (events_of held.source) other
-    → ((id : SiteCounter) → (failed A fault ≡ Err (records.Clash id)) ↔ (dispute_contents held.state other ≡ Some id))
-    → ((failed A fault ≡ Err records.Full) ↔ (dispute_contents held.state other ≡ None) × (MOST_KNOWN < known_in_both held.state other))
-    → IsTakeFault held other (of_records_fault fault)
-take_fault held other A (records.Clash id) named clash full = (named, (clash id).0 refl)
-take_fault held other A records.Full named clash full = (named, (full.0 refl).0, (full.0 refl).1)
-take_fault held other A records.Memory named clash full =
-    let agreed : dispute_contents held.state other ≡ None = elim (dispute_contents held.state other) as (λ o. dispute_contents held.state other ≡ o → o ≡ None) [ None ↦ λ e. refl | Some id ↦ λ e. absurd (other_clash id ((clash id).1 e)) ] refl in
-    record { named = named; agreed = agreed; room = within (λ past. other_full (full.1 (agreed, past))) }
-  where
-    other_clash : (id : SiteCounter) → failed A records.Memory ≡ Err (records.Clash id) → ⊥
-    other_clash id e = cc
-
-    other_full : failed A records.Memory ≡ Err records.Full → ⊥
-    other_full e = cc
-
-    within : (MOST_KNOWN < known_in_both held.state other → ⊥) → known_in_both held.state other ≤ MOST_KNOWN
-    within h = omega arith
-
-pub can_take : (held : Held) (other : Content) (A : Type 0) (all : A) → RecordsName (events_of held.source) other
-    → ((id : SiteCounter) → (succeeded A all ≡ Err (records.Clash id)) ↔ (dispute_contents held.state other ≡ Some id))
-    → ((succeeded A all ≡ Err records.Full) ↔ (dispute_contents held.state other ≡ None) × (MOST_KNOWN < known_in_both held.state other))
-    → CanTake held other
-can_take held other A all named clash full =
-    let agreed : dispute_contents held.state other ≡ None = elim (dispute_contents held.state other) as (λ o. dispute_contents held.state other ≡ o → o ≡ None) [ None ↦ λ e. refl | Some id ↦ λ e. absurd (no_clash id ((clash id).1 e)) ] refl in
-    record { named = named; agreed = agreed; room = within (λ past. no_full (full.1 (agreed, past))) }
-  where
-    no_clash : (id : SiteCounter) → succeeded A all ≡ Err (records.Clash id) → ⊥
-    no_clash id e = cc
-
-    no_full : succeeded A all ≡ Err records.Full → ⊥
-    no_full e = cc
-
-    within : (MOST_KNOWN < known_in_both held.state other → ⊥) → known_in_both held.state other ≤ MOST_KNOWN
-    within h = omega arith
 
 -- after a rebuild
 pub sound_rebuilt : (source : PlanSource) (state new : Content) (opening current next : Table) (possible result : Bool)

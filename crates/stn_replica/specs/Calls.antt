@@ -3,8 +3,7 @@ use Rattle.std.specs.Prelude.{◌≡◌, ◌⊎◌, ◌↔◌, List, [], ◌∷�
 use Rattle.stn_records.specs.declared.record.Record.{Record}
 use Rattle.stn_records.specs.Id.{SiteCounter}
 use Rattle.stn_records.specs.Content.{Content, Item, addition, withdrawal, HasItem, no_content, with_record, with_tombstone, join_contents}
-use Rattle.stn_replica.specs.Held.{Held}
-use Rattle.stn_replica.specs.Faults.{next_id}
+use Rattle.stn_replica.specs.Held.{Held, next_id}
 
 -- a call that was accepted: it added a record under an id, withdrew an id, or took in a state
 pub data Accepted : Type 0 where

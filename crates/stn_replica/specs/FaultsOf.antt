@@ -1,17 +1,9 @@
-use Rattle.stn_net.specs.declared.bound.BoundFault.{BoundFault}
-use Rattle.stn_net.specs.declared.bound.BoundFault.TheVariants as bound
 use Rattle.stn_records.specs.declared.faults.RecordsFault.{RecordsFault}
 use Rattle.stn_records.specs.declared.faults.RecordsFault.TheVariants as records
 use Rattle.stn_records.specs.declared.faults.WithdrawFault.{WithdrawFault}
 use Rattle.stn_records.specs.declared.faults.WithdrawFault.TheVariants as withdraw
 use Rattle.stn_replica.specs.declared.faults.ReplicaFault.{ReplicaFault}
 use Rattle.stn_replica.specs.declared.faults.ReplicaFault.TheVariants as replica
-
--- a fault of a bound, as one of a replica
-abbrev pub of_bound_fault : BoundFault → ReplicaFault
-of_bound_fault bound.NoEvent = replica.NoEvent
-of_bound_fault bound.SameEvent = replica.SameEvent
-of_bound_fault bound.Crossed = replica.Crossed
 
 -- a fault of an addition or a take, as one of a replica
 abbrev pub of_records_fault : RecordsFault → ReplicaFault

@@ -1,8 +1,11 @@
 use Rattle.std.specs.Prelude.{ℕ, ℤ, refl}
 use Rattle.std.specs.Coded.{Coded, code_by, coded×, coded_ℕ}
+use Rattle.stn_net.specs.Difference.{Difference}
+use Rattle.stn_windows.specs.Rehearsal.{fixed_at}
 use Rattle.stn_lift.specs.PlanSource.{PlanSource, coded_source}
-use Rattle.stn_records.specs.Content.{Content, coded_content}
-use Rattle.stn_records.specs.declared.record.Mark.TheVariants.{Plain}
+use Rattle.stn_records.specs.Content.{Content, coded_content, next_counter}
+use Rattle.stn_records.specs.Id.{SiteCounter}
+use Rattle.stn_records.specs.declared.record.Mark.TheVariants.{Plain, Done}
 use Rattle.stn_records.specs.declared.record.Record.{Record}
 
 -- what a replica holds: its site, what its plan is made from, its state, and by how many bounds its matrix was tightened
@@ -12,9 +15,21 @@ pub record Held : Type 0 where
   pub state : Content
   pub steps : ℕ
 
+-- the id of the replica's next record
+abbrev pub next_id : Held → SiteCounter
+next_id held = record { site = held.site; counter = next_counter held.state held.site }
+
+-- the difference that two events and two sides make
+abbrev pub difference : ℕ → ℕ → ℤ → ℤ → Difference
+difference from to lo hi = record { from = from; to = to; lo = lo; hi = hi }
+
 -- a record of a bound that a site added
-abbrev pub plain : ℕ → ℕ → ℤ → ℤ → Record
-plain from to lo hi = record { mark = Plain; bound = record { from = from; to = to; lo = lo; hi = hi } }
+abbrev pub plain : Difference → Record
+plain bound = record { mark = Plain; bound = bound }
+
+-- a record that the site executed an event at a time
+abbrev pub executed : ℤ → ℕ → Record
+executed time event = record { mark = Done; bound = fixed_at time event }
 
 -- as its four fields
 abbrev pub coded_held : Coded Held

@@ -4,7 +4,8 @@ pub mod Names
 pub mod Invariant
 pub mod Work
 pub mod FaultsOf
-pub mod Faults
+pub mod Refusals
 pub mod Lines
 pub mod Report
 pub mod Calls
+pub mod Dispatch

@@ -1,4 +1,4 @@
-use Rattle.std.specs.Prelude.{◌≡◌, ℕ, ℤ, ◌+◌, ◌-◌, ◌<◌, nat_lt, List, ◌++◌, length, take, All, slice_index_or, if◌then◌else◌, codes, decimal, map}
+use Rattle.std.specs.Prelude.{◌≡◌, ℕ, ℤ, ◌+◌, ◌-◌, ◌-ℤ◌, ◌<◌, nat_lt, int_le, Bool, not, ◌&&◌, List, ◌++◌, length, take, All, slice_index_or, position, if◌then◌else◌, codes, decimal, map, Option, option_map}
 use Rattle.std.specs.List.{HoldsAt}
 use Rattle.std.specs.FinMap.{entries}
 use Rattle.stn_net.specs.Difference.{Difference}
@@ -27,13 +27,14 @@ abbrev pub name_text : BoundName → List ℕ
 name_text (Plan number) = codes "plan." ++ decimal number
 name_text (Record id) = id_text id
 
--- `first` is the name of the first of all bounds that the times break
-pub record IsFirstBroken (source : PlanSource) (state : Content) (time : ℕ → ℤ) (first : BoundName) : Type 0 where
-  pub place : ℕ
-  pub there : place < length (all_bounds source state)
-  pub broken : ¬ HoldsAt (Meets time) (all_bounds source state) place
-  pub earlier : All (Meets time) (take place (all_bounds source state))
-  pub name : first ≡ name_in (base_bounds source) (live_ids state) place
+-- the times meet the bound
+abbrev pub is_met : (ℕ → ℤ) → Difference → Bool
+is_met time bound = int_le bound.lo (time bound.to -ℤ time bound.from) && int_le (time bound.to -ℤ time bound.from) bound.hi
+
+-- the name of the first of all bounds that the times break
+unfoldable pub broken_bound : PlanSource → Content → (ℕ → ℤ) → Option BoundName
+broken_bound source state time =
+    option_map (name_in (base_bounds source) (live_ids state)) (position (λ bound. not (is_met time bound)) (all_bounds source state))
 
 -- `first` is the id of the first live record whose bound the times break
 pub record IsFirstBrokenRecord (state : Content) (time : ℕ → ℤ) (first : SiteCounter) : Type 0 where

@@ -1,13 +1,13 @@
-use Rattle.std.specs.Prelude.{◌≡◌, ℕ, ℤ, zero, suc, Bool, true, false, ◌==◌, ◌&&◌, ◌⊎◌, List, [], ◌++◌, map, length, codes}
+use Rattle.std.specs.Prelude.{◌≡◌, ℕ, ℤ, zero, suc, Bool, ◌==◌, ◌&&◌, ◌⊎◌, List, [], ◌++◌, length, codes}
 use Rattle.std.specs.FinMap.{keys}
 use Rattle.std.specs.List.{list_any, flat_map}
 use Rattle.stn_net.specs.Difference.{Difference}
 use Rattle.stn_net.specs.Schedule.{HasSchedule}
 use Rattle.stn_windows.specs.Window.{IsWindow}
 use Rattle.stn_lift.specs.PlanSource.{PlanSource, steps_of, events_of, base_bounds}
-use Rattle.stn_records.specs.declared.record.Mark.{Mark}
-use Rattle.stn_records.specs.declared.record.Mark.TheVariants.{Plain, Done}
-use Rattle.stn_records.specs.Content.{Content, live_of, listed}
+use Rattle.stn_records.specs.declared.record.Record.{Record}
+use Rattle.stn_records.specs.Record.{is_done as marks_done}
+use Rattle.stn_records.specs.Content.{Content, live_of}
 use Rattle.stn_records.specs.Id.{SiteCounter}
 use Rattle.stn_conflict.specs.declared.links.Link.{Link}
 use Rattle.stn_conflict.specs.Arcs.{weight_of, IsNegativeCycle}
@@ -16,17 +16,17 @@ use Rattle.stn_replica.specs.Bounds.{all_bounds, live_bounds}
 use Rattle.stn_replica.specs.Names.{live_ids}
 use Rattle.stn_replica.specs.Lines.{line, plan_line, records_line, window_line, conflict_line, link_line}
 
-abbrev pub is_done_mark : Mark → Bool
-is_done_mark Plain = false
-is_done_mark Done = true
+-- a report has at most so many bytes
+abbrev pub most_report : ℕ
+most_report = 65536
 
 -- one of the records says that the event is done
-abbrev pub is_done_in : List (SiteCounter × Mark × Difference) → ℕ → Bool
-is_done_in records event = list_any (λ entry. is_done_mark entry.1 && (entry.2.to == event)) records
+abbrev pub says_done : List (SiteCounter × Record) → ℕ → Bool
+says_done records event = list_any (λ entry. marks_done entry.1.mark && (entry.1.bound.to == event)) records
 
 -- some live record says that the event is done
 abbrev pub is_done : Content → ℕ → Bool
-is_done state = is_done_in (map listed (live_of state))
+is_done state = says_done (live_of state)
 
 -- the lines of the first events, each with exactly the times that the event takes in some schedule
 abbrev pub IsWindowLines : List Difference → (ℕ → Bool) → ℕ → List ℕ → Type 0

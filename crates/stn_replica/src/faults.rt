@@ -1,5 +1,5 @@
 ghost use Rattle.std.specs.Prelude.{◌≡◌};
-ghost use Rattle.stn_replica.specs.FaultsOf.{of_bound_fault, of_records_fault, of_withdraw_fault};
+ghost use Rattle.stn_replica.specs.FaultsOf.{of_records_fault, of_withdraw_fault};
 
 use stn_net::BoundFault;
 use stn_records::{CounterSpent, Id, RecordsFault, WithdrawFault};
@@ -8,15 +8,9 @@ use thiserror::Error;
 /// Why a replica refused a change. Each call gives those that it lists.
 #[derive(Clone, Copy, Debug, PartialEq, Eq, Hash, Error)]
 pub enum ReplicaFault {
-    /// An event is not one of the plan's.
-    #[error("no such event")]
-    NoEvent,
-    /// Both events are the same.
-    #[error("a bound on an event and itself")]
-    SameEvent,
-    /// The lower side lies above the upper.
-    #[error("the lower side lies above the upper")]
-    Crossed,
+    /// The events and sides are no bound of the plan.
+    #[error("{0}")]
+    Bound(BoundFault),
     /// The site's counter would pass 65,535.
     #[error("the counter is spent")]
     CounterSpent,
@@ -35,14 +29,13 @@ pub enum ReplicaFault {
 }
 
 impl From<BoundFault> for ReplicaFault {
-    ghost from_gives = { λ fault made. made ≡ of_bound_fault fault };
+    ghost use Rattle.std.specs.Prelude.{◌≡◌};
+    ghost use Rattle.stn_replica.specs.declared.faults.ReplicaFault.TheVariants.{Bound};
+
+    ghost from_gives = { λ fault made. made ≡ Bound fault };
 
     fn from(fault: BoundFault) -> ReplicaFault {
-        match fault {
-            BoundFault::NoEvent => ReplicaFault::NoEvent,
-            BoundFault::SameEvent => ReplicaFault::SameEvent,
-            BoundFault::Crossed => ReplicaFault::Crossed,
-        }
+        ReplicaFault::Bound(fault)
     }
 }
 

@@ -1,12 +1,15 @@
-//! One site's replica of a plan, and its report.
+//! One site's replica of a plan, its report, and the rest of its plan.
 #![tactic(auto)]
 
+pub use done::EVENT_FLAGS;
 pub use faults::ReplicaFault;
 pub use laws::{one_report, same_items_same_bytes, state_is_union, took_same_same_bytes};
 pub use names::BoundName;
 pub use replica::Replica;
 pub use report::MOST_REPORT;
 
+mod dispatch;
+mod done;
 mod faults;
 mod laws;
 mod lines;

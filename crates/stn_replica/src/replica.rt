@@ -1,16 +1,18 @@
-ghost use Rattle.std.specs.Prelude.{◌≡◌, ◌+◌, ◌≤◌, pos, true, false, length, All, Some, IfOk, IfErr, IfSome, IfNone, OnOk, OnErr, MatchOption};
+ghost use Rattle.std.specs.Prelude.{◌≡◌, ◌+◌, ◌≤◌, pos, true, false, length, All, None, unwrap_or, IfOk, IfErr, IfSome, IfNone, OnOk, OnErr, MatchOption};
 ghost use Rattle.std.specs.Rc.{rc_value};
 ghost use Rattle.stn_net.specs.Schedule.{HasSchedule, IsSchedule, Meets, NamesTimes, times_of};
 ghost use Rattle.stn_matrix.specs.Tightest.{IsExact};
 ghost use Rattle.stn_windows.specs.Window.{IsWindow};
 ghost use Rattle.stn_lift.specs.PlanSource.{events_of};
-ghost use Rattle.stn_records.specs.Content.{no_content, is_known, one_record, one_tombstone, with_record, with_tombstone, join_contents};
+ghost use Rattle.stn_net.specs.Difference.{NamesEvents};
+ghost use Rattle.stn_records.specs.Record.{IsProper};
+ghost use Rattle.stn_records.specs.Content.{no_content};
 ghost use Rattle.stn_replica.specs.Bounds.{all_bounds, live_bounds, RecordsName};
-ghost use Rattle.stn_replica.specs.Names.{IsFirstBroken, IsFirstBrokenRecord, RecordsTimed};
-ghost use Rattle.stn_replica.specs.Held.{plain};
+ghost use Rattle.stn_replica.specs.Names.{broken_bound, IsFirstBrokenRecord, RecordsTimed};
+ghost use Rattle.stn_replica.specs.Held.{difference, plain, executed};
 ghost use Rattle.stn_replica.specs.Work.{SparesWork};
 ghost use Rattle.stn_replica.specs.Calls.{added, withdrew, took, Leaves};
-ghost use Rattle.stn_replica.specs.Faults.{next_id, CanAdd, IsAddFault, IsWithdrawFault, CanTake, IsTakeFault};
+ghost use Rattle.stn_replica.specs.Refusals.{next_refusal, add_refusal, done_refusal, withdraw_refusal, take_refusal};
 
 use crate::faults::ReplicaFault;
 use crate::matrices::{all_name_events, keeps_live, opening_matrix, rebuild, tighten_risen};
@@ -20,7 +22,7 @@ use std::marker::Model;
 use std::rc::Rc;
 use stn_lift::Base;
 use stn_matrix::Matrix;
-use stn_net::{Bound, Event, first_broken};
+use stn_net::{Bound, BoundFault, Event, first_broken};
 use stn_records::{Id, Mark, Records, Site};
 use stn_time::{Memory, Ms};
 use stn_windows::window;
@@ -78,25 +80,52 @@ impl<A: Allocator + Copy> Replica<A> {
     /// Adds a bound, under the site's next id, which is returned. A bound that contradicts others is
     /// added like any other.
     ///
-    /// Refused in this order: `NoEvent`, `SameEvent`, `Crossed`, `CounterSpent`, `Full`, `Memory`.
-    /// After a fault all is as before.
+    /// Refused in this order: `NoEvent`, `SameEvent` and `Crossed` of a bound, `CounterSpent`, `Full`,
+    /// `Memory`. After a fault all is as before.
     pub fn add(&mut self, from: Event, to: Event, lo: Ms, hi: Ms) -> Result<Id, ReplicaFault>
-        ensures id { IfOk result (λ id. id ≡ next_id self.old) }
-        ensures added { OnOk result (self.new.state ≡ with_record self.old.state (next_id self.old) (plain from to lo hi)) }
-        ensures joined { OnOk result (join_contents self.old.state (one_record (next_id self.old) (plain from to lo hi)) ≡ Some self.new.state) }
-        ensures site { OnOk result (self.new.site ≡ self.old.site) }
-        ensures source { OnOk result (self.new.source ≡ self.old.source) }
-        ensures leaves { OnOk result (Leaves self.old (added (next_id self.old) (plain from to lo hi)) self.new) }
+        ensures leaves { IfOk result (λ id. Leaves self.old (added id (plain (difference from to lo hi))) self.new) }
         ensures work { OnOk result (SparesWork self.old self.new) }
-
-        ensures accepted { OnOk result (CanAdd self.old (record { from = from; to = to; lo = lo; hi = hi })) }
-        ensures fault { IfErr result (IsAddFault self.old (record { from = from; to = to; lo = lo; hi = hi })) }
+        ensures accepted { OnOk result (add_refusal self.old (difference from to lo hi) ≡ None) }
+        ensures fault { IfErr result (λ fault. fault ≡ unwrap_or (add_refusal self.old (difference from to lo hi)) ReplicaFault.Memory) }
         ensures kept { OnErr result (self.new ≡ self.old) }
     {
         let bound = Bound::new(self.base.events(), from, to, lo, hi)?;
+        self.hold(Mark::Plain, bound)
+    }
+
+    /// Records at which time an event was executed, under the site's next id, which is returned. A
+    /// record that contradicts others, as one of the same event at another time, is added like any
+    /// other.
+    ///
+    /// Refused in this order: `NoEvent` of a bound, where the event is the origin or not one of the
+    /// plan's; `CounterSpent`, `Full`, `Memory`. After a fault all is as before.
+    pub fn done(&mut self, event: Event, time: Ms) -> Result<Id, ReplicaFault>
+        ensures leaves { IfOk result (λ id. Leaves self.old (added id (executed time event)) self.new) }
+        ensures work { OnOk result (SparesWork self.old self.new) }
+        ensures accepted { OnOk result (done_refusal self.old event ≡ None) }
+        ensures fault { IfErr result (λ fault. fault ≡ unwrap_or (done_refusal self.old event) ReplicaFault.Memory) }
+        ensures kept { OnErr result (self.new ≡ self.old) }
+    {
+        if event == Event::origin() || event.number() > self.base.events() {
+            return Err(ReplicaFault::Bound(BoundFault::NoEvent));
+        }
+        let bound = Bound::new(self.base.events(), Event::origin(), event, time, time).unwrap();
+        self.hold(Mark::Done, bound)
+    }
+
+    // Adds a record under the site's next id, which is returned.
+    fn hold(&mut self, mark: Mark, bound: Bound) -> Result<Id, ReplicaFault>
+        requires named { NamesEvents (events_of self.old.source) bound }
+        requires proper { IsProper mark bound }
+        ensures leaves { IfOk result (λ id. Leaves self.old (added id (record { mark = mark; bound = bound })) self.new) }
+        ensures work { OnOk result (SparesWork self.old self.new) }
+        ensures accepted { OnOk result (next_refusal self.old ≡ None) }
+        ensures fault { IfErr result (λ fault. fault ≡ unwrap_or (next_refusal self.old) ReplicaFault.Memory) }
+        ensures kept { OnErr result (self.new ≡ self.old) }
+    {
         let counter = self.records.next_counter(self.site)?;
         let id = Id::new(self.site, counter).unwrap();
-        self.records.add(id, Mark::Plain, bound)?;
+        self.records.add(id, mark, bound)?;
         if self.possible {
             self.possible = self.current.tighten(bound);
         }
@@ -108,15 +137,10 @@ impl<A: Allocator + Copy> Replica<A> {
     /// Refused in this order: `Unknown`, where the id is not known; `Memory`. After a fault all is as
     /// before.
     pub fn withdraw(&mut self, id: Id) -> Result<(), ReplicaFault>
-        ensures withdrawn { OnOk result (self.new.state ≡ with_tombstone self.old.state id) }
-        ensures joined { OnOk result (join_contents self.old.state (one_tombstone id) ≡ Some self.new.state) }
-        ensures site { OnOk result (self.new.site ≡ self.old.site) }
-        ensures source { OnOk result (self.new.source ≡ self.old.source) }
         ensures leaves { OnOk result (Leaves self.old (withdrew id) self.new) }
         ensures work { OnOk result (SparesWork self.old self.new) }
-
-        ensures accepted { OnOk result (is_known self.old.state id ≡ true) }
-        ensures fault { IfErr result (IsWithdrawFault self.old id) }
+        ensures accepted { OnOk result (withdraw_refusal self.old id ≡ None) }
+        ensures fault { IfErr result (λ fault. fault ≡ unwrap_or (withdraw_refusal self.old id) ReplicaFault.Memory) }
         ensures kept { OnErr result (self.new ≡ self.old) }
     {
         let was_live = self.records.is_live(id);
@@ -130,22 +154,18 @@ impl<A: Allocator + Copy> Replica<A> {
 
     /// Takes in all that another site holds.
     ///
-    /// Refused in this order: `NoEvent`, where a record names an event that the plan has not;
-    /// `Clash`, with the least id that has two different records; `Full`, where both know more than
-    /// 4,096 ids together; `Memory`. After a fault all is as before.
+    /// Refused in this order: `NoEvent` of a bound, where a record names an event that the plan has
+    /// not; `Clash`, with the least id that has two different records; `Full`, where both know more
+    /// than 4,096 ids together; `Memory`. After a fault all is as before.
     pub fn take(&mut self, other: &Records<A>) -> Result<(), ReplicaFault>
-        ensures joined { OnOk result (join_contents self.old.state other.now ≡ Some self.new.state) }
-        ensures site { OnOk result (self.new.site ≡ self.old.site) }
-        ensures source { OnOk result (self.new.source ≡ self.old.source) }
         ensures leaves { OnOk result (Leaves self.old (took other.now) self.new) }
         ensures work { OnOk result (SparesWork self.old self.new) }
-
-        ensures accepted { OnOk result (CanTake self.old other.now) }
-        ensures fault { IfErr result (IsTakeFault self.old other.now) }
+        ensures accepted { OnOk result (take_refusal self.old other.now ≡ None) }
+        ensures fault { IfErr result (λ fault. fault ≡ unwrap_or (take_refusal self.old other.now) ReplicaFault.Memory) }
         ensures kept { OnErr result (self.new ≡ self.old) }
     {
         if !all_name_events(other, self.base.events()) {
-            return Err(ReplicaFault::NoEvent);
+            return Err(ReplicaFault::Bound(BoundFault::NoEvent));
         }
         let records = self.records.joined(other)?;
         if !keeps_live(&self.records, &records) {
@@ -177,8 +197,9 @@ impl<A: Allocator + Copy> Replica<A> {
     pub fn check(&self, times: &[Ms]) -> Option<BoundName>
         requires origin { times_of times.now 0 ≡ pos 0 }
         requires one_each { length times.now ≡ events_of self.now.source + 1 }
-        ensures { MatchOption result (IsSchedule (all_bounds self.now.source self.now.state) (times_of times.now))
-            (IsFirstBroken self.now.source self.now.state (times_of times.now)) }
+        ensures first { result ≡ broken_bound self.now.source self.now.state (times_of times.now) }
+        ensures schedule { MatchOption result (IsSchedule (all_bounds self.now.source self.now.state) (times_of times.now))
+            (λ _. ¬ IsSchedule (all_bounds self.now.source self.now.state) (times_of times.now)) }
     {
         if let Some(place) = first_broken(self.base.bounds(), times) {
             return Some(BoundName::Plan(place as u32 + 1));

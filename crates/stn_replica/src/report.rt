@@ -1,4 +1,4 @@
-ghost use Rattle.std.specs.Prelude.{◌≡◌, ℕ, ◌+◌, ◌*◌, ◌<◌, ◌≤◌, ◌++◌, ◌^◌, List, codes, length, map, All, IfOk, OnOk, OnErr, false, slice_index_or, vec_len};
+ghost use Rattle.std.specs.Prelude.{◌≡◌, ℕ, ◌+◌, ◌*◌, ◌<◌, ◌≤◌, ◌++◌, ◌^◌, List, codes, length, map, All, IfOk, OnOk, OnErr};
 ghost use Rattle.std.specs.FinMap.{keys};
 ghost use Rattle.std.specs.List.{flat_map};
 ghost use Rattle.stn_net.specs.Difference.{Difference};
@@ -8,7 +8,7 @@ ghost use Rattle.stn_lift.specs.PlanSource.{events_of};
 ghost use Rattle.stn_records.specs.Content.{known_count, live_of, listed};
 ghost use Rattle.stn_replica.specs.Bounds.{all_bounds, RecordsName};
 ghost use Rattle.stn_replica.specs.Lines.{line, conflict_line, link_line};
-ghost use Rattle.stn_replica.specs.Report.{is_done_mark, is_done_in, IsWindowLines, IsReport, IsConflictPart, heading};
+ghost use Rattle.stn_replica.specs.Report.{most_report, is_done, IsWindowLines, IsReport, IsConflictPart, heading};
 
 use crate::lines::{
     MOST_LINE, append_conflict_line, append_link_line, append_plan_line, append_records_line,
@@ -33,7 +33,7 @@ impl<A: Allocator + Copy> Replica<A> {
     /// `MOST_REPORT` bytes. For want of memory it appends nothing.
     pub fn report<B: Allocator>(&self, out: &mut Vec<u8, B>) -> Result<(), Memory>
         ensures reported { OnOk result ((text : List ℕ) × IsReport self.now.source self.now.state text × (out.new.items ≡ out.old.items ++ text)) }
-        ensures short { OnOk result (length out.new.items ≤ length out.old.items + MOST_REPORT) }
+        ensures short { OnOk result (length out.new.items ≤ length out.old.items + most_report) }
         ensures kept { OnErr result (out.new.items ≡ out.old.items) }
     {
         let text = self.text()?;
@@ -44,13 +44,13 @@ impl<A: Allocator + Copy> Replica<A> {
     // The report.
     fn text(&self) -> Result<Vec<u8, A>, Memory>
         ensures report { IfOk result (λ text. IsReport self.now.source self.now.state text.items) }
-        ensures short { IfOk result (λ text. length text.items ≤ MOST_REPORT) }
+        ensures short { IfOk result (λ text. length text.items ≤ most_report) }
     {
         let live = self.records().live()?;
         let mut text = Vec::new(self.alloc());
         self.append_heading(&live, &mut text)?;
         match self.current() {
-            Some(matrix) => append_windows(self.alloc(), matrix, &live, &mut text)?,
+            Some(matrix) => self.append_windows(matrix, &mut text)?,
             None => self.append_conflict(&live, &mut text)?,
         }
         Ok(text)
@@ -64,6 +64,23 @@ impl<A: Allocator + Copy> Replica<A> {
         let withdrawn = withdrawn_count(self.records());
         append_plan_line(out, self.base().steps(), self.base().events())?;
         append_records_line(out, live.len() as u16, withdrawn)?;
+        Ok(())
+    }
+
+    // `ok` and the windows of the matrix's events.
+    fn append_windows(&self, matrix: &Matrix<A>, out: &mut Vec<u8, A>) -> Result<(), Memory>
+        ensures part { OnOk result ((bounds : List Difference) → IsExact bounds matrix.now → (text : List ℕ)
+            × IsWindowLines bounds (is_done self.now.state) matrix.now.events text
+            × (out.new.items ≡ out.old.items ++ (line (codes "ok") ++ text))) }
+        ensures short { OnOk result (length out.new.items ≤ length out.old.items + MOST_LINE * 513) }
+    {
+        let done = self.done_flags();
+        out.extend_from_slice(b"ok\n")?;
+        for before in 0..matrix.events() {
+            let event = Event::new(before + 1).unwrap();
+            let (earliest, latest) = window(matrix, event);
+            append_window_line(out, event, earliest, latest, done[usize::from(before) + 1])?;
+        }
         Ok(())
     }
 
@@ -110,54 +127,6 @@ fn withdrawn_count<A: Allocator + Copy>(records: &Records<A>) -> u16
     ensures limited { known_count records.now ≤ 4096 }
 {
     records.state().tombstones().entries().len() as u16
-}
-
-// `ok` and the windows of the matrix's events.
-fn append_windows<A: Allocator + Copy>(
-    alloc: A,
-    matrix: &Matrix<A>,
-    live: &[(Id, Mark, Bound)],
-    out: &mut Vec<u8, A>,
-) -> Result<(), Memory>
-    ensures part { OnOk result ((bounds : List Difference) → IsExact bounds matrix.now → (text : List ℕ)
-        × IsWindowLines bounds (is_done_in live.now) matrix.now.events text
-        × (out.new.items ≡ out.old.items ++ (line (codes "ok") ++ text))) }
-    ensures short { OnOk result (length out.new.items ≤ length out.old.items + MOST_LINE * 513) }
-{
-    let done = done_flags(alloc, live, matrix.events())?;
-    out.extend_from_slice(b"ok\n")?;
-    for before in 0..matrix.events() {
-        let event = Event::new(before + 1).unwrap();
-        let (earliest, latest) = window(matrix, event);
-        append_window_line(out, event, earliest, latest, done[usize::from(before) + 1])?;
-    }
-    Ok(())
-}
-
-// For each event, the origin first, whether one of the records says that it is done.
-fn done_flags<A: Allocator>(
-    alloc: A,
-    live: &[(Id, Mark, Bound)],
-    events: u16,
-) -> Result<Vec<bool, A>, Memory>
-    ensures one_each { IfOk result (λ flags. vec_len flags ≡ events + 1) }
-    ensures done { IfOk result (λ flags. (event : ℕ) → event ≤ events
-        → slice_index_or flags.items event false ≡ is_done_in live.now event) }
-{
-    let mut flags = vec![in alloc; false; usize::from(events) + 1]?;
-    for entry in live {
-        let event = usize::from(entry.2.to().number());
-        if is_done_mark(entry.1) && event < flags.len() {
-            flags[event] = true;
-        }
-    }
-    Ok(flags)
-}
-
-fn is_done_mark(mark: Mark) -> bool
-    ensures { result ≡ is_done_mark mark }
-{
-    mark == Mark::Done
 }
 
 // The sum of the cycle, and then its links.

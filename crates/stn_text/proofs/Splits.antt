@@ -1,8 +1,11 @@
 -- The first line of a text and the first word of a line.
-use Rattle.std.proofs.Common.{◌≡◌, ℕ, suc, ◌+◌, ◌<◌, ◌≤◌, Bool, true, false, cond, not, ltb, List, [], ◌∷◌, length, take, drop, Some, None, refl, sym, ap, ◌∙◌, subst, arith, position}
+use Rattle.std.proofs.Common.{◌≡◌, ℕ, suc, ◌+◌, ◌<◌, ◌≤◌, Bool, true, false, cond, not, ltb, List, [], ◌∷◌, ◌++◌, length, take, drop, take-append-drop, Some, None, refl, sym, ap, ◌∙◌, subst, arith, position}
 use Rattle.std.specs.List.{slice_split, onto_first, position_or_len}
 use Rattle.std.specs.Prelude.{filter}
+use Rattle.std.proofs.lemmas.Bool.{eqb-true}
 use Rattle.std.proofs.lemmas.Bool.Decides.{nat_tests}
+use Rattle.std.proofs.lemmas.List.{drop_more}
+use Rattle.std.proofs.lemmas.List.Quantifiers.{position-Some}
 use Rattle.std.proofs.lemmas.List.Splits.{slice_split-cons_yes, slice_split_first}
 use Rattle.stn_text.specs.Lines.{is_line_end, is_gap, without_empty_last, is_word, lines_of, words_of, begins_with_gap}
 
@@ -92,3 +95,9 @@ pub words_of-whole : (line : List ℕ) → 0 < length line → position is_gap l
 unfolding words_of
 words_of-whole [] some e = absurd (omega arith)
 words_of-whole (x ∷ xs) some e = ap (filter is_word) (split_whole is_gap (x ∷ xs) e)
+
+-- byte for byte, a text whose first LF stands at `end`
+pub cut_found : (text : List ℕ) (end : ℕ) → position is_line_end text ≡ Some end → text ≡ take end text ++ 10 ∷ drop (end + 1) text
+cut_found text end e =
+    let at = position-Some is_line_end text end 0 e in
+    sym (take-append-drop end text) ∙ ap (λ t. take end text ++ t) (drop_more text end 0 at.0 ∙ ap (λ b. b ∷ drop (end + 1) text) (eqb-true _ _ at.1))

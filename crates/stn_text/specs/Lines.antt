@@ -1,10 +1,11 @@
 -- A text by lines and words.
-use Rattle.std.specs.Prelude.{ℕ, Bool, true, false, ◌||◌, ◌==◌, List, [], ◌∷◌, filter}
+use Rattle.std.specs.Prelude.{◌≡◌, ◌⊎◌, ℕ, Bool, true, false, ◌||◌, ◌==◌, List, [], ◌∷◌, ◌++◌, filter}
 use Rattle.std.specs.List.{slice_split}
+use Rattle.stn_text.specs.Bytes.{line_feed}
 
 -- the byte LF
 abbrev pub is_line_end : ℕ → Bool
-is_line_end byte = byte == 10
+is_line_end byte = byte == line_feed
 
 -- a space, a tab or the byte CR
 abbrev pub is_gap : ℕ → Bool
@@ -19,6 +20,10 @@ without_empty_last (part ∷ parts) = part ∷ without_empty_last parts
 -- the lines of a text, each without its LF, which the last may lack
 unfoldable pub lines_of : List ℕ → List (List ℕ)
 lines_of text = without_empty_last (slice_split is_line_end text)
+
+-- byte for byte the text is a line, the LF behind it, and the rest; or the line alone
+abbrev pub IsCutBehindLine : List ℕ → List ℕ → List ℕ → Type 0
+IsCutBehindLine text line rest = (text ≡ line ++ line_feed ∷ rest) ⊎ ((text ≡ line) × (rest ≡ []))
 
 -- the part has a byte
 abbrev pub is_word : List ℕ → Bool

@@ -2,9 +2,12 @@
 use Rattle.std.specs.Prelude.{ℕ, ◌&&◌, List, length, nat_le, nat_lt, Option, Some, None, if◌then◌else◌}
 use Rattle.std.specs.Str.{all_ascii_digits}
 use Rattle.std.specs.Str.Parse.{digits_value}
-use Rattle.stn_text.specs.declared.numbers.TheConstants.{MOST_DIGITS}
+
+-- a number has at most so many digits
+abbrev pub most_digits : ℕ
+most_digits = 5
 
 -- the number that a word of one to five decimal digits is
 unfoldable pub number_of : List ℕ → Option ℕ
-number_of word = if (nat_lt 0 (length word) && nat_le (length word) MOST_DIGITS) && all_ascii_digits word
+number_of word = if (nat_lt 0 (length word) && nat_le (length word) most_digits) && all_ascii_digits word
     then Some (digits_value 10 word) else None

@@ -1,10 +1,14 @@
 ghost use Rattle.std.specs.Prelude.{◌≡◌, ◌<◌, ◌≤◌, false, [], ◌∷◌, length, position, MatchOption, IfSome};
-ghost use Rattle.stn_text.specs.Lines.{lines_of, words_of, is_line_end, is_gap, begins_with_gap};
+ghost use Rattle.stn_text.specs.Lines.{IsCutBehindLine, lines_of, words_of, is_line_end, is_gap, begins_with_gap};
 
-/// The first line of a text that is not empty, without its LF, and the text behind it.
+use crate::bytes::LINE_FEED;
+
+/// The first line of a text that is not empty, without its LF, and the text behind it: byte for byte the text is the line, the
+/// LF where it has one, and what stands behind.
 pub fn first_line(text: &[u8]) -> (&[u8], &[u8])
     requires { 0 < length text.now }
     ensures lines { lines_of text.now ≡ result.0.now ∷ lines_of result.1.now }
+    ensures bytes { IsCutBehindLine text.now result.0.now result.1.now }
     ensures shorter { length result.1.now < length text.now }
 {
     match line_end(text) {
@@ -33,7 +37,7 @@ pub fn first_word(line: &[u8]) -> Option<(&[u8], &[u8])>
 fn line_end(text: &[u8]) -> Option<usize>
     ensures { result ≡ position is_line_end text.now }
 {
-    text.iter().position(|byte| *byte == b'\n')
+    text.iter().position(|byte| *byte == LINE_FEED)
 }
 
 // The place of the first byte that parts words.

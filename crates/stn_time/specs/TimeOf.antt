@@ -7,7 +7,7 @@ use Rattle.std.specs.Option.{option_map}
 use Rattle.std.specs.Str.{all_ascii_digits}
 use Rattle.std.specs.Str.Parse.{starts_with_minus}
 use Rattle.stn_time.specs.Text.{Parts, these_parts, is_fine, millis_of}
-use Rattle.stn_time.specs.declared.millis.TheConstants.{HORIZON}
+use Rattle.stn_time.specs.Time.{horizon}
 use Rattle.stn_time.specs.declared.reading.TimeFault.{TimeFault}
 use Rattle.stn_time.specs.declared.reading.TimeFault.TheVariants.{Malformed, TooFine, OutOfRange}
 
@@ -38,7 +38,7 @@ parts_of text = parts_with (starts_with_minus text) (without_minus text)
 
 -- the number of milliseconds lies within the horizon
 abbrev pub is_within_horizon : ℤ → Bool
-is_within_horizon millis = int_le (neg_ℤ HORIZON) millis && int_le millis HORIZON
+is_within_horizon millis = int_le (neg_ℤ horizon) millis && int_le millis horizon
 
 -- the time that the parts spell, or why there is none; Malformed where the text has no parts
 abbrev pub time_of_found : Option Parts → Result ℤ TimeFault

@@ -21,7 +21,7 @@ pub enum TimeFault {
     #[error("a time finer than a millisecond")]
     TooFine,
     /// The time lies beyond `HORIZON`, on either side of zero.
-    #[error("a time beyond the horizon of 1000000 seconds")]
+    #[error("a time beyond the horizon")]
     OutOfRange,
 }
 

@@ -1,6 +1,6 @@
 -- The first fault of the bytes of a text, or its one tree.
 use Rattle.std.specs.Prelude.{◌≡◌, ℕ, ◌+◌, ◌-◌, Bool, false, List, [], ◌∷◌, length, Result, Ok, Err, nat_lt, if◌then◌else◌}
-use Rattle.stn_tree.specs.declared.TheConstants.{MAX_TEXT, MAX_DEPTH}
+pub use Rattle.stn_text.specs.Bytes.{most_text}
 use Rattle.stn_tree.specs.declared.bytes.Kind.{Kind}
 use Rattle.stn_tree.specs.declared.bytes.Kind.TheVariants.{Blank, Open, Close, Letter, Stray}
 use Rattle.stn_tree.specs.declared.scan.TreeFault.{TreeFault}
@@ -10,6 +10,10 @@ use Rattle.stn_tree.specs.declared.scan.Place.TheVariants.{Before, Inside, After
 use Rattle.stn_tree.specs.Bytes.{kind_in, comment_after, line_after}
 use Rattle.stn_tree.specs.Trees.{Trees, End, Group, rows_from}
 
+-- a text has at most so many open brackets
+abbrev pub most_depth : ℕ
+most_depth = 32
+
 infixl 10 ◌>>=◌
 abbrev pub ◌>>=◌ : {A B : Type 0} → Result A TreeFault → (A → Result B TreeFault) → Result B TreeFault
 (Ok x) >>= f = f x
@@ -18,7 +22,7 @@ abbrev pub ◌>>=◌ : {A B : Type 0} → Result A TreeFault → (A → Result B
 -- A list opens before the tree or inside it, and only so deep.
 abbrev pub place_after_open : ℕ → Place → Result Place TreeFault
 place_after_open line Before = Ok (Inside 1)
-place_after_open line (Inside depth) = if nat_lt depth MAX_DEPTH then Ok (Inside (depth + 1)) else Err (TooDeep line)
+place_after_open line (Inside depth) = if nat_lt depth most_depth then Ok (Inside (depth + 1)) else Err (TooDeep line)
 place_after_open line After = Err (Syntax line)
 
 -- A list closes where one is open.
@@ -55,7 +59,7 @@ scanned comment line place (b ∷ bytes) =
 -- The tree of a text, as a row of one list, or the first fault of its bytes.
 unfoldable pub tree_of : List ℕ → Result Trees TreeFault
 tree_of text =
-    if nat_lt MAX_TEXT (length text) then Err TooLong
+    if nat_lt most_text (length text) then Err TooLong
     else (scanned false 1 Before text >>= λ end. Ok (rows_from false 1 text).row)
 
 -- one list, and nothing behind it

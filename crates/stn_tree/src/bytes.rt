@@ -3,14 +3,10 @@
 ghost use Rattle.std.specs.Prelude.{◌≡◌, ◌^◌, ◌-◌, ◌<◌};
 ghost use Rattle.stn_tree.specs.Bytes as spec;
 
-/// The end of a line.
-pub const LINE_FEED: u8 = 10;
-
-/// A comment goes from this byte up to the end of its line.
-pub const SEMICOLON: u8 = 59;
+use stn_text::{LINE_FEED, begins_comment, is_space, is_visible};
 
 /// What a byte of a domain text stands for.
-#[derive(Clone, Copy, Debug, PartialEq, Eq, Hash)]
+#[derive(Clone, Copy, PartialEq, Eq)]
 pub enum Kind {
     /// A space, a semicolon, or any byte of a comment.
     Blank,
@@ -24,26 +20,12 @@ pub enum Kind {
     Stray,
 }
 
-/// Whether the byte is a tab, a line feed, a vertical tab, a form feed, a carriage return or a space.
-pub fn is_space(byte: u8) -> bool
-    ensures { result ≡ spec.is_space byte }
-{
-    (9 <= byte && byte <= 13) || byte == 32
-}
-
-/// Whether the byte prints in ASCII and is no space.
-pub fn is_visible(byte: u8) -> bool
-    ensures { result ≡ spec.is_visible byte }
-{
-    33 <= byte && byte <= 126
-}
-
 /// The kind of a byte outside comments.
 #[tactic(auto, unfolding(crate::specs::Bytes::kind_of))]
 pub fn kind_of(byte: u8) -> Kind
     ensures { result ≡ spec.kind_of byte }
 {
-    if is_space(byte) || byte == SEMICOLON {
+    if is_space(byte) || begins_comment(byte) {
         Kind::Blank
     } else if byte == b'(' {
         Kind::Open
@@ -68,7 +50,7 @@ pub fn kind_in(comment: bool, byte: u8) -> Kind
 pub fn comment_after(comment: bool, byte: u8) -> bool
     ensures { result ≡ spec.comment_after comment byte }
 {
-    byte != LINE_FEED && (comment || byte == SEMICOLON)
+    byte != LINE_FEED && (comment || begins_comment(byte))
 }
 
 /// The line behind a byte that stands on a line.

@@ -7,19 +7,22 @@ ghost use Rattle.stn_tree.specs.Cursors.{row_at};
 
 use crate::bytes::{Kind, comment_after, kind_in, line_after};
 use crate::cursor::Cursor;
-use crate::{MAX_DEPTH, MAX_TEXT};
+use stn_text::is_too_long;
 use thiserror::Error;
+
+// How many brackets are open at once at most.
+const MOST_DEPTH: u8 = 32;
 
 /// Why the bytes of a text are not one tree: the first fault from left to right.
 #[derive(Clone, Copy, Debug, PartialEq, Eq, Hash, Error)]
 pub enum TreeFault {
-    /// The text has more than `MAX_TEXT` bytes.
+    /// The text has more than 65,536 bytes.
     #[error("the text is too long")]
     TooLong,
     /// On this line a byte may not stand, or the text ends too early.
     #[error("syntax on line {0}")]
     Syntax(u32),
-    /// On this line a bracket opens inside `MAX_DEPTH` open ones.
+    /// On this line a bracket opens inside 32 open ones.
     #[error("too many open brackets on line {0}")]
     TooDeep(u32),
 }
@@ -37,7 +40,7 @@ fn place_after_open(line: u32, place: Place) -> Result<Place, TreeFault>
 {
     match place {
         Place::Before => Ok(Place::Inside(1)),
-        Place::Inside(depth) if depth < MAX_DEPTH => Ok(Place::Inside(depth + 1)),
+        Place::Inside(depth) if depth < MOST_DEPTH => Ok(Place::Inside(depth + 1)),
         Place::Inside(_) => Err(TreeFault::TooDeep(line)),
         Place::After => Err(TreeFault::Syntax(line)),
     }
@@ -89,14 +92,14 @@ fn scan(text: &[u8]) -> Result<Place, TreeFault>
     }
 }
 
-/// The place before the one tree of a text, or the first fault of its bytes: 10 where it has more than `MAX_TEXT` bytes, else 11 or 12
-/// from left to right.
+/// The place before the one tree of a text, or the first fault of its bytes: 10 where it has more than 65,536 bytes, else 11 or 12 from
+/// left to right.
 #[tactic(auto, unfolding(crate::specs::Scan::tree_of))]
 pub fn start(text: &[u8]) -> Result<Cursor<'_>, TreeFault>
     ensures tree { MatchResult result (λ cursor. tree_of text.now ≡ Ok (row_at cursor)) (λ fault. tree_of text.now ≡ Err fault) }
     ensures one { IfOk result (λ cursor. IsOneList (row_at cursor)) }
 {
-    if MAX_TEXT < text.len() {
+    if is_too_long(text) {
         return Err(TreeFault::TooLong);
     }
     scan(text)?;

@@ -1,1 +1,6 @@
 pub mod Windows
+pub mod Readiness
+pub mod Coming
+pub mod OneAnswer
+pub mod Rehearsals
+pub mod UnderWay

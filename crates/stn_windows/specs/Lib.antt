@@ -1,1 +1,4 @@
 pub mod Window
+pub mod Dispatch
+pub mod Rehearsal
+pub mod Leading

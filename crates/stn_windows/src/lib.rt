@@ -1,8 +1,20 @@
-//! The windows of a plan's events: the times that each takes in some schedule.
+//! The windows of a plan's events, which event may run next, and a rehearsal of the whole rest of a
+//! plan.
+//!
+//! A list of tests says which events are done: one for each event, the origin's first. The origin's
+//! counts for nothing.
 #![tactic(auto)]
 
+pub use answers::{Next, RehearseFault};
+pub use dispatch::{next, ready};
 pub use ends::window;
+pub use laws::{next_unique, rehearsal_unique};
+pub use rehearsal::rehearse;
 
+mod answers;
+mod dispatch;
 mod ends;
+mod laws;
+mod rehearsal;
 #[cfg(test)]
 mod tests;

@@ -1,8 +1,8 @@
-use crate::window;
+use crate::{Next, RehearseFault, next, ready, rehearse, window};
 use std::alloc::Allocator;
 use std::test::Fail;
 use stn_matrix::Matrix;
-use stn_net::{Bound, Event};
+use stn_net::{Bound, Event, MOST_EVENTS};
 use stn_time::{HORIZON, Ms};
 
 // Tightens the matrix by the bound of these events and milliseconds.
@@ -53,5 +53,149 @@ fn zero_sum(rt: HostRuntime) -> Result<(), Fail> {
     assert!(rt; tighten(&mut matrix, 0, 2, -HORIZON, 5_000)?);
     assert_eq!(rt; ends(&matrix, 1)?, (0, 0));
     assert_eq!(rt; ends(&matrix, 2)?, (5_000, 5_000));
+    Ok(())
+}
+
+// What comes next from so many milliseconds on.
+fn next_at<A: Allocator>(matrix: &Matrix<A>, done: &[bool], now: i64) -> Result<Next, Fail> {
+    let now = Ms::new(now).ok_or("beyond the horizon")?;
+    if done.len() != usize::from(matrix.events()) + 1 {
+        return Err("not one test for each event".into());
+    }
+    Ok(next(matrix, done, now))
+}
+
+// A run of an event at so many milliseconds.
+fn run(time: i64, event: u16) -> Result<(Ms, Event), Fail> {
+    let time = Ms::new(time).ok_or("beyond the horizon")?;
+    let event = Event::new(event).ok_or("no event")?;
+    Ok((time, event))
+}
+
+fn runs_next(time: i64, event: u16) -> Result<Next, Fail> {
+    let (time, event) = run(time, event)?;
+    Ok(Next::Run(time, event))
+}
+
+fn overdue(event: u16) -> Result<Next, Fail> {
+    let event = Event::new(event).ok_or("no event")?;
+    Ok(Next::Overdue(event))
+}
+
+// The rehearsal from so many milliseconds on.
+fn rehearsal<A: Allocator + Copy>(
+    alloc: A,
+    matrix: &Matrix<A>,
+    done: &[bool],
+    now: i64,
+) -> Result<Result<Vec<(Ms, Event), A>, RehearseFault>, Fail> {
+    let now = Ms::new(now).ok_or("beyond the horizon")?;
+    if done.len() != usize::from(matrix.events()) + 1 {
+        return Err("not one test for each event".into());
+    }
+    Ok(rehearse(alloc, matrix, done, now))
+}
+
+#[test]
+fn around_a_window(rt: HostRuntime) -> Result<(), Fail> {
+    let mut matrix = Matrix::bare(rt.alloc(), 1)?;
+    assert!(rt; tighten(&mut matrix, 0, 1, 2_000, 10_000)?);
+    let left = [false, false];
+    assert_eq!(rt; next_at(&matrix, &left, 1_999)?, runs_next(2_000, 1)?);
+    assert_eq!(rt; next_at(&matrix, &left, 2_000)?, runs_next(2_000, 1)?);
+    assert_eq!(rt; next_at(&matrix, &left, 2_001)?, runs_next(2_001, 1)?);
+    assert_eq!(rt; next_at(&matrix, &left, 10_000)?, runs_next(10_000, 1)?);
+    assert_eq!(rt; next_at(&matrix, &left, 10_001)?, overdue(1)?);
+    assert_eq!(rt; next_at(&matrix, &[false, true], 10_001)?, Next::AllDone);
+    Ok(())
+}
+
+#[test]
+fn ties_by_number(rt: HostRuntime) -> Result<(), Fail> {
+    let matrix = Matrix::bare(rt.alloc(), 2)?;
+    assert_eq!(rt;
+        next_at(&matrix, &[false, false, false], 0)?,
+        runs_next(0, 1)?
+    );
+    assert_eq!(rt;
+        next_at(&matrix, &[false, true, false], 0)?,
+        runs_next(0, 2)?
+    );
+    assert_eq!(rt;
+        next_at(&matrix, &[false, false, false], 7)?,
+        runs_next(7, 1)?
+    );
+    Ok(())
+}
+
+// A match burns for eight seconds, and the fuse is mended in five by its light.
+fn cellar<A: Allocator>(alloc: A) -> Result<Matrix<A>, Fail> {
+    let mut matrix = Matrix::bare(alloc, 4)?;
+    let mut possible = tighten(&mut matrix, 1, 2, 8_000, 8_000)?;
+    possible = tighten(&mut matrix, 3, 4, 5_000, 5_000)? && possible;
+    possible = tighten(&mut matrix, 1, 3, 1, HORIZON)? && possible;
+    possible = tighten(&mut matrix, 4, 2, 1, HORIZON)? && possible;
+    if possible {
+        Ok(matrix)
+    } else {
+        Err("no schedule".into())
+    }
+}
+
+#[test]
+fn next_in_the_cellar(rt: HostRuntime) -> Result<(), Fail> {
+    let mut matrix = cellar(rt.alloc())?;
+    assert_eq!(rt;
+        next_at(&matrix, &[false, false, false, false, false], 0)?,
+        runs_next(0, 1)?
+    );
+    assert!(rt; tighten(&mut matrix, 0, 1, 0, 0)?);
+    let lit = [false, true, false, false, false];
+    assert_eq!(rt; next_at(&matrix, &lit, 0)?, runs_next(1, 3)?);
+    assert_eq!(rt; next_at(&matrix, &lit, 3_000)?, overdue(3)?);
+    Ok(())
+}
+
+#[test]
+fn rehearsal_in_the_cellar(rt: HostRuntime) -> Result<(), Fail> {
+    let mut matrix = cellar(rt.alloc())?;
+    assert!(rt; tighten(&mut matrix, 0, 1, 0, 0)?);
+    let lit = [false, true, false, false, false];
+    let runs = rehearsal(rt.alloc(), &matrix, &lit, 0)??;
+    assert_eq!(rt; runs.len(), 3);
+    assert_eq!(rt; runs.first().copied(), Some(run(1, 3)?));
+    assert_eq!(rt; runs.get(1).copied(), Some(run(5_001, 4)?));
+    assert_eq!(rt; runs.last().copied(), Some(run(8_000, 2)?));
+    let mend = Event::new(3).ok_or("no event")?;
+    let late = rehearsal(rt.alloc(), &matrix, &lit, 3_000)?;
+    assert_eq!(rt; late.err(), Some(RehearseFault::Overdue(mend)));
+    Ok(())
+}
+
+#[test]
+fn ready_in_the_cellar(rt: HostRuntime) -> Result<(), Fail> {
+    let matrix = cellar(rt.alloc())?;
+    if matrix.events() != 4 {
+        return Err("not four events".into());
+    }
+    let left = [false, false, false, false, false];
+    let (time, start) = run(0, 1)?;
+    if start.number() != 1 {
+        return Err("another event".into());
+    }
+    assert!(rt; ready(&matrix, &left, start, time));
+    Ok(())
+}
+
+#[test]
+fn rehearsal_of_512(rt: HostRuntime) -> Result<(), Fail> {
+    let mut matrix = Matrix::bare(rt.alloc(), MOST_EVENTS)?;
+    for event in 1..=MOST_EVENTS {
+        assert!(rt; tighten(&mut matrix, event - 1, event, 1, 2)?);
+    }
+    let left = [false; 513];
+    let runs = rehearsal(rt.alloc(), &matrix, &left, 0)??;
+    assert_eq!(rt; runs.len(), 512);
+    assert_eq!(rt; runs.last().copied(), Some(run(512, MOST_EVENTS)?));
     Ok(())
 }

@@ -1,3 +1,10 @@
+pub mod Parts
+pub mod Accepted
+pub mod Whole
 pub mod Sites
 pub mod Pair
+pub mod Merges
+pub mod Sendings
 pub mod Runs
+pub mod Lawful
+pub mod EachRun

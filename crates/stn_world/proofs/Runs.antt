@@ -1,41 +1,26 @@
 -- What the sites of a world hold after a run.
-use Rattle.std.proofs.Common.{◌≡◌, ◌↔◌, ◌⊎◌, inl, inr, ⊎_elim, ℕ, zero, suc, ◌-◌, ◌<◌, ◌≤◌, Some, List, [], ◌∷◌, length, set, get_or, replicate, refl, ap, sym, subst, ◌∙◌, arith}
-use Rattle.std.proofs.lemmas.List.{length-set}
+use Rattle.std.proofs.Common.{◌≡◌, ◌↔◌, ◌⊎◌, inl, inr, ⊎_elim, ℕ, ◌-◌, ◌≤◌, cond, is_some, Option, Some, None, List, [], ◌∷◌, refl, ap, sym, subst, ◌∙◌, arith}
+use Rattle.std.proofs.lemmas.Bool.{false≢true, cases_eq}
+use Rattle.std.proofs.lemmas.List.{length-set, get_or-set_other}
 use Rattle.stn_lift.specs.PlanSource.{PlanSource}
-use Rattle.stn_records.specs.Content.{Content, Item, HasItem, no_content, with_record, with_tombstone, join_contents, joined_contents, addition, withdrawal}
+use Rattle.stn_records.specs.Content.{Content, Item, HasItem, no_content, with_record, with_tombstone, joined_contents, addition, withdrawal}
 use Rattle.stn_records.specs.ContentLaws.{contents_join}
+use Rattle.stn_replica.specs.Held.{plain, executed}
 use Rattle.stn_replica.proofs.Items.{nothing_there, record_brought, withdrawal_brought}
-use Rattle.stn_world.specs.World.{World, HasSite, opening_world, content_at, next_id_at, with_content}
-use Rattle.stn_world.specs.Runs.{Step, made, withdrew, merged, after, after_all, IsAccepted, AreAccepted, Brings, TookAt}
-
--- a place of a list that was set, or another
-get_here : {X : Type 0} (xs : List X) (i : ℕ) (x d : X) → i < length xs → get_or (set xs i x) i d ≡ x
-get_here [] i x d lt = absurd (omega arith)
-get_here (y ∷ xs) zero x d lt = refl
-get_here (y ∷ xs) (suc i) x d lt = get_here xs i x d (omega arith)
-
-get_else : {X : Type 0} (xs : List X) (i j : ℕ) (x d : X) → (i ≡ j → ⊥) → get_or (set xs i x) j d ≡ get_or xs j d
-get_else [] i j x d apart = refl
-get_else (y ∷ xs) zero zero x d apart = absurd (apart refl)
-get_else (y ∷ xs) zero (suc j) x d apart = refl
-get_else (y ∷ xs) (suc i) zero x d apart = refl
-get_else (y ∷ xs) (suc i) (suc j) x d apart = get_else xs i j x d (λ e. apart (ap suc e))
-
-same_or_apart : (a b : ℕ) → (a ≡ b) ⊎ (a ≡ b → ⊥)
-same_or_apart zero zero = inl refl
-same_or_apart zero (suc b) = inr (λ e. absurd (omega (arith, e)))
-same_or_apart (suc a) zero = inr (λ e. absurd (omega (arith, e)))
-same_or_apart (suc a) (suc b) = ⊎_elim (λ e. inl (ap suc e)) (λ apart. inr (λ e. apart (omega (arith, e)))) (same_or_apart a b)
+use Rattle.stn_world.specs.declared.faults.WorldFault.{WorldFault}
+use Rattle.stn_world.specs.World.{World, HasSite, opening_world, content_at, packet_at, next_id_at, with_content}
+use Rattle.stn_world.specs.Steps.{Step, added, finished, withdrew, merged, sent, delivered, after, stepped, run, step_refusal, IsAccepted, Brings, TookAt}
+use Rattle.stn_world.specs.Parts.{IsPart}
+use Rattle.stn_world.specs.Whole.{IsCoherent}
+use Rattle.stn_world.proofs.Accepted.{accepted_addition, accepted_execution, accepted_withdrawal, accepted_merge, accepted_delivery}
+use Rattle.stn_world.proofs.Whole.{content_here, sites_join, packet_joins, coherent_after, grows_after, coherent_at_first, nothing_at_first}
 
 there_after : (world : World) (at : ℕ) (content : Content) (site : ℕ) → HasSite world site → HasSite (with_content world at content) site
 there_after world at content site there = record { least = there.least; most = subst (λ (n : ℕ). site ≤ n) (sym (length-set world.sites (at - 1) content)) there.most }
 
-content_here : (world : World) (site : ℕ) (content : Content) → HasSite world site → content_at (with_content world site content) site ≡ content
-content_here world site content there = let least = there.least in let most = there.most in get_here world.sites (site - 1) content no_content (omega arith)
-
 content_else : (world : World) (at site : ℕ) (content : Content) → HasSite world at → HasSite world site → (at ≡ site → ⊥) → content_at (with_content world at content) site ≡ content_at world site
 content_else world at site content there other apart = let a = there.least in let b = other.least in
-    get_else world.sites (at - 1) (site - 1) content no_content (λ e. apart (omega (arith, a, b, e)))
+    get_or-set_other world.sites (at - 1) (site - 1) content no_content (λ e. apart (omega (arith, a, b, e)))
 
 -- what a change of one site brings to each
 changed_at : (world : World) (at : ℕ) (content : Content) (New : Item → Type 0) (item : Item) → HasSite world at
@@ -50,25 +35,78 @@ changed_at world at content New item there change site other = ⊎_elim
       λ h. inl (subst (λ (c : Content). HasItem c item) (content_else world at site content there other apart) h),
       λ h. subst (λ (c : Content). HasItem c item) (sym (content_else world at site content there other apart)) (⊎_elim (λ x. x) (λ n. absurd (apart n.0)) h),
     ))
-    (same_or_apart at site)
+    (cases_eq at site)
 
-one_step : (world : World) (step : Step) → IsAccepted world step → (site : ℕ) → HasSite world site → (item : Item)
+one_step : (world : World) (step : Step) → IsAccepted world step → IsCoherent world → (site : ℕ) → HasSite world site → (item : Item)
     → HasItem (content_at (after world step) site) item ↔ (HasItem (content_at world site) item ⊎ Brings world step site item)
-one_step world (made at one) there site other item =
-    changed_at world at (with_record (content_at world at) (next_id_at world at) one) (λ i. i ≡ addition (next_id_at world at) one) item there
-    (record_brought (content_at world at) (with_record (content_at world at) (next_id_at world at) one) at (next_id_at world at) one refl refl item) site other
-one_step world (withdrew at id) there site other item =
-    changed_at world at (with_tombstone (content_at world at) id) (λ i. i ≡ withdrawal id) item there
+one_step world (added at bound) accepted coherent site other item =
+    changed_at world at (with_record (content_at world at) (next_id_at world at) (plain bound)) (λ i. i ≡ addition (next_id_at world at) (plain bound)) item
+    (accepted_addition world at bound accepted).0
+    (record_brought (content_at world at) (with_record (content_at world at) (next_id_at world at) (plain bound)) at (next_id_at world at) (plain bound) refl refl item) site other
+one_step world (finished at event time) accepted coherent site other item =
+    changed_at world at (with_record (content_at world at) (next_id_at world at) (executed time event)) (λ i. i ≡ addition (next_id_at world at) (executed time event)) item
+    (accepted_execution world at event time accepted).0
+    (record_brought (content_at world at) (with_record (content_at world at) (next_id_at world at) (executed time event)) at (next_id_at world at) (executed time event) refl refl item) site other
+one_step world (withdrew at id) accepted coherent site other item =
+    changed_at world at (with_tombstone (content_at world at) id) (λ i. i ≡ withdrawal id) item (accepted_withdrawal world at id accepted).0
     (withdrawal_brought (content_at world at) (with_tombstone (content_at world at) id) id refl item) site other
-one_step world (merged at from) accepted site other item =
-    let joined = joined_contents (content_at world at) (content_at world from) in
-    let joins : join_contents (content_at world at) (content_at world from) ≡ Some joined = accepted.2 ∙ ap Some (content_here world at joined accepted.0) in
-    changed_at world at joined (HasItem (content_at world from)) item accepted.0 (contents_join.union (content_at world at) (content_at world from) joined joins item) site other
+one_step world (merged at from) accepted coherent site other item =
+    changed_at world at (joined_contents (content_at world at) (content_at world from)) (HasItem (content_at world from)) item (accepted_merge world at from accepted).0
+    (contents_join.union (content_at world at) (content_at world from) (joined_contents (content_at world at) (content_at world from)) (sites_join world coherent at from) item) site other
+one_step world (sent at part) accepted coherent site other item = (inl, λ h. ⊎_elim (λ x. x) (λ none. absurd none) h)
+one_step world (delivered at number) accepted coherent site other item =
+    changed_at world at (joined_contents (content_at world at) (packet_at world number)) (HasItem (packet_at world number)) item (accepted_delivery world at number accepted).0
+    (contents_join.union (content_at world at) (packet_at world number) (joined_contents (content_at world at) (packet_at world number)) (packet_joins world coherent at number) item) site other
 
 site_stays : (world : World) (step : Step) (site : ℕ) → HasSite world site → HasSite (after world step) site
-site_stays world (made at one) site there = there_after world at _ site there
+site_stays world (added at bound) site there = there_after world at _ site there
+site_stays world (finished at event time) site there = there_after world at _ site there
 site_stays world (withdrew at id) site there = there_after world at _ site there
 site_stays world (merged at other) site there = there_after world at _ site there
+site_stays world (sent at part) site there = record { least = there.least; most = there.most }
+site_stays world (delivered at number) site there = there_after world at _ site there
+
+after_keeps : (world : World) (step : Step) → (after world step).source ≡ world.source
+after_keeps world (added at bound) = refl
+after_keeps world (finished at event time) = refl
+after_keeps world (withdrew at id) = refl
+after_keeps world (merged at other) = refl
+after_keeps world (sent at part) = refl
+after_keeps world (delivered at number) = refl
+
+-- a step that is accepted is taken, and one that is refused changes nothing
+module _ (P : World → Type 0) (world : World) (step : Step) where
+  by_refusal : (o : Option WorldFault) → step_refusal world step ≡ o → (IsAccepted world step → P (after world step)) → ((IsAccepted world step → ⊥) → P world) → P (cond (is_some o) world (after world step))
+  by_refusal None e taken kept = taken e
+  by_refusal (Some cause) e taken kept = kept (λ none. absurd (false≢true (ap is_some (sym none ∙ e))))
+
+  pub for_step : (IsAccepted world step → P (after world step)) → ((IsAccepted world step → ⊥) → P world) → P (stepped world step)
+  for_step = by_refusal (step_refusal world step) refl
+
+-- a run keeps the sites and the plan
+pub run_stays : (world : World) (steps : List Step) (site : ℕ) → HasSite world site → HasSite (run world steps) site
+run_stays world [] site there = there
+run_stays world (step ∷ steps) site there =
+    run_stays (stepped world step) steps site (for_step (λ (next : World). HasSite next site) world step (λ _. site_stays world step site there) (λ _. there))
+
+pub run_keeps : (world : World) (steps : List Step) → (run world steps).source ≡ world.source
+run_keeps world [] = refl
+run_keeps world (step ∷ steps) =
+    run_keeps (stepped world step) steps ∙ for_step (λ (next : World). next.source ≡ world.source) world step (λ _. after_keeps world step) (λ _. refl)
+
+pub coherent_stepped : (world : World) (step : Step) → IsCoherent world → IsCoherent (stepped world step)
+coherent_stepped world step coherent = for_step IsCoherent world step (λ accepted. coherent_after world step accepted coherent) (λ _. coherent)
+
+pub coherent_run : (world : World) (steps : List Step) → IsCoherent world → IsCoherent (run world steps)
+coherent_run world [] coherent = coherent
+coherent_run world (step ∷ steps) coherent = coherent_run (stepped world step) steps (coherent_stepped world step coherent)
+
+-- what a site holds it holds ever after
+pub grows_run : (world : World) (steps : List Step) → IsCoherent world → (site : ℕ) → IsPart (content_at world site) (content_at (run world steps) site)
+grows_run world [] coherent site item there = there
+grows_run world (step ∷ steps) coherent site item there =
+    grows_run (stepped world step) steps (coherent_stepped world step coherent) site item
+    (for_step (λ (next : World). HasItem (content_at next site) item) world step (λ _. grows_after world step coherent site item there) (λ _. there))
 
 regroup : {A B C N L : Type 0} → (L ↔ (N ⊎ C)) → (N ↔ (A ⊎ B)) → L ↔ (A ⊎ (B ⊎ C))
 regroup last first = (
@@ -76,22 +114,26 @@ regroup last first = (
   λ h. ⊎_elim (λ a. last.1 (inl (first.1 (inl a)))) (λ rest. ⊎_elim (λ b. last.1 (inl (first.1 (inr b)))) (λ c. last.1 (inr c)) rest) h,
 )
 
-all_steps : (world : World) (steps : List Step) → AreAccepted world steps → (site : ℕ) → HasSite world site → (item : Item)
-    → HasItem (content_at (after_all world steps) site) item ↔ (HasItem (content_at world site) item ⊎ TookAt world steps site item)
-all_steps world [] accepted site there item = (inl, λ h. ⊎_elim (λ x. x) (λ none. absurd none) h)
-all_steps world (step ∷ steps) accepted site there item =
-    regroup (all_steps (after world step) steps accepted.1 site (site_stays world step site there) item) (one_step world step accepted.0 site there item)
+pub this_step : (world : World) (step : Step) → IsCoherent world → (site : ℕ) → HasSite world site → (item : Item)
+    → HasItem (content_at (stepped world step) site) item ↔ (HasItem (content_at world site) item ⊎ (IsAccepted world step × Brings world step site item))
+this_step world step coherent site there item =
+    for_step (λ (next : World). HasItem (content_at next site) item ↔ (HasItem (content_at world site) item ⊎ (IsAccepted world step × Brings world step site item))) world step
+    (λ accepted. let one = one_step world step accepted coherent site there item in
+    (λ h. ⊎_elim inl (λ b. inr (accepted, b)) (one.0 h), λ h. one.1 (⊎_elim inl (λ b. inr b.1) h)))
+    (λ refused. (inl, λ h. ⊎_elim (λ x. x) (λ b. absurd (refused b.0)) h))
 
-get_same : {X : Type 0} (n : ℕ) (x : X) (i : ℕ) → get_or (replicate n x) i x ≡ x
-get_same zero x i = refl
-get_same (suc n) x zero = refl
-get_same (suc n) x (suc i) = get_same n x i
+all_steps : (world : World) (steps : List Step) → IsCoherent world → (site : ℕ) → HasSite world site → (item : Item)
+    → HasItem (content_at (run world steps) site) item ↔ (HasItem (content_at world site) item ⊎ TookAt world steps site item)
+all_steps world [] coherent site there item = (inl, λ h. ⊎_elim (λ x. x) (λ none. absurd none) h)
+all_steps world (step ∷ steps) coherent site there item =
+    regroup (all_steps (stepped world step) steps (coherent_stepped world step coherent) site
+    (for_step (λ (next : World). HasSite next site) world step (λ _. site_stays world step site there) (λ _. there)) item) (this_step world step coherent site there item)
 
-pub sites_are_unions : (source : PlanSource) (sites : ℕ) (steps : List Step) → AreAccepted (opening_world source sites) steps → (site : ℕ) → HasSite (opening_world source sites) site
-    → (item : Item) → HasItem (content_at (after_all (opening_world source sites) steps) site) item ↔ TookAt (opening_world source sites) steps site item
-sites_are_unions source sites steps accepted site there item =
-    let all = all_steps (opening_world source sites) steps accepted site there item in (
-      λ h. ⊎_elim (λ x. absurd (nothing_there item (subst (λ (c : Content). HasItem c item) (get_same sites no_content (site - 1)) x))) (λ t. t) (all.0 h),
+pub sites_are_unions : (source : PlanSource) (sites : ℕ) (steps : List Step) (site : ℕ) → HasSite (opening_world source sites) site
+    → (item : Item) → HasItem (content_at (run (opening_world source sites) steps) site) item ↔ TookAt (opening_world source sites) steps site item
+sites_are_unions source sites steps site there item =
+    let all = all_steps (opening_world source sites) steps (coherent_at_first source sites) site there item in (
+      λ h. ⊎_elim (λ x. absurd (nothing_there item (subst (λ (c : Content). HasItem c item) (nothing_at_first source sites site) x))) (λ t. t) (all.0 h),
       λ t. all.1 (inr t),
     )
 

@@ -1,21 +1,23 @@
 -- The replicas of a world, as they are made and as one of them changes.
 use Rattle.std.proofs.Common.{◌≡◌, true, false, not, is_some, Some, None, Option, ℕ, zero, suc, ◌+◌, ◌-◌, ◌<◌, ◌≤◌, List, [], ◌∷◌, ◌++◌, length, map, replicate, set, get_or, refl, ap, sym, ◌∙◌, arith, subst}
-use Rattle.std.proofs.lemmas.List.{map-append, map-set, length-set, length-append, get_or-map, length-map}
+use Rattle.std.proofs.lemmas.List.{get_or_default, map-append, map-set, set-get_or, length-set, length-append, get_or-map, length-map}
 use Rattle.std.proofs.lemmas.List.FromFn.{get_or-range_with_len}
 use Rattle.std.proofs.Math.Seq.{map-set_same}
 use Rattle.std.specs.List.{range_with_len}
 use Rattle.stn_lift.specs.PlanSource.{PlanSource}
 use Rattle.stn_records.specs.Content.{Content, no_content, with_record, with_tombstone, dispute_contents, join_contents, joined_contents}
 use Rattle.stn_records.specs.ContentLaws.{contents_dispute, contents_undisputed, contents_repeat}
-use Rattle.stn_replica.specs.Held.{Held}
+use Rattle.stn_replica.specs.Held.{Held, next_id}
 use Rattle.stn_net.specs.Difference.{Difference}
 use Rattle.stn_records.specs.Id.{SiteCounter}
 use Rattle.stn_records.specs.declared.record.Record.{Record}
-use Rattle.stn_replica.specs.declared.faults.ReplicaFault.{ReplicaFault}
-use Rattle.stn_replica.specs.declared.faults.ReplicaFault.TheVariants.{NoEvent, SameEvent, Crossed, CounterSpent, Full, Unknown, Clash, Memory}
-use Rattle.stn_replica.specs.Faults.{next_id, CanAdd, IsAddFault, CanTake, IsTakeFault}
-use Rattle.stn_world.specs.World.{World, HasSite, content_at, held_at, next_id_at, with_content, make, withdraw}
-use Rattle.stn_world.specs.Sites.{contents_of, IsSites}
+use Rattle.stn_replica.specs.Refusals.{add_refusal, done_refusal, withdraw_refusal, take_refusal}
+use Rattle.stn_world.specs.World.{World, most_packets, HasSite, HasPacket, content_at, packet_at, held_at, next_id_at, with_content, make, withdraw, send, deliver}
+use Rattle.stn_replica.specs.Calls.{Accepted, added, withdrew, took, Leaves}
+use Rattle.stn_world.specs.Whole.{IsCoherent, IsSoundWorld}
+use Rattle.stn_records.specs.Id.{most_sites}
+use Rattle.stn_world.proofs.Whole.{coherent_at_first}
+use Rattle.stn_world.specs.Sites.{contents_of, world_of, IsSites}
 
 -- one number more
 pub range_more : (a n : ℕ) → range_with_len a (suc n) ≡ range_with_len a n ++ (a + n) ∷ []
@@ -42,6 +44,19 @@ started_more source count replicas one so_far site src state = let site_is : one
   numbers = map-append (λ (r : Held). r.site) replicas (one ∷ []) ∙ (ap (λ ks. ks ++ one.site ∷ []) so_far.numbers ∙ (ap (λ k. range_with_len 1 count ++ k ∷ []) site_is ∙ sym (range_more 1 count)));
   sources = map-append (λ (r : Held). r.source) replicas (one ∷ []) ∙ (ap (λ ks. ks ++ one.source ∷ []) so_far.sources ∙ (ap (λ k. replicate count source ++ k ∷ []) src ∙ sym (replicate_more count source)));
   nothing = map-append (λ (r : Held). r.state) replicas (one ∷ []) ∙ (ap (λ ks. ks ++ one.state ∷ []) so_far.nothing ∙ (ap (λ k. replicate count no_content ++ k ∷ []) state ∙ sym (replicate_more count no_content)));
+}
+
+-- and they are a world's
+pub started_sound : (source : PlanSource) (count : ℕ) (replicas : List Held) → IsStarted source count replicas → 1 ≤ count → count ≤ most_sites → IsSoundWorld source replicas []
+started_sound source count replicas all least most = record {
+  sites = record {
+    least = omega (arith, all.counted);
+    most = omega (arith, all.counted);
+    numbers = all.numbers ∙ ap (range_with_len 1) (sym all.counted);
+    sources = all.sources ∙ ap (λ (n : ℕ). replicate n source) (sym all.counted);
+  };
+  few = omega arith;
+  coherent = subst IsCoherent (ap (λ (l : List Content). record { source = source; sites = l; packets = [] }) (sym all.nothing)) (coherent_at_first source count);
 }
 
 -- a replica's site is its place and one
@@ -78,8 +93,8 @@ pub record IsHeldAt (world : World) (site : ℕ) (one : Held) : Type 0 where
   pub state : one.state ≡ content_at world site
 
 -- the replica at a site's place is the site's
-pub held_at_place : (world : World) (source : PlanSource) (replicas : List Held) (place site : ℕ) (d : Held)
-    → world ≡ record { source = source; sites = contents_of replicas } → IsSites source replicas → place ≡ site - 1 → HasSite world site
+pub held_at_place : {packets : List Content} (world : World) (source : PlanSource) (replicas : List Held) (place site : ℕ) (d : Held)
+    → world ≡ world_of source replicas packets → IsSites source replicas → place ≡ site - 1 → HasSite world site
     → IsHeldAt world site (get_or replicas place d)
 held_at_place world source replicas place site d is sites at there =
     let least = there.least in
@@ -94,13 +109,13 @@ held_at_place world source replicas place site d is sites at there =
     }
 
 -- the world where a site's replica has become another
-pub world_set : (world : World) (source : PlanSource) (replicas : List Held) (place site : ℕ) (one : Held) (content : Content)
-    → world ≡ record { source = source; sites = contents_of replicas } → place ≡ site - 1 → one.state ≡ content
-    → record { source = source; sites = contents_of (set replicas place one) } ≡ with_content world site content
-world_set world source replicas place site one content is at holds =
-    ap (λ (l : List Content). record { source = source; sites = l }) (map-set (λ (r : Held). r.state) replicas place one)
-    ∙ (ap (λ (c : Content). record { source = source; sites = set (contents_of replicas) place c }) holds
-    ∙ (ap (λ (k : ℕ). record { source = source; sites = set (contents_of replicas) k content }) at
+pub world_set : {packets : List Content} (world : World) (source : PlanSource) (replicas : List Held) (place site : ℕ) (one : Held) (content : Content)
+    → world ≡ world_of source replicas packets → place ≡ site - 1 → one.state ≡ content
+    → world_of source (set replicas place one) packets ≡ with_content world site content
+world_set {packets = packets} world source replicas place site one content is at holds =
+    ap (λ (l : List Content). record { source = source; sites = l; packets = packets }) (map-set (λ (r : Held). r.state) replicas place one)
+    ∙ (ap (λ (c : Content). record { source = source; sites = set (contents_of replicas) place c; packets = packets }) holds
+    ∙ (ap (λ (k : ℕ). record { source = source; sites = set (contents_of replicas) k content; packets = packets }) at
     ∙ ap (λ (w : World). with_content w site content) (sym is)))
 
 -- a replica as the world has it, but for the work that it has done
@@ -113,49 +128,18 @@ held_is world site one held =
 pub next_id_at-held : (world : World) (site : ℕ) (one : Held) → IsHeldAt world site one → next_id one ≡ next_id_at world site
 next_id_at-held world site one held = ap next_id (held_is world site one held)
 
-can_add_with : (held : Held) (steps : ℕ) (bound : Difference) → CanAdd (record held { steps = steps }) bound → CanAdd held bound
-can_add_with held steps bound can = record { sound = can.sound; counter = can.counter; room = can.room }
+-- what refuses a call of the replica refuses it at the site
+pub add_refusal_at : (world : World) (site : ℕ) (one : Held) (bound : Difference) → IsHeldAt world site one → add_refusal one bound ≡ add_refusal (held_at world site) bound
+add_refusal_at world site one bound held = ap (λ (h : Held). add_refusal h bound) (held_is world site one held)
 
-pub can_add_at : (world : World) (site : ℕ) (one : Held) (bound : Difference) → IsHeldAt world site one → CanAdd one bound → CanAdd (held_at world site) bound
-can_add_at world site one bound held can = can_add_with (held_at world site) one.steps bound (subst (λ (h : Held). CanAdd h bound) (held_is world site one held) can)
+pub done_refusal_at : (world : World) (site : ℕ) (one : Held) (event : ℕ) → IsHeldAt world site one → done_refusal one event ≡ done_refusal (held_at world site) event
+done_refusal_at world site one event held = ap (λ (h : Held). done_refusal h event) (held_is world site one held)
 
-add_fault_with : (held : Held) (steps : ℕ) (bound : Difference) (fault : ReplicaFault) → IsAddFault (record held { steps = steps }) bound fault → IsAddFault held bound fault
-add_fault_with held steps bound NoEvent stands = stands
-add_fault_with held steps bound SameEvent stands = stands
-add_fault_with held steps bound Crossed stands = stands
-add_fault_with held steps bound CounterSpent stands = stands
-add_fault_with held steps bound Full stands = stands
-add_fault_with held steps bound Unknown stands = stands
-add_fault_with held steps bound (Clash id) stands = stands
-add_fault_with held steps bound Memory stands = can_add_with held steps bound stands
+pub withdraw_refusal_at : (world : World) (site : ℕ) (one : Held) (id : SiteCounter) → IsHeldAt world site one → withdraw_refusal one id ≡ withdraw_refusal (held_at world site) id
+withdraw_refusal_at world site one id held = ap (λ (h : Held). withdraw_refusal h id) (held_is world site one held)
 
-pub add_fault_at : (world : World) (site : ℕ) (one : Held) (bound : Difference) (fault : ReplicaFault) → IsHeldAt world site one
-    → IsAddFault one bound fault → IsAddFault (held_at world site) bound fault
-add_fault_at world site one bound fault held stands =
-    add_fault_with (held_at world site) one.steps bound fault (subst (λ (h : Held). IsAddFault h bound fault) (held_is world site one held) stands)
-
-can_take_with : (held : Held) (steps : ℕ) (other : Content) → CanTake (record held { steps = steps }) other → CanTake held other
-can_take_with held steps other can = record { named = can.named; agreed = can.agreed; room = can.room }
-
-pub can_take_at : (world : World) (site : ℕ) (one : Held) (theirs other : Content) → IsHeldAt world site one → theirs ≡ other → CanTake one theirs → CanTake (held_at world site) other
-can_take_at world site one theirs other held is can =
-    can_take_with (held_at world site) one.steps other (subst (CanTake (record (held_at world site) { steps = one.steps })) is (subst (λ (h : Held). CanTake h theirs) (held_is world site one held) can))
-
-take_fault_with : (held : Held) (steps : ℕ) (other : Content) (fault : ReplicaFault) → IsTakeFault (record held { steps = steps }) other fault → IsTakeFault held other fault
-take_fault_with held steps other NoEvent stands = stands
-take_fault_with held steps other SameEvent stands = stands
-take_fault_with held steps other Crossed stands = stands
-take_fault_with held steps other CounterSpent stands = stands
-take_fault_with held steps other Full stands = stands
-take_fault_with held steps other Unknown stands = stands
-take_fault_with held steps other (Clash id) stands = stands
-take_fault_with held steps other Memory stands = can_take_with held steps other stands
-
-pub take_fault_at : (world : World) (site : ℕ) (one : Held) (theirs other : Content) (fault : ReplicaFault) → IsHeldAt world site one → theirs ≡ other
-    → IsTakeFault one theirs fault → IsTakeFault (held_at world site) other fault
-take_fault_at world site one theirs other fault held is stands =
-    take_fault_with (held_at world site) one.steps other fault
-    (subst (λ (c : Content). IsTakeFault (record (held_at world site) { steps = one.steps }) c fault) is (subst (λ (h : Held). IsTakeFault h theirs fault) (held_is world site one held) stands))
+pub take_refusal_at : (world : World) (site : ℕ) (one : Held) (theirs other : Content) → IsHeldAt world site one → theirs ≡ other → take_refusal one theirs ≡ take_refusal (held_at world site) other
+take_refusal_at world site one theirs other held is = ap (λ (h : Held). take_refusal h theirs) (held_is world site one held) ∙ ap (take_refusal (held_at world site)) is
 
 -- a join that is there is the union of both
 pub join_is_joined : (a b c : Content) → join_contents a b ≡ Some c → c ≡ joined_contents a b
@@ -170,26 +154,86 @@ join_is_joined a b c there = settled (dispute_contents a b) refl
 pub joined_itself : (a : Content) → joined_contents a a ≡ a
 joined_itself a = sym (join_is_joined a a a (contents_repeat a))
 
-pub held_there : (world : World) (source : PlanSource) (replicas : List Held) (place site : ℕ) (one : Held)
-    → record { source = source; sites = contents_of replicas } ≡ world → IsSites source replicas → place ≡ site - 1 → HasSite world site
+pub held_there : {packets : List Content} (world : World) (source : PlanSource) (replicas : List Held) (place site : ℕ) (one : Held)
+    → world_of source replicas packets ≡ world → IsSites source replicas → place ≡ site - 1 → HasSite world site
     → one ≡ get_or replicas place one → IsHeldAt world site one
 held_there world source replicas place site one is sites at there same =
     subst (IsHeldAt world site) (sym same) (held_at_place world source replicas place site one (sym is) sites at there)
 
 -- an addition at a site's replica is the world's
-pub made_there : (world : World) (source : PlanSource) (replicas : List Held) (place site : ℕ) (one new : Held) (added : Record)
-    → record { source = source; sites = contents_of replicas } ≡ world → place ≡ site - 1 → IsHeldAt world site one
-    → new.state ≡ with_record one.state (next_id one) added
-    → record { source = source; sites = contents_of (set replicas place new) } ≡ make world site added
-made_there world source replicas place site one new added is at held made =
-    world_set world source replicas place site new (with_record (content_at world site) (next_id_at world site) added) (sym is) at
-    (made ∙ (ap (λ (c : Content). with_record c (next_id one) added) held.state ∙ ap (λ (i : SiteCounter). with_record (content_at world site) i added) (next_id_at-held world site one held)))
+pub made_there : {packets : List Content} (world : World) (source : PlanSource) (replicas : List Held) (place site : ℕ) (one new : Held) (id : SiteCounter) (record_of : Record)
+    → world_of source replicas packets ≡ world → place ≡ site - 1 → IsHeldAt world site one
+    → Leaves one (added id record_of) new
+    → world_of source (set replicas place new) packets ≡ make world site record_of
+made_there world source replicas place site one new id record_of is at held left =
+    world_set world source replicas place site new (with_record (content_at world site) (next_id_at world site) record_of) (sym is) at
+    (left.state.1 ∙ (ap (λ (c : Content). with_record c id record_of) held.state
+    ∙ ap (λ (i : SiteCounter). with_record (content_at world site) i record_of) (left.state.0 ∙ next_id_at-held world site one held)))
 
 -- a withdrawal at a site's replica is the world's
-pub withdrawn_there : (world : World) (source : PlanSource) (replicas : List Held) (place site : ℕ) (one new : Held) (id : SiteCounter)
-    → record { source = source; sites = contents_of replicas } ≡ world → place ≡ site - 1 → IsHeldAt world site one
-    → new.state ≡ with_tombstone one.state id
-    → record { source = source; sites = contents_of (set replicas place new) } ≡ withdraw world site id
-withdrawn_there world source replicas place site one new id is at held done =
+pub withdrawn_there : {packets : List Content} (world : World) (source : PlanSource) (replicas : List Held) (place site : ℕ) (one new : Held) (id : SiteCounter)
+    → world_of source replicas packets ≡ world → place ≡ site - 1 → IsHeldAt world site one
+    → Leaves one (withdrew id) new
+    → world_of source (set replicas place new) packets ≡ withdraw world site id
+withdrawn_there world source replicas place site one new id is at held left =
     world_set world source replicas place site new (with_tombstone (content_at world site) id) (sym is) at
-    (done ∙ ap (λ (c : Content). with_tombstone c id) held.state)
+    (left.state ∙ ap (λ (c : Content). with_tombstone c id) held.state)
+
+-- the packet at a number's place is the number's
+pub packet_there : {packets : List Content} (world : World) (source : PlanSource) (replicas : List Held) (place number : ℕ) (one : Content)
+    → world_of source replicas packets ≡ world → place ≡ number - 1 → HasPacket world number → one ≡ get_or packets place one → one ≡ packet_at world number
+packet_there {packets = packets} world source replicas place number one is at there same =
+    let least = there.least in
+    let packets_are : world.packets ≡ packets = ap (λ (w : World). w.packets) (sym is) in
+    let most : number ≤ length packets = subst (λ (l : List Content). number ≤ length l) packets_are there.most in
+    let within : place < length packets = omega arith in
+    same ∙ (get_or_default packets place one no_content within ∙ (ap (λ (l : List Content). get_or l place no_content) (sym packets_are) ∙ ap (λ k. get_or world.packets k no_content) at))
+
+-- a take of a packet at a site's replica is the world's delivery
+pub delivered_there : {packets : List Content} (world : World) (source : PlanSource) (replicas : List Held) (place site number : ℕ) (one new : Held) (theirs : Content)
+    → world_of source replicas packets ≡ world → place ≡ site - 1 → IsHeldAt world site one → theirs ≡ packet_at world number
+    → Leaves one (took theirs) new
+    → world_of source (set replicas place new) packets ≡ deliver world site number
+delivered_there world source replicas place site number one new theirs is at held packet left =
+    world_set world source replicas place site new (joined_contents (content_at world site) (packet_at world number)) (sym is) at
+    (join_is_joined one.state theirs new.state left.state ∙ (ap (λ (c : Content). joined_contents c theirs) held.state ∙ ap (joined_contents (content_at world site)) packet))
+
+-- a world with a packet more
+pub sent_there : {packets : List Content} (world : World) (source : PlanSource) (replicas : List Held) (part theirs : Content)
+    → world_of source replicas packets ≡ world → theirs ≡ part → world_of source replicas (packets ++ theirs ∷ []) ≡ send world part
+sent_there {packets = packets} world source replicas part theirs is same =
+    ap (λ (c : Content). world_of source replicas (packets ++ c ∷ [])) same ∙ ap (λ (w : World). send w part) is
+
+pub sound_sent : {packets : List Content} (world next : World) (source : PlanSource) (replicas : List Held) (theirs : Content)
+    → world_of source replicas packets ≡ world → IsSoundWorld source replicas packets → length world.packets < most_packets
+    → world_of source replicas (packets ++ theirs ∷ []) ≡ next → IsCoherent next → IsSoundWorld source replicas (packets ++ theirs ∷ [])
+sound_sent {packets = packets} world next source replicas theirs is sound room made coherent = record {
+  sites = sound.sites;
+  few =
+      let packets_are : length world.packets ≡ length packets = ap (λ (w : World). length w.packets) (sym is) in
+      omega (arith, length-append packets (theirs ∷ []), packets_are, room);
+  coherent = subst IsCoherent (sym made) coherent;
+}
+
+-- a replica that has changed, in a world that stays coherent
+pub sound_changed : {packets : List Content} (world next : World) (source : PlanSource) (replicas : List Held) (place : ℕ) (one new : Held) (call : Accepted)
+    → world_of source replicas packets ≡ world → IsSoundWorld source replicas packets → one ≡ get_or replicas place one → Leaves one call new
+    → world_of source (set replicas place new) packets ≡ next → IsCoherent next → IsSoundWorld source (set replicas place new) packets
+sound_changed world next source replicas place one new call is sound at left made coherent = record {
+  sites = sites_set source replicas place new one sound.sites (left.site ∙ ap (λ (r : Held). r.site) at) (left.source ∙ ap (λ (r : Held). r.source) at);
+  few = sound.few;
+  coherent = subst IsCoherent (sym made) coherent;
+}
+
+-- a replica that has stayed as it was
+pub set_stayed : (replicas : List Held) (place : ℕ) (one new : Held) → one ≡ get_or replicas place one → new ≡ one → set replicas place new ≡ replicas
+set_stayed replicas place one new at same = ap (set replicas place) (same ∙ at) ∙ set-get_or replicas place one
+
+pub sound_stayed : {packets : List Content} (source : PlanSource) (replicas : List Held) (place : ℕ) (one new : Held) → IsSoundWorld source replicas packets → one ≡ get_or replicas place one → new ≡ one
+    → IsSoundWorld source (set replicas place new) packets
+sound_stayed {packets = packets} source replicas place one new sound at same = subst (λ (l : List Held). IsSoundWorld source l packets) (sym (set_stayed replicas place one new at same)) sound
+
+pub world_stayed : {packets : List Content} (world : World) (source : PlanSource) (replicas : List Held) (place : ℕ) (one new : Held) → world_of source replicas packets ≡ world
+    → one ≡ get_or replicas place one → new ≡ one → world_of source (set replicas place new) packets ≡ world
+world_stayed {packets = packets} world source replicas place one new is at same =
+    ap (λ (l : List Held). world_of source l packets) (set_stayed replicas place one new at same) ∙ is

@@ -1,4 +1,7 @@
 pub mod World
 pub mod Sites
-pub mod Refused
+pub mod Faults
+pub mod Parts
+pub mod Whole
+pub mod Steps
 pub mod Runs

@@ -1,45 +1,50 @@
--- The calls that a world accepted, and the items that they brought to its sites.
-use Rattle.std.specs.Prelude.{◌≡◌, ℕ, ◌⊎◌, List, [], ◌∷◌, Some}
-use Rattle.stn_records.specs.declared.record.Record.{Record}
-use Rattle.stn_records.specs.Id.{SiteCounter}
-use Rattle.stn_records.specs.Content.{Item, addition, withdrawal, HasItem, join_contents}
-use Rattle.stn_world.specs.World.{World, HasSite, content_at, next_id_at, make, withdraw, merge}
+-- Runs of a world, and the items that are made in them.
+use Rattle.std.specs.Prelude.{ℕ, List, [], ◌∷◌, ◌++◌, length, filter, Bool, true, false, is_some, if◌then◌else◌}
+use Rattle.std.specs.List.{Contains}
+use Rattle.stn_lift.specs.PlanSource.{PlanSource}
+use Rattle.stn_records.specs.Content.{Content, Item, addition, withdrawal}
+use Rattle.stn_replica.specs.Held.{plain, executed}
+use Rattle.stn_world.specs.World.{World, opening_world, next_id_at}
+use Rattle.stn_world.specs.Steps.{Step, added, finished, withdrew, step_refusal, stepped, run}
 
--- a call that a world accepted: a site made a record, withdrew an id, or took in all that another held
-pub data Step : Type 0 where
-  made : ℕ → Record → Step
-  withdrew : ℕ → SiteCounter → Step
-  merged : ℕ → ℕ → Step
+-- an item that was made, and the site that made it
+pub record Making : Type 0 where
+  pub site : ℕ
+  pub item : Item
 
--- the world that the step leaves
-abbrev pub after : World → Step → World
-after world (made site one) = make world site one
-after world (withdrew site id) = withdraw world site id
-after world (merged site other) = merge world site other
+-- what an accepted step makes: a record that is added, an id that is withdrawn, and any other step nothing
+abbrev pub makings : World → Step → List Making
+makings world (added site bound) = record { site = site; item = addition (next_id_at world site) (plain bound) } ∷ []
+makings world (finished site event time) = record { site = site; item = addition (next_id_at world site) (executed time event) } ∷ []
+makings world (withdrew site id) = record { site = site; item = withdrawal id } ∷ []
+makings world other = []
 
--- what is true of each step that a world accepts: its sites are there, and what two of them hold has a join
-abbrev pub IsAccepted : World → Step → Type 0
-IsAccepted world (made site one) = HasSite world site
-IsAccepted world (withdrew site id) = HasSite world site
-IsAccepted world (merged site other) =
-    HasSite world site × HasSite world other × (join_contents (content_at world site) (content_at world other) ≡ Some (content_at (merge world site other) site))
+-- what a step makes: a refused one nothing
+abbrev pub made_in : World → Step → List Making
+made_in world step = if is_some (step_refusal world step) then [] else makings world step
 
--- the world that the steps leave, one after the other
-abbrev pub after_all : World → List Step → World
-after_all world [] = world
-after_all world (step ∷ steps) = after_all (after world step) steps
+-- all that is made in a run
+abbrev pub made_by : World → List Step → List Making
+made_by world [] = []
+made_by world (step ∷ steps) = made_in world step ++ made_by (stepped world step) steps
 
-abbrev pub AreAccepted : World → List Step → Type 0
-AreAccepted world [] = Unit {0}
-AreAccepted world (step ∷ steps) = IsAccepted world step × AreAccepted (after world step) steps
+-- some site made the item
+abbrev pub WasMade : List Making → Item → Type 0
+WasMade items item = (maker : ℕ) × Contains items (record { site = maker; item = item })
 
--- the step brings the item to the site: the site's own addition, its own withdrawal, or what another site held then
-abbrev pub Brings : World → Step → ℕ → Item → Type 0
-Brings world (made at one) site item = (at ≡ site) × (item ≡ addition (next_id_at world at) one)
-Brings world (withdrew at id) site item = (at ≡ site) × (item ≡ withdrawal id)
-Brings world (merged at other) site item = (at ≡ site) × HasItem (content_at world other) item
+-- how many records were made
+abbrev pub is_addition : Item → Bool
+is_addition (addition id one) = true
+is_addition (withdrawal id) = false
 
--- one of the steps brought the item to the site
-abbrev pub TookAt : World → List Step → ℕ → Item → Type 0
-TookAt world [] site item = ⊥
-TookAt world (step ∷ steps) site item = Brings world step site item ⊎ TookAt (after world step) steps site item
+abbrev pub records_made : List Making → ℕ
+records_made items = length (filter (λ one. is_addition one.item) items)
+
+-- what is true of the world after each run, whatever its plan, its number of sites and its steps, and of the items made in it. A run that
+-- breaks off early is a run, so it is true at each step of each run
+abbrev pub InEachRun : (World → List Making → Type 0) → Type 0
+InEachRun P = (source : PlanSource) (sites : ℕ) (steps : List Step) → P (run (opening_world source sites) steps) (made_by (opening_world source sites) steps)
+
+-- what all sites and all packets hold
+abbrev pub states_of : World → List Content
+states_of world = world.sites ++ world.packets

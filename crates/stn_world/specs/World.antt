@@ -1,34 +1,55 @@
 -- A plan at several sites, as a value, and its changes.
-use Rattle.std.specs.Prelude.{ℕ, ◌-◌, ◌≤◌, List, length, slice_index_or, slice_set, replicate, refl}
+use Rattle.std.specs.Prelude.{ℕ, ◌-◌, ◌≤◌, Bool, ◌&&◌, nat_le, List, [], ◌∷◌, ◌++◌, length, slice_index_or, slice_set, replicate, refl}
 use Rattle.std.specs.Coded.{Coded, code_by, coded×, coded_list}
 use Rattle.stn_lift.specs.PlanSource.{PlanSource, coded_source}
 use Rattle.stn_records.specs.declared.record.Record.{Record}
 use Rattle.stn_records.specs.Id.{SiteCounter}
 use Rattle.stn_records.specs.Content.{Content, coded_content, no_content, with_record, with_tombstone, joined_contents}
-use Rattle.stn_replica.specs.Held.{Held}
-use Rattle.stn_replica.specs.Faults.{next_id}
+use Rattle.stn_replica.specs.Held.{Held, next_id}
 
--- what the plan is made from, and what each site holds, from site 1 on
+-- a program keeps at most so many packets
+abbrev pub most_packets : ℕ
+most_packets = 256
+
+-- what the plan is made from, what each site holds, from site 1 on, and what each packet holds, from packet 1 on
 pub record World : Type 0 where
   pub source : PlanSource
   pub sites : List Content
+  pub packets : List Content
 
 abbrev pub coded_world : Coded World
-coded_world = code_by (PlanSource × List Content) (coded× coded_source (coded_list coded_content))
-    (λ w. (w.source, w.sites)) (λ p. record { source = p.0; sites = p.1 }) (λ _. refl)
+coded_world = code_by (PlanSource × (List Content × List Content)) (coded× coded_source (coded× (coded_list coded_content) (coded_list coded_content)))
+    (λ w. (w.source, (w.sites, w.packets))) (λ p. record { source = p.0; sites = p.1.0; packets = p.1.1 }) (λ _. refl)
 
 -- the world has the site
 pub record HasSite (world : World) (site : ℕ) : Type 0 where
   pub least : 1 ≤ site
   pub most : site ≤ length world.sites
 
--- no site holds anything
+-- the test of it
+abbrev pub has_site : World → ℕ → Bool
+has_site world site = nat_le 1 site && nat_le site (length world.sites)
+
+-- the world has the packet
+pub record HasPacket (world : World) (number : ℕ) : Type 0 where
+  pub least : 1 ≤ number
+  pub most : number ≤ length world.packets
+
+-- the test of it
+abbrev pub has_packet : World → ℕ → Bool
+has_packet world number = nat_le 1 number && nat_le number (length world.packets)
+
+-- no site holds anything, and nothing was sent
 abbrev pub opening_world : PlanSource → ℕ → World
-opening_world source sites = record { source = source; sites = replicate sites no_content }
+opening_world source sites = record { source = source; sites = replicate sites no_content; packets = [] }
 
 -- what a site holds
 abbrev pub content_at : World → ℕ → Content
 content_at world site = slice_index_or world.sites (site - 1) no_content
+
+-- what a packet holds
+abbrev pub packet_at : World → ℕ → Content
+packet_at world number = slice_index_or world.packets (number - 1) no_content
 
 -- a site's replica, whatever work it has done
 abbrev pub held_at : World → ℕ → Held
@@ -53,3 +74,11 @@ withdraw world site id = with_content world site (with_tombstone (content_at wor
 -- a site takes in all that another holds
 abbrev pub merge : World → ℕ → ℕ → World
 merge world site other = with_content world site (joined_contents (content_at world site) (content_at world other))
+
+-- a packet is sent, and stays for good
+abbrev pub send : World → Content → World
+send world part = record world { packets = world.packets ++ part ∷ [] }
+
+-- a site takes in all that a packet holds
+abbrev pub deliver : World → ℕ → ℕ → World
+deliver world site number = with_content world site (joined_contents (content_at world site) (packet_at world number))

@@ -1,8 +1,9 @@
 ghost use Rattle.std.specs.Prelude.{◌≡◌};
-ghost use Rattle.stn_world.specs.declared.faults.WorldFault.TheVariants.{Replica};
+ghost use Rattle.stn_world.specs.Faults.{of_replica_fault, of_part_fault};
 ghost use Rattle.stn_world.specs.declared.faults.SitesFault.TheVariants.{Memory};
 
 use std::alloc::{AllocError, AllocFailed};
+use stn_records::PartFault;
 use stn_replica::ReplicaFault;
 use thiserror::Error;
 
@@ -39,15 +40,58 @@ pub enum WorldFault {
     /// The world has no such site.
     #[error("no such site")]
     NoSite,
+    /// 256 packets were sent already.
+    #[error("too many packets")]
+    TooManyPackets,
+    /// The world has no such packet.
+    #[error("no such packet")]
+    NoPacket,
     /// The site's replica refused it.
     #[error("the replica refused it")]
     Replica(ReplicaFault),
+    /// Memory ran out.
+    #[error("out of memory")]
+    Memory,
 }
 
 impl From<ReplicaFault> for WorldFault {
-    ghost from_gives = { λ fault made. made ≡ Replica fault };
+    ghost from_gives = { λ fault made. made ≡ of_replica_fault fault };
 
     fn from(fault: ReplicaFault) -> WorldFault {
-        WorldFault::Replica(fault)
+        match fault {
+            ReplicaFault::Memory => WorldFault::Memory,
+            other => WorldFault::Replica(other),
+        }
+    }
+}
+
+impl From<PartFault> for WorldFault {
+    ghost from_gives = { λ fault made. made ≡ of_part_fault fault };
+
+    fn from(fault: PartFault) -> WorldFault {
+        match fault {
+            PartFault::Unknown => WorldFault::Replica(ReplicaFault::Unknown),
+            PartFault::Memory => WorldFault::Memory,
+        }
+    }
+}
+
+impl From<AllocError> for WorldFault {
+    ghost use Rattle.stn_world.specs.declared.faults.WorldFault.TheVariants.{Memory};
+
+    ghost from_gives = { λ _ fault. fault ≡ Memory };
+
+    fn from(_fault: AllocError) -> WorldFault {
+        WorldFault::Memory
+    }
+}
+
+impl<T: Drop> From<AllocFailed<T>> for WorldFault {
+    ghost use Rattle.stn_world.specs.declared.faults.WorldFault.TheVariants.{Memory};
+
+    ghost from_gives = { λ _ fault. fault ≡ Memory };
+
+    fn from(_failed: AllocFailed<T>) -> WorldFault {
+        WorldFault::Memory
     }
 }

@@ -1,18 +1,73 @@
-ghost use Rattle.std.specs.Prelude.{◌≡◌, ℕ, ◌↔◌, List};
+ghost use Rattle.std.specs.Prelude.{◌≡◌, ℕ, ◌≤◌, ◌↔◌, List, ◌∷◌, None, true, false};
+ghost use Rattle.std.specs.List.{Contains};
 ghost use Rattle.stn_lift.specs.PlanSource.{PlanSource};
-ghost use Rattle.stn_records.specs.Content.{Item, HasItem};
+ghost use Rattle.stn_records.specs.Id.{SiteCounter};
+ghost use Rattle.stn_records.specs.Content.{most_known, Content, Item, withdrawal, HasItem, is_known, is_live, dispute_contents};
 ghost use Rattle.stn_replica.specs.Report.{IsReport};
-ghost use Rattle.stn_world.specs.World.{HasSite, opening_world, content_at};
-ghost use Rattle.stn_world.specs.Runs.{Step, after_all, AreAccepted, TookAt};
+ghost use Rattle.stn_world.specs.Parts.{IsPart};
+ghost use Rattle.stn_world.specs.World.{World, HasSite, HasPacket, opening_world, content_at, packet_at};
+ghost use Rattle.stn_world.specs.Steps.{Step, merged, delivered, IsAccepted, run, Brings, TookAt};
+ghost use Rattle.stn_world.specs.Runs.{Making, WasMade, records_made, states_of, InEachRun};
 
 use stn_replica::one_report;
 
-/// The law that what a site of a world holds is the union of what it took: after any list of accepted
-/// calls, at any sites, it has an addition or a withdrawal exactly where one of the calls brought it
-/// there; it does nothing.
+/// The law that what a site of a world holds is the union of what it took: after any run it has an
+/// addition or a withdrawal exactly where one of the steps that were accepted brought it there; it
+/// does nothing.
 pub fn sites_are_unions()
-    ensures { (source : PlanSource) (sites : ℕ) (steps : List Step) → AreAccepted (opening_world source sites) steps → (site : ℕ) → HasSite (opening_world source sites) site
-        → (item : Item) → HasItem (content_at (after_all (opening_world source sites) steps) site) item ↔ TookAt (opening_world source sites) steps site item }
+    ensures { (source : PlanSource) (sites : ℕ) (steps : List Step) (site : ℕ) → HasSite (opening_world source sites) site
+        → (item : Item) → HasItem (content_at (run (opening_world source sites) steps) site) item ↔ TookAt (opening_world source sites) steps site item }
+{}
+
+/// The law that the states of a world, those of its sites and of its packets, agree, after any run:
+/// any two on every id, so that each id has one record everywhere; and each id of a site that is known
+/// anywhere is known at that site, so that its next id is new everywhere. It does nothing.
+pub fn states_agree()
+    ensures agreed { InEachRun (λ now items. (one other : Content) → Contains (states_of now) one → Contains (states_of now) other → dispute_contents one other ≡ None) }
+    ensures own { InEachRun (λ now items. (one : Content) (id : SiteCounter) → Contains (states_of now) one → is_known one id ≡ true
+        → is_known (content_at now id.site) id ≡ true) }
+{}
+
+/// The law that in each run in which at most 4,096 records are made no delivery and no merge is refused
+/// for a cause other than memory and a site or packet that is not there; it does nothing.
+pub fn none_refused()
+    ensures delivery { InEachRun (λ now items. records_made items ≤ most_known
+        → (site number : ℕ) → HasSite now site → HasPacket now number → IsAccepted now (delivered site number)) }
+    ensures merge { InEachRun (λ now items. records_made items ≤ most_known
+        → (site other : ℕ) → HasSite now site → HasSite now other → IsAccepted now (merged site other)) }
+{}
+
+/// The law that in each run each site holds every item that it made, and no site and no packet holds
+/// an item that nobody made; it does nothing.
+pub fn only_made_items()
+    ensures held { InEachRun (λ now items. (one : Making) → Contains items one → HasItem (content_at now one.site) one.item) }
+    ensures at_sites { InEachRun (λ now items. (site : ℕ) (item : Item) → HasItem (content_at now site) item → WasMade items item) }
+    ensures in_packets { InEachRun (λ now items. (number : ℕ) (item : Item) → HasItem (packet_at now number) item → WasMade items item) }
+{}
+
+/// The law that in each run what a site took from a packet or from another site it holds ever after,
+/// whole: after the delivery or merge that was accepted, and after any further steps. It does nothing.
+pub fn held_ever_after()
+    ensures delivered { InEachRun (λ now items. (site number : ℕ) → IsAccepted now (delivered site number)
+        → (rest : List Step) → IsPart (packet_at now number) (content_at (run now (delivered site number ∷ rest)) site)) }
+    ensures merged { InEachRun (λ now items. (site other : ℕ) → IsAccepted now (merged site other)
+        → (rest : List Step) → IsPart (content_at now other) (content_at (run now (merged site other ∷ rest)) site)) }
+{}
+
+/// The law that two sites of a world that hold the same items print the same bytes; it does nothing.
+pub fn same_items_print_same()
+    ensures { (world : World) (site other : ℕ) → ((item : Item) → HasItem (content_at world site) item ↔ HasItem (content_at world other) item)
+        → (text last : List ℕ) → IsReport world.source (content_at world site) text → IsReport world.source (content_at world other) last → text ≡ last }
+{
+    one_report();
+}
+
+/// The law that in each run a bound that was withdrawn at a site, or came there as withdrawn by a
+/// packet or a merge, is never live there afterwards, even where its record comes later; it does
+/// nothing.
+pub fn withdrawn_for_good()
+    ensures { InEachRun (λ now items. (step : Step) (site : ℕ) (id : SiteCounter) → IsAccepted now step → Brings now step site (withdrawal id)
+        → (rest : List Step) → is_live (content_at (run now (step ∷ rest)) site) id ≡ false) }
 {}
 
 /// The law that two sites of one plan, in one world or in two, that took the same additions and
@@ -20,16 +75,14 @@ pub fn sites_are_unions()
 /// same bytes; it does nothing.
 pub fn took_same_same_bytes()
     ensures states { (source : PlanSource) (sites others : ℕ) (ours theirs : List Step)
-        → AreAccepted (opening_world source sites) ours → AreAccepted (opening_world source others) theirs
         → (site other : ℕ) → HasSite (opening_world source sites) site → HasSite (opening_world source others) other
         → ((item : Item) → TookAt (opening_world source sites) ours site item ↔ TookAt (opening_world source others) theirs other item)
-        → content_at (after_all (opening_world source sites) ours) site ≡ content_at (after_all (opening_world source others) theirs) other }
+        → content_at (run (opening_world source sites) ours) site ≡ content_at (run (opening_world source others) theirs) other }
     ensures bytes { (source : PlanSource) (sites others : ℕ) (ours theirs : List Step)
-        → AreAccepted (opening_world source sites) ours → AreAccepted (opening_world source others) theirs
         → (site other : ℕ) → HasSite (opening_world source sites) site → HasSite (opening_world source others) other
         → ((item : Item) → TookAt (opening_world source sites) ours site item ↔ TookAt (opening_world source others) theirs other item)
-        → (text last : List ℕ) → IsReport source (content_at (after_all (opening_world source sites) ours) site) text
-        → IsReport source (content_at (after_all (opening_world source others) theirs) other) last → text ≡ last }
+        → (text last : List ℕ) → IsReport source (content_at (run (opening_world source sites) ours) site) text
+        → IsReport source (content_at (run (opening_world source others) theirs) other) last → text ≡ last }
 {
     sites_are_unions();
     one_report();

@@ -2,8 +2,11 @@
 #![tactic(auto)]
 
 pub use faults::{SitesFault, WorldFault};
-pub use laws::{sites_are_unions, took_same_same_bytes};
-pub use world::World;
+pub use laws::{
+    held_ever_after, none_refused, only_made_items, same_items_print_same, sites_are_unions,
+    states_agree, took_same_same_bytes, withdrawn_for_good,
+};
+pub use world::{MOST_PACKETS, World};
 
 mod faults;
 mod laws;

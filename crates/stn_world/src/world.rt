@@ -1,14 +1,16 @@
-ghost use Rattle.std.specs.Prelude.{◌≡◌, ◌≢◌, ◌-◌, ◌<◌, ◌≤◌, Some, true, length, MatchOption, IsOk, IfOk, IfErr, OnOk, OnErr};
+ghost use Rattle.std.specs.Prelude.{◌≡◌, ◌≢◌, ◌+◌, true, ◌-◌, ◌<◌, ◌≤◌, None, unwrap_or, length, slice_set, MatchOption, IfSome, IsOk, IfOk, IfErr, OnOk, OnErr};
 ghost use Rattle.std.specs.Rc.{rc_value};
-ghost use Rattle.stn_records.specs.Id.{IsSite};
-ghost use Rattle.stn_records.specs.declared.id.TheConstants.{MOST_SITES};
-ghost use Rattle.stn_records.specs.Content.{is_known, join_contents};
-ghost use Rattle.stn_replica.specs.Held.{plain};
-ghost use Rattle.stn_replica.specs.Faults.{CanAdd, IsAddFault, IsWithdrawFault, CanTake, IsTakeFault};
-ghost use Rattle.stn_world.specs.declared.faults.WorldFault.TheVariants.{NoSite};
-ghost use Rattle.stn_world.specs.Refused.{IsSitesFault, IsWorldFault, IsPairFault};
-ghost use Rattle.stn_world.specs.Sites.{held_in, IsChanged};
-ghost use Rattle.stn_world.specs.World.{HasSite, opening_world, content_at, held_at, next_id_at, make, withdraw, merge};
+ghost use Rattle.stn_records.specs.Id.{most_sites, IsSite};
+ghost use Rattle.stn_replica.specs.Held.{difference};
+ghost use Rattle.stn_replica.specs.Calls.{took, Leaves};
+ghost use Rattle.stn_replica.specs.Refusals.{take_refusal};
+ghost use Rattle.stn_records.specs.Content.{part_of};
+ghost use Rattle.stn_world.specs.declared.faults.WorldFault.TheVariants.{NoSite, TooManyPackets, NoPacket};
+ghost use Rattle.stn_world.specs.Faults.{IsSitesFault};
+ghost use Rattle.stn_world.specs.Parts.{holds_all};
+ghost use Rattle.stn_world.specs.Sites.{held_in};
+ghost use Rattle.stn_world.specs.Steps.{added, finished, withdrew, merged, sent, delivered, IsStep, IsMergeFault, IsSending, send_refusal, IsDeliveryFault};
+ghost use Rattle.stn_world.specs.World.{most_packets, HasSite, HasPacket, opening_world, content_at, next_id_at};
 
 use crate::faults::{SitesFault, WorldFault};
 use std::alloc::Allocator;
@@ -16,31 +18,36 @@ use std::marker::Model;
 use std::rc::Rc;
 use stn_lift::Base;
 use stn_net::Event;
-use stn_records::{Id, MOST_SITES, Site};
+use stn_records::{Id, MOST_SITES, Records, Site};
 use stn_replica::{Replica, ReplicaFault};
 use stn_time::Ms;
 
-/// Several sites over one plan: each has a replica of it.
+/// The greatest number of a packet.
+pub const MOST_PACKETS: usize = 256;
+
+/// Several sites over one plan, each with a replica of it, and the packets that were sent.
 #[derive(Drop)]
 pub struct World<A: Allocator> {
     base: Rc<Base<A>, A>,
     // From site 1 on.
     replicas: Vec<Replica<A>, A>,
+    // From packet 1 on.
+    packets: Vec<Records<A>, A>,
 }
 
 impl<A: Allocator> Model for World<A> {
     ghost use Rattle.std.specs.Rc.{rc_value};
-    ghost use Rattle.stn_world.specs.Sites.{held_in, IsChanged};
     ghost use Rattle.stn_world.specs.World.{World, coded_world};
-    ghost use Rattle.stn_world.specs.Sites.{contents_of, IsSites};
+    ghost use Rattle.stn_world.specs.Sites.{world_of};
+    ghost use Rattle.stn_world.specs.Whole.{IsSoundWorld};
 
     ghost Value = { World };
 
     ghost coded = { coded_world };
 
-    ghost view = { λ w. record { source = rc_value w.base; sites = contents_of w.replicas.items } };
+    ghost view = { λ w. world_of (rc_value w.base) w.replicas.items w.packets.items };
 
-    ghost invariant = { λ w. IsSites (rc_value w.base) w.replicas.items };
+    ghost invariant = { λ w. IsSoundWorld (rc_value w.base) w.replicas.items w.packets.items };
 }
 
 impl<A: Allocator + Copy> World<A> {
@@ -61,14 +68,18 @@ impl<A: Allocator + Copy> World<A> {
             let replica = Replica::new(alloc, site, base.clone()?)?;
             replicas.push(replica)?;
         }
-        Ok(World { base, replicas })
+        Ok(World {
+            base,
+            replicas,
+            packets: Vec::new(alloc),
+        })
     }
 
     /// How many sites there are, from 1 to 64.
     pub fn sites(&self) -> u8
         ensures count { result ≡ length self.now.sites }
         ensures some { 1 ≤ result }
-        ensures most { result ≤ MOST_SITES }
+        ensures most { result ≤ most_sites }
     {
         self.replicas.len() as u8
     }
@@ -81,11 +92,11 @@ impl<A: Allocator + Copy> World<A> {
     }
 
     /// The replica of a site; none where there is no such site.
-    pub fn replica(&self, site: u8) -> Option<&Replica<A>>
+    pub fn replica(&self, site: u32) -> Option<&Replica<A>>
         ensures there { MatchOption result (¬ HasSite self.now site) (λ replica. HasSite self.now site) }
-        ensures site { MatchOption result (Unit {0}) (λ replica. replica.now.site ≡ site) }
-        ensures source { MatchOption result (Unit {0}) (λ replica. replica.now.source ≡ self.now.source) }
-        ensures state { MatchOption result (Unit {0}) (λ replica. replica.now.state ≡ content_at self.now site) }
+        ensures site { IfSome result (λ replica. replica.now.site ≡ site) }
+        ensures source { IfSome result (λ replica. replica.now.source ≡ self.now.source) }
+        ensures state { IfSome result (λ replica. replica.now.state ≡ content_at self.now site) }
     {
         match self.place_of(site) {
             Ok(place) => Some(&self.replicas[place]),
@@ -98,21 +109,30 @@ impl<A: Allocator + Copy> World<A> {
     /// Refused in this order: `NoSite`; the faults of `Replica::add`. After a fault all is as before.
     pub fn add(
         &mut self,
-        site: u8,
+        site: u32,
         from: Event,
         to: Event,
         lo: Ms,
         hi: Ms,
     ) -> Result<Id, WorldFault>
         ensures id { IfOk result (λ id. id ≡ next_id_at self.old site) }
-        ensures made { OnOk result (self.new ≡ make self.old site (plain from to lo hi)) }
-        ensures there { OnOk result (HasSite self.old site) }
-        ensures accepted { OnOk result (CanAdd (held_at self.old site) (record { from = from; to = to; lo = lo; hi = hi })) }
-        ensures fault { IfErr result (IsWorldFault self.old site (IsAddFault (held_at self.old site) (record { from = from; to = to; lo = lo; hi = hi }))) }
-        ensures kept { OnErr result (self.new ≡ self.old) }
+        ensures step { IsStep self.old (added site (difference from to lo hi)) result self.new }
     {
         let place = self.place_of(site)?;
         let id = self.replicas[place].add(from, to, lo, hi)?;
+        Ok(id)
+    }
+
+    /// Records at a site at which time it executed an event, under that site's next id, which is
+    /// returned.
+    ///
+    /// Refused in this order: `NoSite`; the faults of `Replica::done`. After a fault all is as before.
+    pub fn done(&mut self, site: u32, event: Event, time: Ms) -> Result<Id, WorldFault>
+        ensures id { IfOk result (λ id. id ≡ next_id_at self.old site) }
+        ensures step { IsStep self.old (finished site event time) result self.new }
+    {
+        let place = self.place_of(site)?;
+        let id = self.replicas[place].done(event, time)?;
         Ok(id)
     }
 
@@ -120,31 +140,23 @@ impl<A: Allocator + Copy> World<A> {
     ///
     /// Refused in this order: `NoSite`; the faults of `Replica::withdraw`. After a fault all is as
     /// before.
-    pub fn withdraw(&mut self, site: u8, id: Id) -> Result<(), WorldFault>
-        ensures withdrawn { OnOk result (self.new ≡ withdraw self.old site id) }
-        ensures there { OnOk result (HasSite self.old site) }
-        ensures accepted { OnOk result (is_known (content_at self.old site) id ≡ true) }
-        ensures fault { IfErr result (IsWorldFault self.old site (IsWithdrawFault (held_at self.old site) id)) }
-        ensures kept { OnErr result (self.new ≡ self.old) }
+    pub fn withdraw(&mut self, site: u32, id: Id) -> Result<(), WorldFault>
+        ensures step { IsStep self.old (withdrew site id) result self.new }
     {
         let place = self.place_of(site)?;
         self.replicas[place].withdraw(id)?;
         Ok(())
     }
 
-    /// Takes in at a site all that another holds. A site may merge itself, which changes nothing.
+    /// Takes in at a site all that another holds. A site may merge itself, which changes nothing. Any
+    /// two sites agree on every id, so no merge is refused for an id or an event.
     ///
-    /// Refused in this order: `NoSite`, for either site; the faults of `Replica::take`. After a fault
-    /// all is as before.
-    pub fn merge(&mut self, site: u8, other: u8) -> Result<(), WorldFault>
-        ensures merged { OnOk result (self.new ≡ merge self.old site other) }
-        ensures joined { OnOk result (join_contents (content_at self.old site) (content_at self.old other) ≡ Some (content_at self.new site)) }
-        ensures there { OnOk result (HasSite self.old site) }
-        ensures other_there { OnOk result (HasSite self.old other) }
-        ensures accepted { OnOk result (site ≢ other → CanTake (held_at self.old site) (content_at self.old other)) }
+    /// Refused in this order: `NoSite`, for either site; `Full` and `Memory` of `Replica::take`. After
+    /// a fault all is as before.
+    pub fn merge(&mut self, site: u32, other: u32) -> Result<(), WorldFault>
+        ensures step { IsStep self.old (merged site other) result self.new }
         ensures itself { HasSite self.old site → site ≡ other → IsOk result }
-        ensures fault { IfErr result (IsPairFault self.old site other (IsTakeFault (held_at self.old site) (content_at self.old other))) }
-        ensures kept { OnErr result (self.new ≡ self.old) }
+        ensures agreed { IfErr result IsMergeFault }
     {
         let ours = self.place_of(site)?;
         let theirs = self.place_of(other)?;
@@ -154,18 +166,94 @@ impl<A: Allocator + Copy> World<A> {
         Ok(())
     }
 
+    /// Sends all that a site holds, as a new packet, whose number is returned: 1 for the first. A packet
+    /// stays for good; it may be lost, delivered late, or more than once.
+    ///
+    /// Refused in this order: `NoSite`; `TooManyPackets`, where there are 256; `Memory`. After a fault
+    /// all is as before.
+    pub fn send_all(&mut self, site: u32) -> Result<u16, WorldFault>
+        ensures step { IsSending self.old (sent site (content_at self.old site)) (send_refusal self.old site true) result self.new }
+    {
+        let place = self.place_of(site)?;
+        let number = self.next_packet()?;
+        let whole = self.replicas[place].records().copy()?;
+        self.packets.push(whole)?;
+        Ok(number)
+    }
+
+    /// Sends some of the records and withdrawn ids that a site holds, and nothing else, as a new packet,
+    /// whose number is returned: 1 for the first. An id may stand in a list twice.
+    ///
+    /// Refused in this order: `NoSite`; `TooManyPackets`, where there are 256; `Unknown` of a replica,
+    /// where the site has not a record or a withdrawn id of the lists; `Memory`. After a fault all is
+    /// as before.
+    pub fn send(&mut self, site: u32, records: &[Id], tombstones: &[Id]) -> Result<u16, WorldFault>
+        ensures step { IsSending self.old (sent site (part_of (content_at self.old site) records.now tombstones.now))
+            (send_refusal self.old site (holds_all (content_at self.old site) records.now tombstones.now)) result self.new }
+    {
+        let place = self.place_of(site)?;
+        let number = self.next_packet()?;
+        let part = self.replicas[place].records().part(records, tombstones)?;
+        self.packets.push(part)?;
+        Ok(number)
+    }
+
+    /// Takes in at a site all that a packet holds. Any site agrees with any packet on every id, so no
+    /// delivery is refused for an id or an event.
+    ///
+    /// Refused in this order: `NoSite`; `NoPacket`, where no packet has the number; `Full` and `Memory`
+    /// of `Replica::take`. After a fault all is as before.
+    pub fn deliver(&mut self, site: u32, packet: u16) -> Result<(), WorldFault>
+        ensures step { IsStep self.old (delivered site packet) result self.new }
+        ensures agreed { IfErr result IsDeliveryFault }
+    {
+        let place = self.place_of(site)?;
+        let from = self.packet_place(packet)?;
+        self.replicas[place].take(&self.packets[from])?;
+        Ok(())
+    }
+
     // The place of a site's replica.
-    fn place_of(&self, site: u8) -> Result<usize, WorldFault>
+    fn place_of(&self, site: u32) -> Result<usize, WorldFault>
         ensures place { IfOk result (λ place. place ≡ site - 1) }
         ensures within { IfOk result (λ place. place < length self.now.sites) }
         ensures there { OnOk result (HasSite self.now site) }
         ensures missing { IfErr result (λ fault. fault ≡ NoSite) }
         ensures refused { OnErr result (¬ HasSite self.now site) }
     {
-        if 1 <= site && usize::from(site) <= self.replicas.len() {
-            Ok(usize::from(site) - 1)
+        if 1 <= site && site as usize <= self.replicas.len() {
+            Ok(site as usize - 1)
         } else {
             Err(WorldFault::NoSite)
+        }
+    }
+
+    // The number of the next packet.
+    fn next_packet(&self) -> Result<u16, WorldFault>
+        ensures number { IfOk result (λ number. number ≡ length self.now.packets + 1) }
+        ensures room { OnOk result (length self.now.packets < most_packets) }
+        ensures full { IfErr result (λ fault. fault ≡ TooManyPackets) }
+        ensures refused { OnErr result (most_packets ≤ length self.now.packets) }
+    {
+        if self.packets.len() < MOST_PACKETS {
+            Ok(self.packets.len() as u16 + 1)
+        } else {
+            Err(WorldFault::TooManyPackets)
+        }
+    }
+
+    // The place of a packet.
+    fn packet_place(&self, packet: u16) -> Result<usize, WorldFault>
+        ensures place { IfOk result (λ place. place ≡ packet - 1) }
+        ensures within { IfOk result (λ place. place < length self.now.packets) }
+        ensures there { OnOk result (HasPacket self.now packet) }
+        ensures missing { IfErr result (λ fault. fault ≡ NoPacket) }
+        ensures refused { OnErr result (¬ HasPacket self.now packet) }
+    {
+        if 1 <= packet && usize::from(packet) <= self.packets.len() {
+            Ok(usize::from(packet) - 1)
+        } else {
+            Err(WorldFault::NoPacket)
         }
     }
 }
@@ -179,10 +267,10 @@ fn take_from<A: Allocator + Copy>(
     requires ours { ours < length replicas.old }
     requires theirs { theirs < length replicas.old }
     requires apart { ours ≢ theirs }
-    ensures joined { OnOk result (join_contents (held_in replicas.old ours).state (held_in replicas.old theirs).state ≡ Some (held_in replicas.new ours).state) }
-    ensures changed { OnOk result (IsChanged replicas.old ours (held_in replicas.new ours) replicas.new) }
-    ensures accepted { OnOk result (CanTake (held_in replicas.old ours) (held_in replicas.old theirs).state) }
-    ensures fault { IfErr result (IsTakeFault (held_in replicas.old ours) (held_in replicas.old theirs).state) }
+    ensures set { OnOk result (replicas.new ≡ slice_set replicas.old ours (held_in replicas.new ours)) }
+    ensures leaves { OnOk result (Leaves (held_in replicas.old ours) (took (held_in replicas.old theirs).state) (held_in replicas.new ours)) }
+    ensures accepted { OnOk result (take_refusal (held_in replicas.old ours) (held_in replicas.old theirs).state ≡ None) }
+    ensures fault { IfErr result (λ fault. fault ≡ unwrap_or (take_refusal (held_in replicas.old ours) (held_in replicas.old theirs).state) ReplicaFault.Memory) }
     ensures kept { OnErr result (replicas.new ≡ replicas.old) }
 {
     if ours < theirs {

@@ -1,14 +1,21 @@
-use Rattle.std.proofs.Common.{sym, subst}
-use Rattle.stn_matrix.specs.Tightest.{IsTightest}
+use Rattle.std.proofs.Common.{◌≡◌, ◌<◌, ◌∙◌, length}
+use Rattle.stn_net.specs.Schedule.{times_of}
+use Rattle.stn_conflict.specs.Arcs.{arc_of}
+use Rattle.stn_conflict.proofs.Distances.{link_among}
 use Rattle.stn_conflict.proofs.Steps.{sum_test, tight_decided}
 use Rattle.stn_conflict.proofs.levels.is_tight.Goals as goal
 
 pub returns : goal.returns
-returns g c =
+returns c =
     let bounds = c.args.bounds.now in
+    let far = c.args.far.now in
     let arc = c.arc-arc.result in
-    let near = subst (IsTightest bounds c.args.start arc.from) (sym c.get.ensures.value) (c.far.ensures.far bounds c.requires.exact) in
-    let far = subst (IsTightest bounds c.args.start arc.to) (sym c.get-2.ensures.value) (c.far-2.ensures.far bounds c.requires.exact) in
-    let decided = tight_decided bounds c.args.start c.args.link arc.from arc.to arc.weight c.get.result c.get-2.result c.requires.there c.arc-arc.ensures.from c.arc-arc.ensures.to c.arc-arc.ensures.weight near far in
-    let test = sum_test c.get.result arc.weight c.get-2.result c.get.ensures.within c.arc-arc.ensures.within c.get-2.ensures.within in
+    let ends = link_among bounds (length far) c.args.link c.requires.far.named c.requires.there in
+    let from : c.from.result ≡ (arc_of bounds c.args.link).from = c.from.ensures ∙ c.number.ensures.value ∙ c.arc-arc.ensures.from in
+    let to : c.from-2.result ≡ (arc_of bounds c.args.link).to = c.from-2.ensures ∙ c.number-2.ensures.value ∙ c.arc-arc.ensures.to in
+    let begin : c.from.result < length far = rw from ends.0 in
+    let end : c.from-2.result < length far = rw to ends.1 in
+    let decided = tight_decided bounds c.args.start c.args.link c.from.result c.from-2.result arc.weight (times_of far c.from.result) (times_of far c.from-2.result) c.requires.there
+    from to c.arc-arc.ensures.weight (c.requires.far.tightest c.from.result begin) (c.requires.far.tightest c.from-2.result end) in
+    let test = sum_test (times_of far c.from.result) arc.weight (times_of far c.from-2.result) (c.requires.far.within c.from.result begin) c.arc-arc.ensures.within (c.requires.far.within c.from-2.result end) in
     (λ t. decided.0 (test.0 t), λ t. test.1 (decided.1 t))

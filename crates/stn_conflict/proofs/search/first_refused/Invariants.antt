@@ -1,10 +1,20 @@
-use Rattle.std.proofs.Common.{◌≡◌, ◌≤◌, take}
-use Rattle.stn_matrix.specs.Tightest.{IsExact}
+use Rattle.std.proofs.Common.{◌≡◌, ◌<◌, ◌≤◌, ◌+◌, ◌-◌, length, take}
+use Rattle.stn_net.specs.Schedule.{HasSchedule}
+use Rattle.stn_conflict.specs.Distances.{AreEstimates, HasTables}
 use Rattle.stn_conflict.proofs.search.first_refused.Given as goal
 
-abbrev pub invariant-loop-place : goal.invariant-loop-place
-invariant-loop-place g l = record {
-  exact : IsExact (take l.place l.bounds) l.matrix;
-  events : l.matrix.events ≡ l.fn.matrix.events;
-  known : l.known ≤ l.place;
+abbrev pub invariant-loop-high : goal.invariant-loop-high
+invariant-loop-high g l = record {
+  known : AreEstimates (take l.low l.bounds) l.origin l.known.items;
+  long : length l.known.items ≡ l.events + 1;
+  as_long : length l.far.items ≡ l.events + 1;
+  tables : HasTables (l.events + 1) l.tables;
+  past : l.events ≤ l.low;
+  apart : l.low < l.high;
+  within : l.high ≤ length l.bounds;
+  has : HasSchedule (take l.low l.bounds);
+  none : HasSchedule (take l.high l.bounds) → ⊥;
 }
+
+abbrev pub decreases-loop-high : goal.decreases-loop-high
+decreases-loop-high g l = l.high - l.low

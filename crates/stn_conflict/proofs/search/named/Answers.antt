@@ -1,40 +1,76 @@
-use Rattle.std.proofs.Common.{◌∷◌, [], sym, subst, arith, ap, ◌∙◌, take}
-use Rattle.std.specs.Prelude.{reverse, ◌≤ℤ◌}
+use Rattle.std.proofs.Common.{◌≡◌, ◌<◌, ◌+◌, ◌∷◌, [], subst, refl, arith, ap, length, ◌∙◌, take}
+use Rattle.std.specs.Prelude.{pos, reverse, ◌≤ℤ◌}
 use Rattle.std.proofs.lemmas.Int.{ints}
-use Rattle.std.proofs.lemmas.List.{reverse-append, length-reverse}
+use Rattle.std.proofs.lemmas.List.{reverse-append, length-reverse, get_or_read}
 use Rattle.stn_time.specs.Time.{IsWithinHorizon}
 use Rattle.stn_net.specs.Difference.{Difference}
-use Rattle.stn_matrix.specs.Tightest.{IsTightest}
+use Rattle.stn_net.specs.Schedule.{times_of}
 use Rattle.stn_conflict.specs.declared.links.Link.{Link}
 use Rattle.stn_conflict.specs.Arcs.{arc_of}
 use Rattle.stn_conflict.specs.Culprit.{IsRefusedSide, IsCulprit}
+use Rattle.stn_conflict.specs.Distances.{AreDistances}
 use Rattle.stn_conflict.proofs.CycleSums.{cycle_of_way}
-use Rattle.stn_conflict.proofs.Distances.{link_named}
+use Rattle.stn_conflict.proofs.Distances.{link_among}
+use Rattle.stn_conflict.proofs.Relaxing.{among_events}
+use Rattle.stn_conflict.proofs.search.named.Given.{Over}
 use Rattle.stn_conflict.proofs.search.named.Goals as goal
+
+-- the number that is read is the distance from the link's end to its beginning
+read : (g : Over) (c : goal.After-struct_told-1 g) → (link : Link) → link ≡ record { place = c.args.place; side = c.refused_side.result }
+    → AreDistances (take c.args.place c.args.bounds.now) (arc_of c.args.bounds.now link).to c.in_ok-far.far.items
+    × ((arc_of c.args.bounds.now link).from < length c.in_ok-far.far.items)
+    × (c.index.result.now ≡ times_of c.in_ok-far.far.items (arc_of c.args.bounds.now link).from)
+read g c link is =
+    let bounds = c.args.bounds.now in
+    let far = c.in_ok-far.far.items in
+    let arc = c.arc-arc.ensures in
+    let there : link.place < length bounds = rw is c.requires.there in
+    let exact : AreDistances c.before-before.result c.arc-arc.result.to far = c.in_ok-far.ensures.distances in
+    let long : length far ≡ c.args.events + 1 = c.in_ok-far.ensures.long in
+    let among = among_events bounds c.args.events (length far) long c.requires.named in
+    let below = (link_among bounds (length far) link among there).0 in
+    let place : c.from.result ≡ (arc_of bounds link).from = c.from.ensures ∙ c.number.ensures.value ∙ rw is arc.from in
+    let within : c.from.result < length far = rw place below in (
+      rw is (rw (c.before-before.ensures, arc.to) at exact),
+      below,
+      get_or_read far _ _ within c.index.ensures (pos 0) ∙ ap (times_of far) place,
+    )
+
+pub overflow_add-result : goal.overflow_add-result
+overflow_add-result g c =
+    let link : Link = record { place = c.args.place; side = c.refused_side.result } in
+    let (exact, below, value) = read g c link refl in
+    let reach = exact.within (arc_of c.args.bounds.now link).from below in
+    let heavy = c.arc-arc.ensures.within in
+    omega (arith, ints)
 
 pub returns : goal.returns
 returns g c =
     let bounds = c.args.bounds.now in
     let before = take c.args.place bounds in
-    let exact = c.requires.exact in
     let link : Link = record { place = c.args.place; side = c.refused_side.result } in
     let links = c.in_ok-links.links.items in
     let arc = c.arc-arc.ensures in
-    let named = link_named bounds c.args.matrix.now.events link c.requires.named c.requires.there in
+    let (exact, below, value) = read g c.before.before link refl in
+    let far = times_of c.in_ok-far.far.items (arc_of bounds link).from in
+    let reach = exact.within (arc_of bounds link).from below in
+    let long : length c.in_ok-far.far.items ≡ c.args.events + 1 = c.in_ok-far.ensures.long in
     let reversed = c.reverse.ensures.items ∙ ap reverse c.in_ok-push.ensures.items ∙ reverse-append links (link ∷ []) in
+    let ahead : AreDistances c.before-before.result c.to.result c.in_ok-ahead.ahead.items = c.in_ok-ahead.ensures.distances in
+    let side : IsRefusedSide before c.bound-bound.result c.refused_side.result =
+    c.refused_side.ensures.side before (rw c.deref.ensures.value (rw (c.before-before.ensures, c.to.ensures.value) at ahead)) in
     let culprit : IsCulprit bounds link = record {
       there = c.requires.there;
-      before = exact.possible;
+      before = c.requires.before;
       refused = c.requires.refused;
-      side = subst (λ (b : Difference). IsRefusedSide before b c.refused_side.result) c.bound.ensures (c.refused_side.ensures.side before exact);
+      side = subst (λ (b : Difference). IsRefusedSide before b c.refused_side.result) c.bound-bound.ensures side;
     } in
-    let ordered = subst (λ (b : Difference). b.lo ≤ℤ b.hi) c.bound.ensures c.refused_side.ensures.ordered in
-    let far = subst (IsTightest before c.arc-arc.result.to c.arc-arc.result.from) (sym c.get.ensures.value) (c.far.ensures.far before exact) in
-    rw reversed (cycle_of_way bounds c.args.matrix.now.events link (reverse links) _ c.get.result _ culprit ordered
-    (exact.far (arc_of bounds link).to (arc_of bounds link).to named.1 named.1)
-    (rw (arc.to, arc.from) at far)
+    let ordered = subst (λ (b : Difference). b.lo ≤ℤ b.hi) c.bound-bound.ensures c.refused_side.ensures.ordered in
+    rw reversed (cycle_of_way bounds c.args.events link (reverse links) _ far _ culprit ordered
+    (exact.tightest (arc_of bounds link).to exact.start_named)
+    (exact.tightest (arc_of bounds link).from below)
     (subst IsWithinHorizon arc.weight arc.within)
-    c.get.ensures.within
+    reach
     (rw (c.before-before.ensures, arc.to, arc.from) at c.in_ok-links.ensures.way)
-    (omega (arith, length-reverse links, c.in_ok-links.ensures.short))
-    (let weight = arc.weight in omega (arith, ints)))
+    (omega (arith, length-reverse links, c.in_ok-links.ensures.short, ap length c.deref-2.ensures.value))
+    (let weight = arc.weight in let heavy = arc.within in omega (arith, ints)))

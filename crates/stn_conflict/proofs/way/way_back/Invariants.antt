@@ -1,4 +1,4 @@
-use Rattle.std.proofs.Common.{◌≡◌, ◌+◌, ◌≤◌, ℕ, Some, length}
+use Rattle.std.proofs.Common.{◌≡◌, ◌+◌, ◌<◌, ℕ, Some, length}
 use Rattle.std.specs.Prelude.{reverse, unwrap_or}
 use Rattle.std.specs.List.{AllByRecursion}
 use Rattle.stn_conflict.specs.Arcs.{IsChain}
@@ -8,11 +8,11 @@ use Rattle.stn_conflict.proofs.way.way_back.Given as goal
 
 abbrev pub invariant-loop-start : goal.invariant-loop-start
 invariant-loop-start g l = record {
-  within : l.here ≤ l.matrix.events;
+  within : l.here < length l.far;
   chain : IsChain l.bounds (reverse l.links.items) l.here l.fn.end;
   first : AllByRecursion (IsFirstStep l.bounds l.start) (reverse l.links.items);
-  short : (level : ℕ) → level_at l.levels.items l.here ≡ Some level → length l.links.items + level ≤ l.matrix.events;
+  short : (level : ℕ) → level_at l.table.levels.items l.here ≡ Some level → length l.links.items + level < length l.far;
 }
 
 abbrev pub decreases-loop-start : goal.decreases-loop-start
-decreases-loop-start g l = unwrap_or (level_at l.levels.items l.here) 0
+decreases-loop-start g l = unwrap_or (level_at l.table.levels.items l.here) 0

@@ -1,6 +1,6 @@
 use Rattle.std.proofs.Common.{◌≡◌, ◌+◌, List, ◌++◌, ℤ, pos, length, Ok, ◌∷◌}
 use Rattle.stn_text.specs.Lines.{words_of}
-use Rattle.stn_exec.specs.Sites.{and_then, times_from}
+use Rattle.stn_exec.specs.Effect.{and_then, times_from}
 use Rattle.stn_exec.proofs.actions.check.Given as goal
 
 abbrev pub invariant-loop-word : goal.invariant-loop-word

@@ -1,25 +1,25 @@
-use Rattle.std.proofs.Common.{Some, None, IfOk, subst, ap, ◌∙◌}
+use Rattle.std.proofs.Common.{◌∷◌, Some, None, IfOk, subst, ap, ◌∙◌}
 use Rattle.stn_text.specs.Lines.{words_of}
 use Rattle.stn_lift.specs.PlanSource.{events_of}
 use Rattle.stn_exec.specs.Command.{seen_command, command_of}
+use Rattle.stn_exec.specs.Effect.{Effect}
 use Rattle.stn_exec.specs.Output.{IsReplied}
-use Rattle.stn_exec.specs.Sites.{Step}
 use Rattle.stn_exec.specs.declared.answer.Answer.TheVariants.{Refused}
 use Rattle.stn_exec.specs.declared.answer.Refusal.TheVariants.{Line}
-use Rattle.stn_exec.proofs.Scripts.{line_step-is, said_replied}
+use Rattle.stn_exec.proofs.Scripts.{line_effect-is, said_replied}
 use Rattle.stn_exec.proofs.script.reply_line.Goals as goal
 
 pub returns-in-Some : goal.returns-in-Some
 returns-in-Some g c =
-    let words = words_of c.args.line.now in
-    let same = line_step-is c.args.number c.args.world.now words (Some (seen_command c.in-Some.command))
+    let words = c.args.word.now ∷ words_of c.args.rest.now in
+    let same = line_effect-is c.args.number c.args.world.now words (Some (seen_command c.in-Some.command))
     (c.in-Some.ensures.command ∙ ap (λ e. command_of e words) (c.events.ensures.value ∙ ap events_of c.base.ensures)) in
-    subst (λ (step : Step). IfOk c.reply_command.result (IsReplied c.reply_command.new.world c.args.out.now.items c.reply_command.new.out.items step)) same c.reply_command.ensures
+    subst (λ (effect : Effect). IfOk c.reply_command.result (IsReplied c.reply_command.new.world c.args.out.now.items c.reply_command.new.out.items effect)) same c.reply_command.ensures
 
 pub returns-in-None : goal.returns-in-None
 returns-in-None g c =
-    let words = words_of c.args.line.now in
-    let same = line_step-is c.args.number c.args.world.now words None
+    let words = c.args.word.now ∷ words_of c.args.rest.now in
+    let same = line_effect-is c.args.number c.args.world.now words None
     (c.in-None.ensures.command ∙ ap (λ e. command_of e words) (c.events.ensures.value ∙ ap events_of c.base.ensures)) in
-    subst (λ (step : Step). IfOk c.say.result (IsReplied c.args.world.now c.args.out.now.items c.say.new.out.items step)) same
+    subst (λ (effect : Effect). IfOk c.say.result (IsReplied c.args.world.now c.args.out.now.items c.say.new.out.items effect)) same
     (said_replied c.say.result c.args.world.now c.args.out.now.items c.say.new.out.items (Refused (Line c.args.number)) c.say.ensures.text c.say.ensures.refused)

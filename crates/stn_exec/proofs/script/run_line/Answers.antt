@@ -1,69 +1,64 @@
-use Rattle.std.proofs.Common.{◌≡◌, false, true, [], refl, subst, arith}
-use Rattle.std.specs.Io.KnownBytes.{Appends}
+use Rattle.std.proofs.Common.{◌≡◌, ◌∷◌, ℕ, List, [], cond, refl, sym, ap, ◌∙◌, subst, arith}
 use Rattle.std.proofs.KnownBytes.{Appends-nil}
 use Rattle.std.proofs.lemmas.Grind.{common_steps}
+use Rattle.std.proofs.lemmas.Result.{err_from_is_err_and}
+use Rattle.std.specs.Io.KnownBytes.{Appends}
 use Rattle.stn_device.specs.Bytes.{AppendsPart}
 use Rattle.stn_device.specs.Counted.{counted_device}
 use Rattle.stn_text.specs.Lines.{words_of}
-use Rattle.stn_exec.specs.Script.{is_skipped, line_step}
-use Rattle.stn_exec.proofs.Scripts.{line_outcome-skipped, line_outcome-run, OnErr-any, part-nil, part-one, output_one}
+use Rattle.stn_exec.specs.Output.{WritesOutput, WritesOutputPart}
+use Rattle.stn_exec.specs.Script.{Outcome, refuses, effect_outcome, line_effect, line_outcome}
+use Rattle.stn_exec.proofs.Scripts.{line_outcome-skipped, line_outcome-run, output_one, part-one}
 use Rattle.stn_exec.proofs.script.run_line.Goals as goal
 
-pub returns-then-skips-clause-text : goal.returns-then-skips-clause-text
-returns-then-skips-clause-text g c =
-    let skipped : is_skipped (words_of c.args.line.now) ≡ true = grind (arith, common_steps) in
-    rw (line_outcome-skipped c.args.number c.args.world.now (words_of c.args.line.now) skipped) ([], refl, Appends-nil _)
-
-pub returns-then-skips-clause-world : goal.returns-then-skips-clause-world
-returns-then-skips-clause-world g c =
-    let skipped : is_skipped (words_of c.args.line.now) ≡ true = grind (arith, common_steps) in
-    rw (line_outcome-skipped c.args.number c.args.world.now (words_of c.args.line.now) skipped) refl
-
-pub returns-then-skips-clause-commands : goal.returns-then-skips-clause-commands
-returns-then-skips-clause-commands g c =
-    let skipped : is_skipped (words_of c.args.line.now) ≡ true = grind (arith, common_steps) in
-    rw (line_outcome-skipped c.args.number c.args.world.now (words_of c.args.line.now) skipped) refl
-
-pub returns-then-skips-clause-refused : goal.returns-then-skips-clause-refused
-returns-then-skips-clause-refused g c =
-    let skipped : is_skipped (words_of c.args.line.now) ≡ true = grind (arith, common_steps) in
-    rw (line_outcome-skipped c.args.number c.args.world.now (words_of c.args.line.now) skipped) refl
-
-pub returns-in_err-refused-clause-part : goal.returns-in_err-refused-clause-part
-returns-in_err-refused-clause-part g c = OnErr-any _ (part-nil _ _)
-
-pub returns-in_err-write_whole-clause-part : goal.returns-in_err-write_whole-clause-part
-returns-in_err-write_whole-clause-part g c =
-    let replied = c.in_ok-refused.ensures in
+pub returns-in_err-write_whole-in-Some-clause-run : goal.returns-in_err-write_whole-in-Some-clause-run
+returns-in_err-write_whole-in-Some-clause-run g c =
+    let p = err_from_is_err_and c.from_residual-in_err-write_whole-in-Some.result c.from_residual-in_err-write_whole-in-Some.ensures.1 in
+    let words = words_of c.args.line.now in
+    let before = g.W.Write.contents (counted_device c.args.writer.now) in
+    let after = g.W.Write.contents (counted_device c.write_whole.new.writer) in
+    let replied = c.in_ok-refused-in-Some.ensures in
+    let cut : line_outcome c.args.number c.args.world.now words ≡ effect_outcome (line_effect c.args.number c.args.world.now (c.in-Some.word.now ∷ words_of c.in-Some.rest.now)) =
+    line_outcome-run c.args.number c.args.world.now words c.in-Some.ensures.kept ∙ ap (λ (w : List (List ℕ)). effect_outcome (line_effect c.args.number c.args.world.now w)) c.in-Some.ensures.cut in
     let printed : c.deref.result.now ≡ replied.text = grind (arith, common_steps, replied.appended) in
-    let part : AppendsPart (g.W.Write.contents (counted_device c.args.writer.now)) (g.W.Write.contents (counted_device c.write_whole.new.writer)) replied.text =
-    subst (AppendsPart (g.W.Write.contents (counted_device c.args.writer.now)) (g.W.Write.contents (counted_device c.write_whole.new.writer))) printed c.in_err-write_whole.ensures.part in
-    let run : is_skipped (words_of c.args.line.now) ≡ false = grind (arith, common_steps) in
-    rw (line_outcome-run c.args.number c.args.world.now (words_of c.args.line.now) (line_step c.args.number c.args.world.now (words_of c.args.line.now)) run refl)
-    (OnErr-any _ (part-one _ _ _ replied.text replied.printed part))
+    rw (p.1, p.2) (
+      subst (λ (o : Outcome). WritesOutputPart before after o.replies) (sym cut) (part-one before after _ replied.text replied.printed (subst (AppendsPart before after) printed c.in_err-write_whole-in-Some.ensures.part)),
+      c.in_err-write_whole-in-Some.ensures.failed,
+    )
 
-pub returns-clause-text : goal.returns-clause-text
-returns-clause-text g c =
-    let replied = c.in_ok-refused.ensures in
+pub returns-in_ok-write_whole-in-Some-clause-run : goal.returns-in_ok-write_whole-in-Some-clause-run
+returns-in_ok-write_whole-in-Some-clause-run g c =
+    let words = words_of c.args.line.now in
+    let before = g.W.Write.contents (counted_device c.args.writer.now) in
+    let after = g.W.Write.contents (counted_device c.write_whole.new.writer) in
+    let replied = c.in_ok-refused-in-Some.ensures in
+    let effect = line_effect c.args.number c.args.world.now (c.in-Some.word.now ∷ words_of c.in-Some.rest.now) in
+    let cut : line_outcome c.args.number c.args.world.now words ≡ effect_outcome effect =
+    line_outcome-run c.args.number c.args.world.now words c.in-Some.ensures.kept ∙ ap (λ (w : List (List ℕ)). effect_outcome (line_effect c.args.number c.args.world.now w)) c.in-Some.ensures.cut in
     let printed : c.deref.result.now ≡ replied.text = grind (arith, common_steps, replied.appended) in
-    let written : Appends (g.W.Write.contents (counted_device c.args.writer.now)) (g.W.Write.contents (counted_device c.write_whole.new.writer)) replied.text =
-    subst (Appends (g.W.Write.contents (counted_device c.args.writer.now)) (g.W.Write.contents (counted_device c.write_whole.new.writer))) printed c.in_ok-write_whole.ensures.written in
-    let run : is_skipped (words_of c.args.line.now) ≡ false = grind (arith, common_steps) in
-    rw (line_outcome-run c.args.number c.args.world.now (words_of c.args.line.now) (line_step c.args.number c.args.world.now (words_of c.args.line.now)) run refl)
-    (replied.text, output_one _ replied.text replied.printed, written)
+    let counted : c.from.result ≡ cond (refuses effect.reply) 1 0 = grind (arith, common_steps, replied.answered) in (
+      subst (λ (o : Outcome). WritesOutput before after o.replies) (sym cut)
+          (replied.text, output_one effect.reply replied.text replied.printed, subst (Appends before after) printed c.in_ok-write_whole-in-Some.ensures.written),
+      sym (ap (λ (o : Outcome). o.commands) cut),
+      counted ∙ sym (ap (λ (o : Outcome). o.refused) cut),
+      c.in_ok-write_whole-in-Some.ensures.kept,
+    )
 
-pub returns-clause-world : goal.returns-clause-world
-returns-clause-world g c =
-    let run : is_skipped (words_of c.args.line.now) ≡ false = grind (arith, common_steps) in
-    rw (line_outcome-run c.args.number c.args.world.now (words_of c.args.line.now) (line_step c.args.number c.args.world.now (words_of c.args.line.now)) run refl) c.in_ok-refused.ensures.left
+pub returns-in_ok-write_whole-in-Some-clause-world : goal.returns-in_ok-write_whole-in-Some-clause-world
+returns-in_ok-write_whole-in-Some-clause-world g c =
+    c.in_ok-refused-in-Some.ensures.left
+    ∙ sym (ap (λ (o : Outcome). o.world) (line_outcome-run c.args.number c.args.world.now (words_of c.args.line.now) c.in-Some.ensures.kept)
+    ∙ ap (λ (w : List (List ℕ)). (line_effect c.args.number c.args.world.now w).world) c.in-Some.ensures.cut)
 
-pub returns-clause-commands : goal.returns-clause-commands
-returns-clause-commands g c =
-    let run : is_skipped (words_of c.args.line.now) ≡ false = grind (arith, common_steps) in
-    rw (line_outcome-run c.args.number c.args.world.now (words_of c.args.line.now) (line_step c.args.number c.args.world.now (words_of c.args.line.now)) run refl) refl
+pub returns-in-None-clause-run : goal.returns-in-None-clause-run
+returns-in-None-clause-run g c =
+    let before = g.W.Write.contents (counted_device c.args.writer.now) in
+    let skipped = line_outcome-skipped c.args.number c.args.world.now (words_of c.args.line.now) c.in-None.ensures.skipped in (
+      subst (λ (o : Outcome). WritesOutput before before o.replies) (sym skipped) ([], refl, Appends-nil before),
+      sym (ap (λ (o : Outcome). o.commands) skipped),
+      sym (ap (λ (o : Outcome). o.refused) skipped),
+      refl,
+    )
 
-pub returns-clause-refused : goal.returns-clause-refused
-returns-clause-refused g c =
-    let run : is_skipped (words_of c.args.line.now) ≡ false = grind (arith, common_steps) in
-    let answered = c.in_ok-refused.ensures.answered in
-    rw (line_outcome-run c.args.number c.args.world.now (words_of c.args.line.now) (line_step c.args.number c.args.world.now (words_of c.args.line.now)) run refl) (grind (arith, common_steps, answered))
+pub returns-in-None-clause-world : goal.returns-in-None-clause-world
+returns-in-None-clause-world g c = sym (ap (λ (o : Outcome). o.world) (line_outcome-skipped c.args.number c.args.world.now (words_of c.args.line.now) c.in-None.ensures.skipped))

@@ -1,7 +1,7 @@
 use Rattle.std.proofs.Common.{◌≡◌, ◌+◌, ◌≤◌, ◌++◌, List, length}
-use Rattle.stn_exec.specs.Sites.{Reply}
+use Rattle.stn_exec.specs.Effect.{Reply}
 use Rattle.stn_exec.specs.Output.{WritesOutput}
-use Rattle.stn_device.specs.Counted.{counted_device, KeepsCount}
+use Rattle.stn_device.specs.Counted.{counted_device, failure_count}
 use Rattle.stn_text.specs.Lines.{lines_of}
 use Rattle.stn_exec.specs.Script.{lines_outcome}
 use Rattle.stn_exec.proofs.script.run_lines.Given as goal
@@ -12,7 +12,7 @@ invariant-loop-rest g l = record {
       × ((lines_outcome l.number l.fn.world (lines_of l.text)).replies ≡ done ++ (lines_outcome l.at l.world (lines_of l.rest)).replies);
   commands : l.ran.commands + (lines_outcome l.at l.world (lines_of l.rest)).commands ≡ (lines_outcome l.number l.fn.world (lines_of l.text)).commands;
   refused : l.ran.refused + (lines_outcome l.at l.world (lines_of l.rest)).refused ≡ (lines_outcome l.number l.fn.world (lines_of l.text)).refused;
-  kept : KeepsCount l.fn.writer l.writer;
+  kept : failure_count l.writer ≡ failure_count l.fn.writer;
   within : l.at + length l.rest ≤ l.number + length l.text;
   few_commands : l.ran.commands + l.number ≤ l.at;
   few_refused : l.ran.refused + l.number ≤ l.at;

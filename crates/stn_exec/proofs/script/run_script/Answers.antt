@@ -1,81 +1,31 @@
-use Rattle.std.proofs.Common.{◌≡◌, Ok, Err, refl, subst, ap, ◌∙◌, arith}
-use Rattle.std.specs.Io.KnownBytes.{Appends}
-use Rattle.std.proofs.lemmas.Grind.{common_steps}
-use Rattle.stn_device.specs.Bytes.{AppendsPart}
-use Rattle.stn_device.specs.Counted.{counted_device}
+use Rattle.std.proofs.Common.{◌≡◌, Err, refl, sym, ap, ◌∙◌, subst}
+use Rattle.stn_device.specs.Counted.{counted_device, failure_count}
 use Rattle.stn_text.specs.Lines.{lines_of}
-use Rattle.stn_exec.specs.Answer.{refusal_text}
-use Rattle.stn_exec.specs.Heading.{seen_start}
-use Rattle.stn_exec.specs.Script.{Outcome, heading_of, lines_outcome}
-use Rattle.stn_exec.proofs.Scripts.{script_outcome-is, OnErr-any, part-nil, part-one, output_one}
-use Rattle.stn_exec.specs.Sites.{said}
-use Rattle.stn_exec.specs.declared.answer.Answer.TheVariants.{Refused}
+use Rattle.stn_exec.specs.Output.{IsRun}
+use Rattle.stn_exec.specs.Script.{Outcome, heading_of}
+use Rattle.stn_exec.proofs.Scripts.{opened_outcome, script_outcome-is, part-nil}
 use Rattle.stn_exec.proofs.script.run_script.Goals as goal
 
-pub returns-in_err-write_whole-in-Err-clause-part : goal.returns-in_err-write_whole-in-Err-clause-part
-returns-in_err-write_whole-in-Err-clause-part g c =
+pub returns-in-Ok : goal.returns-in-Ok
+returns-in-Ok g c =
     let script = c.args.script.now in
-    let whole = script_outcome-is script (Err c.in-Err.refusal) (c.in-Err.ensures.start ∙ ap (λ n. heading_of n (lines_of script)) c.number_behind.ensures) in
-    let printed : c.deref.result.now ≡ refusal_text c.in-Err.refusal = grind (arith, common_steps) in
-    let part : AppendsPart (g.W.Write.contents (counted_device c.args.writer.now)) (g.W.Write.contents (counted_device c.write_whole.new.writer)) (refusal_text c.in-Err.refusal) =
-    subst (AppendsPart (g.W.Write.contents (counted_device c.args.writer.now)) (g.W.Write.contents (counted_device c.write_whole.new.writer))) printed c.in_err-write_whole-in-Err.ensures.part in
-    rw (← whole) (OnErr-any _ (part-one _ _ (said (Refused c.in-Err.refusal)) (refusal_text c.in-Err.refusal) refl part))
+    let opened = c.in-Ok.ensures.opened in
+    let whole = opened_outcome script opened.start c.in-Ok.world c.in-Ok.commands.number (lines_of c.in-Ok.commands.text.now)
+    (ap (λ n. heading_of n (lines_of script)) (sym c.number_behind.ensures) ∙ opened.read) opened.opening opened.number opened.lines in
+    record {
+      run = subst (λ (o : Outcome). IsRun o (g.W.Write.contents (counted_device c.args.writer.now)) (g.W.Write.contents (counted_device c.run_lines.new.writer))
+          (failure_count c.args.writer.now) (failure_count c.run_lines.new.writer) c.run_lines.result) whole c.run_lines.ensures.run;
+    }
 
-pub returns-in_ok-world-in-Ok-clause-text : goal.returns-in_ok-world-in-Ok-clause-text
-returns-in_ok-world-in-Ok-clause-text g c =
+pub returns-in-Err-Refused : goal.returns-in-Err-Refused
+returns-in-Err-Refused g c =
     let script = c.args.script.now in
-    let start = c.in-Ok.start in
-    let whole = ap (λ p. lines_outcome start.number p (lines_of start.text.now)) c.in_ok-world-in-Ok.ensures
-    ∙ script_outcome-is script (Ok (seen_start start)) (c.in-Ok.ensures.start ∙ ap (λ n. heading_of n (lines_of script)) c.number_behind.ensures) in
-    rw (← whole) c.run_lines.ensures.text
+    let read : heading_of c.number_behind.result (lines_of script) ≡ Err c.in-Err-Refused.refusal = rw c.in-Err-Refused.field-0-is at c.in-Err-Refused.ensures.refused in
+    let whole = script_outcome-is script (Err c.in-Err-Refused.refusal) (sym read ∙ ap (λ n. heading_of n (lines_of script)) c.number_behind.ensures) in
+    record {
+      run = subst (λ (o : Outcome). IsRun o (g.W.Write.contents (counted_device c.args.writer.now)) (g.W.Write.contents (counted_device c.refuse.new.writer))
+          (failure_count c.args.writer.now) (failure_count c.refuse.new.writer) c.refuse.result) whole c.refuse.ensures.run;
+    }
 
-pub returns-in_ok-world-in-Ok-clause-commands : goal.returns-in_ok-world-in-Ok-clause-commands
-returns-in_ok-world-in-Ok-clause-commands g c =
-    let script = c.args.script.now in
-    let start = c.in-Ok.start in
-    let whole = ap (λ p. lines_outcome start.number p (lines_of start.text.now)) c.in_ok-world-in-Ok.ensures
-    ∙ script_outcome-is script (Ok (seen_start start)) (c.in-Ok.ensures.start ∙ ap (λ n. heading_of n (lines_of script)) c.number_behind.ensures) in
-    rw (← whole) c.run_lines.ensures.commands
-
-pub returns-in_ok-world-in-Ok-clause-refused : goal.returns-in_ok-world-in-Ok-clause-refused
-returns-in_ok-world-in-Ok-clause-refused g c =
-    let script = c.args.script.now in
-    let start = c.in-Ok.start in
-    let whole = ap (λ p. lines_outcome start.number p (lines_of start.text.now)) c.in_ok-world-in-Ok.ensures
-    ∙ script_outcome-is script (Ok (seen_start start)) (c.in-Ok.ensures.start ∙ ap (λ n. heading_of n (lines_of script)) c.number_behind.ensures) in
-    rw (← whole) c.run_lines.ensures.refused
-
-pub returns-in_ok-world-in-Ok-clause-part : goal.returns-in_ok-world-in-Ok-clause-part
-returns-in_ok-world-in-Ok-clause-part g c =
-    let script = c.args.script.now in
-    let start = c.in-Ok.start in
-    let whole = ap (λ p. lines_outcome start.number p (lines_of start.text.now)) c.in_ok-world-in-Ok.ensures
-    ∙ script_outcome-is script (Ok (seen_start start)) (c.in-Ok.ensures.start ∙ ap (λ n. heading_of n (lines_of script)) c.number_behind.ensures) in
-    rw (← whole) c.run_lines.ensures.part
-
-pub returns-in_ok-write_whole-in-Err-clause-text : goal.returns-in_ok-write_whole-in-Err-clause-text
-returns-in_ok-write_whole-in-Err-clause-text g c =
-    let script = c.args.script.now in
-    let whole = script_outcome-is script (Err c.in-Err.refusal) (c.in-Err.ensures.start ∙ ap (λ n. heading_of n (lines_of script)) c.number_behind.ensures) in
-    let printed : c.deref.result.now ≡ refusal_text c.in-Err.refusal = grind (arith, common_steps) in
-    let written : Appends (g.W.Write.contents (counted_device c.args.writer.now)) (g.W.Write.contents (counted_device c.write_whole.new.writer)) (refusal_text c.in-Err.refusal) =
-    subst (Appends (g.W.Write.contents (counted_device c.args.writer.now)) (g.W.Write.contents (counted_device c.write_whole.new.writer))) printed c.in_ok-write_whole-in-Err.ensures.written in
-    rw (← whole) (refusal_text c.in-Err.refusal, output_one (said (Refused c.in-Err.refusal)) (refusal_text c.in-Err.refusal) refl, written)
-
-pub returns-in_ok-write_whole-in-Err-clause-commands : goal.returns-in_ok-write_whole-in-Err-clause-commands
-returns-in_ok-write_whole-in-Err-clause-commands g c =
-    let script = c.args.script.now in
-    let whole = script_outcome-is script (Err c.in-Err.refusal) (c.in-Err.ensures.start ∙ ap (λ n. heading_of n (lines_of script)) c.number_behind.ensures) in
-    ap (λ (o : Outcome). o.commands) whole
-
-pub returns-in_ok-write_whole-in-Err-clause-refused : goal.returns-in_ok-write_whole-in-Err-clause-refused
-returns-in_ok-write_whole-in-Err-clause-refused g c =
-    let script = c.args.script.now in
-    let whole = script_outcome-is script (Err c.in-Err.refusal) (c.in-Err.ensures.start ∙ ap (λ n. heading_of n (lines_of script)) c.number_behind.ensures) in
-    ap (λ (o : Outcome). o.refused) whole
-
-pub returns-in_err-world-in-Ok-clause-part : goal.returns-in_err-world-in-Ok-clause-part
-returns-in_err-world-in-Ok-clause-part g c = OnErr-any _ (part-nil _ _)
-
-pub returns-in_err-print-in-Err-clause-part : goal.returns-in_err-print-in-Err-clause-part
-returns-in_err-print-in-Err-clause-part g c = OnErr-any _ (part-nil _ _)
+pub returns-in-Err-Memory : goal.returns-in-Err-Memory
+returns-in-Err-Memory g c = record { run = (part-nil _ _, refl) }

@@ -1,9 +1,8 @@
 use Rattle.std.proofs.Common.{◌≤◌, arith}
 use Rattle.std.proofs.lemmas.Bool.{leb-true, le-leb}
 use Rattle.stn_records.specs.JoinLaws.{takes_agree}
-use Rattle.stn_records.specs.Content.{is_within, known_count}
+use Rattle.stn_records.specs.Content.{most_known, is_within, known_count}
 use Rattle.stn_records.specs.ContentLaws.{contents_join}
-use Rattle.stn_records.specs.declared.TheConstants.{MOST_KNOWN}
 use Rattle.stn_records.proofs.Contents.{known_fewer}
 use Rattle.stn_records.proofs.laws.takes_agree.Goals as goal
 
@@ -11,5 +10,5 @@ use Rattle.stn_records.proofs.laws.takes_agree.Goals as goal
 pub returns : goal.returns
 returns c = takes_agree contents_join is_within (λ s t below within.
     let fewer = known_fewer s t below in
-    let most : known_count t ≤ MOST_KNOWN = leb-true (known_count t) MOST_KNOWN within in
-    le-leb (known_count s) MOST_KNOWN (omega arith))
+    let most : known_count t ≤ most_known = leb-true (known_count t) most_known within in
+    le-leb (known_count s) most_known (omega arith))

@@ -13,7 +13,7 @@ use Rattle.stn_matrix.proofs.matrix.Matrix.tighten.Goals.{then-not-is_implied+el
 
 pub returns-then-not-has_room-clause-possible : goal.returns-then-not-has_room-clause-possible
 returns-then-not-has_room-clause-possible g c = λ bounds exact.
-    let table : Table = record { events = c.self.inside.events; entries = c.self.inside.entries.items; steps = c.self.inside.steps } in
+    let table : Table = record { events = c.self.inside.events; entries = c.self.inside.entries.items; steps = c.self.inside.tightenings } in
     let named : NamesEvents table.events c.args.bound = rw (← c.self.view_is) at c.requires in
     let known : IsExact bounds table = rw (← c.self.view_is) at exact in
     let none : HasRoom (far_of table) c.args.bound → ⊥ = λ room.
@@ -26,7 +26,7 @@ returns-then-not-has_room-clause-possible g c = λ bounds exact.
 -- the fields after the bound was taken are a table that it tightened
 tightened : (g : Over) (c : goal.After-self-2-1 g) → IsTightened c.args.self.now (record { events = c.if-not-is_implied.self-inside.events; entries = c.if-not-is_implied.self-inside.entries.items; steps = c.saturating_add-self-inside.result }) c.args.bound
 tightened g c =
-    let table : Table = record { events = c.self.inside.events; entries = c.self.inside.entries.items; steps = c.self.inside.steps } in
+    let table : Table = record { events = c.self.inside.events; entries = c.self.inside.entries.items; steps = c.self.inside.tightenings } in
     let named : NamesEvents table.events c.args.bound = rw (← c.self.view_is) at c.requires in
     elim c.if-not-is_implied.branch [
       | then-not-is_implied+else-not-has_room w ↦

@@ -2,4 +2,4 @@ use Rattle.stn_pddl.proofs.SoundActions.{named-sound}
 use Rattle.stn_pddl.proofs.domain.Domain.action.Goals as goal
 
 pub returns-clause-sound : goal.returns-clause-sound
-returns-clause-sound g c = named-sound c.get.result c.args.name.now c.self.inside.actions c.self.invariant c.get.ensures
+returns-clause-sound g c = named-sound c.get.result c.args.name.now c.self.inside.actions c.self.invariant.sound c.get.ensures

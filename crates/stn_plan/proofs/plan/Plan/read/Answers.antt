@@ -1,9 +1,9 @@
 use Rattle.std.proofs.Common.{◌≡◌, ◌≤◌, length, map, Ok, arith}
+use Rattle.std.proofs.lemmas.Bool.Decides.{nat_tests}
 use Rattle.std.proofs.lemmas.List.{length-map}
 use Rattle.std.proofs.lemmas.Result.{err_from_is_err_and}
-use Rattle.stn_plan.specs.declared.TheConstants.{MAX_STEPS}
 use Rattle.stn_plan.specs.Lines.{lines_of}
-use Rattle.stn_plan.specs.Steps.{Fails, steps_of}
+use Rattle.stn_plan.specs.Steps.{most_steps, Fails, steps_of}
 use Rattle.stn_plan.specs.Views.{planned_step}
 use Rattle.stn_plan.proofs.StepFacts.{is_plan}
 use Rattle.stn_plan.proofs.FaultFacts.{lines_fault}
@@ -12,9 +12,9 @@ use Rattle.stn_plan.proofs.plan.Plan.read.Goals as goal
 pub invariant_of-result : goal.invariant_of-result
 invariant_of-result g c =
     let steps = map planned_step c.in_ok-steps.steps.items in
-    let few : length steps ≤ MAX_STEPS = rw length-map (omega arith) in
+    let few : length steps ≤ most_steps = rw length-map (omega arith) in
     let found : steps_of (lines_of c.args.text.now) ≡ Ok steps = rw (← c.new.ensures) c.in_ok-steps.ensures in
-    is_plan c.args.text.now steps (omega arith) few found
+    is_plan c.args.text.now steps (grind (arith, nat_tests)) few found
 
 pub returns-in_err-steps-clause-cause : goal.returns-in_err-steps-clause-cause
 returns-in_err-steps-clause-cause g c =

@@ -7,9 +7,19 @@ use Rattle.stn_replica.specs.Bounds.{RecordsName}
 use Rattle.stn_replica.specs.Held.{Held}
 use Rattle.stn_replica.specs.Work.{risen, KeepsLive}
 use Rattle.stn_replica.proofs.Changes.{extends_joined}
-use Rattle.stn_replica.proofs.Sound.{take_fault, can_take, named_taken, sound_rebuilt, sound_taken, sound_taken_in_conflict}
+use Rattle.stn_replica.proofs.Refused.{take_fault, can_take, unnamed_take}
+use Rattle.std.specs.Prelude.{unwrap_or}
+use Rattle.stn_replica.specs.declared.faults.ReplicaFault.TheVariants.{Memory}
+use Rattle.stn_replica.proofs.Sound.{named_taken, sound_rebuilt, sound_taken, sound_taken_in_conflict}
 use Rattle.stn_replica.proofs.replica.Replica.take.Goals as goal
 use Rattle.stn_replica.proofs.replica.Replica.take.Goals.{then-not-keeps_live, else-not-keeps_live+then-self, else-not-keeps_live+else-self}
+
+pub returns-then-not-all_name_events-clause-fault : goal.returns-then-not-all_name_events-clause-fault
+returns-then-not-all_name_events-clause-fault g c =
+    let unnamed : RecordsName (events_of (rc_value c.self.inside.base)) c.args.other.now → ⊥ =
+    λ named. false≢true (c.if-not-all_name_events.ensures.1 (subst (λ n. RecordsName n c.args.other.now) (sym (c.events.ensures.value ∙ ap events_of c.deref.ensures)) named)) in
+    let held : Held = record { site = c.self.inside.site; source = rc_value c.self.inside.base; state = c.self.inside.records; steps = c.self.inside.current.steps } in
+    rw (← c.self.view_is) (ap (λ o. unwrap_or o Memory) (sym (unnamed_take held c.args.other.now unnamed)))
 
 pub returns-in_err-records-clause-fault : goal.returns-in_err-records-clause-fault
 returns-in_err-records-clause-fault g c =
@@ -23,7 +33,8 @@ pub returns-clause-accepted : goal.returns-clause-accepted
 returns-clause-accepted g c =
     let theirs : RecordsName (events_of (rc_value c.self.inside.base)) c.args.other.now =
     subst (λ n. RecordsName n c.args.other.now) (c.events.ensures.value ∙ ap events_of c.deref.ensures) (c.if-not-all_name_events.ensures.0 refl) in
-    rw (← c.self.view_is) (can_take _ c.args.other.now _ c.in_ok-records.records theirs c.in_ok-records.ensures.clash c.in_ok-records.ensures.full)
+    let held : Held = record { site = c.self.inside.site; source = rc_value c.self.inside.base; state = c.self.inside.records; steps = c.self.inside.current.steps } in
+    rw (← c.self.view_is) (can_take held c.args.other.now _ c.in_ok-records.records theirs c.in_ok-records.ensures.clash c.in_ok-records.ensures.full)
 
 pub rebuild-self-inside-requires-clause-named : goal.rebuild-self-inside-requires-clause-named
 rebuild-self-inside-requires-clause-named g c =

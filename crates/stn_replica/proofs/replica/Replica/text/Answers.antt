@@ -1,5 +1,4 @@
-use Rattle.std.proofs.Common.{◌≡◌, ◌++◌, codes, length, map, ap, ◌∙◌, arith}
-use Rattle.stn_records.specs.Content.{live_of, listed}
+use Rattle.std.proofs.Common.{◌++◌, codes, length, ap, ◌∙◌, arith}
 use Rattle.stn_replica.specs.Bounds.{all_bounds}
 use Rattle.stn_replica.specs.Lines.{line}
 use Rattle.stn_replica.specs.Report.{heading}
@@ -10,12 +9,11 @@ use Rattle.stn_replica.proofs.replica.Replica.text.Goals.{in-Some+in_ok-append_w
 pub returns-clause-report : goal.returns-clause-report
 returns-clause-report g c =
     let front = c.in_ok-append_heading.ensures.text ∙ ap (λ before. before ++ heading c.args.self.now.source c.args.self.now.state) c.new-text.ensures.items in
-    let live : c.in_ok-live.live.items ≡ map listed (live_of c.args.self.now.state) = c.in_ok-live.ensures.live ∙ ap (λ s. map listed (live_of s)) c.records.ensures.value in
     elim c.match-current.branch [
       | in-Some+in_ok-append_windows-in-Some w ↦
           let found = w.in_ok-append_windows-in-Some.ensures.part (all_bounds c.args.self.now.source c.args.self.now.state) w.in-Some.ensures.exact in
-          windows_report c.args.self.now.source c.args.self.now.state w.deref-in-Some.result.now w.in-Some.matrix.now c.match-current.text.items found.0
-          (w.deref-in-Some.ensures.value ∙ live) w.in-Some.ensures.exact w.in-Some.ensures.events found.1
+          windows_report c.args.self.now.source c.args.self.now.state w.in-Some.matrix.now c.match-current.text.items found.0
+          w.in-Some.ensures.exact w.in-Some.ensures.events found.1
           (ap (λ v. v.items) w.text-is ∙ found.2 ∙ ap (λ before. before ++ (line (codes "ok") ++ found.0)) front)
       | in-None+in_ok-append_conflict-in-None w ↦
           let found = w.in_ok-append_conflict-in-None.ensures.part in

@@ -3,7 +3,9 @@ use Rattle.std.proofs.lemmas.Grind.{common_steps}
 use Rattle.std.specs.Rc.{rc_value}
 use Rattle.stn_replica.specs.Held.{Held}
 use Rattle.stn_records.specs.Content.{Content, no_content}
-use Rattle.stn_world.proofs.Sites.{IsStarted, started_more}
+use Rattle.stn_world.specs.Sites.{contents_of}
+use Rattle.stn_world.specs.Whole.{IsSoundWorld}
+use Rattle.stn_world.proofs.Sites.{IsStarted, started_more, started_sound}
 use Rattle.stn_world.proofs.world.World.new.Goals as goal
 
 pub loop-before-preserved : goal.loop-before-preserved
@@ -21,4 +23,11 @@ loop-before-preserved g c =
 pub returns-clause-opening : goal.returns-clause-opening
 returns-clause-opening g c =
     let all : c.loop-before.before ≡ c.args.sites = omega arith in
-    ap (λ (l : List Content). record { source = rc_value c.args.base; sites = l }) (c.loop-before.invariant.nothing ∙ ap (λ (n : ℕ). replicate n no_content) all)
+    ap (λ (l : List Content). record { source = rc_value c.args.base; sites = contents_of c.loop-before.replicas.items; packets = l }) c.new-2.ensures.items
+    ∙ ap (λ (l : List Content). record { source = rc_value c.args.base; sites = l; packets = [] }) (c.loop-before.invariant.nothing ∙ ap (λ (n : ℕ). replicate n no_content) all)
+
+pub invariant_of-result : goal.invariant_of-result
+invariant_of-result g c =
+    let all : c.loop-before.before ≡ c.args.sites = omega arith in
+    subst (λ (l : List Content). IsSoundWorld (rc_value c.args.base) c.loop-before.replicas.items l) (sym c.new-2.ensures.items)
+    (started_sound (rc_value c.args.base) c.loop-before.before c.loop-before.replicas.items c.loop-before.invariant (omega arith) (omega arith))

@@ -1,25 +1,52 @@
-use Rattle.std.proofs.Common.{◌≡◌, true, ap, ◌∙◌, subst}
-use Rattle.stn_world.proofs.Sites.{held_there, withdrawn_there, sites_set}
-use Rattle.stn_records.specs.Content.{Content, is_known}
-use Rattle.stn_world.proofs.Pair.{on_err-any, kept_there}
+use Rattle.std.proofs.Common.{◌≡◌, sym, ap, subst, ◌∙◌}
+use Rattle.std.specs.Prelude.{option_map, unwrap_or}
+use Rattle.std.proofs.lemmas.Result.{err_from_is_err_and}
+use Rattle.stn_replica.specs.Refusals.{withdraw_refusal}
+use Rattle.stn_replica.specs.declared.faults.ReplicaFault.TheVariants as replica_fault
+use Rattle.stn_world.specs.declared.faults.WorldFault.TheVariants.{Memory}
+use Rattle.stn_world.specs.Faults.{of_replica_fault}
+use Rattle.stn_world.specs.Steps.{withdrew, IsAccepted}
+use Rattle.stn_world.specs.World.{held_at}
+use Rattle.stn_world.specs.Whole.{IsCoherent}
+use Rattle.stn_world.proofs.Accepted.{at_site, refused_by}
+use Rattle.stn_world.proofs.Sites.{held_there, withdrawn_there, withdraw_refusal_at, sound_changed, sound_stayed, world_stayed}
+use Rattle.stn_world.proofs.Whole.{coherent_after}
 use Rattle.stn_world.proofs.world.World.withdraw.Goals as goal
+
+pub invariant_of-self : goal.invariant_of-self
+invariant_of-self g c = sound_stayed _ c.self.inside.replicas.items c.in_ok-place.place c.index_mut.result.now c.withdraw.new.self c.self.invariant c.index_mut.ensures.value c.in_err-withdraw.ensures.kept
+
+pub returns-in_err-withdraw : goal.returns-in_err-withdraw
+returns-in_err-withdraw g c =
+    let p = err_from_is_err_and c.from_residual-in_err-withdraw.result c.from_residual-in_err-withdraw.ensures.1 in
+    let held = held_there c.args.self.now _ _ _ c.args.site c.index_mut.result.now c.self.view_is c.self.invariant.sites c.in_ok-place.ensures.place c.in_ok-place.ensures.there c.index_mut.ensures.value in
+    let fault : c.in_err-withdraw.field-0.0 ≡ unwrap_or (withdraw_refusal (held_at c.args.self.now c.args.site) c.args.id) replica_fault.Memory =
+    c.in_err-withdraw.ensures.fault ∙ ap (λ o. unwrap_or o replica_fault.Memory) (withdraw_refusal_at c.args.self.now c.args.site c.index_mut.result.now c.args.id held) in
+    rw (p.1, p.2) (record {
+      step = (
+        refused_by (withdraw_refusal (held_at c.args.self.now c.args.site) c.args.id) c.in_err-withdraw.field-0.0 fault
+            ∙ ap (λ o. unwrap_or o Memory) (sym (at_site c.args.self.now c.args.site (option_map of_replica_fault (withdraw_refusal (held_at c.args.self.now c.args.site) c.args.id)) c.in_ok-place.ensures.there)),
+        world_stayed c.args.self.now _ c.self.inside.replicas.items c.in_ok-place.place c.index_mut.result.now c.withdraw.new.self c.self.view_is c.index_mut.ensures.value c.in_err-withdraw.ensures.kept,
+      );
+    })
 
 pub invariant_of-self-2 : goal.invariant_of-self-2
 invariant_of-self-2 g c =
-    sites_set _ _ _ c.withdraw.new.self c.index_mut.result.now c.self.invariant
-    (c.in_ok-withdraw.ensures.site ∙ ap (λ r. r.site) c.index_mut.ensures.value) (c.in_ok-withdraw.ensures.source ∙ ap (λ r. r.source) c.index_mut.ensures.value)
+    let held = held_there c.args.self.now _ _ _ c.args.site c.index_mut.result.now c.self.view_is c.self.invariant.sites c.in_ok-place.ensures.place c.in_ok-place.ensures.there c.index_mut.ensures.value in
+    let accepted : IsAccepted c.args.self.now (withdrew c.args.site c.args.id) =
+    at_site c.args.self.now c.args.site (option_map of_replica_fault (withdraw_refusal (held_at c.args.self.now c.args.site) c.args.id)) c.in_ok-place.ensures.there
+    ∙ ap (option_map of_replica_fault) (sym (withdraw_refusal_at c.args.self.now c.args.site c.index_mut.result.now c.args.id held) ∙ c.in_ok-withdraw.ensures.accepted) in
+    let made = withdrawn_there c.args.self.now _ c.self.inside.replicas.items c.in_ok-place.place c.args.site c.index_mut.result.now c.withdraw.new.self c.args.id c.self.view_is c.in_ok-place.ensures.place held c.in_ok-withdraw.ensures.leaves in
+    sound_changed c.args.self.now _ _ c.self.inside.replicas.items c.in_ok-place.place c.index_mut.result.now c.withdraw.new.self _ c.self.view_is c.self.invariant c.index_mut.ensures.value c.in_ok-withdraw.ensures.leaves made
+    (coherent_after c.args.self.now (withdrew c.args.site c.args.id) accepted (subst IsCoherent c.self.view_is c.self.invariant.coherent))
 
-pub returns-clause-withdrawn : goal.returns-clause-withdrawn
-returns-clause-withdrawn g c =
-    withdrawn_there c.args.self.now _ _ _ c.args.site c.index_mut.result.now c.withdraw.new.self c.args.id c.self.view_is c.in_ok-place.ensures.place
-    (held_there c.args.self.now _ _ _ c.args.site c.index_mut.result.now c.self.view_is c.self.invariant c.in_ok-place.ensures.place c.in_ok-place.ensures.there c.index_mut.ensures.value)
-    c.in_ok-withdraw.ensures.withdrawn
-
-pub returns-in_err-withdraw-clause-kept : goal.returns-in_err-withdraw-clause-kept
-returns-in_err-withdraw-clause-kept g c =
-    on_err-any _ (kept_there c.args.self.now _ c.self.inside.replicas.items c.in_ok-place.place c.index_mut.result.now c.withdraw.new.self c.self.view_is c.index_mut.ensures.value c.in_err-withdraw.ensures.kept)
-
-pub returns-clause-accepted : goal.returns-clause-accepted
-returns-clause-accepted g c =
-    let held = held_there c.args.self.now _ _ _ c.args.site c.index_mut.result.now c.self.view_is c.self.invariant c.in_ok-place.ensures.place c.in_ok-place.ensures.there c.index_mut.ensures.value in
-    subst (λ (s : Content). is_known s c.args.id ≡ true) held.state c.in_ok-withdraw.ensures.accepted
+pub returns : goal.returns
+returns g c =
+    let held = held_there c.args.self.now _ _ _ c.args.site c.index_mut.result.now c.self.view_is c.self.invariant.sites c.in_ok-place.ensures.place c.in_ok-place.ensures.there c.index_mut.ensures.value in
+    record {
+      step = (
+        at_site c.args.self.now c.args.site (option_map of_replica_fault (withdraw_refusal (held_at c.args.self.now c.args.site) c.args.id)) c.in_ok-place.ensures.there
+            ∙ ap (option_map of_replica_fault) (sym (withdraw_refusal_at c.args.self.now c.args.site c.index_mut.result.now c.args.id held) ∙ c.in_ok-withdraw.ensures.accepted),
+        withdrawn_there c.args.self.now _ c.self.inside.replicas.items c.in_ok-place.place c.args.site c.index_mut.result.now c.withdraw.new.self c.args.id c.self.view_is c.in_ok-place.ensures.place held c.in_ok-withdraw.ensures.leaves,
+      );
+    }

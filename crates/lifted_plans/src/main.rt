@@ -1,0 +1,96 @@
+//! For tests: reads domains and plans from standard input, one a line, in which `~` stands for a line feed. A line that begins
+//! with `(` is the domain of the plans after it. Of each plan it prints the base bounds in their order and then the planned times
+//! of the events, or the code of the fault and its argument.
+#![tactic(auto)]
+
+use anyhow::Error;
+use std::alloc::Global;
+use stn_lift::{Base, BaseFault, LiftFault, Source};
+use stn_net::{Bound, Event};
+
+fn lift_code(fault: LiftFault) -> (u8, u32) {
+    match fault {
+        LiftFault::UnknownAction(step) => (30, u32::from(step)),
+        LiftFault::Arity(step) => (31, u32::from(step)),
+        LiftFault::DurationDiffers(step) => (32, u32::from(step)),
+        LiftFault::PastHorizon(step) => (33, u32::from(step)),
+        LiftFault::Memory => (99, 0),
+    }
+}
+
+// The code of a fault, and the step; of a domain or a plan with a fault of its own, 10 or 20 alone.
+fn code_of(fault: BaseFault) -> (u8, u32) {
+    match fault {
+        BaseFault::Domain(_) => (10, 0),
+        BaseFault::Plan(_) => (20, 0),
+        BaseFault::Lift(fault) => lift_code(fault),
+        BaseFault::TooManySteps => (34, 0),
+        BaseFault::Memory => (99, 0),
+    }
+}
+
+fn append_bound(out: &mut Vec<u8>, bound: &Bound) -> Result<(), Error> {
+    bound.from().print(out)?;
+    out.push(b' ')?;
+    bound.to().print(out)?;
+    out.push(b' ')?;
+    bound.lo().print(out)?;
+    out.push(b' ')?;
+    bound.hi().print(out)?;
+    out.push(b'\n')?;
+    Ok(())
+}
+
+fn append_planned(out: &mut Vec<u8>, base: &Base<Global>, number: u16) -> Result<(), Error> {
+    if number <= base.events() {
+        let event = Event::new(number).unwrap();
+        event.print(out)?;
+        out.push(b' ')?;
+        base.planned(event).print(out)?;
+        out.push(b'\n')?;
+    }
+    Ok(())
+}
+
+fn append_base(out: &mut Vec<u8>, base: &Base<Global>) -> Result<(), Error> {
+    for bound in base.bounds() {
+        append_bound(out, bound)?;
+    }
+    for number in 0..=base.events() {
+        append_planned(out, base, number)?;
+    }
+    Ok(())
+}
+
+fn answer(rt: &HostRuntime, source: &Source<Global>) -> Result<(), Error> {
+    match Base::from_source(rt.alloc(), source) {
+        Ok(base) => {
+            let mut out = Vec::new(rt.alloc());
+            append_base(&mut out, &base)?;
+            print!(rt; "{}", String::from_utf8(out)?)?;
+        }
+        Err(fault) => {
+            let (code, step) = code_of(fault);
+            println!(rt; "refused {code} {step}")?;
+        }
+    }
+    Ok(())
+}
+
+fn main(rt: HostRuntime) -> Result<(), Error> {
+    let mut domain = Vec::new(rt.alloc());
+    for row in rt.lines(rt.alloc()) {
+        let text = row?.replace(rt.alloc(), "~", "\n")?;
+        if text.as_str().starts_with("(") {
+            domain.clear();
+            domain.extend_from_slice(text.as_bytes())?;
+        } else {
+            let plan = Vec::from_slice(rt.alloc(), text.as_bytes())?;
+            answer(
+                &rt,
+                &Source::Files(Vec::from_slice(rt.alloc(), &domain)?, plan),
+            )?;
+        }
+    }
+    Ok(())
+}

@@ -1,0 +1,191 @@
+use Rattle.std.proofs.Common.{◌≡◌, ◌≢◌, inl, inr, ℕ, ◌+◌, ◌<◌, ◌≤◌, List, length, set, take, replicate, sym, subst, ap, refl, ◌∙◌, arith}
+use Rattle.std.specs.Prelude.{ℤ, pos, negsuc, neg_ℤ, ◌+ℤ◌, ◌-ℤ◌, ◌≤ℤ◌, ◌<ℤ◌, All, unsigned_abs}
+use Rattle.std.proofs.lemmas.Int.{ints}
+use Rattle.std.proofs.lemmas.Bool.{cases_eq}
+use Rattle.std.proofs.lemmas.List.{take-take, get_or-set_same, get_or-set_other, get_or-replicate, length-set, length-replicate}
+use Rattle.std.proofs.lemmas.List.Elements.{All-from_get_or, All-take}
+use Rattle.std.proofs.lemmas.List.Sums.{sum_by-set}
+use Rattle.stn_time.specs.Time.{horizon}
+use Rattle.stn_net.specs.Difference.{Difference, NamesEvents}
+use Rattle.stn_net.specs.Schedule.{Meets, IsSchedule, HasSchedule, times_of}
+use Rattle.stn_net.specs.Horizon.{horizon_bounds}
+use Rattle.stn_matrix.proofs.Widest.{horizon_times}
+use Rattle.stn_conflict.specs.declared.links.Link.{Link}
+use Rattle.stn_conflict.specs.Arcs.{arc_of, bound_at, rank}
+use Rattle.stn_conflict.specs.Distances.{NamesAmong, AreEstimates, AreDistances, IsRelaxed, room}
+use Rattle.stn_conflict.proofs.Distances.{schedule_before, link_kept, link_among}
+use Rattle.stn_conflict.proofs.LevelTable.{meets_moved}
+use Rattle.stn_conflict.proofs.OneCycle.{rank_tells}
+
+-- the events of the plan are so many and the origin
+pub among_events : (bounds : List Difference) (events count : ℕ) → count ≡ events + 1 → All (NamesEvents events) bounds → All (NamesAmong count) bounds
+among_events bounds events count long named = λ k d below.
+    let ends = named k d below in
+    let from = ends.from in
+    let to = ends.to in
+    (omega arith, omega arith)
+
+-- where the horizon bounds come first, no event comes later after another than the horizon, nor earlier
+pub bare_estimates : (bounds : List Difference) (events start : ℕ) (far : List ℤ) → far ≡ set (replicate (events + 1) horizon) start (pos 0) → start ≤ events
+    → take events bounds ≡ horizon_bounds events → All (NamesEvents events) bounds → AreEstimates bounds start far
+bare_estimates bounds events start far e within begins named =
+    let old = replicate (events + 1) horizon in
+    let old_long = length-replicate {A = ℤ} (events + 1) horizon in
+    let long : length far ≡ events + 1 = ap length e ∙ length-set old start (pos 0) ∙ old_long in
+    let there : start < length old = omega arith in
+    let here : times_of far start ≡ pos 0 = ap (λ l. times_of l start) e ∙ get_or-set_same old start (pos 0) (pos 0) there in
+    let others : (x : ℕ) → x < length far → x ≢ start → times_of far x ≡ horizon = λ x below differs.
+    let below' : x < events + 1 = omega arith in
+    ap (λ l. times_of l x) e ∙ get_or-set_other old start x (pos 0) (pos 0) differs ∙ get_or-replicate (events + 1) x horizon (pos 0) below' in
+    let times : (time : ℕ → ℤ) → IsSchedule bounds time → (x : ℕ) → x < length far → (pos 0 ≤ℤ time x) × (time x ≤ℤ horizon) = λ time s x below.
+    horizon_times events time (subst (λ l. IsSchedule l time) begins (schedule_before bounds events time s)) x (omega arith) in
+    record {
+      named = among_events bounds events (length far) long named;
+      start_named = omega arith;
+      own = here;
+      within = λ x below. elim (cases_eq x start) [
+        | inl same ↦ (let at : times_of far x ≡ pos 0 = ap (times_of far) same ∙ here in (omega (arith, ints), omega (arith, ints)))
+        | inr differs ↦ (let at = others x below differs in (omega (arith, ints), omega (arith, ints)))
+      ];
+      sound = λ time s x below. elim (cases_eq x start) [
+        | inl same ↦ (let at : times_of far x ≡ pos 0 = ap (times_of far) same ∙ here in let now : time x ≡ time start = ap time same in omega (arith, ints))
+        | inr differs ↦ (let at = others x below differs in let end = times time s x below in let begin = times time s start (omega arith) in omega (arith, ints))
+      ];
+      least = λ time s x below. (let end = times time s x below in let begin = times time s start (omega arith) in omega (arith, ints));
+    }
+
+-- estimates for bounds are estimates for more of them
+pub estimates_of_more : (bounds : List Difference) (events low middle start : ℕ) (far : List ℤ) → low ≤ middle → length far ≡ events + 1 → All (NamesEvents events) bounds
+    → AreEstimates (take low bounds) start far → AreEstimates (take middle bounds) start far
+estimates_of_more bounds events low middle start far more long named h =
+    let back : (time : ℕ → ℤ) → IsSchedule (take middle bounds) time → IsSchedule (take low bounds) time = λ time s.
+    subst (λ l. IsSchedule l time) (take-take low middle bounds more) (schedule_before (take middle bounds) low time s) in
+    record {
+      named = All-take (NamesAmong (length far)) middle bounds (among_events bounds events (length far) long named);
+      start_named = h.start_named;
+      own = h.own;
+      within = h.within;
+      sound = λ time s. h.sound time (back time s);
+      least = λ time s. h.least time (back time s);
+    }
+
+-- in each schedule the link's end comes no later than its beginning and the link allow
+way_sound : (bounds : List Difference) (start : ℕ) (far : List ℤ) (link : Link) (time : ℕ → ℤ) → AreEstimates bounds start far → link.place < length bounds → IsSchedule bounds time
+    → (time (arc_of bounds link).to -ℤ time start) ≤ℤ (times_of far (arc_of bounds link).from +ℤ (arc_of bounds link).weight)
+way_sound bounds start far link time h there s =
+    let ends = link_among bounds (length far) link h.named there in
+    let begin = h.sound time s (arc_of bounds link).from ends.0 in
+    let kept = link_kept bounds link time there s in
+    omega (arith, ints)
+
+-- an estimate of the start below 0 refuses each schedule
+pub refused_at_start : (bounds : List Difference) (start : ℕ) (far : List ℤ) (link : Link) (way : ℤ) → AreEstimates bounds start far → link.place < length bounds
+    → way ≡ times_of far (arc_of bounds link).from +ℤ (arc_of bounds link).weight → (arc_of bounds link).to ≡ start → way <ℤ times_of far (arc_of bounds link).to → HasSchedule bounds → ⊥
+refused_at_start bounds start far link way h there is same less (time, s) =
+    let sound = way_sound bounds start far link time h there s in
+    let own = h.own in
+    let now = ap time same in
+    let at = ap (times_of far) same in
+    omega (arith, ints)
+
+-- and so does one beyond the horizon
+pub refused_beyond : (bounds : List Difference) (start : ℕ) (far : List ℤ) (link : Link) (way : ℤ) → AreEstimates bounds start far → link.place < length bounds
+    → way ≡ times_of far (arc_of bounds link).from +ℤ (arc_of bounds link).weight → way <ℤ neg_ℤ horizon → HasSchedule bounds → ⊥
+refused_beyond bounds start far link way h there is less (time, s) =
+    let sound = way_sound bounds start far link time h there s in
+    let ends = link_among bounds (length far) link h.named there in
+    let least = h.least time s (arc_of bounds link).to ends.1 in
+    omega (arith, ints)
+
+-- a natural number is its own absolute value
+abs_is : (z : ℤ) → pos 0 ≤ℤ z → pos (unsigned_abs z) ≡ z
+abs_is (pos n) h = refl
+abs_is (negsuc n) h = absurd (omega (arith, ints))
+
+-- the estimate at the link's end falls
+pub relaxed_estimates : (bounds : List Difference) (start : ℕ) (far : List ℤ) (link : Link) (x : ℕ) (way : ℤ) → AreEstimates bounds start far → link.place < length bounds
+    → x ≡ (arc_of bounds link).to → way ≡ times_of far (arc_of bounds link).from +ℤ (arc_of bounds link).weight
+    → x ≢ start → neg_ℤ horizon ≤ℤ way → way <ℤ times_of far x
+    → AreEstimates bounds start (set far x way) × (room (set far x way) < room far)
+relaxed_estimates bounds start far link x way h there to is apart least less =
+    let ends = link_among bounds (length far) link h.named there in
+    let long : length (set far x way) ≡ length far = length-set far x way in
+    let xs : x < length far = rw to ends.1 in
+    let here : times_of (set far x way) x ≡ way = get_or-set_same far x way (pos 0) xs in
+    let others : (y : ℕ) → y ≢ x → times_of (set far x way) y ≡ times_of far y = λ y differs. get_or-set_other far x y way (pos 0) differs in
+    let old = h.within x xs in
+    let falls = sum_by-set (λ (z : ℤ). unsigned_abs (z +ℤ horizon)) far x way (pos 0) xs in
+    let now = abs_is (way +ℤ horizon) (omega (arith, ints)) in
+    let then = abs_is (times_of far x +ℤ horizon) (omega (arith, ints)) in (
+      record {
+        named = rw long h.named;
+        start_named = omega (arith, h.start_named);
+        own = others start (λ e. apart (sym e)) ∙ h.own;
+        within = λ y below. elim (cases_eq y x) [
+          | inl same ↦ (let at : times_of (set far x way) y ≡ way = ap (times_of (set far x way)) same ∙ here in (omega (arith, ints), omega (arith, ints)))
+          | inr differs ↦ (let at = others y differs in let w = h.within y (omega arith) in (omega (arith, ints), omega (arith, ints)))
+        ];
+        sound = λ time s y below. elim (cases_eq y x) [
+          | inl same ↦ (
+              let at : times_of (set far x way) y ≡ way = ap (times_of (set far x way)) same ∙ here in
+              let sound = way_sound bounds start far link time h there s in
+              let end : time y ≡ time (arc_of bounds link).to = ap time (same ∙ to) in
+              omega (arith, ints))
+          | inr differs ↦ (let at = others y differs in let sound = h.sound time s y (omega arith) in omega (arith, ints))
+        ];
+        least = λ time s y below. h.least time s y (omega arith);
+      },
+      omega (arith, ints),
+    )
+
+-- where each link is relaxed, the estimates, moved so that the origin stands at 0, are a schedule
+relaxed_schedule : (bounds : List Difference) (far : List ℤ) → ((link : Link) → link.place < length bounds → IsRelaxed bounds far link)
+    → IsSchedule bounds (λ x. times_of far x -ℤ times_of far 0)
+relaxed_schedule bounds far relaxed = record {
+  origin = omega (arith, ints);
+  met = All-from_get_or (Meets (λ x. times_of far x -ℤ times_of far 0)) bounds (record { from = 0; to = 0; lo = pos 0; hi = pos 0 }) (λ place there.
+      meets_moved (bound_at bounds place) (times_of far) (times_of far 0) (λ side.
+      let kept = relaxed (record { place = place; side = side }) there in omega (arith, ints)));
+}
+
+-- and the estimates are the distances
+pub settled : (bounds : List Difference) (start : ℕ) (far : List ℤ) → AreEstimates bounds start far → ((link : Link) → link.place < length bounds → IsRelaxed bounds far link)
+    → HasSchedule bounds × AreDistances bounds start far
+settled bounds start far h relaxed =
+    let time : ℕ → ℤ = λ x. times_of far x -ℤ times_of far 0 in
+    let s : IsSchedule bounds time = relaxed_schedule bounds far relaxed in (
+      (time, s),
+      record {
+        named = h.named;
+        start_named = h.start_named;
+        within = h.within;
+        tightest = λ x below. record { bound = λ other is. h.sound other is x below; attained = (time, s, (let own = h.own in omega (arith, ints))) };
+      },
+    )
+
+-- one link further back
+pub back_over : (bounds : List Difference) (count start here from to : ℕ) (weight sum : ℤ) (link : Link) → All (NamesAmong count) bounds → link.place < length bounds
+    → from ≡ (arc_of bounds link).from → to ≡ (arc_of bounds link).to → weight ≡ (arc_of bounds link).weight → to ≡ here
+    → ((time : ℕ → ℤ) → IsSchedule bounds time → (time start -ℤ time here) ≤ℤ sum)
+    → (from < count) × ((time : ℕ → ℤ) → IsSchedule bounds time → (time start -ℤ time from) ≤ℤ (sum +ℤ weight))
+back_over bounds count start here from to weight sum link named there is_from is_to is_weight same kept = (
+  rw is_from (link_among bounds count link named there).0,
+  λ time s.
+      let step = link_kept bounds link time there s in
+      let so_far = kept time s in
+      let begin = ap time is_from in
+      let end = ap time (sym is_to ∙ same) in
+      omega (arith, ints),
+)
+
+-- the links that a pass has looked at are relaxed
+abbrev pub AreLookedAt : List Difference → List ℤ → ℕ → Type 0
+AreLookedAt bounds far seen = (link : Link) → rank link < seen → IsRelaxed bounds far link
+
+-- one more link is relaxed
+pub looked_at_more : (bounds : List Difference) (far : List ℤ) (seen : ℕ) (link : Link) → rank link ≡ seen → IsRelaxed bounds far link → AreLookedAt bounds far seen → AreLookedAt bounds far (seen + 1)
+looked_at_more bounds far seen link at relaxed so_far = λ other below.
+    elim (cases_eq (rank other) seen) [
+      | inl same ↦ subst (IsRelaxed bounds far) (sym (rank_tells other link (same ∙ sym at))) relaxed
+      | inr differs ↦ so_far other (omega arith)
+    ]

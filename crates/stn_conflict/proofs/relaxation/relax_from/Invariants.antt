@@ -1,0 +1,12 @@
+use Rattle.std.proofs.Common.{◌<◌, ◌≤◌, length}
+use Rattle.std.specs.Prelude.{IfSome}
+use Rattle.stn_conflict.specs.Distances.{AreEstimates, room}
+use Rattle.stn_conflict.proofs.relaxation.relax_from.Given as goal
+
+abbrev pub invariant-loop-link : goal.invariant-loop-link
+invariant-loop-link l = record {
+  estimates : AreEstimates l.bounds l.start l.far;
+  most : room l.far ≤ room l.fn.far;
+  there : IfSome l.last (λ link. link.place < length l.bounds);
+  less : IfSome l.last (λ link. room l.far < room l.fn.far);
+}

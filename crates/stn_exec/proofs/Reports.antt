@@ -1,0 +1,193 @@
+-- The commands of a script are a run of the world's steps.
+use Rattle.std.proofs.Common.{◌≡◌, ◌↔◌, ℕ, ℤ, ◌+◌, Bool, true, false, cond, List, [], ◌∷◌, ◌++◌, length, Option, Some, None, Result, Ok, Err, option_map, option_to_list, refl, sym, ap, subst, ◌∙◌, arith, append_assoc, append-nil}
+use Rattle.std.specs.Prelude.{option_and_then}
+use Rattle.std.specs.Result.{result_ok}
+use Rattle.std.proofs.lemmas.List.Sums.{fold-append}
+use Rattle.stn_time.specs.TimeOf.{time_of}
+use Rattle.stn_net.specs.Difference.{Difference}
+use Rattle.stn_lift.specs.PlanSource.{PlanSource, events_of}
+use Rattle.stn_text.specs.Lines.{lines_of, words_of}
+use Rattle.stn_replica.specs.Report.{IsReport}
+use Rattle.stn_replica.specs.Refusals.{add_refusal, done_refusal}
+use Rattle.stn_world.specs.Faults.{of_replica_fault}
+use Rattle.stn_world.specs.World.{World, HasSite, has_site, opening_world, held_at, content_at, next_id_at}
+use Rattle.stn_records.specs.Content.{Item, HasItem}
+use Rattle.stn_world.specs.Steps.{Step, added, finished, stepped, run, TookAt}
+use Rattle.stn_world.proofs.Accepted.{no_site}
+use Rattle.stn_world.proofs.Runs.{run_stays, run_keeps}
+use Rattle.stn_exec.specs.declared.answer.Refusal.{Refusal}
+use Rattle.stn_exec.specs.declared.answer.Refusal.TheVariants as refusal
+use Rattle.stn_exec.specs.declared.answer.Answer.TheVariants as answer
+use Rattle.stn_exec.specs.Command.{Action, add, done, withdraw, merge, report, check, next, Command, sites_command, command_of}
+use Rattle.stn_exec.specs.Effect.{Effect, Reply, reported, foreseen, refusing, refusing_time, difference_read, add_effect, done_effect, asked, action_effect, command_effect, action_step, step_of}
+use Rattle.stn_exec.specs.Script.{Outcome, Start, is_skipped, form_effect, line_outcome, lines_outcome, heading_of, last_line, script_outcome}
+use Rattle.stn_exec.specs.Output.{IsOutput}
+use Rattle.stn_exec.specs.Reports.{line_steps, steps_of_lines, LineOf, first_world, steps_before, world_at, ReportsSite, PrintsAt}
+use Rattle.stn_exec.proofs.Effects.{withdraws, merges, as_called, there_effect}
+use Rattle.stn_exec.proofs.Scripts.{line_outcome-skipped, line_outcome-run, line_effect-is, script_outcome-is}
+
+-- ---- what a command leaves is what its step leaves
+stays : (b : Bool) (world : World) (one two : Effect) → one.world ≡ world → two.world ≡ world → (cond b one two).world ≡ world
+stays true world one two e f = e
+stays false world one two e f = f
+
+addition_run : (world : World) (site : ℕ) (read : Result Difference Refusal)
+    → (cond (has_site world site) (add_effect world site read) (refusing world refusal.NoSite)).world ≡ run world (option_to_list (option_map (added site) (result_ok read)))
+addition_run world site (Ok bound) =
+    ap (λ (e : Effect). e.world) (sym (as_called world site (added site bound) (answer.Added (next_id_at world site)) (no_site world site (option_map of_replica_fault (add_refusal (held_at world site) bound)))))
+addition_run world site (Err cause) = stays (has_site world site) world (refusing world cause) (refusing world refusal.NoSite) refl refl
+
+execution_run : (world : World) (site event : ℕ) (read : Result ℤ Refusal)
+    → (cond (has_site world site) (done_effect world site event read) (refusing world refusal.NoSite)).world ≡ run world (option_to_list (option_map (finished site event) (result_ok read)))
+execution_run world site event (Ok time) =
+    ap (λ (e : Effect). e.world) (sym (as_called world site (finished site event time) (answer.Added (next_id_at world site)) (no_site world site (option_map of_replica_fault (done_refusal (held_at world site) event)))))
+execution_run world site event (Err cause) = stays (has_site world site) world (refusing world cause) (refusing world refusal.NoSite) refl refl
+
+asked_stays : (world : World) (reply : ℤ → Reply) (read : Result ℤ Refusal) → (asked world reply read).world ≡ world
+asked_stays world reply (Ok now) = refl
+asked_stays world reply (Err cause) = refl
+
+effect_run : (world : World) (site : ℕ) (action : Action) → (command_effect world (sites_command site action)).world ≡ run world (option_to_list (action_step site action))
+effect_run world site (add from to lo hi) = addition_run world site (difference_read from to lo hi)
+effect_run world site (done event time) = execution_run world site event (refusing_time (time_of time))
+effect_run world site (withdraw id) = ap (λ (e : Effect). e.world) (sym (withdraws world site id))
+effect_run world site (merge other) = ap (λ (e : Effect). e.world) (sym (merges world site other))
+effect_run world site report = stays (has_site world site) world (action_effect world site report) (refusing world refusal.NoSite) refl refl
+effect_run world site (check times) = stays (has_site world site) world (action_effect world site (check times)) (refusing world refusal.NoSite) refl refl
+effect_run world site (next now) =
+    stays (has_site world site) world (action_effect world site (next now)) (refusing world refusal.NoSite)
+    (asked_stays world (foreseen world.source (content_at world site)) (refusing_time (time_of now))) refl
+
+form_run : (number : ℕ) (world : World) (command : Option Command) → (form_effect number world command).world ≡ run world (option_to_list (option_and_then step_of command))
+form_run number world None = refl
+form_run number world (Some command) = effect_run world command.site command.action
+
+line_run : (number : ℕ) (world : World) (words : List (List ℕ)) → (line_outcome number world words).world ≡ run world (line_steps (events_of world.source) words)
+line_run number world words = tested (is_skipped words) refl
+  where
+    steps : Bool → List Step
+    steps b = cond b [] (option_to_list (option_and_then step_of (command_of (events_of world.source) words)))
+
+    tested : (b : Bool) → is_skipped words ≡ b → (line_outcome number world words).world ≡ run world (line_steps (events_of world.source) words)
+    tested true e = ap (λ (o : Outcome). o.world) (line_outcome-skipped number world words e) ∙ ap (λ b. run world (steps b)) (sym e)
+    tested false e =
+        ap (λ (o : Outcome). o.world) (line_outcome-run number world words e)
+        ∙ (ap (λ (f : Effect). f.world) (sym (line_effect-is number world words (command_of (events_of world.source) words) refl))
+        ∙ (form_run number world (command_of (events_of world.source) words) ∙ ap (λ b. run world (steps b)) (sym e)))
+
+line_keeps : (number : ℕ) (world : World) (words : List (List ℕ)) → (line_outcome number world words).world.source ≡ world.source
+line_keeps number world words =
+    ap (λ (w : World). w.source) (line_run number world words) ∙ run_keeps world (line_steps (events_of world.source) words)
+
+pub lines_run : (number : ℕ) (world : World) (lines : List (List ℕ)) → (lines_outcome number world lines).world ≡ run world (steps_of_lines (events_of world.source) lines)
+unfolding lines_outcome
+lines_run number world [] = refl
+lines_run number world (line ∷ lines) =
+    let first = (line_outcome number world (words_of line)).world in
+    lines_run (number + 1) first lines
+    ∙ (ap (λ (s : PlanSource). run first (steps_of_lines (events_of s) lines)) (line_keeps number world (words_of line))
+    ∙ (ap (λ (w : World). run w (steps_of_lines (events_of world.source) lines)) (line_run number world (words_of line))
+    ∙ sym (fold-append stepped world (line_steps (events_of world.source) (words_of line)) (steps_of_lines (events_of world.source) lines))))
+
+-- ---- the output at a line
+lines_split : (number : ℕ) (world : World) (before rest : List (List ℕ))
+    → (lines_outcome number world (before ++ rest)).replies
+    ≡ (lines_outcome number world before).replies ++ (lines_outcome (number + length before) (lines_outcome number world before).world rest).replies
+unfolding lines_outcome
+lines_split number world [] rest = ap (λ (n : ℕ). (lines_outcome n world rest).replies) (omega arith)
+lines_split number world (line ∷ before) rest =
+    let first = line_outcome number world (words_of line) in
+    ap (λ (l : List Reply). first.replies ++ l)
+    (lines_split (number + 1) first.world before rest
+    ∙ ap (λ (n : ℕ). (lines_outcome (number + 1) first.world before).replies ++ (lines_outcome n (lines_outcome (number + 1) first.world before).world rest).replies) (omega arith))
+    ∙ sym (append_assoc first.replies (lines_outcome (number + 1) first.world before).replies _)
+
+line_first : (number : ℕ) (world : World) (line : List ℕ) (behind : List (List ℕ))
+    → (lines_outcome number world (line ∷ behind)).replies
+    ≡ (line_outcome number world (words_of line)).replies ++ (lines_outcome (number + 1) (line_outcome number world (words_of line)).world behind).replies
+unfolding lines_outcome
+line_first number world line behind = refl
+
+-- the output of replies and others falls into both outputs
+outputs_split : (first later : List Reply) (text : List ℕ) → IsOutput (first ++ later) text → (a : List ℕ) × (b : List ℕ) × IsOutput first a × IsOutput later b × (text ≡ a ++ b)
+outputs_split [] later text all = ([], text, refl, all, refl)
+outputs_split (reply ∷ first) later text all =
+    let rest = outputs_split first later all.1 all.3 in
+    (all.0 ++ rest.0, rest.1, (all.0, rest.0, all.2, rest.2, refl), rest.3, all.4 ∙ (ap (λ (l : List ℕ). all.0 ++ l) rest.4 ∙ sym (append_assoc all.0 rest.0 rest.1)))
+
+-- a script, where its heading is none that is refused
+script_started : (script : List ℕ) (start : Start) → heading_of (last_line script) (lines_of script) ≡ Ok start
+    → script_outcome script ≡ lines_outcome start.number (opening_world start.source start.sites) start.lines
+script_started script start heading = sym (script_outcome-is script (Ok start) (sym heading))
+
+pub script_run : (script : List ℕ) (start : Start) → heading_of (last_line script) (lines_of script) ≡ Ok start
+    → (script_outcome script).world ≡ run (opening_world start.source start.sites) (steps_of_lines (events_of start.source) start.lines)
+script_run script start heading =
+    ap (λ (o : Outcome). o.world) (script_started script start heading) ∙ lines_run start.number (opening_world start.source start.sites) start.lines
+
+pub world_run : (script : List ℕ) (at : LineOf script) → world_at at ≡ run (first_world at) (steps_before at)
+world_run script at = lines_run at.start.number (first_world at) at.before
+
+pub prints : (script output : List ℕ) (at : LineOf script) → IsOutput (script_outcome script).replies output → (text : List ℕ) × PrintsAt at output text
+prints script output at all =
+    let here = at.start.number + length at.before in
+    let parts : (script_outcome script).replies ≡ (lines_outcome at.start.number (first_world at) at.before).replies
+    ++ ((line_outcome here (world_at at) (words_of at.line)).replies ++ (lines_outcome (here + 1) (line_outcome here (world_at at) (words_of at.line)).world at.behind).replies) =
+    ap (λ (o : Outcome). o.replies) (script_started script at.start at.heading)
+    ∙ (ap (λ (l : List (List ℕ)). (lines_outcome at.start.number (first_world at) l).replies) at.lines
+    ∙ (lines_split at.start.number (first_world at) at.before (at.line ∷ at.behind)
+    ∙ ap (λ (l : List Reply). (lines_outcome at.start.number (first_world at) at.before).replies ++ l) (line_first here (world_at at) at.line at.behind))) in
+    let two = outputs_split _ _ output (subst (λ (l : List Reply). IsOutput l output) parts all) in
+    let three = outputs_split _ _ two.1 two.3 in
+    (three.0, record { first = two.0; last = three.1; before = two.2; here = three.2; behind = three.3; whole = two.4 ∙ ap (λ (l : List ℕ). two.0 ++ l) three.4 })
+
+-- ---- the report at a line
+there_at : (script : List ℕ) (at : LineOf script) (site : ℕ) → ReportsSite at site → HasSite (world_at at) site
+there_at script at site says =
+    subst (λ (w : World). HasSite w site) (sym (world_run script at)) (run_stays (first_world at) (steps_before at) site says.there)
+
+source_at : (script : List ℕ) (at : LineOf script) → (world_at at).source ≡ at.start.source
+source_at script at = ap (λ (w : World). w.source) (world_run script at) ∙ run_keeps (first_world at) (steps_before at)
+
+report_replies : (script : List ℕ) (at : LineOf script) (site : ℕ) → ReportsSite at site
+    → (line_outcome (at.start.number + length at.before) (world_at at) (words_of at.line)).replies ≡ reported at.start.source (content_at (world_at at) site) ∷ []
+report_replies script at site says =
+    let number = at.start.number + length at.before in
+    let world = world_at at in
+    let command : Some (sites_command site report) ≡ command_of (events_of world.source) (words_of at.line) =
+    sym (ap (λ (s : PlanSource). command_of (events_of s) (words_of at.line)) (source_at script at) ∙ says.command) in
+    ap (λ (o : Outcome). o.replies) (line_outcome-run number world (words_of at.line) says.kept)
+    ∙ (ap (λ (e : Effect). e.reply ∷ []) (sym (line_effect-is number world (words_of at.line) (Some (sites_command site report)) command))
+    ∙ (ap (λ (e : Effect). e.reply ∷ []) (sym (there_effect world site report (there_at script at site says)))
+    ∙ ap (λ (s : PlanSource). reported s (content_at world site) ∷ []) (source_at script at)))
+
+pub reports : (script output text : List ℕ) (at : LineOf script) (site : ℕ) → ReportsSite at site → PrintsAt at output text → IsReport at.start.source (content_at (world_at at) site) text
+reports script output text at site says printed =
+    let one = subst (λ (l : List Reply). IsOutput l text) (report_replies script at site says) printed.here in
+    subst (IsReport at.start.source (content_at (world_at at) site)) (sym (one.4 ∙ (ap (λ (l : List ℕ). one.0 ++ l) one.3 ∙ append-nil one.0))) one.2
+
+-- what the site holds is the union of what it took
+pub unions : ((source : PlanSource) (sites : ℕ) (steps : List Step) (site : ℕ) → HasSite (opening_world source sites) site
+    → (item : Item) → HasItem (content_at (run (opening_world source sites) steps) site) item ↔ TookAt (opening_world source sites) steps site item)
+    → (script : List ℕ) (at : LineOf script) (site : ℕ) → ReportsSite at site → (item : Item) → HasItem (content_at (world_at at) site) item ↔ TookAt (first_world at) (steps_before at) site item
+unions law script at site says item =
+    subst (λ (w : World). HasItem (content_at w site) item ↔ TookAt (first_world at) (steps_before at) site item) (sym (world_run script at))
+    (law at.start.source at.start.sites (steps_before at) site says.there item)
+
+-- and two that took the same print the same
+pub same_bytes : ((source : PlanSource) (sites others : ℕ) (ours theirs : List Step) (site other : ℕ) → HasSite (opening_world source sites) site → HasSite (opening_world source others) other
+    → ((item : Item) → TookAt (opening_world source sites) ours site item ↔ TookAt (opening_world source others) theirs other item)
+    → (text last : List ℕ) → IsReport source (content_at (run (opening_world source sites) ours) site) text → IsReport source (content_at (run (opening_world source others) theirs) other) last → text ≡ last)
+    → (script other output last text last_text : List ℕ) (at : LineOf script) (there : LineOf other) (site others : ℕ) → ReportsSite at site → ReportsSite there others
+    → at.start.source ≡ there.start.source
+    → ((item : Item) → TookAt (first_world at) (steps_before at) site item ↔ TookAt (first_world there) (steps_before there) others item)
+    → PrintsAt at output text → PrintsAt there last last_text → text ≡ last_text
+same_bytes law script other output last text last_text at there site others one two plan same p q =
+    subst (λ (s : PlanSource). HasSite (opening_world s there.start.sites) others
+    → ((item : Item) → TookAt (first_world at) (steps_before at) site item ↔ TookAt (opening_world s there.start.sites) (steps_before there) others item)
+    → IsReport s (content_at (run (opening_world s there.start.sites) (steps_before there)) others) last_text → text ≡ last_text) plan
+    (λ here took said.
+    law at.start.source at.start.sites there.start.sites (steps_before at) (steps_before there) site others one.there here took text last_text
+    (subst (λ (w : World). IsReport at.start.source (content_at w site) text) (world_run script at) (reports script output text at site one p)) said)
+    two.there same
+    (subst (λ (w : World). IsReport there.start.source (content_at w others) last_text) (world_run other there) (reports other last last_text there others two q))

@@ -1,0 +1,54 @@
+-- The steps of the world that a script takes, and the reports that it prints.
+use Rattle.std.specs.Prelude.{◌≡◌, ℕ, ◌+◌, false, List, ◌∷◌, ◌++◌, length, flat_map, option_to_list, option_and_then, if◌then◌else◌, [], Some, Ok}
+use Rattle.stn_lift.specs.PlanSource.{events_of}
+use Rattle.stn_text.specs.Lines.{lines_of, words_of}
+use Rattle.stn_world.specs.World.{World, HasSite, opening_world}
+use Rattle.stn_world.specs.Steps.{Step}
+use Rattle.stn_exec.specs.Command.{report, sites_command, command_of}
+use Rattle.stn_exec.specs.Effect.{step_of}
+use Rattle.stn_exec.specs.Script.{Start, is_skipped, heading_of, last_line, line_outcome, lines_outcome}
+use Rattle.stn_exec.specs.Output.{IsOutput}
+
+-- the step that a line's words are, if they are one, in a plan of so many events
+abbrev pub line_steps : ℕ → List (List ℕ) → List Step
+line_steps events words = if is_skipped words then [] else option_to_list (option_and_then step_of (command_of events words))
+
+-- the steps of lines
+abbrev pub steps_of_lines : ℕ → List (List ℕ) → List Step
+steps_of_lines events lines = flat_map (λ line. line_steps events (words_of line)) lines
+
+-- a line of a script: where the commands begin, the lines before it, the line, and those behind it
+pub record LineOf (script : List ℕ) : Type 0 where
+  pub start : Start
+  pub before : List (List ℕ)
+  pub line : List ℕ
+  pub behind : List (List ℕ)
+  pub heading : heading_of (last_line script) (lines_of script) ≡ Ok start
+  pub lines : start.lines ≡ before ++ line ∷ behind
+
+-- the world where the script's commands begin
+abbrev pub first_world : {script : List ℕ} → LineOf script → World
+first_world at = opening_world at.start.source at.start.sites
+
+-- the steps of the lines before it
+abbrev pub steps_before : {script : List ℕ} → LineOf script → List Step
+steps_before at = steps_of_lines (events_of at.start.source) at.before
+
+-- the world that these lines leave
+abbrev pub world_at : {script : List ℕ} → LineOf script → World
+world_at at = (lines_outcome at.start.number (first_world at) at.before).world
+
+-- the line is a site's command `report`, and the site is there
+pub record ReportsSite {script : List ℕ} (at : LineOf script) (site : ℕ) : Type 0 where
+  pub kept : is_skipped (words_of at.line) ≡ false
+  pub command : command_of (events_of at.start.source) (words_of at.line) ≡ Some (sites_command site report)
+  pub there : HasSite (first_world at) site
+
+-- the line prints the text: the output is what the lines before it print, the text, and what the lines behind it print
+pub record PrintsAt {script : List ℕ} (at : LineOf script) (output text : List ℕ) : Type 0 where
+  pub first : List ℕ
+  pub last : List ℕ
+  pub before : IsOutput (lines_outcome at.start.number (first_world at) at.before).replies first
+  pub here : IsOutput (line_outcome (at.start.number + length at.before) (world_at at) (words_of at.line)).replies text
+  pub behind : IsOutput (lines_outcome (at.start.number + length at.before + 1) (line_outcome (at.start.number + length at.before) (world_at at) (words_of at.line)).world at.behind).replies last
+  pub whole : output ≡ first ++ (text ++ last)

@@ -1,0 +1,86 @@
+-- How many bounds a plan has.
+use Rattle.std.proofs.Common.{◌≡◌, ℕ, ◌+◌, ◌-◌, ◌*◌, ◌<◌, ◌≤◌, ℤ, zero, suc, Bool, true, false, not, ◌&&◌, eqb, nat_lt, cond, [], ◌∷◌, ◌++◌, length, refl, arith, length-append}
+use Rattle.std.proofs.Math.Nat.{mul-le-mul_left}
+use Rattle.std.proofs.lemmas.Bool.Decides.{nat_tests}
+use Rattle.std.specs.Ordering.{int_cmp}
+use Rattle.stn_net.specs.Event.{most_steps}
+use Rattle.stn_net.specs.Difference.{Difference}
+use Rattle.stn_net.specs.Horizon.{horizon_bounds}
+use Rattle.stn_net.proofs.Horizons.{length-horizon_bounds}
+use Rattle.stn_lift.specs.BaseBounds.{step_of, order_bound, pair_order, event_orders, orders, duration_bound, duration_bounds}
+use Rattle.stn_lift.specs.PlanSource.{most_base_bounds}
+use Rattle.stn_lift.proofs.SoundBounds.{bounds}
+
+length-duration_bounds : (duration : ℕ → ℤ) (steps : ℕ) → length (duration_bounds duration steps) ≡ steps
+unfolding duration_bounds
+length-duration_bounds duration zero = refl
+length-duration_bounds duration (suc steps) =
+    omega (arith, length-append (duration_bounds duration steps) (duration_bound steps (duration steps) ∷ []), length-duration_bounds duration steps)
+
+module _ (interferes : ℕ → ℕ → Bool) (planned : ℕ → ℤ) where
+  -- a pair has one order at most
+  length-chosen : (test : Bool) (bound : Difference) → length (cond test (bound ∷ []) []) ≤ 1
+  length-chosen true bound = omega arith
+  length-chosen false bound = omega arith
+
+  length-pair : (one other : ℕ) → length (pair_order interferes planned one other) ≤ 1
+  length-pair one other =
+      length-chosen (nat_lt one other && (not (eqb (step_of one) (step_of other)) && interferes one other)) (order_bound one other (int_cmp (planned one) (planned other)))
+
+  -- and none with an event up to the end of its own step
+  length-own : (one other : ℕ) → other ≤ 2 * step_of one → length (pair_order interferes planned one other) ≡ 0
+  length-own one other own = by (nat_lt one other) refl
+    where
+      by : (less : Bool) → nat_lt one other ≡ less
+          → length (cond (less && (not (eqb (step_of one) (step_of other)) && interferes one other)) (order_bound one other (int_cmp (planned one) (planned other)) ∷ []) []) ≡ 0
+      by false e = refl
+      by true e =
+          let later : one < other = grind (arith, nat_tests) in
+          let same : eqb (step_of one) (step_of other) ≡ true = equal (step_of one) (step_of other) (omega arith) in
+          rw same refl
+        where
+          equal : (a b : ℕ) → a ≡ b → eqb a b ≡ true
+          equal a b h = grind (arith, nat_tests)
+
+  length-event : (one events : ℕ) → length (event_orders interferes planned one events) ≤ events - 2 * step_of one
+  unfolding event_orders
+  length-event one zero = omega arith
+  length-event one (suc events) = by (nat_lt (2 * step_of one) (suc events)) refl
+      (length-event one events) (length-append (event_orders interferes planned one events) (pair_order interferes planned one (suc events)))
+    where
+      by : (beyond : Bool) → nat_lt (2 * step_of one) (suc events) ≡ beyond → length (event_orders interferes planned one events) ≤ events - 2 * step_of one
+          → length (event_orders interferes planned one events ++ pair_order interferes planned one (suc events))
+          ≡ length (event_orders interferes planned one events) + length (pair_order interferes planned one (suc events))
+          → length (event_orders interferes planned one events ++ pair_order interferes planned one (suc events)) ≤ suc events - 2 * step_of one
+      by true e fewer all = let beyond : 2 * step_of one < suc events = grind (arith, nat_tests) in let one_more = length-pair one (suc events) in omega arith
+      by false e fewer all = let own : suc events ≤ 2 * step_of one = grind (arith, nat_tests) in let none = length-own one (suc events) own in omega arith
+
+  -- of the events of the first steps
+  length-steps : (steps some : ℕ) → some ≤ steps → length (orders interferes planned (2 * steps) (2 * some)) + 2 * (some * (some + 1)) ≤ 4 * (steps * some)
+  unfolding orders
+  length-steps steps zero within = omega arith
+  length-steps steps (suc some) within =
+      let next : 2 * suc some ≡ suc (suc (2 * some)) = omega arith in
+      let before = length-steps steps some (omega arith) in
+      let start = length-event (suc (2 * some)) (2 * steps) in
+      let end = length-event (suc (suc (2 * some))) (2 * steps) in
+      let first = length-append (orders interferes planned (2 * steps) (2 * some)) (event_orders interferes planned (suc (2 * some)) (2 * steps)) in
+      let second = length-append (orders interferes planned (2 * steps) (2 * some) ++ event_orders interferes planned (suc (2 * some)) (2 * steps)) (event_orders interferes planned (suc (suc (2 * some))) (2 * steps)) in
+      let one : step_of (suc (2 * some)) ≡ suc some = omega arith in
+      let two : step_of (suc (suc (2 * some))) ≡ suc some = omega arith in
+      rw next (omega arith)
+
+  -- a plan has few enough bounds
+  pub few_bounds : (duration : ℕ → ℤ) (steps : ℕ) → steps ≤ most_steps → length (bounds interferes planned duration steps) ≤ most_base_bounds
+  few_bounds duration steps small =
+      let many = length-steps steps steps (omega arith) in
+      let square : steps * steps ≤ steps * most_steps = mul-le-mul_left steps small in
+      omega (
+        arith,
+        many,
+        square,
+        length-append (horizon_bounds (2 * steps) ++ duration_bounds duration steps) (orders interferes planned (2 * steps) (2 * steps)),
+        length-append (horizon_bounds (2 * steps)) (duration_bounds duration steps),
+        length-horizon_bounds (2 * steps),
+        length-duration_bounds duration steps,
+      )

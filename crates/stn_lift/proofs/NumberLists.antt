@@ -1,0 +1,109 @@
+-- Numbers of atoms, as a numbering grows.
+use Rattle.std.proofs.Common.{◌≡◌, ℕ, ◌+◌, ◌<◌, List, [], ◌∷◌, ◌++◌, map, length, take, get_or, IsPermutation, sym, ap, subst, ◌∙◌, ⊎_elim, append_assoc, arith}
+use Rattle.std.specs.List.{AllZip, AllByRecursion}
+use Rattle.std.proofs.lemmas.List.{map-append, take_more, get_or-map, length-map}
+use Rattle.std.proofs.lemmas.List.Elements.{All-from_recursion, Contains-push, Contains-push_cases, Contains-append_left}
+use Rattle.std.proofs.lemmas.List.Sorted.{IsPermutation-sym, Contains-permutation}
+use Rattle.stn_pddl.specs.Schemas.{TermSchema, AtomSchema}
+use Rattle.stn_tree.specs.Names.{folded}
+use Rattle.stn_lift.specs.Footprints.{GroundAtom, Footprint, name_of, ground}
+use Rattle.stn_lift.specs.Numbering.{Numbering, IsNameAt, IsNumberOf, Extends, AreNumbersOf, IsNumbered}
+
+-- what has a number keeps it
+pub kept_itself : (numbering : Numbering) → Extends numbering numbering
+kept_itself numbering = record { names = λ number name there. there; spellings = λ number spelling there. there }
+
+pub kept_along : (first second third : Numbering) → Extends first second → Extends second third → Extends first third
+kept_along first second third one two = record {
+  names = λ number name there. two.names number name (one.names number name there);
+  spellings = λ number spelling there. two.spellings number spelling (one.spellings number spelling there);
+}
+
+module _ (old new : Numbering) (kept : Extends old new) where
+  pub names_kept : (spelling : List ℕ) (atom : GroundAtom) → AllZip (IsNameAt old.names) spelling atom → AllZip (IsNameAt new.names) spelling atom
+  names_kept [] [] all = all
+  names_kept [] (name ∷ atom) all = all
+  names_kept (number ∷ spelling) [] all = all
+  names_kept (number ∷ spelling) (name ∷ atom) all = (kept.names number name all.0, names_kept spelling atom all.1)
+
+  pub number_kept : (number : ℕ) (atom : GroundAtom) → IsNumberOf old number atom → IsNumberOf new number atom
+  number_kept number atom is = record {
+    spelling = is.spelling;
+    stored = kept.spellings number is.spelling is.stored;
+    names = names_kept is.spelling atom is.names;
+  }
+
+  pub numbers_kept : (numbers : List ℕ) (atoms : List GroundAtom) → AreNumbersOf old numbers atoms → AreNumbersOf new numbers atoms
+  numbers_kept numbers atoms are = record {
+    sound = λ number there. let atom = are.sound number there in (atom.0, number_kept number atom.0 atom.1, atom.2);
+    full = λ atom there. let number = are.full atom there in (number.0, number_kept number.0 atom number.1, number.2);
+  }
+
+  pub numbered_kept : (numbered : Footprint ℕ) (atoms : Footprint GroundAtom) → IsNumbered old numbered atoms → IsNumbered new numbered atoms
+  numbered_kept numbered atoms is = record {
+    needs = numbers_kept numbered.needs atoms.needs is.needs;
+    adds = numbers_kept numbered.adds atoms.adds is.adds;
+    deletes = numbers_kept numbered.deletes atoms.deletes is.deletes;
+  }
+
+pub zip_push : {A B : Type 0} (R : A → B → Type 0) (xs : List A) (ys : List B) (x : A) (y : B) → AllZip R xs ys → R x y → AllZip R (xs ++ x ∷ []) (ys ++ y ∷ [])
+zip_push R [] [] x y all one = (one, tt)
+zip_push R [] (b ∷ ys) x y all one = absurd all
+zip_push R (a ∷ xs) [] x y all one = absurd all
+zip_push R (a ∷ xs) (b ∷ ys) x y all one = (all.0, zip_push R xs ys x y all.1 one)
+
+module _ (args : List (List ℕ)) where
+  -- one term more
+  pub spelled_more : (names : List (List ℕ)) (spelling : List ℕ) (first : List ℕ) (terms : List TermSchema) (place number : ℕ) (term : TermSchema)
+      → place < length terms → term ≡ get_or terms place term
+      → AllZip (IsNameAt names) spelling (first ∷ map (λ t. folded (name_of args t)) (take place terms)) → IsNameAt names number (folded (name_of args term))
+      → AllZip (IsNameAt names) (spelling ++ number ∷ []) (first ∷ map (λ t. folded (name_of args t)) (take (place + 1) terms))
+  spelled_more names spelling first terms place number term within here all one =
+      let f : TermSchema → List ℕ = λ t. folded (name_of args t) in
+      let more : take (place + 1) terms ≡ take place terms ++ term ∷ [] = take_more terms place term within ∙ ap (λ t. take place terms ++ t ∷ []) (sym here) in
+      let mapped : map f (take (place + 1) terms) ≡ map f (take place terms) ++ f term ∷ [] = ap (map f) more ∙ map-append f (take place terms) (term ∷ []) in
+      subst (λ ts. AllZip (IsNameAt names) (spelling ++ number ∷ []) (first ∷ ts)) (sym mapped)
+      (zip_push (IsNameAt names) spelling (first ∷ map f (take place terms)) number (f term) all one)
+
+  -- one atom more
+  pub grounded_more : (before : List GroundAtom) (atoms : List AtomSchema) (place : ℕ) (atom : AtomSchema) → place < length atoms → atom ≡ get_or atoms place atom
+      → (before ++ map (ground args) (take place atoms)) ++ ground args atom ∷ [] ≡ before ++ map (ground args) (take (place + 1) atoms)
+  grounded_more before atoms place atom within here =
+      let more : take (place + 1) atoms ≡ take place atoms ++ atom ∷ [] = take_more atoms place atom within ∙ ap (λ a. take place atoms ++ a ∷ []) (sym here) in
+      let mapped : map (ground args) (take (place + 1) atoms) ≡ map (ground args) (take place atoms) ++ ground args atom ∷ [] =
+      ap (map (ground args)) more ∙ map-append (ground args) (take place atoms) (atom ∷ []) in
+      append_assoc before (map (ground args) (take place atoms)) (ground args atom ∷ []) ∙ ap (λ l. before ++ l) (sym mapped)
+
+module _ (numbering : Numbering) where
+  pub numbers_none : AreNumbersOf numbering [] []
+  numbers_none = record {
+    sound = λ number there. let none : there.0 < 0 = there.1 in absurd (omega arith);
+    full = λ atom there. let none : there.0 < 0 = there.1 in absurd (omega arith);
+  }
+
+  -- one more
+  pub numbers_push : (numbers : List ℕ) (atoms : List GroundAtom) (number : ℕ) (atom : GroundAtom) → AreNumbersOf numbering numbers atoms → IsNumberOf numbering number atom
+      → AreNumbersOf numbering (numbers ++ number ∷ []) (atoms ++ atom ∷ [])
+  numbers_push numbers atoms number atom are one = record {
+    sound = λ other there. ⊎_elim
+        (λ old. let found = are.sound other old in (found.0, found.1, Contains-append_left atoms (atom ∷ []) found.0 found.2))
+        (λ same. (atom, subst (λ n. IsNumberOf numbering n atom) same one, Contains-push atoms atom))
+        (Contains-push_cases numbers number other there);
+    full = λ other there. ⊎_elim
+        (λ old. let found = are.full other old in (found.0, found.1, Contains-append_left numbers (number ∷ []) found.0 found.2))
+        (λ same. (number, subst (IsNumberOf numbering number) same one, Contains-push numbers number))
+        (Contains-push_cases atoms atom other there);
+  }
+
+  -- in another order
+  pub numbers_moved : (numbers others : List ℕ) (atoms : List GroundAtom) → IsPermutation numbers others → AreNumbersOf numbering numbers atoms → AreNumbersOf numbering others atoms
+  numbers_moved numbers others atoms moved are = record {
+    sound = λ number there. are.sound number (Contains-permutation others numbers number (IsPermutation-sym numbers others moved) there);
+    full = λ atom there. let number = are.full atom there in (number.0, number.1, Contains-permutation numbers others number.0 moved number.2);
+  }
+
+-- what holds of all that a list says holds of what each element says
+pub all_said : {X Y : Type 0} (P : Y → Type 0) (f : X → Y) (xs : List X) (place : ℕ) (d : X) → AllByRecursion P (map f xs) → place < length xs → P (f (get_or xs place d))
+all_said P f xs place d all within =
+    let mapped : place < length (map f xs) = rw length-map within in
+    subst P (get_or-map f xs place d (f d) within) (All-from_recursion P (map f xs) all place (f d) mapped)

@@ -1,0 +1,194 @@
+-- What holds of the bounds of a plan.
+use Rattle.std.proofs.Common.{◌≡◌, ◌≢◌, ℕ, ◌+◌, ◌*◌, ◌<◌, ◌≤◌, ℤ, pos, ◌+ℤ◌, ◌≤ℤ◌, ◌<ℤ◌, zero, suc, Bool, true, false, not, ◌&&◌, eqb, nat_lt, cond, List, [], ◌∷◌, ◌++◌, length, take, Ordering, Less, Equal, Greater, refl, sym, ap, subst, ◌∙◌, arith, append_assoc, length-append}
+use Rattle.std.specs.List.{All, AllByRecursion}
+use Rattle.std.specs.Ordering.{int_cmp, MatchOrdering}
+use Rattle.std.specs.Cmp.{int_ranks}
+use Rattle.std.proofs.lemmas.Bool.Decides.{nat_tests}
+use Rattle.std.proofs.lemmas.Int.{ints}
+use Rattle.std.proofs.lemmas.List.{take-append-le, take_all}
+use Rattle.std.proofs.lemmas.List.Elements.{All-from_recursion, recursion_from_All}
+use Rattle.stn_time.specs.Time.{horizon}
+use Rattle.stn_net.specs.Difference.{Difference, NamesEvents}
+use Rattle.stn_net.specs.Horizon.{horizon_bound, horizon_bounds}
+use Rattle.stn_net.specs.Schedule.{Meets, IsSchedule}
+use Rattle.stn_net.proofs.Horizons.{length-horizon_bounds}
+use Rattle.stn_lift.specs.BaseBounds.{step_of, duration_bound, order_bound, pair_order, event_orders, orders, duration_bounds, Interfere, KeepsOrder}
+
+module _ {X : Type 0} (P : X → Type 0) where
+  joined : (xs ys : List X) → AllByRecursion P xs → AllByRecursion P ys → AllByRecursion P (xs ++ ys)
+  joined [] ys first second = second
+  joined (x ∷ xs) ys first second = (first.0, joined xs ys first.1 second)
+
+  parted : (xs ys : List X) → AllByRecursion P (xs ++ ys) → AllByRecursion P xs × AllByRecursion P ys
+  parted [] ys all = (tt, all)
+  parted (x ∷ xs) ys all = let rest = parted xs ys all.1 in ((all.0, rest.0), rest.1)
+
+-- by which events interfere, and when each is planned
+module _ (interferes : ℕ → ℕ → Bool) (planned duration : ℕ → ℤ) (steps : ℕ) where
+  -- the bounds of so many steps
+  abbrev pub bounds : List Difference
+  bounds = (horizon_bounds (2 * steps) ++ duration_bounds duration steps) ++ orders interferes planned (2 * steps) (2 * steps)
+
+  -- the test of a pair
+  abbrev is_pair : ℕ → ℕ → Bool
+  is_pair one other = nat_lt one other && (not (eqb (step_of one) (step_of other)) && interferes one other)
+
+  -- what holds of each order that a pair has
+  module _ (P : Difference → Type 0) (each : (one other : ℕ) → 0 < one → one < other → other ≤ 2 * steps → P (order_bound one other (int_cmp (planned one) (planned other)))) where
+    each_pair : (one other : ℕ) → 0 < one → other ≤ 2 * steps → AllByRecursion P (pair_order interferes planned one other)
+    each_pair one other first last = by (is_pair one other) refl
+      where
+        by : (test : Bool) → is_pair one other ≡ test → AllByRecursion P (cond test (order_bound one other (int_cmp (planned one) (planned other)) ∷ []) [])
+        by false e = tt
+        by true e = (each one other first (later (nat_lt one other) refl e) last, tt)
+          where
+            later : (less : Bool) → nat_lt one other ≡ less → (less && (not (eqb (step_of one) (step_of other)) && interferes one other)) ≡ true → one < other
+            later true is all = grind (arith, nat_tests)
+            later false is all = cc
+
+    each_event : (one events : ℕ) → 0 < one → events ≤ 2 * steps → AllByRecursion P (event_orders interferes planned one events)
+    unfolding event_orders
+    each_event one zero first most = tt
+    each_event one (suc events) first most =
+        joined P (event_orders interferes planned one events) (pair_order interferes planned one (suc events)) (each_event one events first (omega arith)) (each_pair one (suc events) first most)
+
+    each_order : (one : ℕ) → AllByRecursion P (orders interferes planned (2 * steps) one)
+    unfolding orders
+    each_order zero = tt
+    each_order (suc one) =
+        joined P (orders interferes planned (2 * steps) one) (event_orders interferes planned (suc one) (2 * steps)) (each_order one) (each_event (suc one) (2 * steps) (omega arith) (omega arith))
+
+  module _ (P : Difference → Type 0) (horizons : (event : ℕ) → 0 < event → event ≤ 2 * steps → P (horizon_bound event))
+      (durations : (step : ℕ) → step < steps → P (duration_bound step (duration step)))
+      (pairs : (one other : ℕ) → 0 < one → one < other → other ≤ 2 * steps → P (order_bound one other (int_cmp (planned one) (planned other)))) where
+    each_horizon : (events : ℕ) → events ≤ 2 * steps → AllByRecursion P (horizon_bounds events)
+    unfolding horizon_bounds
+    each_horizon zero most = tt
+    each_horizon (suc events) most = joined P (horizon_bounds events) (horizon_bound (suc events) ∷ []) (each_horizon events (omega arith)) (horizons (suc events) (omega arith) most, tt)
+
+    each_duration : (count : ℕ) → count ≤ steps → AllByRecursion P (duration_bounds duration count)
+    unfolding duration_bounds
+    each_duration zero most = tt
+    each_duration (suc count) most = joined P (duration_bounds duration count) (duration_bound count (duration count) ∷ []) (each_duration count (omega arith)) (durations count (omega arith), tt)
+
+    -- what holds of each kind of bound holds of all bounds
+    each_bound : All P bounds
+    each_bound =
+        All-from_recursion P bounds
+        (joined P (horizon_bounds (2 * steps) ++ duration_bounds duration steps) (orders interferes planned (2 * steps) (2 * steps))
+        (joined P (horizon_bounds (2 * steps)) (duration_bounds duration steps) (each_horizon (2 * steps) (omega arith)) (each_duration steps (omega arith)))
+        (each_order P pairs (2 * steps)))
+
+  -- the first bounds are the horizon bounds
+  pub first_horizons : take (2 * steps) bounds ≡ horizon_bounds (2 * steps)
+  first_horizons =
+      let many = length-horizon_bounds (2 * steps) in
+      let inner : 2 * steps ≤ length (horizon_bounds (2 * steps) ++ duration_bounds duration steps) = omega (arith, length-append (horizon_bounds (2 * steps)) (duration_bounds duration steps)) in
+      let front : 2 * steps ≤ length (horizon_bounds (2 * steps)) = omega arith in
+      rw (take-append-le, take-append-le) (take_all (2 * steps) (horizon_bounds (2 * steps)) (omega arith))
+
+  order_named : (one other : ℕ) (o : Ordering) → one ≤ 2 * steps → other ≤ 2 * steps → NamesEvents (2 * steps) (order_bound one other o)
+  order_named one other Less first second = record { from = first; to = second }
+  order_named one other Equal first second = record { from = first; to = second }
+  order_named one other Greater first second = record { from = second; to = first }
+
+  -- all name events of the plan
+  pub all_named : All (NamesEvents (2 * steps)) bounds
+  all_named =
+      each_bound (NamesEvents (2 * steps))
+      (λ event first last. let named : NamesEvents (2 * steps) (horizon_bound event) = record { from = omega arith; to = last } in named)
+      (λ step within. let named : NamesEvents (2 * steps) (duration_bound step (duration step)) = record { from = omega arith; to = omega arith } in named)
+      (λ one other first later last. order_named one other (int_cmp (planned one) (planned other)) (omega arith) last)
+
+  module _ (origin : planned 0 ≡ pos 0) (timed : (event : ℕ) → event ≤ 2 * steps → (pos 0 ≤ℤ planned event) × (planned event ≤ℤ horizon))
+      (lasting : (step : ℕ) → step < steps → planned (2 * step + 2) ≡ planned (2 * step + 1) +ℤ duration step) where
+    order_met : (one other : ℕ) (o : Ordering) → MatchOrdering o (planned one <ℤ planned other) (planned one ≡ planned other) (planned other <ℤ planned one)
+        → (pos 0 ≤ℤ planned one) × (planned one ≤ℤ horizon) → (pos 0 ≤ℤ planned other) × (planned other ≤ℤ horizon) → Meets planned (order_bound one other o)
+    order_met one other Less is first second = (omega (arith, ints, is, first.0, first.1, second.0, second.1), omega (arith, ints, is, first.0, first.1, second.0, second.1))
+    order_met one other Equal is first second = (omega (arith, ints, is), omega (arith, ints, is))
+    order_met one other Greater is first second = (omega (arith, ints, is, first.0, first.1, second.0, second.1), omega (arith, ints, is, first.0, first.1, second.0, second.1))
+
+    horizon_met : (event : ℕ) → event ≤ 2 * steps → Meets planned (horizon_bound event)
+    horizon_met event last = let within = timed event last in (omega (arith, ints, origin, within.0), omega (arith, ints, origin, within.1))
+
+    duration_met : (step : ℕ) → step < steps → Meets planned (duration_bound step (duration step))
+    duration_met step within = let e = lasting step within in (omega (arith, ints, e), omega (arith, ints, e))
+
+    -- the planned times are a schedule
+    pub planned_possible : IsSchedule bounds planned
+    planned_possible = record {
+      origin = origin;
+      met = each_bound (Meets planned) (λ event first last. horizon_met event last) duration_met
+          (λ one other first later last. order_met one other (int_cmp (planned one) (planned other)) (int_ranks (planned one) (planned other)) (timed one (omega arith)) (timed other last));
+    }
+
+  -- a pair's order is among the bounds
+  module _ (P : Difference → Type 0) (one other : ℕ) where
+    pair_in_event : (events : ℕ) → 0 < other → other ≤ events → AllByRecursion P (event_orders interferes planned one events) → AllByRecursion P (pair_order interferes planned one other)
+    unfolding event_orders
+    pair_in_event zero first last all = absurd (omega arith)
+    pair_in_event (suc events) first last all =
+        let parts = parted P (event_orders interferes planned one events) (pair_order interferes planned one (suc events)) all in
+        by (eqb other (suc events)) refl parts.1 (λ before. pair_in_event events first before parts.0)
+      where
+        by : (same : Bool) → eqb other (suc events) ≡ same → AllByRecursion P (pair_order interferes planned one (suc events))
+            → (other ≤ events → AllByRecursion P (pair_order interferes planned one other)) → AllByRecursion P (pair_order interferes planned one other)
+        by true e here rest = let same : suc events ≡ other = grind (arith, nat_tests) in subst (λ n. AllByRecursion P (pair_order interferes planned one n)) same here
+        by false e here rest = let before : other ≤ events = grind (arith, nat_tests) in rest before
+
+    event_in_orders : (events count : ℕ) → 0 < one → one ≤ count → AllByRecursion P (orders interferes planned events count) → AllByRecursion P (event_orders interferes planned one events)
+    unfolding orders
+    event_in_orders events zero first last all = absurd (omega arith)
+    event_in_orders events (suc count) first last all =
+        let parts = parted P (orders interferes planned events count) (event_orders interferes planned (suc count) events) all in
+        by (eqb one (suc count)) refl parts.1 (λ before. event_in_orders events count first before parts.0)
+      where
+        by : (same : Bool) → eqb one (suc count) ≡ same → AllByRecursion P (event_orders interferes planned (suc count) events)
+            → (one ≤ count → AllByRecursion P (event_orders interferes planned one events)) → AllByRecursion P (event_orders interferes planned one events)
+        by true e here rest = let same : suc count ≡ one = grind (arith, nat_tests) in subst (λ n. AllByRecursion P (event_orders interferes planned n events)) same here
+        by false e here rest = let before : one ≤ count = grind (arith, nat_tests) in rest before
+
+    -- what holds of all bounds holds of the order of two events that interfere
+    pair_holds : Interfere (2 * steps) interferes one other → All P bounds → P (order_bound one other (int_cmp (planned one) (planned other)))
+    pair_holds pair all =
+        let parts = parted P (horizon_bounds (2 * steps) ++ duration_bounds duration steps) (orders interferes planned (2 * steps) (2 * steps)) (recursion_from_All P bounds all) in
+        let events = event_in_orders (2 * steps) (2 * steps) pair.first (omega (arith, pair.later, pair.last)) parts.1 in
+        let orders = pair_in_event (2 * steps) (omega (arith, pair.later)) pair.last events in
+        let less : nat_lt one other ≡ true = grind (arith, nat_tests, pair.later) in
+        let apart : eqb (step_of one) (step_of other) ≡ false = unequal (step_of one) (step_of other) pair.steps in
+        let here = rw (less, apart, pair.share) at orders in here.0
+      where
+        unequal : (a b : ℕ) → a ≢ b → eqb a b ≡ false
+        unequal a b h = grind (arith, nat_tests)
+
+  order_kept : (one other : ℕ) (o : Ordering) (time : ℕ → ℤ) → MatchOrdering o (planned one <ℤ planned other) (planned one ≡ planned other) (planned other <ℤ planned one)
+      → Meets time (order_bound one other o)
+      → (planned one <ℤ planned other → time one <ℤ time other) × (planned other <ℤ planned one → time other <ℤ time one) × (planned one ≡ planned other → time one ≡ time other)
+  order_kept one other Less time is met =
+      (λ h. omega (arith, ints, met.0), λ h. absurd (omega (arith, ints, is, h)), λ h. absurd (omega (arith, ints, is, h)))
+  order_kept one other Equal time is met =
+      (λ h. absurd (omega (arith, ints, is, h)), λ h. absurd (omega (arith, ints, is, h)), λ h. omega (arith, ints, met.0, met.1))
+  order_kept one other Greater time is met =
+      (λ h. absurd (omega (arith, ints, is, h)), λ h. omega (arith, ints, met.0), λ h. absurd (omega (arith, ints, is, h)))
+
+  -- in every schedule events that interfere keep the plan's order
+  pub order_keeps : KeepsOrder (2 * steps) interferes planned bounds
+  order_keeps =
+      let kept = λ (time : ℕ → ℤ) (one other : ℕ) (schedule : IsSchedule bounds time) (pair : Interfere (2 * steps) interferes one other).
+      order_kept one other (int_cmp (planned one) (planned other)) time (int_ranks (planned one) (planned other)) (pair_holds (Meets time) one other pair schedule.met) in
+      record {
+        before = λ time one other schedule pair. (kept time one other schedule pair).0;
+        after = λ time one other schedule pair. (kept time one other schedule pair).1;
+        together = λ time one other schedule pair. (kept time one other schedule pair).2;
+      }
+
+-- one pair more
+pub more_pairs : (interferes : ℕ → ℕ → Bool) (planned : ℕ → ℤ) (one count : ℕ) (first old new : List Difference) → old ≡ first ++ event_orders interferes planned one count
+    → new ≡ old ++ pair_order interferes planned one (count + 1) → new ≡ first ++ event_orders interferes planned one (count + 1)
+unfolding event_orders
+more_pairs interferes planned one count first old new was is =
+    let next : suc count ≡ count + 1 = omega arith in
+    let more : event_orders interferes planned one (count + 1) ≡ event_orders interferes planned one count ++ pair_order interferes planned one (count + 1) =
+    subst (λ n. event_orders interferes planned one n ≡ event_orders interferes planned one count ++ pair_order interferes planned one n) next refl in
+    is ∙ ap (λ l. l ++ pair_order interferes planned one (count + 1)) was
+    ∙ append_assoc first (event_orders interferes planned one count) (pair_order interferes planned one (count + 1)) ∙ ap (λ l. first ++ l) (sym more)

@@ -1,0 +1,79 @@
+-- The base of two texts, from what their readers and the lifting give.
+use Rattle.std.proofs.Common.{◌≡◌, ℕ, List, Result, Ok, Err, ap, ◌∙◌}
+use Rattle.stn_pddl.specs.declared.fault.DomainFault.{DomainFault}
+use Rattle.stn_pddl.specs.declared.fault.DomainFault.TheVariants as domain_fault
+use Rattle.stn_pddl.specs.Faults as pddl
+use Rattle.stn_pddl.specs.Schemas.{ActionSchema}
+use Rattle.stn_pddl.specs.Domains.{domain_of}
+use Rattle.stn_plan.specs.declared.fault.PlanFault.{PlanFault}
+use Rattle.stn_plan.specs.declared.fault.PlanFault.TheVariants as plan_fault
+use Rattle.stn_plan.specs.Steps as timed
+use Rattle.stn_plan.specs.Steps.{PlannedStep, plan_of}
+use Rattle.stn_lift.specs.declared.fault.BaseFault.TheVariants.{Domain, Plan, Lift}
+use Rattle.stn_lift.specs.declared.fault.LiftFault.{LiftFault}
+use Rattle.stn_lift.specs.declared.fault.LiftFault.TheVariants.{UnknownAction, Arity, DurationDiffers, PastHorizon, Memory}
+use Rattle.stn_lift.specs.Faults.{of_domain, of_plan, of_lifting}
+use Rattle.stn_lift.specs.Activities as lifting
+use Rattle.stn_lift.specs.Activities.{Activity, activities}
+use Rattle.stn_lift.specs.PlanSource.{PlanSource, files, of_lift, steps_in, lifted, source_with, source_with_lifted, base_of, Fails}
+
+module _ (domain plan : List ℕ) where
+  -- a domain without a fault, and a plan without one
+  pub lifted-Ok : (actions : List ActionSchema) (steps : List PlannedStep) → domain_of domain ≡ Ok actions → plan_of plan ≡ Ok steps
+      → lifted domain plan ≡ of_lift (activities actions 0 steps)
+  unfolding lifted
+  lifted-Ok actions steps domain_is plan_is = ap (λ r. steps_in r (plan_of plan)) domain_is ∙ ap (steps_in (Ok actions)) plan_is
+
+  -- a domain with a fault
+  refused_at_domain : (fault : DomainFault) → domain_of domain ≡ Err fault → base_of (files domain plan) ≡ Err (Domain fault)
+  unfolding lifted
+  refused_at_domain fault is = ap (λ r. source_with (files domain plan) (steps_in r (plan_of plan))) is
+
+  pub domain_refused : (fault : DomainFault) → pddl.Fails fault (domain_of domain) → Fails (of_domain fault) (base_of (files domain plan))
+  domain_refused domain_fault.TooLong h = refused_at_domain _ h
+  domain_refused (domain_fault.Syntax line) h = refused_at_domain _ h
+  domain_refused (domain_fault.TooDeep line) h = refused_at_domain _ h
+  domain_refused (domain_fault.Unsupported line) h = refused_at_domain _ h
+  domain_refused (domain_fault.Number line) h = refused_at_domain _ h
+  domain_refused (domain_fault.Twice line) h = refused_at_domain _ h
+  domain_refused (domain_fault.Variable line) h = refused_at_domain _ h
+  domain_refused domain_fault.Memory h = tt
+
+  module _ (actions : List ActionSchema) (domain_is : domain_of domain ≡ Ok actions) where
+    -- a plan with a fault
+    refused_at_plan : (fault : PlanFault) → plan_of plan ≡ Err fault → base_of (files domain plan) ≡ Err (Plan fault)
+    unfolding lifted
+    refused_at_plan fault is =
+        ap (λ r. source_with (files domain plan) (steps_in r (plan_of plan))) domain_is
+        ∙ ap (λ r. source_with (files domain plan) (steps_in (Ok actions) r)) is
+
+    pub plan_refused : (fault : PlanFault) → timed.Fails fault (plan_of plan) → Fails (of_plan fault) (base_of (files domain plan))
+    plan_refused plan_fault.TooLong h = refused_at_plan _ h
+    plan_refused (plan_fault.Syntax line) h = refused_at_plan _ h
+    plan_refused (plan_fault.Number line) h = refused_at_plan _ h
+    plan_refused (plan_fault.Negative line) h = refused_at_plan _ h
+    plan_refused plan_fault.TooManySteps h = refused_at_plan _ h
+    plan_refused plan_fault.Memory h = tt
+
+    -- a step with a fault
+    pub steps_refused : (steps : List PlannedStep) (other : PlanSource) (fault : LiftFault) → plan_of plan ≡ Ok steps
+        → lifting.Fails fault (source_with_lifted other (activities actions 0 steps)) → Fails (of_lifting fault) (base_of (files domain plan))
+    steps_refused steps other fault plan_is h = rw (lifted-Ok actions steps domain_is plan_is) (by fault (activities actions 0 steps) h)
+      where
+        refused : (fault : LiftFault) (found : Result (List Activity) LiftFault) → source_with_lifted other found ≡ Err fault
+            → source_with (files domain plan) (of_lift found) ≡ Err (Lift fault)
+        refused fault (Ok found) h = cc
+        refused fault (Err given) h = cc
+
+        by : (fault : LiftFault) (found : Result (List Activity) LiftFault) → lifting.Fails fault (source_with_lifted other found)
+            → Fails (of_lifting fault) (source_with (files domain plan) (of_lift found))
+        by (UnknownAction step) found h = refused _ found h
+        by (Arity step) found h = refused _ found h
+        by (DurationDiffers step) found h = refused _ found h
+        by (PastHorizon step) found h = refused _ found h
+        by Memory found h = tt
+
+    -- no step with a fault
+    pub base_given : (steps : List PlannedStep) (found : List Activity) → plan_of plan ≡ Ok steps → activities actions 0 steps ≡ Ok found
+        → base_of (files domain plan) ≡ Ok (files domain plan)
+    base_given steps found plan_is is = ap (source_with (files domain plan)) (lifted-Ok actions steps domain_is plan_is ∙ ap of_lift is)

@@ -1,0 +1,166 @@
+-- The steps of a plan, one after another.
+use Rattle.std.proofs.Common.{◌≡◌, ℕ, ℤ, pos, ◌+ℤ◌, ◌≤ℤ◌, suc, ◌+◌, ◌*◌, ◌<◌, List, [], ◌∷◌, ◌++◌, map, length, get_or, drop, add-one, Result, Ok, Err, refl, sym, ap, subst, ◌∙◌, append_assoc, arith}
+use Rattle.std.specs.List.{AllZip}
+use Rattle.std.proofs.lemmas.Int.{ints}
+use Rattle.std.proofs.Math.Seq.{drop-cons}
+use Rattle.std.proofs.lemmas.List.{map-append, append-nil, length-map}
+use Rattle.stn_time.specs.Time.{horizon, IsWithinHorizon}
+use Rattle.stn_pddl.specs.Schemas.{ActionSchema}
+use Rattle.stn_pddl.proofs.Kept.{All-push}
+use Rattle.stn_plan.specs.Steps.{PlannedStep}
+use Rattle.stn_lift.specs.declared.fault.LiftFault.{LiftFault}
+use Rattle.stn_lift.specs.declared.fault.LiftFault.TheVariants.{UnknownAction, Arity, DurationDiffers, PastHorizon, Memory}
+use Rattle.stn_lift.specs.Footprints.{GroundAtom, Footprint, no_footprint}
+use Rattle.stn_lift.specs.Numbering.{Numbering, IsUnambiguous, Extends, IsNumbered}
+use Rattle.stn_lift.specs.Activities.{Activity, ◌>>=◌, activity_of, activities, Fails}
+use Rattle.stn_lift.specs.BaseBounds.{times_behind, footprints_behind, event_footprints}
+use Rattle.stn_lift.specs.Timelines.{IsTimed, IsTimeline, IsLifted}
+use Rattle.stn_lift.proofs.NumberLists.{numbered_kept, zip_push}
+use Rattle.stn_lift.proofs.Sharing.{none_numbered, numbered_at, same_interfere}
+
+-- a sum of two times that are not negative
+pub within_sum : (time duration : ℤ) → pos 0 ≤ℤ time → pos 0 ≤ℤ duration → (time +ℤ duration) ≤ℤ horizon → IsWithinHorizon (time +ℤ duration)
+within_sum time duration first second last = (omega (arith, ints), last)
+
+times_behind-push : (steps : List Activity) (step : Activity) → times_behind (steps ++ step ∷ []) ≡ (times_behind steps ++ step.time ∷ []) ++ (step.time +ℤ step.duration) ∷ []
+unfolding times_behind
+times_behind-push [] step = refl
+times_behind-push (first ∷ steps) step = ap (λ ts. first.time ∷ (first.time +ℤ first.duration) ∷ ts) (times_behind-push steps step)
+
+footprints_behind-push : (steps : List Activity) (step : Activity) → footprints_behind (steps ++ step ∷ []) ≡ (footprints_behind steps ++ step.start ∷ []) ++ step.end ∷ []
+unfolding footprints_behind
+footprints_behind-push [] step = refl
+footprints_behind-push (first ∷ steps) step = ap (λ fs. first.start ∷ first.end ∷ fs) (footprints_behind-push steps step)
+
+zip_kept : (old new : Numbering) → Extends old new → (numbered : List (Footprint ℕ)) (atoms : List (Footprint GroundAtom))
+    → AllZip (IsNumbered old) numbered atoms → AllZip (IsNumbered new) numbered atoms
+zip_kept old new kept [] [] all = all
+zip_kept old new kept [] (b ∷ atoms) all = all
+zip_kept old new kept (a ∷ numbered) [] all = all
+zip_kept old new kept (a ∷ numbered) (b ∷ atoms) all = (numbered_kept old new kept a b all.0, zip_kept old new kept numbered atoms all.1)
+
+-- one step more
+pub timeline_push : (old middle new : Numbering) (steps : List Activity) (step : Activity) (durations times : List ℤ) (footprints : List (Footprint ℕ)) (start end : Footprint ℕ)
+    → Extends old middle → Extends middle new → IsUnambiguous new → IsNumbered middle start step.start → IsNumbered new end step.end → IsTimed step
+    → IsTimeline old steps durations times footprints
+    → IsTimeline new (steps ++ step ∷ []) (durations ++ step.duration ∷ []) ((times ++ step.time ∷ []) ++ (step.time +ℤ step.duration) ∷ []) ((footprints ++ start ∷ []) ++ end ∷ [])
+timeline_push old middle new steps step durations times footprints start end one two unambiguous starts ends timed was =
+    let first = zip_kept middle new two footprints (event_footprints steps) (zip_kept old middle one footprints (event_footprints steps) was.numbered) in
+    let second = zip_push (IsNumbered new) footprints (event_footprints steps) start step.start first (numbered_kept middle new two start step.start starts) in
+    let third = zip_push (IsNumbered new) (footprints ++ start ∷ []) (event_footprints steps ++ step.start ∷ []) end step.end second ends in
+    record {
+      unambiguous = unambiguous;
+      lasting = ap (λ ds. ds ++ step.duration ∷ []) was.lasting ∙ sym (map-append (λ (s : Activity). s.duration) steps (step ∷ []));
+      timed = ap (λ ts. (ts ++ step.time ∷ []) ++ (step.time +ℤ step.duration) ∷ []) was.timed ∙ ap (λ ts. pos 0 ∷ ts) (sym (times_behind-push steps step));
+      numbered = subst (λ fs. AllZip (IsNumbered new) ((footprints ++ start ∷ []) ++ end ∷ []) (no_footprint ∷ fs)) (sym (footprints_behind-push steps step)) third;
+      within = All-push IsTimed steps step was.within timed;
+    }
+
+-- the same, of lists that are known by equations
+pub timeline_pushed : (old middle new : Numbering) (steps : List Activity) (step : Activity) (durations times more_durations more_times : List ℤ)
+    (footprints more_footprints : List (Footprint ℕ)) (start end : Footprint ℕ)
+    → Extends old middle → Extends middle new → IsUnambiguous new → IsNumbered middle start step.start → IsNumbered new end step.end → IsTimed step
+    → more_durations ≡ durations ++ step.duration ∷ [] → more_times ≡ (times ++ step.time ∷ []) ++ (step.time +ℤ step.duration) ∷ []
+    → more_footprints ≡ (footprints ++ start ∷ []) ++ end ∷ []
+    → IsTimeline old steps durations times footprints → IsTimeline new (steps ++ step ∷ []) more_durations more_times more_footprints
+timeline_pushed old middle new steps step durations times more_durations more_times footprints more_footprints start end one two unambiguous starts ends timed is_durations is_times is_footprints was =
+    rw (is_durations, is_times, is_footprints) (timeline_push old middle new steps step durations times footprints start end one two unambiguous starts ends timed was)
+
+-- no steps
+pub timeline_none : (numbering : Numbering) (durations times : List ℤ) (footprints : List (Footprint ℕ)) → IsUnambiguous numbering
+    → durations ≡ [] → times ≡ pos 0 ∷ [] → footprints ≡ no_footprint ∷ [] → IsTimeline numbering [] durations times footprints
+unfolding times_behind footprints_behind
+timeline_none numbering durations times footprints unambiguous no_durations no_times none = record {
+  unambiguous = unambiguous;
+  lasting = no_durations;
+  timed = no_times;
+  numbered = rw none (none_numbered numbering, tt);
+  within = tt;
+}
+
+length-times_behind : (steps : List Activity) → length (times_behind steps) ≡ 2 * length steps
+unfolding times_behind
+length-times_behind [] = refl
+length-times_behind (step ∷ steps) = omega (arith, length-times_behind steps)
+
+length-footprints_behind : (steps : List Activity) → length (footprints_behind steps) ≡ 2 * length steps
+unfolding footprints_behind
+length-footprints_behind [] = refl
+length-footprints_behind (step ∷ steps) = omega (arith, length-footprints_behind steps)
+
+length-zip : {A B : Type 0} (R : A → B → Type 0) (xs : List A) (ys : List B) → AllZip R xs ys → length xs ≡ length ys
+length-zip R [] [] all = refl
+length-zip R [] (y ∷ ys) all = absurd all
+length-zip R (x ∷ xs) [] all = absurd all
+length-zip R (x ∷ xs) (y ∷ ys) all = omega (arith, length-zip R xs ys all.1)
+
+-- a timeline of all steps
+pub all_lifted : (numbering : Numbering) (steps : List Activity) (durations times : List ℤ) (footprints : List (Footprint ℕ))
+    → IsTimeline numbering steps durations times footprints → IsLifted steps durations times footprints
+all_lifted numbering steps durations times footprints was =
+    let mapped : length (map (λ (s : Activity). s.duration) steps) ≡ length steps = rw length-map refl in
+    let counted : length durations ≡ length steps = ap length was.lasting ∙ mapped in
+    record {
+      lasting = was.lasting;
+      timed = was.timed;
+      many_times = omega (arith, counted, ap length was.timed, length-times_behind steps);
+      many_footprints = omega (arith, counted, length-zip (IsNumbered numbering) footprints (event_footprints steps) was.numbered, length-footprints_behind steps);
+      interfering = λ one other. same_interfere numbering was.unambiguous _ _ _ _
+          (numbered_at numbering footprints (event_footprints steps) was.numbered one) (numbered_at numbering footprints (event_footprints steps) was.numbered other);
+      within = was.within;
+    }
+
+module _ (actions : List ActionSchema) where
+  -- what is found, and then what is left
+  abbrev pub behind : List Activity → Result (List Activity) LiftFault → Result (List Activity) LiftFault
+  behind found meaning = meaning >>= λ others. Ok (found ++ others)
+
+  pub behind_none : (meaning : Result (List Activity) LiftFault) → behind [] meaning ≡ meaning
+  behind_none (Ok found) = refl
+  behind_none (Err fault) = refl
+
+  -- one step more is found
+  pub behind_more : (before : ℕ) (found : List Activity) (step : PlannedStep) (steps : List PlannedStep) (one : Activity) → activity_of actions (before + 1) step ≡ Ok one
+      → behind found (activities actions before (step ∷ steps)) ≡ behind (found ++ one ∷ []) (activities actions (before + 1) steps)
+  unfolding activities
+  behind_more before found step steps one is = rw is (by (activities actions (before + 1) steps))
+    where
+      by : (rest : Result (List Activity) LiftFault) → behind found (rest >>= λ others. Ok (one ∷ others)) ≡ behind (found ++ one ∷ []) rest
+      by (Ok others) = ap Ok (sym (append_assoc found (one ∷ []) others))
+      by (Err fault) = refl
+
+  -- the next step is refused
+  refused_next : (before : ℕ) (found : List Activity) (step : PlannedStep) (steps : List PlannedStep) (fault : LiftFault) → activity_of actions (before + 1) step ≡ Err fault
+      → behind found (activities actions before (step ∷ steps)) ≡ Err fault
+  unfolding activities
+  refused_next before found step steps fault is = rw is refl
+
+  pub fails_next : (before : ℕ) (found : List Activity) (step : PlannedStep) (steps : List PlannedStep) (fault : LiftFault) → Fails fault (activity_of actions (before + 1) step)
+      → Fails fault (behind found (activities actions before (step ∷ steps)))
+  fails_next before found step steps (UnknownAction number) is = refused_next before found step steps _ is
+  fails_next before found step steps (Arity number) is = refused_next before found step steps _ is
+  fails_next before found step steps (DurationDiffers number) is = refused_next before found step steps _ is
+  fails_next before found step steps (PastHorizon number) is = refused_next before found step steps _ is
+  fails_next before found step steps Memory is = tt
+
+  module _ (all : List PlannedStep) (place : ℕ) (found : List Activity) (step : PlannedStep) (within : place < length all) (here : step ≡ get_or all place step)
+      (whole : activities actions 0 all ≡ behind found (activities actions place (drop place all))) where
+    opened : activities actions 0 all ≡ behind found (activities actions place (step ∷ drop (place + 1) all))
+    opened =
+        let front : drop place all ≡ step ∷ drop (place + 1) all = rw add-one (drop-cons all place step within ∙ ap (λ s. s ∷ drop (suc place) all) (sym here)) in
+        whole ∙ ap (λ l. behind found (activities actions place l)) front
+
+    -- the step at a place is refused
+    pub fails_at : (number : ℕ) (fault : LiftFault) → number ≡ place + 1 → Fails fault (activity_of actions number step) → Fails fault (activities actions 0 all)
+    fails_at number fault is fails =
+        subst (Fails fault) (sym opened) (fails_next place found step (drop (place + 1) all) fault (subst (λ n. Fails fault (activity_of actions n step)) is fails))
+
+    -- the step at a place is taken up
+    pub found_at : (number : ℕ) (one : Activity) → number ≡ place + 1 → activity_of actions number step ≡ Ok one
+        → activities actions 0 all ≡ behind (found ++ one ∷ []) (activities actions (place + 1) (drop (place + 1) all))
+    found_at number one is given = opened ∙ behind_more place found step (drop (place + 1) all) one (ap (λ n. activity_of actions n step) (sym is) ∙ given)
+
+  -- no step is left
+  pub behind_all : (before : ℕ) (found : List Activity) → behind found (activities actions before []) ≡ Ok found
+  unfolding activities
+  behind_all before found = ap Ok (append-nil found)

@@ -1,0 +1,33 @@
+use Rattle.std.proofs.Common.{◌≡◌, ◌<◌, ◌++◌, ◌∷◌, [], map, length, take, get_or, sym, ap, subst, ◌∙◌}
+use Rattle.std.proofs.lemmas.List.{get_or-map, length-map}
+use Rattle.stn_pddl.specs.Sound.{IsSoundAtom}
+use Rattle.stn_pddl.specs.Views.{atom_schema, atoms_schema}
+use Rattle.stn_plan.specs.Views.{word_of}
+use Rattle.stn_lift.specs.Footprints.{ground}
+use Rattle.stn_lift.specs.Numbering.{AreNumbersOf}
+use Rattle.stn_lift.proofs.NumberLists.{kept_along, numbers_kept, numbers_push, grounded_more, all_said}
+use Rattle.stn_lift.proofs.atoms.Atoms.append_numbers.Goals as goal
+
+pub number_atom-requires : goal.number_atom-requires
+number_atom-requires g c =
+    subst (λ atom. IsSoundAtom (length c.args.args.now) (atom_schema atom)) (sym c.atom-item.is)
+    (all_said (IsSoundAtom (length c.args.args.now)) atom_schema c.args.atoms.now c.loop-atom.atom-index c.atom-item.result c.requires c.loop-atom-test.true)
+
+pub loop-atom-preserved : goal.loop-atom-preserved
+loop-atom-preserved g c =
+    let args = map word_of c.args.args.now in
+    let atoms = atoms_schema c.args.atoms.now in
+    let place = c.loop-atom.atom-index in
+    let atom = atom_schema c.atom-item.result in
+    let old = c.loop-atom.self in
+    let new = c.number_atom.new.self in
+    let items = c.loop-atom.numbers.items in
+    let mapped : place < length atoms = rw length-map c.loop-atom-test.true in
+    let here : atom ≡ get_or atoms place atom = ap atom_schema c.atom-item.is ∙ sym (get_or-map atom_schema c.args.atoms.now place c.atom-item.result atom c.loop-atom-test.true) in
+    record {
+      kept = kept_along c.args.self.now old new c.loop-atom.invariant.kept c.in_ok-number.ensures.kept;
+      numbers = λ before are. rw c.in_ok-push.ensures.items
+          (subst (AreNumbersOf new (items ++ c.in_ok-number.number ∷ [])) (grounded_more args before atoms place atom mapped here)
+          (numbers_push new items (before ++ map (ground args) (take place atoms)) c.in_ok-number.number (ground args atom)
+          (numbers_kept old new c.in_ok-number.ensures.kept items (before ++ map (ground args) (take place atoms)) (c.loop-atom.invariant.numbers before are)) c.in_ok-number.ensures.number));
+    }

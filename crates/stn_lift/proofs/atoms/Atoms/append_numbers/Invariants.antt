@@ -1,0 +1,14 @@
+use Rattle.std.proofs.Common.{List, ◌++◌, map, take}
+use Rattle.stn_pddl.specs.Views.{atoms_schema}
+use Rattle.stn_plan.specs.Views.{word_of}
+use Rattle.stn_lift.specs.Footprints.{GroundAtom, ground}
+use Rattle.stn_lift.specs.Numbering.{Extends, AreNumbersOf}
+use Rattle.stn_lift.proofs.atoms.Atoms.append_numbers.Given as goal
+
+-- the first atoms have their numbers behind those that stood before
+abbrev pub invariant-loop-atom : goal.invariant-loop-atom
+invariant-loop-atom g l = record {
+  kept : Extends l.fn.self l.self;
+  numbers : (before : List GroundAtom) → AreNumbersOf l.fn.self l.fn.numbers.items before
+      → AreNumbersOf l.self l.numbers.items (before ++ map (ground (map word_of l.args)) (take l.atom-index (atoms_schema l.atoms)));
+}

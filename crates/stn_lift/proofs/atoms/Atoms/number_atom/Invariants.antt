@@ -1,0 +1,16 @@
+use Rattle.std.proofs.Common.{◌∷◌, map, take}
+use Rattle.std.specs.List.{AllZip}
+use Rattle.stn_tree.specs.Names.{folded}
+use Rattle.stn_pddl.specs.Views.{terms_schema}
+use Rattle.stn_plan.specs.Views.{word_of}
+use Rattle.stn_lift.specs.Footprints.{name_of}
+use Rattle.stn_lift.specs.Numbering.{Extends, IsNameAt}
+use Rattle.stn_lift.proofs.atoms.Atoms.number_atom.Given as goal
+
+-- the predicate and the first terms are spelt
+abbrev pub invariant-loop-term : goal.invariant-loop-term
+invariant-loop-term g l = record {
+  kept : Extends l.fn.self l.self;
+  names : AllZip (IsNameAt l.self.names) l.spelling.items
+      (folded l.atom.predicate.bytes.now ∷ map (λ term. folded (name_of (map word_of l.args) term)) (take l.term-index (terms_schema l.atom.terms.items)));
+}

@@ -1,0 +1,20 @@
+use Rattle.std.proofs.Common.{[], map, sym, subst}
+use Rattle.std.proofs.lemmas.List.{map-append}
+use Rattle.stn_pddl.specs.Views.{atoms_schema}
+use Rattle.stn_plan.specs.Views.{word_of}
+use Rattle.stn_lift.specs.Footprints.{ground}
+use Rattle.stn_lift.specs.Numbering.{AreNumbersOf}
+use Rattle.stn_lift.proofs.NumberLists.{kept_along, numbers_none, numbers_moved}
+use Rattle.stn_lift.proofs.atoms.Atoms.numbers.Goals as goal
+
+pub returns-clause-numbers : goal.returns-clause-numbers
+returns-clause-numbers g c =
+    let args = map word_of c.args.args.now in
+    let none = subst (λ ns. AreNumbersOf c.args.self.now ns []) (sym c.new-numbers.ensures.items) (numbers_none c.args.self.now) in
+    let first = c.in_ok-append_numbers.ensures.numbers [] none in
+    let all = c.in_ok-append_numbers-2.ensures.numbers (map (ground args) (atoms_schema c.args.atoms.now)) first in
+    rw map-append (numbers_moved c.append_numbers-2.new.self c.append_numbers-2.new.numbers.items c.sorted.result _ c.sorted.ensures all)
+
+pub returns-clause-kept : goal.returns-clause-kept
+returns-clause-kept g c =
+    kept_along c.args.self.now c.append_numbers.new.self c.append_numbers-2.new.self c.in_ok-append_numbers.ensures.kept c.in_ok-append_numbers-2.ensures.kept

@@ -1,0 +1,15 @@
+use Rattle.std.proofs.Common.{◌≤◌, refl, arith}
+use Rattle.stn_net.specs.Event.{most_steps}
+use Rattle.stn_lift.proofs.BareSource.{sound_bare_source}
+use Rattle.stn_lift.proofs.base.Base.bare.Goals as goal
+
+pub invariant_of-result : goal.invariant_of-result
+invariant_of-result g c = record {
+  counted = refl;
+  listed = c.in_ok-bounds.ensures;
+  timed = λ event. rw c.new.ensures.items refl;
+  sound = let small : c.args.steps ≤ most_steps = omega arith in sound_bare_source c.args.steps small;
+}
+
+pub returns-clause-sound : goal.returns-clause-sound
+returns-clause-sound g c = let small : c.args.steps ≤ most_steps = omega arith in sound_bare_source c.args.steps small

@@ -1,0 +1,125 @@
+use Rattle.std.proofs.Common.{◌≡◌, ◌≤◌, ◌∙◌, length, map, Ok, sym, ap, arith}
+use Rattle.std.proofs.lemmas.List.{length-map}
+use Rattle.std.proofs.lemmas.Result.{err_from_is_err_and}
+use Rattle.stn_net.specs.Event.{most_steps}
+use Rattle.stn_tree.specs.Scan.{most_text}
+use Rattle.stn_pddl.specs.Domains.{domain_of}
+use Rattle.stn_plan.specs.Steps.{plan_of}
+use Rattle.stn_lift.specs.Activities.{activities, Fails}
+use Rattle.stn_lift.specs.Views.{numbers_of}
+use Rattle.stn_lift.proofs.LiftedBase.{few_found, is_whole, texts_lifted, base_lifted}
+use Rattle.stn_lift.proofs.Steps.{cause_of}
+use Rattle.stn_lift.proofs.base.lift.Goals as goal
+
+pub returns-in_err-timeline-clause-cause : goal.returns-in_err-timeline-clause-cause
+returns-in_err-timeline-clause-cause g c =
+    let returned = err_from_is_err_and c.from_residual.result c.from_residual.ensures.1 in
+    let fails : Fails c.in_err-timeline.field-0.0 (activities c.args.domain.now.actions 0 c.args.plan.now.steps) = rw (← c.steps.ensures.steps) c.in_err-timeline.ensures.fault in
+    rw (returned.1, returned.2) (cause_of c.args.domain.now.actions c.args.plan.now.steps c.in_err-timeline.field-0.0 fails)
+
+pub bounds-requires : goal.bounds-requires
+bounds-requires g c =
+    let made = c.in_ok-timeline.ensures.made in
+    let planned = c.args.plan.now.steps in
+    let actions = c.args.domain.now.actions in
+    let found : activities actions 0 planned ≡ Ok made.0 = rw c.steps.ensures.steps at made.1 in
+    let few : length planned ≤ most_steps = rw (← c.steps.ensures.steps, length-map) c.steps.ensures.few in
+    let small = few_found actions planned made.0 found few in
+    is_whole made.0 c.in_ok-timeline.timeline.durations.items c.in_ok-timeline.timeline.times.items (map numbers_of c.in_ok-timeline.timeline.footprints.items) made.2 small
+
+pub overflow_cast-result : goal.overflow_cast-result
+overflow_cast-result g c =
+    let made = c.in_ok-timeline.ensures.made in
+    let planned = c.args.plan.now.steps in
+    let actions = c.args.domain.now.actions in
+    let found : activities actions 0 planned ≡ Ok made.0 = rw c.steps.ensures.steps at made.1 in
+    let few : length planned ≤ most_steps = rw (← c.steps.ensures.steps, length-map) c.steps.ensures.few in
+    let small = few_found actions planned made.0 found few in
+    let whole = is_whole made.0 c.in_ok-timeline.timeline.durations.items c.in_ok-timeline.timeline.times.items (map numbers_of c.in_ok-timeline.timeline.footprints.items) made.2 small in
+    omega (arith, c.len.ensures, whole.few)
+
+pub invariant_of-result : goal.invariant_of-result
+invariant_of-result g c =
+    let made = c.in_ok-timeline.ensures.made in
+    let planned = c.args.plan.now.steps in
+    let actions = c.args.domain.now.actions in
+    let found : activities actions 0 planned ≡ Ok made.0 = rw c.steps.ensures.steps at made.1 in
+    let few : length planned ≤ most_steps = rw (← c.steps.ensures.steps, length-map) c.steps.ensures.few in
+    let small = few_found actions planned made.0 found few in
+    let domain = c.in_ok-from_slice.field-0.items in
+    let plan = c.in_ok-from_slice-2.field-0.items in
+    let domain_is : domain_of domain ≡ Ok actions = rw c.in_ok-from_slice.ensures.items c.text.ensures.given in
+    let plan_is : plan_of plan ≡ Ok planned = rw (c.in_ok-from_slice-2.ensures.items, c.text-2.ensures.text) c.steps.ensures.given in
+    let short_domain : length domain ≤ most_text = rw c.in_ok-from_slice.ensures.items c.text.ensures.short in
+    let short_plan : length plan ≤ most_text = rw c.in_ok-from_slice-2.ensures.items c.text-2.ensures.short in
+    let base = base_lifted made.0 c.in_ok-timeline.timeline.durations.items c.in_ok-timeline.timeline.times.items (map numbers_of c.in_ok-timeline.timeline.footprints.items) made.2
+    domain plan actions planned domain_is plan_is found small short_domain short_plan in
+    let durations = c.in_ok-timeline.timeline.durations in
+    let counted : c.len.result ≡ length durations.items = omega (arith, c.len.ensures, durations.ok.0) in
+    rw (counted, c.in_ok-bounds.ensures) base
+
+pub returns-clause-steps : goal.returns-clause-steps
+returns-clause-steps g c =
+    let made = c.in_ok-timeline.ensures.made in
+    let planned = c.args.plan.now.steps in
+    let actions = c.args.domain.now.actions in
+    let found : activities actions 0 planned ≡ Ok made.0 = rw c.steps.ensures.steps at made.1 in
+    let few : length planned ≤ most_steps = rw (← c.steps.ensures.steps, length-map) c.steps.ensures.few in
+    let small = few_found actions planned made.0 found few in
+    let domain_is : domain_of c.args.domain.now.text ≡ Ok actions = rw (← c.text.ensures.text) c.text.ensures.given in
+    found ∙ ap Ok (sym (texts_lifted made.0 c.in_ok-timeline.timeline.durations.items c.in_ok-timeline.timeline.times.items (map numbers_of c.in_ok-timeline.timeline.footprints.items) made.2
+    c.args.domain.now.text c.args.plan.now.text actions planned domain_is c.steps.ensures.given found))
+
+pub returns-clause-possible : goal.returns-clause-possible
+returns-clause-possible g c =
+    let made = c.in_ok-timeline.ensures.made in
+    let planned = c.args.plan.now.steps in
+    let actions = c.args.domain.now.actions in
+    let found : activities actions 0 planned ≡ Ok made.0 = rw c.steps.ensures.steps at made.1 in
+    let few : length planned ≤ most_steps = rw (← c.steps.ensures.steps, length-map) c.steps.ensures.few in
+    let small = few_found actions planned made.0 found few in
+    let domain = c.in_ok-from_slice.field-0.items in
+    let plan = c.in_ok-from_slice-2.field-0.items in
+    let domain_is : domain_of domain ≡ Ok actions = rw c.in_ok-from_slice.ensures.items c.text.ensures.given in
+    let plan_is : plan_of plan ≡ Ok planned = rw (c.in_ok-from_slice-2.ensures.items, c.text-2.ensures.text) c.steps.ensures.given in
+    let short_domain : length domain ≤ most_text = rw c.in_ok-from_slice.ensures.items c.text.ensures.short in
+    let short_plan : length plan ≤ most_text = rw c.in_ok-from_slice-2.ensures.items c.text-2.ensures.short in
+    let base = base_lifted made.0 c.in_ok-timeline.timeline.durations.items c.in_ok-timeline.timeline.times.items (map numbers_of c.in_ok-timeline.timeline.footprints.items) made.2
+    domain plan actions planned domain_is plan_is found small short_domain short_plan in
+    base.sound.possible
+
+pub returns-clause-ordered : goal.returns-clause-ordered
+returns-clause-ordered g c =
+    let made = c.in_ok-timeline.ensures.made in
+    let planned = c.args.plan.now.steps in
+    let actions = c.args.domain.now.actions in
+    let found : activities actions 0 planned ≡ Ok made.0 = rw c.steps.ensures.steps at made.1 in
+    let few : length planned ≤ most_steps = rw (← c.steps.ensures.steps, length-map) c.steps.ensures.few in
+    let small = few_found actions planned made.0 found few in
+    let domain = c.in_ok-from_slice.field-0.items in
+    let plan = c.in_ok-from_slice-2.field-0.items in
+    let domain_is : domain_of domain ≡ Ok actions = rw c.in_ok-from_slice.ensures.items c.text.ensures.given in
+    let plan_is : plan_of plan ≡ Ok planned = rw (c.in_ok-from_slice-2.ensures.items, c.text-2.ensures.text) c.steps.ensures.given in
+    let short_domain : length domain ≤ most_text = rw c.in_ok-from_slice.ensures.items c.text.ensures.short in
+    let short_plan : length plan ≤ most_text = rw c.in_ok-from_slice-2.ensures.items c.text-2.ensures.short in
+    let base = base_lifted made.0 c.in_ok-timeline.timeline.durations.items c.in_ok-timeline.timeline.times.items (map numbers_of c.in_ok-timeline.timeline.footprints.items) made.2
+    domain plan actions planned domain_is plan_is found small short_domain short_plan in
+    base.sound.ordered
+
+pub returns-clause-sound : goal.returns-clause-sound
+returns-clause-sound g c =
+    let made = c.in_ok-timeline.ensures.made in
+    let planned = c.args.plan.now.steps in
+    let actions = c.args.domain.now.actions in
+    let found : activities actions 0 planned ≡ Ok made.0 = rw c.steps.ensures.steps at made.1 in
+    let few : length planned ≤ most_steps = rw (← c.steps.ensures.steps, length-map) c.steps.ensures.few in
+    let small = few_found actions planned made.0 found few in
+    let domain = c.in_ok-from_slice.field-0.items in
+    let plan = c.in_ok-from_slice-2.field-0.items in
+    let domain_is : domain_of domain ≡ Ok actions = rw c.in_ok-from_slice.ensures.items c.text.ensures.given in
+    let plan_is : plan_of plan ≡ Ok planned = rw (c.in_ok-from_slice-2.ensures.items, c.text-2.ensures.text) c.steps.ensures.given in
+    let short_domain : length domain ≤ most_text = rw c.in_ok-from_slice.ensures.items c.text.ensures.short in
+    let short_plan : length plan ≤ most_text = rw c.in_ok-from_slice-2.ensures.items c.text-2.ensures.short in
+    let base = base_lifted made.0 c.in_ok-timeline.timeline.durations.items c.in_ok-timeline.timeline.times.items (map numbers_of c.in_ok-timeline.timeline.footprints.items) made.2
+    domain plan actions planned domain_is plan_is found small short_domain short_plan in
+    base.sound

@@ -1,0 +1,20 @@
+use Rattle.std.proofs.Common.{map, subst}
+use Rattle.stn_pddl.specs.Views.{action_schema}
+use Rattle.stn_plan.specs.Views.{planned_step, word_of}
+use Rattle.stn_lift.specs.Footprints.{start_of, end_of}
+use Rattle.stn_lift.specs.Numbering.{IsNumbered}
+use Rattle.stn_lift.specs.Activities.{activity}
+use Rattle.stn_lift.specs.Views.{numbers_of}
+use Rattle.stn_lift.proofs.TimelineFacts.{timeline_pushed}
+use Rattle.stn_lift.proofs.timeline.Timeline.push.Goals as goal
+
+pub returns : goal.returns
+unfolding action_schema
+returns g c = λ steps was.
+    let step = activity (planned_step c.args.step.now) (action_schema c.args.action.now) in
+    let start = subst (λ args. IsNumbered c.start_of.new.atoms (numbers_of c.in_ok-start.start) (start_of (action_schema c.args.action.now) (map word_of args))) c.deref.ensures.value c.in_ok-start.ensures.numbered in
+    let end = subst (λ args. IsNumbered c.end_of.new.atoms (numbers_of c.in_ok-end.end) (end_of (action_schema c.args.action.now) (map word_of args))) c.deref-2.ensures.value c.in_ok-end.ensures.numbered in
+    timeline_pushed c.args.atoms.now c.start_of.new.atoms c.end_of.new.atoms steps step _ _ _ _ _ _ (numbers_of c.in_ok-start.start) (numbers_of c.in_ok-end.end)
+    c.in_ok-start.ensures.kept c.in_ok-end.ensures.kept c.in_ok-end.ensures.unambiguous start end
+    (record { time = c.requires.timely.time; duration = c.requires.sound.duration; last = c.requires.last })
+    c.in_ok-append.ensures.durations c.in_ok-append.ensures.times c.in_ok-append.ensures.footprints was

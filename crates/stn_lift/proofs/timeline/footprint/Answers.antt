@@ -1,0 +1,26 @@
+use Rattle.std.proofs.Common.{map, subst}
+use Rattle.std.proofs.lemmas.List.{append-nil}
+use Rattle.stn_pddl.specs.Views.{atoms_schema}
+use Rattle.stn_plan.specs.Views.{word_of}
+use Rattle.stn_lift.specs.Footprints.{ground}
+use Rattle.stn_lift.specs.Numbering.{AreNumbersOf}
+use Rattle.stn_lift.proofs.NumberLists.{kept_along, numbers_kept}
+use Rattle.stn_lift.proofs.timeline.footprint.Goals as goal
+
+pub returns-clause-numbered : goal.returns-clause-numbered
+returns-clause-numbered g c =
+    let args = map word_of c.args.args.now in
+    let first = c.numbers.new.self in
+    let second = c.numbers-2.new.self in
+    let third = c.numbers-3.new.self in
+    let adds = subst (λ atoms. AreNumbersOf second c.in_ok-adds.adds (map (ground args) atoms)) (append-nil (atoms_schema c.args.adds.now)) c.in_ok-adds.ensures.numbers in
+    record {
+      needs = numbers_kept second third c.in_ok-deletes.ensures.kept _ _ (numbers_kept first second c.in_ok-adds.ensures.kept _ _ c.in_ok-needs.ensures.numbers);
+      adds = numbers_kept second third c.in_ok-deletes.ensures.kept _ _ adds;
+      deletes = subst (λ atoms. AreNumbersOf third c.in_ok-deletes.deletes (map (ground args) atoms)) (append-nil (atoms_schema c.args.deletes.now)) c.in_ok-deletes.ensures.numbers;
+    }
+
+pub returns-clause-kept : goal.returns-clause-kept
+returns-clause-kept g c =
+    kept_along c.args.atoms.now c.numbers.new.self c.numbers-3.new.self c.in_ok-needs.ensures.kept
+    (kept_along c.numbers.new.self c.numbers-2.new.self c.numbers-3.new.self c.in_ok-adds.ensures.kept c.in_ok-deletes.ensures.kept)

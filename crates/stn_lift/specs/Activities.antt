@@ -1,0 +1,91 @@
+-- What the steps of a plan do in a domain, or the first fault.
+use Rattle.std.specs.Prelude.{◌≡◌, ℕ, ◌+◌, ℤ, ◌+ℤ◌, int_lt, Bool, false, not, ◌==◌, if◌then◌else◌, List, [], ◌∷◌, ◌++◌, length, Option, Some, None, Result, Ok, Err, IsOk}
+use Rattle.std.specs.Ordering.{int_eq}
+use Rattle.stn_time.specs.Time.{horizon}
+use Rattle.stn_pddl.specs.Schemas.{ActionSchema}
+use Rattle.stn_pddl.specs.Domains.{action_named}
+use Rattle.stn_plan.specs.Steps.{PlannedStep}
+use Rattle.stn_lift.specs.declared.fault.LiftFault.{LiftFault}
+use Rattle.stn_lift.specs.declared.fault.LiftFault.TheVariants.{UnknownAction, Arity, DurationDiffers, PastHorizon, Memory}
+use Rattle.stn_lift.specs.Footprints.{GroundAtom, Footprint, start_of, end_of}
+
+-- a step in its domain: when it starts and how long it lasts, in milliseconds, and what its start and its end need, add and delete
+pub record Activity : Type 0 where
+  pub time : ℤ
+  pub duration : ℤ
+  pub start : Footprint GroundAtom
+  pub end : Footprint GroundAtom
+
+-- the line says a duration, and it is another
+abbrev pub differs : Option ℤ → ℤ → Bool
+differs None duration = false
+differs (Some said) duration = not (int_eq said duration)
+
+-- what a step does by its action
+abbrev pub activity : PlannedStep → ActionSchema → Activity
+activity step action = record {
+  time = step.time;
+  duration = action.duration;
+  start = start_of action step.args;
+  end = end_of action step.args;
+}
+
+-- the step of a number with its action, or the first cause against it
+unfoldable pub with_action : ℕ → PlannedStep → ActionSchema → Result Activity LiftFault
+with_action number step action =
+    if not (length step.args == length action.parameters) then Err (Arity number)
+    else (if differs step.duration action.duration then Err (DurationDiffers number)
+    else (if int_lt horizon (step.time +ℤ action.duration) then Err (PastHorizon number)
+    else Ok (activity step action)))
+
+abbrev pub with_found : ℕ → PlannedStep → Option ActionSchema → Result Activity LiftFault
+with_found number step None = Err (UnknownAction number)
+with_found number step (Some action) = with_action number step action
+
+-- the step of a number in a domain of these actions, or the first cause against it
+unfoldable pub activity_of : List ActionSchema → ℕ → PlannedStep → Result Activity LiftFault
+activity_of actions number step = with_found number step (action_named step.action actions)
+
+-- the first fault, or what comes of the value
+infixl 10 ◌>>=◌
+abbrev pub ◌>>=◌ : {A B : Type 0} → Result A LiftFault → (A → Result B LiftFault) → Result B LiftFault
+(Ok x) >>= f = f x
+(Err e) >>= f = Err e
+
+-- the steps behind so many others, or the fault of the first that has one; steps are counted from 1
+unfoldable pub activities : List ActionSchema → ℕ → List PlannedStep → Result (List Activity) LiftFault
+activities actions before [] = Ok []
+activities actions before (step ∷ steps) =
+    activity_of actions (before + 1) step >>= λ first.
+    activities actions (before + 1) steps >>= λ others.
+    Ok (first ∷ others)
+
+-- one of the steps has the fault by itself, and no step before it has a fault
+pub record IsFirstRefused (actions : List ActionSchema) (steps : List PlannedStep) (fault : LiftFault) : Type 0 where
+  pub earlier : List PlannedStep
+  pub step : PlannedStep
+  pub later : List PlannedStep
+  pub whole : steps ≡ earlier ++ step ∷ later
+  pub refused : activity_of actions (length earlier + 1) step ≡ Err fault
+  pub none_before : IsOk (activities actions 0 earlier)
+
+-- the cause that a fault has: the first step that is refused, refused by the first cause against it
+abbrev pub IsCause : List ActionSchema → List PlannedStep → LiftFault → Type 0
+IsCause actions steps (UnknownAction step) = IsFirstRefused actions steps (UnknownAction step)
+IsCause actions steps (Arity step) = IsFirstRefused actions steps (Arity step)
+IsCause actions steps (DurationDiffers step) = IsFirstRefused actions steps (DurationDiffers step)
+IsCause actions steps (PastHorizon step) = IsFirstRefused actions steps (PastHorizon step)
+IsCause actions steps Memory = Unit {0}
+
+-- The fault is the one that the meaning gives, unless memory ran out.
+abbrev pub Fails : {Y : Type 0} → LiftFault → Result Y LiftFault → Type 0
+Fails (UnknownAction step) meaning = meaning ≡ Err (UnknownAction step)
+Fails (Arity step) meaning = meaning ≡ Err (Arity step)
+Fails (DurationDiffers step) meaning = meaning ≡ Err (DurationDiffers step)
+Fails (PastHorizon step) meaning = meaning ≡ Err (PastHorizon step)
+Fails Memory meaning = Unit {0}
+
+-- What a function returned, seen by view, is what the meaning gives, unless memory ran out.
+abbrev pub Gives : {X Y : Type 0} → (X → Y) → Result X LiftFault → Result Y LiftFault → Type 0
+Gives view (Ok x) meaning = meaning ≡ Ok (view x)
+Gives view (Err fault) meaning = Fails fault meaning

@@ -1,0 +1,118 @@
+//! Why there is no base.
+
+ghost use Rattle.std.specs.Prelude.{◌≡◌};
+ghost use Rattle.stn_lift.specs.Faults.{of_domain, of_plan, of_lifting};
+ghost use Rattle.stn_lift.specs.declared.fault.BaseFault.TheVariants as base;
+ghost use Rattle.stn_lift.specs.declared.fault.LiftFault.TheVariants as lifting;
+
+use std::alloc::{AllocError, AllocFailed};
+use stn_pddl::DomainFault;
+use stn_plan::PlanFault;
+use thiserror::Error;
+
+/// Why a plan has no base in a domain. The first step with a cause decides, by the first of its causes in this order.
+/// Steps are counted from 1.
+#[derive(Clone, Copy, Debug, PartialEq, Eq, Hash, Error)]
+pub enum LiftFault {
+    /// The domain has no action of this step's name.
+    #[error("unknown action of step {0}")]
+    UnknownAction(u16),
+    /// This step has more or fewer arguments than its action has parameters.
+    #[error("another number of arguments at step {0}")]
+    Arity(u16),
+    /// This step says another duration than its action has.
+    #[error("another duration at step {0}")]
+    DurationDiffers(u16),
+    /// This step ends behind the horizon.
+    #[error("step {0} ends behind the horizon")]
+    PastHorizon(u16),
+    /// Memory ran out.
+    #[error("out of memory")]
+    Memory,
+}
+
+impl From<AllocError> for LiftFault {
+    ghost from_gives = { λ _ fault. fault ≡ lifting.Memory };
+
+    fn from(_refused: AllocError) -> LiftFault {
+        LiftFault::Memory
+    }
+}
+
+impl<T: Drop> From<AllocFailed<T>> for LiftFault {
+    ghost from_gives = { λ _ fault. fault ≡ lifting.Memory };
+
+    fn from(_refused: AllocFailed<T>) -> LiftFault {
+        LiftFault::Memory
+    }
+}
+
+/// Why a source has no base: of two texts the domain's faults come first, then the plan's, then those of the plan's steps in the
+/// domain. Want of memory is always `Memory`, wherever it came.
+#[derive(Clone, Copy, Debug, PartialEq, Eq, Hash, Error)]
+pub enum BaseFault {
+    /// The text of the domain has a fault.
+    #[error("the domain has a fault")]
+    Domain(DomainFault),
+    /// The text of the plan has a fault.
+    #[error("the plan has a fault")]
+    Plan(PlanFault),
+    /// A step of the plan does not fit the domain.
+    #[error("the plan does not fit the domain")]
+    Lift(LiftFault),
+    /// More than 256 steps of a bare plan.
+    #[error("too many steps")]
+    TooManySteps,
+    /// Memory ran out.
+    #[error("out of memory")]
+    Memory,
+}
+
+impl From<AllocError> for BaseFault {
+    ghost from_gives = { λ _ fault. fault ≡ base.Memory };
+
+    fn from(_refused: AllocError) -> BaseFault {
+        BaseFault::Memory
+    }
+}
+
+impl<T: Drop> From<AllocFailed<T>> for BaseFault {
+    ghost from_gives = { λ _ fault. fault ≡ base.Memory };
+
+    fn from(_refused: AllocFailed<T>) -> BaseFault {
+        BaseFault::Memory
+    }
+}
+
+impl From<DomainFault> for BaseFault {
+    ghost from_gives = { λ fault given. given ≡ of_domain fault };
+
+    fn from(fault: DomainFault) -> BaseFault {
+        match fault {
+            DomainFault::Memory => BaseFault::Memory,
+            _ => BaseFault::Domain(fault),
+        }
+    }
+}
+
+impl From<PlanFault> for BaseFault {
+    ghost from_gives = { λ fault given. given ≡ of_plan fault };
+
+    fn from(fault: PlanFault) -> BaseFault {
+        match fault {
+            PlanFault::Memory => BaseFault::Memory,
+            _ => BaseFault::Plan(fault),
+        }
+    }
+}
+
+impl From<LiftFault> for BaseFault {
+    ghost from_gives = { λ fault given. given ≡ of_lifting fault };
+
+    fn from(fault: LiftFault) -> BaseFault {
+        match fault {
+            LiftFault::Memory => BaseFault::Memory,
+            _ => BaseFault::Lift(fault),
+        }
+    }
+}

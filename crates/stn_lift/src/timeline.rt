@@ -1,0 +1,243 @@
+//! The steps of a plan in its domain.
+
+ghost use Rattle.std.specs.Prelude.{◌≡◌, ◌+◌, ◌≤◌, ◌++◌, ◌∷◌, [], All, List, length, map, pos, ◌+ℤ◌, ◌≤ℤ◌, Ok, IfOk, IfErr, OnOk};
+ghost use Rattle.std.specs.List.{AllByRecursion};
+ghost use Rattle.stn_time.specs.Time.{horizon};
+ghost use Rattle.stn_net.specs.Event.{most_steps};
+ghost use Rattle.stn_pddl.specs.Sound.{IsSound, HasSoundAtoms, IsSoundAtom};
+ghost use Rattle.stn_pddl.specs.Views.{action_schema, atoms_schema};
+ghost use Rattle.stn_plan.specs.Steps.{IsTimely};
+ghost use Rattle.stn_plan.specs.Views.{names_of, planned_step, word_of};
+ghost use Rattle.stn_lift.specs.Footprints.{start_of, end_of, Footprint as Atomic, GroundAtom, ground};
+ghost use Rattle.stn_lift.specs.Numbering.{Extends, IsNumbered, IsUnambiguous};
+ghost use Rattle.stn_lift.specs.Views.{numbers_of};
+ghost use Rattle.stn_lift.specs.Activities.{Activity, Fails, Gives, differs, activity, activity_of, activities};
+ghost use Rattle.stn_lift.specs.Timelines.{IsTimeline, IsLifted};
+
+use crate::atoms::Atoms;
+use crate::fault::LiftFault;
+use crate::footprint::Footprint;
+use std::alloc::{AllocError, Allocator};
+use stn_pddl::{Action, Atom, Domain};
+use stn_plan::Step;
+use stn_time::{HORIZON, Ms};
+
+/// How long each step lasts, and of each event by number, the origin's first, its planned time and what it needs, adds and
+/// deletes.
+#[derive(Drop)]
+pub struct Timeline<A: Allocator> {
+    pub durations: Vec<Ms, A>,
+    pub times: Vec<Ms, A>,
+    pub footprints: Vec<Footprint<A>, A>,
+}
+
+// Whether the line of a step says another duration than that of its action.
+fn differs(said: Option<Ms>, duration: Ms) -> bool
+    ensures { result ≡ differs said duration }
+{
+    match said {
+        None => false,
+        Some(said) => said != duration,
+    }
+}
+
+// The action of the step of a number, or the first cause against the step.
+#[tactic(auto, unfolding(crate::specs::Activities::activity_of, crate::specs::Activities::with_action, stn_pddl::specs::Views::action_schema))]
+fn action_of<'d, 'a, A: Allocator + Copy>(
+    domain: &'d Domain<'a, A>,
+    number: u16,
+    step: &Step<'a, A>,
+) -> Result<&'d Action<'a, A>, LiftFault>
+    ensures given { Gives (λ action. activity (planned_step step.now) (action_schema action.now)) result
+        (activity_of domain.now.actions number (planned_step step.now)) }
+    ensures arity { IfOk result (λ action. length step.now.args.items ≡ length (action_schema action.now).parameters) }
+    ensures sound { IfOk result (λ action. IsSound (action_schema action.now)) }
+    ensures last { IfOk result (λ action. (step.now.time +ℤ (action_schema action.now).duration) ≤ℤ horizon) }
+{
+    let Some(action) = domain.action(step.action) else {
+        return Err(LiftFault::UnknownAction(number));
+    };
+    if step.args.len() != action.parameters.len() {
+        return Err(LiftFault::Arity(number));
+    }
+    if differs(step.duration, action.duration) {
+        return Err(LiftFault::DurationDiffers(number));
+    }
+    if HORIZON < step.time.get() + action.duration.get() {
+        return Err(LiftFault::PastHorizon(number));
+    }
+    Ok(action)
+}
+
+// The sum of two times.
+fn sum(time: Ms, duration: Ms) -> Ms
+    requires time { pos 0 ≤ℤ time }
+    requires duration { pos 0 ≤ℤ duration }
+    requires last { (time +ℤ duration) ≤ℤ horizon }
+    ensures { result ≡ time +ℤ duration }
+{
+    Ms::new(time.get() + duration.get()).unwrap()
+}
+
+// The footprint of an event that has these needs at its own moment and over all of its step.
+fn footprint<'a, A: Allocator + Copy>(
+    atoms: &mut Atoms<'a, A>,
+    args: &[&'a [u8]],
+    needs: (&[Atom<'a, A>], &[Atom<'a, A>]),
+    adds: &[Atom<'a, A>],
+    deletes: &[Atom<'a, A>],
+) -> Result<Footprint<A>, AllocError>
+    requires needs { AllByRecursion (IsSoundAtom (length args.now)) (atoms_schema needs.0.now) }
+    requires all_needs { AllByRecursion (IsSoundAtom (length args.now)) (atoms_schema needs.1.now) }
+    requires adds { AllByRecursion (IsSoundAtom (length args.now)) (atoms_schema adds.now) }
+    requires deletes { AllByRecursion (IsSoundAtom (length args.now)) (atoms_schema deletes.now) }
+    ensures numbered { IfOk result (λ footprint. IsNumbered atoms.new (numbers_of footprint) (record {
+      needs = map (ground (map word_of args.now)) (atoms_schema needs.entry.0.now ++ atoms_schema needs.entry.1.now);
+      adds = map (ground (map word_of args.now)) (atoms_schema adds.now);
+      deletes = map (ground (map word_of args.now)) (atoms_schema deletes.now);
+    })) }
+    ensures kept { OnOk result (Extends atoms.old atoms.new) }
+    ensures unambiguous { OnOk result (IsUnambiguous atoms.new) }
+{
+    let needs = atoms.numbers(args, needs.0, needs.1)?;
+    let adds = atoms.numbers(args, adds, &[])?;
+    let deletes = atoms.numbers(args, deletes, &[])?;
+    Ok(Footprint {
+        needs,
+        adds,
+        deletes,
+    })
+}
+
+// The footprint of the start of a step.
+#[tactic(auto, unfolding(stn_pddl::specs::Views::action_schema))]
+fn start_of<'a, A: Allocator + Copy>(
+    atoms: &mut Atoms<'a, A>,
+    args: &[&'a [u8]],
+    action: &Action<'a, A>,
+) -> Result<Footprint<A>, AllocError>
+    requires arity { length args.now ≡ length (action_schema action.now).parameters }
+    requires sound { HasSoundAtoms (action_schema action.now) }
+    ensures numbered { IfOk result (λ footprint. IsNumbered atoms.new (numbers_of footprint) (start_of (action_schema action.now) (map word_of args.now))) }
+    ensures kept { OnOk result (Extends atoms.old atoms.new) }
+    ensures unambiguous { OnOk result (IsUnambiguous atoms.new) }
+{
+    footprint(
+        atoms,
+        args,
+        (&action.start_needs, &action.all_needs),
+        &action.start_adds,
+        &action.start_deletes,
+    )
+}
+
+// The footprint of the end of a step.
+#[tactic(auto, unfolding(stn_pddl::specs::Views::action_schema))]
+fn end_of<'a, A: Allocator + Copy>(
+    atoms: &mut Atoms<'a, A>,
+    args: &[&'a [u8]],
+    action: &Action<'a, A>,
+) -> Result<Footprint<A>, AllocError>
+    requires arity { length args.now ≡ length (action_schema action.now).parameters }
+    requires sound { HasSoundAtoms (action_schema action.now) }
+    ensures numbered { IfOk result (λ footprint. IsNumbered atoms.new (numbers_of footprint) (end_of (action_schema action.now) (map word_of args.now))) }
+    ensures kept { OnOk result (Extends atoms.old atoms.new) }
+    ensures unambiguous { OnOk result (IsUnambiguous atoms.new) }
+{
+    footprint(
+        atoms,
+        args,
+        (&action.end_needs, &action.all_needs),
+        &action.end_adds,
+        &action.end_deletes,
+    )
+}
+
+impl<A: Allocator + Copy> Timeline<A> {
+    // No steps: the origin alone, at 0.
+    fn new(alloc: A) -> Result<Timeline<A>, AllocError>
+        ensures { IfOk result (λ made. (made.durations.items ≡ []) × (made.times.items ≡ pos 0 ∷ [])
+            × (map numbers_of made.footprints.items ≡ record { needs = []; adds = []; deletes = [] } ∷ [])) }
+    {
+        let mut times = Vec::new(alloc);
+        times.push(Ms::new(0).unwrap())?;
+        let mut footprints = Vec::new(alloc);
+        footprints.push(Footprint::none(alloc))?;
+        Ok(Timeline {
+            durations: Vec::new(alloc),
+            times,
+            footprints,
+        })
+    }
+
+    // Takes up a step at a time and of a duration, with the footprints of its events.
+    fn append(
+        &mut self,
+        time: Ms,
+        duration: Ms,
+        start: Footprint<A>,
+        end: Footprint<A>,
+    ) -> Result<(), AllocError>
+        requires time { pos 0 ≤ℤ time }
+        requires duration { pos 0 ≤ℤ duration }
+        requires last { (time +ℤ duration) ≤ℤ horizon }
+        ensures durations { OnOk result (self.new.durations.items ≡ self.old.durations.items ++ duration ∷ []) }
+        ensures times { OnOk result (self.new.times.items ≡ (self.old.times.items ++ time ∷ []) ++ (time +ℤ duration) ∷ []) }
+        ensures footprints { OnOk result (map numbers_of self.new.footprints.items
+            ≡ (map numbers_of self.old.footprints.items ++ numbers_of start ∷ []) ++ numbers_of end ∷ []) }
+    {
+        self.durations.push(duration)?;
+        self.times.push(time)?;
+        self.times.push(sum(time, duration))?;
+        self.footprints.push(start)?;
+        self.footprints.push(end)?;
+        Ok(())
+    }
+
+    // Takes a step with its action up.
+    #[tactic(auto, unfolding(stn_pddl::specs::Views::action_schema))]
+    fn push<'a>(
+        &mut self,
+        atoms: &mut Atoms<'a, A>,
+        step: &Step<'a, A>,
+        action: &Action<'a, A>,
+    ) -> Result<(), AllocError>
+        requires arity { length step.now.args.items ≡ length (action_schema action.now).parameters }
+        requires sound { IsSound (action_schema action.now) }
+        requires timely { IsTimely (planned_step step.now) }
+        requires last { (step.now.time +ℤ (action_schema action.now).duration) ≤ℤ horizon }
+        ensures { IfOk result (λ _. (steps : List Activity)
+            → IsTimeline atoms.old steps self.old.durations.items self.old.times.items (map numbers_of self.old.footprints.items)
+            → IsTimeline atoms.new (steps ++ activity (planned_step step.now) (action_schema action.now) ∷ [])
+            self.new.durations.items self.new.times.items (map numbers_of self.new.footprints.items)) }
+    {
+        let start = start_of(atoms, &step.args, action)?;
+        let end = end_of(atoms, &step.args, action)?;
+        self.append(step.time, action.duration, start, end)?;
+        Ok(())
+    }
+
+    /// The steps of a plan in a domain, or the first fault: of the first step with a cause against it, the first.
+    pub fn read<'a>(
+        alloc: A,
+        domain: &Domain<'a, A>,
+        steps: &[Step<'a, A>],
+    ) -> Result<Timeline<A>, LiftFault>
+        requires few { length steps.now ≤ most_steps }
+        requires timely { All (λ step. IsTimely (planned_step step)) steps.now }
+        ensures made { IfOk result (λ made. (found : List Activity)
+            × (activities domain.now.actions 0 (map planned_step steps.now) ≡ Ok found)
+            × IsLifted found made.durations.items made.times.items (map numbers_of made.footprints.items)) }
+        ensures fault { IfErr result (λ fault. Fails fault (activities domain.now.actions 0 (map planned_step steps.now))) }
+    {
+        let mut atoms = Atoms::new(alloc);
+        let mut timeline = Timeline::new(alloc)?;
+        let mut number = 0;
+        for step in steps {
+            number += 1;
+            let action = action_of(domain, number, step)?;
+            timeline.push(&mut atoms, step, action)?;
+        }
+        Ok(timeline)
+    }
+}

@@ -1,0 +1,3 @@
+mod Fits
+mod OfStn
+mod Values

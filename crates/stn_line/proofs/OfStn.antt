@@ -1,0 +1,163 @@
+-- The general law at the program's own commands.
+use Rattle.std.proofs.Common.{map, Option, Bor, option_map, subst, false, Bool, codes, cond, sym, ◌∷◌, ◌≡◌, ◌⊎◌, true, [], refl, inl, inr, Some, List}
+use Rattle.std.specs.Prelude.{IsSomeAnd, find}
+use Rattle.std.specs.Str.{bytes_eq}
+use Rattle.std.proofs.lemmas.Slice.Eq.{bytes_eq-Decides}
+use Rattle.clap.specs.Values.{is_request}
+use Rattle.clap.specs.Matches.{found_of, subcommand_name_of}
+use Rattle.clap.specs.Simple.{subcommand_rows, subcommand_rows_of}
+use Rattle.clap.specs.declared.parser.matches.ArgMatches.{ArgMatches}
+use Rattle.clap.specs.declared.parser.matches.ArgMatches.TheViews.{out-ArgMatches}
+use Rattle.clap.specs.Walk.{action_of, rows_of}
+use Rattle.clap.specs.Words.{Row, Rule, Shape, Text, built, fault_of, is_simple, is_simple_and_free, subcommand_of}
+use Rattle.clap.specs.declared.builder.action.ArgAction.TheVariants.{Set}
+use Rattle.stn_line.specs.Commands.{most_connections, most_read_steps, stn}
+use Rattle.stn_line.specs.Given.{Each, HasWords, HasWordsAmong, IsGiven, IsNumberThere, IsThere, IsThereOnLog}
+use Rattle.stn_line.proofs.Values.{at_value, entered_is}
+use Rattle.stn_line.proofs.Fits.{Asks, ReadsPlainly, TakesOne, command_given}
+
+pub stn_simple : is_simple stn ≡ true
+unfolding stn
+stn_simple = refl
+
+pub stn_free : is_simple_and_free stn ≡ true
+unfolding stn
+stn_free = refl
+
+takes_one : {a : Rule} → a.action ≡ Some Set → a.range ≡ Some (record { start_inclusive = 1; end_inclusive = 1 }) → a.defaults ≡ [] → TakesOne a ⊎ Asks a
+takes_one action range defaults = inl (record { action = action; range = range; defaults = defaults })
+
+asks : {a : Rule} → is_request (action_of a) ≡ true → a.defaults ≡ [] → TakesOne a ⊎ Asks a
+asks action defaults = inr (record { action = action; defaults = defaults })
+
+all_plain : Each (ReadsPlainly (built stn).subs) (built stn).subs
+unfolding stn
+all_plain = (
+  record { own = refl; again = refl; negates = refl; rules = ((asks refl refl, refl), tt) },
+  (
+    record { own = refl; again = refl; negates = refl; rules = ((takes_one refl refl refl, refl), ((takes_one refl refl refl, refl), ((takes_one refl refl refl, refl), ((asks refl refl, refl), tt)))) },
+    (
+      record { own = refl; again = refl; negates = refl; rules = ((takes_one refl refl refl, refl), ((takes_one refl refl refl, refl), ((takes_one refl refl refl, refl), ((takes_one refl refl refl, refl), ((asks refl refl, refl), tt))))) },
+      (
+        record { own = refl; again = refl; negates = refl; rules = ((takes_one refl refl refl, refl), ((takes_one refl refl refl, refl), ((takes_one refl refl refl, refl), ((takes_one refl refl refl, refl), ((takes_one refl refl refl, refl), ((takes_one refl refl refl, refl), ((asks refl refl, refl), tt))))))) },
+        (
+          record { own = refl; again = refl; negates = refl; rules = ((takes_one refl refl refl, refl), ((takes_one refl refl refl, refl), ((takes_one refl refl refl, refl), ((asks refl refl, refl), tt)))) },
+          (
+            record { own = refl; again = refl; negates = refl; rules = ((takes_one refl refl refl, refl), ((takes_one refl refl refl, refl), ((takes_one refl refl refl, refl), ((takes_one refl refl refl, refl), ((asks refl refl, refl), tt))))) },
+            (
+              record { own = refl; again = refl; negates = refl; rules = ((takes_one refl refl refl, refl), ((takes_one refl refl refl, refl), ((takes_one refl refl refl, refl), ((asks refl refl, refl), tt)))) },
+              (
+                record { own = refl; again = refl; negates = refl; rules = ((takes_one refl refl refl, refl), ((takes_one refl refl refl, refl), ((asks refl refl, refl), tt))) },
+                (
+                  record { own = refl; again = refl; negates = refl; rules = ((takes_one refl refl refl, refl), ((takes_one refl refl refl, refl), ((takes_one refl refl refl, refl), ((asks refl refl, refl), tt)))) },
+                  (
+                    record { own = refl; again = refl; negates = refl; rules = ((takes_one refl refl refl, refl), ((takes_one refl refl refl, refl), ((takes_one refl refl refl, refl), ((takes_one refl refl refl, refl), ((asks refl refl, refl), tt))))) },
+                    (
+                      record { own = refl; again = refl; negates = refl; rules = ((takes_one refl refl refl, refl), ((takes_one refl refl refl, refl), ((takes_one refl refl refl, refl), ((asks refl refl, refl), tt)))) },
+                      tt,
+                    ),
+                  ),
+                ),
+              ),
+            ),
+          ),
+        ),
+      ),
+    ),
+  ),
+)
+
+is_required : (built stn).top.subcommand_required ≡ true
+unfolding stn
+is_required = refl
+
+-- words without a fault name a command, and hold what it requires
+pub stn_given : (words : List Text) → fault_of stn words ≡ [] → IsSomeAnd (subcommand_of stn words) (λ p. HasWords p.0 p.1)
+stn_given words none = command_given stn words is_required all_plain none
+
+-- what each command's words hold
+pub bare_there : (rows : List Row) → HasWords (codes "bare") rows → IsThereOnLog rows × IsNumberThere (codes "STEPS") 0 most_read_steps rows
+unfolding stn
+bare_there rows has = (record { log = has.0 refl; site = has.1.0 refl }, has.1.1.0 refl)
+
+pub init_there : (rows : List Row) → HasWords (codes "init") rows → IsThereOnLog rows × IsThere (codes "DOMAIN") rows × IsThere (codes "PLAN") rows
+unfolding stn
+init_there rows has = (record { log = has.0 refl; site = has.1.0 refl }, has.1.1.0 refl, has.1.1.1.0 refl)
+
+pub add_there : (rows : List Row) → HasWords (codes "add") rows → IsThereOnLog rows × IsThere (codes "FROM") rows × IsThere (codes "TO") rows
+unfolding stn
+add_there rows has = (record { log = has.0 refl; site = has.1.0 refl }, has.1.1.0 refl, has.1.1.1.0 refl)
+
+pub withdraw_there : (rows : List Row) → HasWords (codes "withdraw") rows → IsThereOnLog rows × IsThere (codes "ID") rows
+unfolding stn
+withdraw_there rows has = (record { log = has.0 refl; site = has.1.0 refl }, has.1.1.0 refl)
+
+pub done_there : (rows : List Row) → HasWords (codes "done") rows → IsThereOnLog rows × IsThere (codes "EVENT") rows × IsThere (codes "TIME") rows
+unfolding stn
+done_there rows has = (record { log = has.0 refl; site = has.1.0 refl }, has.1.1.0 refl, has.1.1.1.0 refl)
+
+pub merge_there : (rows : List Row) → HasWords (codes "merge") rows → IsThereOnLog rows × IsThere (codes "OTHER") rows
+unfolding stn
+merge_there rows has = (record { log = has.0 refl; site = has.1.0 refl }, has.1.1.0 refl)
+
+pub report_there : (rows : List Row) → HasWords (codes "report") rows → IsThereOnLog rows
+unfolding stn
+report_there rows has = record { log = has.0 refl; site = has.1.0 refl }
+
+pub next_there : (rows : List Row) → HasWords (codes "next") rows → IsThereOnLog rows × IsThere (codes "NOW") rows
+unfolding stn
+next_there rows has = (record { log = has.0 refl; site = has.1.0 refl }, has.1.1.0 refl)
+
+pub serve_there : (rows : List Row) → HasWords (codes "serve") rows → IsThereOnLog rows × IsThere (codes "ADDR") rows × IsNumberThere (codes "COUNT") 1 most_connections rows
+unfolding stn
+serve_there rows has = (record { log = has.0 refl; site = has.1.0 refl }, has.1.1.0 refl, has.1.1.1.0 refl)
+
+pub send_there : (rows : List Row) → HasWords (codes "send") rows → IsThereOnLog rows × IsThere (codes "ADDR") rows
+unfolding stn
+send_there rows has = (record { log = has.0 refl; site = has.1.0 refl }, has.1.1.0 refl)
+
+-- the name is one of these
+IsOneOf : Text → List Text → Type 0
+IsOneOf name [] = ⊥
+IsOneOf name (n ∷ rest) = (name ≡ n) ⊎ IsOneOf name rest
+
+is_one_of : (commands : List Shape) (name : Text) (rows : List Row) → HasWordsAmong commands name rows → IsOneOf name (map (λ s. s.name) commands)
+unfolding IsOneOf
+is_one_of [] name rows has = absurd has
+is_one_of (s ∷ rest) name rows has = go (bytes_eq s.name name) refl has (is_one_of rest name rows)
+  where
+    go : (t : Bool) → bytes_eq s.name name ≡ t → IsSomeAnd (cond t (Some s) (find (λ x. bytes_eq x.name name) rest)) (λ x. Each (IsGiven rows) x.rules)
+        → (HasWordsAmong rest name rows → IsOneOf name (map (λ x. x.name) rest)) → (name ≡ s.name) ⊎ IsOneOf name (map (λ x. x.name) rest)
+    go true t has more = inl (sym ((bytes_eq-Decides s.name name).0 t))
+    go false t has more = inr (more has)
+
+other : {A B : Type 0} → A ⊎ B → (A → ⊥) → B
+other (inl a) none = absurd (none a)
+other (inr b) none = b
+
+-- what is none of the other commands is the last
+pub is_send : (name : Text) (rows : List Row) → HasWords name rows
+    → (name ≡ codes "run" → ⊥)
+    → (name ≡ codes "bare" → ⊥)
+    → (name ≡ codes "init" → ⊥)
+    → (name ≡ codes "add" → ⊥)
+    → (name ≡ codes "withdraw" → ⊥)
+    → (name ≡ codes "done" → ⊥)
+    → (name ≡ codes "merge" → ⊥)
+    → (name ≡ codes "report" → ⊥)
+    → (name ≡ codes "next" → ⊥)
+    → (name ≡ codes "serve" → ⊥)
+    → name ≡ codes "send"
+unfolding stn IsOneOf
+is_send name rows has run bare init add withdraw done merge report next serve =
+    let behind-add = other (other (other (other (is_one_of (built stn).subs name rows has) run) bare) init) add in
+    let behind-serve = other (other (other (other (other (other behind-add withdraw) done) merge) report) next) serve in
+    elim behind-serve [ inl send ↦ send | inr none ↦ absurd none ]
+
+-- what the matches of the entered command hold, by its name
+pub entered_has : (m : ArgMatches) (r : Option (Bor Text × Bor ArgMatches)) (x : Bor Text × Bor ArgMatches) → option_map (λ p. p.0.now) r ≡ subcommand_name_of m
+    → option_map (λ p. rows_of (found_of p.1.now)) r ≡ option_map (λ p. p.1) (subcommand_rows (out-ArgMatches m).subcommand) → r ≡ Some x
+    → IsSomeAnd (subcommand_rows_of m) (λ command. HasWords command.0 command.1) → (name : Text) → x.0.now ≡ name → HasWords name (rows_of (found_of x.1.now))
+entered_has m r x names rows is has name named =
+    subst (λ n. HasWords n (rows_of (found_of x.1.now))) named
+    (at_value (x.0.now, rows_of (found_of x.1.now)) (subcommand_rows_of m) (λ command. HasWords command.0 command.1) (entered_is m r x names rows is) has)

@@ -1,0 +1,98 @@
+-- The commands of `stn` and their words, as clap reads them.
+use Rattle.std.specs.Prelude.{◌≡◌, ℕ, List, [], ◌∷◌, Some, true, false, codes}
+use Rattle.stn_records.specs.Id.{most_sites}
+use Rattle.clap.specs.Simple.{new_shape}
+use Rattle.clap.specs.Words.{App, Rule, Shape, Text, new_rule, shape_of}
+use Rattle.clap.specs.declared.builder.command.Command.{Command}
+use Rattle.clap.specs.declared.builder.command.Command.TheViews.{out-Command as fields_of}
+use Rattle.clap.specs.declared.builder.value_parser.ValueParser.TheVariants as parser
+
+-- the number of steps of a bare plan is read up to this; which of them make a plan is for the plan to say
+abbrev pub most_read_steps : ℕ
+most_read_steps = 65535
+
+-- the most connections that are served in turn
+abbrev pub most_connections : ℕ
+most_connections = 1000
+
+-- a word that has to be there
+abbrev pub word_rule : Text → Rule
+word_rule name = record (new_rule name) { required = true }
+
+-- a word that has to be there, and is a number from `least` to `most`
+abbrev pub number_rule : Text → ℕ → ℕ → Rule
+number_rule name least most = record (word_rule name) { parser = Some (parser.Unsigned least most) }
+
+-- an option `--name=T`, which may be left out
+abbrev pub option_rule : Text → Rule
+option_rule name = record (new_rule name) { long = Some name; value_names = 1 }
+
+-- a command with its words
+abbrev pub command : Text → List Rule → Shape
+command name words = record (new_shape name) { rules = words }
+
+-- a command on the log of a site, with its further words
+abbrev pub on_log : Text → List Rule → Shape
+on_log name words = command name (word_rule (codes "LOG") ∷ number_rule (codes "SITE") 1 most_sites ∷ words)
+
+abbrev pub bare_words : List Rule
+bare_words = number_rule (codes "STEPS") 0 most_read_steps ∷ []
+
+abbrev pub init_words : List Rule
+init_words = word_rule (codes "DOMAIN") ∷ word_rule (codes "PLAN") ∷ []
+
+abbrev pub add_words : List Rule
+add_words = word_rule (codes "FROM") ∷ word_rule (codes "TO") ∷ option_rule (codes "lo") ∷ option_rule (codes "hi") ∷ []
+
+abbrev pub withdraw_words : List Rule
+withdraw_words = word_rule (codes "ID") ∷ []
+
+abbrev pub done_words : List Rule
+done_words = word_rule (codes "EVENT") ∷ word_rule (codes "TIME") ∷ []
+
+abbrev pub merge_words : List Rule
+merge_words = word_rule (codes "OTHER") ∷ []
+
+abbrev pub next_words : List Rule
+next_words = word_rule (codes "NOW") ∷ []
+
+abbrev pub serve_words : List Rule
+serve_words = word_rule (codes "ADDR") ∷ number_rule (codes "COUNT") 1 most_connections ∷ []
+
+abbrev pub send_words : List Rule
+send_words = word_rule (codes "ADDR") ∷ []
+
+-- all the commands
+abbrev pub commands : List Shape
+commands = command (codes "run") []
+    ∷ on_log (codes "bare") bare_words
+    ∷ on_log (codes "init") init_words
+    ∷ on_log (codes "add") add_words
+    ∷ on_log (codes "withdraw") withdraw_words
+    ∷ on_log (codes "done") done_words
+    ∷ on_log (codes "merge") merge_words
+    ∷ on_log (codes "report") []
+    ∷ on_log (codes "next") next_words
+    ∷ on_log (codes "serve") serve_words
+    ∷ on_log (codes "send") send_words
+    ∷ []
+
+-- the program: help and the version are flags, and one of the commands has to be named
+abbrev pub top : App
+top = record {
+  top = record (new_shape (codes "stn")) {
+    disable_help_subcommand = true;
+    has_version = true;
+    arg_required_else_help = true;
+    subcommand_required = true;
+  };
+  subs = [];
+}
+
+unfoldable pub stn : App
+stn = record { top = record top.top { is_leaf = false }; subs = commands }
+
+-- clap reads the command's words by this shape
+pub record Reads (shape : Shape) (command : Command) : Type 0 where
+  pub is : shape_of command ≡ shape
+  pub own : (fields_of command).has_globals ≡ false

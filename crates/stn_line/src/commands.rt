@@ -1,0 +1,233 @@
+ghost use Rattle.std.specs.Prelude.{◌≡◌, false, codes, IfOk, [], ◌∷◌};
+ghost use Rattle.clap.specs.Words.{app_of, rule_of};
+ghost use Rattle.stn_line.specs.Commands as spec;
+
+use crate::help::REFUSALS;
+use clap::builder::ValueParser;
+use clap::{Arg, Command};
+use std::alloc::{AllocError, Global};
+use stn_records::MOST_SITES;
+
+// The number of steps of a bare plan is read up to this.
+const MOST_READ_STEPS: u64 = 65_535;
+
+// So many connections are served in turn at most.
+const MOST_CONNECTIONS: u64 = 1_000;
+
+/// The program with all its commands, and their help.
+pub(crate) fn stn<'a>(alloc: Global) -> Result<Command<'a>, AllocError>
+    ensures app { IfOk result (λ command. app_of command ≡ spec.stn) }
+{
+    top(alloc)
+        .subcommand(run(alloc))?
+        .subcommand(bare(alloc)?)?
+        .subcommand(init(alloc)?)?
+        .subcommand(add(alloc)?)?
+        .subcommand(withdraw(alloc)?)?
+        .subcommand(done(alloc)?)?
+        .subcommand(merge(alloc)?)?
+        .subcommand(report(alloc)?)?
+        .subcommand(next(alloc)?)?
+        .subcommand(serve(alloc)?)?
+        .subcommand(send(alloc)?)
+}
+
+// The program before its commands are added.
+fn top<'a>(alloc: Global) -> Command<'a>
+    ensures app { app_of result ≡ spec.top }
+{
+    Command::new(alloc, "stn")
+        .about(
+            "Keeps one timed plan at several sites, and answers with each event's window of times",
+        )
+        .after_help(REFUSALS)
+        .version("0.1.0")
+        .arg_required_else_help(true)
+        .subcommand_required(true)
+        .disable_help_subcommand(true)
+}
+
+fn run<'a>(alloc: Global) -> Command<'a>
+    ensures is { spec.Reads (spec.command (codes "run") []) result }
+{
+    Command::new(alloc, "run").about("Runs a script from standard input to standard output")
+}
+
+fn bare<'a>(alloc: Global) -> Result<Command<'a>, AllocError>
+    ensures is { IfOk result (spec.Reads (spec.on_log (codes "bare") spec.bare_words)) }
+{
+    let steps = number(
+        alloc,
+        "STEPS",
+        "How many steps, each with a start and an end",
+        0,
+        MOST_READ_STEPS,
+    );
+    on_log(
+        alloc,
+        "bare",
+        "Makes the log of a plan of so many steps that no bound ties",
+    )?
+    .arg(steps)
+}
+
+fn init<'a>(alloc: Global) -> Result<Command<'a>, AllocError>
+    ensures is { IfOk result (spec.Reads (spec.on_log (codes "init") spec.init_words)) }
+{
+    let domain = word(
+        alloc,
+        "DOMAIN",
+        "The file of the domain: durative actions in PDDL",
+    );
+    let plan = word(
+        alloc,
+        "PLAN",
+        "The file of the plan: lines as `0.000: (action a b) [5.000]`",
+    );
+    on_log(alloc, "init", "Makes the log of a plan over a domain")?
+        .arg(domain)?
+        .arg(plan)
+}
+
+fn add<'a>(alloc: Global) -> Result<Command<'a>, AllocError>
+    ensures is { IfOk result (spec.Reads (spec.on_log (codes "add") spec.add_words)) }
+{
+    let from = word(alloc, "FROM", "The event to count from: `z`, `s1`, `e1`");
+    let to = word(alloc, "TO", "The event to count to");
+    let lo = option(alloc, "lo", "TO comes at least so many seconds after FROM");
+    let hi = option(alloc, "hi", "TO comes at most so many seconds after FROM");
+    on_log(
+        alloc,
+        "add",
+        "Adds a bound on the time from one event to another",
+    )?
+    .arg(from)?
+    .arg(to)?
+    .arg(lo)?
+    .arg(hi)
+}
+
+fn withdraw<'a>(alloc: Global) -> Result<Command<'a>, AllocError>
+    ensures is { IfOk result (spec.Reads (spec.on_log (codes "withdraw") spec.withdraw_words)) }
+{
+    let id = word(alloc, "ID", "The id that `add` or `done` printed, as `1.2`");
+    on_log(alloc, "withdraw", "Withdraws a record for good")?.arg(id)
+}
+
+fn done<'a>(alloc: Global) -> Result<Command<'a>, AllocError>
+    ensures is { IfOk result (spec.Reads (spec.on_log (codes "done") spec.done_words)) }
+{
+    let event = word(alloc, "EVENT", "The event that took place: `s1`, `e1`");
+    let time = word(
+        alloc,
+        "TIME",
+        "When it took place, in seconds after the origin",
+    );
+    on_log(alloc, "done", "Records that an event took place")?
+        .arg(event)?
+        .arg(time)
+}
+
+fn merge<'a>(alloc: Global) -> Result<Command<'a>, AllocError>
+    ensures is { IfOk result (spec.Reads (spec.on_log (codes "merge") spec.merge_words)) }
+{
+    let other = word(alloc, "OTHER", "Another site's log of the same plan");
+    on_log(alloc, "merge", "Takes all that another site's log holds")?.arg(other)
+}
+
+fn report<'a>(alloc: Global) -> Result<Command<'a>, AllocError>
+    ensures is { IfOk result (spec.Reads (spec.on_log (codes "report") [])) }
+{
+    on_log(
+        alloc,
+        "report",
+        "Prints each event's window of times, or the bounds that contradict each other",
+    )
+}
+
+fn next<'a>(alloc: Global) -> Result<Command<'a>, AllocError>
+    ensures is { IfOk result (spec.Reads (spec.on_log (codes "next") spec.next_words)) }
+{
+    let now = word(alloc, "NOW", "The time now, in seconds after the origin");
+    on_log(
+        alloc,
+        "next",
+        "Says which event is to take place next, and when",
+    )?
+    .arg(now)
+}
+
+fn serve<'a>(alloc: Global) -> Result<Command<'a>, AllocError>
+    ensures is { IfOk result (spec.Reads (spec.on_log (codes "serve") spec.serve_words)) }
+{
+    let address = word(
+        alloc,
+        "ADDR",
+        "The address to listen at, as `127.0.0.1:7000`",
+    );
+    let count = number(
+        alloc,
+        "COUNT",
+        "How many connections to serve, one after another",
+        1,
+        MOST_CONNECTIONS,
+    );
+    on_log(
+        alloc,
+        "serve",
+        "Exchanges records with the sites that connect",
+    )?
+    .arg(address)?
+    .arg(count)
+}
+
+fn send<'a>(alloc: Global) -> Result<Command<'a>, AllocError>
+    ensures is { IfOk result (spec.Reads (spec.on_log (codes "send") spec.send_words)) }
+{
+    let address = word(alloc, "ADDR", "The address at which the other site serves");
+    on_log(
+        alloc,
+        "send",
+        "Exchanges records with the site that serves at an address",
+    )?
+    .arg(address)
+}
+
+// A command on the log of a site.
+fn on_log<'a>(alloc: Global, name: &'a str, about: &'a str) -> Result<Command<'a>, AllocError>
+    ensures is { IfOk result (spec.Reads (spec.on_log name.entry.now [])) }
+{
+    let log = word(alloc, "LOG", "The file that holds what the site knows");
+    let site = number(
+        alloc,
+        "SITE",
+        "The number of the site, 1 to 64",
+        1,
+        u64::from(MOST_SITES),
+    );
+    Command::new(alloc, name).about(about).arg(log)?.arg(site)
+}
+
+// A word that has to be there.
+fn word<'a>(alloc: Global, name: &'a str, help: &'a str) -> Arg<'a>
+    ensures rule { rule_of result ≡ spec.word_rule name.entry.now }
+    ensures own { result.global ≡ false }
+{
+    Arg::new(alloc, name).required(true).help(help)
+}
+
+// A word that is a number from `least` to `most`.
+fn number<'a>(alloc: Global, name: &'a str, help: &'a str, least: u64, most: u64) -> Arg<'a>
+    ensures rule { rule_of result ≡ spec.number_rule name.entry.now least most }
+    ensures own { result.global ≡ false }
+{
+    word(alloc, name, help).value_parser(ValueParser::unsigned(least, most))
+}
+
+// An option with a time, `--name=T`.
+fn option<'a>(alloc: Global, name: &'a str, help: &'a str) -> Arg<'a>
+    ensures rule { rule_of result ≡ spec.option_rule name.entry.now }
+    ensures own { result.global ≡ false }
+{
+    Arg::new(alloc, name).long(name).value_name("T").help(help)
+}

@@ -1,0 +1,209 @@
+ghost use Rattle.std.specs.Prelude.{◌≡◌, ◌≤◌, IfErr, IfOk, IsSomeAnd, Some, [], ℕ, codes, map, option_map};
+ghost use Rattle.clap.specs.Words.{IsUnsignedIn, fault_of, first_of, found_of, rows_of, subcommand_of, subcommand_rows_of};
+ghost use Rattle.stn_line.specs.Commands.{most_connections, most_read_steps, stn as program};
+ghost use Rattle.stn_line.specs.Given.{HasWords, IsThere, IsThereOnLog, IsNumberThere};
+ghost use Rattle.stn_line.specs.Lines.{IsFaultOf, IsLineOf, IsNumber, IsOnLog, IsOption, IsWord};
+
+use crate::commands::stn;
+use crate::words::{Line, LineFault};
+use clap::ArgMatches;
+use clap::error::ErrorKind;
+use std::alloc::Global;
+use stn_records::Site;
+
+/// The command that the words ask for; the first word is the program's name. Where clap takes the
+/// words, only memory can fail.
+pub fn line<'a>(alloc: Global, words: &'a [&'a str]) -> Result<Line<'a>, LineFault>
+    ensures found { IfOk result (λ line. IsSomeAnd (subcommand_of program (map (λ word. word.now) words.entry.now))
+        (λ command. IsLineOf line command.0 command.1)) }
+    ensures taken { IfOk result (λ _. fault_of program (map (λ word. word.now) words.entry.now) ≡ []) }
+    ensures refused { IfErr result (λ fault. IsFaultOf fault (map (λ word. word.now) words.entry.now)) }
+{
+    match stn(alloc)?.try_get_matches_from(words) {
+        Ok(matches) => Ok(read(&matches)),
+        Err(error) if error.kind() == ErrorKind::OutOfMemory => Err(LineFault::Memory),
+        Err(error) => Err(LineFault::Words(error)),
+    }
+}
+
+// The command that accepted words name, with its words.
+fn read<'a>(matches: &ArgMatches<'a>) -> Line<'a>
+    requires { IsSomeAnd (subcommand_rows_of matches.now) (λ command. HasWords command.0 command.1) }
+    ensures { IsSomeAnd (subcommand_rows_of matches.now) (λ command. IsLineOf result command.0 command.1) }
+{
+    let (name, words) = matches.subcommand().unwrap();
+    match name {
+        "run" => Line::Run,
+        "bare" => bare(words),
+        "init" => init(words),
+        "add" => add(words),
+        "withdraw" => withdraw(words),
+        "done" => done(words),
+        "merge" => merge(words),
+        "report" => report(words),
+        "next" => next(words),
+        "serve" => serve(words),
+        _ => send(words),
+    }
+}
+
+fn bare<'a>(words: &ArgMatches<'a>) -> Line<'a>
+    requires log { IsThereOnLog (rows_of (found_of words.now)) }
+    requires steps { IsNumberThere (codes "STEPS") 0 most_read_steps (rows_of (found_of words.now)) }
+    ensures { IsLineOf result (codes "bare") (rows_of (found_of words.now)) }
+{
+    Line::Bare {
+        log: word(words, "LOG"),
+        site: site(words),
+        steps: number(words, "STEPS"),
+    }
+}
+
+fn init<'a>(words: &ArgMatches<'a>) -> Line<'a>
+    requires log { IsThereOnLog (rows_of (found_of words.now)) }
+    requires domain { IsThere (codes "DOMAIN") (rows_of (found_of words.now)) }
+    requires plan { IsThere (codes "PLAN") (rows_of (found_of words.now)) }
+    ensures { IsLineOf result (codes "init") (rows_of (found_of words.now)) }
+{
+    Line::Init {
+        log: word(words, "LOG"),
+        site: site(words),
+        domain: word(words, "DOMAIN"),
+        plan: word(words, "PLAN"),
+    }
+}
+
+fn add<'a>(words: &ArgMatches<'a>) -> Line<'a>
+    requires log { IsThereOnLog (rows_of (found_of words.now)) }
+    requires from { IsThere (codes "FROM") (rows_of (found_of words.now)) }
+    requires to { IsThere (codes "TO") (rows_of (found_of words.now)) }
+    ensures { IsLineOf result (codes "add") (rows_of (found_of words.now)) }
+{
+    Line::Add {
+        log: word(words, "LOG"),
+        site: site(words),
+        from: word(words, "FROM"),
+        to: word(words, "TO"),
+        lo: option(words, "lo"),
+        hi: option(words, "hi"),
+    }
+}
+
+fn withdraw<'a>(words: &ArgMatches<'a>) -> Line<'a>
+    requires log { IsThereOnLog (rows_of (found_of words.now)) }
+    requires id { IsThere (codes "ID") (rows_of (found_of words.now)) }
+    ensures { IsLineOf result (codes "withdraw") (rows_of (found_of words.now)) }
+{
+    Line::Withdraw {
+        log: word(words, "LOG"),
+        site: site(words),
+        id: word(words, "ID"),
+    }
+}
+
+fn done<'a>(words: &ArgMatches<'a>) -> Line<'a>
+    requires log { IsThereOnLog (rows_of (found_of words.now)) }
+    requires event { IsThere (codes "EVENT") (rows_of (found_of words.now)) }
+    requires time { IsThere (codes "TIME") (rows_of (found_of words.now)) }
+    ensures { IsLineOf result (codes "done") (rows_of (found_of words.now)) }
+{
+    Line::Done {
+        log: word(words, "LOG"),
+        site: site(words),
+        event: word(words, "EVENT"),
+        time: word(words, "TIME"),
+    }
+}
+
+fn merge<'a>(words: &ArgMatches<'a>) -> Line<'a>
+    requires log { IsThereOnLog (rows_of (found_of words.now)) }
+    requires other { IsThere (codes "OTHER") (rows_of (found_of words.now)) }
+    ensures { IsLineOf result (codes "merge") (rows_of (found_of words.now)) }
+{
+    Line::Merge {
+        log: word(words, "LOG"),
+        site: site(words),
+        other: word(words, "OTHER"),
+    }
+}
+
+fn report<'a>(words: &ArgMatches<'a>) -> Line<'a>
+    requires log { IsThereOnLog (rows_of (found_of words.now)) }
+    ensures { IsLineOf result (codes "report") (rows_of (found_of words.now)) }
+{
+    Line::Report {
+        log: word(words, "LOG"),
+        site: site(words),
+    }
+}
+
+fn next<'a>(words: &ArgMatches<'a>) -> Line<'a>
+    requires log { IsThereOnLog (rows_of (found_of words.now)) }
+    requires now { IsThere (codes "NOW") (rows_of (found_of words.now)) }
+    ensures { IsLineOf result (codes "next") (rows_of (found_of words.now)) }
+{
+    Line::Next {
+        log: word(words, "LOG"),
+        site: site(words),
+        now: word(words, "NOW"),
+    }
+}
+
+fn serve<'a>(words: &ArgMatches<'a>) -> Line<'a>
+    requires log { IsThereOnLog (rows_of (found_of words.now)) }
+    requires address { IsThere (codes "ADDR") (rows_of (found_of words.now)) }
+    requires count { IsNumberThere (codes "COUNT") 1 most_connections (rows_of (found_of words.now)) }
+    ensures { IsLineOf result (codes "serve") (rows_of (found_of words.now)) }
+{
+    Line::Serve {
+        log: word(words, "LOG"),
+        site: site(words),
+        address: word(words, "ADDR"),
+        count: number(words, "COUNT"),
+    }
+}
+
+fn send<'a>(words: &ArgMatches<'a>) -> Line<'a>
+    requires log { IsThereOnLog (rows_of (found_of words.now)) }
+    requires address { IsThere (codes "ADDR") (rows_of (found_of words.now)) }
+    ensures { IsLineOf result (codes "send") (rows_of (found_of words.now)) }
+{
+    Line::Send {
+        log: word(words, "LOG"),
+        site: site(words),
+        address: word(words, "ADDR"),
+    }
+}
+
+// The value of a word that is there.
+fn word<'a>(words: &ArgMatches<'a>, name: &str) -> &'a str
+    requires { IsThere name.now (rows_of (found_of words.now)) }
+    ensures { IsWord name.now result (rows_of (found_of words.now)) }
+{
+    words.get_str(name).unwrap()
+}
+
+// The value of an option, where it is given.
+fn option<'a>(words: &ArgMatches<'a>, name: &str) -> Option<&'a str>
+    ensures { IsOption name.now result (rows_of (found_of words.now)) }
+{
+    words.get_str(name)
+}
+
+// The site of the log.
+fn site(words: &ArgMatches<'_>) -> Site
+    requires { IsThereOnLog (rows_of (found_of words.now)) }
+    ensures { IsNumber (codes "SITE") result (rows_of (found_of words.now)) }
+{
+    Site::new(number(words, "SITE") as u8).unwrap()
+}
+
+// The number that the digits of a word are.
+fn number(words: &ArgMatches<'_>, name: &str) -> u16
+    requires { IsNumberThere name.now 0 most_read_steps (rows_of (found_of words.now)) }
+    ensures value { IsNumber name.now result (rows_of (found_of words.now)) }
+    ensures within { (least most : ℕ) → IsNumberThere name.now least most (rows_of (found_of words.now))
+        → (least ≤ result) × (result ≤ most) }
+{
+    words.get_str(name).unwrap().parse().unwrap()
+}

@@ -1,0 +1,65 @@
+-- What a rehearsal of all bounds says of a replica's plan.
+use Rattle.std.proofs.Common.{◌≡◌, ℕ, ℤ, true, false, ◌+◌, ◌≤◌, Bool, List, length, get_or, take, not, ap, ◌∙◌, arith, get_or-take}
+use Rattle.std.proofs.lemmas.Bool.{false≢true}
+use Rattle.std.proofs.lemmas.Int.{ints}
+use Rattle.std.proofs.lemmas.List.Elements.{All-filter}
+use Rattle.std.proofs.lemmas.List.FromFn.{fill_by_all}
+use Rattle.std.specs.FinMap.{entries, contains_key}
+use Rattle.stn_net.specs.Difference.{Difference}
+use Rattle.stn_net.specs.Schedule.{IsSchedule, Meets}
+use Rattle.stn_lift.specs.PlanSource.{PlanSource, base_bounds, events_of}
+use Rattle.stn_records.specs.Id.{SiteCounter}
+use Rattle.stn_records.specs.Record.{IsProper, is_done as marks_done}
+use Rattle.stn_records.specs.declared.record.Mark.{Mark}
+use Rattle.stn_records.specs.declared.record.Mark.TheVariants.{Plain, Done}
+use Rattle.stn_records.specs.declared.record.Record.{Record}
+use Rattle.stn_records.specs.Content.{Content, AllProper, live_of}
+use Rattle.stn_records.specs.ContentLaws.{ids_total, ids_exact}
+use Rattle.stn_replica.specs.Bounds.{all_bounds, live_bounds}
+use Rattle.stn_replica.specs.Report.{is_done}
+use Rattle.stn_windows.specs.Dispatch.{CanWaitUntil}
+use Rattle.stn_windows.specs.Rehearsal.{IsRehearsal, NeverFalls, RunsEachOnce, HasScheduleThrough}
+use Rattle.stn_replica.specs.Dispatch.{done_events, KeepsRecorded, IsRestOfPlan}
+use Rattle.stn_replica.proofs.Entries.{entries_from_get}
+use Rattle.stn_replica.proofs.Live.{records_from_bounds}
+use Rattle.stn_replica.proofs.Schedules.{met_behind}
+
+-- the flags of the plan's events say which of them are done
+pub flags_are_done : (source : PlanSource) (state : Content) (events : ℕ) (flags given : List Bool) → events ≡ events_of source → given ≡ take (events + 1) flags → length given ≡ events + 1
+    → ((event : ℕ) → event ≤ events → get_or flags event false ≡ is_done state event) → given ≡ done_events source state
+flags_are_done source state events flags given same is one_each says =
+    rw (← same) (fill_by_all (is_done state) given (events + 1) false one_each
+    (λ k below. ap (λ (xs : List Bool). get_or xs k false) is ∙ get_or-take (events + 1) flags k false below ∙ says k (omega arith)))
+
+-- a Done record fixes its event
+fixes : (mark : Mark) (bound : Difference) → marks_done mark ≡ true → IsProper mark bound → (bound.from ≡ 0) × (bound.lo ≡ bound.hi)
+fixes Plain bound done proper = absurd (false≢true done)
+fixes Done bound done proper = proper
+
+-- in a schedule of all bounds each event that is recorded as done takes its recorded time
+pub keeps_recorded : (source : PlanSource) (state : Content) (times : ℕ → ℤ) → AllProper state.additions → IsSchedule (all_bounds source state) times → KeepsRecorded state times
+keeps_recorded source state times all_proper schedule = λ k d h done.
+    let entry = get_or (live_of state) k d in
+    let met = records_from_bounds (Meets times) (live_of state) (met_behind (base_bounds source) (live_bounds state) times schedule) k d h in
+    let proper = All-filter (λ (e : SiteCounter × Record). not (contains_key state.tombstones e.0)) (λ e. IsProper e.1.mark e.1.bound) (entries state.additions)
+    (entries_from_get ids_total ids_exact state.additions (λ e. IsProper e.1.mark e.1.bound) all_proper) k d h in
+    let fixed = fixes entry.1.mark entry.1.bound done proper in
+    let from = ap times fixed.0 in
+    let sides = fixed.1 in
+    let origin = schedule.origin in
+    omega (arith, ints)
+
+-- a rehearsal of all bounds is the rest of the plan
+pub rest_of_plan : (source : PlanSource) (state : Content) (now : ℤ) (runs : List (ℤ × ℕ)) → AllProper state.additions
+    → IsRehearsal (all_bounds source state) (done_events source state) now runs → RunsEachOnce (done_events source state) runs → NeverFalls now runs
+    → CanWaitUntil (all_bounds source state) (done_events source state) now → HasScheduleThrough (all_bounds source state) runs → IsRestOfPlan source state now runs
+rest_of_plan source state now runs all_proper rehearsal once rising in_time through = record {
+  rehearsal = rehearsal;
+  once = once;
+  rising = rising;
+  in_time = in_time;
+  times = through.0;
+  schedule = through.1;
+  running = through.2;
+  recorded = keeps_recorded source state through.0 all_proper through.1;
+}

@@ -1,0 +1,83 @@
+use Rattle.std.proofs.Common.{◌≡◌, false, refl, sym, ap, subst, ◌∙◌, arith}
+use Rattle.std.proofs.lemmas.Result.{err_from_is_err_and}
+use Rattle.std.specs.Rc.{rc_value}
+use Rattle.stn_net.specs.Difference.{NamesEvents}
+use Rattle.stn_lift.specs.PlanSource.{events_of}
+use Rattle.stn_records.specs.Id.{SiteCounter}
+use Rattle.stn_records.specs.Content.{is_known}
+use Rattle.stn_replica.specs.Held.{Held}
+use Rattle.std.specs.Prelude.{unwrap_or}
+use Rattle.stn_replica.specs.declared.faults.ReplicaFault.TheVariants.{Memory}
+use Rattle.stn_replica.proofs.Refused.{next_fault, next_free, next_spent}
+use Rattle.stn_replica.proofs.Sound.{held_is, tightened_steps, sound_added, sound_in_conflict, spares_added, not_past, ok_not_err}
+use Rattle.stn_replica.proofs.replica.Replica.hold.Goals as goal
+use Rattle.stn_replica.proofs.replica.Replica.hold.Goals.{then-self, else-self}
+
+pub invariant_of-self-then-self : goal.invariant_of-self-then-self
+invariant_of-self-then-self g c =
+    let id : SiteCounter = record { site = c.self.inside.site; counter = c.in_ok-counter.counter } in
+    let is : c.unwrap-id.result ≡ id = held_is c.new.result c.unwrap-id.result id c.unwrap-id.ensures c.new.ensures.value in
+    let unknown : is_known c.self.inside.records c.unwrap-id.result ≡ false = subst (λ i. is_known c.self.inside.records i ≡ false) (sym is) c.in_ok-counter.ensures.new in
+    let named = subst (λ (h : Held). NamesEvents (events_of h.source) c.args.bound) (sym c.self.view_is) c.requires.named in
+    let steps = tightened_steps c.self.inside.current c.tighten-self-inside.new.self c.tighten-self-inside.result c.self.invariant.counted c.tighten-self-inside.ensures.unchanged c.tighten-self-inside.ensures.counted in
+    rw c.in_ok-add.ensures.added
+    (sound_added (rc_value c.self.inside.base) c.self.inside.records c.self.inside.opening c.self.inside.current c.tighten-self-inside.new.self c.self.inside.possible c.tighten-self-inside.result
+    c.unwrap-id.result _ c.self.invariant c.if-self.true unknown named
+    c.tighten-self-inside.ensures.possible c.tighten-self-inside.ensures.exact c.tighten-self-inside.ensures.events steps.2)
+
+pub invariant_of-self-else-self : goal.invariant_of-self-else-self
+invariant_of-self-else-self g c =
+    let id : SiteCounter = record { site = c.self.inside.site; counter = c.in_ok-counter.counter } in
+    let is : c.unwrap-id.result ≡ id = held_is c.new.result c.unwrap-id.result id c.unwrap-id.ensures c.new.ensures.value in
+    let unknown : is_known c.self.inside.records c.unwrap-id.result ≡ false = subst (λ i. is_known c.self.inside.records i ≡ false) (sym is) c.in_ok-counter.ensures.new in
+    let named = subst (λ (h : Held). NamesEvents (events_of h.source) c.args.bound) (sym c.self.view_is) c.requires.named in
+    rw c.in_ok-add.ensures.added
+    (sound_in_conflict (rc_value c.self.inside.base) c.self.inside.records c.self.inside.opening c.self.inside.current c.self.inside.possible
+    c.unwrap-id.result _ c.self.invariant c.if-self.false unknown named)
+
+pub returns-clause-work : goal.returns-clause-work
+returns-clause-work g c =
+    let id : SiteCounter = record { site = c.self.inside.site; counter = c.in_ok-counter.counter } in
+    let is : c.unwrap-id.result ≡ id = held_is c.new.result c.unwrap-id.result id c.unwrap-id.ensures c.new.ensures.value in
+    let unknown : is_known c.self.inside.records c.unwrap-id.result ≡ false = subst (λ i. is_known c.self.inside.records i ≡ false) (sym is) c.in_ok-counter.ensures.new in
+    elim c.if-self.branch [
+      | then-self w ↦
+          let steps = tightened_steps c.self.inside.current w.tighten-self-inside.new.self w.tighten-self-inside.result c.self.invariant.counted w.tighten-self-inside.ensures.unchanged w.tighten-self-inside.ensures.counted in
+          let before = ap (λ (h : Held). h.steps) c.self.view_is in
+          let after = ap (λ (h : Held). h.steps) w.self-is in
+          spares_added c.args.self.now c.if-self.self c.self.inside.records c.unwrap-id.result (record { mark = c.args.mark; bound = c.args.bound }) unknown
+          (ap (λ (h : Held). h.state) (sym c.self.view_is)) (ap (λ (h : Held). h.state) w.self-is ∙ c.in_ok-add.ensures.added)
+          (omega (arith, steps.0, before, after)) (omega (arith, steps.1, before, after))
+      | else-self w ↦
+          let before = ap (λ (h : Held). h.steps) c.self.view_is in
+          let after = ap (λ (h : Held). h.steps) w.self-is in
+          spares_added c.args.self.now c.if-self.self c.self.inside.records c.unwrap-id.result (record { mark = c.args.mark; bound = c.args.bound }) unknown
+          (ap (λ (h : Held). h.state) (sym c.self.view_is)) (ap (λ (h : Held). h.state) w.self-is ∙ c.in_ok-add.ensures.added)
+          (omega (arith, before, after)) (omega (arith, before, after))
+    ]
+
+pub returns-clause-accepted : goal.returns-clause-accepted
+returns-clause-accepted g c =
+    let id : SiteCounter = record { site = c.self.inside.site; counter = c.in_ok-counter.counter } in
+    let is : c.unwrap-id.result ≡ id = held_is c.new.result c.unwrap-id.result id c.unwrap-id.ensures c.new.ensures.value in
+    let unknown : is_known c.self.inside.records c.unwrap-id.result ≡ false = subst (λ i. is_known c.self.inside.records i ≡ false) (sym is) c.in_ok-counter.ensures.new in
+    let held : Held = record { site = c.self.inside.site; source = rc_value c.self.inside.base; state = c.self.inside.records; steps = c.self.inside.current.steps } in
+    rw (← c.self.view_is)
+    (next_free held (not_past _ c.in_ok-counter.ensures.spent.1) (λ e. ok_not_err _ _ (c.in_ok-add.ensures.full.1 (unknown, e))))
+
+pub returns-in_err-counter-clause-fault : goal.returns-in_err-counter-clause-fault
+returns-in_err-counter-clause-fault g c =
+    let p = err_from_is_err_and c.from_residual.result c.from_residual.ensures.1 in
+    let held : Held = record { site = c.self.inside.site; source = rc_value c.self.inside.base; state = c.self.inside.records; steps = c.self.inside.current.steps } in
+    rw (p.1, p.2, ← c.self.view_is) (ap (λ o. unwrap_or o Memory) (sym (next_spent held (c.in_err-counter.ensures.spent.0 refl))))
+
+pub returns-in_err-add-clause-fault : goal.returns-in_err-add-clause-fault
+returns-in_err-add-clause-fault g c =
+    let p = err_from_is_err_and c.from_residual-in_err-add.result c.from_residual-in_err-add.ensures.1 in
+    let id : SiteCounter = record { site = c.self.inside.site; counter = c.in_ok-counter.counter } in
+    let is : c.unwrap-id.result ≡ id = held_is c.new.result c.unwrap-id.result id c.unwrap-id.ensures c.new.ensures.value in
+    let unknown : is_known c.self.inside.records c.unwrap-id.result ≡ false = subst (λ i. is_known c.self.inside.records i ≡ false) (sym is) c.in_ok-counter.ensures.new in
+    let held : Held = record { site = c.self.inside.site; source = rc_value c.self.inside.base; state = c.self.inside.records; steps = c.self.inside.current.steps } in
+    rw (p.1, p.2, ← c.self.view_is)
+    (next_fault held (record { mark = c.args.mark; bound = c.args.bound }) c.unwrap-id.result c.in_err-add.field-0.0 (not_past _ c.in_ok-counter.ensures.spent.1) unknown
+    c.in_err-add.ensures.clash c.in_err-add.ensures.refused c.in_err-add.ensures.full)

@@ -1,0 +1,15 @@
+use Rattle.std.proofs.Common.{◌≡◌, arith}
+use Rattle.stn_replica.specs.Bounds.{all_bounds}
+use Rattle.stn_replica.specs.Dispatch.{done_events}
+use Rattle.stn_replica.proofs.Rest.{flags_are_done}
+use Rattle.stn_replica.proofs.replica.Replica.next.Goals as goal
+
+pub returns : goal.returns
+returns g c =
+    let source = c.args.self.now.source in
+    let state = c.args.self.now.state in
+    let exact = c.in_ok-matrix.ensures.exact in
+    let done : c.flags_of.result.now ≡ done_events source state =
+    flags_are_done source state c.in_ok-matrix.matrix.now.events c.done_flags-flags.result c.flags_of.result.now c.in_ok-matrix.ensures.events c.flags_of.ensures.value c.flags_of.ensures.one_each
+    (λ event within. c.done_flags-flags.ensures.done event (omega (arith, c.flags_of.ensures.few))) in
+    (exact.possible, rw done at (c.next.ensures.next (all_bounds source state) exact))

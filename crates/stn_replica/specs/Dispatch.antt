@@ -1,0 +1,31 @@
+-- The rest of a replica's plan: which events are done, and the runs of those that are left.
+use Rattle.std.specs.Prelude.{◌≡◌, ℕ, ℤ, true, ◌+◌, Bool, List, map, All}
+use Rattle.std.specs.List.{range_with_len}
+use Rattle.stn_net.specs.Schedule.{IsSchedule}
+use Rattle.stn_windows.specs.Dispatch.{CanWaitUntil}
+use Rattle.stn_windows.specs.Rehearsal.{IsRehearsal, NeverFalls, RunsEachOnce}
+use Rattle.stn_lift.specs.PlanSource.{PlanSource, events_of}
+use Rattle.stn_records.specs.Record.{is_done as marks_done}
+use Rattle.stn_records.specs.Content.{Content, live_of}
+use Rattle.stn_replica.specs.Bounds.{all_bounds}
+use Rattle.stn_replica.specs.Report.{is_done}
+
+-- for each event of the plan, the origin first, whether some live record says that it is done
+abbrev pub done_events : PlanSource → Content → List Bool
+done_events source state = map (is_done state) (range_with_len 0 (events_of source + 1))
+
+-- the times have each event that a live record says is done at its recorded time
+abbrev pub KeepsRecorded : Content → (ℕ → ℤ) → Type 0
+KeepsRecorded state times = All (λ entry. marks_done entry.1.mark ≡ true → times entry.1.bound.to ≡ entry.1.bound.lo) (live_of state)
+
+-- the runs are the rest of the plan from now on: the rehearsal of all bounds, in which each event that is not done runs once, at times
+-- that never fall; and some schedule has each run's event at its time, and each done event at its recorded time
+pub record IsRestOfPlan (source : PlanSource) (state : Content) (now : ℤ) (runs : List (ℤ × ℕ)) : Type 0 where
+  pub rehearsal : IsRehearsal (all_bounds source state) (done_events source state) now runs
+  pub once : RunsEachOnce (done_events source state) runs
+  pub rising : NeverFalls now runs
+  pub in_time : CanWaitUntil (all_bounds source state) (done_events source state) now
+  pub times : ℕ → ℤ
+  pub schedule : IsSchedule (all_bounds source state) times
+  pub running : All (λ run. times run.1 ≡ run.0) runs
+  pub recorded : KeepsRecorded state times

@@ -1,0 +1,62 @@
+ghost use Rattle.std.specs.Prelude.{◌≡◌, ◌+◌, ◌≤◌, length, take, IfOk, IfErr, MatchOption};
+ghost use Rattle.stn_net.specs.Event.{most_events};
+ghost use Rattle.stn_net.specs.Schedule.{HasSchedule};
+ghost use Rattle.stn_windows.specs.Dispatch.{IsNext};
+ghost use Rattle.stn_windows.specs.Rehearsal.{IsRehearseFault};
+ghost use Rattle.stn_replica.specs.Bounds.{all_bounds};
+ghost use Rattle.stn_replica.specs.Dispatch.{done_events, IsRestOfPlan};
+
+use crate::done::EVENT_FLAGS;
+use crate::replica::Replica;
+use std::alloc::Allocator;
+use stn_matrix::Matrix;
+use stn_net::Event;
+use stn_time::Ms;
+use stn_windows::{Next, RehearseFault, next, rehearse};
+
+impl<A: Allocator + Copy> Replica<A> {
+    /// What comes next from now on, by all bounds; an event is done where a live record says so. None
+    /// where all bounds have no schedule. It asks for no memory.
+    pub fn next(&self, now: Ms) -> Option<Next>
+        ensures { MatchOption result (HasSchedule (all_bounds self.now.source self.now.state) → ⊥)
+            (λ answer. HasSchedule (all_bounds self.now.source self.now.state)
+            × IsNext (all_bounds self.now.source self.now.state) (done_events self.now.source self.now.state) now answer) }
+    {
+        let matrix = self.current()?;
+        let flags = self.done_flags();
+        Some(next(matrix, flags_of(&flags, matrix), now))
+    }
+
+    /// The rest of the plan from now on, by all bounds: each event that is not done and the time at
+    /// which it runs. None where all bounds have no schedule.
+    ///
+    /// Refused in this order: `Overdue`, where every schedule has an event that is not done before
+    /// now; `Memory`.
+    pub fn rehearse(&self, now: Ms) -> Result<Option<Vec<(Ms, Event), A>>, RehearseFault>
+        ensures rest { IfOk result (λ found. MatchOption found (HasSchedule (all_bounds self.now.source self.now.state) → ⊥)
+            (λ runs. IsRestOfPlan self.now.source self.now.state now runs.items)) }
+        ensures fault { IfErr result (λ fault. HasSchedule (all_bounds self.now.source self.now.state)
+            × IsRehearseFault (all_bounds self.now.source self.now.state) (done_events self.now.source self.now.state) now fault) }
+    {
+        match self.current() {
+            Some(matrix) => {
+                let flags = self.done_flags();
+                let runs = rehearse(self.alloc(), matrix, flags_of(&flags, matrix), now)?;
+                Ok(Some(runs))
+            }
+            None => Ok(None),
+        }
+    }
+}
+
+// Those of the flags that are about the matrix's events.
+fn flags_of<'a, A: Allocator + Copy>(
+    flags: &'a [bool; EVENT_FLAGS],
+    matrix: &Matrix<A>,
+) -> &'a [bool]
+    ensures value { result.now ≡ take (matrix.now.events + 1) flags.now }
+    ensures one_each { length result.now ≡ matrix.now.events + 1 }
+    ensures few { matrix.now.events ≤ most_events }
+{
+    &flags[..usize::from(matrix.events()) + 1]
+}

@@ -1,0 +1,38 @@
+-- Frames with the same bodies are one.
+use Rattle.std.proofs.Common.{◌≡◌, ℕ, [], drop, get_or, refl, sym, ap, ◌∙◌, append-nil, arith}
+use Rattle.std.specs.FinMap.{entries, same_entries_map}
+use Rattle.stn_lift.specs.PlanSource.{PlanSource, bare, files}
+use Rattle.stn_records.specs.Content.{Content}
+use Rattle.stn_wire.specs.Spelling.{entry_bytes, IsEntry, tomb_bytes, IsTomb, counted, measured}
+use Rattle.stn_wire.specs.Apart.{two_apart, entry_apart, tomb_apart}
+use Rattle.stn_wire.specs.Frame.{FrameContent, hello, records, ask, text, refused, same, source_bytes, IsSaidSource, state_bytes, IsState, IsSaid, kind_of, body_of}
+use Rattle.stn_wire.proofs.Chunks.{counted_cut, measured_cut}
+
+pub source_apart : (a b : PlanSource) → IsSaidSource a → IsSaidSource b → source_bytes a ≡ source_bytes b → a ≡ b
+source_apart (bare m) (bare n) p q e = ap (λ n. bare n) (two_apart m n p q (ap (drop 1) e))
+source_apart (bare m) (files c d) p q e = let forms : ◌≡◌ {A = ℕ} 0 1 = ap (λ l. get_or l 0 0) e in absurd (omega arith)
+source_apart (files a b) (bare n) p q e = let forms : ◌≡◌ {A = ℕ} 1 0 = ap (λ l. get_or l 0 0) e in absurd (omega arith)
+source_apart (files a b) (files c d) p q e =
+    let first = measured_cut a c (measured b) (measured d) p.0 q.0 (ap (drop 1) e) in
+    let second = measured_cut b d [] [] p.1 q.1 (append-nil _ ∙ first.1 ∙ sym (append-nil _)) in
+    λ i. files (first.0 i) (second.0 i)
+
+pub state_apart : (a b : Content) → IsState a → IsState b → state_bytes a ≡ state_bytes b → a ≡ b
+state_apart a b p q e =
+    let first = counted_cut IsEntry entry_bytes 17 (λ _. refl) entry_apart (entries a.additions) (entries b.additions) (counted tomb_bytes (entries a.tombstones)) (counted tomb_bytes (entries b.tombstones)) p.additions q.additions e in
+    let second = counted_cut IsTomb tomb_bytes 4 (λ _. refl) tomb_apart (entries a.tombstones) (entries b.tombstones) [] [] p.tombstones q.tombstones (append-nil _ ∙ first.1 ∙ sym (append-nil _)) in
+    let additions = same_entries_map a.additions b.additions first.0 in
+    let tombstones = same_entries_map a.tombstones b.tombstones second.0 in
+    λ i. record { additions = additions i; tombstones = tombstones i }
+
+kinds_apart : (f g : FrameContent) → body_of f ≡ body_of g → kind_of f ≡ kind_of g
+kinds_apart f g e = ap (λ l. get_or l 0 0) e
+
+pub body_apart : (f g : FrameContent) → IsSaid f → IsSaid g → body_of f ≡ body_of g → f ≡ g
+body_apart (hello a) (hello b) p q e = ap (λ s. hello s) (source_apart a b p q (ap (drop 1) e))
+body_apart (records a) (records b) p q e = ap (λ s. records s) (state_apart a b p q (ap (drop 1) e))
+body_apart ask ask p q e = refl
+body_apart (text a) (text b) p q e = ap (λ l. text l) (ap (drop 1) e)
+body_apart (refused m) (refused n) p q e = ap (λ n. refused n) (ap (λ l. get_or l 1 0) e)
+body_apart same same p q e = refl
+body_apart f g p q e = let kinds = kinds_apart f g e in absurd (omega arith)

@@ -1,0 +1,159 @@
+-- Bytes have one front, and more bytes don't change a whole frame or a fault.
+use Rattle.std.proofs.Common.{◌≡◌, ℕ, ◌+◌, ◌-◌, ◌<◌, ◌≤◌, List, [], ◌∷◌, ◌++◌, length, take, drop, get_or, refl, sym, ap, subst, ◌∙◌, ⊎_elim, arith, length-append, length-take, length-drop, take-append-drop}
+use Rattle.std.proofs.lemmas.List.{take_at, drop_at, take-append-le, drop-append-le, get_or_append_left, get_or-take, get_or_past, take-take, drop-take}
+use Rattle.std.proofs.lemmas.Nat.{from_be_bytes-to_be_bytes_4, be_bytes_4}
+use Rattle.stn_wire.specs.Spelling.{four}
+use Rattle.stn_wire.specs.Frame.{FrameContent, hello, records, ask, text, refused, same, kind_of, body_of, spelling, IsFrame, IsSaid}
+use Rattle.stn_wire.specs.Front.{Front, whole, faulty, unfinished, announced, IsLength, IsKind, IsFront}
+use Rattle.stn_wire.specs.declared.fault.WireFault.{WireFault}
+use Rattle.stn_wire.specs.declared.fault.WireFault.TheVariants.{Length, Kind, Body, Memory}
+use Rattle.std.proofs.lemmas.Bool.{cases_lt}
+use Rattle.stn_wire.specs.Reading.{IsWanted}
+use Rattle.stn_wire.proofs.Bodies.{body_apart}
+
+-- the first four bytes alone say what is announced
+pub announced_front : (xs ys : List ℕ) → take 4 xs ≡ take 4 ys → announced xs ≡ announced ys
+announced_front xs ys e = first xs ∙ ap announced e ∙ sym (first ys)
+  where
+    first : (zs : List ℕ) → announced zs ≡ announced (take 4 zs)
+    first [] = refl
+    first (a ∷ []) = refl
+    first (a ∷ b ∷ []) = refl
+    first (a ∷ b ∷ c ∷ []) = refl
+    first (a ∷ b ∷ c ∷ d ∷ zs) = refl
+
+kinds_known : (frame : FrameContent) → IsKind (kind_of frame)
+kinds_known (hello source) = (omega arith, omega arith)
+kinds_known (records state) = (omega arith, omega arith)
+kinds_known ask = (omega arith, omega arith)
+kinds_known (text bytes) = (omega arith, omega arith)
+kinds_known (refused code) = (omega arith, omega arith)
+kinds_known same = (omega arith, omega arith)
+
+-- what the bytes of a whole frame show
+pub record Shown (bytes : List ℕ) (frame : FrameContent) (n : ℕ) : Type 0 where
+  pub long : n ≡ 4 + announced bytes
+  pub within : n ≤ length bytes
+  pub lasting : IsLength (announced bytes)
+  pub known : IsKind (get_or bytes 4 0)
+  pub body : take (announced bytes) (drop 4 bytes) ≡ body_of frame
+
+pub shown : (bytes : List ℕ) (frame : FrameContent) (n : ℕ) → IsFront bytes (whole frame n) → Shown bytes frame n
+shown bytes frame n h =
+    let body = body_of frame in
+    let long : n ≡ 4 + length body = omega (arith, ap length h.2, length-append (four (length body)) body, length-take n bytes, h.1) in
+    let first : take 4 bytes ≡ four (length body) = sym (take-take 4 n bytes (omega arith)) ∙ ap (take 4) h.2 in
+    let said : announced bytes ≡ length body = announced_front bytes (four (length body)) first ∙ from_be_bytes-to_be_bytes_4 (length body) (omega (arith, h.0.fits)) in
+    let behind : take (announced bytes) (drop 4 bytes) ≡ body = ap (λ k. take k (drop 4 bytes)) said ∙ sym (drop-take 4 (length body) bytes) ∙ ap (λ k. drop 4 (take k bytes)) (sym long) ∙ ap (drop 4) h.2 in
+    let first_byte : get_or bytes 4 0 ≡ kind_of frame = sym (get_or-take n bytes 4 0 (omega arith)) ∙ ap (λ l. get_or l 4 0) h.2 in
+    record {
+      long = omega arith;
+      within = h.1;
+      lasting = (omega arith, omega (arith, h.0.fits));
+      known = subst IsKind (sym first_byte) (kinds_known frame);
+      body = behind;
+    }
+
+-- unfinished bytes are no more than a frame has
+pub unfinished_short : (bytes : List ℕ) → IsFront bytes unfinished → IsLength (announced bytes) → 4 + announced bytes ≤ length bytes → ⊥
+unfinished_short bytes h long enough = ⊎_elim (λ few. omega (arith, long.0)) (λ more. ⊎_elim (λ four. omega (arith, long.0)) (λ less. omega (arith, less.1)) more.1) h
+
+unfinished_bodied : (bytes : List ℕ) → IsFront bytes unfinished → 4 ≤ length bytes → IsLength (announced bytes)
+unfinished_bodied bytes h long = ⊎_elim (λ few. absurd (omega arith)) (λ more. more.0) h
+
+unfinished_known : (bytes : List ℕ) → IsFront bytes unfinished → 5 ≤ length bytes → IsKind (get_or bytes 4 0)
+unfinished_known bytes h long = ⊎_elim (λ few. absurd (omega arith)) (λ more. ⊎_elim (λ four. absurd (omega arith)) (λ less. less.0) more.1) h
+
+pub one_front_lem : (bytes : List ℕ) (a b : Front) → IsFront bytes a → IsFront bytes b → a ≡ b
+one_front_lem bytes (whole f n) (whole g m) p q =
+    let ours = shown bytes f n p in
+    let theirs = shown bytes g m q in
+    let frames = body_apart f g p.0.said q.0.said (sym ours.body ∙ theirs.body) in
+    let lengths : n ≡ m = ours.long ∙ sym theirs.long in
+    λ i. whole (frames i) (lengths i)
+one_front_lem bytes (whole f n) (faulty Length) p q = absurd (q.1 (shown bytes f n p).lasting)
+one_front_lem bytes (whole f n) (faulty Kind) p q = absurd (q.2 (shown bytes f n p).known)
+one_front_lem bytes (whole f n) (faulty Body) p q = absurd (q.3 f p.0 (shown bytes f n p).body)
+one_front_lem bytes (whole f n) unfinished p q = let s = shown bytes f n p in absurd (unfinished_short bytes q s.lasting (omega (arith, s.long, s.within)))
+one_front_lem bytes (faulty Length) (whole g m) p q = absurd (p.1 (shown bytes g m q).lasting)
+one_front_lem bytes (faulty Length) (faulty Length) p q = refl
+one_front_lem bytes (faulty Length) (faulty Kind) p q = absurd (p.1 q.1)
+one_front_lem bytes (faulty Length) (faulty Body) p q = absurd (p.1 q.1)
+one_front_lem bytes (faulty Length) unfinished p q = absurd (p.1 (unfinished_bodied bytes q p.0))
+one_front_lem bytes (faulty Kind) (whole g m) p q = absurd (p.2 (shown bytes g m q).known)
+one_front_lem bytes (faulty Kind) (faulty Length) p q = absurd (q.1 p.1)
+one_front_lem bytes (faulty Kind) (faulty Kind) p q = refl
+one_front_lem bytes (faulty Kind) (faulty Body) p q = absurd (p.2 q.2)
+one_front_lem bytes (faulty Kind) unfinished p q = absurd (p.2 (unfinished_known bytes q p.0))
+one_front_lem bytes (faulty Body) (whole g m) p q = absurd (p.3 g q.0 (shown bytes g m q).body)
+one_front_lem bytes (faulty Body) (faulty Length) p q = absurd (q.1 p.1)
+one_front_lem bytes (faulty Body) (faulty Kind) p q = absurd (q.2 p.2)
+one_front_lem bytes (faulty Body) (faulty Body) p q = refl
+one_front_lem bytes (faulty Body) unfinished p q = absurd (unfinished_short bytes q p.1 p.0)
+one_front_lem bytes unfinished (whole g m) p q = let s = shown bytes g m q in absurd (unfinished_short bytes p s.lasting (omega (arith, s.long, s.within)))
+one_front_lem bytes unfinished (faulty Length) p q = absurd (q.1 (unfinished_bodied bytes p q.0))
+one_front_lem bytes unfinished (faulty Kind) p q = absurd (q.2 (unfinished_known bytes p q.0))
+one_front_lem bytes unfinished (faulty Body) p q = absurd (unfinished_short bytes p q.1 q.0)
+one_front_lem bytes unfinished unfinished p q = refl
+one_front_lem bytes (faulty Memory) b p q = absurd p
+one_front_lem bytes a (faulty Memory) p q = absurd q
+
+-- a frame in front of its own spelling
+pub whole_spelled : (frame : FrameContent) (more : List ℕ) → IsFrame frame → IsFront (spelling frame ++ more) (whole frame (length (spelling frame)))
+whole_spelled frame more h = (h, omega (arith, length-append (spelling frame) more), take_at (spelling frame) more (length (spelling frame)) refl)
+
+same_whole : (f g : FrameContent) (m n : ℕ) → whole f m ≡ whole g n → (f ≡ g) × (m ≡ n)
+same_whole f g m n e = (cc, cc)
+
+pub one_spelling_lem : (f g : FrameContent) (x y : List ℕ) → IsFrame f → IsFrame g → spelling f ++ x ≡ spelling g ++ y → (f ≡ g) × (x ≡ y)
+one_spelling_lem f g x y p q e =
+    let ours = whole_spelled f x p in
+    let theirs = subst (λ l. IsFront l (whole g (length (spelling g)))) (sym e) (whole_spelled g y q) in
+    let both = same_whole f g (length (spelling f)) (length (spelling g)) (one_front_lem (spelling f ++ x) (whole f (length (spelling f))) (whole g (length (spelling g))) ours theirs) in
+    (both.0, sym (drop_at (spelling f) x (length (spelling f)) refl) ∙ (λ i. drop (both.1 i) (e i)) ∙ drop_at (spelling g) y (length (spelling g)) refl)
+
+-- a whole body that is a frame's stands in front
+pub whole_read : (bytes : List ℕ) (frame : FrameContent) (n : ℕ) → ((i : ℕ) → get_or bytes i 0 < 256) → IsWanted bytes n → n ≤ length bytes → IsSaid frame → take (n - 4) (drop 4 bytes) ≡ body_of frame → IsFront bytes (whole frame n)
+whole_read bytes frame n small wanted enough said is =
+    let least = wanted.least in
+    let long : 5 ≤ length bytes = omega arith in
+    let n-is = wanted.whole long in
+    let bounds = wanted.lasting (omega arith) in
+    let body-is : length (body_of frame) ≡ announced bytes = omega (arith, ap length is, length-take (n - 4) (drop 4 bytes), length-drop 4 bytes) in
+    let first_length : length (take 4 bytes) ≡ 4 = omega (arith, length-take 4 bytes) in
+    let first_small : (i : ℕ) → get_or (take 4 bytes) i 0 < 256 = λ i. ⊎_elim (λ lt. rw (get_or-take 4 bytes i 0 lt) (small i)) (λ le. rw (get_or_past (take 4 bytes) i 0 (omega arith)) (omega arith)) (cases_lt i 4) in
+    let first : four (announced bytes) ≡ take 4 bytes = be_bytes_4 (take 4 bytes) (announced bytes) first_length first_small (announced_front bytes (take 4 bytes) (sym (take-take 4 4 bytes (omega arith)))) in
+    let n-sum : n ≡ 4 + (n - 4) = omega arith in
+    let cut : take n bytes ≡ take 4 bytes ++ take (n - 4) (drop 4 bytes) =
+    sym (take-append-drop 4 (take n bytes)) ∙ (λ i. take-take 4 n bytes (omega arith) i ++ (ap (λ k. drop 4 (take k bytes)) n-sum ∙ drop-take 4 (n - 4) bytes) i) in (
+      record { said = said; fits = omega (arith, bounds.1) },
+      enough,
+      cut ∙ (λ i. (sym first ∙ ap four (sym body-is)) i ++ is i),
+    )
+
+-- ---- more bytes
+
+pub announced_more : (xs ys : List ℕ) → 4 ≤ length xs → announced (xs ++ ys) ≡ announced xs
+announced_more xs ys long = announced_front (xs ++ ys) xs (take-append-le 4 xs ys long)
+
+kind_more : (xs ys : List ℕ) → 5 ≤ length xs → get_or (xs ++ ys) 4 0 ≡ get_or xs 4 0
+kind_more xs ys long = get_or_append_left xs ys 0 4 (omega arith)
+
+pub whole_more : (xs ys : List ℕ) (frame : FrameContent) (n : ℕ) → IsFront xs (whole frame n) → IsFront (xs ++ ys) (whole frame n)
+whole_more xs ys frame n h = (h.0, omega (arith, length-append xs ys, h.1), take-append-le n xs ys h.1 ∙ h.2)
+
+pub fault_more : (xs ys : List ℕ) (fault : WireFault) → IsFront xs (faulty fault) → IsFront (xs ++ ys) (faulty fault)
+fault_more xs ys Length h = (omega (arith, length-append xs ys, h.0), λ l. h.1 (subst IsLength (announced_more xs ys h.0) l))
+fault_more xs ys Kind h =
+    let same = announced_more xs ys (omega (arith, h.0)) in
+    (omega (arith, length-append xs ys, h.0), subst IsLength (sym same) h.1, λ k. h.2 (subst IsKind (kind_more xs ys h.0) k))
+fault_more xs ys Body h =
+    let same = announced_more xs ys (omega (arith, h.0, h.1.0)) in
+    let body : take (announced (xs ++ ys)) (drop 4 (xs ++ ys)) ≡ take (announced xs) (drop 4 xs) =
+    ap (λ k. take k (drop 4 (xs ++ ys))) same ∙ ap (take (announced xs)) (drop-append-le 4 xs ys (omega (arith, h.0, h.1.0))) ∙ take-append-le (announced xs) (drop 4 xs) ys (omega (arith, length-drop 4 xs, h.0)) in (
+      omega (arith, length-append xs ys, same, h.0),
+      subst IsLength (sym same) h.1,
+      subst IsKind (sym (kind_more xs ys (omega (arith, h.0, h.1.0)))) h.2,
+      λ frame said is. h.3 frame said (sym body ∙ is),
+    )
+fault_more xs ys Memory h = absurd h

@@ -1,0 +1,7 @@
+pub mod Parts
+pub mod Chunks
+pub mod Bodies
+pub mod Fronts
+pub mod States
+pub mod Feeding
+pub mod Sources

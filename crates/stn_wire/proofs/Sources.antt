@@ -1,0 +1,35 @@
+-- Reading the two texts of a source.
+use Rattle.std.proofs.Common.{◌≡◌, ◌≢◌, ℕ, ◌<◌, ◌^◌, List, [], ◌∷◌, length, drop, get_or, Option, None, Some, sym, ap, ◌∙◌, arith, append-nil}
+use Rattle.stn_lift.specs.PlanSource.{PlanSource, bare, files}
+use Rattle.stn_wire.specs.Spelling.{measured}
+use Rattle.stn_wire.specs.Frame.{source_bytes, IsSaidSource}
+use Rattle.stn_wire.specs.Reading.{IsReading, measured_then}
+use Rattle.stn_wire.proofs.Chunks.{measured_cut}
+
+-- what is read as a text behind its length
+abbrev pub IsTextReading : List ℕ → Option (List ℕ × List ℕ) → Type 0
+IsTextReading = IsReading (λ found. length found.0 < 2 ^ 32) measured_then
+
+-- the texts of a source stand behind its form
+abbrev pub NoSource : List ℕ → Type 0
+NoSource texts = (source : PlanSource) → IsSaidSource source → (1 ∷ texts) ≢ source_bytes source
+
+bare_apart : (texts : List ℕ) (steps : ℕ) → (1 ∷ texts) ≢ source_bytes (bare steps)
+bare_apart texts steps is = let forms : ◌≡◌ {A = ℕ} 1 0 = ap (λ l. get_or l 0 0) is in absurd (omega arith)
+
+pub no_domain : (texts : List ℕ) → IsTextReading texts None → NoSource texts
+no_domain texts none (bare steps) said is = bare_apart texts steps is
+no_domain texts none (files domain plan) said is = none (domain, measured plan) said.0 (ap (drop 1) is)
+
+module _ (texts domain rest : List ℕ) (first : IsTextReading texts (Some (domain, rest))) where
+  behind_domain : (d p : List ℕ) → IsSaidSource (files d p) → (1 ∷ texts) ≡ source_bytes (files d p) → rest ≡ measured p
+  behind_domain d p said is = (measured_cut domain d rest (measured p) first.0 said.0 (sym first.1 ∙ ap (drop 1) is)).1
+
+  pub no_plan : IsTextReading rest None → NoSource texts
+  no_plan none (bare steps) said is = bare_apart texts steps is
+  no_plan none (files d p) said is = none (p, []) said.1 (behind_domain d p said is ∙ sym (append-nil (measured p)))
+
+  pub plan_and_more : (plan left : List ℕ) → IsTextReading rest (Some (plan, left)) → left ≢ [] → NoSource texts
+  plan_and_more plan left second more (bare steps) said is = bare_apart texts steps is
+  plan_and_more plan left second more (files d p) said is =
+      more (measured_cut plan p left [] second.0 said.1 (sym second.1 ∙ behind_domain d p said is ∙ sym (append-nil (measured p)))).1

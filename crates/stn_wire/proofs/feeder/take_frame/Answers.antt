@@ -1,0 +1,48 @@
+use Rattle.std.proofs.Common.{Err, IfSome, ap, subst}
+use Rattle.std.proofs.lemmas.Result.{err_from_is_err_and}
+use Rattle.stn_wire.specs.Feeder.{holding}
+use Rattle.stn_wire.specs.Frame.{content}
+use Rattle.stn_wire.specs.Front.{IsFront, whole, unfinished, answered}
+use Rattle.stn_wire.specs.Reading.{IsWanted, IsJudged}
+use Rattle.stn_wire.proofs.Feeding.{opening_err, filled_err, filled_whole, all_used, filled_is_all, filled_unfinished}
+use Rattle.stn_wire.proofs.feeder.take_frame.Goals as goal
+
+pub returns-in_err-length : goal.returns-in_err-length
+returns-in_err-length g c =
+    let p = err_from_is_err_and c.from_residual-in_err-length.result c.from_residual-in_err-length.ensures.1 in
+    let fault = c.in_err-length.field-0.0 in
+    let judged = subst (λ l. IsJudged l (Err fault)) c.deref.ensures.value c.in_err-length.ensures in
+    rw (p.1, p.2) (opening_err c.args.held.now.items c.args.piece.now c.requires c.in_ok-opening.opening c.in_ok-opening.ensures.taken c.fill.new.held.items c.in_ok-opening.ensures.filled g.row.A.Denot fault c.fill.new.held.items judged)
+
+pub returns-in_err-frame : goal.returns-in_err-frame
+returns-in_err-frame g c =
+    let p = err_from_is_err_and c.from_residual-in_err-frame.result c.from_residual-in_err-frame.ensures.1 in
+    let wants = subst (λ l. IsWanted l c.in_ok-length.length) c.deref.ensures.value c.in_ok-length.ensures in
+    let fault = c.in_err-frame.field-0.0 in
+    let found = subst (λ l. IfSome (answered {A = g.row.A.Denot} (Err fault)) (IsFront l)) c.deref-2.ensures.value c.in_err-frame.ensures in
+    rw (p.1, p.2) (filled_err c.args.held.now.items c.args.piece.now c.requires c.in_ok-opening.opening c.in_ok-opening.ensures.taken c.fill.new.held.items c.in_ok-opening.ensures.filled
+    c.in_ok-length.length wants c.in_ok-used.field-0 c.in_ok-used.ensures.taken c.fill-2.new.held.items c.in_ok-used.ensures.filled g.row.A.Denot fault found)
+
+pub returns-in-Some : goal.returns-in-Some
+returns-in-Some g c =
+    let wants = subst (λ l. IsWanted l c.in_ok-length.length) c.deref.ensures.value c.in_ok-length.ensures in
+    let read = rw c.in-Some.is at c.in_ok-frame.ensures in
+    let found = subst (λ l. IsFront l (whole (content c.in-Some.frame) c.in-Some.field-0-1)) c.deref-2.ensures.value read in (
+      filled_whole c.args.held.now.items c.args.piece.now c.requires c.in_ok-opening.opening c.in_ok-opening.ensures.taken c.fill.new.held.items c.in_ok-opening.ensures.filled
+          c.in_ok-length.length wants c.in_ok-used.field-0 c.in_ok-used.ensures.taken c.fill-2.new.held.items c.in_ok-used.ensures.filled (content c.in-Some.frame) c.in-Some.field-0-1 found,
+      ap holding c.clear.ensures.items,
+    )
+
+pub returns-in-None : goal.returns-in-None
+returns-in-None g c =
+    let wants = subst (λ l. IsWanted l c.in_ok-length.length) c.deref.ensures.value c.in_ok-length.ensures in
+    let read = rw c.in-None.is at c.in_ok-frame.ensures in
+    let found = subst (λ l. IsFront l unfinished) c.deref-2.ensures.value read in (
+      filled_unfinished c.args.held.now.items c.args.piece.now c.requires c.in_ok-opening.opening c.in_ok-opening.ensures.taken c.fill.new.held.items c.in_ok-opening.ensures.filled
+          c.in_ok-length.length wants c.in_ok-used.field-0 c.in_ok-used.ensures.taken c.fill-2.new.held.items c.in_ok-used.ensures.filled found,
+      all_used c.args.held.now.items c.args.piece.now c.requires c.in_ok-opening.opening c.in_ok-opening.ensures.taken c.fill.new.held.items c.in_ok-opening.ensures.filled
+          c.in_ok-length.length wants c.in_ok-used.field-0 c.in_ok-used.ensures.taken c.fill-2.new.held.items c.in_ok-used.ensures.filled found,
+      ap holding
+          (filled_is_all c.args.held.now.items c.args.piece.now c.requires c.in_ok-opening.opening c.in_ok-opening.ensures.taken c.fill.new.held.items c.in_ok-opening.ensures.filled
+          c.in_ok-length.length wants c.in_ok-used.field-0 c.in_ok-used.ensures.taken c.fill-2.new.held.items c.in_ok-used.ensures.filled found),
+    )

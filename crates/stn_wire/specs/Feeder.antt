@@ -1,0 +1,50 @@
+-- A stream of frames that comes in pieces.
+use Rattle.std.specs.Prelude.{◌≡◌, ◌≢◌, ℕ, ◌+◌, ◌≤◌, List, [], ◌++◌, take, length, Option, Some, None, Result, Ok, Err}
+use Rattle.stn_wire.specs.Frame.{content}
+use Rattle.stn_wire.specs.Front.{whole, faulty, unfinished, announced, IsFront}
+use Rattle.stn_wire.specs.declared.fault.WireFault.{WireFault}
+use Rattle.stn_wire.specs.declared.fault.WireFault.TheVariants.{Length, Kind, Body, Memory}
+use Rattle.stn_wire.specs.declared.feeder.Fed.{Fed}
+use Rattle.stn_wire.specs.declared.frame.Frame.{Frame}
+
+-- the bytes of an unfinished frame, or the fault that was met
+pub record FeederState : Type 0 where
+  pub held : List ℕ
+  pub broken : Option WireFault
+
+abbrev pub holding : List ℕ → FeederState
+holding bytes = record { held = bytes; broken = None }
+
+abbrev pub broken_by : WireFault → FeederState
+broken_by fault = record { held = []; broken = Some fault }
+
+-- with the bytes that were held, a piece and how many of its bytes were used: the first frame that they complete, and
+-- nothing is held; or none, and all is held
+abbrev pub IsTaken : {A : Type 0} → List ℕ → List ℕ → ℕ → Option (Frame A) → FeederState → Type 0
+IsTaken held piece used (Some frame) new = IsFront (held ++ piece) (whole (content frame) (length held + used)) × (new ≡ holding [])
+IsTaken held piece used None new = IsFront (held ++ piece) unfinished × (used ≡ length piece) × (new ≡ holding (held ++ piece))
+
+-- what a feed answers, and leaves: want of memory leaves all as it was, and a fault is kept
+abbrev pub IsFed : {A : Type 0} → List ℕ → List ℕ → Result (Fed A) WireFault → FeederState → Type 0
+IsFed held piece (Ok fed) new = IsTaken held piece fed.used fed.frame new
+IsFed held piece (Err Memory) new = new ≡ holding held
+IsFed held piece (Err Length) new = IsFront (held ++ piece) (faulty Length) × (new ≡ broken_by Length)
+IsFed held piece (Err Kind) new = IsFront (held ++ piece) (faulty Kind) × (new ≡ broken_by Kind)
+IsFed held piece (Err Body) new = IsFront (held ++ piece) (faulty Body) × (new ≡ broken_by Body)
+
+-- what is held is unfinished, and nothing is behind a fault
+abbrev pub IsFeeder : List ℕ → Option WireFault → Type 0
+IsFeeder held None = IsFront held unfinished
+IsFeeder held (Some fault) = (held ≡ []) × (fault ≢ Memory)
+
+-- once the length and the kind of an unfinished frame are held: how many bytes it lacks
+abbrev pub IsMissing : List ℕ → ℕ → Type 0
+IsMissing held missing = 5 ≤ length held → length held + missing ≡ 4 + announced held
+
+-- what taking bytes of a piece answers, and what is held then; for want of memory more may be held behind the bytes of before
+abbrev pub IsFrameTaken : {A : Type 0} → List ℕ → List ℕ → Result (Fed A) WireFault → List ℕ → Type 0
+IsFrameTaken held piece (Ok fed) left = IsTaken held piece fed.used fed.frame (holding left)
+IsFrameTaken held piece (Err Memory) left = take (length held) left ≡ held
+IsFrameTaken held piece (Err Length) left = IsFront (held ++ piece) (faulty Length)
+IsFrameTaken held piece (Err Kind) left = IsFront (held ++ piece) (faulty Kind)
+IsFrameTaken held piece (Err Body) left = IsFront (held ++ piece) (faulty Body)

@@ -1,0 +1,6 @@
+pub mod Spelling
+pub mod Frame
+pub mod Front
+pub mod Feeder
+pub mod Reading
+pub mod Apart

@@ -1,0 +1,46 @@
+-- What a reader answers: the value that the bytes spell, or that they spell none.
+use Rattle.std.specs.Prelude.{◌≡◌, ◌≢◌, ℕ, ◌+◌, ◌<◌, ◌≤◌, List, ◌++◌, length, slice_index, Option, Some, None, Result, Ok, Err}
+use Rattle.std.specs.List.{flat_map, AllByRecursion}
+use Rattle.stn_wire.specs.Spelling.{measured, counted}
+use Rattle.stn_wire.specs.Frame.{FrameContent, IsSaid, body_of}
+use Rattle.stn_wire.specs.Front.{announced, IsLength, IsKind, IsFront, faulty}
+use Rattle.stn_wire.specs.declared.fault.WireFault.{WireFault}
+use Rattle.stn_wire.specs.declared.fault.WireFault.TheVariants.{Length, Kind, Body, Memory}
+
+-- the bytes spell the value that was read; where none was read, they spell none
+abbrev pub IsReading : {V : Type 0} → (V → Type 0) → (V → List ℕ) → List ℕ → Option V → Type 0
+IsReading Valid spell bytes (Some value) = Valid value × (bytes ≡ spell value)
+IsReading {V} Valid spell bytes None = (value : V) → Valid value → bytes ≢ spell value
+
+-- so many values that each are valid, and what stands behind them
+pub record AreItems {X : Type 0} (Valid : X → Type 0) (count : ℕ) (values : List X) : Type 0 where
+  pub many : length values ≡ count
+  pub each : AllByRecursion Valid values
+
+abbrev pub items_then : {X : Type 0} → (X → List ℕ) → List X × List ℕ → List ℕ
+items_then spell found = flat_map spell found.0 ++ found.1
+
+abbrev pub counted_then : {X : Type 0} → (X → List ℕ) → List X × List ℕ → List ℕ
+counted_then spell found = counted spell found.0 ++ found.1
+
+abbrev pub measured_then : List ℕ × List ℕ → List ℕ
+measured_then found = measured found.0 ++ found.1
+
+-- a body is read as a frame
+abbrev pub IsBodyReading : List ℕ → Option FrameContent → Type 0
+IsBodyReading = IsReading IsSaid body_of
+
+-- what the first bytes say of how many the frame has: so many, as far as they show, five where its kind has not come
+pub record IsWanted (bytes : List ℕ) (wanted : ℕ) : Type 0 where
+  pub least : 5 ≤ wanted
+  pub lasting : 4 ≤ length bytes → IsLength (announced bytes)
+  pub short : length bytes < 5 → wanted ≡ 5
+  pub known : 5 ≤ length bytes → IsKind (slice_index bytes 4)
+  pub whole : 5 ≤ length bytes → wanted ≡ 4 + announced bytes
+
+abbrev pub IsJudged : List ℕ → Result ℕ WireFault → Type 0
+IsJudged bytes (Ok wanted) = IsWanted bytes wanted
+IsJudged bytes (Err Length) = IsFront bytes (faulty Length)
+IsJudged bytes (Err Kind) = IsFront bytes (faulty Kind)
+IsJudged bytes (Err Body) = ⊥
+IsJudged bytes (Err Memory) = ⊥

@@ -1,0 +1,109 @@
+// Bodies of frames: a table by kinds.
+ghost use Rattle.std.specs.Prelude.{◌≡◌, ◌∷◌, ◌≤◌, ◌++◌, length, IfOk, OnOk, option_map};
+ghost use Rattle.stn_wire.specs.Frame.{most_body, content, body_of, IsSaid};
+ghost use Rattle.stn_wire.specs.Reading.{IsBodyReading};
+
+use crate::frame::Frame;
+use crate::source::{append_source, read_source};
+use crate::state::{append_state, read_state};
+use std::alloc::Allocator;
+use stn_time::Memory;
+
+pub(crate) fn read_body<A: Allocator + Copy>(
+    alloc: A,
+    body: &[u8],
+) -> Result<Option<Frame<A>>, Memory>
+    ensures { IfOk result (λ r. IsBodyReading body.now (option_map content r)) }
+{
+    match body.split_first() {
+        Some((1, rest)) => read_hello(alloc, rest),
+        Some((2, rest)) => read_records(alloc, rest),
+        Some((3, rest)) => Ok(read_ask(rest)),
+        Some((4, rest)) => read_text(alloc, rest),
+        Some((5, rest)) => Ok(read_refused(rest)),
+        Some((6, rest)) => Ok(read_same(rest)),
+        _ => Ok(None),
+    }
+}
+
+fn read_hello<A: Allocator + Copy>(alloc: A, rest: &[u8]) -> Result<Option<Frame<A>>, Memory>
+    ensures { IfOk result (λ r. IsBodyReading (1 ∷ rest.now) (option_map content r)) }
+{
+    match read_source(alloc, rest)? {
+        Some(source) => Ok(Some(Frame::Hello(source))),
+        None => Ok(None),
+    }
+}
+
+fn read_records<A: Allocator + Copy>(alloc: A, rest: &[u8]) -> Result<Option<Frame<A>>, Memory>
+    ensures { IfOk result (λ r. IsBodyReading (2 ∷ rest.now) (option_map content r)) }
+{
+    match read_state(alloc, rest)? {
+        Some(state) => Ok(Some(Frame::Records(state))),
+        None => Ok(None),
+    }
+}
+
+fn read_ask<A: Allocator>(rest: &[u8]) -> Option<Frame<A>>
+    ensures { IsBodyReading (3 ∷ rest.now) (option_map content result) }
+{
+    if rest.is_empty() {
+        Some(Frame::Ask)
+    } else {
+        None
+    }
+}
+
+fn read_text<A: Allocator>(alloc: A, rest: &[u8]) -> Result<Option<Frame<A>>, Memory>
+    ensures { IfOk result (λ r. IsBodyReading (4 ∷ rest.now) (option_map content r)) }
+{
+    Ok(Some(Frame::Text(Vec::from_slice(alloc, rest)?)))
+}
+
+fn read_refused<A: Allocator>(rest: &[u8]) -> Option<Frame<A>>
+    ensures { IsBodyReading (5 ∷ rest.now) (option_map content result) }
+{
+    let (code, behind) = rest.split_first()?;
+    if behind.is_empty() {
+        Some(Frame::Refused(*code))
+    } else {
+        None
+    }
+}
+
+fn read_same<A: Allocator>(rest: &[u8]) -> Option<Frame<A>>
+    ensures { IsBodyReading (6 ∷ rest.now) (option_map content result) }
+{
+    if rest.is_empty() {
+        Some(Frame::Same)
+    } else {
+        None
+    }
+}
+
+pub(crate) fn append_body<A: Allocator + Copy, B: Allocator>(
+    out: &mut Vec<u8, B>,
+    frame: &Frame<A>,
+) -> Result<(), Memory>
+    requires { length (body_of (content frame.now)) ≤ most_body }
+    ensures appended { OnOk result (out.new.items ≡ out.old.items ++ body_of (content frame.now)) }
+    ensures said { OnOk result (IsSaid (content frame.now)) }
+{
+    match frame {
+        Frame::Hello(source) => {
+            out.push(1)?;
+            append_source(out, source)
+        }
+        Frame::Records(state) => {
+            out.push(2)?;
+            append_state(out, state)
+        }
+        Frame::Ask => Ok(out.push(3)?),
+        Frame::Text(bytes) => {
+            out.push(4)?;
+            out.extend_from_slice(bytes)
+        }
+        Frame::Refused(code) => out.extend_from_slice(&[5, *code]),
+        Frame::Same => Ok(out.push(6)?),
+    }
+}

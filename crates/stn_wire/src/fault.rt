@@ -1,0 +1,30 @@
+ghost use Rattle.std.specs.Prelude.{◌≡◌};
+ghost use Rattle.stn_wire.specs.declared.fault.WireFault.TheVariants.{Memory};
+
+use std::alloc::AllocError;
+use thiserror::Error;
+
+/// Why some bytes begin no frame, or a frame was not spelled.
+#[derive(Clone, Copy, Debug, PartialEq, Eq, Hash, Error)]
+pub enum WireFault {
+    /// The length of a body lies outside 1 to 262,144.
+    #[error("a frame of a wrong length")]
+    Length,
+    /// There is no frame of this kind.
+    #[error("a frame of no kind")]
+    Kind,
+    /// The body breaks a rule of its kind.
+    #[error("a frame whose body breaks a rule")]
+    Body,
+    /// Memory ran out.
+    #[error("out of memory")]
+    Memory,
+}
+
+impl From<AllocError> for WireFault {
+    ghost from_gives = { λ _ fault. fault ≡ Memory };
+
+    fn from(_refused: AllocError) -> WireFault {
+        WireFault::Memory
+    }
+}

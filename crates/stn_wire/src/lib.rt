@@ -1,0 +1,28 @@
+//! What two sites say to each other, as bytes: frames, each with one spelling, and the stream of
+//! frames that comes in pieces.
+#![tactic(auto)]
+
+pub use encoding::encode;
+pub use fault::WireFault;
+pub use feeder::{Fed, Feeder};
+pub use frame::Frame;
+pub use front::decode;
+pub use laws::{one_front, one_spelling};
+
+mod body;
+mod encoding;
+mod fault;
+mod feeder;
+mod fields;
+mod frame;
+mod front;
+mod item;
+mod laws;
+mod lists;
+mod source;
+mod state;
+#[cfg(test)]
+mod tests;
+
+/// The greatest number of bytes in the body of a frame.
+pub const MOST_BODY: usize = 262_144;

@@ -1,0 +1,122 @@
+use super::*;
+use std::alloc::Global;
+use std::test::Fail;
+use stn_lift::Source;
+
+// The bytes are one frame, and its spelling is these bytes.
+fn is_spelled(alloc: Global, bytes: &[u8]) -> Result<bool, WireFault> {
+    match decode(alloc, bytes)? {
+        Some((frame, length)) => {
+            let mut out = Vec::new(alloc);
+            encode(&frame, &mut out)?;
+            Ok(length == bytes.len() && out.as_slice() == bytes)
+        }
+        None => Ok(false),
+    }
+}
+
+#[test]
+fn frames_there_and_back(rt: HostRuntime) -> Result<(), Fail> {
+    let alloc = rt.alloc();
+    assert_eq!(rt;
+        is_spelled(alloc, b"\x00\x00\x00\x04\x01\x00\x00\x01"),
+        Ok(true)
+    );
+    assert_eq!(rt; is_spelled(alloc, b"\x00\x00\x00\x01\x03"), Ok(true));
+    assert_eq!(rt; is_spelled(alloc, b"\x00\x00\x00\x03\x04ok"), Ok(true));
+    assert_eq!(rt; is_spelled(alloc, b"\x00\x00\x00\x02\x05\x3c"), Ok(true));
+    assert_eq!(rt; is_spelled(alloc, b"\x00\x00\x00\x01\x06"), Ok(true));
+    Ok(())
+}
+
+// The withdrawal of 2.1; the record 2.1, s1 from 2.000 to 10.000 after the origin.
+#[test]
+fn states_there_and_back(rt: HostRuntime) -> Result<(), Fail> {
+    let alloc = rt.alloc();
+    let withdrawal = b"\x00\x00\x00\x09\x02\x00\x00\x00\x01\x00\x02\x00\x01";
+    assert_eq!(rt; is_spelled(alloc, withdrawal), Ok(true));
+    let addition =
+        b"\x00\x00\x00\x16\x02\x00\x01\x00\x02\x00\x01\x00\x00\x00\x00\x01\x3b\x9a\xd1\xd0\x3b\x9a\xf1\x10\x00\x00";
+    assert_eq!(rt; is_spelled(alloc, addition), Ok(true));
+    Ok(())
+}
+
+#[test]
+fn sources_of_two_texts(rt: HostRuntime) -> Result<(), Fail> {
+    let alloc = rt.alloc();
+    let hello = b"\x00\x00\x00\x0d\x01\x01\x00\x00\x00\x01d\x00\x00\x00\x02pl";
+    assert_eq!(rt; is_spelled(alloc, hello), Ok(true));
+    let domain = Vec::from_slice(alloc, b"d")?;
+    let plan = Vec::from_slice(alloc, b"pl")?;
+    let mut out = Vec::new(alloc);
+    encode(&Frame::Hello(Source::Files(domain, plan)), &mut out)?;
+    assert_eq!(rt; out.as_slice(), hello.as_slice());
+    Ok(())
+}
+
+fn fault_of(alloc: Global, bytes: &[u8]) -> Option<WireFault> {
+    decode(alloc, bytes).err()
+}
+
+#[test]
+fn faults_of_frames(rt: HostRuntime) {
+    let alloc = rt.alloc();
+    assert_eq!(rt;
+        fault_of(alloc, b"\x00\x00\x00\x00"),
+        Some(WireFault::Length)
+    );
+    assert_eq!(rt;
+        fault_of(alloc, b"\x00\x04\x00\x01"),
+        Some(WireFault::Length)
+    );
+    assert_eq!(rt;
+        fault_of(alloc, b"\x00\x00\x00\x01\x09"),
+        Some(WireFault::Kind)
+    );
+    assert_eq!(rt; fault_of(alloc, b"\x00\x00\x00\x04\x01"), None);
+    assert_eq!(rt; is_spelled(alloc, b"\x00\x00\x00\x04\x01"), Ok(false));
+    let unordered = b"\x00\x00\x00\x0d\x02\x00\x00\x00\x02\x00\x02\x00\x01\x00\x01\x00\x01";
+    assert_eq!(rt; fault_of(alloc, unordered), Some(WireFault::Body));
+}
+
+#[test]
+fn feeder_pieces(rt: HostRuntime) -> Result<(), Fail> {
+    let mut feeder = Feeder::new(rt.alloc());
+    assert_eq!(rt; feeder.middle(), false);
+    let fed = feeder.feed(b"\x00\x00\x00\x01")?;
+    assert!(rt; fed.used == 4 && fed.frame.is_none() && feeder.middle());
+    let fed = feeder.feed(b"\x03")?;
+    assert!(rt; fed.used == 1 && matches!(&fed.frame, Some(Frame::Ask)) && !feeder.middle());
+    let fed = feeder.feed(b"\x00\x00\x00\x01\x03\x00\x00\x00\x01\x06")?;
+    assert!(rt; fed.used == 5 && matches!(&fed.frame, Some(Frame::Ask)));
+    let fed = feeder.feed(b"\x00\x00\x00\x01\x06")?;
+    assert!(rt; fed.used == 5 && matches!(&fed.frame, Some(Frame::Same)));
+    Ok(())
+}
+
+#[test]
+fn feeder_keeps_its_fault(rt: HostRuntime) {
+    let mut feeder = Feeder::new(rt.alloc());
+    assert_eq!(rt;
+        feeder.feed(b"\x00\x04\x00\x01").err(),
+        Some(WireFault::Length)
+    );
+    assert_eq!(rt;
+        feeder.feed(b"\x00\x00\x00\x01\x03").err(),
+        Some(WireFault::Length)
+    );
+    assert_eq!(rt; feeder.middle(), false);
+}
+
+#[test]
+fn longest_body(rt: HostRuntime) -> Result<(), Fail> {
+    let mut out = Vec::new(rt.alloc());
+    let longest = Frame::Text(vec![in rt.alloc(); b'x'; 262_143]?);
+    encode(&longest, &mut out)?;
+    assert_eq!(rt; out.len(), 262_148);
+    assert_eq!(rt; is_spelled(rt.alloc(), &out), Ok(true));
+    let longer = Frame::Text(vec![in rt.alloc(); b'x'; 262_144]?);
+    assert_eq!(rt; encode(&longer, &mut out), Err(WireFault::Length));
+    assert_eq!(rt; out.len(), 262_148);
+    Ok(())
+}

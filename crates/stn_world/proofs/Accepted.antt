@@ -1,0 +1,157 @@
+-- What refuses a step, and what an accepted step tells.
+use Rattle.std.proofs.Common.{◌≡◌, ◌≢◌, ℕ, ℤ, ◌<◌, ◌≤◌, Bool, true, false, not, ◌&&◌, cond, leb, Option, Some, None, length, ap, sym, ◌∙◌, arith}
+use Rattle.std.specs.Prelude.{◌==◌, unwrap_or, option_map}
+use Rattle.std.specs.Bool.{Decides, then_some}
+use Rattle.std.specs.Option.{option_or}
+use Rattle.std.proofs.lemmas.Bool.{false_from_ne_true}
+use Rattle.std.proofs.lemmas.Bool.Decides.{nat_tests}
+use Rattle.stn_net.specs.Difference.{Difference}
+use Rattle.stn_records.specs.Id.{SiteCounter}
+use Rattle.stn_replica.specs.declared.faults.ReplicaFault.{ReplicaFault}
+use Rattle.stn_replica.specs.declared.faults.ReplicaFault.TheVariants as replica_fault
+use Rattle.stn_replica.specs.Refusals.{add_refusal, done_refusal, withdraw_refusal, take_refusal}
+use Rattle.stn_replica.proofs.Refused.{or_none, mapped_none, untested}
+use Rattle.stn_world.specs.declared.faults.WorldFault.{WorldFault}
+use Rattle.stn_world.specs.declared.faults.WorldFault.TheVariants.{NoSite, TooManyPackets, NoPacket, Replica, Memory}
+use Rattle.stn_world.specs.Faults.{of_replica_fault}
+use Rattle.stn_records.specs.Content.{Content}
+use Rattle.stn_world.specs.Parts.{IsPart, is_part}
+use Rattle.stn_world.specs.World.{World, most_packets, HasSite, has_site, HasPacket, has_packet, held_at, content_at, packet_at}
+use Rattle.stn_world.specs.Steps.{added, finished, withdrew, merged, sent, delivered, missing, step_refusal, IsAccepted, send_refusal}
+use Rattle.stn_world.proofs.Parts.{part_decides}
+
+both : (a b n : ℕ) → (leb a b && leb b n) ≡ true → (a ≤ b) × (b ≤ n)
+both a b n e = (grind (arith, nat_tests), grind (arith, nat_tests))
+
+within : (a b n : ℕ) → a ≤ b → b ≤ n → (leb a b && leb b n) ≡ true
+within a b n least most = grind (arith, nat_tests)
+
+pub site_decides : (world : World) (site : ℕ) → Decides (has_site world site) (HasSite world site)
+site_decides world site =
+    (λ e. record { least = (both 1 site (length world.sites) e).0; most = (both 1 site (length world.sites) e).1 }, λ there. within 1 site (length world.sites) there.least there.most)
+
+pub packet_decides : (world : World) (number : ℕ) → Decides (has_packet world number) (HasPacket world number)
+packet_decides world number =
+    (λ e. record { least = (both 1 number (length world.packets) e).0; most = (both 1 number (length world.packets) e).1 }, λ there. within 1 number (length world.packets) there.least there.most)
+
+-- a site that is there, and one that is not
+pub at_site : (world : World) (site : ℕ) (refusal : Option WorldFault) → HasSite world site → option_or (missing world site) refusal ≡ refusal
+at_site world site refusal there = ap (λ b. option_or (then_some (not b) NoSite) refusal) ((site_decides world site).1 there)
+
+pub no_site : (world : World) (site : ℕ) (refusal : Option WorldFault) → (HasSite world site → ⊥) → option_or (missing world site) refusal ≡ Some NoSite
+no_site world site refusal missing =
+    ap (λ b. option_or (then_some (not b) NoSite) refusal) (false_from_ne_true (has_site world site) (λ e. missing ((site_decides world site).0 e)))
+
+-- a packet that is there, and one that is not
+pub at_packet : (world : World) (number : ℕ) (refusal : Option WorldFault) → HasPacket world number → option_or (then_some (not (has_packet world number)) NoPacket) refusal ≡ refusal
+at_packet world number refusal there = ap (λ b. option_or (then_some (not b) NoPacket) refusal) ((packet_decides world number).1 there)
+
+pub no_packet : (world : World) (number : ℕ) (refusal : Option WorldFault) → (HasPacket world number → ⊥) → option_or (then_some (not (has_packet world number)) NoPacket) refusal ≡ Some NoPacket
+no_packet world number refusal missing =
+    ap (λ b. option_or (then_some (not b) NoPacket) refusal) (false_from_ne_true (has_packet world number) (λ e. missing ((packet_decides world number).0 e)))
+
+-- a fault of a replica is the world's
+pub refused_by : (refusal : Option ReplicaFault) (fault : ReplicaFault) → fault ≡ unwrap_or refusal replica_fault.Memory
+    → of_replica_fault fault ≡ unwrap_or (option_map of_replica_fault refusal) Memory
+refused_by None fault e = ap of_replica_fault e
+refused_by (Some cause) fault e = ap of_replica_fault e
+
+-- ---- what an accepted step tells
+accepted_site : (world : World) (site : ℕ) (refusal : Option WorldFault) → option_or (missing world site) refusal ≡ None → HasSite world site × (refusal ≡ None)
+accepted_site world site refusal e =
+    let both = or_none (missing world site) refusal e in
+    ((site_decides world site).0 (untested (has_site world site) NoSite both.0), both.1)
+
+pub accepted_addition : (world : World) (site : ℕ) (bound : Difference) → IsAccepted world (added site bound) → HasSite world site × (add_refusal (held_at world site) bound ≡ None)
+accepted_addition world site bound e =
+    let both = accepted_site world site (option_map of_replica_fault (add_refusal (held_at world site) bound)) e in
+    (both.0, mapped_none of_replica_fault (add_refusal (held_at world site) bound) both.1)
+
+pub accepted_execution : (world : World) (site event : ℕ) (time : ℤ) → IsAccepted world (finished site event time) → HasSite world site × (done_refusal (held_at world site) event ≡ None)
+accepted_execution world site event time e =
+    let both = accepted_site world site (option_map of_replica_fault (done_refusal (held_at world site) event)) e in
+    (both.0, mapped_none of_replica_fault (done_refusal (held_at world site) event) both.1)
+
+pub accepted_withdrawal : (world : World) (site : ℕ) (id : SiteCounter) → IsAccepted world (withdrew site id) → HasSite world site × (withdraw_refusal (held_at world site) id ≡ None)
+accepted_withdrawal world site id e =
+    let both = accepted_site world site (option_map of_replica_fault (withdraw_refusal (held_at world site) id)) e in
+    (both.0, mapped_none of_replica_fault (withdraw_refusal (held_at world site) id) both.1)
+
+pub accepted_merge : (world : World) (site other : ℕ) → IsAccepted world (merged site other) → HasSite world site × HasSite world other
+accepted_merge world site other e =
+    let first = accepted_site world site _ e in
+    (first.0, (accepted_site world other _ first.1).0)
+
+-- ---- merges
+same_sites : (site other : ℕ) → site ≡ other → (site == other) ≡ true
+same_sites site other e = grind (arith, nat_tests)
+
+other_sites : (site other : ℕ) → site ≢ other → (site == other) ≡ false
+other_sites site other e = grind (arith, nat_tests)
+
+merge_there : (world : World) (site other : ℕ) → HasSite world site → HasSite world other
+    → step_refusal world (merged site other) ≡ cond (site == other) None (option_map of_replica_fault (take_refusal (held_at world site) (content_at world other)))
+merge_there world site other there other_there = at_site world site _ there ∙ at_site world other _ other_there
+
+-- a site that merges itself
+pub merge_itself : (world : World) (site other : ℕ) → HasSite world site → HasSite world other → site ≡ other → IsAccepted world (merged site other)
+merge_itself world site other there other_there same =
+    merge_there world site other there other_there ∙ ap (λ b. cond b None (option_map of_replica_fault (take_refusal (held_at world site) (content_at world other)))) (same_sites site other same)
+
+-- two sites
+pub merge_refusal : (world : World) (site other : ℕ) → HasSite world site → HasSite world other → site ≢ other
+    → step_refusal world (merged site other) ≡ option_map of_replica_fault (take_refusal (held_at world site) (content_at world other))
+merge_refusal world site other there other_there apart =
+    merge_there world site other there other_there ∙ ap (λ b. cond b None (option_map of_replica_fault (take_refusal (held_at world site) (content_at world other)))) (other_sites site other apart)
+
+pub merge_free : (world : World) (site other : ℕ) → HasSite world site → HasSite world other → site ≢ other → take_refusal (held_at world site) (content_at world other) ≡ None
+    → IsAccepted world (merged site other)
+merge_free world site other there other_there apart free = merge_refusal world site other there other_there apart ∙ ap (option_map of_replica_fault) free
+
+pub merge_fault : (world : World) (site other : ℕ) (fault : ReplicaFault) → HasSite world site → HasSite world other → site ≢ other
+    → fault ≡ unwrap_or (take_refusal (held_at world site) (content_at world other)) replica_fault.Memory
+    → of_replica_fault fault ≡ unwrap_or (step_refusal world (merged site other)) Memory
+merge_fault world site other fault there other_there apart is =
+    refused_by (take_refusal (held_at world site) (content_at world other)) fault is ∙ ap (λ o. unwrap_or o Memory) (sym (merge_refusal world site other there other_there apart))
+
+-- ---- sendings
+pub accepted_sending : (world : World) (site : ℕ) (part : Content) → IsAccepted world (sent site part) → HasSite world site × IsPart part (content_at world site)
+accepted_sending world site part e =
+    let both = accepted_site world site (then_some (not (is_part part (content_at world site))) (Replica replica_fault.Unknown)) e in
+    (both.0, (part_decides part (content_at world site)).0 (untested (is_part part (content_at world site)) (Replica replica_fault.Unknown) both.1))
+
+-- a site sends a part of what it holds
+pub sending_free : (world : World) (site : ℕ) (part : Content) → HasSite world site → IsPart part (content_at world site) → IsAccepted world (sent site part)
+sending_free world site part there inside =
+    at_site world site (then_some (not (is_part part (content_at world site))) (Replica replica_fault.Unknown)) there
+    ∙ ap (λ b. then_some (not b) (Replica replica_fault.Unknown)) ((part_decides part (content_at world site)).1 inside)
+
+room_left : (a b : ℕ) → a < b → leb b a ≡ false
+room_left a b h = grind (arith, nat_tests)
+
+no_room : (a b : ℕ) → b ≤ a → leb b a ≡ true
+no_room a b h = grind (arith, nat_tests)
+
+-- where there is room for a packet more, and where there is none
+pub send_with_room : (world : World) (site : ℕ) (held : Bool) → HasSite world site → length world.packets < most_packets
+    → send_refusal world site held ≡ then_some (not held) (Replica replica_fault.Unknown)
+send_with_room world site held there room =
+    at_site world site _ there
+    ∙ ap (λ b. option_or (then_some b TooManyPackets) (then_some (not held) (Replica replica_fault.Unknown))) (room_left (length world.packets) most_packets room)
+
+pub send_without_room : (world : World) (site : ℕ) (held : Bool) → HasSite world site → most_packets ≤ length world.packets → send_refusal world site held ≡ Some TooManyPackets
+send_without_room world site held there full =
+    at_site world site _ there
+    ∙ ap (λ b. option_or (then_some b TooManyPackets) (then_some (not held) (Replica replica_fault.Unknown))) (no_room (length world.packets) most_packets full)
+
+-- ---- deliveries
+pub accepted_delivery : (world : World) (site number : ℕ) → IsAccepted world (delivered site number)
+    → HasSite world site × (HasPacket world number × (take_refusal (held_at world site) (packet_at world number) ≡ None))
+accepted_delivery world site number e =
+    let first = accepted_site world site _ e in
+    let second = or_none (then_some (not (has_packet world number)) NoPacket) _ first.1 in
+    (first.0, ((packet_decides world number).0 (untested (has_packet world number) NoPacket second.0), mapped_none of_replica_fault (take_refusal (held_at world site) (packet_at world number)) second.1))
+
+pub delivery_refusal : (world : World) (site number : ℕ) → HasSite world site → HasPacket world number
+    → step_refusal world (delivered site number) ≡ option_map of_replica_fault (take_refusal (held_at world site) (packet_at world number))
+delivery_refusal world site number there packet_there = at_site world site _ there ∙ at_packet world number _ packet_there

@@ -1,0 +1,109 @@
+-- The law over all runs of a world.
+use Rattle.std.proofs.Common.{◌≡◌, ◌≢◌, ◌↔◌, ◌⊎◌, inl, inr, ⊎_elim, ℕ, suc, ◌-◌, ◌<◌, ◌≤◌, Bool, true, false, not, ◌&&◌, ltb, is_some, None, List, [], ◌∷◌, get_or, refl, ap, sym, subst, ◌∙◌, arith}
+use Rattle.std.specs.Prelude.{option_map}
+use Rattle.std.specs.Bool.{then_some}
+use Rattle.std.specs.List.{Contains}
+use Rattle.std.specs.FinMap as fin
+use Rattle.std.proofs.lemmas.Bool.{cases_eq}
+use Rattle.std.proofs.lemmas.Bool.Decides.{nat_tests}
+use Rattle.std.proofs.lemmas.List.{get_or_default}
+use Rattle.std.proofs.lemmas.List.Elements.{Contains-append_cases}
+use Rattle.stn_lift.specs.PlanSource.{PlanSource, events_of}
+use Rattle.stn_records.specs.Id.{SiteCounter}
+use Rattle.stn_records.specs.Content.{most_known, Content, Item, addition, withdrawal, HasItem, is_known, is_live, known_count, known_in_both, dispute_contents, joined_contents, no_content}
+use Rattle.stn_records.specs.ContentLaws.{contents_join, contents_undisputed}
+use Rattle.stn_records.proofs.Contents.{known_fewer, together}
+use Rattle.stn_replica.specs.declared.faults.ReplicaFault.TheVariants.{Full}
+use Rattle.stn_replica.specs.Refusals.{take_refusal}
+use Rattle.stn_replica.proofs.Refused.{agreed_take}
+use Rattle.stn_world.specs.Faults.{of_replica_fault}
+use Rattle.stn_world.specs.Parts.{IsPart}
+use Rattle.stn_world.specs.World.{World, HasSite, HasPacket, content_at, packet_at, held_at}
+use Rattle.stn_world.specs.Steps.{Step, added, finished, withdrew, merged, sent, delivered, IsAccepted, stepped, run, Brings}
+use Rattle.stn_world.specs.Whole.{IsWhole, IsCoherent}
+use Rattle.stn_world.specs.Runs.{Making, records_made, states_of}
+use Rattle.stn_world.proofs.Accepted.{accepted_addition, accepted_execution, accepted_withdrawal, accepted_merge, accepted_delivery, merge_itself, merge_free, delivery_refusal}
+use Rattle.stn_world.proofs.Whole.{parts_agree, part_named, known_items, items_known}
+use Rattle.stn_world.proofs.Runs.{this_step, coherent_stepped, grows_run}
+use Rattle.stn_world.proofs.Lawful.{IsLawful, known_made}
+
+module _ (world : World) (items : List Making) (now : IsLawful world items) where
+  coherent : IsCoherent world
+  coherent = (now.all, now.whole)
+
+  -- ---- no refusal
+  not_full : (a b : ℕ) → b ≤ a → ltb a b ≡ false
+  not_full a b h = grind (arith, nat_tests)
+
+  -- where few records are made, a site has room for any part of what was made
+  has_room : (site : ℕ) (other : Content) → records_made items ≤ most_known → IsPart other now.all → take_refusal (held_at world site) other ≡ None
+  has_room site other few inside =
+      let agreed = parts_agree (content_at world site) other now.all (now.whole.sites site) inside in
+      let union = contents_join.union (content_at world site) other (joined_contents (content_at world site) other) (contents_undisputed (content_at world site) other agreed) in
+      let known = known_made world items now (joined_contents (content_at world site) other) (λ item h. ⊎_elim (λ ours. now.whole.sites site item ours) (λ theirs. inside item theirs) ((union item).0 h)) in
+      agreed_take (held_at world site) other (part_named world now.all other now.whole inside) agreed
+      ∙ ap (λ b. then_some b Full) (not_full most_known (known_in_both (content_at world site) other) (omega (arith, known, few, together (content_at world site) other)))
+
+  pub delivery_accepted : records_made items ≤ most_known → (site number : ℕ) → HasSite world site → HasPacket world number → IsAccepted world (delivered site number)
+  delivery_accepted few site number there packet_there =
+      delivery_refusal world site number there packet_there ∙ ap (option_map of_replica_fault) (has_room site (packet_at world number) few (now.whole.packets number))
+
+  pub merge_accepted : records_made items ≤ most_known → (site other : ℕ) → HasSite world site → HasSite world other → IsAccepted world (merged site other)
+  merge_accepted few site other there other_there = ⊎_elim
+      (λ same. merge_itself world site other there other_there same)
+      (λ apart. merge_free world site other there other_there apart (has_room site (content_at world other) few (now.whole.sites other)))
+      (cases_eq site other)
+
+  -- ---- what is held stays
+  taken_stays : (step : Step) (site : ℕ) (item : Item) → IsAccepted world step → HasSite world site → Brings world step site item
+      → (rest : List Step) → HasItem (content_at (run (stepped world step) rest) site) item
+  taken_stays step site item accepted there brings rest =
+      grows_run (stepped world step) rest (coherent_stepped world step coherent) site item ((this_step world step coherent site there item).1 (inr (accepted, brings)))
+
+  pub delivery_stays : (site number : ℕ) → IsAccepted world (delivered site number) → (rest : List Step) → IsPart (packet_at world number) (content_at (run (stepped world (delivered site number)) rest) site)
+  delivery_stays site number accepted rest item h = taken_stays (delivered site number) site item accepted (accepted_delivery world site number accepted).0 (refl, h) rest
+
+  pub merge_stays : (site other : ℕ) → IsAccepted world (merged site other) → (rest : List Step) → IsPart (content_at world other) (content_at (run (stepped world (merged site other)) rest) site)
+  merge_stays site other accepted rest item h = taken_stays (merged site other) site item accepted (accepted_merge world site other accepted).0 (refl, h) rest
+
+  -- ---- withdrawals
+  -- a step brings items to sites that are there
+  brings_there : (step : Step) (site : ℕ) (item : Item) → IsAccepted world step → Brings world step site item → HasSite world site
+  brings_there (added at bound) site item accepted brings = subst (HasSite world) brings.0 (accepted_addition world at bound accepted).0
+  brings_there (finished at event time) site item accepted brings = subst (HasSite world) brings.0 (accepted_execution world at event time accepted).0
+  brings_there (withdrew at id) site item accepted brings = subst (HasSite world) brings.0 (accepted_withdrawal world at id accepted).0
+  brings_there (merged at other) site item accepted brings = subst (HasSite world) brings.0 (accepted_merge world at other accepted).0
+  brings_there (sent at part) site item accepted brings = absurd brings
+  brings_there (delivered at number) site item accepted brings = subst (HasSite world) brings.0 (accepted_delivery world at number accepted).0
+
+  and_false : (a : Bool) → (a && false) ≡ false
+  and_false true = refl
+  and_false false = refl
+
+  never_live : (content : Content) (id : SiteCounter) → HasItem content (withdrawal id) → is_live content id ≡ false
+  never_live content id gone = ap (λ o. fin.contains_key content.additions id && not (is_some o)) gone ∙ and_false (fin.contains_key content.additions id)
+
+  pub withdrawn_stays : (step : Step) (site : ℕ) (id : SiteCounter) → IsAccepted world step → Brings world step site (withdrawal id) → (rest : List Step)
+      → is_live (content_at (run (stepped world step) rest) site) id ≡ false
+  withdrawn_stays step site id accepted brings rest =
+      never_live (content_at (run (stepped world step) rest) site) id (taken_stays step site (withdrawal id) accepted (brings_there step site (withdrawal id) accepted brings) brings rest)
+
+  -- ---- the states agree
+  element : (xs : List Content) (one : Content) → Contains xs one → (place : ℕ) × (get_or xs (place - 1) no_content ≡ one)
+  element xs one (k, lt, e) = let place : suc k - 1 ≡ k = omega arith in
+      (suc k, ap (λ (i : ℕ). get_or xs i no_content) place ∙ (get_or_default xs k no_content one lt ∙ e))
+
+  state_part : (one : Content) → Contains (states_of world) one → IsPart one now.all
+  state_part one there = ⊎_elim
+      (λ at. let is = element world.sites one at in subst (λ (c : Content). IsPart c now.all) is.1 (now.whole.sites is.0))
+      (λ at. let is = element world.packets one at in subst (λ (c : Content). IsPart c now.all) is.1 (now.whole.packets is.0))
+      (Contains-append_cases world.sites world.packets one there)
+
+  pub any_agree : (one other : Content) → Contains (states_of world) one → Contains (states_of world) other → dispute_contents one other ≡ None
+  any_agree one other there other_there = parts_agree one other now.all (state_part one there) (state_part other other_there)
+
+  pub own_known : (one : Content) (id : SiteCounter) → Contains (states_of world) one → is_known one id ≡ true → is_known (content_at world id.site) id ≡ true
+  own_known one id there known = ⊎_elim
+      (λ h. items_known (content_at world id.site) id h.0 (now.whole.own id h.0 (state_part one there (addition id h.0) h.1)))
+      (λ gone. let made = now.whole.made id (state_part one there (withdrawal id) gone) in items_known (content_at world id.site) id made.0 (now.whole.own id made.0 made.1))
+      (known_items one id known)

@@ -1,0 +1,71 @@
+-- What refuses a call that sends, and what it leaves.
+use Rattle.std.proofs.Common.{◌≡◌, ◌↔◌, ℕ, ◌<◌, Bool, true, false, not, List, Some, None, Result, Ok, Err, length, refl, sym, ap, subst, ◌∙◌}
+use Rattle.std.specs.Prelude.{unwrap_or}
+use Rattle.std.specs.Bool.{then_some}
+use Rattle.std.proofs.lemmas.Bool.{false≢true, false_from_ne_true}
+use Rattle.stn_records.specs.Id.{SiteCounter}
+use Rattle.stn_records.specs.Content.{Content, AllHeld, part_of}
+use Rattle.stn_records.specs.declared.faults.PartFault.{PartFault}
+use Rattle.stn_records.specs.declared.faults.PartFault.TheVariants as part_fault
+use Rattle.stn_replica.specs.declared.faults.ReplicaFault.TheVariants as replica_fault
+use Rattle.stn_world.specs.declared.faults.WorldFault.{WorldFault}
+use Rattle.stn_world.specs.declared.faults.WorldFault.TheVariants.{Replica, Memory}
+use Rattle.stn_world.specs.Faults.{of_part_fault}
+use Rattle.stn_world.specs.Parts.{IsPart, holds_all}
+use Rattle.stn_world.specs.World.{World, most_packets, HasSite, content_at}
+use Rattle.stn_world.specs.Steps.{sent, IsAccepted, send_refusal}
+use Rattle.stn_world.proofs.Accepted.{sending_free, send_with_room}
+use Rattle.stn_world.proofs.Parts.{part_of-part, holds_all-decides}
+
+-- a part that could not be made
+abbrev failed : (A : Type 0) → PartFault → Result A PartFault
+failed A fault = Err fault
+
+pub not_err : {T E : Type 0} {x : T} {e : E} → Ok x ≡ Err e → ⊥
+not_err e = absurd (cc)
+
+module _ (world : World) (site : ℕ) (there : HasSite world site) (room : length world.packets < most_packets) where
+  -- nothing stands against a site that sends what it holds
+  pub send_free : (held : Bool) → held ≡ true → send_refusal world site held ≡ None
+  send_free held e = send_with_room world site held there room ∙ ap (λ b. then_some (not b) (Replica replica_fault.Unknown)) e
+
+  -- so only memory can be wanted
+  pub send_memory : (held : Bool) → held ≡ true → Memory ≡ unwrap_or (send_refusal world site held) Memory
+  send_memory held e = ap (λ o. unwrap_or o Memory) (sym (send_free held e))
+
+  send_unheld : (held : Bool) → held ≡ false → Replica replica_fault.Unknown ≡ unwrap_or (send_refusal world site held) Memory
+  send_unheld held e = ap (λ o. unwrap_or o Memory) (sym (send_with_room world site held there room ∙ ap (λ b. then_some (not b) (Replica replica_fault.Unknown)) e))
+
+  part_fault_of : (theirs : Content) (records tombstones : List SiteCounter) (A : Type 0) (fault : PartFault)
+      → ((failed A fault ≡ Err part_fault.Unknown) ↔ (AllHeld theirs.additions records × AllHeld theirs.tombstones tombstones → ⊥))
+      → of_part_fault fault ≡ unwrap_or (send_refusal world site (holds_all theirs records tombstones)) Memory
+  part_fault_of theirs records tombstones A part_fault.Unknown is =
+      send_unheld (holds_all theirs records tombstones) (false_from_ne_true (holds_all theirs records tombstones) (λ e. is.0 refl ((holds_all-decides theirs records tombstones).0 e)))
+  part_fault_of theirs records tombstones A part_fault.Memory is = send_memory (holds_all theirs records tombstones) (held (holds_all theirs records tombstones) refl)
+    where
+      other : failed A part_fault.Memory ≡ Err part_fault.Unknown → ⊥
+      other e = cc
+
+      held : (b : Bool) → holds_all theirs records tombstones ≡ b → b ≡ true
+      held true e = refl
+      held false e = absurd (other (is.1 (λ all. false≢true (sym e ∙ (holds_all-decides theirs records tombstones).1 all))))
+
+  -- a part is refused where not all is held, or for want of memory
+  pub part_refused : (theirs : Content) (records tombstones : List SiteCounter) (A : Type 0) (fault : PartFault) → theirs ≡ content_at world site
+      → ((failed A fault ≡ Err part_fault.Unknown) ↔ (AllHeld theirs.additions records × AllHeld theirs.tombstones tombstones → ⊥))
+      → of_part_fault fault ≡ unwrap_or (send_refusal world site (holds_all (content_at world site) records tombstones)) Memory
+  part_refused theirs records tombstones A fault same is =
+      part_fault_of theirs records tombstones A fault is ∙ ap (λ (c : Content). unwrap_or (send_refusal world site (holds_all c records tombstones)) Memory) same
+
+-- the test of what is held, where it is
+pub holds_there : (theirs content : Content) (records tombstones : List SiteCounter) → theirs ≡ content → AllHeld theirs.additions records × AllHeld theirs.tombstones tombstones
+    → holds_all content records tombstones ≡ true
+holds_there theirs content records tombstones same held = ap (λ (c : Content). holds_all c records tombstones) (sym same) ∙ (holds_all-decides theirs records tombstones).1 held
+
+-- a part of what a site holds may be sent
+pub part_free : (world : World) (site : ℕ) (records tombstones : List SiteCounter) → HasSite world site
+    → IsAccepted world (sent site (part_of (content_at world site) records tombstones))
+part_free world site records tombstones there = sending_free world site (part_of (content_at world site) records tombstones) there (part_of-part (content_at world site) records tombstones)
+
+pub all_free : (world : World) (site : ℕ) → HasSite world site → IsAccepted world (sent site (content_at world site))
+all_free world site there = sending_free world site (content_at world site) there (λ item h. h)

@@ -1,0 +1,47 @@
+use Rattle.std.proofs.Common.{◌≡◌, ◌++◌, [], ◌∷◌, true, List, refl, sym, ap, subst, ◌∙◌}
+use Rattle.std.specs.Rc.{rc_value}
+use Rattle.std.proofs.lemmas.Result.{err_from_is_err_and}
+use Rattle.stn_records.specs.Content.{Content}
+use Rattle.stn_replica.specs.Held.{Held}
+use Rattle.stn_world.specs.Steps.{sent}
+use Rattle.stn_world.specs.Sites.{world_of}
+use Rattle.stn_world.specs.World.{content_at, send}
+use Rattle.stn_world.specs.Whole.{IsCoherent, IsSoundWorld}
+use Rattle.stn_world.proofs.Sendings.{send_free, send_memory, all_free}
+use Rattle.stn_world.proofs.Sites.{held_there, sent_there, sound_sent}
+use Rattle.stn_world.proofs.Whole.{coherent_after}
+use Rattle.stn_world.proofs.world.World.send_all.Goals as goal
+
+pub returns-in_err-push : goal.returns-in_err-push
+returns-in_err-push g c =
+    let p = err_from_is_err_and c.from_residual-in_err-push.result c.from_residual-in_err-push.ensures.1 in
+    rw (p.1, p.2) (record {
+      step = (
+        send_memory c.args.self.now c.args.site c.in_ok-place.ensures.there c.in_ok-number.ensures.room true refl,
+        ap (λ (l : List Content). world_of (rc_value c.self.inside.base) c.self.inside.replicas.items l) c.in_err-push.ensures.items ∙ c.self.view_is,
+      );
+    })
+
+pub invariant_of-self-2 : goal.invariant_of-self-2
+invariant_of-self-2 g c =
+    let held = held_there c.args.self.now _ _ _ c.args.site c.index.result.now c.self.view_is c.self.invariant.sites c.in_ok-place.ensures.place c.in_ok-place.ensures.there c.index.ensures in
+    let whole = content_at c.args.self.now c.args.site in
+    let same : c.in_ok-whole.whole ≡ whole = c.in_ok-whole.ensures ∙ (c.records.ensures.value ∙ held.state) in
+    let made = sent_there c.args.self.now _ c.self.inside.replicas.items whole c.in_ok-whole.whole c.self.view_is same in
+    subst (λ (l : List Content). IsSoundWorld (rc_value c.self.inside.base) c.self.inside.replicas.items l) (sym c.in_ok-push.ensures.items)
+    (sound_sent c.args.self.now _ _ c.self.inside.replicas.items c.in_ok-whole.whole c.self.view_is c.self.invariant c.in_ok-number.ensures.room made
+    (coherent_after c.args.self.now (sent c.args.site whole) (all_free c.args.self.now c.args.site c.in_ok-place.ensures.there) (subst IsCoherent c.self.view_is c.self.invariant.coherent)))
+
+pub returns : goal.returns
+returns g c =
+    let held = held_there c.args.self.now _ _ _ c.args.site c.index.result.now c.self.view_is c.self.invariant.sites c.in_ok-place.ensures.place c.in_ok-place.ensures.there c.index.ensures in
+    let whole = content_at c.args.self.now c.args.site in
+    let same : c.in_ok-whole.whole ≡ whole = c.in_ok-whole.ensures ∙ (c.records.ensures.value ∙ held.state) in
+    record {
+      step = (
+        send_free c.args.self.now c.args.site c.in_ok-place.ensures.there c.in_ok-number.ensures.room true refl,
+        all_free c.args.self.now c.args.site c.in_ok-place.ensures.there,
+        ap (λ (l : List Content). world_of (rc_value c.self.inside.base) c.self.inside.replicas.items l) c.in_ok-push.ensures.items ∙ sent_there c.args.self.now _ c.self.inside.replicas.items whole c.in_ok-whole.whole c.self.view_is same,
+        c.in_ok-number.ensures.number,
+      );
+    }

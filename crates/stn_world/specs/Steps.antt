@@ -1,0 +1,107 @@
+-- The calls of a world as steps: why one is refused, what it leaves, and what it brings to each site.
+use Rattle.std.specs.Prelude.{◌≡◌, ℕ, ℤ, ◌+◌, ◌==◌, nat_le, ◌⊎◌, Bool, not, fold, List, [], ◌∷◌, length, Option, None, option_map, is_some, unwrap_or, Result, Ok, Err, if◌then◌else◌, ⊤}
+use Rattle.std.specs.Bool.{then_some}
+use Rattle.std.specs.Option.{option_or}
+use Rattle.stn_net.specs.Difference.{Difference}
+use Rattle.stn_records.specs.Id.{SiteCounter}
+use Rattle.stn_records.specs.Content.{Content, Item, addition, withdrawal, HasItem}
+use Rattle.stn_replica.specs.declared.faults.ReplicaFault.TheVariants as replica_fault
+use Rattle.stn_replica.specs.Held.{plain, executed}
+use Rattle.stn_replica.specs.Refusals.{add_refusal, done_refusal, withdraw_refusal, take_refusal}
+use Rattle.stn_world.specs.declared.faults.WorldFault.{WorldFault}
+use Rattle.stn_world.specs.declared.faults.WorldFault.TheVariants.{NoSite, TooManyPackets, NoPacket, Replica, Memory}
+use Rattle.stn_world.specs.Faults.{of_replica_fault}
+use Rattle.stn_world.specs.Parts.{is_part}
+use Rattle.stn_world.specs.World.{World, most_packets, has_site, has_packet, content_at, packet_at, held_at, next_id_at, make, withdraw, merge, send, deliver}
+
+-- a step: a site adds a bound, records the time at which it executed an event, withdraws an id, takes in all that another holds, sends any
+-- part of what it holds, or takes in a packet, of any age
+pub data Step : Type 0 where
+  added : ℕ → Difference → Step
+  finished : ℕ → ℕ → ℤ → Step
+  withdrew : ℕ → SiteCounter → Step
+  merged : ℕ → ℕ → Step
+  sent : ℕ → Content → Step
+  delivered : ℕ → ℕ → Step
+
+-- the world has not the site
+abbrev pub missing : World → ℕ → Option WorldFault
+missing world site = then_some (not (has_site world site)) NoSite
+
+-- the first cause that refuses the step: a site is not there, a packet is not there, or the site's replica refuses it; a site may take in
+-- what it holds itself, and sends only what it holds. Where there is none, nothing but want of memory can stop it
+abbrev pub step_refusal : World → Step → Option WorldFault
+step_refusal world (added site bound) = option_or (missing world site) (option_map of_replica_fault (add_refusal (held_at world site) bound))
+step_refusal world (finished site event time) = option_or (missing world site) (option_map of_replica_fault (done_refusal (held_at world site) event))
+step_refusal world (withdrew site id) = option_or (missing world site) (option_map of_replica_fault (withdraw_refusal (held_at world site) id))
+step_refusal world (merged site other) =
+    option_or (missing world site) (option_or (missing world other)
+    (if site == other then None else option_map of_replica_fault (take_refusal (held_at world site) (content_at world other))))
+step_refusal world (sent site part) = option_or (missing world site) (then_some (not (is_part part (content_at world site))) (Replica replica_fault.Unknown))
+step_refusal world (delivered site number) =
+    option_or (missing world site) (option_or (then_some (not (has_packet world number)) NoPacket)
+    (option_map of_replica_fault (take_refusal (held_at world site) (packet_at world number))))
+
+abbrev pub IsAccepted : World → Step → Type 0
+IsAccepted world step = step_refusal world step ≡ None
+
+-- the world that an accepted step leaves
+abbrev pub after : World → Step → World
+after world (added site bound) = make world site (plain bound)
+after world (finished site event time) = make world site (executed time event)
+after world (withdrew site id) = withdraw world site id
+after world (merged site other) = merge world site other
+after world (sent site part) = send world part
+after world (delivered site number) = deliver world site number
+
+-- a step that is accepted is taken, and one that is refused changes nothing
+abbrev pub stepped : World → Step → World
+stepped world step = if is_some (step_refusal world step) then world else after world step
+
+-- a run: any steps, one after the other
+abbrev pub run : World → List Step → World
+run = fold stepped
+
+-- a call is a step: it is accepted and leaves what the step leaves, or its fault is what refuses the step, or else want of memory, and
+-- nothing has changed
+abbrev pub IsStep : {T : Type 0} → World → Step → Result T WorldFault → World → Type 0
+IsStep old step (Ok value) new = IsAccepted old step × (new ≡ after old step)
+IsStep old step (Err fault) new = (fault ≡ unwrap_or (step_refusal old step) Memory) × (new ≡ old)
+
+-- why a call that sends is refused: the site is not there, a packet more would be too many, the site holds not all that is to be sent
+abbrev pub send_refusal : World → ℕ → Bool → Option WorldFault
+send_refusal world site held =
+    option_or (missing world site) (option_or (then_some (nat_le most_packets (length world.packets)) TooManyPackets)
+    (then_some (not held) (Replica replica_fault.Unknown)))
+
+-- a call that sends is a step, but for the limit of packets: no cause stands against it, it is accepted, leaves what the step leaves and
+-- gives the number of the new packet; or its fault is the first such cause, or else want of memory, and nothing has changed
+abbrev pub IsSending : World → Step → Option WorldFault → Result ℕ WorldFault → World → Type 0
+IsSending old step refusal (Ok number) new = (refusal ≡ None) × IsAccepted old step × (new ≡ after old step) × (number ≡ length old.packets + 1)
+IsSending old step refusal (Err fault) new = (fault ≡ unwrap_or refusal Memory) × (new ≡ old)
+
+-- the step brings the item to the site: the site's own addition, its own withdrawal, what another site holds, or what the packet holds
+abbrev pub Brings : World → Step → ℕ → Item → Type 0
+Brings world (added at bound) site item = (at ≡ site) × (item ≡ addition (next_id_at world at) (plain bound))
+Brings world (finished at event time) site item = (at ≡ site) × (item ≡ addition (next_id_at world at) (executed time event))
+Brings world (withdrew at id) site item = (at ≡ site) × (item ≡ withdrawal id)
+Brings world (merged at other) site item = (at ≡ site) × HasItem (content_at world other) item
+Brings world (sent at part) site item = ⊥
+Brings world (delivered at number) site item = (at ≡ site) × HasItem (packet_at world number) item
+
+-- one of the steps that are accepted brings the item to the site
+abbrev pub TookAt : World → List Step → ℕ → Item → Type 0
+TookAt world [] site item = ⊥
+TookAt world (step ∷ steps) site item = (IsAccepted world step × Brings world step site item) ⊎ TookAt (stepped world step) steps site item
+
+-- what a merge can be refused for: a site is not there, the site would know too many ids, or want of memory
+abbrev pub IsMergeFault : WorldFault → Type 0
+IsMergeFault NoSite = ⊤
+IsMergeFault (Replica replica_fault.Full) = ⊤
+IsMergeFault Memory = ⊤
+IsMergeFault other = ⊥
+
+-- what a delivery can be refused for: the site or the packet is not there, the site would know too many ids, or want of memory
+abbrev pub IsDeliveryFault : WorldFault → Type 0
+IsDeliveryFault NoPacket = ⊤
+IsDeliveryFault fault = IsMergeFault fault
