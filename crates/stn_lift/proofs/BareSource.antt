@@ -2,6 +2,7 @@ use Rattle.std.proofs.Common.{ℕ, pos, zero, suc, ◌*◌, ◌≤◌, All, refl
 use Rattle.std.proofs.lemmas.List.Elements.{All-nil, All-push}
 use Rattle.std.proofs.lemmas.Int.{ints}
 use Rattle.std.proofs.lemmas.Bool.{false≢true}
+use Rattle.std.proofs.lemmas.Bool.Decides.{nat_tests}
 use Rattle.std.proofs.lemmas.List.{take_all}
 use Rattle.stn_net.specs.Difference.{NamesEvents}
 use Rattle.stn_net.specs.Schedule.{Meets}
@@ -32,6 +33,7 @@ horizon_bounds_met_at_zero (suc events) =
 -- a bare source of at most 256 steps is sound
 pub sound_bare_source : (steps : ℕ) → steps ≤ 256 → IsSoundSource (bare steps)
 sound_bare_source steps small = record {
+  based = grind (arith, nat_tests);
   small = small;
   horizon = take_all (2 * steps) (horizon_bounds (2 * steps)) (omega (arith, length-horizon_bounds (2 * steps)));
   named = horizon_bounds_named (2 * steps) (2 * steps) (omega arith);

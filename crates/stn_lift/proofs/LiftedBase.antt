@@ -18,7 +18,7 @@ use Rattle.stn_lift.specs.Footprints.{Footprint}
 use Rattle.stn_lift.specs.Activities.{Activity, activities}
 use Rattle.stn_lift.specs.BaseBounds.{times_behind, event_times, do_interfere, duration_of, lifted_bounds, KeepsOrder}
 use Rattle.stn_lift.specs.Timelines.{IsTimed, IsLifted, IsWhole, numbered_bounds}
-use Rattle.stn_lift.specs.PlanSource.{files, of_lift, activities_of, most_base_bounds, IsSoundSource, IsBase}
+use Rattle.stn_lift.specs.PlanSource.{files, of_lift, base_of, source_with, activities_of, most_base_bounds, IsSoundSource, IsBase}
 use Rattle.stn_lift.proofs.SoundBounds.{bounds, first_horizons, all_named, planned_possible, order_keeps}
 use Rattle.stn_lift.proofs.FewBounds.{few_bounds}
 use Rattle.stn_lift.proofs.Steps.{length-activities}
@@ -65,10 +65,12 @@ module _ (steps : List Activity) (timed : AllByRecursion IsTimed steps) (small :
   times_are_within event last = time_within (event_times steps) ((omega (arith, ints), omega (arith, ints)), times_within steps timed) event
 
   -- what holds of the source of these steps
-  pub sound_steps : (domain plan : List ℕ) → activities_of domain plan ≡ steps → length domain ≤ most_text → length plan ≤ most_text → IsSoundSource (files domain plan)
-  sound_steps domain plan is short_domain short_plan =
+  pub sound_steps : (domain plan : List ℕ) → activities_of domain plan ≡ steps → base_of (files domain plan) ≡ Ok (files domain plan)
+      → length domain ≤ most_text → length plan ≤ most_text → IsSoundSource (files domain plan)
+  sound_steps domain plan is based short_domain short_plan =
       let planned : List Activity → ℕ → ℤ = λ found. times_of (event_times found) in
       record {
+        based = based;
         small = subst (λ (found : List Activity). length found ≤ most_steps) (sym is) small;
         horizon = subst (λ (found : List Activity). take (2 * length found) (lifted_bounds found) ≡ horizon_bounds (2 * length found)) (sym is)
             (first_horizons (do_interfere steps) (planned steps) (duration_of steps) (length steps));
@@ -104,6 +106,10 @@ module _ (steps : List Activity) (durations times : List ℤ) (footprints : List
     unfolding activities_of
     texts_lifted = ap (λ r. result_unwrap_or r []) (lifted-Ok domain plan actions planned domain_is plan_is ∙ ap of_lift found)
 
+    -- the texts have a base
+    based_lifted : base_of (files domain plan) ≡ Ok (files domain plan)
+    based_lifted = ap (source_with (files domain plan)) (lifted-Ok domain plan actions planned domain_is plan_is ∙ ap of_lift found)
+
     -- such a base keeps what it should
     pub base_lifted : length steps ≤ most_steps → length domain ≤ most_text → length plan ≤ most_text
         → IsBase (files domain plan) (length durations) (numbered_bounds durations times footprints) times
@@ -111,7 +117,7 @@ module _ (steps : List Activity) (durations times : List ℤ) (footprints : List
       counted = counted ∙ ap length (sym texts_lifted);
       listed = same_bounds ∙ ap lifted_bounds (sym texts_lifted);
       timed = λ event. ap (λ ts. times_of ts event) (made.timed ∙ ap event_times (sym texts_lifted));
-      sound = sound_steps steps made.within small domain plan texts_lifted short_domain short_plan;
+      sound = sound_steps steps made.within small domain plan texts_lifted based_lifted short_domain short_plan;
     }
 
 -- a plan that fits its domain has few enough steps

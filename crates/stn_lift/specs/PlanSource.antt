@@ -110,10 +110,11 @@ abbrev pub HasShortTexts : PlanSource → Type 0
 HasShortTexts (bare steps) = Unit {0}
 HasShortTexts (files domain plan) = (length domain ≤ most_text) × (length plan ≤ most_text)
 
--- what holds of each source that has a base: it has at most so many steps as a plan may have; its bounds begin with the horizon bounds of all
--- its events, name these events and are at most 131,328; the planned times are a schedule of them; in every schedule events
--- that interfere keep the plan's order; and its texts are short
+-- what holds of each source that has a base: it has at most so many steps as a plan may have; its bounds begin with the horizon
+-- bounds of all its events, name these events and are at most 131,328; the planned times are a schedule of them; in every
+-- schedule events that interfere keep the plan's order; and its texts are short
 pub record IsSoundSource (source : PlanSource) : Type 0 where
+  pub based : base_of source ≡ Ok source
   pub small : steps_of source ≤ most_steps
   pub horizon : take (events_of source) (base_bounds source) ≡ horizon_bounds (events_of source)
   pub named : All (NamesEvents (events_of source)) (base_bounds source)

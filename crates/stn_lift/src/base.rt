@@ -179,6 +179,7 @@ impl<A: Allocator> Base<A> {
     pub fn source(&self) -> &Source<A>
         ensures source { plan_source result.now ≡ self.now }
         ensures short { HasShortTexts self.now }
+        ensures sound { IsSoundSource self.now }
     {
         &self.source
     }

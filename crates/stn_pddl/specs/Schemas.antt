@@ -12,7 +12,8 @@ pub record AtomSchema : Type 0 where
   pub predicate : List ℕ
   pub terms : List TermSchema
 
--- a durative action: its name and parameters, its duration in milliseconds, and the atoms of its conditions and effects in the order of the text
+-- a durative action: its name and parameters, its duration in milliseconds, and the atoms of its conditions and effects in the
+-- order of the text
 pub record ActionSchema : Type 0 where
   pub name : List ℕ
   pub parameters : List (List ℕ)

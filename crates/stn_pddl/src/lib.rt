@@ -9,8 +9,6 @@ mod domain;
 mod fault;
 mod fields;
 mod plain;
-#[cfg(test)]
-mod tests;
 mod word;
 
 pub use action::{Action, Atom, Names, Term};

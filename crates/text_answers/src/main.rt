@@ -1,6 +1,6 @@
 //! For tests: reads domain and plan texts from standard input, one a line behind the word `domain` or `plan`; in a text `~`
-//! stands for a line feed. It prints of each the code and the line of its fault; `0 0` for a domain; of a plan 0 and the
-//! number of its steps.
+//! stands for a line feed. A line `padded <count> ..` has so many spaces behind its text. It prints of each the code and the
+//! line of its fault; `0 0` for a domain; of a plan 0 and the number of its steps.
 #![tactic(auto)]
 
 use std::alloc::Global;
@@ -54,10 +54,26 @@ fn answer(alloc: Global, row: &str) -> (u8, usize) {
     }
 }
 
+// How many spaces stand behind the text of a row, and the rest of the row.
+fn padding(row: &str) -> (usize, &str) {
+    match row
+        .strip_prefix("padded ")
+        .and_then(|rest| rest.split_once(' '))
+    {
+        Some((count, rest)) => (count.parse::<usize>().unwrap_or(0), rest),
+        None => (0, row),
+    }
+}
+
 fn main(rt: HostRuntime) -> io::Result<()> {
     for row in rt.lines(rt.alloc()) {
-        let row = row?.replace(rt.alloc(), "~", "\n")?;
-        let (code, number) = answer(rt.alloc(), &row);
+        let row = row?;
+        let (spaces, rest) = padding(row.as_str());
+        let mut text = rest.replace(rt.alloc(), "~", "\n")?;
+        for _ in 0..spaces {
+            text.push(' ')?;
+        }
+        let (code, number) = answer(rt.alloc(), &text);
         println!(rt; "{code} {number}")?;
     }
     Ok(())
