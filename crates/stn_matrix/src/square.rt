@@ -79,9 +79,26 @@ pub(crate) fn narrow(entries: &mut [i32], events: usize, bound: Bound)
     shorten(entries, events, lower);
 }
 
+// Shortens each entry by way of the arc; none can change where what is known is no longer than the arc.
+fn shorten(entries: &mut [i32], events: usize, arc: Arc)
+    requires whole { IsWhole events entries.old }
+    requires closed { IsClosed events (entry entries.old events) }
+    requires from { arc.from ≤ events }
+    requires to { arc.to ≤ events }
+    requires round { pos 0 ≤ℤ (entry entries.old events arc.to arc.from +ℤ arc.weight) }
+    ensures { (x y : ℕ) → x ≤ events → y ≤ events
+        → entry entries.new events x y ≡ shorter (entry entries.old events) arc.from arc.to arc.weight x y }
+{
+    let from = usize::from(arc.from.number());
+    let to = usize::from(arc.to.number());
+    if arc.weight.get() < entry_of(entries, events, from, to) {
+        shorten_rows(entries, events, arc);
+    }
+}
+
 // Shortens each entry by way of the arc; only a row from which the arc's end comes nearer can
 // change, and only in a column that comes nearer to the arc's beginning.
-fn shorten(entries: &mut [i32], events: usize, arc: Arc)
+fn shorten_rows(entries: &mut [i32], events: usize, arc: Arc)
     requires whole { IsWhole events entries.old }
     requires closed { IsClosed events (entry entries.old events) }
     requires from { arc.from ≤ events }
@@ -149,7 +166,7 @@ fn shorten_row(
     ensures { IsRowShortened events (entry entries.old events) (entry entries.new events) row by through }
 {
     let through = through as i32;
-    if columns.len() < events / 4 {
+    if columns.len() < events / 6 {
         shorten_columns(entries, events, row, by, through, columns);
     } else {
         shorten_all(entries, events, row, by, through);

@@ -1,4 +1,4 @@
-use crate::{Next, RehearseFault, next, ready, rehearse, window};
+use crate::{RehearseFault, ready, rehearse};
 use std::alloc::Allocator;
 use std::test::Fail;
 use stn_matrix::Matrix;
@@ -21,65 +21,11 @@ fn tighten<A: Allocator>(
     Ok(matrix.tighten(bound))
 }
 
-// The ends of the event's window, in milliseconds.
-fn ends<A: Allocator>(matrix: &Matrix<A>, event: u16) -> Result<(i64, i64), Fail> {
-    let event = Event::new(event).ok_or("no event")?;
-    if event.number() > matrix.events() {
-        return Err("no such event".into());
-    }
-    let (earliest, latest) = window(matrix, event);
-    Ok((earliest.get(), latest.get()))
-}
-
-#[test]
-fn windows(rt: HostRuntime) -> Result<(), Fail> {
-    let mut matrix = Matrix::bare(rt.alloc(), 2)?;
-    assert_eq!(rt; ends(&matrix, 0)?, (0, 0));
-    assert_eq!(rt; ends(&matrix, 1)?, (0, HORIZON));
-    assert_eq!(rt; ends(&matrix, 2)?, (0, HORIZON));
-    assert!(rt; tighten(&mut matrix, 1, 2, 5_000, 5_000)?);
-    assert_eq!(rt; ends(&matrix, 1)?, (0, HORIZON - 5_000));
-    assert_eq!(rt; ends(&matrix, 2)?, (5_000, HORIZON));
-    assert!(rt; tighten(&mut matrix, 0, 1, 2_000, 10_000)?);
-    assert_eq!(rt; ends(&matrix, 1)?, (2_000, 10_000));
-    assert_eq!(rt; ends(&matrix, 2)?, (7_000, 15_000));
-    Ok(())
-}
-
-#[test]
-fn zero_sum(rt: HostRuntime) -> Result<(), Fail> {
-    let mut matrix = Matrix::bare(rt.alloc(), 2)?;
-    assert!(rt; tighten(&mut matrix, 1, 2, 5_000, 5_000)?);
-    assert!(rt; tighten(&mut matrix, 0, 2, -HORIZON, 5_000)?);
-    assert_eq!(rt; ends(&matrix, 1)?, (0, 0));
-    assert_eq!(rt; ends(&matrix, 2)?, (5_000, 5_000));
-    Ok(())
-}
-
-// What comes next from so many milliseconds on.
-fn next_at<A: Allocator>(matrix: &Matrix<A>, done: &[bool], now: i64) -> Result<Next, Fail> {
-    let now = Ms::new(now).ok_or("beyond the horizon")?;
-    if done.len() != usize::from(matrix.events()) + 1 {
-        return Err("not one test for each event".into());
-    }
-    Ok(next(matrix, done, now))
-}
-
 // A run of an event at so many milliseconds.
 fn run(time: i64, event: u16) -> Result<(Ms, Event), Fail> {
     let time = Ms::new(time).ok_or("beyond the horizon")?;
     let event = Event::new(event).ok_or("no event")?;
     Ok((time, event))
-}
-
-fn runs_next(time: i64, event: u16) -> Result<Next, Fail> {
-    let (time, event) = run(time, event)?;
-    Ok(Next::Run(time, event))
-}
-
-fn overdue(event: u16) -> Result<Next, Fail> {
-    let event = Event::new(event).ok_or("no event")?;
-    Ok(Next::Overdue(event))
 }
 
 // The rehearsal from so many milliseconds on.
@@ -96,38 +42,6 @@ fn rehearsal<A: Allocator + Copy>(
     Ok(rehearse(alloc, matrix, done, now))
 }
 
-#[test]
-fn around_a_window(rt: HostRuntime) -> Result<(), Fail> {
-    let mut matrix = Matrix::bare(rt.alloc(), 1)?;
-    assert!(rt; tighten(&mut matrix, 0, 1, 2_000, 10_000)?);
-    let left = [false, false];
-    assert_eq!(rt; next_at(&matrix, &left, 1_999)?, runs_next(2_000, 1)?);
-    assert_eq!(rt; next_at(&matrix, &left, 2_000)?, runs_next(2_000, 1)?);
-    assert_eq!(rt; next_at(&matrix, &left, 2_001)?, runs_next(2_001, 1)?);
-    assert_eq!(rt; next_at(&matrix, &left, 10_000)?, runs_next(10_000, 1)?);
-    assert_eq!(rt; next_at(&matrix, &left, 10_001)?, overdue(1)?);
-    assert_eq!(rt; next_at(&matrix, &[false, true], 10_001)?, Next::AllDone);
-    Ok(())
-}
-
-#[test]
-fn ties_by_number(rt: HostRuntime) -> Result<(), Fail> {
-    let matrix = Matrix::bare(rt.alloc(), 2)?;
-    assert_eq!(rt;
-        next_at(&matrix, &[false, false, false], 0)?,
-        runs_next(0, 1)?
-    );
-    assert_eq!(rt;
-        next_at(&matrix, &[false, true, false], 0)?,
-        runs_next(0, 2)?
-    );
-    assert_eq!(rt;
-        next_at(&matrix, &[false, false, false], 7)?,
-        runs_next(7, 1)?
-    );
-    Ok(())
-}
-
 // A match burns for eight seconds, and the fuse is mended in five by its light.
 fn cellar<A: Allocator>(alloc: A) -> Result<Matrix<A>, Fail> {
     let mut matrix = Matrix::bare(alloc, 4)?;
@@ -140,20 +54,6 @@ fn cellar<A: Allocator>(alloc: A) -> Result<Matrix<A>, Fail> {
     } else {
         Err("no schedule".into())
     }
-}
-
-#[test]
-fn next_in_the_cellar(rt: HostRuntime) -> Result<(), Fail> {
-    let mut matrix = cellar(rt.alloc())?;
-    assert_eq!(rt;
-        next_at(&matrix, &[false, false, false, false, false], 0)?,
-        runs_next(0, 1)?
-    );
-    assert!(rt; tighten(&mut matrix, 0, 1, 0, 0)?);
-    let lit = [false, true, false, false, false];
-    assert_eq!(rt; next_at(&matrix, &lit, 0)?, runs_next(1, 3)?);
-    assert_eq!(rt; next_at(&matrix, &lit, 3_000)?, overdue(3)?);
-    Ok(())
 }
 
 #[test]

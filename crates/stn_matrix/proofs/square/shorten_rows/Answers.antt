@@ -1,0 +1,102 @@
+use Rattle.std.proofs.Common.{◌≡◌, ◌∙◌, arith, take, to_z, of_z, w64, ◌+ℤ◌, ◌≤ℤ◌, ◌<ℤ◌, ◌+◌}
+use Rattle.std.proofs.lemmas.Int.{ints}
+use Rattle.stn_matrix.specs.Way.{entry}
+use Rattle.stn_matrix.proofs.Entries.{IsShortenedTo, IsNearerRow, nearer_row, row_left_out, shortened_skip, shortened_turn}
+use Rattle.stn_matrix.proofs.square.shorten_rows.Goals as goal
+use Rattle.stn_matrix.proofs.square.shorten_rows.Goals.{then-through-entry_of, else-through-entry_of}
+
+-- the row is one from which the arc's end comes nearer
+nearer : (c : goal.After-columns-then-through-entry_of-1)
+    → IsNearerRow c.args.events (entry c.loop-row.entries c.args.events) c.loop-row.row c.from-to.result
+    (to_z w64 (of_z w64 (to_z w64 (of_z w64 c.entry_of.result) +ℤ to_z w64 (of_z w64 c.get-weight.result))))
+nearer c =
+    let old = entry c.args.entries.now c.args.events in
+    let new = entry c.loop-row.entries c.args.events in
+    let row = c.loop-row.row in
+    let rs = c.loop-row-test.true in
+    let arc = c.args.arc in
+    let from_is = c.from-from.ensures ∙ c.number.ensures.value in
+    let to_is = c.from-to.ensures ∙ c.number-2.ensures.value in
+    let start : c.entry_of.result ≡ new row arc.from = rw from_is at c.entry_of.ensures.value in
+    let end : c.entry_of-in-loop-row.result ≡ new row arc.to = rw to_is at c.entry_of-in-loop-row.ensures.value in
+    let weight = c.get-weight.ensures.value in
+    let within = c.get-weight.ensures.within in
+    let through = to_z w64 (of_z w64 (to_z w64 (of_z w64 c.entry_of.result) +ℤ to_z w64 (of_z w64 c.get-weight.result))) in
+    let is : through ≡ (new row arc.from +ℤ arc.weight) = omega (arith, ints) in
+    let test = c.if-through-entry_of.true in
+    let shorter : through <ℤ new row arc.to = omega (arith, ints) in
+    rw to_is (nearer_row c.args.events old new arc.from arc.to arc.weight row through c.loop-row.invariant
+    c.requires.closed c.requires.from c.requires.to c.requires.round rs is shorter)
+
+pub shorten_row-requires-clause-apart : goal.shorten_row-requires-clause-apart
+shorten_row-requires-clause-apart c = (nearer c).apart
+
+pub shorten_row-requires-clause-reach : goal.shorten_row-requires-clause-reach
+shorten_row-requires-clause-reach c = (nearer c).reach
+
+pub shorten_row-requires-clause-ways : goal.shorten_row-requires-clause-ways
+shorten_row-requires-clause-ways c = (nearer c).ways
+
+pub shorten_row-requires-clause-left_out : goal.shorten_row-requires-clause-left_out
+shorten_row-requires-clause-left_out c =
+    let old = entry c.args.entries.now c.args.events in
+    let new = entry c.loop-row.entries c.args.events in
+    let row = c.loop-row.row in
+    let arc = c.args.arc in
+    let from_is = c.from-from.ensures ∙ c.number.ensures.value in
+    let to_is = c.from-to.ensures ∙ c.number-2.ensures.value in
+    let start : c.entry_of.result ≡ new row arc.from = rw from_is at c.entry_of.ensures.value in
+    let weight = c.get-weight.ensures.value in
+    let within = c.get-weight.ensures.within in
+    let through = to_z w64 (of_z w64 (to_z w64 (of_z w64 c.entry_of.result) +ℤ to_z w64 (of_z w64 c.get-weight.result))) in
+    let is : through ≡ (new row arc.from +ℤ arc.weight) = omega (arith, ints) in
+    let columns = take c.nearer_columns-count.result c.nearer_columns-count.new.columns in
+    rw to_is (row_left_out c.args.events old new arc.from arc.to arc.weight row columns through c.loop-row.invariant
+    c.requires.closed c.requires.from c.requires.to c.requires.round c.loop-row-test.true is c.nearer_columns-count.ensures.listed)
+
+pub loop-row-preserved : goal.loop-row-preserved
+loop-row-preserved c =
+    let old = entry c.args.entries.now c.args.events in
+    let new = entry c.loop-row.entries c.args.events in
+    let row = c.loop-row.row in
+    let rs = c.loop-row-test.true in
+    let arc = c.args.arc in
+    let from_is = c.from-from.ensures ∙ c.number.ensures.value in
+    let to_is = c.from-to.ensures ∙ c.number-2.ensures.value in
+    let start : c.entry_of.result ≡ new row arc.from = rw from_is at c.entry_of.ensures.value in
+    let end : c.entry_of-in-loop-row.result ≡ new row arc.to = rw to_is at c.entry_of-in-loop-row.ensures.value in
+    let weight = c.get-weight.ensures.value in
+    let within = c.get-weight.ensures.within in
+    let through : to_z w64 (of_z w64 (to_z w64 (of_z w64 c.entry_of.result) +ℤ to_z w64 (of_z w64 c.get-weight.result))) ≡ (new row arc.from +ℤ arc.weight) = omega (arith, ints) in
+    elim c.if-through-entry_of.branch [
+      | then-through-entry_of w ↦ rw w.entries-is
+          (shortened_turn c.args.events old new (entry w.shorten_row.new.entries c.args.events) arc.from arc.to arc.weight row c.loop-row.invariant
+          c.requires.from c.requires.to c.requires.round rs (rw (to_is, through) at w.shorten_row.ensures))
+      | else-through-entry_of w ↦ rw w.entries-is
+          (let longer : new row arc.to ≤ℤ (new row arc.from +ℤ arc.weight) = (let h = w.if-through-entry_of.false in grind (arith, ints)) in
+          shortened_skip c.args.events old new arc.from arc.to arc.weight row c.loop-row.invariant c.requires.closed c.requires.from c.requires.to rs longer)
+    ]
+
+pub returns-after-through-entry_of : goal.returns-after-through-entry_of
+returns-after-through-entry_of c =
+    let old = entry c.args.entries.now c.args.events in
+    let new = entry c.loop-row.entries c.args.events in
+    let row = c.loop-row.row in
+    let rs = c.loop-row-test.true in
+    let arc = c.args.arc in
+    let from_is = c.from-from.ensures ∙ c.number.ensures.value in
+    let to_is = c.from-to.ensures ∙ c.number-2.ensures.value in
+    let start : c.entry_of.result ≡ new row arc.from = rw from_is at c.entry_of.ensures.value in
+    let end : c.entry_of-in-loop-row.result ≡ new row arc.to = rw to_is at c.entry_of-in-loop-row.ensures.value in
+    let weight = c.get-weight.ensures.value in
+    let within = c.get-weight.ensures.within in
+    let through : to_z w64 (of_z w64 (to_z w64 (of_z w64 c.entry_of.result) +ℤ to_z w64 (of_z w64 c.get-weight.result))) ≡ (new row arc.from +ℤ arc.weight) = omega (arith, ints) in
+    let last : IsShortenedTo c.args.events old (entry c.if-through-entry_of.entries c.args.events) arc.from arc.to arc.weight (row + 1) = elim c.if-through-entry_of.branch [
+      | then-through-entry_of w ↦ rw w.entries-is
+          (shortened_turn c.args.events old new (entry w.shorten_row.new.entries c.args.events) arc.from arc.to arc.weight row c.loop-row.invariant
+          c.requires.from c.requires.to c.requires.round rs (rw (to_is, through) at w.shorten_row.ensures))
+      | else-through-entry_of w ↦ rw w.entries-is
+          (let longer : new row arc.to ≤ℤ (new row arc.from +ℤ arc.weight) = (let h = w.if-through-entry_of.false in grind (arith, ints)) in
+          shortened_skip c.args.events old new arc.from arc.to arc.weight row c.loop-row.invariant c.requires.closed c.requires.from c.requires.to rs longer)
+    ] in
+    λ x y xs ys. last.here x y (omega arith) xs ys
