@@ -32,7 +32,7 @@ use Rattle.stn_records.specs.declared.record.Record.{Record}
 use Rattle.stn_records.specs.Maps.{union}
 use Rattle.stn_records.specs.MapLaws.{get-union, either_value}
 use Rattle.stn_records.specs.JoinLaws.{join_is}
-use Rattle.stn_records.specs.Content.{most_known, RecordMap, IdSet, Content, Item, addition, withdrawal, HasItem, AllProper, same_ids, known_ids, known_count, known_in_both, is_known, join_contents, joined_contents, with_record, with_tombstone, one_record, one_tombstone, no_content}
+use Rattle.stn_records.specs.Content.{most_known, RecordMap, IdSet, Content, Item, addition, withdrawal, HasItem, AllProper, same_ids, known_ids, known_count, known_in_either, is_known, join_contents, joined_contents, with_record, with_tombstone, one_record, one_tombstone, no_content}
 use Rattle.stn_records.specs.ContentLaws.{ids_total, ids_exact, contents_join}
 
 -- ---- how many ids are known
@@ -254,7 +254,7 @@ known_within s =
     omega (arith, within, length-append (fin.keys s.additions) (fin.keys s.tombstones), keys_length (fin.entries s.additions), keys_length (fin.entries s.tombstones))
 
 -- what the join of two contents knows is what they know together
-pub together : (s t : Content) → known_count (joined_contents s t) ≡ known_in_both s t
+pub together : (s t : Content) → known_count (joined_contents s t) ≡ known_in_either s t
 together s t = same_count (known_ids (joined_contents s t)) (known_ids s ++ known_ids t) (λ q.
     known_member (joined_contents s t) q
     ∙ (λ i. is_some (get-union ids_total ids_exact s.additions t.additions q i) || is_some (get-union ids_total ids_exact s.tombstones t.tombstones q i))
@@ -350,6 +350,22 @@ module _ (s : Content) (x : RecordMap) (y : IdSet) (seen : record { additions = 
       let here : known_count (record { additions = x; tombstones = y }) < most_known = omega (arith, known_within (record { additions = x; tombstones = y }), ap length p, ap length q) in
       subst (λ t. known_count t < most_known) seen here
 
+-- two contents know together no more ids than all four parts have entries
+pub known_together : (s t : Content) → known_in_either s t ≤ (length (fin.entries s.additions) + length (fin.entries s.tombstones)) + (length (fin.entries t.additions) + length (fin.entries t.tombstones))
+known_together s t =
+    let within = distinct_count-le same_ids (known_ids s ++ known_ids t) in
+    omega (
+      arith,
+      within,
+      length-append (known_ids s) (known_ids t),
+      length-append (fin.keys s.additions) (fin.keys s.tombstones),
+      length-append (fin.keys t.additions) (fin.keys t.tombstones),
+      keys_length (fin.entries s.additions),
+      keys_length (fin.entries s.tombstones),
+      keys_length (fin.entries t.additions),
+      keys_length (fin.entries t.tombstones),
+    )
+
 -- an id of a record or a tombstone is known
 pub known_by_record : (s : Content) (id : SiteCounter) → fin.contains_key s.additions id ≡ true → is_known s id ≡ true
 known_by_record s id e = or_left _ _ e
@@ -368,8 +384,15 @@ room_left s full is most spare = ⊎_elim (λ few. few) (λ many. absurd (false�
 pub seen_dispute : (s t : Content) (x u : RecordMap) (y v : IdSet) → record { additions = x; tombstones = y } ≡ s → record { additions = u; tombstones = v } ≡ t → (o : Option SiteCounter) → o ≡ dispute_records x u → o ≡ dispute_contents s t
 seen_dispute s t x u y v p q o is = is ∙ (λ i. dispute_contents (p i) (q i))
 
+-- where a test says that two contents don't know too much together
+pub not_too_much : (s t : Content) (b : Bool) → (IsTrue b ↔ (most_known < known_in_either s t)) → b ≡ false → known_in_either s t ≤ most_known
+not_too_much s t b tells f = elim (cases_lt most_known (known_in_either s t)) [
+  | inl many ↦ absurd (false≢true (sym f ∙ tells.1 many))
+  | inr few ↦ few
+]
+
 -- a join that knows too much is refused
-pub too_many : (s t : Content) → dispute_contents s t ≡ None → most_known < known_in_both s t → taken s t ≡ None
+pub too_many : (s t : Content) → dispute_contents s t ≡ None → most_known < known_in_either s t → taken s t ≡ None
 too_many s t none many =
     let wide : most_known < known_count (joined_contents s t) = omega (arith, together s t, many) in
     ap (option_and_then (passing is_within)) (contents_undisputed s t none)
@@ -379,13 +402,13 @@ too_many s t none many =
     lt-leb-false a b h = elim (nat_le a b) as (λ v. nat_le a b ≡ v → v ≡ false) [ true ↦ λ e. let w : a ≤ b = leb-true a b e in absurd (omega arith) | false ↦ λ e. refl ] refl
 
 -- and one within the limit is what a take leaves
-pub taken_is : (s t all : Content) → dispute_contents s t ≡ None → known_in_both s t ≤ most_known → all ≡ joined_contents s t → taken s t ≡ Some all
+pub taken_is : (s t all : Content) → dispute_contents s t ≡ None → known_in_either s t ≤ most_known → all ≡ joined_contents s t → taken s t ≡ Some all
 taken_is s t all none few is =
     let within : known_count (joined_contents s t) ≤ most_known = omega (arith, together s t, few) in
     ap (option_and_then (passing is_within)) (contents_undisputed s t none)
     ∙ ap (λ b. cond b (Some (joined_contents s t)) None) (le-leb (known_count (joined_contents s t)) most_known within) ∙ ap Some (sym is)
 
-pub joined_sound : (s t all : Content) → IsSound s → IsSound t → known_in_both s t ≤ most_known → all ≡ joined_contents s t → IsSound all
+pub joined_sound : (s t all : Content) → IsSound s → IsSound t → known_in_either s t ≤ most_known → all ≡ joined_contents s t → IsSound all
 joined_sound s t all p q few is = subst IsSound (sym is) (record { proper = union_proper s.additions t.additions p.proper q.proper; limited = omega (arith, together s t, few) })
 
 pub part_sound : (s part : Content) (records tombstones : List SiteCounter) → IsSound s → part ≡ part_of s records tombstones → IsSound part

@@ -3,6 +3,7 @@ pub mod Lists
 pub mod Places
 pub mod Disputes
 pub mod Contents
+pub mod Holding
 pub mod Counts
 pub mod Counters
 pub mod Dots

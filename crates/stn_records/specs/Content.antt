@@ -103,8 +103,8 @@ abbrev pub known_count : Content → ℕ
 known_count s = distinct_count same_ids (known_ids s)
 
 -- how many ids two contents know together
-abbrev pub known_in_both : Content → Content → ℕ
-known_in_both a b = distinct_count same_ids (known_ids a ++ known_ids b)
+abbrev pub known_in_either : Content → Content → ℕ
+known_in_either a b = distinct_count same_ids (known_ids a ++ known_ids b)
 
 -- what a take leaves: the join, where it is there and knows no more ids than the most
 abbrev pub is_within : Content → Bool

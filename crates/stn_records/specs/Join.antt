@@ -38,7 +38,8 @@ passing test content = if test content then Some content else None
 abbrev pub join_within : {C : Type 0} → (C → Bool) → (C → C → Option C) → C → C → Option C
 join_within test join a b = option_and_then (passing test) (join a b)
 
--- a join is the union of the items: contents with the same items are equal, a join has the items of both, and two contents have a join where some content has the items of both
+-- a join is the union of the items: contents with the same items are equal, a join has the items of both, and two contents have
+-- a join where some content has the items of both
 pub record IsJoin {C I : Type 0} (Holds : C → I → Type 0) (join : C → C → Option C) : Type 0 where
   pub same : (c d : C) → ((item : I) → Holds c item ↔ Holds d item) → c ≡ d
   pub union : (a b c : C) → join a b ≡ Some c → (item : I) → Holds c item ↔ (Holds a item ⊎ Holds b item)

@@ -23,8 +23,6 @@ mod record;
 mod records;
 mod sorted;
 mod state;
-#[cfg(test)]
-mod tests;
 mod tombstones;
 
 /// The greatest number of ids that a site knows.

@@ -2,14 +2,14 @@ ghost use Rattle.std.specs.Prelude.{◌≡◌, ◌≢◌, ◌+◌, ◌<◌, ◌�
 ghost use Rattle.std.specs.FinMap as fin;
 ghost use Rattle.stn_records.specs.Id.{most_counter, SiteCounter};
 ghost use Rattle.stn_records.specs.Record.{IsProper};
-ghost use Rattle.stn_records.specs.Content.{most_known, Content, IsSound, AllHeld, no_content, one_record, one_tombstone, with_record, with_tombstone, is_known, is_live as is_live_in, known_count, known_in_both, live_of, listed, next_counter as next_counter_of, part_of, dispute_contents, join_contents, taken as taken_of, HasAnother};
+ghost use Rattle.stn_records.specs.Content.{most_known, Content, IsSound, AllHeld, no_content, one_record, one_tombstone, with_record, with_tombstone, is_known, is_live as is_live_in, known_count, known_in_either, live_of, listed, next_counter as next_counter_of, part_of, dispute_contents, join_contents, taken as taken_of, HasAnother};
 
 use crate::MOST_KNOWN;
 use crate::additions::Additions;
 use crate::faults::{BuryFault, CounterSpent, PartFault, RecordsFault, WithdrawFault};
 use crate::id::{Id, Site};
 use crate::record::{Mark, Record, is_same};
-use crate::sorted::{count_ids, greatest_counter};
+use crate::sorted::{count_ids, greatest_counter, has_ids};
 use crate::state::State;
 use crate::tombstones::Tombstones;
 use std::alloc::Allocator;
@@ -58,10 +58,10 @@ impl<A: Allocator + Copy> Records<A> {
         ensures sound { IfSome result IsSound }
         ensures all { (s : Content) → IsSound s → fin.entries s.additions ≡ additions.items → fin.entries s.tombstones ≡ tombstones.items → result ≡ Some s }
     {
-        let state = State {
-            additions: Additions::from_entries(additions)?,
-            tombstones: Tombstones::from_entries(tombstones)?,
-        };
+        let state = State::of(
+            Additions::from_entries(additions)?,
+            Tombstones::from_entries(tombstones)?,
+        );
         if state.known() > MOST_KNOWN {
             return None;
         }
@@ -161,13 +161,13 @@ impl<A: Allocator + Copy> Records<A> {
         ensures taken { IfOk result (λ all. taken_of self.now other.now ≡ Some all) }
 
         ensures clash { (id : SiteCounter) → (result ≡ Err (RecordsFault.Clash id)) ↔ (dispute_contents self.now other.now ≡ Some id) }
-        ensures full { IsErrOf result RecordsFault.Full ↔ (dispute_contents self.now other.now ≡ None) × (most_known < known_in_both self.now other.now) }
+        ensures full { IsErrOf result RecordsFault.Full ↔ (dispute_contents self.now other.now ≡ None) × (most_known < known_in_either self.now other.now) }
         ensures refused { IfErr result (λ fault. fault ≢ RecordsFault.Memory → taken_of self.now other.now ≡ None) }
     {
         if let Some(id) = self.state.additions.dispute(&other.state.additions) {
             return Err(RecordsFault::Clash(id));
         }
-        if self.known_with(other) > MOST_KNOWN {
+        if self.is_too_much_with(other) {
             return Err(RecordsFault::Full);
         }
         let state = self.state.union(&other.state)?;
@@ -183,7 +183,7 @@ impl<A: Allocator + Copy> Records<A> {
         ensures taken { OnOk result (taken_of self.old other.now ≡ Some self.new) }
 
         ensures clash { (id : SiteCounter) → (result ≡ Err (RecordsFault.Clash id)) ↔ (dispute_contents self.old other.now ≡ Some id) }
-        ensures full { IsErrOf result RecordsFault.Full ↔ (dispute_contents self.old other.now ≡ None) × (most_known < known_in_both self.old other.now) }
+        ensures full { IsErrOf result RecordsFault.Full ↔ (dispute_contents self.old other.now ≡ None) × (most_known < known_in_either self.old other.now) }
         ensures refused { IfErr result (λ fault. fault ≢ RecordsFault.Memory → taken_of self.old other.now ≡ None) }
         ensures kept { OnErr result (self.new ≡ self.old) }
     {
@@ -194,6 +194,17 @@ impl<A: Allocator + Copy> Records<A> {
             }
             Err(fault) => Err(fault),
         }
+    }
+
+    /// Whether all that the other holds is held already, so that to take it in changes nothing.
+    pub fn holds(&self, other: &Records<A>) -> bool
+        ensures { IsTrue result ↔ (taken_of self.now other.now ≡ Some self.now) }
+    {
+        let ours = &self.state;
+        let theirs = &other.state;
+        has_ids(ours.tombstones.entries(), theirs.tombstones.entries())
+            && has_ids(ours.additions.entries(), theirs.additions.entries())
+            && ours.additions.dispute(&theirs.additions).is_none()
     }
 
     /// The records and the withdrawn ids of two lists, alone. An id may stand in a list twice.
@@ -265,9 +276,18 @@ impl<A: Allocator + Copy> Records<A> {
         added + withdrawn >= MOST_KNOWN && self.known() >= MOST_KNOWN
     }
 
+    // Whether both know more than 4,096 ids together. They are counted only where the four lists are long enough.
+    fn is_too_much_with(&self, other: &Records<A>) -> bool
+        ensures { IsTrue result ↔ (most_known < known_in_either self.now other.now) }
+    {
+        let ours = self.state.additions.entries().len() + self.state.tombstones.entries().len();
+        let theirs = other.state.additions.entries().len() + other.state.tombstones.entries().len();
+        ours + theirs > MOST_KNOWN && self.known_with(other) > MOST_KNOWN
+    }
+
     // How many ids both know together.
     fn known_with(&self, other: &Records<A>) -> usize
-        ensures { result ≡ known_in_both self.now other.now }
+        ensures { result ≡ known_in_either self.now other.now }
     {
         count_ids(
             self.state.additions.entries(),

@@ -39,6 +39,16 @@ impl<A: Allocator + Copy> State<A> {
         }
     }
 
+    // The two parts as a state.
+    pub(crate) fn of(additions: Additions<A>, tombstones: Tombstones<A>) -> Self
+        ensures { result ≡ record { additions = additions; tombstones = tombstones } }
+    {
+        State {
+            additions,
+            tombstones,
+        }
+    }
+
     /// The records that were added.
     pub fn additions(&self) -> &Additions<A>
         ensures { result.now ≡ self.now.additions }

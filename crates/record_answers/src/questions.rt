@@ -1,0 +1,110 @@
+use crate::print::{append_id, append_number, append_record};
+use anyhow::Error;
+use std::alloc::Global;
+use std::str::SplitWhitespace;
+use stn_records::{Id, PartFault, Record, Records, Site};
+
+// All that is held, withdrawn or not, and behind a dash the withdrawn ids.
+pub fn append_held(records: &Records<Global>, out: &mut Vec<u8>) -> Result<(), Error> {
+    out.extend_from_slice(b"held")?;
+    for place in 0..=records.known() {
+        if let Some((id, mark, bound)) = records.record_at(place) {
+            append_record(id, Record { mark, bound }, out)?;
+        }
+    }
+    out.extend_from_slice(b" -")?;
+    for place in 0..=records.known() {
+        if let Some(id) = records.tomb_at(place) {
+            append_id(id, out)?;
+        }
+    }
+    Ok(())
+}
+
+fn append_live(records: &Records<Global>, out: &mut Vec<u8>) -> Result<(), Error> {
+    out.extend_from_slice(b"live")?;
+    for &(id, mark, bound) in records.live()?.as_slice() {
+        append_record(id, Record { mark, bound }, out)?;
+    }
+    Ok(())
+}
+
+// The next counter of the site of a number.
+fn append_next(records: &Records<Global>, site: &str, out: &mut Vec<u8>) -> Result<(), Error> {
+    let site = site.parse::<u8>().ok().and_then(|number| Site::new(number));
+    match site.map(|site| records.next_counter(site)) {
+        Some(Ok(counter)) => append_number(usize::from(counter), out)?,
+        Some(Err(_)) => out.extend_from_slice(b"spent")?,
+        None => out.extend_from_slice(b"no site")?,
+    }
+    Ok(())
+}
+
+// The parts of an id and its text, and whether its record is live.
+fn append_id_read(records: &Records<Global>, text: &str, out: &mut Vec<u8>) -> Result<(), Error> {
+    let Some(id) = Id::read(text.as_bytes()) else {
+        return Ok(out.extend_from_slice(b"no id")?);
+    };
+    append_number(usize::from(id.site().number()), out)?;
+    out.push(b' ')?;
+    append_number(usize::from(id.counter()), out)?;
+    append_id(id, out)?;
+    if records.is_live(id) {
+        out.extend_from_slice(b" live")?;
+    }
+    Ok(())
+}
+
+// Appends the answer to a question. Whether there is such a question.
+pub fn ask(
+    call: &str,
+    ours: &Records<Global>,
+    words: &mut SplitWhitespace<'_>,
+    out: &mut Vec<u8>,
+) -> Result<bool, Error> {
+    match call {
+        "held" => append_held(ours, out)?,
+        "live" => append_live(ours, out)?,
+        "known" => append_number(ours.known(), out)?,
+        "next" => append_next(ours, words.next().unwrap_or(""), out)?,
+        "id" => append_id_read(ours, words.next().unwrap_or(""), out)?,
+        _ => return Ok(false),
+    }
+    Ok(true)
+}
+
+// The ids up to a dash, or all.
+fn next_ids(alloc: Global, words: &mut SplitWhitespace<'_>) -> Result<Vec<Id>, Error> {
+    let mut ids = Vec::new(alloc);
+    for word in words.take_while(|word| *word != "-") {
+        if let Some(id) = Id::read(word.as_bytes()) {
+            ids.push(id)?;
+        }
+    }
+    Ok(ids)
+}
+
+// Appends what a copy holds, or a part: the records of ids, and behind a dash withdrawn ids. Whether there is such a call.
+pub fn ask_for_part(
+    alloc: Global,
+    call: &str,
+    ours: &Records<Global>,
+    words: &mut SplitWhitespace<'_>,
+    out: &mut Vec<u8>,
+) -> Result<bool, Error> {
+    if call == "copy" {
+        append_held(&ours.copy()?, out)?;
+        return Ok(true);
+    }
+    if call != "part" {
+        return Ok(false);
+    }
+    let records = next_ids(alloc, words)?;
+    let tombstones = next_ids(alloc, words)?;
+    match ours.part(&records, &tombstones) {
+        Ok(part) => append_held(&part, out)?,
+        Err(PartFault::Unknown) => out.extend_from_slice(b"unknown")?,
+        Err(PartFault::Memory) => out.extend_from_slice(b"memory")?,
+    }
+    Ok(true)
+}
