@@ -1,5 +1,5 @@
 -- What an addition, a withdrawal and a take make of a state.
-use Rattle.std.proofs.Common.{◌≡◌, ℕ, ◌<◌, ◌≤◌, Bool, true, false, cond, not, ◌&&◌, ◌||◌, List, [], ◌∷◌, ◌++◌, length, Option, Some, None, is_some, inl, ⊎_elim, refl, sym, ap, subst, ◌∙◌, arith, All}
+use Rattle.std.proofs.Common.{◌≡◌, ℕ, ◌<◌, ◌≤◌, Bool, true, false, cond, not, ◌&&◌, ◌||◌, List, [], ◌∷◌, ◌++◌, length, Option, Some, None, is_some, inl, inr, ⊎_elim, refl, sym, ap, subst, ◌∙◌, arith, All}
 use Rattle.std.proofs.lemmas.Bool.{false≢true, cases_lt}
 use Rattle.std.proofs.lemmas.List.Elements.{All-append, All-nil, All-push}
 use Rattle.std.specs.Ordering.{eq_by_cmp}
@@ -11,8 +11,9 @@ use Rattle.stn_matrix.specs.Table.{Table}
 use Rattle.stn_matrix.specs.Tightest.{IsExact}
 use Rattle.stn_records.specs.Id.{SiteCounter, id_cmp}
 use Rattle.stn_records.specs.declared.record.Record.{Record}
-use Rattle.stn_records.specs.Content.{Content, addition, is_live, is_known, no_content, with_record, with_tombstone, join_contents}
+use Rattle.stn_records.specs.Content.{Content, addition, is_live, is_known, no_content, with_record, with_tombstone, join_contents, taken}
 use Rattle.stn_records.specs.ContentLaws.{ids_total, ids_exact, contents_join}
+use Rattle.stn_records.proofs.Holding.{joined_is}
 use Rattle.stn_replica.specs.Bounds.{bounds_of, live_bounds, RecordsName}
 use Rattle.stn_replica.specs.Invariant.{IsKnown}
 use Rattle.stn_replica.specs.Work.{is_risen, risen, Extends, KeepsLive}
@@ -130,6 +131,13 @@ module _ (s : Content) (id : SiteCounter) (r : Record) (unknown : is_known s id 
 -- ---- a state that takes another
 pub extends_joined : (a b c : Content) → join_contents a b ≡ Some c → Extends a c
 extends_joined a b c e id r there = (contents_join.union a b c e (addition id r)).1 (inl there)
+
+-- records of another state that are all held name what the records of this one do
+pub named_held : (events : ℕ) (a b : Content) → taken a b ≡ Some a → RecordsName events a → RecordsName events b
+named_held events a b is named =
+    entries_from_get ids_total ids_exact b.additions (λ entry. NamesEvents events entry.1.bound) (λ id r there.
+    get_from_entries ids_total ids_exact a.additions (λ entry. NamesEvents events entry.1.bound) named id r
+    ((contents_join.union a b a (joined_is a b is) (addition id r)).1 (inr there)))
 
 pub named_joined : (events : ℕ) (a b c : Content) → join_contents a b ≡ Some c → RecordsName events a → RecordsName events b → RecordsName events c
 named_joined events a b c e ours theirs =

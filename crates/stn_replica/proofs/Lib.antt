@@ -1,3 +1,4 @@
+pub mod Ahead
 pub mod Broken
 pub mod Changes
 pub mod Count

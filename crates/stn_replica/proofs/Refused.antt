@@ -1,5 +1,5 @@
 -- The first cause that refuses each call, from what its parts answer.
-use Rattle.std.proofs.Common.{◌≡◌, ◌≢◌, ℕ, ℤ, inl, inr, subst, ◌<◌, ◌≤◌, Bool, true, false, not, ◌&&◌, ◌↔◌, leb, ltb, Option, Some, None, Result, Ok, Err, refl, sym, ap, ◌∙◌, arith}
+use Rattle.std.proofs.Common.{◌≡◌, ◌≢◌, ℕ, ℤ, inl, inr, subst, ◌<◌, ◌≤◌, Bool, true, false, not, ◌&&◌, ◌↔◌, leb, ltb, Option, Some, None, is_some, Result, Ok, Err, refl, sym, ap, ◌∙◌, arith}
 use Rattle.std.specs.Prelude.{unwrap_or, ◌==◌, int_lt, option_map}
 use Rattle.std.specs.Bool.{Decides, then_some}
 use Rattle.std.specs.Option.{option_or}
@@ -17,12 +17,14 @@ use Rattle.stn_records.specs.Id.{most_counter, SiteCounter}
 use Rattle.stn_records.specs.declared.record.Record.{Record}
 use Rattle.stn_records.specs.declared.faults.RecordsFault.{RecordsFault}
 use Rattle.stn_records.specs.declared.faults.RecordsFault.TheVariants as records
-use Rattle.stn_records.specs.Content.{most_known, Content, HasAnother, is_known, known_count, known_in_both, next_counter, dispute_contents}
+use Rattle.stn_records.specs.Content.{most_known, Content, HasAnother, is_known, known_count, known_in_either, next_counter, dispute_contents, taken}
 use Rattle.stn_replica.specs.declared.faults.ReplicaFault.TheVariants.{Bound, CounterSpent, Full, Unknown, Clash, Memory}
 use Rattle.stn_replica.specs.Bounds.{RecordsName}
 use Rattle.stn_replica.specs.FaultsOf.{of_records_fault}
 use Rattle.stn_replica.specs.Held.{Held}
 use Rattle.stn_replica.specs.Refusals.{names_events, bound_refusal, next_refusal, add_refusal, done_refusal, withdraw_refusal, records_name, take_refusal}
+use Rattle.stn_records.proofs.Contents.{too_many}
+use Rattle.stn_records.proofs.Holding.{held_agrees}
 use Rattle.stn_replica.proofs.Changes.{unknown_absent}
 
 -- the first of several causes stands, or another is asked for
@@ -132,7 +134,7 @@ records_name-decides events state =
     (list_all (λ (entry : SiteCounter × Record). names_events events entry.1.bound)) (λ entry. names_decides events entry.1.bound) refl (λ _ _. refl) (entries state.additions)
 
 named_take : (held : Held) (other : Content) → RecordsName (events_of held.source) other
-    → take_refusal held other ≡ option_or (option_map Clash (dispute_contents held.state other)) (then_some (ltb most_known (known_in_both held.state other)) Full)
+    → take_refusal held other ≡ option_or (option_map Clash (dispute_contents held.state other)) (then_some (ltb most_known (known_in_either held.state other)) Full)
 named_take held other named =
     first_passes (not (records_name (events_of held.source) other)) (Bound NoEvent) _ (ap not ((records_name-decides (events_of held.source) other).1 named))
 
@@ -142,18 +144,18 @@ unnamed_take held other unnamed =
     (ap not (false_from_ne_true (records_name (events_of held.source) other) (λ e. unnamed ((records_name-decides (events_of held.source) other).0 e))))
 
 pub agreed_take : (held : Held) (other : Content) → RecordsName (events_of held.source) other → dispute_contents held.state other ≡ None
-    → take_refusal held other ≡ then_some (ltb most_known (known_in_both held.state other)) Full
+    → take_refusal held other ≡ then_some (ltb most_known (known_in_either held.state other)) Full
 agreed_take held other named agreed =
-    named_take held other named ∙ ap (λ o. option_or (option_map Clash o) (then_some (ltb most_known (known_in_both held.state other)) Full)) agreed
+    named_take held other named ∙ ap (λ o. option_or (option_map Clash o) (then_some (ltb most_known (known_in_either held.state other)) Full)) agreed
 
 -- where the join neither clashes nor is too large
 joinable : (held : Held) (other : Content) → RecordsName (events_of held.source) other
     → ((id : SiteCounter) → dispute_contents held.state other ≡ Some id → ⊥)
-    → ((dispute_contents held.state other ≡ None) × (most_known < known_in_both held.state other) → ⊥)
+    → ((dispute_contents held.state other ≡ None) × (most_known < known_in_either held.state other) → ⊥)
     → take_refusal held other ≡ None
 joinable held other named clash full =
     let agreed = none (dispute_contents held.state other) clash in
-    agreed_take held other named agreed ∙ passes (ltb most_known (known_in_both held.state other)) Full (within most_known (known_in_both held.state other) (λ past. full (agreed, past)))
+    agreed_take held other named agreed ∙ passes (ltb most_known (known_in_either held.state other)) Full (within most_known (known_in_either held.state other) (λ past. full (agreed, past)))
   where
     none : (o : Option SiteCounter) → ((id : SiteCounter) → o ≡ Some id → ⊥) → o ≡ None
     none None h = refl
@@ -164,14 +166,14 @@ joinable held other named clash full =
 
 pub take_fault : (held : Held) (other : Content) (A : Type 0) (fault : RecordsFault) → RecordsName (events_of held.source) other
     → ((id : SiteCounter) → (failed A fault ≡ Err (records.Clash id)) ↔ (dispute_contents held.state other ≡ Some id))
-    → ((failed A fault ≡ Err records.Full) ↔ (dispute_contents held.state other ≡ None) × (most_known < known_in_both held.state other))
+    → ((failed A fault ≡ Err records.Full) ↔ (dispute_contents held.state other ≡ None) × (most_known < known_in_either held.state other))
     → of_records_fault fault ≡ unwrap_or (take_refusal held other) Memory
 take_fault held other A (records.Clash id) named clash full =
     sym (ap (λ o. unwrap_or o Memory) (named_take held other named
-    ∙ ap (λ o. option_or (option_map Clash o) (then_some (ltb most_known (known_in_both held.state other)) Full)) ((clash id).0 refl)))
+    ∙ ap (λ o. option_or (option_map Clash o) (then_some (ltb most_known (known_in_either held.state other)) Full)) ((clash id).0 refl)))
 take_fault held other A records.Full named clash full =
     sym (ap (λ o. unwrap_or o Memory) (agreed_take held other named (full.0 refl).0
-    ∙ stands (ltb most_known (known_in_both held.state other)) Full (more most_known (known_in_both held.state other) (full.0 refl).1)))
+    ∙ stands (ltb most_known (known_in_either held.state other)) Full (more most_known (known_in_either held.state other) (full.0 refl).1)))
   where
     more : (a b : ℕ) → a < b → ltb a b ≡ true
     more a b h = grind (arith, nat_tests)
@@ -186,7 +188,7 @@ take_fault held other A records.Memory named clash full =
 
 pub can_take : (held : Held) (other : Content) (A : Type 0) (all : A) → RecordsName (events_of held.source) other
     → ((id : SiteCounter) → (succeeded A all ≡ Err (records.Clash id)) ↔ (dispute_contents held.state other ≡ Some id))
-    → ((succeeded A all ≡ Err records.Full) ↔ (dispute_contents held.state other ≡ None) × (most_known < known_in_both held.state other))
+    → ((succeeded A all ≡ Err records.Full) ↔ (dispute_contents held.state other ≡ None) × (most_known < known_in_either held.state other))
     → take_refusal held other ≡ None
 can_take held other A all named clash full = joinable held other named (λ id e. no_clash id ((clash id).1 e)) (λ p. no_full (full.1 p))
   where
@@ -195,6 +197,14 @@ can_take held other A all named clash full = joinable held other named (λ id e.
 
     no_full : succeeded A all ≡ Err records.Full → ⊥
     no_full e = cc
+
+-- where all is held already, nothing stands against a take
+pub can_hold : (held : Held) (other : Content) → RecordsName (events_of held.source) other → taken held.state other ≡ Some held.state → take_refusal held other ≡ None
+can_hold held other named is =
+    let agreed = held_agrees held.state other is in
+    joinable held other named
+    (λ id e. absurd (false≢true (ap is_some (sym agreed ∙ e))))
+    (λ p. absurd (false≢true (ap is_some (sym (too_many held.state other p.0 p.1) ∙ is))))
 
 -- ---- what an accepted call tells
 pub or_none : {X : Type 0} (o p : Option X) → option_or o p ≡ None → (o ≡ None) × (p ≡ None)

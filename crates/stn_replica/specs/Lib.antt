@@ -3,6 +3,7 @@ pub mod Bounds
 pub mod Names
 pub mod Invariant
 pub mod Work
+pub mod Walk
 pub mod FaultsOf
 pub mod Refusals
 pub mod Lines

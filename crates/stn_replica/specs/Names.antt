@@ -18,7 +18,8 @@ live_ids state = map (λ entry. entry.0) (live_of state)
 abbrev pub id_at : List SiteCounter → ℕ → SiteCounter
 id_at ids place = slice_index_or ids place (record { site = 0; counter = 0 })
 
--- the name of the bound at a place of a list of the plan's bounds, which are counted from 1, and then those of records, which have their ids
+-- the name of the bound at a place of a list of the plan's bounds, which are counted from 1, and then those of records, which
+-- have their ids
 abbrev pub name_in : List Difference → List SiteCounter → ℕ → BoundName
 name_in base ids place = if nat_lt place (length base) then Plan (place + 1) else Record (id_at ids (place - length base))
 

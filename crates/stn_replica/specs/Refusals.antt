@@ -9,7 +9,7 @@ use Rattle.stn_net.specs.declared.bound.BoundFault.{BoundFault}
 use Rattle.stn_net.specs.declared.bound.BoundFault.TheVariants.{NoEvent, SameEvent, Crossed}
 use Rattle.stn_lift.specs.PlanSource.{events_of}
 use Rattle.stn_records.specs.Id.{most_counter, SiteCounter}
-use Rattle.stn_records.specs.Content.{most_known, Content, is_known, known_count, known_in_both, next_counter, dispute_contents}
+use Rattle.stn_records.specs.Content.{most_known, Content, is_known, known_count, known_in_either, next_counter, dispute_contents}
 use Rattle.stn_replica.specs.declared.faults.ReplicaFault.{ReplicaFault}
 use Rattle.stn_replica.specs.declared.faults.ReplicaFault.TheVariants.{Bound, CounterSpent, Full, Unknown, Clash}
 use Rattle.stn_replica.specs.Held.{Held}
@@ -54,4 +54,4 @@ abbrev pub take_refusal : Held → Content → Option ReplicaFault
 take_refusal held other =
     option_or (then_some (not (records_name (events_of held.source) other)) (Bound NoEvent))
     (option_or (option_map Clash (dispute_contents held.state other))
-    (then_some (nat_lt most_known (known_in_both held.state other)) Full))
+    (then_some (nat_lt most_known (known_in_either held.state other)) Full))

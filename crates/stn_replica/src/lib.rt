@@ -4,10 +4,12 @@
 pub use done::EVENT_FLAGS;
 pub use faults::ReplicaFault;
 pub use laws::{one_report, same_items_same_bytes, state_is_union, took_same_same_bytes};
+pub use lines::append_run_line;
 pub use names::BoundName;
 pub use replica::Replica;
 pub use report::MOST_REPORT;
 
+mod cursors;
 mod dispatch;
 mod done;
 mod faults;
@@ -15,7 +17,6 @@ mod laws;
 mod lines;
 mod matrices;
 mod names;
+mod plan_matrix;
 mod replica;
 mod report;
-#[cfg(test)]
-mod tests;

@@ -1,18 +1,20 @@
-ghost use Rattle.std.specs.Prelude.{◌≡◌, true, ◌+◌, ◌≤◌, ◌++◌, ◌↔◌, List, length, IsTrue, IfOk};
-ghost use Rattle.std.specs.FinMap.{contains_key};
+ghost use Rattle.std.specs.Prelude.{◌≡◌, ◌+◌, ◌≤◌, ◌++◌, ◌↔◌, ◌&&◌, not, List, length, IsTrue, IfOk};
 ghost use Rattle.stn_net.specs.Difference.{Difference, NamesEvents};
 ghost use Rattle.stn_records.specs.Content.{no_content};
 ghost use Rattle.stn_matrix.specs.Tightest.{IsExact};
 ghost use Rattle.stn_lift.specs.PlanSource.{base_bounds, events_of};
 ghost use Rattle.stn_replica.specs.Bounds.{bounds_of, live_bounds, RecordsName};
 ghost use Rattle.stn_replica.specs.Invariant.{IsKnown};
-ghost use Rattle.stn_replica.specs.Work.{is_risen, risen, Extends, KeepsLive};
+ghost use Rattle.stn_replica.specs.Work.{risen, Extends, KeepsLive};
+ghost use Rattle.stn_replica.specs.Walk as walk;
 
+use crate::cursors::{begins_with, from_id};
+use crate::plan_matrix::PlanMatrix;
 use std::alloc::Allocator;
 use stn_lift::Base;
 use stn_matrix::Matrix;
 use stn_net::Bound;
-use stn_records::{Id, Records};
+use stn_records::{Id, Record, Records};
 use stn_time::Memory;
 
 // The matrix of the plan's own bounds.
@@ -32,7 +34,7 @@ pub fn opening_matrix<A: Allocator + Copy>(alloc: A, base: &Base<A>) -> Result<M
 // Takes the opening matrix in place of the current one, and then the bounds of the live records.
 // Whether all these have a schedule.
 pub fn rebuild<A: Allocator + Copy>(
-    opening: &Matrix<A>,
+    opening: &PlanMatrix<A>,
     current: &mut Matrix<A>,
     records: &Records<A>,
     none: &Records<A>,
@@ -45,7 +47,7 @@ pub fn rebuild<A: Allocator + Copy>(
     ensures events { current.new.events ≡ current.old.events }
     ensures counted { current.new.steps ≤ u64.MAX }
 {
-    current.copy_from(opening);
+    current.copy_from(opening.matrix());
     tighten_risen(current, none, records)
 }
 
@@ -65,20 +67,26 @@ pub fn tighten_risen<A: Allocator + Copy>(
     ensures least { matrix.old.steps ≤ matrix.new.steps }
     ensures most { matrix.new.steps ≤ matrix.old.steps + length (risen before.now after.now) }
 {
+    let mut added = before.state().additions().entries();
+    let mut fallen = before.state().tombstones().entries();
+    let mut withdrawn = after.state().tombstones().entries();
     for &(id, record) in after.state().additions().entries() {
-        if has_risen(before, after, id) && !matrix.tighten(record.bound) {
+        added = from_id(added, id);
+        fallen = from_id(fallen, id);
+        withdrawn = from_id(withdrawn, id);
+        if has_risen(added, fallen, withdrawn, id) && !matrix.tighten(record.bound) {
             return false;
         }
     }
     true
 }
 
-// Whether the record of an id that is added has become live.
-fn has_risen<A: Allocator + Copy>(before: &Records<A>, after: &Records<A>, id: Id) -> bool
-    requires { contains_key after.now.additions id ≡ true }
-    ensures { result ≡ is_risen before.now after.now id }
+// Whether the record of an id has become live, by what walks have left of the records and the withdrawn ids of before and
+// of the ids withdrawn now.
+fn has_risen(added: &[(Id, Record)], fallen: &[(Id, ())], withdrawn: &[(Id, ())], id: Id) -> bool
+    ensures { result ≡ (not (walk.begins_with id withdrawn.now) && not (walk.begins_with id added.now && not (walk.begins_with id fallen.now))) }
 {
-    !after.state().tombstones().contains(id) && !before.is_live(id)
+    !begins_with(withdrawn, id) && !was_live(added, fallen, id)
 }
 
 // Whether each record that was live still is: none of those that are withdrawn now was.
@@ -86,12 +94,23 @@ pub fn keeps_live<A: Allocator + Copy>(before: &Records<A>, after: &Records<A>) 
     requires { Extends before.now after.now }
     ensures { IsTrue result ↔ KeepsLive before.now after.now }
 {
+    let mut added = before.state().additions().entries();
+    let mut fallen = before.state().tombstones().entries();
     for &(id, _) in after.state().tombstones().entries() {
-        if before.is_live(id) {
+        added = from_id(added, id);
+        fallen = from_id(fallen, id);
+        if was_live(added, fallen, id) {
             return false;
         }
     }
     true
+}
+
+// Whether the record of an id was live, by what walks have left of the records and the withdrawn ids of before.
+fn was_live(added: &[(Id, Record)], fallen: &[(Id, ())], id: Id) -> bool
+    ensures { result ≡ (walk.begins_with id added.now && not (walk.begins_with id fallen.now)) }
+{
+    begins_with(added, id) && !begins_with(fallen, id)
 }
 
 // Whether each record names the origin or one of so many events.

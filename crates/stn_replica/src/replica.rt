@@ -3,7 +3,7 @@ ghost use Rattle.std.specs.Rc.{rc_value};
 ghost use Rattle.stn_net.specs.Schedule.{HasSchedule, IsSchedule, Meets, NamesTimes, times_of};
 ghost use Rattle.stn_matrix.specs.Tightest.{IsExact};
 ghost use Rattle.stn_windows.specs.Window.{IsWindow};
-ghost use Rattle.stn_lift.specs.PlanSource.{events_of};
+ghost use Rattle.stn_lift.specs.PlanSource.{base_bounds, events_of};
 ghost use Rattle.stn_net.specs.Difference.{NamesEvents};
 ghost use Rattle.stn_records.specs.Record.{IsProper};
 ghost use Rattle.stn_records.specs.Content.{no_content};
@@ -15,8 +15,9 @@ ghost use Rattle.stn_replica.specs.Calls.{added, withdrew, took, Leaves};
 ghost use Rattle.stn_replica.specs.Refusals.{next_refusal, add_refusal, done_refusal, withdraw_refusal, take_refusal};
 
 use crate::faults::ReplicaFault;
-use crate::matrices::{all_name_events, keeps_live, opening_matrix, rebuild, tighten_risen};
+use crate::matrices::{all_name_events, keeps_live, rebuild, tighten_risen};
 use crate::names::BoundName;
+use crate::plan_matrix::PlanMatrix;
 use std::alloc::Allocator;
 use std::marker::Model;
 use std::rc::Rc;
@@ -36,7 +37,7 @@ pub struct Replica<A: Allocator> {
     base: Rc<Base<A>, A>,
     records: Records<A>,
     // The matrix of the plan's own bounds.
-    opening: Matrix<A>,
+    opening: PlanMatrix<A>,
     // The matrix of all bounds, where they have a schedule.
     current: Matrix<A>,
     possible: bool,
@@ -63,9 +64,37 @@ impl<A: Allocator + Copy> Replica<A> {
         ensures source { IfOk result (λ replica. replica.source ≡ rc_value base) }
         ensures empty { IfOk result (λ replica. replica.state ≡ no_content) }
     {
-        let opening = opening_matrix(alloc, &base)?;
+        let opening = PlanMatrix::new(alloc, &base)?;
+        Replica::opened(alloc, site, base, opening)
+    }
+
+    /// The replica of another site of the same plan that holds nothing yet. What both know of the plan's own bounds is shared, so
+    /// that no bound is taken anew.
+    pub fn beside(&self, site: Site) -> Result<Replica<A>, Memory>
+        ensures site { IfOk result (λ replica. replica.site ≡ site) }
+        ensures source { IfOk result (λ replica. replica.source ≡ self.now.source) }
+        ensures empty { IfOk result (λ replica. replica.state ≡ no_content) }
+    {
+        let base = self.base.clone()?;
+        let opening = self.opening.shared()?;
+        Replica::opened(self.alloc, site, base, opening)
+    }
+
+    // The replica of a site that holds nothing yet, with the matrix of the plan's own bounds.
+    fn opened(
+        alloc: A,
+        site: Site,
+        base: Rc<Base<A>, A>,
+        opening: PlanMatrix<A>,
+    ) -> Result<Replica<A>, Memory>
+        requires exact { IsExact (base_bounds (rc_value base)) opening }
+        requires events { opening.events ≡ events_of (rc_value base) }
+        ensures site { IfOk result (λ replica. replica.site ≡ site) }
+        ensures source { IfOk result (λ replica. replica.source ≡ rc_value base) }
+        ensures empty { IfOk result (λ replica. replica.state ≡ no_content) }
+    {
         let mut current = Matrix::bare(alloc, base.events())?;
-        current.copy_from(&opening);
+        current.copy_from(opening.matrix());
         Ok(Replica {
             alloc,
             site,
@@ -164,6 +193,9 @@ impl<A: Allocator + Copy> Replica<A> {
         ensures fault { IfErr result (λ fault. fault ≡ unwrap_or (take_refusal self.old other.now) ReplicaFault.Memory) }
         ensures kept { OnErr result (self.new ≡ self.old) }
     {
+        if self.records.holds(other) {
+            return Ok(());
+        }
         if !all_name_events(other, self.base.events()) {
             return Err(ReplicaFault::Bound(BoundFault::NoEvent));
         }

@@ -1,5 +1,5 @@
 -- The law over all runs of a world.
-use Rattle.std.proofs.Common.{◌≡◌, ◌≢◌, ◌↔◌, ◌⊎◌, inl, inr, ⊎_elim, ℕ, suc, ◌-◌, ◌<◌, ◌≤◌, Bool, true, false, not, ◌&&◌, ltb, is_some, None, List, [], ◌∷◌, get_or, refl, ap, sym, subst, ◌∙◌, arith}
+use Rattle.std.proofs.Common.{◌≡◌, inr, ⊎_elim, ℕ, suc, ◌-◌, ◌≤◌, Bool, true, false, not, ◌&&◌, ltb, is_some, None, List, get_or, refl, ap, subst, ◌∙◌, arith}
 use Rattle.std.specs.Prelude.{option_map}
 use Rattle.std.specs.Bool.{then_some}
 use Rattle.std.specs.List.{Contains}
@@ -8,11 +8,10 @@ use Rattle.std.proofs.lemmas.Bool.{cases_eq}
 use Rattle.std.proofs.lemmas.Bool.Decides.{nat_tests}
 use Rattle.std.proofs.lemmas.List.{get_or_default}
 use Rattle.std.proofs.lemmas.List.Elements.{Contains-append_cases}
-use Rattle.stn_lift.specs.PlanSource.{PlanSource, events_of}
 use Rattle.stn_records.specs.Id.{SiteCounter}
-use Rattle.stn_records.specs.Content.{most_known, Content, Item, addition, withdrawal, HasItem, is_known, is_live, known_count, known_in_both, dispute_contents, joined_contents, no_content}
+use Rattle.stn_records.specs.Content.{most_known, Content, Item, addition, withdrawal, HasItem, is_known, is_live, known_in_either, dispute_contents, joined_contents, no_content}
 use Rattle.stn_records.specs.ContentLaws.{contents_join, contents_undisputed}
-use Rattle.stn_records.proofs.Contents.{known_fewer, together}
+use Rattle.stn_records.proofs.Contents.{together}
 use Rattle.stn_replica.specs.declared.faults.ReplicaFault.TheVariants.{Full}
 use Rattle.stn_replica.specs.Refusals.{take_refusal}
 use Rattle.stn_replica.proofs.Refused.{agreed_take}
@@ -20,7 +19,7 @@ use Rattle.stn_world.specs.Faults.{of_replica_fault}
 use Rattle.stn_world.specs.Parts.{IsPart}
 use Rattle.stn_world.specs.World.{World, HasSite, HasPacket, content_at, packet_at, held_at}
 use Rattle.stn_world.specs.Steps.{Step, added, finished, withdrew, merged, sent, delivered, IsAccepted, stepped, run, Brings}
-use Rattle.stn_world.specs.Whole.{IsWhole, IsCoherent}
+use Rattle.stn_world.specs.Whole.{IsCoherent}
 use Rattle.stn_world.specs.Runs.{Making, records_made, states_of}
 use Rattle.stn_world.proofs.Accepted.{accepted_addition, accepted_execution, accepted_withdrawal, accepted_merge, accepted_delivery, merge_itself, merge_free, delivery_refusal}
 use Rattle.stn_world.proofs.Whole.{parts_agree, part_named, known_items, items_known}
@@ -42,7 +41,7 @@ module _ (world : World) (items : List Making) (now : IsLawful world items) wher
       let union = contents_join.union (content_at world site) other (joined_contents (content_at world site) other) (contents_undisputed (content_at world site) other agreed) in
       let known = known_made world items now (joined_contents (content_at world site) other) (λ item h. ⊎_elim (λ ours. now.whole.sites site item ours) (λ theirs. inside item theirs) ((union item).0 h)) in
       agreed_take (held_at world site) other (part_named world now.all other now.whole inside) agreed
-      ∙ ap (λ b. then_some b Full) (not_full most_known (known_in_both (content_at world site) other) (omega (arith, known, few, together (content_at world site) other)))
+      ∙ ap (λ b. then_some b Full) (not_full most_known (known_in_either (content_at world site) other) (omega (arith, known, few, together (content_at world site) other)))
 
   pub delivery_accepted : records_made items ≤ most_known → (site number : ℕ) → HasSite world site → HasPacket world number → IsAccepted world (delivered site number)
   delivery_accepted few site number there packet_there =

@@ -1,8 +1,7 @@
 -- What is true of a world in its run: its sites and packets are parts of the whole of what was made.
-use Rattle.std.proofs.Common.{◌≡◌, ◌⊎◌, inl, inr, ⊎_elim, ℕ, zero, suc, ◌<◌, ◌≤◌, ◌||◌, Bool, true, false, cond, is_some, Option, Some, None, List, [], ◌∷◌, ◌++◌, length, filter, is_eq, refl, ap, sym, subst, ◌∙◌, arith}
+use Rattle.std.proofs.Common.{◌≡◌, ◌⊎◌, inl, inr, ⊎_elim, ℕ, zero, suc, ◌≤◌, ◌||◌, true, cond, is_some, Option, Some, None, List, [], ◌∷◌, ◌++◌, length, filter, is_eq, refl, ap, sym, subst, ◌∙◌, arith}
 use Rattle.std.specs.List.{Contains}
-use Rattle.std.specs.Set.{is_member, distinct_count}
-use Rattle.std.proofs.lemmas.Bool.{false≢true}
+use Rattle.std.specs.Set.{is_member}
 use Rattle.std.proofs.lemmas.List.{append-nil, append_assoc}
 use Rattle.std.proofs.lemmas.List.Elements.{Contains-append_left, Contains-push, Contains-push_cases}
 use Rattle.std.proofs.lemmas.Map.Made.{distinct_count-le}
@@ -14,7 +13,7 @@ use Rattle.stn_records.specs.declared.record.Record.{Record}
 use Rattle.stn_records.specs.Content.{Content, Item, addition, withdrawal, HasItem, is_known, known_ids, known_count, same_ids, no_content, with_record, with_tombstone, joined_contents}
 use Rattle.stn_records.specs.ContentLaws.{ids_total, contents_join, contents_undisputed}
 use Rattle.stn_records.proofs.Entries.{or_right}
-use Rattle.stn_records.proofs.Contents.{fewer, known_member, inserted_here, next_is_new}
+use Rattle.stn_records.proofs.Contents.{fewer, known_member, next_is_new}
 use Rattle.stn_replica.specs.Held.{plain, executed}
 use Rattle.stn_replica.proofs.Items.{addition_items, withdrawal_brought, nothing_there}
 use Rattle.stn_replica.proofs.Refused.{accepted_named, accepted_known, executed_named}

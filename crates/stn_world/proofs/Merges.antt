@@ -2,7 +2,7 @@
 use Rattle.std.proofs.Common.{◌≡◌, ℕ, Bool, true, false, ltb, ap, sym, subst, ◌∙◌}
 use Rattle.std.specs.Prelude.{unwrap_or}
 use Rattle.std.specs.Bool.{then_some}
-use Rattle.stn_records.specs.Content.{most_known, known_in_both}
+use Rattle.stn_records.specs.Content.{most_known, known_in_either}
 use Rattle.stn_replica.specs.declared.faults.ReplicaFault.{ReplicaFault}
 use Rattle.stn_replica.specs.declared.faults.ReplicaFault.TheVariants as replica_fault
 use Rattle.stn_replica.specs.Refusals.{take_refusal}
@@ -23,7 +23,7 @@ pub merge_agrees : (world : World) (site other : ℕ) (fault : ReplicaFault) →
 merge_agrees world site other fault coherent is =
     let room = agreed_take (held_at world site) (content_at world other) (site_named world coherent other) (sites_agree world coherent site other) in
     subst (λ (f : ReplicaFault). IsMergeFault (of_replica_fault f)) (sym (is ∙ ap (λ o. unwrap_or o replica_fault.Memory) room))
-    (full_or_memory (ltb most_known (known_in_both (content_at world site) (content_at world other))))
+    (full_or_memory (ltb most_known (known_in_either (content_at world site) (content_at world other))))
 
 delivery_fault : (full : Bool) → IsDeliveryFault (of_replica_fault (unwrap_or (then_some full replica_fault.Full) replica_fault.Memory))
 delivery_fault true = tt
@@ -35,4 +35,4 @@ pub delivery_agrees : (world : World) (site number : ℕ) (fault : ReplicaFault)
 delivery_agrees world site number fault coherent is =
     let room = agreed_take (held_at world site) (packet_at world number) (packet_named world coherent number) (packet_agrees world coherent site number) in
     subst (λ (f : ReplicaFault). IsDeliveryFault (of_replica_fault f)) (sym (is ∙ ap (λ o. unwrap_or o replica_fault.Memory) room))
-    (delivery_fault (ltb most_known (known_in_both (content_at world site) (packet_at world number))))
+    (delivery_fault (ltb most_known (known_in_either (content_at world site) (packet_at world number))))

@@ -7,7 +7,7 @@ use Rattle.stn_replica.specs.Held.{Held}
 use Rattle.stn_replica.specs.Calls.{took, Leaves}
 use Rattle.stn_replica.specs.Refusals.{take_refusal}
 use Rattle.stn_world.specs.World.{World, HasSite, content_at, with_content, merge}
-use Rattle.stn_world.specs.Sites.{contents_of, world_of, IsSites, held_in}
+use Rattle.stn_world.specs.Sites.{world_of, IsSites, held_in}
 use Rattle.stn_world.specs.Whole.{IsCoherent, IsSoundWorld}
 use Rattle.stn_world.proofs.Sites.{IsHeldAt, held_at_place, world_set, sites_set, join_is_joined, joined_itself}
 

@@ -1,5 +1,5 @@
 -- Whether a state is part of another, and the parts that are sent.
-use Rattle.std.proofs.Common.{◌≡◌, ◌↔◌, Bool, true, false, ◌&&◌, List, Option, Some, None, is_some, refl, sym, ap, ◌∙◌, All}
+use Rattle.std.proofs.Common.{◌≡◌, List, Option, Some, None, is_some, refl, ap, All}
 use Rattle.std.specs.Prelude.{IsTrue}
 use Rattle.std.specs.Bool.{Decides}
 use Rattle.std.specs.List.{list_all}
@@ -9,7 +9,7 @@ use Rattle.std.proofs.lemmas.Bool.{false≢true}
 use Rattle.std.proofs.lemmas.Bool.Decides.{Decides-by_and, Decides-and, Decides-like}
 use Rattle.stn_records.specs.Id.{SiteCounter, id_cmp}
 use Rattle.stn_records.specs.declared.record.Record.{Record}
-use Rattle.stn_records.specs.Content.{Content, Item, addition, withdrawal, HasItem, AllHeld, part_of, same_ids}
+use Rattle.stn_records.specs.Content.{Content, addition, withdrawal, AllHeld, part_of, same_ids}
 use Rattle.stn_records.specs.ContentLaws.{ids_total, ids_exact, records_decide}
 use Rattle.stn_records.proofs.Contents.{retained_value}
 use Rattle.stn_replica.proofs.Entries.{entries_from_get, get_from_entries}

@@ -1,5 +1,5 @@
 -- What refuses a call that sends, and what it leaves.
-use Rattle.std.proofs.Common.{◌≡◌, ◌↔◌, ℕ, ◌<◌, Bool, true, false, not, List, Some, None, Result, Ok, Err, length, refl, sym, ap, subst, ◌∙◌}
+use Rattle.std.proofs.Common.{◌≡◌, ◌↔◌, ℕ, ◌<◌, Bool, true, false, not, List, None, Result, Ok, Err, length, refl, sym, ap, ◌∙◌}
 use Rattle.std.specs.Prelude.{unwrap_or}
 use Rattle.std.specs.Bool.{then_some}
 use Rattle.std.proofs.lemmas.Bool.{false≢true, false_from_ne_true}
@@ -8,10 +8,9 @@ use Rattle.stn_records.specs.Content.{Content, AllHeld, part_of}
 use Rattle.stn_records.specs.declared.faults.PartFault.{PartFault}
 use Rattle.stn_records.specs.declared.faults.PartFault.TheVariants as part_fault
 use Rattle.stn_replica.specs.declared.faults.ReplicaFault.TheVariants as replica_fault
-use Rattle.stn_world.specs.declared.faults.WorldFault.{WorldFault}
 use Rattle.stn_world.specs.declared.faults.WorldFault.TheVariants.{Replica, Memory}
 use Rattle.stn_world.specs.Faults.{of_part_fault}
-use Rattle.stn_world.specs.Parts.{IsPart, holds_all}
+use Rattle.stn_world.specs.Parts.{holds_all}
 use Rattle.stn_world.specs.World.{World, most_packets, HasSite, content_at}
 use Rattle.stn_world.specs.Steps.{sent, IsAccepted, send_refusal}
 use Rattle.stn_world.proofs.Accepted.{sending_free, send_with_room}

@@ -15,7 +15,7 @@ use Rattle.stn_replica.specs.Held.{plain, executed}
 use Rattle.stn_replica.proofs.Entries.{entries_from_get}
 use Rattle.stn_replica.proofs.Items.{nothing_there, addition_items, withdrawal_brought}
 use Rattle.stn_replica.proofs.Refused.{accepted_named, accepted_known, executed_named}
-use Rattle.stn_world.specs.World.{World, HasSite, opening_world, content_at, packet_at, held_at, next_id_at, with_content, make, withdraw, merge, send, deliver}
+use Rattle.stn_world.specs.World.{World, HasSite, opening_world, content_at, packet_at, held_at, next_id_at, with_content, make, withdraw, send}
 use Rattle.stn_world.specs.Steps.{Step, added, finished, withdrew, merged, sent, delivered, after, IsAccepted}
 use Rattle.stn_world.specs.Parts.{IsPart}
 use Rattle.stn_world.specs.Whole.{IsWhole, IsCoherent}

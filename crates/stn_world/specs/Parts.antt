@@ -1,5 +1,5 @@
 -- Parts of what a site holds.
-use Rattle.std.specs.Prelude.{Bool, true, false, ◌&&◌, List, Option, Some, None, is_some}
+use Rattle.std.specs.Prelude.{Bool, false, ◌&&◌, List, Option, Some, None}
 use Rattle.std.specs.List.{list_all}
 use Rattle.std.specs.FinMap as map
 use Rattle.stn_records.specs.declared.record.Record.{Record}

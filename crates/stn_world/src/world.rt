@@ -1,10 +1,10 @@
-ghost use Rattle.std.specs.Prelude.{◌≡◌, ◌≢◌, ◌+◌, true, ◌-◌, ◌<◌, ◌≤◌, None, unwrap_or, length, slice_set, MatchOption, IfSome, IsOk, IfOk, IfErr, OnOk, OnErr};
+ghost use Rattle.std.specs.Prelude.{◌≡◌, ◌≢◌, ◌+◌, true, ◌-◌, ◌<◌, ◌≤◌, None, unwrap_or, length, map, replicate, slice_set, MatchOption, IfSome, IsOk, IfOk, IfErr, OnOk, OnErr};
 ghost use Rattle.std.specs.Rc.{rc_value};
 ghost use Rattle.stn_records.specs.Id.{most_sites, IsSite};
 ghost use Rattle.stn_replica.specs.Held.{difference};
 ghost use Rattle.stn_replica.specs.Calls.{took, Leaves};
 ghost use Rattle.stn_replica.specs.Refusals.{take_refusal};
-ghost use Rattle.stn_records.specs.Content.{part_of};
+ghost use Rattle.stn_records.specs.Content.{no_content, part_of};
 ghost use Rattle.stn_world.specs.declared.faults.WorldFault.TheVariants.{NoSite, TooManyPackets, NoPacket};
 ghost use Rattle.stn_world.specs.Faults.{IsSitesFault};
 ghost use Rattle.stn_world.specs.Parts.{holds_all};
@@ -20,7 +20,7 @@ use stn_lift::Base;
 use stn_net::Event;
 use stn_records::{Id, MOST_SITES, Records, Site};
 use stn_replica::{Replica, ReplicaFault};
-use stn_time::Ms;
+use stn_time::{Memory, Ms};
 
 /// The greatest number of a packet.
 pub const MOST_PACKETS: usize = 256;
@@ -65,7 +65,7 @@ impl<A: Allocator + Copy> World<A> {
         let mut replicas = Vec::with_capacity(alloc, usize::from(sites))?;
         for before in 0..sites {
             let site = Site::new(before + 1).unwrap();
-            let replica = Replica::new(alloc, site, base.clone()?)?;
+            let replica = beside_others(alloc, &base, &replicas, site)?;
             replicas.push(replica)?;
         }
         Ok(World {
@@ -203,7 +203,7 @@ impl<A: Allocator + Copy> World<A> {
     ///
     /// Refused in this order: `NoSite`; `NoPacket`, where no packet has the number; `Full` and `Memory`
     /// of `Replica::take`. After a fault all is as before.
-    pub fn deliver(&mut self, site: u32, packet: u16) -> Result<(), WorldFault>
+    pub fn deliver(&mut self, site: u32, packet: u32) -> Result<(), WorldFault>
         ensures step { IsStep self.old (delivered site packet) result self.new }
         ensures agreed { IfErr result IsDeliveryFault }
     {
@@ -243,18 +243,36 @@ impl<A: Allocator + Copy> World<A> {
     }
 
     // The place of a packet.
-    fn packet_place(&self, packet: u16) -> Result<usize, WorldFault>
+    fn packet_place(&self, packet: u32) -> Result<usize, WorldFault>
         ensures place { IfOk result (λ place. place ≡ packet - 1) }
         ensures within { IfOk result (λ place. place < length self.now.packets) }
         ensures there { OnOk result (HasPacket self.now packet) }
         ensures missing { IfErr result (λ fault. fault ≡ NoPacket) }
         ensures refused { OnErr result (¬ HasPacket self.now packet) }
     {
-        if 1 <= packet && usize::from(packet) <= self.packets.len() {
-            Ok(usize::from(packet) - 1)
+        if 1 <= packet && packet as usize <= self.packets.len() {
+            Ok(packet as usize - 1)
         } else {
             Err(WorldFault::NoPacket)
         }
+    }
+}
+
+// The replica of a site that holds nothing yet. What the others know of the plan's own bounds is shared.
+fn beside_others<A: Allocator + Copy>(
+    alloc: A,
+    base: &Rc<Base<A>, A>,
+    others: &[Replica<A>],
+    site: Site,
+) -> Result<Replica<A>, Memory>
+    requires { map (λ replica. replica.source) others.now ≡ replicate (length others.now) (rc_value base.now) }
+    ensures site { IfOk result (λ replica. replica.site ≡ site) }
+    ensures source { IfOk result (λ replica. replica.source ≡ rc_value base.now) }
+    ensures empty { IfOk result (λ replica. replica.state ≡ no_content) }
+{
+    match others.first() {
+        Some(first) => first.beside(site),
+        None => Replica::new(alloc, site, base.clone()?),
     }
 }
 

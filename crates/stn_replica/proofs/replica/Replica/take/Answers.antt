@@ -6,8 +6,8 @@ use Rattle.stn_lift.specs.PlanSource.{events_of}
 use Rattle.stn_replica.specs.Bounds.{RecordsName}
 use Rattle.stn_replica.specs.Held.{Held}
 use Rattle.stn_replica.specs.Work.{risen, KeepsLive}
-use Rattle.stn_replica.proofs.Changes.{extends_joined}
-use Rattle.stn_replica.proofs.Refused.{take_fault, can_take, unnamed_take}
+use Rattle.stn_replica.proofs.Changes.{extends_joined, named_held}
+use Rattle.stn_replica.proofs.Refused.{take_fault, can_take, can_hold, unnamed_take}
 use Rattle.std.specs.Prelude.{unwrap_or}
 use Rattle.stn_replica.specs.declared.faults.ReplicaFault.TheVariants.{Memory}
 use Rattle.stn_replica.proofs.Sound.{named_taken, sound_rebuilt, sound_taken, sound_taken_in_conflict}
@@ -20,6 +20,12 @@ returns-then-not-all_name_events-clause-fault g c =
     λ named. false≢true (c.if-not-all_name_events.ensures.1 (subst (λ n. RecordsName n c.args.other.now) (sym (c.events.ensures.value ∙ ap events_of c.deref.ensures)) named)) in
     let held : Held = record { site = c.self.inside.site; source = rc_value c.self.inside.base; state = c.self.inside.records; steps = c.self.inside.current.steps } in
     rw (← c.self.view_is) (ap (λ o. unwrap_or o Memory) (sym (unnamed_take held c.args.other.now unnamed)))
+
+pub returns-then-holds-clause-accepted : goal.returns-then-holds-clause-accepted
+returns-then-holds-clause-accepted g c =
+    let held : Held = record { site = c.self.inside.site; source = rc_value c.self.inside.base; state = c.self.inside.records; steps = c.self.inside.current.steps } in
+    let is = c.if-holds.ensures.0 refl in
+    rw (← c.self.view_is) (can_hold held c.args.other.now (named_held (events_of (rc_value c.self.inside.base)) c.self.inside.records c.args.other.now is c.self.invariant.named) is)
 
 pub returns-in_err-records-clause-fault : goal.returns-in_err-records-clause-fault
 returns-in_err-records-clause-fault g c =

@@ -1,5 +1,6 @@
-use Rattle.std.proofs.Common.{◌≡◌, ℕ, ◌+◌, suc, ◌++◌, List, [], ◌∷◌, replicate, sym, ap, ◌∙◌, subst, arith}
+use Rattle.std.proofs.Common.{◌≡◌, ℕ, ◌+◌, suc, ◌++◌, List, [], ◌∷◌, length, map, replicate, sym, ap, ◌∙◌, subst, arith}
 use Rattle.std.proofs.lemmas.Grind.{common_steps}
+use Rattle.std.proofs.lemmas.Result.{err_from_is_err_and}
 use Rattle.std.specs.Rc.{rc_value}
 use Rattle.stn_replica.specs.Held.{Held}
 use Rattle.stn_records.specs.Content.{Content, no_content}
@@ -15,7 +16,7 @@ loop-before-preserved g c =
     let made : c.unwrap-site.result ≡ c.loop-before.before + 1 = grind (arith, common_steps) in
     let number : one.site ≡ suc c.loop-before.before = omega (arith, c.in_ok-replica.ensures.site, made) in
     let more = started_more (rc_value c.args.base) c.loop-before.before c.loop-before.replicas.items one c.loop-before.invariant number
-    (c.in_ok-replica.ensures.source ∙ c.in_ok-clone.ensures.cases) c.in_ok-replica.ensures.empty in
+    c.in_ok-replica.ensures.source c.in_ok-replica.ensures.empty in
     let count : suc c.loop-before.before ≡ c.loop-before.before + 1 = omega arith in
     subst (λ (n : ℕ). IsStarted (rc_value c.args.base) n c.push.new.self.items) count
     (subst (λ (l : List Held). IsStarted (rc_value c.args.base) (suc c.loop-before.before) l) (sym grown) more)
@@ -31,3 +32,19 @@ invariant_of-result g c =
     let all : c.loop-before.before ≡ c.args.sites = omega arith in
     subst (λ (l : List Content). IsSoundWorld (rc_value c.args.base) c.loop-before.replicas.items l) (sym c.new-2.ensures.items)
     (started_sound (rc_value c.args.base) c.loop-before.before c.loop-before.replicas.items c.loop-before.invariant (omega arith) (omega arith))
+
+pub beside_others-requires : goal.beside_others-requires
+beside_others-requires g c =
+    let started = c.loop-before.invariant in
+    subst (λ (l : List Held). map (λ replica. replica.source) l ≡ replicate (length l) (rc_value c.args.base)) (sym c.deref.ensures.value)
+    (started.sources ∙ ap (λ (n : ℕ). replicate n (rc_value c.args.base)) (sym started.counted))
+
+pub returns-in_err-replica-clause-fault : goal.returns-in_err-replica-clause-fault
+returns-in_err-replica-clause-fault g c =
+    let p = err_from_is_err_and c.from_residual-in_err-replica.result c.from_residual-in_err-replica.ensures.1 in
+    rw (p.1, p.2) (record { least = omega (arith, c.if-sites-lt1.false); most = omega (arith, c.if-sites-gt-MOST_SITES.false) })
+
+pub returns-in_err-push-clause-fault : goal.returns-in_err-push-clause-fault
+returns-in_err-push-clause-fault g c =
+    let p = err_from_is_err_and c.from_residual-in_err-push.result c.from_residual-in_err-push.ensures.1 in
+    rw (p.1, p.2) (record { least = omega (arith, c.if-sites-lt1.false); most = omega (arith, c.if-sites-gt-MOST_SITES.false) })

@@ -1,11 +1,10 @@
-use Rattle.std.proofs.Common.{◌≡◌, ◌++◌, [], ◌∷◌, true, List, refl, sym, ap, subst, ◌∙◌}
+use Rattle.std.proofs.Common.{◌≡◌, true, List, refl, sym, ap, subst, ◌∙◌}
 use Rattle.std.specs.Rc.{rc_value}
 use Rattle.std.proofs.lemmas.Result.{err_from_is_err_and}
 use Rattle.stn_records.specs.Content.{Content}
-use Rattle.stn_replica.specs.Held.{Held}
 use Rattle.stn_world.specs.Steps.{sent}
 use Rattle.stn_world.specs.Sites.{world_of}
-use Rattle.stn_world.specs.World.{content_at, send}
+use Rattle.stn_world.specs.World.{content_at}
 use Rattle.stn_world.specs.Whole.{IsCoherent, IsSoundWorld}
 use Rattle.stn_world.proofs.Sendings.{send_free, send_memory, all_free}
 use Rattle.stn_world.proofs.Sites.{held_there, sent_there, sound_sent}
