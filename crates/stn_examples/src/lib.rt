@@ -4,8 +4,6 @@
 #[cfg(test)]
 mod conflict;
 #[cfg(test)]
-mod devices;
-#[cfg(test)]
 mod readers;
 #[cfg(test)]
 mod records;

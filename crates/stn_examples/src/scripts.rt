@@ -1,9 +1,8 @@
-use crate::devices::{EmptyLines, PieceReader, PieceWriter};
-use crate::sweep::{judged, refuse_each};
 use std::alloc::Global;
 use std::test::Fail;
 use stn_exec::{Counted, MOST_BYTES, Ran, RunFault, run};
 use stn_net::Event;
+use stn_refusing::{EmptyLines, PieceReader, PieceWriter};
 
 const CHECK_TIMES: &[u8] =
     b"steps 1\nsites 1\n1 add s1 e1 5.000 5.000\n1 check 2.000 7.000\n1 check 2.000 6.999\n1 check -0.001 4.999\n1 check 1.000\n";
@@ -86,11 +85,11 @@ fn full_and_spent(rt: HostRuntime) -> Result<(), Fail> {
     }
     script.extend_from_slice(b"1 add z s1 * *\n1 merge 2\n1 withdraw 1.1\n")?;
     text.extend_from_slice(b"refused 41\nmerged\nwithdrawn 1.1\n")?;
-    script.extend_from_slice(b"2 add z s1 * *\n2 merge 1\n")?;
-    text.extend_from_slice(b"added 2.1\nrefused 41\n")?;
+    script.extend_from_slice(b"2 add z s1 * *\n2 merge 1\n1 send\n2 deliver 1\n")?;
+    text.extend_from_slice(b"added 2.1\nrefused 41\npacket 1\nrefused 41\n")?;
     let ran = Ran {
-        commands: 4101,
-        refused: 2,
+        commands: 4103,
+        refused: 3,
     };
     assert!(rt; prints(rt.alloc(), &script, &text, ran));
     Ok(())
@@ -118,7 +117,7 @@ fn lines_of_a_script(rt: HostRuntime) {
         (b"steps 0\n", b"refused 70 2\n"),
         (b"steps 000000\nsites 1\n", b"refused 70 1\n"),
         (b"steps 99999\nsites 1\n", b"refused 34\n"),
-        (b"domain\n", b"refused 70 1\n"),
+        (b"domain\n", b"refused 70 2\n"),
         (b"steps 0\nsites 0\n", b"refused 71\n"),
         (b"steps 0\nsites 65\n", b"refused 71\n"),
     ];
@@ -151,75 +150,4 @@ fn events_read_as_printed(rt: HostRuntime) {
         assert!(rt; Event::read(&text) == Some(event), "event {number}");
     }
     assert!(rt; Event::new(513).is_none());
-}
-
-#[test]
-fn a_reader_hands_on_one_byte_or_fails(rt: HostRuntime) {
-    // One call for each byte, and one that shows the end.
-    let calls = CHECK_TIMES.len() as u64 + 1;
-    for fails_at in 1..calls + 2 {
-        let mut input = Counted::new(reader(CHECK_TIMES, 1, fails_at));
-        let mut output = Counted::new(writer(rt.alloc(), 4096, 0));
-        let answer = run(rt.alloc(), &mut input, &mut output);
-        let held = output.into_inner().held;
-        if fails_at <= calls {
-            assert!(rt; answer == Err(RunFault::Read), "at call {fails_at}");
-            assert!(rt;
-                input.failures() == 1 && held.is_empty(),
-                "at call {fails_at}"
-            );
-        } else {
-            assert!(rt; answer == Ok(CHECK_TIMES_RAN));
-            assert!(rt; input.failures() == 0 && held.as_slice() == CHECK_TIMES_OUTPUT);
-        }
-    }
-}
-
-#[test]
-fn a_writer_fails_or_takes_none(rt: HostRuntime) {
-    let calls = CHECK_TIMES_OUTPUT.len() as u64;
-    for fails_at in 1..calls + 2 {
-        let mut input = Counted::new(reader(CHECK_TIMES, 4096, 0));
-        let mut output = Counted::new(writer(rt.alloc(), 1, fails_at));
-        let answer = run(rt.alloc(), &mut input, &mut output);
-        let failed = fails_at <= calls;
-        let failures = output.failures();
-        let held = output.into_inner().held;
-        assert!(rt;
-            answer
-                == if failed {
-                    Err(RunFault::Write)
-                } else {
-                    Ok(CHECK_TIMES_RAN)
-                },
-            "at call {fails_at}"
-        );
-        assert!(rt; failures == u64::from(failed), "at call {fails_at}");
-        assert!(rt;
-            held.as_slice() == &CHECK_TIMES_OUTPUT[..(fails_at - 1) as usize],
-            "at call {fails_at}"
-        );
-    }
-
-    let mut input = Counted::new(reader(CHECK_TIMES, 4096, 0));
-    let mut output = Counted::new(writer(rt.alloc(), 0, 0));
-    assert!(rt; run(rt.alloc(), &mut input, &mut output) == Err(RunFault::Write));
-    assert!(rt; output.failures() == 1 && output.into_inner().held.is_empty());
-}
-
-#[test]
-fn each_request_for_memory_is_refused(rt: HostRuntime) -> Result<(), Fail> {
-    let alloc = rt.alloc();
-    let requests = refuse_each(&rt, alloc, |heap, number| {
-        let mut input = Counted::new(reader(CHECK_TIMES, 4096, 0));
-        let mut output = Counted::new(writer(alloc, 4096, 0));
-        heap.refuse(number);
-        let answer = run(heap, &mut input, &mut output);
-        let held = output.into_inner().held;
-        let right = answer == Ok(CHECK_TIMES_RAN) && held.as_slice() == CHECK_TIMES_OUTPUT;
-        let memory = answer == Err(RunFault::Memory) && CHECK_TIMES_OUTPUT.starts_with(&held);
-        Ok(judged(heap, right, memory))
-    })?;
-    assert!(rt; requests > 5);
-    Ok(())
 }

@@ -1,6 +1,7 @@
 pub mod Effects
 pub mod Events
 pub mod Foresight
-pub mod Scripts
+pub mod Blocks
 pub mod Outputs
+pub mod Scripts
 pub mod Reports

@@ -1,11 +1,13 @@
--- Replies have one output.
-use Rattle.std.proofs.Common.{◌≡◌, ℕ, List, [], ◌∷◌, ◌++◌, sym, ap, ◌∙◌}
+-- Replies have one output, and one number of refusals.
+use Rattle.std.proofs.Common.{◌≡◌, ℕ, ◌+◌, ◌≤◌, Bool, true, false, cond, List, [], ◌∷◌, ◌++◌, refl, sym, ap, subst, ◌∙◌, arith}
+use Rattle.std.specs.Bool.{Decides}
+use Rattle.std.proofs.lemmas.Bool.Decides.{same_from_decides}
 use Rattle.stn_lift.specs.PlanSource.{PlanSource}
 use Rattle.stn_records.specs.Content.{Content}
 use Rattle.stn_replica.specs.Report.{IsReport}
-use Rattle.stn_exec.specs.Effect.{Reply, said, reported, foreseen}
-use Rattle.stn_exec.proofs.Foresight.{one_next_text}
-use Rattle.stn_exec.specs.Output.{IsReplyText, IsOutput}
+use Rattle.stn_exec.specs.Effect.{Reply, said, reported, foreseen, rehearsed}
+use Rattle.stn_exec.proofs.Foresight.{one_next_text, one_rehearse_text}
+use Rattle.stn_exec.specs.Output.{IsReplyText, IsOutput, IsRefusal, CountsRefusals}
 
 -- a reply has one text, where a plan and a state have one report
 one_text : ((source : PlanSource) (state : Content) (text other : List ℕ) → IsReport source state text → IsReport source state other → text ≡ other)
@@ -13,9 +15,47 @@ one_text : ((source : PlanSource) (state : Content) (text other : List ℕ) → 
 one_text unique (said answer) text other p q = p ∙ sym q
 one_text unique (reported source state) text other p q = unique source state text other p q
 one_text unique (foreseen source state now) text other p q = one_next_text source state now text other p q
+one_text unique (rehearsed source state now) text other p q = one_rehearse_text source state now text other p q
 
 pub one_output : ((source : PlanSource) (state : Content) (text other : List ℕ) → IsReport source state text → IsReport source state other → text ≡ other)
     → (replies : List Reply) (text other : List ℕ) → IsOutput replies text → IsOutput replies other → text ≡ other
 one_output unique [] text other p q = p ∙ sym q
 one_output unique (reply ∷ replies) text other p q =
     p.4 ∙ (ap (λ (l : List ℕ). l ++ p.1) (one_text unique reply p.0 q.0 p.2 q.2) ∙ (ap (λ (l : List ℕ). q.0 ++ l) (one_output unique replies p.1 q.1 p.3 q.3) ∙ sym q.4))
+
+-- ---- refusals
+abbrev counted : Bool → ℕ → ℕ
+counted refused others = cond refused 1 0 + others
+
+pub one_count : (replies : List Reply) (count other : ℕ) → CountsRefusals replies count → CountsRefusals replies other → count ≡ other
+one_count [] count other p q = p ∙ sym q
+one_count (reply ∷ replies) count other p q =
+    p.4 ∙ (ap (λ b. counted b p.1) (same_from_decides p.0 q.0 p.2 q.2) ∙ (ap (counted q.0) (one_count replies p.1 q.1 p.3 q.3) ∙ sym q.4))
+
+-- no replies, one, and some and then others
+pub count_none : CountsRefusals [] 0
+count_none = refl
+
+pub count_one : (reply : Reply) (refused : Bool) (count : ℕ) → count ≡ cond refused 1 0 → Decides refused (IsRefusal reply) → CountsRefusals (reply ∷ []) count
+count_one reply refused count is decides = (refused, 0, decides, refl, is ∙ none (cond refused 1 0))
+  where
+    none : (n : ℕ) → n ≡ n + 0
+    none n = omega arith
+
+pub counts_join : (first later : List Reply) (a b : ℕ) → CountsRefusals first a → CountsRefusals later b → CountsRefusals (first ++ later) (a + b)
+counts_join [] later a b p q = subst (CountsRefusals later) (same p) q
+  where
+    same : a ≡ 0 → b ≡ a + b
+    same e = omega (arith, e)
+counts_join (reply ∷ first) later a b p q = (p.0, p.1 + b, p.2, counts_join first later p.1 b p.3 q, sums (cond p.0 1 0) p.4)
+  where
+    sums : (n : ℕ) → a ≡ n + p.1 → a + b ≡ n + (p.1 + b)
+    sums n e = omega (arith, e)
+
+-- one reply is at most one refusal
+pub one_refusal : (reply : Reply) (count : ℕ) → CountsRefusals (reply ∷ []) count → count ≤ 1
+one_refusal reply count p = most p.0 (p.4 ∙ ap (counted p.0) p.3)
+  where
+    most : (b : Bool) → count ≡ counted b 0 → count ≤ 1
+    most true e = omega (arith, e)
+    most false e = omega (arith, e)

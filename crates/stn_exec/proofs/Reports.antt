@@ -11,19 +11,21 @@ use Rattle.stn_replica.specs.Report.{IsReport}
 use Rattle.stn_replica.specs.Refusals.{add_refusal, done_refusal}
 use Rattle.stn_world.specs.Faults.{of_replica_fault}
 use Rattle.stn_world.specs.World.{World, HasSite, has_site, opening_world, held_at, content_at, next_id_at}
-use Rattle.stn_records.specs.Content.{Item, HasItem}
+use Rattle.stn_records.specs.Content.{Item, HasItem, part_of}
 use Rattle.stn_world.specs.Steps.{Step, added, finished, stepped, run, TookAt}
 use Rattle.stn_world.proofs.Accepted.{no_site}
+use Rattle.stn_world.specs.Parts.{holds_all}
+use Rattle.stn_world.proofs.Sendings.{part_free, all_free}
 use Rattle.stn_world.proofs.Runs.{run_stays, run_keeps}
 use Rattle.stn_exec.specs.declared.answer.Refusal.{Refusal}
 use Rattle.stn_exec.specs.declared.answer.Refusal.TheVariants as refusal
 use Rattle.stn_exec.specs.declared.answer.Answer.TheVariants as answer
-use Rattle.stn_exec.specs.Command.{Action, add, done, withdraw, merge, report, check, next, Command, sites_command, command_of}
-use Rattle.stn_exec.specs.Effect.{Effect, Reply, reported, foreseen, refusing, refusing_time, difference_read, add_effect, done_effect, asked, action_effect, command_effect, action_step, step_of}
+use Rattle.stn_exec.specs.Command.{Action, add, done, withdraw, merge, send_all, send, deliver, report, check, next, rehearse, Command, sites_command, command_of}
+use Rattle.stn_exec.specs.Effect.{Effect, Reply, reported, foreseen, rehearsed, refusing, refusing_time, difference_read, add_effect, done_effect, asked, action_effect, command_effect, action_step, step_of}
 use Rattle.stn_exec.specs.Script.{Outcome, Start, is_skipped, form_effect, line_outcome, lines_outcome, heading_of, last_line, script_outcome}
 use Rattle.stn_exec.specs.Output.{IsOutput}
 use Rattle.stn_exec.specs.Reports.{line_steps, steps_of_lines, LineOf, first_world, steps_before, world_at, ReportsSite, PrintsAt}
-use Rattle.stn_exec.proofs.Effects.{withdraws, merges, as_called, there_effect}
+use Rattle.stn_exec.proofs.Effects.{withdraws, merges, delivers, sending_run, as_called, there_effect}
 use Rattle.stn_exec.proofs.Scripts.{line_outcome-skipped, line_outcome-run, line_effect-is, script_outcome-is}
 
 -- ---- what a command leaves is what its step leaves
@@ -47,47 +49,50 @@ asked_stays : (world : World) (reply : ℤ → Reply) (read : Result ℤ Refusal
 asked_stays world reply (Ok now) = refl
 asked_stays world reply (Err cause) = refl
 
-effect_run : (world : World) (site : ℕ) (action : Action) → (command_effect world (sites_command site action)).world ≡ run world (option_to_list (action_step site action))
+effect_run : (world : World) (site : ℕ) (action : Action) → (command_effect world (sites_command site action)).world ≡ run world (option_to_list (action_step world site action))
 effect_run world site (add from to lo hi) = addition_run world site (difference_read from to lo hi)
 effect_run world site (done event time) = execution_run world site event (refusing_time (time_of time))
 effect_run world site (withdraw id) = ap (λ (e : Effect). e.world) (sym (withdraws world site id))
 effect_run world site (merge other) = ap (λ (e : Effect). e.world) (sym (merges world site other))
+effect_run world site send_all = sending_run world site (content_at world site) true (all_free world site)
+effect_run world site (send records tombstones) =
+    sending_run world site (part_of (content_at world site) records tombstones) (holds_all (content_at world site) records tombstones) (part_free world site records tombstones)
+effect_run world site (deliver packet) = ap (λ (e : Effect). e.world) (sym (delivers world site packet))
 effect_run world site report = stays (has_site world site) world (action_effect world site report) (refusing world refusal.NoSite) refl refl
 effect_run world site (check times) = stays (has_site world site) world (action_effect world site (check times)) (refusing world refusal.NoSite) refl refl
 effect_run world site (next now) =
     stays (has_site world site) world (action_effect world site (next now)) (refusing world refusal.NoSite)
     (asked_stays world (foreseen world.source (content_at world site)) (refusing_time (time_of now))) refl
+effect_run world site (rehearse now) =
+    stays (has_site world site) world (action_effect world site (rehearse now)) (refusing world refusal.NoSite)
+    (asked_stays world (rehearsed world.source (content_at world site)) (refusing_time (time_of now))) refl
 
-form_run : (number : ℕ) (world : World) (command : Option Command) → (form_effect number world command).world ≡ run world (option_to_list (option_and_then step_of command))
+form_run : (number : ℕ) (world : World) (command : Option Command) → (form_effect number world command).world ≡ run world (option_to_list (option_and_then (step_of world) command))
 form_run number world None = refl
 form_run number world (Some command) = effect_run world command.site command.action
 
-line_run : (number : ℕ) (world : World) (words : List (List ℕ)) → (line_outcome number world words).world ≡ run world (line_steps (events_of world.source) words)
+line_run : (number : ℕ) (world : World) (words : List (List ℕ)) → (line_outcome number world words).world ≡ run world (line_steps world words)
 line_run number world words = tested (is_skipped words) refl
   where
     steps : Bool → List Step
-    steps b = cond b [] (option_to_list (option_and_then step_of (command_of (events_of world.source) words)))
+    steps b = cond b [] (option_to_list (option_and_then (step_of world) (command_of (events_of world.source) words)))
 
-    tested : (b : Bool) → is_skipped words ≡ b → (line_outcome number world words).world ≡ run world (line_steps (events_of world.source) words)
+    tested : (b : Bool) → is_skipped words ≡ b → (line_outcome number world words).world ≡ run world (line_steps world words)
     tested true e = ap (λ (o : Outcome). o.world) (line_outcome-skipped number world words e) ∙ ap (λ b. run world (steps b)) (sym e)
     tested false e =
         ap (λ (o : Outcome). o.world) (line_outcome-run number world words e)
         ∙ (ap (λ (f : Effect). f.world) (sym (line_effect-is number world words (command_of (events_of world.source) words) refl))
         ∙ (form_run number world (command_of (events_of world.source) words) ∙ ap (λ b. run world (steps b)) (sym e)))
 
-line_keeps : (number : ℕ) (world : World) (words : List (List ℕ)) → (line_outcome number world words).world.source ≡ world.source
-line_keeps number world words =
-    ap (λ (w : World). w.source) (line_run number world words) ∙ run_keeps world (line_steps (events_of world.source) words)
-
-pub lines_run : (number : ℕ) (world : World) (lines : List (List ℕ)) → (lines_outcome number world lines).world ≡ run world (steps_of_lines (events_of world.source) lines)
-unfolding lines_outcome
+pub lines_run : (number : ℕ) (world : World) (lines : List (List ℕ)) → (lines_outcome number world lines).world ≡ run world (steps_of_lines world lines)
+unfolding lines_outcome steps_of_lines
 lines_run number world [] = refl
 lines_run number world (line ∷ lines) =
     let first = (line_outcome number world (words_of line)).world in
+    let steps = line_steps world (words_of line) in
     lines_run (number + 1) first lines
-    ∙ (ap (λ (s : PlanSource). run first (steps_of_lines (events_of s) lines)) (line_keeps number world (words_of line))
-    ∙ (ap (λ (w : World). run w (steps_of_lines (events_of world.source) lines)) (line_run number world (words_of line))
-    ∙ sym (fold-append stepped world (line_steps (events_of world.source) (words_of line)) (steps_of_lines (events_of world.source) lines))))
+    ∙ (ap (λ (w : World). run w (steps_of_lines w lines)) (line_run number world (words_of line))
+    ∙ sym (fold-append stepped world steps (steps_of_lines (run world steps) lines)))
 
 -- ---- the output at a line
 lines_split : (number : ℕ) (world : World) (before rest : List (List ℕ))
@@ -121,7 +126,7 @@ script_started : (script : List ℕ) (start : Start) → heading_of (last_line s
 script_started script start heading = sym (script_outcome-is script (Ok start) (sym heading))
 
 pub script_run : (script : List ℕ) (start : Start) → heading_of (last_line script) (lines_of script) ≡ Ok start
-    → (script_outcome script).world ≡ run (opening_world start.source start.sites) (steps_of_lines (events_of start.source) start.lines)
+    → (script_outcome script).world ≡ run (opening_world start.source start.sites) (steps_of_lines (opening_world start.source start.sites) start.lines)
 script_run script start heading =
     ap (λ (o : Outcome). o.world) (script_started script start heading) ∙ lines_run start.number (opening_world start.source start.sites) start.lines
 

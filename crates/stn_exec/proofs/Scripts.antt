@@ -1,5 +1,5 @@
 -- The heading and the lines of a script, one after the other.
-use Rattle.std.proofs.Common.{◌≡◌, ℕ, ⊎_elim, ◌+◌, ◌<◌, ◌≤◌, true, false, cond, List, [], ◌∷◌, ◌++◌, length, Option, Some, None, Result, Ok, Err, Bool, IfSome, IfOk, OnOk, refl, sym, ap, ◌∙◌, arith, codes, append_assoc, subst}
+use Rattle.std.proofs.Common.{◌≡◌, ℕ, ℤ, ⊎_elim, ◌+◌, ◌<◌, ◌≤◌, true, false, cond, List, [], ◌∷◌, ◌++◌, length, Option, Some, None, Result, Ok, Err, Bool, IfSome, IfOk, OnOk, refl, sym, ap, ◌∙◌, arith, codes, append_assoc, subst}
 use Rattle.std.proofs.KnownBytes.{Appends-nil, Appends-trans}
 use Rattle.std.proofs.lemmas.Bool.{cases_lt}
 use Rattle.std.proofs.lemmas.Bool.Decides.{nat_tests}
@@ -7,14 +7,19 @@ use Rattle.stn_device.specs.Bytes.{AppendsPart}
 use Rattle.stn_text.specs.Lines.{lines_of, words_of}
 use Rattle.stn_exec.specs.declared.answer.Refusal.{Refusal}
 use Rattle.stn_exec.specs.declared.answer.Refusal.TheVariants as refusal
-use Rattle.stn_exec.specs.Effect.{Reply, said, and_then}
+use Rattle.stn_exec.specs.Effect.{Reply, said, reported, foreseen, rehearsed, Effect, and_then}
+use Rattle.stn_exec.specs.Dispatch.{IsNextText, IsRehearseText, IsRefusedRehearsal}
+use Rattle.stn_replica.specs.Report.{IsReport}
+use Rattle.stn_records.specs.Content.{Content}
+use Rattle.std.specs.Bool.{Decides}
 use Rattle.stn_exec.specs.Command.{Command, command_of}
-use Rattle.stn_lift.specs.PlanSource.{bare, events_of}
+use Rattle.stn_lift.specs.PlanSource.{PlanSource, events_of}
 use Rattle.stn_world.specs.World.{World, opening_world}
 use Rattle.stn_exec.specs.declared.answer.Answer.{Answer}
 use Rattle.stn_exec.specs.Answer.{answer_text, is_refusal}
-use Rattle.stn_exec.specs.Output.{IsReplyText, IsOutput, WritesOutput, WritesOutputPart, IsReplied}
-use Rattle.stn_exec.specs.Script.{Outcome, nothing_run, followed_by, form_effect, is_skipped, line_effect, effect_outcome, line_outcome, lines_outcome, next_line, Part, part_of, source_of, sites_of, Based, Start, based, with_sites, heading_of, refuses, started, last_line, script_outcome}
+use Rattle.stn_exec.specs.Output.{IsReplyText, IsOutput, CountsRefusals, WritesOutput, WritesOutputPart, IsReplied}
+use Rattle.stn_exec.proofs.Outputs.{counts_join, one_refusal}
+use Rattle.stn_exec.specs.Script.{Outcome, nothing_run, followed_by, form_effect, is_skipped, line_effect, effect_outcome, line_outcome, lines_outcome, next_line, Part, part_of, sites_of, Based, Start, based, with_sites, heading_of, started, last_line, script_outcome}
 
 -- an empty text has no lines
 pub lines_of-none : (text : List ℕ) → length text ≡ 0 → lines_of text ≡ []
@@ -36,12 +41,6 @@ pub next_line-skip : (number : ℕ) (line : List ℕ) (lines : List (List ℕ)) 
 unfolding next_line
 next_line-skip number line lines e = ap (λ t. cond t (next_line (number + 1) lines) (Some (record { number = number; words = words_of line; behind = lines }))) e
 
-source_of-few : (steps : ℕ) → steps ≤ 256 → source_of steps ≡ Ok (bare steps)
-source_of-few steps le = grind (arith, nat_tests)
-
-source_of-many : (steps : ℕ) → 256 < steps → source_of steps ≡ Err refusal.TooManySteps
-source_of-many steps lt = grind (arith, nat_tests)
-
 pub sites_of-some : (sites : ℕ) → 1 ≤ sites → sites ≤ 64 → sites_of sites ≡ Ok sites
 sites_of-some sites least most = grind (arith, nat_tests)
 
@@ -58,19 +57,6 @@ sites_of-none sites none = ⊎_elim (λ few. some few) (λ many. past many) (cas
         omega_many least = ⊎_elim (λ lt. lt) (λ le. absurd (none least le)) (cases_lt 64 sites)
 
 -- the faults of the heading in their order, and the heading
-pub based-fault : (last : ℕ) (lines : List (List ℕ)) (cause : Refusal) → part_of last (codes "steps") (next_line 1 lines) ≡ Err cause → based last lines ≡ Err cause
-unfolding based
-based-fault last lines cause e = rw e refl
-
-pub based-many : (last : ℕ) (lines : List (List ℕ)) (steps : Part) → part_of last (codes "steps") (next_line 1 lines) ≡ Ok steps → 256 < steps.value → based last lines ≡ Err refusal.TooManySteps
-unfolding based
-based-many last lines steps e many = rw e (rw (source_of-many steps.value many) refl)
-
-pub based-made : (last : ℕ) (lines : List (List ℕ)) (steps : Part) → part_of last (codes "steps") (next_line 1 lines) ≡ Ok steps → steps.value ≤ 256
-    → based last lines ≡ Ok (record { source = bare steps.value; number = steps.found.number + 1; lines = steps.found.behind })
-unfolding based
-based-made last lines steps e few = rw e (rw (source_of-few steps.value few) refl)
-
 pub heading-fault : (last : ℕ) (lines : List (List ℕ)) (base : Based) (cause : Refusal) → based last lines ≡ Ok base
     → part_of last (codes "sites") (next_line base.number base.lines) ≡ Err cause → heading_of last lines ≡ Err cause
 unfolding with_sites
@@ -101,17 +87,18 @@ unfolding line_effect
 line_effect-is number world words command e = ap (form_effect number world) e
 
 -- a line is at most one command
-pub line_outcome-counts : (number : ℕ) (world : World) (words : List (List ℕ)) → ((line_outcome number world words).commands ≤ 1) × ((line_outcome number world words).refused ≤ 1)
-line_outcome-counts number world words = tested (is_skipped words) refl
+pub line_outcome-counts : (number : ℕ) (world : World) (words : List (List ℕ)) (count : ℕ) → CountsRefusals (line_outcome number world words).replies count
+    → ((line_outcome number world words).commands ≤ 1) × (count ≤ 1)
+line_outcome-counts number world words count counts = tested (is_skipped words) refl
   where
-    one : (b : Bool) → cond b 1 0 ≤ 1
-    one true = omega arith
-    one false = omega arith
+    none : CountsRefusals [] count → count ≤ 1
+    none e = omega (arith, e)
 
-    tested : (b : Bool) → is_skipped words ≡ b → ((line_outcome number world words).commands ≤ 1) × ((line_outcome number world words).refused ≤ 1)
-    tested true e = let is = line_outcome-skipped number world words e in (omega (arith, ap (λ (o : Outcome). o.commands) is), omega (arith, ap (λ (o : Outcome). o.refused) is))
+    tested : (b : Bool) → is_skipped words ≡ b → ((line_outcome number world words).commands ≤ 1) × (count ≤ 1)
+    tested true e = let is = line_outcome-skipped number world words e in
+        (omega (arith, ap (λ (o : Outcome). o.commands) is), none (subst (λ (o : Outcome). CountsRefusals o.replies count) is counts))
     tested false e = let is = line_outcome-run number world words e in
-        (omega (arith, ap (λ (o : Outcome). o.commands) is), omega (arith, ap (λ (o : Outcome). o.refused) is, one (refuses (line_effect number world words).reply)))
+        (omega (arith, ap (λ (o : Outcome). o.commands) is), one_refusal (line_effect number world words).reply count (subst (λ (o : Outcome). CountsRefusals o.replies count) is counts))
 
 -- no lines, and one line more
 pub lines_outcome-none : (number : ℕ) (world : World) (text : List ℕ) → length text ≡ 0 → lines_outcome number world (lines_of text) ≡ nothing_run world
@@ -139,9 +126,13 @@ output_one reply text is = (text, [], is, refl, sym (append_nil text))
 
 -- what was written so far, and then one line more
 pub texts-more : (a b c : Option (List ℕ)) (whole done first later now : List Reply) → WritesOutput a b done → WritesOutput b c first → whole ≡ done ++ now → now ≡ first ++ later
-    → (more : List Reply) × WritesOutput a c more × (whole ≡ more ++ later)
-texts-more a b c whole done first later now p q e f =
-    (done ++ first, (p.0 ++ q.0, outputs_join done first p.0 q.0 p.1 q.1, Appends-trans a b c p.0 q.0 p.2 q.2), e ∙ ap (λ l. done ++ l) f ∙ sym (append_assoc done first later))
+    → (m n : ℕ) → CountsRefusals done m → CountsRefusals first n → (more : List Reply) × WritesOutput a c more × (whole ≡ more ++ later) × CountsRefusals more (m + n)
+texts-more a b c whole done first later now p q e f m n counts last = (
+  done ++ first,
+  (p.0 ++ q.0, outputs_join done first p.0 q.0 p.1 q.1, Appends-trans a b c p.0 q.0 p.2 q.2),
+  e ∙ ap (λ l. done ++ l) f ∙ sym (append_assoc done first later),
+  counts_join done first m n counts last,
+)
 
 -- what was written so far, and then a part of one line
 pub texts-part : (a b c : Option (List ℕ)) (whole done first later now : List Reply) → WritesOutput a b done → WritesOutputPart b c first → whole ≡ done ++ now → now ≡ first ++ later
@@ -190,5 +181,34 @@ opened_outcome script start world number lines read opening at behind =
 -- an answer that was appended
 pub said_replied : {E : Type 0} (result : Result Bool E) (world : World) (old new : List ℕ) (answer : Answer) → OnOk result (new ≡ old ++ answer_text answer) → IfOk result (λ refused. refused ≡ is_refusal answer)
     → IfOk result (IsReplied world old new (record { world = world; reply = said answer }))
-said_replied (Ok refused) world old new answer e f = record { text = answer_text answer; left = refl; printed = refl; appended = e; answered = f }
+said_replied (Ok refused) world old new answer e f =
+    record { text = answer_text answer; left = refl; printed = refl; appended = e; answered = (λ yes. sym f ∙ yes, λ yes. f ∙ yes) }
 said_replied (Err fault) world old new answer e f = tt
+
+-- and with the world that it leaves
+pub said_left : {E : Type 0} (result : Result Bool E) (world : World) (old new : List ℕ) (answer : Answer) (effect : Effect) → record { world = world; reply = said answer } ≡ effect
+    → OnOk result (new ≡ old ++ answer_text answer) → IfOk result (λ refused. refused ≡ is_refusal answer) → IfOk result (IsReplied world old new effect)
+said_left result world old new answer effect same e f = subst (λ (given : Effect). IfOk result (IsReplied world old new given)) same (said_replied result world old new answer e f)
+
+-- a report that was appended, and what comes next
+not_refused : Decides false ⊥
+not_refused = (λ e. absurd (cc), λ none. absurd none)
+
+pub report_replied : (world : World) (old new text : List ℕ) (source : PlanSource) (state : Content) (effect : Effect) → record { world = world; reply = reported source state } ≡ effect
+    → IsReport source state text → new ≡ old ++ text → IsReplied world old new effect false
+report_replied world old new text source state effect same is e =
+    subst (λ (given : Effect). IsReplied world old new given false) same (record { text = text; left = refl; printed = is; appended = e; answered = not_refused })
+
+pub next_replied : (world : World) (old new text : List ℕ) (source : PlanSource) (state : Content) (now : ℤ) (effect : Effect) → record { world = world; reply = foreseen source state now } ≡ effect
+    → IsNextText source state now text → new ≡ old ++ text → IsReplied world old new effect false
+next_replied world old new text source state now effect same is e =
+    subst (λ (given : Effect). IsReplied world old new given false) same (record { text = text; left = refl; printed = is; appended = e; answered = not_refused })
+
+-- a rehearsal that was appended
+pub rehearsal_replied : {E : Type 0} (result : Result Bool E) (world : World) (old new : List ℕ) (source : PlanSource) (state : Content) (now : ℤ) (effect : Effect)
+    → record { world = world; reply = rehearsed source state now } ≡ effect
+    → OnOk result ((text : List ℕ) × IsRehearseText source state now text × (new ≡ old ++ text)) → IfOk result (λ refused. Decides refused (IsRefusedRehearsal source state now))
+    → IfOk result (IsReplied world old new effect)
+rehearsal_replied (Ok refused) world old new source state now effect same is decides =
+    subst (λ (given : Effect). IsReplied world old new given refused) same (record { text = is.0; left = refl; printed = is.1; appended = is.2; answered = decides })
+rehearsal_replied (Err fault) world old new source state now effect same is decides = tt

@@ -1,6 +1,6 @@
 -- The commands that lines are.
-use Rattle.std.specs.Prelude.{◌≡◌, ℕ, ◌+◌, ◌*◌, ◌/◌, ◌%◌, ◌==◌, if◌then◌else◌, List, [], ◌∷◌, length, codes, find, Option, Some, None, option_and_then}
-use Rattle.std.specs.List.{range_with_len}
+use Rattle.std.specs.Prelude.{◌≡◌, ℕ, ◌+◌, ◌*◌, ◌/◌, ◌%◌, ◌==◌, Bool, ◌||◌, if◌then◌else◌, List, [], ◌∷◌, length, codes, find, Option, Some, None, is_some, option_and_then}
+use Rattle.std.specs.List.{range_with_len, list_all, filter_map}
 use Rattle.std.specs.Option.{option_map}
 use Rattle.std.specs.Str.{bytes_eq}
 use Rattle.stn_net.specs.Event.{most_events, event_text}
@@ -12,15 +12,20 @@ use Rattle.stn_exec.specs.declared.command.Action.{Action as ActionOfLine}
 use Rattle.stn_exec.specs.declared.command.Action.TheVariants as line
 
 -- what a command does: it adds the bound of two events and two sides, records the time at which an event was executed, withdraws a
--- record, merges another site, prints the report, checks times, or asks what comes next from a time on; sides and times are words
+-- record, merges another site, sends all that the site holds or some of its records and withdrawn ids, takes in a packet, prints the
+-- report, checks times, asks what comes next from a time on, or rehearses the rest of the plan from a time on; sides and times are words
 pub data Action : Type 0 where
   add : (from to : ℕ) (lo hi : List ℕ) → Action
   done : (event : ℕ) (time : List ℕ) → Action
   withdraw : (id : SiteCounter) → Action
   merge : (other : ℕ) → Action
+  send_all : Action
+  send : (records tombstones : List SiteCounter) → Action
+  deliver : (packet : ℕ) → Action
   report : Action
   check : (times : List (List ℕ)) → Action
   next : (now : List ℕ) → Action
+  rehearse : (now : List ℕ) → Action
 
 -- a command of one site
 pub record Command : Type 0 where
@@ -68,6 +73,29 @@ abbrev pub merge_of : List (List ℕ) → Option Action
 merge_of (word ∷ []) = option_map merge (number_of word)
 merge_of other = None
 
+-- the withdrawn id that is printed behind `-`
+abbrev pub tombstone_of : List ℕ → Option SiteCounter
+tombstone_of [] = None
+tombstone_of (first ∷ word) = if first == 45 then id_of word else None
+
+-- the word names a record or a withdrawn id
+abbrev pub is_item : List ℕ → Bool
+is_item word = is_some (id_of word) || is_some (tombstone_of word)
+
+-- the sending of the records and of the withdrawn ids that the words name, in any order
+abbrev pub send_items : List (List ℕ) → Action
+send_items words = send (filter_map id_of words) (filter_map tombstone_of words)
+
+-- the forms `send` and `send <item> ..`; an item is the id of a record, or a withdrawn id behind `-`
+abbrev pub send_of : List (List ℕ) → Option Action
+send_of [] = Some send_all
+send_of (word ∷ words) = if list_all is_item (word ∷ words) then Some (send_items (word ∷ words)) else None
+
+-- the form `deliver <packet>`
+abbrev pub deliver_of : List (List ℕ) → Option Action
+deliver_of (word ∷ []) = option_map deliver (number_of word)
+deliver_of other = None
+
 -- the form `report`
 abbrev pub report_of : List (List ℕ) → Option Action
 report_of [] = Some report
@@ -82,6 +110,11 @@ abbrev pub next_of : List (List ℕ) → Option Action
 next_of (now ∷ []) = Some (next now)
 next_of other = None
 
+-- the form `rehearse <t>`
+abbrev pub rehearse_of : List (List ℕ) → Option Action
+rehearse_of (now ∷ []) = Some (rehearse now)
+rehearse_of other = None
+
 -- the forms by their names
 abbrev pub action_of : ℕ → List ℕ → List (List ℕ) → Option Action
 action_of events name words =
@@ -89,9 +122,12 @@ action_of events name words =
     (if bytes_eq name (codes "done") then done_of words else
     (if bytes_eq name (codes "withdraw") then withdraw_of words else
     (if bytes_eq name (codes "merge") then merge_of words else
+    (if bytes_eq name (codes "send") then send_of words else
+    (if bytes_eq name (codes "deliver") then deliver_of words else
     (if bytes_eq name (codes "report") then report_of words else
     (if bytes_eq name (codes "check") then check_of events words else
-    (if bytes_eq name (codes "next") then next_of words else None))))))
+    (if bytes_eq name (codes "next") then next_of words else
+    (if bytes_eq name (codes "rehearse") then rehearse_of words else None)))))))))
 
 -- a site's command
 abbrev pub sites_command : ℕ → Action → Command
@@ -110,9 +146,13 @@ seen_action (line.Add from to lo hi) = add from to lo.now hi.now
 seen_action (line.Done event time) = done event time.now
 seen_action (line.Withdraw id) = withdraw id
 seen_action (line.Merge other) = merge other
+seen_action line.SendAll = send_all
+seen_action (line.Send items) = send_items (words_of items.now)
+seen_action (line.Deliver packet) = deliver packet
 seen_action line.Report = report
 seen_action (line.Check times) = check (words_of times.now)
 seen_action (line.Next now) = next now.now
+seen_action (line.Rehearse now) = rehearse now.now
 
 -- the command that the code has read from a line
 abbrev pub seen_command : CommandOfLine → Command

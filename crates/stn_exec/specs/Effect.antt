@@ -1,5 +1,5 @@
 -- What commands do at the sites of a world.
-use Rattle.std.specs.Prelude.{ℕ, if◌then◌else◌, List, [], ◌∷◌, codes, ℤ, pos, neg_ℤ, Option, Some, None, option_map, option_and_then, Result, Ok, Err}
+use Rattle.std.specs.Prelude.{ℕ, ◌+◌, Bool, true, if◌then◌else◌, List, [], ◌∷◌, length, codes, ℤ, pos, neg_ℤ, Option, Some, None, is_some, option_map, option_and_then, Result, Ok, Err}
 use Rattle.std.specs.Option.{option_map_or}
 use Rattle.std.specs.Result.{result_ok}
 use Rattle.std.specs.Str.{bytes_eq}
@@ -9,23 +9,27 @@ use Rattle.stn_time.specs.TimeOf.{time_of}
 use Rattle.stn_net.specs.Difference.{Difference}
 use Rattle.stn_net.specs.Schedule.{times_of}
 use Rattle.stn_lift.specs.PlanSource.{PlanSource}
-use Rattle.stn_records.specs.Content.{Content}
+use Rattle.stn_records.specs.Content.{Content, part_of}
 use Rattle.stn_replica.specs.Held.{difference}
 use Rattle.stn_replica.specs.Names.{broken_bound}
+use Rattle.stn_world.specs.declared.faults.WorldFault.{WorldFault}
+use Rattle.stn_world.specs.Parts.{holds_all}
 use Rattle.stn_world.specs.World.{World, has_site, content_at, next_id_at}
-use Rattle.stn_world.specs.Steps.{Step, added, finished, withdrew, merged, step_refusal, stepped}
+use Rattle.stn_world.specs.Steps.{Step, added, finished, withdrew, merged, sent, delivered, step_refusal, send_refusal, after}
 use Rattle.stn_exec.specs.declared.answer.Refusal.{Refusal}
 use Rattle.stn_exec.specs.declared.answer.Refusal.TheVariants as refusal
 use Rattle.stn_exec.specs.declared.answer.Answer.{Answer}
 use Rattle.stn_exec.specs.declared.answer.Answer.TheVariants as answer
-use Rattle.stn_exec.specs.Command.{Action, add, done, withdraw, merge, report, check, next, Command}
+use Rattle.stn_exec.specs.Command.{Action, add, done, withdraw, merge, send_all, send, deliver, report, check, next, rehearse, Command}
 use Rattle.stn_exec.specs.Refusals.{refusal_of}
 
--- what a line prints: an answer; or, of what a site holds, the report, or what comes next from a time on
+-- what a line prints: an answer; or, of what a site holds, the report, what comes next from a time on, or the rest of the plan
+-- from a time on
 pub data Reply : Type 0 where
   said : Answer → Reply
   reported : PlanSource → Content → Reply
   foreseen : PlanSource → Content → ℤ → Reply
+  rehearsed : PlanSource → Content → ℤ → Reply
 
 -- a command's reply, and the world that it leaves
 pub record Effect : Type 0 where
@@ -36,12 +40,22 @@ pub record Effect : Type 0 where
 abbrev pub refusing : World → Refusal → Effect
 refusing world cause = record { world = world; reply = said (answer.Refused cause) }
 
--- a call of the world takes its step, and the answer is what refuses the step, where something does
-abbrev pub called : World → Step → Answer → Effect
-called world step made = record {
-  world = stepped world step;
-  reply = said (option_map_or answer.Refused (option_and_then refusal_of (step_refusal world step)) made);
+-- a call of the world, which leaves a world and answers what was made;
+-- where something refuses the call, that is the answer, and nothing changes
+abbrev pub answered : World → World → Answer → Option WorldFault → Effect
+answered world left made cause = record {
+  world = if is_some cause then world else left;
+  reply = said (option_map_or answer.Refused (option_and_then refusal_of cause) made);
 }
+
+-- a call that is a step
+abbrev pub called : World → Step → Answer → Effect
+called world step made = answered world (after world step) made (step_refusal world step)
+
+-- a call that sends a part, of which the site holds all or not: there may be no more packets than the program keeps
+abbrev pub sending : World → ℕ → Content → Bool → Effect
+sending world site part held =
+    answered world (after world (sent site part)) (answer.Sent (length world.packets + 1)) (send_refusal world site held)
 
 -- the value goes on, and a fault is the answer
 abbrev pub and_then : {A B E : Type 0} → Result A E → (A → Result B E) → Result B E
@@ -94,25 +108,39 @@ action_effect world site (add from to lo hi) = add_effect world site (difference
 action_effect world site (done event time) = done_effect world site event (refusing_time (time_of time))
 action_effect world site (withdraw id) = called world (withdrew site id) (answer.Withdrawn id)
 action_effect world site (merge other) = called world (merged site other) answer.Merged
+action_effect world site send_all = sending world site (content_at world site) true
+action_effect world site (send records tombstones) =
+    sending world site (part_of (content_at world site) records tombstones) (holds_all (content_at world site) records tombstones)
+action_effect world site (deliver packet) = called world (delivered site packet) answer.Delivered
 action_effect world site report = record { world = world; reply = reported world.source (content_at world site) }
 action_effect world site (check times) = record { world = world; reply = said (check_answer world.source (content_at world site) (times_from times)) }
 action_effect world site (next now) = asked world (foreseen world.source (content_at world site)) (refusing_time (time_of now))
+action_effect world site (rehearse now) = asked world (rehearsed world.source (content_at world site)) (refusing_time (time_of now))
 
 -- a command
 abbrev pub command_effect : World → Command → Effect
 command_effect world command =
     if has_site world command.site then action_effect world command.site command.action else refusing world refusal.NoSite
 
--- the step that an action of a site is, if it is one: an addition whose sides can be read, a record of an executed event whose time can
--- be read, a withdrawal, a merge
-abbrev pub action_step : ℕ → Action → Option Step
-action_step site (add from to lo hi) = option_map (added site) (result_ok (difference_read from to lo hi))
-action_step site (done event time) = option_map (finished site event) (result_ok (refusing_time (time_of time)))
-action_step site (withdraw id) = Some (withdrew site id)
-action_step site (merge other) = Some (merged site other)
-action_step site report = None
-action_step site (check times) = None
-action_step site (next now) = None
+-- the step of a call that sends: none where the call is refused, since steps know no limit of packets
+abbrev pub sent_step : World → ℕ → Content → Bool → Option Step
+sent_step world site part held = if is_some (send_refusal world site held) then None else Some (sent site part)
 
-abbrev pub step_of : Command → Option Step
-step_of command = action_step command.site command.action
+-- the step that an action of a site is, if it is one: an addition whose sides can be read, a record of an executed event whose time can
+-- be read, a withdrawal, a merge, the sending of a packet, or its delivery
+abbrev pub action_step : World → ℕ → Action → Option Step
+action_step world site (add from to lo hi) = option_map (added site) (result_ok (difference_read from to lo hi))
+action_step world site (done event time) = option_map (finished site event) (result_ok (refusing_time (time_of time)))
+action_step world site (withdraw id) = Some (withdrew site id)
+action_step world site (merge other) = Some (merged site other)
+action_step world site send_all = sent_step world site (content_at world site) true
+action_step world site (send records tombstones) =
+    sent_step world site (part_of (content_at world site) records tombstones) (holds_all (content_at world site) records tombstones)
+action_step world site (deliver packet) = Some (delivered site packet)
+action_step world site report = None
+action_step world site (check times) = None
+action_step world site (next now) = None
+action_step world site (rehearse now) = None
+
+abbrev pub step_of : World → Command → Option Step
+step_of world command = action_step world command.site command.action

@@ -7,8 +7,10 @@ use Rattle.stn_exec.specs.declared.answer.Refusal.{Refusal}
 use Rattle.stn_exec.specs.declared.heading.FoundLine.{FoundLine}
 use Rattle.stn_exec.specs.declared.heading.HeadingPart.{HeadingPart}
 use Rattle.stn_exec.specs.declared.heading.Rest.{Rest}
+use Rattle.stn_exec.specs.declared.heading.HeadingBlock.{HeadingBlock}
 use Rattle.stn_exec.specs.declared.heading.HeadingFault.{HeadingFault}
 use Rattle.stn_exec.specs.declared.heading.HeadingFault.TheVariants as heading_fault
+use Rattle.stn_exec.specs.Blocks.{Block}
 use Rattle.stn_exec.specs.Script.{Found, Part, Based, Start}
 
 -- the value that was read, or the same fault
@@ -23,6 +25,10 @@ seen_found found = record { number = found.number; words = found.word.now ∷ wo
 -- the part that was read
 abbrev pub seen_part : HeadingPart → Part
 seen_part part = record { value = part.value; found = seen_found part.found }
+
+-- the block that was read
+abbrev pub seen_block : HeadingBlock → Block
+seen_block block = record { text = block.text.now; number = block.behind.number; behind = lines_of block.behind.text.now }
 
 -- what the first part gives
 abbrev pub seen_base : PlanSource → Rest → Based

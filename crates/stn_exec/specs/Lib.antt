@@ -1,8 +1,10 @@
+pub mod BaseRefusals
 pub mod Answer
 pub mod Command
 pub mod Dispatch
 pub mod Refusals
 pub mod Effect
+pub mod Blocks
 pub mod Script
 pub mod Heading
 pub mod Output

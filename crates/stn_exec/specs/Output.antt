@@ -1,12 +1,13 @@
--- The output that replies are.
-use Rattle.std.specs.Prelude.{◌≡◌, ℕ, ◌+◌, ◌-◌, ◌^◌, min, Bool, List, [], ◌∷◌, ◌++◌, Option, Result, Ok, Err}
+-- The output that replies are, and how many of them are refusals.
+use Rattle.std.specs.Prelude.{◌≡◌, ℕ, ◌+◌, ◌-◌, ◌^◌, min, Bool, true, if◌then◌else◌, List, [], ◌∷◌, ◌++◌, Option, Result, Ok, Err}
+use Rattle.std.specs.Bool.{Decides}
 use Rattle.std.specs.Io.KnownBytes.{Appends}
 use Rattle.stn_world.specs.World.{World}
 use Rattle.stn_replica.specs.Report.{IsReport}
-use Rattle.stn_exec.specs.Answer.{answer_text}
-use Rattle.stn_exec.specs.Dispatch.{IsNextText}
-use Rattle.stn_exec.specs.Effect.{Reply, said, reported, foreseen, Effect}
-use Rattle.stn_exec.specs.Script.{Outcome, refuses}
+use Rattle.stn_exec.specs.Answer.{answer_text, is_refusal}
+use Rattle.stn_exec.specs.Dispatch.{IsNextText, IsRehearseText, IsRefusedRehearsal}
+use Rattle.stn_exec.specs.Effect.{Reply, said, reported, foreseen, rehearsed, Effect}
+use Rattle.stn_exec.specs.Script.{Outcome}
 use Rattle.stn_exec.specs.declared.script.Ran.{Ran}
 use Rattle.stn_exec.specs.declared.script.RunFault.{RunFault}
 use Rattle.stn_exec.specs.declared.script.RunFault.TheVariants.{Write, Memory}
@@ -16,6 +17,19 @@ abbrev pub IsReplyText : Reply → List ℕ → Type 0
 IsReplyText (said answer) text = text ≡ answer_text answer
 IsReplyText (reported source state) text = IsReport source state text
 IsReplyText (foreseen source state now) text = IsNextText source state now text
+IsReplyText (rehearsed source state now) text = IsRehearseText source state now text
+
+-- the reply is a refusal
+abbrev pub IsRefusal : Reply → Type 0
+IsRefusal (said answer) = is_refusal answer ≡ true
+IsRefusal (rehearsed source state now) = IsRefusedRehearsal source state now
+IsRefusal other = ⊥
+
+-- so many of the replies are refusals
+abbrev pub CountsRefusals : List Reply → ℕ → Type 0
+CountsRefusals [] count = count ≡ 0
+CountsRefusals (reply ∷ replies) count =
+    (refused : Bool) × (others : ℕ) × Decides refused (IsRefusal reply) × CountsRefusals replies others × (count ≡ (if refused then 1 else 0) + others)
 
 -- the text is the replies' texts, one after the other
 abbrev pub IsOutput : List Reply → List ℕ → Type 0
@@ -46,7 +60,7 @@ pub record IsReplied (world : World) (old new : List ℕ) (effect : Effect) (ref
   pub left : world ≡ effect.world
   pub printed : IsReplyText effect.reply text
   pub appended : new ≡ old ++ text
-  pub answered : refused ≡ refuses effect.reply
+  pub answered : Decides refused (IsRefusal effect.reply)
 
 -- what a fault of a run of lines leaves in the writer's count of failures; a run of lines reads nothing
 abbrev pub LeavesCount : RunFault → ℕ → ℕ → Type 0
@@ -57,5 +71,5 @@ LeavesCount other before after = ⊥
 -- lines were run: all their output was written, and they were counted; or a front part of it, up to a fault
 abbrev pub IsRun : Outcome → Option (List ℕ) → Option (List ℕ) → ℕ → ℕ → Result Ran RunFault → Type 0
 IsRun outcome old new before after (Ok ran) =
-    WritesOutput old new outcome.replies × (ran.commands ≡ outcome.commands) × (ran.refused ≡ outcome.refused) × (after ≡ before)
+    WritesOutput old new outcome.replies × (ran.commands ≡ outcome.commands) × CountsRefusals outcome.replies ran.refused × (after ≡ before)
 IsRun outcome old new before after (Err fault) = WritesOutputPart old new outcome.replies × LeavesCount fault before after

@@ -1,21 +1,25 @@
 -- The steps of the world that a script takes, and the reports that it prints.
-use Rattle.std.specs.Prelude.{◌≡◌, ℕ, ◌+◌, false, List, ◌∷◌, ◌++◌, length, flat_map, option_to_list, option_and_then, if◌then◌else◌, [], Some, Ok}
+use Rattle.std.specs.Prelude.{◌≡◌, ℕ, ◌+◌, false, List, ◌∷◌, ◌++◌, length, option_to_list, option_and_then, if◌then◌else◌, [], Some, Ok}
 use Rattle.stn_lift.specs.PlanSource.{events_of}
 use Rattle.stn_text.specs.Lines.{lines_of, words_of}
 use Rattle.stn_world.specs.World.{World, HasSite, opening_world}
-use Rattle.stn_world.specs.Steps.{Step}
+use Rattle.stn_world.specs.Steps.{Step, run}
 use Rattle.stn_exec.specs.Command.{report, sites_command, command_of}
 use Rattle.stn_exec.specs.Effect.{step_of}
 use Rattle.stn_exec.specs.Script.{Start, is_skipped, heading_of, last_line, line_outcome, lines_outcome}
 use Rattle.stn_exec.specs.Output.{IsOutput}
 
--- the step that a line's words are, if they are one, in a plan of so many events
-abbrev pub line_steps : ℕ → List (List ℕ) → List Step
-line_steps events words = if is_skipped words then [] else option_to_list (option_and_then step_of (command_of events words))
+-- the step that a line's words are in a world, if they are one
+abbrev pub line_steps : World → List (List ℕ) → List Step
+line_steps world words =
+    if is_skipped words then [] else option_to_list (option_and_then (step_of world) (command_of (events_of world.source) words))
 
--- the steps of lines
-abbrev pub steps_of_lines : ℕ → List (List ℕ) → List Step
-steps_of_lines events lines = flat_map (λ line. line_steps events (words_of line)) lines
+-- the steps of lines, each in the world that the lines before it leave
+unfoldable pub steps_of_lines : World → List (List ℕ) → List Step
+steps_of_lines world [] = []
+steps_of_lines world (line ∷ lines) =
+    let steps = line_steps world (words_of line) in
+    steps ++ steps_of_lines (run world steps) lines
 
 -- a line of a script: where the commands begin, the lines before it, the line, and those behind it
 pub record LineOf (script : List ℕ) : Type 0 where
@@ -32,7 +36,7 @@ first_world at = opening_world at.start.source at.start.sites
 
 -- the steps of the lines before it
 abbrev pub steps_before : {script : List ℕ} → LineOf script → List Step
-steps_before at = steps_of_lines (events_of at.start.source) at.before
+steps_before at = steps_of_lines (first_world at) at.before
 
 -- the world that these lines leave
 abbrev pub world_at : {script : List ℕ} → LineOf script → World

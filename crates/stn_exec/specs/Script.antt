@@ -1,8 +1,8 @@
 -- A script: its heading, and the fold of its commands.
-use Rattle.std.specs.Prelude.{ℕ, ◌+◌, Bool, true, false, ◌==◌, ◌&&◌, nat_le, if◌then◌else◌, List, [], ◌∷◌, ◌++◌, codes, slice_index, count_by, Option, Some, None, Result, Ok, Err}
+use Rattle.std.specs.Prelude.{ℕ, ◌+◌, Bool, true, ◌==◌, ◌&&◌, nat_le, if◌then◌else◌, List, [], ◌∷◌, ◌++◌, codes, slice_index, count_by, Option, Some, None, Result, Ok, Err}
 use Rattle.std.specs.Str.{bytes_eq}
-use Rattle.stn_net.specs.Event.{most_steps}
-use Rattle.stn_lift.specs.PlanSource.{PlanSource, bare, events_of}
+use Rattle.stn_lift.specs.declared.fault.BaseFault.{BaseFault}
+use Rattle.stn_lift.specs.PlanSource.{PlanSource, bare, files, events_of, base_of}
 use Rattle.stn_records.specs.Id.{most_sites}
 use Rattle.stn_text.specs.Lines.{is_line_end, lines_of, words_of}
 use Rattle.stn_text.specs.Numbers.{number_of}
@@ -10,20 +10,19 @@ use Rattle.stn_world.specs.World.{World, opening_world}
 use Rattle.stn_exec.specs.declared.answer.Refusal.{Refusal}
 use Rattle.stn_exec.specs.declared.answer.Refusal.TheVariants as refusal
 use Rattle.stn_exec.specs.declared.answer.Answer.TheVariants as answer
-use Rattle.stn_exec.specs.Answer.{is_refusal}
-use Rattle.stn_exec.specs.Effect.{Reply, said, reported, foreseen, Effect, refusing, and_then, command_effect}
+use Rattle.stn_exec.specs.Effect.{Reply, said, Effect, refusing, and_then, command_effect}
 use Rattle.stn_exec.specs.Command.{Command, command_of}
+use Rattle.stn_exec.specs.Blocks.{Block, is_alone, block_from}
 
--- what running lines leaves, replies and counts
+-- what running lines leaves, replies, and how many commands it counts
 pub record Outcome : Type 0 where
   pub world : World
   pub replies : List Reply
   pub commands : ℕ
-  pub refused : ℕ
 
 -- no line is run
 abbrev pub nothing_run : World → Outcome
-nothing_run world = record { world = world; replies = []; commands = 0; refused = 0 }
+nothing_run world = record { world = world; replies = []; commands = 0 }
 
 -- one outcome and then the next
 abbrev pub followed_by : Outcome → Outcome → Outcome
@@ -31,7 +30,6 @@ followed_by first next = record {
   world = next.world;
   replies = first.replies ++ next.replies;
   commands = first.commands + next.commands;
-  refused = first.refused + next.refused;
 }
 
 -- a line that is a command, or has another form
@@ -48,19 +46,12 @@ is_skipped (word ∷ words) = slice_index word 0 == 35
 unfoldable pub line_effect : ℕ → World → List (List ℕ) → Effect
 line_effect number world words = form_effect number world (command_of (events_of world.source) words)
 
--- the reply is a refusal
-abbrev pub refuses : Reply → Bool
-refuses (said answer) = is_refusal answer
-refuses (reported source state) = false
-refuses (foreseen source state now) = false
-
 -- a command is counted, and prints its reply
 abbrev pub effect_outcome : Effect → Outcome
 effect_outcome effect = record {
   world = effect.world;
   replies = effect.reply ∷ [];
   commands = 1;
-  refused = if refuses effect.reply then 1 else 0;
 }
 
 -- a line of a number
@@ -110,10 +101,6 @@ abbrev pub part_of : ℕ → List ℕ → Option Found → Result Part Refusal
 part_of last name None = Err (refusal.Line last)
 part_of last name (Some found) = part_with found (heading_number name found.words)
 
--- a bare plan has at most so many steps
-abbrev pub source_of : ℕ → Result PlanSource Refusal
-source_of steps = if nat_le steps most_steps then Ok (bare steps) else Err refusal.TooManySteps
-
 -- there is a site, and no more than the most
 abbrev pub sites_of : ℕ → Result ℕ Refusal
 sites_of sites = if nat_le 1 sites && nat_le sites most_sites then Ok sites else Err refusal.NoSite
@@ -130,12 +117,52 @@ pub record Start : Type 0 where
   pub number : ℕ
   pub lines : List (List ℕ)
 
--- the first part of the heading: the steps of the bare plan, whose base is made
+-- the source that has a base, or the refusal of its first fault
+abbrev pub refusing_fault : Result PlanSource BaseFault → Result PlanSource Refusal
+refusing_fault (Ok source) = Ok source
+refusing_fault (Err fault) = Err (refusal.Base fault)
+
+-- the base of a source is made, and the lines from a number on stand behind it
+abbrev pub with_base : PlanSource → ℕ → List (List ℕ) → Result Based Refusal
+with_base source number lines =
+    and_then (refusing_fault (base_of source)) (λ made. Ok (record { source = made; number = number; lines = lines }))
+
+-- the steps of a bare plan, by the line that says how many
+abbrev pub bare_part : Found → Result Based Refusal
+bare_part found =
+    and_then (part_with found (heading_number (codes "steps") found.words)) (λ steps.
+    with_base (bare steps.value) (found.number + 1) found.behind)
+
+-- the block, where it ends; else the refusal names the last line of the script
+abbrev pub ended_block : ℕ → Option Block → Result Block Refusal
+ended_block last None = Err (refusal.Line last)
+ended_block last (Some block) = Ok block
+
+-- the block that begins with the line of a number
+abbrev pub block_at : ℕ → ℕ → List (List ℕ) → Result Block Refusal
+block_at last number lines = ended_block last (block_from number lines)
+
+-- the block of a name: a line that is its name alone, and the lines behind that
+abbrev pub named_block : ℕ → List ℕ → Option Found → Result Block Refusal
+named_block last name None = Err (refusal.Line last)
+named_block last name (Some found) =
+    if is_alone name found.words then block_at last (found.number + 1) found.behind else Err (refusal.Line found.number)
+
+-- the texts of a domain and of a plan, behind the line `domain`
+abbrev pub files_part : ℕ → Found → Result Based Refusal
+files_part last found =
+    and_then (block_at last (found.number + 1) found.behind) (λ domain.
+    and_then (named_block last (codes "plan") (next_line domain.number domain.behind)) (λ plan.
+    with_base (files domain.text plan.text) plan.number plan.behind))
+
+-- the first part of the heading, by its first line
+abbrev pub first_part : ℕ → Option Found → Result Based Refusal
+first_part last None = Err (refusal.Line last)
+first_part last (Some found) = if is_alone (codes "domain") found.words then files_part last found else bare_part found
+
+-- the first part of the heading: what the plan is made from, whose base is made when the part is complete
 unfoldable pub based : ℕ → List (List ℕ) → Result Based Refusal
-based last lines =
-    and_then (part_of last (codes "steps") (next_line 1 lines)) (λ steps.
-    and_then (source_of steps.value) (λ source.
-    Ok (record { source = source; number = steps.found.number + 1; lines = steps.found.behind })))
+based last lines = first_part last (next_line 1 lines)
 
 -- the second part: the number of sites
 unfoldable pub with_sites : ℕ → Based → Result Start Refusal
@@ -151,7 +178,7 @@ heading_of last lines = and_then (based last lines) (with_sites last)
 -- a fault of the heading is printed, and ends the run; else the commands are run, at sites that hold nothing yet
 abbrev pub started : Result Start Refusal → Outcome
 started (Ok start) = lines_outcome start.number (opening_world start.source start.sites) start.lines
-started (Err cause) = record { world = opening_world (bare 0) 0; replies = said (answer.Refused cause) ∷ []; commands = 0; refused = 1 }
+started (Err cause) = record { world = opening_world (bare 0) 0; replies = said (answer.Refused cause) ∷ []; commands = 0 }
 
 -- the number of the line behind the last LF
 abbrev pub last_line : List ℕ → ℕ

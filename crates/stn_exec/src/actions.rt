@@ -11,11 +11,12 @@ ghost use Rattle.stn_exec.specs.declared.answer.Refusal.{Refusal};
 ghost use Rattle.stn_exec.specs.declared.answer.Refusal.TheVariants.{NoSite};
 ghost use Rattle.stn_world.specs.declared.faults.WorldFault.TheVariants.{Replica};
 ghost use Rattle.stn_exec.specs.declared.answer.Answer.TheVariants.{Broken, Schedule, Refused};
-ghost use Rattle.stn_exec.specs.Command.{add, done, withdraw, merge, check, sites_command};
+ghost use Rattle.stn_exec.specs.Command.{add, done, withdraw, merge, send_all, send, send_items, deliver, check, sites_command};
 ghost use Rattle.stn_exec.specs.Refusals.{refusal_of};
 ghost use Rattle.stn_exec.specs.Effect.{said, refusing_time, side_of, difference_read, command_effect, check_answer, times_from};
 
 use crate::answer::{Answer, Refusal};
+use crate::command::{read_records, read_tombstones};
 use std::alloc::{AllocError, Allocator};
 use stn_net::Event;
 use stn_records::Id;
@@ -90,6 +91,62 @@ pub fn merge<A: Allocator + Copy>(
 {
     match world.merge(site, other) {
         Ok(()) => Ok(Answer::Merged),
+        Err(fault) => refused(fault),
+    }
+}
+
+/// Sends all that a site holds.
+pub fn send_all<A: Allocator + Copy>(world: &mut World<A>, site: u32) -> Result<Answer, Memory>
+    ensures { IfOk result (λ answer. record { world = world.new; reply = said answer }
+        ≡ command_effect world.old (sites_command site send_all)) }
+{
+    match world.send_all(site) {
+        Ok(number) => Ok(Answer::Sent(number)),
+        Err(fault) => refused(fault),
+    }
+}
+
+/// Sends the records and the withdrawn ids of a site that the words of a line name.
+pub fn send<A: Allocator + Copy>(
+    alloc: A,
+    world: &mut World<A>,
+    site: u32,
+    items: &[u8],
+) -> Result<Answer, Memory>
+    ensures { IfOk result (λ answer. record { world = world.new; reply = said answer }
+        ≡ command_effect world.old (sites_command site (send_items (words_of items.now)))) }
+{
+    let records = read_records(alloc, items)?;
+    let tombstones = read_tombstones(alloc, items)?;
+    send_part(world, site, &records, &tombstones)
+}
+
+fn send_part<A: Allocator + Copy>(
+    world: &mut World<A>,
+    site: u32,
+    records: &[Id],
+    tombstones: &[Id],
+) -> Result<Answer, Memory>
+    ensures { IfOk result (λ answer. record { world = world.new; reply = said answer }
+        ≡ command_effect world.old (sites_command site (send records.now tombstones.now))) }
+{
+    match world.send(site, records, tombstones) {
+        Ok(number) => Ok(Answer::Sent(number)),
+        Err(fault) => refused(fault),
+    }
+}
+
+/// Takes in at a site all that a packet holds.
+pub fn deliver<A: Allocator + Copy>(
+    world: &mut World<A>,
+    site: u32,
+    packet: u32,
+) -> Result<Answer, Memory>
+    ensures { IfOk result (λ answer. record { world = world.new; reply = said answer }
+        ≡ command_effect world.old (sites_command site (deliver packet))) }
+{
+    match world.deliver(site, packet) {
+        Ok(()) => Ok(Answer::Delivered),
         Err(fault) => refused(fault),
     }
 }

@@ -1,10 +1,12 @@
 ghost use Rattle.std.specs.Prelude.{◌≡◌, ◌++◌, [], ◌∷◌, OnOk, codes, decimal};
 ghost use Rattle.stn_records.specs.Id.{id_text};
 ghost use Rattle.stn_replica.specs.Names.{name_text};
-ghost use Rattle.stn_exec.specs.Answer.{line_with_event, refusal_code, refusal_text, answer_text, is_refusal};
+ghost use Rattle.stn_exec.specs.Answer.{line_with_event, placed_text, refusal_code, refusal_text, answer_text, is_refusal};
 
+use crate::base_refusals::{base_code, base_place};
 use itoa::Buffer;
 use std::alloc::Allocator;
+use stn_lift::BaseFault;
 use stn_net::{BoundFault, Event};
 use stn_records::Id;
 use stn_replica::BoundName;
@@ -17,8 +19,10 @@ pub enum Refusal {
     Time(TimeFault),
     /// The events and times are no bound.
     Bound(BoundFault),
-    /// A bare plan has too many steps.
-    TooManySteps,
+    /// This event is overdue.
+    Overdue(Event),
+    /// The plan has no base. Want of memory is no refusal.
+    Base(BaseFault),
     /// This id has two different records.
     Clash(Id),
     /// Too many ids would be known.
@@ -46,6 +50,10 @@ pub enum Answer {
     Withdrawn(Id),
     /// The site took in what the other holds.
     Merged,
+    /// The packet of this number was sent.
+    Sent(u16),
+    /// The site took in what the packet holds.
+    Delivered,
     /// The times are a schedule.
     Schedule,
     /// The times break the bound of this name.
@@ -66,7 +74,8 @@ impl Refusal {
             Refusal::Bound(BoundFault::NoEvent) => 4,
             Refusal::Bound(BoundFault::SameEvent) => 5,
             Refusal::Bound(BoundFault::Crossed) => 6,
-            Refusal::TooManySteps => 34,
+            Refusal::Overdue(_) => 7,
+            Refusal::Base(fault) => base_code(fault),
             Refusal::Clash(_) => 40,
             Refusal::Full => 41,
             Refusal::Unknown => 42,
@@ -83,6 +92,8 @@ impl Refusal {
         ensures { OnOk result (out.new.items ≡ out.old.items ++ refusal_text self) }
     {
         match self {
+            Refusal::Overdue(event) => append_event_line(out, b"refused 7 ", event),
+            Refusal::Base(fault) => append_placed(out, base_code(fault), base_place(fault)),
             Refusal::Clash(id) => append_id_line(out, b"refused 40 ", id),
             Refusal::Line(line) => append_line(out, b"refused 70 ", line),
             other => append_line(out, b"refused ", other.code()),
@@ -99,6 +110,8 @@ impl Answer {
             Answer::Added(id) => append_id_line(out, b"added ", *id),
             Answer::Withdrawn(id) => append_id_line(out, b"withdrawn ", *id),
             Answer::Merged => out.extend_from_slice(b"merged\n"),
+            Answer::Sent(number) => append_line(out, b"packet ", u32::from(*number)),
+            Answer::Delivered => out.extend_from_slice(b"delivered\n"),
             Answer::Schedule => out.extend_from_slice(b"schedule\n"),
             Answer::Broken(name) => append_broken(out, *name),
             Answer::Refused(refusal) => refusal.print(out),
@@ -131,6 +144,26 @@ fn append_line<A: Allocator>(out: &mut Vec<u8, A>, words: &[u8], number: u32) ->
     out.extend_from_slice(words)?;
     out.extend_from_slice(digits)?;
     out.extend_from_slice(b"\n")
+}
+
+// Appends the line of a code, and of the line or the step, where there is one.
+fn append_placed<A: Allocator>(
+    out: &mut Vec<u8, A>,
+    code: u32,
+    place: Option<u32>,
+) -> Result<(), Memory>
+    ensures { OnOk result (out.new.items ≡ out.old.items ++ placed_text code place) }
+{
+    match place {
+        Some(place) => {
+            let mut buffer = Buffer::new();
+            let digits = buffer.format(code).as_bytes();
+            out.extend_from_slice(b"refused ")?;
+            out.extend_from_slice(digits)?;
+            append_line(out, b" ", place)
+        }
+        None => append_line(out, b"refused ", code),
+    }
 }
 
 // Appends a line of these words and the id's printed form.

@@ -1,11 +1,14 @@
-ghost use Rattle.std.specs.Prelude.{◌≡◌, ℕ, ◌∷◌, length, IfSome};
+ghost use Rattle.std.specs.Prelude.{◌≡◌, ℕ, ◌∷◌, length, IfSome, IfOk};
+ghost use Rattle.std.specs.List.{list_all, filter_map};
 ghost use Rattle.std.specs.Option.{option_map};
 ghost use Rattle.stn_text.specs.Lines.{words_of};
-ghost use Rattle.stn_exec.specs.Command.{command_of, action_of, add_of, done_of, withdraw_of, merge_of, report_of, check_of, next_of, event_of, id_of, seen_command, seen_action, IsForEvents};
+ghost use Rattle.stn_exec.specs.Command.{command_of, action_of, add_of, done_of, withdraw_of, merge_of, send_of, deliver_of, report_of, check_of, next_of, rehearse_of, event_of, id_of, tombstone_of, is_item, seen_command, seen_action, IsForEvents};
 
+use std::alloc::Allocator;
 use stn_net::Event;
 use stn_records::Id;
 use stn_text::{first_word, read_number};
+use stn_time::Memory;
 
 /// A command of one site; the words that it reads later stand in its line.
 #[derive(Clone, Copy)]
@@ -33,12 +36,20 @@ pub enum Action<'a> {
     Withdraw(Id),
     /// Takes in all that the site of this number holds.
     Merge(u32),
+    /// Sends all that the site holds.
+    SendAll,
+    /// Sends the records and the withdrawn ids that the words of this part of the line name.
+    Send(&'a [u8]),
+    /// Takes in all that the packet of this number holds.
+    Deliver(u32),
     /// Prints the report.
     Report,
     /// Checks the times of all events, which are the words of this part of the line.
     Check(&'a [u8]),
     /// Prints what comes next from this time on.
     Next(&'a [u8]),
+    /// Prints the whole rest of the plan from this time on.
+    Rehearse(&'a [u8]),
 }
 
 /// The command that a line is, in a plan of so many events beside the origin, by its first word and
@@ -67,12 +78,18 @@ fn read_action<'a>(events: u16, name: &[u8], rest: &'a [u8]) -> Option<Action<'a
         read_withdraw(rest)
     } else if name == b"merge".as_slice() {
         read_merge(rest)
+    } else if name == b"send".as_slice() {
+        read_send(rest)
+    } else if name == b"deliver".as_slice() {
+        read_deliver(rest)
     } else if name == b"report".as_slice() {
         read_report(rest)
     } else if name == b"check".as_slice() {
         read_check(events, rest)
     } else if name == b"next".as_slice() {
         read_next(rest)
+    } else if name == b"rehearse".as_slice() {
+        read_rehearse(rest)
     } else {
         None
     }
@@ -135,6 +152,86 @@ fn read_merge(rest: &[u8]) -> Option<Action<'_>>
     }
 }
 
+fn read_send(rest: &[u8]) -> Option<Action<'_>>
+    ensures action { option_map seen_action result ≡ send_of (words_of rest.now) }
+    ensures fits { (events : ℕ) → IfSome result (λ action. IsForEvents events (seen_action action)) }
+{
+    match first_word(rest) {
+        Some(_) => {
+            if are_items(rest) {
+                Some(Action::Send(rest))
+            } else {
+                None
+            }
+        }
+        None => Some(Action::SendAll),
+    }
+}
+
+// Whether each word names a record or a withdrawn id.
+fn are_items(line: &[u8]) -> bool
+    ensures { result ≡ list_all is_item (words_of line.now) }
+{
+    let mut rest = line;
+    while let Some((word, behind)) = first_word(rest) {
+        if !is_item(word) {
+            return false;
+        }
+        rest = behind;
+    }
+    true
+}
+
+fn is_item(word: &[u8]) -> bool
+    ensures { result ≡ is_item word.now }
+{
+    read_id(word).is_some() || read_tombstone(word).is_some()
+}
+
+/// The ids of the records that the words of a line name.
+pub fn read_records<A: Allocator>(alloc: A, line: &[u8]) -> Result<Vec<Id, A>, Memory>
+    ensures { IfOk result (λ ids. ids.items ≡ filter_map id_of (words_of line.now)) }
+{
+    let mut ids = Vec::new(alloc);
+    let mut rest = line;
+    while let Some((word, behind)) = first_word(rest) {
+        if let Some(id) = read_id(word) {
+            ids.push(id)?;
+        }
+        rest = behind;
+    }
+    Ok(ids)
+}
+
+/// The withdrawn ids that the words of a line name.
+pub fn read_tombstones<A: Allocator>(alloc: A, line: &[u8]) -> Result<Vec<Id, A>, Memory>
+    ensures { IfOk result (λ ids. ids.items ≡ filter_map tombstone_of (words_of line.now)) }
+{
+    let mut ids = Vec::new(alloc);
+    let mut rest = line;
+    while let Some((word, behind)) = first_word(rest) {
+        if let Some(id) = read_tombstone(word) {
+            ids.push(id)?;
+        }
+        rest = behind;
+    }
+    Ok(ids)
+}
+
+fn read_deliver(rest: &[u8]) -> Option<Action<'_>>
+    ensures action { option_map seen_action result ≡ deliver_of (words_of rest.now) }
+    ensures fits { (events : ℕ) → IfSome result (λ action. IsForEvents events (seen_action action)) }
+{
+    let (word, behind) = first_word(rest)?;
+    if first_word(behind).is_some() {
+        return None;
+    }
+    match read_number(word) {
+        Some(packet) => Some(Action::Deliver(packet)),
+        None => None,
+    }
+}
+
 fn read_report(rest: &[u8]) -> Option<Action<'_>>
     ensures action { option_map seen_action result ≡ report_of (words_of rest.now) }
     ensures fits { (events : ℕ) → IfSome result (λ action. IsForEvents events (seen_action action)) }
@@ -167,6 +264,17 @@ fn read_next(rest: &[u8]) -> Option<Action<'_>>
     }
 }
 
+fn read_rehearse(rest: &[u8]) -> Option<Action<'_>>
+    ensures action { option_map seen_action result ≡ rehearse_of (words_of rest.now) }
+    ensures fits { (events : ℕ) → IfSome result (λ action. IsForEvents events (seen_action action)) }
+{
+    let (now, behind) = first_word(rest)?;
+    match first_word(behind) {
+        Some(_) => None,
+        None => Some(Action::Rehearse(now)),
+    }
+}
+
 fn count_words(line: &[u8]) -> usize
     ensures { result ≡ length (words_of line.now) }
 {
@@ -189,4 +297,20 @@ fn read_id(word: &[u8]) -> Option<Id>
     ensures { result ≡ id_of word.now }
 {
     Id::read(word)
+}
+
+// A withdrawn id stands behind `-`.
+fn read_tombstone(word: &[u8]) -> Option<Id>
+    ensures { result ≡ tombstone_of word.now }
+{
+    match word.split_first() {
+        Some((first, behind)) => {
+            if *first == b'-' {
+                read_id(behind)
+            } else {
+                None
+            }
+        }
+        None => None,
+    }
 }

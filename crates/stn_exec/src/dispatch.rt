@@ -1,12 +1,15 @@
-ghost use Rattle.std.specs.Prelude.{◌≡◌, ◌++◌, List, ℕ, OnOk};
-ghost use Rattle.stn_exec.specs.Dispatch.{run_text, next_text, IsNextText};
+ghost use Rattle.std.specs.Prelude.{◌≡◌, ◌++◌, true, List, ℕ, OnOk, IfOk};
+ghost use Rattle.std.specs.Bool.{Decides};
+ghost use Rattle.stn_windows.specs.declared.answers.RehearseFault.TheVariants.{Overdue};
+ghost use Rattle.stn_exec.specs.declared.answer.Refusal.TheVariants as refusal;
+ghost use Rattle.stn_exec.specs.Answer.{refusal_text};
+ghost use Rattle.stn_exec.specs.Dispatch.{next_text, IsNextText, IsRehearseText, IsRefusedRehearsal};
 
-use crate::answer::append_event_line;
-use std::alloc::Allocator;
-use stn_net::Event;
-use stn_replica::Replica;
+use crate::answer::{Refusal, append_event_line};
+use std::alloc::{AllocError, Allocator};
+use stn_replica::{Replica, append_run_line};
 use stn_time::{Memory, Ms};
-use stn_windows::Next;
+use stn_windows::{Next, RehearseFault};
 
 /// Appends what comes next in a replica's plan from now on.
 pub fn append_next<A: Allocator + Copy, B: Allocator>(
@@ -26,18 +29,38 @@ fn append_answer<B: Allocator>(out: &mut Vec<u8, B>, answer: Next) -> Result<(),
     ensures { OnOk result (out.new.items ≡ out.old.items ++ next_text answer) }
 {
     match answer {
-        Next::Run(time, event) => append_run(out, time, event),
+        Next::Run(time, event) => append_run_line(out, time, event),
         Next::AllDone => out.extend_from_slice(b"all done\n"),
         Next::Overdue(event) => append_event_line(out, b"overdue ", event),
     }
 }
 
-fn append_run<B: Allocator>(out: &mut Vec<u8, B>, time: Ms, event: Event) -> Result<(), Memory>
-    ensures { OnOk result (out.new.items ≡ out.old.items ++ run_text time event) }
+/// Appends the rest of a replica's plan from now on, or the refusal where an event is overdue. Whether it
+/// is refused.
+pub fn append_rehearsal<A: Allocator + Copy, B: Allocator>(
+    replica: &Replica<A>,
+    now: Ms,
+    out: &mut Vec<u8, B>,
+) -> Result<bool, Memory>
+    ensures text { OnOk result ((text : List ℕ) × IsRehearseText replica.now.source replica.now.state now text × (out.new.items ≡ out.old.items ++ text)) }
+    ensures refused { IfOk result (λ refused. Decides refused (IsRefusedRehearsal replica.now.source replica.now.state now)) }
 {
-    out.extend_from_slice(b"run ")?;
-    time.print(out)?;
-    out.extend_from_slice(b" ")?;
-    event.print(out)?;
-    out.extend_from_slice(b"\n")
+    match replica.print_rehearsal(now, out) {
+        Ok(()) => Ok(false),
+        Err(fault) => append_overdue(fault, out),
+    }
+}
+
+// Appends the refusal of a rehearsal in which an event is overdue.
+fn append_overdue<B: Allocator>(fault: RehearseFault, out: &mut Vec<u8, B>) -> Result<bool, Memory>
+    ensures text { OnOk result ((event : ℕ) × (fault ≡ Overdue event) × (out.new.items ≡ out.old.items ++ refusal_text (refusal.Overdue event))) }
+    ensures refused { IfOk result (λ refused. refused ≡ true) }
+{
+    match fault {
+        RehearseFault::Overdue(event) => {
+            Refusal::Overdue(event).print(out)?;
+            Ok(true)
+        }
+        RehearseFault::Memory => Err(AllocError),
+    }
 }

@@ -1,13 +1,15 @@
-ghost use Rattle.std.specs.Prelude.{◌≡◌, ◌+◌, ◌^◌, ◌<◌, ◌≤◌, ◌∷◌, true, false, length, min, Ok, IfSome, IfNone, IfOk, IfErr};
+ghost use Rattle.std.specs.Prelude.{◌≡◌, ◌+◌, ◌^◌, ◌<◌, ◌≤◌, ◌∷◌, true, false, length, min, Ok, IfSome, IfNone, IfOk, IfErr, codes};
 ghost use Rattle.std.specs.Option.{option_map};
 ghost use Rattle.stn_text.specs.Lines.{lines_of, words_of};
-ghost use Rattle.stn_exec.specs.Heading.{seen_found, seen_part, seen_base, result_seen, IsOpened, IsHeadingFault};
-ghost use Rattle.stn_exec.specs.Script.{is_skipped, next_line, heading_number, part_of, based, heading_of};
+ghost use Rattle.stn_lift.specs.PlanSource.{plan_source, base_of};
+ghost use Rattle.stn_exec.specs.Blocks.{is_alone, block_from};
+ghost use Rattle.stn_exec.specs.Heading.{seen_found, seen_part, seen_block, seen_base, result_seen, IsOpened, IsHeadingFault};
+ghost use Rattle.stn_exec.specs.Script.{is_skipped, next_line, heading_number, part_of, refusing_fault, block_at, named_block, bare_part, files_part, based, heading_of};
 
 use crate::answer::Refusal;
-use std::alloc::{AllocFailed, Allocator};
+use std::alloc::{AllocError, AllocFailed, Allocator};
 use std::rc::Rc;
-use stn_lift::{Base, BaseFault};
+use stn_lift::{Base, BaseFault, Source};
 use stn_text::{first_line, first_word, read_number};
 use stn_world::{SitesFault, World};
 
@@ -35,6 +37,13 @@ pub struct Rest<'a> {
     pub text: &'a [u8],
 }
 
+/// A block of a heading: its lines, each with its LF, and what stands behind the line that ends it.
+#[derive(Clone, Copy)]
+pub struct HeadingBlock<'a> {
+    pub text: &'a [u8],
+    pub behind: Rest<'a>,
+}
+
 /// Why a heading opens no world.
 #[derive(Clone, Copy)]
 pub enum HeadingFault {
@@ -51,6 +60,16 @@ impl From<Refusal> for HeadingFault {
 
     fn from(refusal: Refusal) -> HeadingFault {
         HeadingFault::Refused(refusal)
+    }
+}
+
+impl From<AllocError> for HeadingFault {
+    ghost use Rattle.stn_exec.specs.declared.heading.HeadingFault.TheVariants.{Memory};
+
+    ghost from_gives = { λ _ fault. fault ≡ Memory };
+
+    fn from(_error: AllocError) -> HeadingFault {
+        HeadingFault::Memory
     }
 }
 
@@ -100,17 +119,150 @@ fn read_base<A: Allocator + Copy>(
     ensures within { IfOk result (λ read. read.1.number + length read.1.text.now ≤ length script.now + 1) }
     ensures refused { IfErr result (IsHeadingFault (based last (lines_of script.now))) }
 {
-    let steps = read_part(last, b"steps", 1, script)?;
-    let rest = Rest {
-        number: steps.found.number + 1,
-        text: steps.found.behind,
-    };
-    match Base::bare(alloc, steps.value.min(65_535) as u16) {
-        Ok(base) => Ok((base, rest)),
-        Err(BaseFault::TooManySteps) => Err(HeadingFault::Refused(Refusal::TooManySteps)),
-        // A bare plan has no other fault.
-        Err(_) => Err(HeadingFault::Memory),
+    match find_line(1, script) {
+        Some(found) => {
+            if stands_alone(b"domain", found.word, found.rest) {
+                read_files(alloc, last, found)
+            } else {
+                read_bare(alloc, found)
+            }
+        }
+        None => Err(HeadingFault::Refused(Refusal::Line(last))),
     }
+}
+
+// The base of the bare plan that a line names, and what stands behind the line.
+fn read_bare<A: Allocator + Copy>(
+    alloc: A,
+    found: FoundLine<'_>,
+) -> Result<(Base<A>, Rest<'_>), HeadingFault>
+    requires { found.number + 1 + length found.behind.now < 2 ^ 32 }
+    ensures base { IfOk result (λ read. bare_part (seen_found found.entry) ≡ Ok (seen_base read.0 read.1)) }
+    ensures within { IfOk result (λ read. read.1.number + length read.1.text.now ≤ found.entry.number + 1 + length found.entry.behind.now) }
+    ensures refused { IfErr result (IsHeadingFault (bare_part (seen_found found.entry))) }
+{
+    match read_value(b"steps", found.word, found.rest) {
+        Some(steps) => {
+            let source = Source::Bare(steps.min(65_535) as u16);
+            let base = make_base(alloc, &source)?;
+            let rest = Rest {
+                number: found.number + 1,
+                text: found.behind,
+            };
+            Ok((base, rest))
+        }
+        None => Err(HeadingFault::Refused(Refusal::Line(found.number))),
+    }
+}
+
+// The base of the domain and the plan behind the line `domain`, and what stands behind both.
+fn read_files<A: Allocator + Copy>(
+    alloc: A,
+    last: u32,
+    found: FoundLine<'_>,
+) -> Result<(Base<A>, Rest<'_>), HeadingFault>
+    requires { found.number + 1 + length found.behind.now < 2 ^ 32 }
+    ensures base { IfOk result (λ read. files_part last (seen_found found.entry) ≡ Ok (seen_base read.0 read.1)) }
+    ensures within { IfOk result (λ read. read.1.number + length read.1.text.now ≤ found.entry.number + 1 + length found.entry.behind.now) }
+    ensures refused { IfErr result (IsHeadingFault (files_part last (seen_found found.entry))) }
+{
+    let domain = read_block(last, found.number + 1, found.behind)?;
+    let plan = read_named_block(last, b"plan", domain.behind.number, domain.behind.text)?;
+    let source = Source::Files(
+        Vec::from_slice(alloc, domain.text)?,
+        Vec::from_slice(alloc, plan.text)?,
+    );
+    let base = make_base(alloc, &source)?;
+    Ok((base, plan.behind))
+}
+
+// The base of a source, or the refusal of the source's first fault.
+fn make_base<A: Allocator + Copy>(alloc: A, source: &Source<A>) -> Result<Base<A>, HeadingFault>
+    ensures made { IfOk result (λ base. refusing_fault (base_of (plan_source source.now)) ≡ Ok base) }
+    ensures refused { IfErr result (IsHeadingFault (refusing_fault (base_of (plan_source source.now)))) }
+{
+    match Base::from_source(alloc, source) {
+        Ok(base) => Ok(base),
+        Err(BaseFault::Memory) => Err(HeadingFault::Memory),
+        Err(fault) => Err(HeadingFault::Refused(Refusal::Base(fault))),
+    }
+}
+
+// The block behind a line that is its name alone.
+fn read_named_block<'a>(
+    last: u32,
+    name: &[u8],
+    number: u32,
+    text: &'a [u8],
+) -> Result<HeadingBlock<'a>, Refusal>
+    requires { number + length text.now < 2 ^ 32 }
+    ensures block { result_seen seen_block result ≡ named_block last name.now (next_line number (lines_of text.now)) }
+    ensures within { IfOk result (λ block. block.behind.number + length block.behind.text.now ≤ number + length text.now) }
+{
+    match find_line(number, text) {
+        Some(found) => {
+            if stands_alone(name, found.word, found.rest) {
+                read_block(last, found.number + 1, found.behind)
+            } else {
+                Err(Refusal::Line(found.number))
+            }
+        }
+        None => Err(Refusal::Line(last)),
+    }
+}
+
+// The block whose first line has this number.
+fn read_block<'a>(last: u32, number: u32, text: &'a [u8]) -> Result<HeadingBlock<'a>, Refusal>
+    requires { number + length text.now < 2 ^ 32 }
+    ensures block { result_seen seen_block result ≡ block_at last number (lines_of text.now) }
+    ensures within { IfOk result (λ block. block.behind.number + length block.behind.text.now ≤ number + length text.now) }
+{
+    match find_end(number, text) {
+        Some(block) => Ok(block),
+        None => Err(Refusal::Line(last)),
+    }
+}
+
+// The block of a text whose first line has this number, up to the first line that is the word `end`.
+fn find_end(number: u32, text: &[u8]) -> Option<HeadingBlock<'_>>
+    requires { number + length text.now < 2 ^ 32 }
+    ensures block { option_map seen_block result ≡ block_from number (lines_of text.now) }
+    ensures within { IfSome result (λ block. block.behind.number + length block.behind.text.now ≤ number + length text.now) }
+{
+    let mut at = number;
+    let mut left = text;
+    while !left.is_empty() {
+        let (line, behind) = first_line(left);
+        if is_end(line) {
+            return Some(HeadingBlock {
+                text: &text[..text.len() - left.len()],
+                behind: Rest {
+                    number: at + 1,
+                    text: behind,
+                },
+            });
+        }
+        at += 1;
+        left = behind;
+    }
+    None
+}
+
+// Whether the line is the word `end`.
+fn is_end(line: &[u8]) -> bool
+    ensures { result ≡ is_alone (codes "end") (words_of line.now) }
+{
+    match first_word(line) {
+        Some((word, rest)) => stands_alone(b"end", word, rest),
+        None => false,
+    }
+}
+
+// Whether a line is a name alone, by its first word and what stands behind it.
+fn stands_alone(name: &[u8], word: &[u8], rest: &[u8]) -> bool
+    ensures { result ≡ is_alone name.now (word.now ∷ words_of rest.now) }
+{
+    first_word(rest).is_none() && word == name
 }
 
 // The part of a heading that has this name.

@@ -1,36 +1,36 @@
 ghost use Rattle.std.specs.Prelude.{◌≡◌, ◌↔◌, ℕ, List, Ok};
-ghost use Rattle.stn_lift.specs.PlanSource.{events_of};
 ghost use Rattle.stn_text.specs.Lines.{lines_of};
 ghost use Rattle.stn_records.specs.Content.{Item, HasItem};
 ghost use Rattle.stn_replica.specs.Report.{IsReport};
 ghost use Rattle.stn_world.specs.World.{opening_world, content_at};
 ghost use Rattle.stn_world.specs.Steps.{run, TookAt};
-ghost use Rattle.stn_exec.specs.Output.{IsOutput};
+ghost use Rattle.stn_exec.specs.Output.{IsOutput, CountsRefusals};
 ghost use Rattle.stn_exec.specs.Script.{Start, heading_of, last_line, script_outcome};
 ghost use Rattle.stn_exec.specs.Reports.{steps_of_lines, LineOf, first_world, steps_before, world_at, ReportsSite, PrintsAt};
 
 use stn_replica::one_report;
 use stn_world::{sites_are_unions, took_same_same_bytes};
 
-/// The law that a script has one output; it does nothing.
+/// The law that a script has one output, and one number of refusals; it does nothing.
 pub fn one_script()
-    ensures { (script text other : List ℕ)
+    ensures output { (script text other : List ℕ)
         → IsOutput (script_outcome script).replies text → IsOutput (script_outcome script).replies other → text ≡ other }
+    ensures count { (script : List ℕ) (count other : ℕ)
+        → CountsRefusals (script_outcome script).replies count → CountsRefusals (script_outcome script).replies other → count ≡ other }
 {
     one_report();
 }
 
 /// The law that the commands of a script are a run of the world's steps, and what its reports say; it
 /// does nothing. The script's world is the end of the run of its steps, and at each line the end of
-/// the run of the steps before it. The output falls into what the lines before a line print, what the
-/// the output of the script falls into what the lines before it print, what the line prints, and what
-/// the lines behind it print. What a site's command `report` prints is the report of what the site
+/// the run of the steps before it. The output of the script falls into what the lines before a line
+/// print, what the line prints, and what the lines behind it print. What a site's command `report` prints is the report of what the site
 /// holds, which is the union of what it took. So two sites of one plan, of one script or of two, that
 /// took the same additions and withdrawals, in any order, more than once or merged in any grouping,
 /// print the same bytes.
 pub fn scripts_are_runs()
     ensures end { (script : List ℕ) (start : Start) → heading_of (last_line script) (lines_of script) ≡ Ok start
-        → (script_outcome script).world ≡ run (opening_world start.source start.sites) (steps_of_lines (events_of start.source) start.lines) }
+        → (script_outcome script).world ≡ run (opening_world start.source start.sites) (steps_of_lines (opening_world start.source start.sites) start.lines) }
     ensures world { (script : List ℕ) (at : LineOf script) → world_at at ≡ run (first_world at) (steps_before at) }
     ensures output { (script output : List ℕ) (at : LineOf script) → IsOutput (script_outcome script).replies output → (text : List ℕ) × PrintsAt at output text }
     ensures report { (script output text : List ℕ) (at : LineOf script) (site : ℕ) → ReportsSite at site → PrintsAt at output text

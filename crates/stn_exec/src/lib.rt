@@ -1,6 +1,7 @@
 //! Scripts: a text of commands, run from a reader to a writer.
 #![tactic(auto)]
 
+pub use dispatch::append_next;
 pub use laws::{one_script, scripts_are_runs};
 pub use script::{Ran, RunFault, run};
 pub use stn_device::{Counted, MOST_BYTES};
@@ -8,6 +9,7 @@ pub use stn_world::World;
 
 mod actions;
 mod answer;
+mod base_refusals;
 mod command;
 mod dispatch;
 mod heading;

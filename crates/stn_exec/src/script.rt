@@ -5,16 +5,16 @@ ghost use Rattle.stn_device.specs.Bytes.{most_bytes, ConsumesAtMost};
 ghost use Rattle.stn_lift.specs.PlanSource.{events_of};
 ghost use Rattle.stn_text.specs.Lines.{lines_of, words_of};
 ghost use Rattle.stn_exec.specs.Answer.{answer_text, is_refusal};
-ghost use Rattle.stn_exec.specs.Command.{report, next, sites_command, seen_action, seen_command, IsForEvents};
+ghost use Rattle.stn_exec.specs.Command.{report, next, rehearse, sites_command, seen_action, seen_command, IsForEvents};
 ghost use Rattle.stn_exec.specs.Effect.{command_effect};
-ghost use Rattle.stn_exec.specs.Output.{WritesOutput, WritesOutputPart, IsReplied, IsRun};
+ghost use Rattle.stn_exec.specs.Output.{CountsRefusals, WritesOutput, WritesOutputPart, IsReplied, IsRun};
 ghost use Rattle.stn_exec.specs.Script.{line_effect, line_outcome, lines_outcome, started, script_outcome, last_line};
 ghost use Rattle.stn_exec.specs.declared.script.RunFault.TheVariants.{Read, Write, Bound, Memory};
 
-use crate::actions::{add, check_at, done, merge, read_time, withdraw};
+use crate::actions::{add, check_at, deliver, done, merge, read_time, send, send_all, withdraw};
 use crate::answer::{Answer, Refusal};
 use crate::command::{Action, Command, read_command};
-use crate::dispatch::append_next;
+use crate::dispatch::{append_next, append_rehearsal};
 use crate::heading::{HeadingFault, open, opening_word};
 use std::alloc::{AllocError, Allocator};
 use std::io::{Read, Write};
@@ -157,9 +157,13 @@ fn reply_command<A: Allocator + Copy>(
         Action::Done { event, time } => say(&done(world, site, *event, time)?, out),
         Action::Withdraw(id) => say(&withdraw(world, site, *id)?, out),
         Action::Merge(other) => say(&merge(world, site, *other)?, out),
+        Action::SendAll => say(&send_all(world, site)?, out),
+        Action::Send(items) => say(&send(alloc, world, site, items)?, out),
+        Action::Deliver(packet) => say(&deliver(world, site, *packet)?, out),
         Action::Report => report_at(world, site, out),
         Action::Check(times) => say(&check_at(alloc, world, site, times)?, out),
         Action::Next(now) => next_at(world, site, now, out),
+        Action::Rehearse(now) => rehearse_at(world, site, now, out),
     }
 }
 
@@ -195,6 +199,24 @@ fn next_at<A: Allocator + Copy>(
                 append_next(replica, time, out)?;
                 Ok(false)
             }
+            Err(refusal) => say(&Answer::Refused(refusal), out),
+        },
+        None => say(&Answer::Refused(Refusal::NoSite), out),
+    }
+}
+
+// Appends the rest of a site's plan from a time on, which is a word of a line. Whether it is refused.
+fn rehearse_at<A: Allocator + Copy>(
+    world: &World<A>,
+    site: u32,
+    now: &[u8],
+    out: &mut Vec<u8, A>,
+) -> Result<bool, Memory>
+    ensures { IfOk result (IsReplied world.now out.old.items out.new.items (command_effect world.now (sites_command site (rehearse now.now)))) }
+{
+    match world.replica(site) {
+        Some(replica) => match read_time(now) {
+            Ok(time) => append_rehearsal(replica, time, out),
             Err(refusal) => say(&Answer::Refused(refusal), out),
         },
         None => say(&Answer::Refused(Refusal::NoSite), out),
@@ -270,7 +292,7 @@ pub fn run<R: Read, W: Write, A: Allocator + Copy>(
         × (length script ≤ most_bytes)
         × WritesOutput (W.contents (counted_device writer.old)) (W.contents (counted_device writer.new)) (script_outcome script).replies
         × (ran.commands ≡ (script_outcome script).commands)
-        × (ran.refused ≡ (script_outcome script).refused)) }
+        × CountsRefusals (script_outcome script).replies ran.refused) }
     ensures end { OnOk result (IsAtEnd (R.remaining (counted_device reader.new))) }
 
     // Each fault has its cause.

@@ -1,6 +1,9 @@
-//! For tests: an allocator that refuses the request of a number.
+//! For tests: an allocator that refuses the request of a number, and devices that fail at the call of a number.
 #![tactic(auto)]
 
+mod devices;
+
+pub use crate::devices::{EmptyLines, PieceReader, PieceWriter};
 use std::alloc::{AllocError, Allocator};
 use std::cell::Cell;
 

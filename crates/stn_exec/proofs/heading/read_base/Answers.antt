@@ -1,28 +1,30 @@
-use Rattle.std.proofs.Common.{◌≡◌, ◌+◌, ◌≤◌, ◌<◌, Ok, Err, sym, ap, ◌∙◌, arith, ℕ}
-use Rattle.std.proofs.lemmas.Result.{err_from_is_err_and}
-use Rattle.stn_lift.specs.PlanSource.{PlanSource, bare}
+use Rattle.std.proofs.Common.{◌≡◌, Ok, Result, IfOk, IfErr, subst, sym, ◌∙◌}
 use Rattle.stn_text.specs.Lines.{lines_of}
-use Rattle.stn_exec.specs.Heading.{seen_part}
-use Rattle.stn_exec.proofs.Scripts.{based-fault, based-many, based-made}
+use Rattle.stn_exec.specs.declared.answer.Refusal.{Refusal}
+use Rattle.stn_exec.specs.Heading.{seen_found, seen_base, IsHeadingFault}
+use Rattle.stn_exec.specs.Script.{Based}
+use Rattle.stn_exec.proofs.Blocks.{based-none, based-files, based-bare}
 use Rattle.stn_exec.proofs.heading.read_base.Goals as goal
 
-pub returns-in_err-steps-clause-refused : goal.returns-in_err-steps-clause-refused
-returns-in_err-steps-clause-refused g c =
-    let p = err_from_is_err_and c.from_residual.result c.from_residual.ensures.1 in
-    rw (p.1, p.2) (based-fault c.args.last (lines_of c.args.script.now) c.in_err-steps.field-0.0 (sym c.in_err-steps.ensures.part))
+pub returns-then-stands_alone-clause-base : goal.returns-then-stands_alone-clause-base
+returns-then-stands_alone-clause-base g c =
+    let whole = based-files c.args.last (lines_of c.args.script.now) (seen_found c.in-Some.found) c.in-Some.ensures.found (sym c.stands_alone.ensures ∙ c.if-stands_alone.true) in
+    subst (λ (r : Result Based Refusal). IfOk c.read_files.result (λ read. r ≡ Ok (seen_base read.0 read.1))) whole c.read_files.ensures.base
 
-pub returns-in-Ok-clause-base : goal.returns-in-Ok-clause-base
-returns-in-Ok-clause-base g c =
-    let steps = c.in_ok-steps.steps in
-    let small : c.min.result ≤ 256 = within c.min.result (λ past. let other = c.in-Ok.ensures.limit.1 past in absurd (cc)) in
-    let few : steps.value ≤ 256 = omega (arith, small, c.min.ensures) in
-    let same : c.min.result ≡ steps.value = omega (arith, few, c.min.ensures) in
-    based-made c.args.last (lines_of c.args.script.now) (seen_part steps) (sym c.in_ok-steps.ensures.part) few
-    ∙ ap (λ (s : PlanSource). Ok (record { source = s; number = steps.found.number + 1; lines = lines_of steps.found.behind.now })) (ap bare (sym same) ∙ sym c.in-Ok.ensures.made)
-  where
-    within : (n : ℕ) → (256 < n → ⊥) → n ≤ 256
-    within n none = omega arith
+pub returns-then-stands_alone-clause-refused : goal.returns-then-stands_alone-clause-refused
+returns-then-stands_alone-clause-refused g c =
+    let whole = based-files c.args.last (lines_of c.args.script.now) (seen_found c.in-Some.found) c.in-Some.ensures.found (sym c.stands_alone.ensures ∙ c.if-stands_alone.true) in
+    subst (λ (r : Result Based Refusal). IfErr c.read_files.result (IsHeadingFault r)) whole c.read_files.ensures.refused
 
-pub returns-in-Err-TooManySteps-clause-refused : goal.returns-in-Err-TooManySteps-clause-refused
-returns-in-Err-TooManySteps-clause-refused g c =
-    based-many c.args.last (lines_of c.args.script.now) (seen_part c.in_ok-steps.steps) (sym c.in_ok-steps.ensures.part) (omega (arith, c.in-Err-TooManySteps.ensures.limit.0 (ap Err c.in-Err-TooManySteps.field-0-is), c.min.ensures))
+pub returns-else-stands_alone-clause-base : goal.returns-else-stands_alone-clause-base
+returns-else-stands_alone-clause-base g c =
+    let whole = based-bare c.args.last (lines_of c.args.script.now) (seen_found c.in-Some.found) c.in-Some.ensures.found (sym c.stands_alone.ensures ∙ c.if-stands_alone.false) in
+    subst (λ (r : Result Based Refusal). IfOk c.read_bare.result (λ read. r ≡ Ok (seen_base read.0 read.1))) whole c.read_bare.ensures.base
+
+pub returns-else-stands_alone-clause-refused : goal.returns-else-stands_alone-clause-refused
+returns-else-stands_alone-clause-refused g c =
+    let whole = based-bare c.args.last (lines_of c.args.script.now) (seen_found c.in-Some.found) c.in-Some.ensures.found (sym c.stands_alone.ensures ∙ c.if-stands_alone.false) in
+    subst (λ (r : Result Based Refusal). IfErr c.read_bare.result (IsHeadingFault r)) whole c.read_bare.ensures.refused
+
+pub returns-in-None-clause-refused : goal.returns-in-None-clause-refused
+returns-in-None-clause-refused g c = based-none c.args.last (lines_of c.args.script.now) c.in-None.ensures.found

@@ -6,8 +6,9 @@ use Rattle.std.specs.Io.KnownBytes.{Appends}
 use Rattle.stn_device.specs.Bytes.{AppendsPart}
 use Rattle.stn_device.specs.Counted.{counted_device}
 use Rattle.stn_text.specs.Lines.{words_of}
-use Rattle.stn_exec.specs.Output.{WritesOutput, WritesOutputPart}
-use Rattle.stn_exec.specs.Script.{Outcome, refuses, effect_outcome, line_effect, line_outcome}
+use Rattle.stn_exec.specs.Output.{CountsRefusals, WritesOutput, WritesOutputPart}
+use Rattle.stn_exec.specs.Script.{Outcome, effect_outcome, line_effect, line_outcome}
+use Rattle.stn_exec.proofs.Outputs.{count_none, count_one}
 use Rattle.stn_exec.proofs.Scripts.{line_outcome-skipped, line_outcome-run, output_one, part-one}
 use Rattle.stn_exec.proofs.script.run_line.Goals as goal
 
@@ -36,11 +37,11 @@ returns-in_ok-write_whole-in-Some-clause-run g c =
     let cut : line_outcome c.args.number c.args.world.now words ≡ effect_outcome effect =
     line_outcome-run c.args.number c.args.world.now words c.in-Some.ensures.kept ∙ ap (λ (w : List (List ℕ)). effect_outcome (line_effect c.args.number c.args.world.now w)) c.in-Some.ensures.cut in
     let printed : c.deref.result.now ≡ replied.text = grind (arith, common_steps, replied.appended) in
-    let counted : c.from.result ≡ cond (refuses effect.reply) 1 0 = grind (arith, common_steps, replied.answered) in (
+    let counted : c.from.result ≡ cond c.in_ok-refused-in-Some.refused 1 0 = grind (arith, common_steps) in (
       subst (λ (o : Outcome). WritesOutput before after o.replies) (sym cut)
           (replied.text, output_one effect.reply replied.text replied.printed, subst (Appends before after) printed c.in_ok-write_whole-in-Some.ensures.written),
       sym (ap (λ (o : Outcome). o.commands) cut),
-      counted ∙ sym (ap (λ (o : Outcome). o.refused) cut),
+      subst (λ (o : Outcome). CountsRefusals o.replies c.from.result) (sym cut) (count_one effect.reply c.in_ok-refused-in-Some.refused c.from.result counted replied.answered),
       c.in_ok-write_whole-in-Some.ensures.kept,
     )
 
@@ -56,7 +57,7 @@ returns-in-None-clause-run g c =
     let skipped = line_outcome-skipped c.args.number c.args.world.now (words_of c.args.line.now) c.in-None.ensures.skipped in (
       subst (λ (o : Outcome). WritesOutput before before o.replies) (sym skipped) ([], refl, Appends-nil before),
       sym (ap (λ (o : Outcome). o.commands) skipped),
-      sym (ap (λ (o : Outcome). o.refused) skipped),
+      subst (λ (o : Outcome). CountsRefusals o.replies 0) (sym skipped) count_none,
       refl,
     )
 

@@ -10,11 +10,11 @@ use Rattle.stn_exec.proofs.script.run_lines.Goals as goal
 
 pub overflow_add-ran : goal.overflow_add-ran
 overflow_add-ran g c =
-    omega (arith, c.in_ok-more.ensures.run.1, (line_outcome-counts c.loop-rest.at c.loop-rest.world (words_of c.first_line.result.0.now)).0, c.loop-rest.invariant.few_commands, c.loop-rest.invariant.within, c.requires)
+    omega (arith, c.in_ok-more.ensures.run.1, (line_outcome-counts c.loop-rest.at c.loop-rest.world (words_of c.first_line.result.0.now) _ c.in_ok-more.ensures.run.2).0, c.loop-rest.invariant.few_commands, c.loop-rest.invariant.within, c.requires)
 
 pub overflow_add-ran-in-loop-rest : goal.overflow_add-ran-in-loop-rest
 overflow_add-ran-in-loop-rest g c =
-    omega (arith, c.in_ok-more.ensures.run.2, (line_outcome-counts c.loop-rest.at c.loop-rest.world (words_of c.first_line.result.0.now)).1, c.loop-rest.invariant.few_refused, c.loop-rest.invariant.within, c.requires)
+    omega (arith, (line_outcome-counts c.loop-rest.at c.loop-rest.world (words_of c.first_line.result.0.now) _ c.in_ok-more.ensures.run.2).1, c.loop-rest.invariant.few_refused, c.loop-rest.invariant.within, c.requires)
 
 pub returns-in_err-more : goal.returns-in_err-more
 returns-in_err-more g c =
@@ -34,15 +34,14 @@ loop-rest-preserved g c =
     let l = c.loop-rest in
     let more = lines_outcome-more l.at l.world c.run_line.new.world l.rest.now c.first_line.result.0.now c.first_line.result.1.now c.first_line.ensures.lines c.in_ok-more.ensures.world in
     let run = c.in_ok-more.ensures.run in
-    let counts = line_outcome-counts l.at l.world (words_of c.first_line.result.0.now) in
+    let counts = line_outcome-counts l.at l.world (words_of c.first_line.result.0.now) _ run.2 in
     record {
-      text = texts-more _ _ _ _ _ _ _ _ l.invariant.text.1 run.0 l.invariant.text.2 (ap (λ (o : Outcome). o.replies) more);
+      text = texts-more _ _ _ _ _ _ _ _ l.invariant.text.1 run.0 l.invariant.text.2 (ap (λ (o : Outcome). o.replies) more) _ _ l.invariant.text.3 run.2;
       commands = omega (arith, l.invariant.commands, run.1, ap (λ (o : Outcome). o.commands) more);
-      refused = omega (arith, l.invariant.refused, run.2, ap (λ (o : Outcome). o.refused) more);
       kept = run.3 ∙ l.invariant.kept;
       within = omega (arith, l.invariant.within, c.first_line.ensures.shorter);
       few_commands = omega (arith, l.invariant.few_commands, run.1, counts.0);
-      few_refused = omega (arith, l.invariant.few_refused, run.2, counts.1);
+      few_refused = omega (arith, l.invariant.few_refused, counts.1);
     }
 
 pub returns : goal.returns
@@ -50,13 +49,12 @@ returns g c =
     let l = c.loop-rest in
     let none = lines_outcome-none l.at l.world l.rest.now (grind (arith, common_steps)) in
     let no_commands : (lines_outcome l.at l.world (lines_of l.rest.now)).commands ≡ 0 = ap (λ (o : Outcome). o.commands) none in
-    let no_refused : (lines_outcome l.at l.world (lines_of l.rest.now)).refused ≡ 0 = ap (λ (o : Outcome). o.refused) none in
     let all = l.invariant.text.2 ∙ (ap (λ (o : Outcome). l.invariant.text.0 ++ o.replies) none ∙ append-nil l.invariant.text.0) in
     record {
       run = (
         rw all l.invariant.text.1,
         omega (arith, l.invariant.commands, no_commands),
-        omega (arith, l.invariant.refused, no_refused),
+        rw all l.invariant.text.3,
         l.invariant.kept,
       );
     }

@@ -1,6 +1,6 @@
 use Rattle.std.proofs.Common.{◌≡◌, ◌+◌, ◌≤◌, ◌++◌, List, length}
 use Rattle.stn_exec.specs.Effect.{Reply}
-use Rattle.stn_exec.specs.Output.{WritesOutput}
+use Rattle.stn_exec.specs.Output.{CountsRefusals, WritesOutput}
 use Rattle.stn_device.specs.Counted.{counted_device, failure_count}
 use Rattle.stn_text.specs.Lines.{lines_of}
 use Rattle.stn_exec.specs.Script.{lines_outcome}
@@ -9,9 +9,8 @@ use Rattle.stn_exec.proofs.script.run_lines.Given as goal
 abbrev pub invariant-loop-rest : goal.invariant-loop-rest
 invariant-loop-rest g l = record {
   text : (done : List Reply) × WritesOutput (g.W.Write.contents (counted_device l.fn.writer)) (g.W.Write.contents (counted_device l.writer)) done
-      × ((lines_outcome l.number l.fn.world (lines_of l.text)).replies ≡ done ++ (lines_outcome l.at l.world (lines_of l.rest)).replies);
+      × ((lines_outcome l.number l.fn.world (lines_of l.text)).replies ≡ done ++ (lines_outcome l.at l.world (lines_of l.rest)).replies) × CountsRefusals done l.ran.refused;
   commands : l.ran.commands + (lines_outcome l.at l.world (lines_of l.rest)).commands ≡ (lines_outcome l.number l.fn.world (lines_of l.text)).commands;
-  refused : l.ran.refused + (lines_outcome l.at l.world (lines_of l.rest)).refused ≡ (lines_outcome l.number l.fn.world (lines_of l.text)).refused;
   kept : failure_count l.writer ≡ failure_count l.fn.writer;
   within : l.at + length l.rest ≤ l.number + length l.text;
   few_commands : l.ran.commands + l.number ≤ l.at;

@@ -1,0 +1,97 @@
+-- The first part of a heading: the steps of a bare plan, or the blocks of a domain and of a plan.
+use Rattle.std.proofs.Common.{◌≡◌, ℕ, ◌+◌, ◌<◌, true, false, cond, List, [], ◌∷◌, ◌++◌, length, length-append, take, append-nil, inl, inr, Option, Some, None, Err, refl, sym, ap, ◌∙◌, arith, codes, append_assoc}
+use Rattle.std.specs.Option.{option_map}
+use Rattle.std.proofs.Math.Seq.{take-append_seam}
+use Rattle.stn_text.specs.Lines.{IsCutBehindLine, lines_of, words_of}
+use Rattle.stn_exec.specs.declared.answer.Refusal.TheVariants as refusal
+use Rattle.stn_exec.specs.Blocks.{Block, is_alone, with_text, line_text, block_from}
+use Rattle.stn_exec.specs.Script.{Found, next_line, bare_part, files_part, first_part, based}
+
+-- ---- blocks
+with_texts : (front more : List ℕ) (block : Option Block) → option_map (with_text front) (option_map (with_text more) block) ≡ option_map (with_text (front ++ more)) block
+with_texts front more None = refl
+with_texts front more (Some block) = ap (λ (t : List ℕ). Some (record { text = t; number = block.number; behind = block.behind })) (sym (append_assoc front more block.text))
+
+-- no text in front
+pub with_no_text : (block : Option Block) → block ≡ option_map (with_text []) block
+with_no_text None = refl
+with_no_text (Some block) = refl
+
+-- a block that has not ended where the text has
+pub block_from-none : (number : ℕ) → block_from number [] ≡ None
+unfolding block_from
+block_from-none number = refl
+
+block_from-end : (number : ℕ) (line : List ℕ) (lines : List (List ℕ)) → is_alone (codes "end") (words_of line) ≡ true
+    → block_from number (line ∷ lines) ≡ Some (record { text = []; number = number + 1; behind = lines })
+unfolding block_from
+block_from-end number line lines e =
+    ap (λ t. cond t (Some (record { text = []; number = number + 1; behind = lines })) (option_map (with_text (line_text line)) (block_from (number + 1) lines))) e
+
+block_from-line : (number : ℕ) (line : List ℕ) (lines : List (List ℕ)) → is_alone (codes "end") (words_of line) ≡ false
+    → block_from number (line ∷ lines) ≡ option_map (with_text (line_text line)) (block_from (number + 1) lines)
+unfolding block_from
+block_from-line number line lines e =
+    ap (λ t. cond t (Some (record { text = []; number = number + 1; behind = lines })) (option_map (with_text (line_text line)) (block_from (number + 1) lines))) e
+
+-- where a search for the end of a block stands: the text in front, which ends with a line's LF where anything is left, and the block
+-- that begins with what is left
+pub record IsSought (number : ℕ) (text : List ℕ) (at : ℕ) (left : List ℕ) : Type 0 where
+  pub front : List ℕ
+  pub whole : 0 < length left → text ≡ front ++ left
+  pub same : block_from number (lines_of text) ≡ option_map (with_text front) (block_from at (lines_of left))
+
+pub sought_first : (number : ℕ) (text : List ℕ) → IsSought number text number text
+sought_first number text = record { front = []; whole = λ some. refl; same = with_no_text (block_from number (lines_of text)) }
+
+cut_on : (text front left line behind : List ℕ) → (0 < length left → text ≡ front ++ left) → 0 < length left → IsCutBehindLine left line behind
+    → 0 < length behind → text ≡ (front ++ line_text line) ++ behind
+cut_on text front left line behind whole some (inl cut) more =
+    whole some ∙ (ap (λ (l : List ℕ). front ++ l) (cut ∙ sym (append_assoc line (10 ∷ []) behind)) ∙ sym (append_assoc front (line_text line) behind))
+cut_on text front left line behind whole some (inr last) more = absurd (omega (arith, ap length last.1, more))
+
+pub sought_on : (number : ℕ) (text : List ℕ) (at : ℕ) (left line behind : List ℕ) → IsSought number text at left → 0 < length left
+    → lines_of left ≡ line ∷ lines_of behind → IsCutBehindLine left line behind → is_alone (codes "end") (words_of line) ≡ false
+    → IsSought number text (at + 1) behind
+sought_on number text at left line behind sought some lines cut other = record {
+  front = sought.front ++ line_text line;
+  whole = cut_on text sought.front left line behind sought.whole some cut;
+  same = sought.same
+      ∙ (ap (option_map (with_text sought.front)) (ap (block_from at) lines ∙ block_from-line at line (lines_of behind) other)
+      ∙ with_texts sought.front (line_text line) (block_from (at + 1) (lines_of behind)));
+}
+
+-- the text of a block that ends here
+taken : (text front left : List ℕ) (count : ℕ) → text ≡ front ++ left → count + length left ≡ length text → take count text ≡ front
+taken text front left count whole counted =
+    let long : length text ≡ length front + length left = ap length whole ∙ length-append front left in
+    let same : count ≡ length front = omega (arith, counted, long) in
+    ap (take count) whole ∙ (ap (λ (n : ℕ). take n (front ++ left)) same ∙ take-append_seam front left)
+
+pub sought_end : (number : ℕ) (text : List ℕ) (at : ℕ) (left line behind : List ℕ) (count : ℕ) → IsSought number text at left → 0 < length left
+    → lines_of left ≡ line ∷ lines_of behind → is_alone (codes "end") (words_of line) ≡ true → count + length left ≡ length text
+    → Some (record { text = take count text; number = at + 1; behind = lines_of behind }) ≡ block_from number (lines_of text)
+sought_end number text at left line behind count sought some lines ends counted =
+    ap (λ (t : List ℕ). Some (record { text = t; number = at + 1; behind = lines_of behind }))
+    (taken text sought.front left count (sought.whole some) counted ∙ sym (append-nil sought.front))
+    ∙ sym (sought.same ∙ ap (option_map (with_text sought.front)) (ap (block_from at) lines ∙ block_from-end at line (lines_of behind) ends))
+
+pub sought_none : (number : ℕ) (text : List ℕ) (at : ℕ) (left : List ℕ) → IsSought number text at left → lines_of left ≡ [] → None ≡ block_from number (lines_of text)
+sought_none number text at left sought none =
+    sym (sought.same ∙ ap (option_map (with_text sought.front)) (ap (block_from at) none ∙ block_from-none at))
+
+-- ---- the first part, by the line that was found
+pub based-none : (last : ℕ) (lines : List (List ℕ)) → None ≡ next_line 1 lines → based last lines ≡ Err (refusal.Line last)
+unfolding based
+based-none last lines e = ap (first_part last) (sym e)
+
+based-by : (last : ℕ) (lines : List (List ℕ)) (found : Found) → Some found ≡ next_line 1 lines → first_part last (Some found) ≡ based last lines
+unfolding based
+based-by last lines found e = ap (first_part last) e
+
+-- a line that is `domain`, and one that is not
+pub based-files : (last : ℕ) (lines : List (List ℕ)) (found : Found) → Some found ≡ next_line 1 lines → is_alone (codes "domain") found.words ≡ true → files_part last found ≡ based last lines
+based-files last lines found e is = sym (ap (λ t. cond t (files_part last found) (bare_part found)) is) ∙ based-by last lines found e
+
+pub based-bare : (last : ℕ) (lines : List (List ℕ)) (found : Found) → Some found ≡ next_line 1 lines → is_alone (codes "domain") found.words ≡ false → bare_part found ≡ based last lines
+based-bare last lines found e other = sym (ap (λ t. cond t (files_part last found) (bare_part found)) other) ∙ based-by last lines found e

@@ -1,0 +1,11 @@
+use Rattle.std.proofs.Common.{◌≡◌, ◌++◌, length}
+use Rattle.std.specs.List.{filter_map}
+use Rattle.stn_text.specs.Lines.{words_of}
+use Rattle.stn_exec.specs.Command.{id_of}
+use Rattle.stn_exec.proofs.command.read_records.Given as goal
+
+abbrev pub invariant-loop-word : goal.invariant-loop-word
+invariant-loop-word g l = filter_map id_of (words_of l.line) ≡ l.ids.items ++ filter_map id_of (words_of l.rest)
+
+abbrev pub decreases-loop-word : goal.decreases-loop-word
+decreases-loop-word g l = length l.rest
