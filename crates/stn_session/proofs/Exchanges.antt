@@ -1,0 +1,162 @@
+-- Replies that come one after the other.
+use Rattle.std.proofs.Common.{◌≡◌, ℕ, ◌+◌, List, [], ◌∷◌, ◌++◌, length, ◌⊎◌, Option, Result, Ok, Err, refl, sym, ap, subst, ◌∙◌, inl, inr, ⊎_elim, arith, append_assoc, append-nil, length-append}
+use Rattle.std.specs.Prelude.{flat_map, IfOk, IfErr}
+use Rattle.std.specs.List.{AllByRecursion}
+use Rattle.std.specs.Io.KnownBytes.{Consumes}
+use Rattle.std.proofs.KnownBytes.{Consumes-nil, Consumes-trans}
+use Rattle.std.proofs.lemmas.Grind.{flat_map-append}
+use Rattle.std.proofs.lemmas.List.Sums.{fold-append}
+use Rattle.stn_lift.specs.PlanSource.{PlanSource}
+use Rattle.stn_records.specs.Content.{Content}
+use Rattle.stn_wire.specs.Frame.{FrameContent, content, text, spelling, IsFrame}
+use Rattle.stn_wire.specs.declared.frame.Frame.{Frame}
+use Rattle.stn_session.specs.Stream.{pending}
+use Rattle.stn_session.specs.declared.stream.FrameReader.{FrameReader}
+use Rattle.stn_session.specs.Exchange.{Stage, greeting, telling, told, failed, Reception, at_stage, expecting, told_by, staged, replied, IsWaiting, IsLost, IsReceived, Finds, seen}
+use Rattle.stn_session.specs.declared.exchange.ReplyFault.{ReplyFault}
+use Rattle.stn_session.specs.declared.exchange.ReplyFault.TheVariants.{Memory}
+
+-- one frame more
+abbrev received : PlanSource → Reception → FrameContent → Reception
+received source reception frame = staged source reception.stage reception.state frame
+
+all_more : {X : Type 0} (P : X → Type 0) (xs : List X) (x : X) → AllByRecursion P xs → P x → AllByRecursion P (xs ++ x ∷ [])
+all_more P [] x all one = (one, tt)
+all_more P (y ∷ xs) x all one = (all.0, all_more P xs x all.1 one)
+
+-- the frames that were read led to a stage, and this is the rest
+pub record Came (source : PlanSource) (first : Content) (before after : Option (List ℕ)) (rest : List ℕ) (taken : ℕ) (stage : Stage) (state : Content) : Type 0 where
+  pub bytes : List ℕ
+  pub frames : List FrameContent
+  pub consumed : Consumes before after bytes
+  pub many : taken ≡ length bytes
+  pub each : AllByRecursion IsFrame frames
+  pub cut : bytes ≡ flat_map spelling frames ++ rest
+  pub came : at_stage stage state ≡ replied source (expecting first) frames
+
+pub nothing_came : (source : PlanSource) (first : Content) (before : Option (List ℕ)) (rest : List ℕ) (taken : ℕ) → rest ≡ [] → taken ≡ 0 → Came source first before before rest taken greeting first
+nothing_came source first before rest taken none zero = record {
+  bytes = [];
+  frames = [];
+  consumed = Consumes-nil before;
+  many = zero;
+  each = tt;
+  cut = sym none;
+  came = refl;
+}
+
+module _ (source : PlanSource) (first : Content) (before after : Option (List ℕ)) (rest : List ℕ) (taken : ℕ) (stage : Stage) (state : Content)
+    (p : Came source first before after rest taken stage state)
+    (last : Option (List ℕ)) (more : List ℕ) (read : Consumes after last more) where
+  -- more bytes were read
+  pub read_on : Came source first before last (rest ++ more) (taken + length more) stage state
+  read_on = record {
+    bytes = p.bytes ++ more;
+    frames = p.frames;
+    consumed = Consumes-trans before after last p.bytes more p.consumed read;
+    many = omega (arith, p.many, length-append p.bytes more);
+    each = p.each;
+    cut = ap (λ l. l ++ more) p.cut ∙ append_assoc (flat_map spelling p.frames) rest more;
+    came = p.came;
+  }
+
+-- the frame in front leads to the next stage
+pub frame_came : (source : PlanSource) (first : Content) (before after : Option (List ℕ)) (rest : List ℕ) (taken : ℕ) (stage : Stage) (state : Content)
+    → Came source first before after rest taken stage state → (frame : FrameContent) (later : List ℕ) → IsFrame frame → rest ≡ spelling frame ++ later
+    → (now : ℕ) → now ≡ taken → (next : Stage) (left : Content) → staged source stage state frame ≡ at_stage next left → Came source first before after later now next left
+frame_came source first before after rest taken stage state p frame later is front now now_is next left leads = record {
+  bytes = p.bytes;
+  frames = p.frames ++ frame ∷ [];
+  consumed = p.consumed;
+  many = now_is ∙ p.many;
+  each = all_more IsFrame p.frames frame p.each is;
+  cut = p.cut
+      ∙ (ap (λ l. flat_map spelling p.frames ++ l) (front ∙ ap (λ l. l ++ later) (sym (append-nil (spelling frame))))
+      ∙ (sym (append_assoc (flat_map spelling p.frames) (flat_map spelling (frame ∷ [])) later)
+      ∙ ap (λ l. l ++ later) (sym (flat_map-append spelling p.frames (frame ∷ [])))));
+  came = sym leads ∙ (ap (λ r. received source r frame) p.came ∙ sym (fold-append (received source) (expecting first) p.frames (frame ∷ [])));
+}
+
+-- the text came
+pub text_came : (source : PlanSource) (first : Content) (before after : Option (List ℕ)) (rest : List ℕ) (taken : ℕ) (bytes : List ℕ) (state : Content)
+    → Came source first before after rest taken (told bytes) state → IsReceived source first before after state (Ok bytes)
+text_came source first before after rest taken bytes state p = record {
+  bytes = p.bytes;
+  frames = p.frames;
+  rest = rest;
+  reception = at_stage (told bytes) state;
+  consumed = p.consumed;
+  each = p.each;
+  cut = p.cut;
+  came = p.came;
+  is = refl;
+  left = refl;
+}
+
+-- a frame was refused
+pub refusal_came : (source : PlanSource) (first : Content) (before after : Option (List ℕ)) (rest : List ℕ) (taken : ℕ) (fault : ReplyFault) (state : Content)
+    → Came source first before after rest taken (failed fault) state → IsReceived source first before after state (Err fault)
+refusal_came source first before after rest taken fault state p = record {
+  bytes = p.bytes;
+  frames = p.frames;
+  rest = rest;
+  reception = at_stage (failed fault) state;
+  consumed = p.consumed;
+  each = p.each;
+  cut = p.cut;
+  came = p.came;
+  is = inl refl;
+  left = refl;
+}
+
+-- no further frame came
+pub lost : (source : PlanSource) (first : Content) (before after : Option (List ℕ)) (rest : List ℕ) (taken : ℕ) (stage : Stage) (state : Content)
+    → Came source first before after rest taken stage state → IsWaiting stage → (fault : ReplyFault) → IsLost rest taken after fault → IsReceived source first before after state (Err fault)
+lost source first before after rest taken stage state p waits fault is = record {
+  bytes = p.bytes;
+  frames = p.frames;
+  rest = rest;
+  reception = at_stage stage state;
+  consumed = p.consumed;
+  each = p.each;
+  cut = p.cut;
+  came = p.came;
+  is = inr (waits, subst (λ n. IsLost rest n after fault) p.many is);
+  left = refl;
+}
+
+-- ---- one frame more of the reader
+module _ {A : Type 0} (source : PlanSource) (first : Content) (before mid after : Option (List ℕ)) (old new : FrameReader A) (stage : Stage) (state : Content)
+    (p : Came source first before mid (pending old) old.taken stage state) where
+  pub next_lost : IsWaiting stage → (fault : ReplyFault) → Finds old new mid after (Err fault) → IsReceived source first before after state (Err fault)
+  next_lost waits fault f = lost source first before after _ _ stage state (read_on source first before mid (pending old) old.taken stage state p after f.bytes f.consumed) waits fault f.found
+
+  module _ (frame : Frame A) (f : Finds old new mid after (Ok frame)) where
+    pub next_came : (next : Stage) (left : Content) → staged source stage state (content frame) ≡ at_stage next left → Came source first before after (pending new) new.taken next left
+    next_came next left leads =
+        frame_came source first before after (pending old ++ f.bytes) (old.taken + length f.bytes) stage state (read_on source first before mid (pending old) old.taken stage state p after f.bytes f.consumed)
+        (content frame) (pending new) f.found.0 f.found.1 new.taken f.found.3 next left leads
+
+    pub next_refused : (fault : ReplyFault) → staged source stage state (content frame) ≡ at_stage (failed fault) state → IsReceived source first before after state (Err fault)
+    next_refused fault leads = refusal_came source first before after (pending new) new.taken fault state (next_came (failed fault) state leads)
+
+    -- want of memory: the frame is not taken
+    pub next_kept : IsWaiting stage → IsReceived source first before after state (Err Memory)
+    next_kept waits =
+        lost source first before after _ _ stage state (read_on source first before mid (pending old) old.taken stage state p after f.bytes f.consumed) waits Memory
+        (omega (arith, f.found.3, f.found.2.few))
+
+    pub next_taken : IsWaiting stage → (now : Content) → now ≡ state → (fault : ReplyFault) → (fault ≡ Memory) ⊎ (staged source stage state (content frame) ≡ at_stage (failed fault) state)
+        → IsReceived source first before after now (Err fault)
+    next_taken waits now kept fault why =
+        subst (λ s. IsReceived source first before after s (Err fault)) (sym kept)
+        (⊎_elim (λ is. subst (λ e. IsReceived source first before after state (Err e)) (sym is) (next_kept waits)) (next_refused fault) why)
+
+pub text_answered : {A T : Type 0} (source : PlanSource) (first : Content) (before mid after : Option (List ℕ)) (old new : FrameReader A) (state : Content)
+    → Came source first before mid (pending old) old.taken telling state → (frame : Frame A) → Finds old new mid after (Ok frame)
+    → (view : T → List ℕ) (answer : Result T ReplyFault) → IfOk answer (λ given. content frame ≡ text (view given))
+    → IfErr answer (λ fault. (s : Content) → told_by s (content frame) ≡ at_stage (failed fault) s) → IsReceived source first before after state (seen view answer)
+text_answered source first before mid after old new state p frame f view (Ok given) is why =
+    text_came source first before after (pending new) new.taken (view given) state
+    (next_came source first before mid after old new telling state p frame f (told (view given)) state (ap (told_by state) is))
+text_answered source first before mid after old new state p frame f view (Err fault) is why = next_refused source first before mid after old new telling state p frame f fault (why state)

@@ -1,0 +1,5 @@
+pub mod Streams
+pub mod Frames
+pub mod Sessions
+pub mod Exchanges
+pub mod Unique

@@ -1,0 +1,72 @@
+-- Frames that are cut off the bytes of a reader, piece by piece.
+use Rattle.std.proofs.Common.{◌≡◌, ℕ, ◌+◌, ◌≤◌, Bool, true, false, List, [], ◌∷◌, ◌++◌, length, drop, Option, Some, None, Ok, Err, sym, ap, subst, ◌∙◌, arith, append_assoc, append-nil, length-append, take-append-drop, drop-drop}
+use Rattle.std.proofs.Math.Seq.{drop-append-add}
+use Rattle.std.proofs.KnownBytes.{Consumes-trans}
+use Rattle.std.proofs.lemmas.List.{drop_all}
+use Rattle.std.specs.Io.KnownBytes.{Consumes}
+use Rattle.stn_wire.specs.Feeder.{FeederState, IsTaken}
+use Rattle.stn_wire.specs.Frame.{FrameContent, content, spelling}
+use Rattle.stn_wire.specs.Front.{IsFront, whole, unfinished}
+use Rattle.stn_wire.specs.declared.frame.Frame.{Frame}
+use Rattle.stn_session.specs.Stream.{pending, behind, IsFed, IsFilled, Gives}
+use Rattle.stn_session.specs.declared.stream.FrameReader.{FrameReader}
+use Rattle.stn_session.specs.declared.stream.StreamFault.{StreamFault}
+use Rattle.stn_session.specs.declared.stream.StreamFault.TheVariants.{Read, Bound, Memory}
+
+-- a frame was taken, and what stands behind it is pending
+frame_taken : (held rest : List ℕ) (used : ℕ) (frame : FrameContent) → IsFront (held ++ rest) (whole frame (length held + used)) → held ++ rest ≡ spelling frame ++ drop used rest
+frame_taken held rest used frame h =
+    sym (take-append-drop (length held + used) (held ++ rest))
+    ∙ (ap (λ l. l ++ drop (length held + used) (held ++ rest)) h.2 ∙ ap (λ l. spelling frame ++ l) (drop-append-add held rest used))
+
+left_behind : {A : Type 0} (old new : FrameReader A) (used : ℕ) (rest : List ℕ) → rest ≡ behind old → new.at ≡ old.at + used → new.piece.items ≡ old.piece.items → drop used rest ≡ behind new
+left_behind old new used rest is at same =
+    ap (drop used) is ∙ (drop-drop used old.at old.piece.items ∙ (λ i. drop (sym at i) (sym same i)))
+
+pub fed_is : {A : Type 0} (old new : FrameReader A) (used : ℕ) (frame : Option (Frame A)) (rest : List ℕ) → rest ≡ behind old → IsTaken old.feeder.held rest used frame new.feeder
+    → new.at ≡ old.at + used → new.piece.items ≡ old.piece.items → IsFed old new (Ok frame)
+fed_is old new used (Some frame) rest is h at same = (
+  h.0.0,
+  ap (λ l. old.feeder.held ++ l) (sym is)
+      ∙ (frame_taken old.feeder.held rest used (content frame) h.0
+      ∙ ap (λ l. spelling (content frame) ++ l) (left_behind old new used rest is at same ∙ sym (ap (λ (f : FeederState). f.held ++ behind new) h.1))),
+)
+fed_is old new used None rest is h at same =
+    let none : behind new ≡ [] = sym (left_behind old new used rest is at same) ∙ drop_all used rest (omega (arith, h.1)) in (
+      subst (λ l. IsFront (old.feeder.held ++ l) unfinished) is h.0,
+      ap (λ (f : FeederState). f.held ++ behind new) h.2 ∙ (ap (λ l. (old.feeder.held ++ rest) ++ l) none ∙ (append-nil (old.feeder.held ++ rest) ∙ ap (λ l. old.feeder.held ++ l) is)),
+      none,
+    )
+
+-- more bytes are pending behind those that were read since the first
+module _ {A : Type 0} (first mid new : FrameReader A) (a b c : Option (List ℕ)) (bytes : List ℕ) (read : Consumes a b bytes) (held : pending mid ≡ pending first ++ bytes) (taken : mid.taken ≡ first.taken + length bytes) where
+  pub filled_more : (more : Bool) → more ≡ true → IsFilled mid new b c (Ok more)
+      → (all : List ℕ) × Consumes a c all × (pending new ≡ pending first ++ all) × (new.taken ≡ first.taken + length all)
+  filled_more true is h = (
+    bytes ++ h.0,
+    Consumes-trans a b c bytes h.0 read h.1,
+    h.3 ∙ (ap (λ l. l ++ h.0) held ∙ append_assoc (pending first) bytes h.0),
+    omega (arith, h.4, taken, length-append bytes h.0),
+  )
+  filled_more false is h = absurd (cc)
+
+  -- nothing more comes
+  pub fill_fails : (fault : StreamFault) → IsFront (pending mid) unfinished → mid.taken ≤ 16777216 → IsFilled mid new b c (Err fault) → Gives first new a c (Err fault)
+  fill_fails Read front few h = record {
+    bytes = bytes ++ [];
+    consumed = Consumes-trans a b c bytes [] read h;
+    next = subst (λ l. IsFront l unfinished) (held ∙ ap (λ l. pending first ++ l) (sym (append-nil bytes))) front;
+    counted = omega (arith, few, taken, length-append bytes []);
+  }
+  fill_fails Bound front few h = record {
+    bytes = bytes ++ h.0 ∷ [];
+    consumed = Consumes-trans a b c bytes (h.0 ∷ []) read h.1;
+    next = (pending first ++ bytes, h.0, sym (append_assoc (pending first) bytes (h.0 ∷ [])), subst (λ l. IsFront l unfinished) held front);
+    counted = omega (arith, h.2, taken, length-append bytes (h.0 ∷ []));
+  }
+  fill_fails Memory front few h = record {
+    bytes = bytes ++ h.0;
+    consumed = Consumes-trans a b c bytes h.0 read h.1;
+    next = tt;
+    counted = omega (arith, h.2, taken, length-append bytes h.0);
+  }

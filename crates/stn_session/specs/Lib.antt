@@ -1,0 +1,5 @@
+pub mod Stream
+pub mod Session
+pub mod Serving
+pub mod Turns
+pub mod Exchange

@@ -1,0 +1,218 @@
+// What a site asks of another, and what it makes of the replies.
+ghost use Rattle.std.specs.Prelude.{◌≡◌, ◌≢◌, ◌⊎◌, ◌-◌, ◌^◌, ◌<◌, Err, IfOk, IfErr, OnOk, OnErr, IsErrOf};
+ghost use Rattle.std.specs.Io.KnownBytes.{Appends};
+ghost use Rattle.stn_device.specs.Bytes.{AppendsPart};
+ghost use Rattle.stn_device.specs.Counted.{counted_device, failure_count, CountsFailure, KeepsCount};
+ghost use Rattle.stn_lift.specs.PlanSource.{PlanSource};
+ghost use Rattle.stn_records.specs.Content.{Content};
+ghost use Rattle.stn_wire.specs.Frame.{content, same, records, text};
+ghost use Rattle.stn_session.specs.Stream.{IsReading};
+ghost use Rattle.stn_session.specs.Exchange.{request_bytes, at_stage, telling, failed, greeted_by, handed, told_by, reply_fault, Finds, IsReceived, seen};
+ghost use Rattle.stn_session.specs.declared.exchange.SendFault.TheVariants as send;
+ghost use Rattle.stn_session.specs.declared.exchange.ReplyFault.TheVariants.{Read, Memory};
+
+use crate::replies::{append_ask, append_hello, append_state};
+use crate::stream::{FrameFault, FrameReader, Next, StreamFault};
+use std::alloc::{AllocError, Allocator};
+use std::io::{Read, Write};
+use stn_device::{Counted, WriteFault, write_whole};
+use stn_records::Records;
+use stn_replica::{Replica, ReplicaFault};
+use stn_wire::Frame;
+use thiserror::Error;
+
+/// Why nothing was asked.
+#[derive(Clone, Copy, Debug, PartialEq, Eq, Hash, Error)]
+pub enum SendFault {
+    /// A call of the writer failed, or took nothing.
+    #[error("a write failed")]
+    Write,
+    /// Memory was refused.
+    #[error("out of memory")]
+    Memory,
+}
+
+impl From<AllocError> for SendFault {
+    ghost from_gives = { λ _ fault. fault ≡ send.Memory };
+
+    fn from(_refused: AllocError) -> SendFault {
+        SendFault::Memory
+    }
+}
+
+impl From<WriteFault> for SendFault {
+    ghost from_gives = { λ _ fault. fault ≡ send.Write };
+
+    fn from(_fault: WriteFault) -> SendFault {
+        SendFault::Write
+    }
+}
+
+/// Writes what a site says to another, all at once: HELLO with what its plan is made from, RECORDS with
+/// its whole state, and ASK.
+///
+/// Faults: `Memory`, after which nothing is written; `Write`, after which a part may be.
+pub fn send_requests<W: Write, A: Allocator + Copy>(
+    alloc: A,
+    replica: &Replica<A>,
+    writer: &mut Counted<W>,
+) -> Result<(), SendFault>
+    requires { failure_count writer.old < 2 ^ 64 - 1 }
+    ensures sent { OnOk result (Appends (W.contents (counted_device writer.old)) (W.contents (counted_device writer.new))
+        (request_bytes replica.now.source replica.now.state)) }
+    ensures part { OnErr result (AppendsPart (W.contents (counted_device writer.old)) (W.contents (counted_device writer.new))
+        (request_bytes replica.now.source replica.now.state)) }
+    ensures unwritten { IsErrOf result send.Memory → writer.new ≡ writer.old }
+    ensures write { IsErrOf result send.Write → failure_count writer.old < failure_count writer.new }
+    ensures kept { result ≢ Err send.Write → KeepsCount writer.old writer.new }
+{
+    let mut out = Vec::new(alloc);
+    append_hello(alloc, replica.base().source(), &mut out)?;
+    append_state(replica.records(), &mut out)?;
+    append_ask(&mut out)?;
+    write_whole(writer, &out)?;
+    Ok(())
+}
+
+/// Why replies were not taken, or not all of them.
+#[derive(Clone, Copy, Debug, PartialEq, Eq, Hash, Error)]
+pub enum ReplyFault {
+    /// The other site refused what was said, with this code.
+    #[error("refused")]
+    Refused(u8),
+    /// The bytes begin no frame.
+    #[error("{0}")]
+    Frame(FrameFault),
+    /// Another frame stands where a reply is wanted, or the input ended.
+    #[error("no reply")]
+    Reply,
+    /// The replica refused the records.
+    #[error("{0}")]
+    Replica(ReplicaFault),
+    /// A call of the reader failed.
+    #[error("a read failed")]
+    Read,
+    /// The replies have more than `MOST_BYTES` bytes.
+    #[error("the replies are too long")]
+    Bound,
+    /// Memory was refused.
+    #[error("out of memory")]
+    Memory,
+}
+
+impl From<StreamFault> for ReplyFault {
+    ghost from_gives = { λ fault made. made ≡ reply_fault fault };
+
+    fn from(fault: StreamFault) -> ReplyFault {
+        match fault {
+            StreamFault::Read => ReplyFault::Read,
+            StreamFault::Bound => ReplyFault::Bound,
+            StreamFault::Memory => ReplyFault::Memory,
+        }
+    }
+}
+
+/// Reads the replies to what `send_requests` wrote, SAME, RECORDS and TEXT, takes in the records, and
+/// gives the text. What stands behind the text is not judged. At most `MOST_BYTES` bytes are read.
+///
+/// Refused in the order of the frames: `Refused`, where the other site refused; `Frame`; `Reply`; `Replica`, where
+/// the records are refused; and `Read`, `Bound`, `Memory`. Records that were taken before a refusal stay taken.
+pub fn receive_replies<R: Read, A: Allocator + Copy>(
+    alloc: A,
+    reader: &mut Counted<R>,
+    replica: &mut Replica<A>,
+) -> Result<Vec<u8, A>, ReplyFault>
+    requires { failure_count reader.old < 2 ^ 64 - 1 }
+
+    // The bytes that were read are frames and a rest; the answer and the replica are what these come to.
+    ensures received { IsReceived replica.old.source replica.old.state (R.remaining (counted_device reader.old))
+        (R.remaining (counted_device reader.new)) replica.new.state (seen (λ bytes. bytes.items) result) }
+    ensures source { replica.new.source ≡ replica.old.source }
+    ensures read { IsErrOf result Read → failure_count reader.old < failure_count reader.new }
+    ensures kept { result ≢ Err Read → KeepsCount reader.old reader.new }
+{
+    let mut frames = FrameReader::new(alloc);
+    let first = next_reply(&mut frames, reader)?;
+    same_of(first)?;
+    let second = next_reply(&mut frames, reader)?;
+    let theirs = records_of(second)?;
+    take_in(replica, &theirs)?;
+    let third = next_reply(&mut frames, reader)?;
+    text_of(third)
+}
+
+// The next frame.
+fn next_reply<R: Read, A: Allocator + Copy>(
+    frames: &mut FrameReader<A>,
+    reader: &mut Counted<R>,
+) -> Result<Frame<A>, ReplyFault>
+    requires { IsReading frames.old }
+    ensures finds { Finds frames.old frames.new (R.remaining (counted_device reader.old)) (R.remaining (counted_device reader.new)) result }
+    ensures read { IsErrOf result Read → CountsFailure reader.old reader.new }
+    ensures kept { result ≢ Err Read → KeepsCount reader.old reader.new }
+{
+    match frames.next(reader)? {
+        Next::Frame(frame) => Ok(frame),
+        Next::Faulty(fault) => Err(ReplyFault::Frame(fault)),
+        Next::Closed => Err(ReplyFault::Reply),
+        Next::Cut => Err(ReplyFault::Reply),
+    }
+}
+
+// SAME, or why another frame is refused.
+fn same_of<A: Allocator>(frame: Frame<A>) -> Result<(), ReplyFault>
+    ensures same { OnOk result (content frame ≡ same) }
+    ensures refused { IfErr result (λ fault. (state : Content) → greeted_by state (content frame) ≡ at_stage (failed fault) state) }
+    ensures read { result ≢ Err Read }
+{
+    match frame {
+        Frame::Same => Ok(()),
+        Frame::Refused(code) => Err(ReplyFault::Refused(code)),
+        _ => Err(ReplyFault::Reply),
+    }
+}
+
+// The records of RECORDS, or why another frame is refused.
+fn records_of<A: Allocator>(frame: Frame<A>) -> Result<Records<A>, ReplyFault>
+    ensures records { IfOk result (λ theirs. content frame ≡ records theirs) }
+    ensures refused { IfErr result (λ fault. (source : PlanSource) → (state : Content) → handed source state (content frame) ≡ at_stage (failed fault) state) }
+    ensures read { result ≢ Err Read }
+{
+    match frame {
+        Frame::Records(theirs) => Ok(theirs),
+        Frame::Refused(code) => Err(ReplyFault::Refused(code)),
+        _ => Err(ReplyFault::Reply),
+    }
+}
+
+// The bytes of TEXT, or why another frame is refused.
+fn text_of<A: Allocator>(frame: Frame<A>) -> Result<Vec<u8, A>, ReplyFault>
+    ensures text { IfOk result (λ bytes. content frame ≡ text bytes.items) }
+    ensures refused { IfErr result (λ fault. (state : Content) → told_by state (content frame) ≡ at_stage (failed fault) state) }
+    ensures read { result ≢ Err Read }
+{
+    match frame {
+        Frame::Text(bytes) => Ok(bytes),
+        Frame::Refused(code) => Err(ReplyFault::Refused(code)),
+        _ => Err(ReplyFault::Reply),
+    }
+}
+
+// Takes in what the other site holds.
+fn take_in<A: Allocator + Copy>(
+    replica: &mut Replica<A>,
+    theirs: &Records<A>,
+) -> Result<(), ReplyFault>
+    ensures source { replica.new.source ≡ replica.old.source }
+    ensures taken { OnOk result (handed replica.old.source replica.old.state (records theirs.now) ≡ at_stage telling replica.new.state) }
+    ensures refused { IfErr result (λ fault. (fault ≡ Memory)
+        ⊎ (handed replica.old.source replica.old.state (records theirs.now) ≡ at_stage (failed fault) replica.old.state)) }
+    ensures kept { OnErr result (replica.new.state ≡ replica.old.state) }
+    ensures read { result ≢ Err Read }
+{
+    match replica.take(theirs) {
+        Ok(()) => Ok(()),
+        Err(ReplicaFault::Memory) => Err(ReplyFault::Memory),
+        Err(fault) => Err(ReplyFault::Replica(fault)),
+    }
+}

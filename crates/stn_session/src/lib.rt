@@ -1,0 +1,15 @@
+//! What two sites say to each other over a reader and a writer: a session that answers frames as
+//! they come, and an exchange, which asks and takes in the replies.
+#![tactic(auto)]
+
+pub use exchange::{ReplyFault, SendFault, receive_replies, send_requests};
+pub use laws::one_session;
+pub use session::{End, ServeFault, Served, serve};
+pub use stn_device::{Counted, MOST_BYTES};
+pub use stream::FrameFault;
+
+mod exchange;
+mod laws;
+mod replies;
+mod session;
+mod stream;

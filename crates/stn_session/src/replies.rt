@@ -1,0 +1,194 @@
+// The reply to a frame.
+ghost use Rattle.std.specs.Prelude.{◌≡◌, ◌≤◌, ◌⊎◌, ◌++◌, length, true, Some, IfOk, OnOk, OnErr};
+ghost use Rattle.stn_lift.specs.PlanSource.{plan_source, HasShortTexts};
+ghost use Rattle.stn_wire.specs.Frame.{content, body_of, spelling, most_body, hello, records, ask, refused};
+ghost use Rattle.stn_session.specs.Session.{refusal_code, answer};
+ghost use Rattle.stn_session.specs.Turns.{IsAnswered};
+
+use std::alloc::{AllocError, Allocator};
+use stn_lift::Source;
+use stn_net::BoundFault;
+use stn_records::Records;
+use stn_replica::{Replica, ReplicaFault};
+use stn_time::Memory;
+use stn_wire::{Frame, encode};
+
+/// What a frame brought, beside its reply.
+#[derive(Clone, Copy)]
+pub(crate) struct Turn {
+    /// Whether the other site is known to have the same plan.
+    pub(crate) greeted: bool,
+    /// The code that ends the session.
+    pub(crate) ended: Option<u8>,
+}
+
+/// Does what a frame says, and appends the reply.
+pub(crate) fn reply_to<A: Allocator + Copy>(
+    alloc: A,
+    frame: &Frame<A>,
+    greeted: bool,
+    replica: &mut Replica<A>,
+    out: &mut Vec<u8, A>,
+) -> Result<Turn, Memory>
+    ensures source { replica.new.source ≡ replica.old.source }
+    ensures answered { IfOk result (IsAnswered (answer replica.old.source replica.old.state greeted (content frame.now)) replica.new.state out.old.items out.new.items) }
+    ensures left { OnErr result ((replica.new.state ≡ replica.old.state)
+        ⊎ (replica.new.state ≡ (answer replica.old.source replica.old.state greeted (content frame.now)).state)) }
+{
+    match frame {
+        Frame::Hello(source) => greet(source, greeted, replica, out),
+        Frame::Records(records) if greeted => take(records, replica, out),
+        Frame::Ask if greeted => report(alloc, replica, out),
+        _ => end(61, greeted, out),
+    }
+}
+
+// HELLO: SAME, where the plan is the replica's own.
+fn greet<A: Allocator + Copy>(
+    source: &Source<A>,
+    greeted: bool,
+    replica: &Replica<A>,
+    out: &mut Vec<u8, A>,
+) -> Result<Turn, Memory>
+    ensures { IfOk result (IsAnswered (answer replica.now.source replica.now.state greeted (hello (plan_source source.now))) replica.now.state out.old.items out.new.items) }
+{
+    if source.same(replica.base().source()) {
+        append_frame::<A>(&Frame::Same, out)?;
+        Ok(Turn {
+            greeted: true,
+            ended: None,
+        })
+    } else {
+        end(60, greeted, out)
+    }
+}
+
+// RECORDS: the whole state, where it takes in the records; else what refuses them.
+fn take<A: Allocator + Copy>(
+    theirs: &Records<A>,
+    replica: &mut Replica<A>,
+    out: &mut Vec<u8, A>,
+) -> Result<Turn, Memory>
+    ensures source { replica.new.source ≡ replica.old.source }
+    ensures answered { IfOk result (IsAnswered (answer replica.old.source replica.old.state true (records theirs.now)) replica.new.state out.old.items out.new.items) }
+    ensures left { OnErr result ((replica.new.state ≡ replica.old.state)
+        ⊎ (replica.new.state ≡ (answer replica.old.source replica.old.state true (records theirs.now)).state)) }
+{
+    match replica.take(theirs) {
+        Ok(()) => append_state(replica.records(), out)?,
+        Err(fault) => append_refused(code_of(fault)?, out)?,
+    }
+    Ok(Turn {
+        greeted: true,
+        ended: None,
+    })
+}
+
+// ASK: the report.
+fn report<A: Allocator + Copy>(
+    alloc: A,
+    replica: &Replica<A>,
+    out: &mut Vec<u8, A>,
+) -> Result<Turn, Memory>
+    ensures { IfOk result (IsAnswered (answer replica.now.source replica.now.state true ask) replica.now.state out.old.items out.new.items) }
+{
+    let mut text = Vec::new(alloc);
+    replica.report(&mut text)?;
+    append_frame(&Frame::Text(text), out)?;
+    Ok(Turn {
+        greeted: true,
+        ended: None,
+    })
+}
+
+// REFUSED with a code, which ends the session.
+fn end<A: Allocator + Copy>(code: u8, greeted: bool, out: &mut Vec<u8, A>) -> Result<Turn, Memory>
+    ensures { IfOk result (λ turn. (turn.greeted ≡ greeted) × (turn.ended ≡ Some code) × (out.new.items ≡ out.old.items ++ spelling (refused code))) }
+{
+    append_refused(code, out)?;
+    Ok(Turn {
+        greeted,
+        ended: Some(code),
+    })
+}
+
+// The code of a refusal, unless memory ran out.
+fn code_of(fault: ReplicaFault) -> Result<u8, Memory>
+    ensures { IfOk result (λ code. refusal_code fault ≡ Some code) }
+{
+    match fault {
+        ReplicaFault::Bound(BoundFault::NoEvent) => Ok(4),
+        ReplicaFault::Bound(BoundFault::SameEvent) => Ok(5),
+        ReplicaFault::Bound(BoundFault::Crossed) => Ok(6),
+        ReplicaFault::Clash(_) => Ok(40),
+        ReplicaFault::Full => Ok(41),
+        ReplicaFault::Unknown => Ok(42),
+        ReplicaFault::CounterSpent => Ok(43),
+        ReplicaFault::Memory => Err(AllocError),
+    }
+}
+
+/// Appends a REFUSED frame.
+pub(crate) fn append_refused<A: Allocator + Copy>(
+    code: u8,
+    out: &mut Vec<u8, A>,
+) -> Result<(), Memory>
+    ensures { OnOk result (out.new.items ≡ out.old.items ++ spelling (refused code)) }
+{
+    append_frame::<A>(&Frame::Refused(code), out)
+}
+
+/// Appends a RECORDS frame with a whole state.
+pub(crate) fn append_state<A: Allocator + Copy>(
+    state: &Records<A>,
+    out: &mut Vec<u8, A>,
+) -> Result<(), Memory>
+    ensures { OnOk result (out.new.items ≡ out.old.items ++ spelling (records state.now)) }
+{
+    // Whatever is held is short enough for a frame.
+    let _held = state.state();
+    append_frame(&Frame::Records(state.copy()?), out)
+}
+
+/// Appends an ASK frame.
+pub(crate) fn append_ask<A: Allocator + Copy>(out: &mut Vec<u8, A>) -> Result<(), Memory>
+    ensures { OnOk result (out.new.items ≡ out.old.items ++ spelling ask) }
+{
+    append_frame::<A>(&Frame::Ask, out)
+}
+
+/// Appends a HELLO frame with what a plan is made from.
+pub(crate) fn append_hello<A: Allocator + Copy>(
+    alloc: A,
+    source: &Source<A>,
+    out: &mut Vec<u8, A>,
+) -> Result<(), Memory>
+    requires { HasShortTexts (plan_source source.now) }
+    ensures { OnOk result (out.new.items ≡ out.old.items ++ spelling (hello (plan_source source.now))) }
+{
+    append_frame(&Frame::Hello(copy_source(alloc, source)?), out)
+}
+
+fn copy_source<A: Allocator + Copy>(alloc: A, source: &Source<A>) -> Result<Source<A>, Memory>
+    ensures { IfOk result (λ copy. plan_source copy ≡ plan_source source.now) }
+{
+    match source {
+        Source::Bare(steps) => Ok(Source::Bare(*steps)),
+        Source::Files(domain, plan) => {
+            let domain = Vec::from_slice(alloc, domain)?;
+            let plan = Vec::from_slice(alloc, plan)?;
+            Ok(Source::Files(domain, plan))
+        }
+    }
+}
+
+// Appends a frame whose body is not too long.
+fn append_frame<A: Allocator + Copy>(frame: &Frame<A>, out: &mut Vec<u8, A>) -> Result<(), Memory>
+    requires { length (body_of (content frame.now)) ≤ most_body }
+    ensures { OnOk result (out.new.items ≡ out.old.items ++ spelling (content frame.now)) }
+{
+    match encode(frame, out) {
+        Ok(()) => Ok(()),
+        Err(_) => Err(AllocError),
+    }
+}

@@ -1,0 +1,192 @@
+ghost use Rattle.std.specs.Prelude.{◌≡◌, ◌≢◌, ◌-◌, ◌^◌, ◌<◌, Err, IfOk, IfErr, IsErrOf};
+ghost use Rattle.stn_device.specs.Counted.{counted_device, failure_count, CountsFailure, KeepsCount};
+ghost use Rattle.stn_wire.specs.Frame.{content};
+ghost use Rattle.stn_session.specs.Session.{opening, answer};
+ghost use Rattle.stn_session.specs.Serving.{IsServed, IsBroken};
+ghost use Rattle.stn_session.specs.Turns.{Wrote, WroteRefused, IsInputEnd, serve_fault};
+ghost use Rattle.stn_session.specs.declared.session.ServeFault.TheVariants.{Read, Write, Memory};
+
+use crate::replies::{Turn, append_refused, reply_to};
+use crate::stream::{FrameReader, Next, StreamFault};
+use std::alloc::{AllocError, Allocator};
+use std::io::{Read, Write};
+use stn_device::{Counted, WriteFault, write_whole};
+use stn_replica::Replica;
+use stn_wire::Frame;
+use thiserror::Error;
+
+/// How a session ended.
+#[derive(Clone, Copy, Debug, PartialEq, Eq, Hash)]
+pub enum End {
+    /// The input ended between two frames.
+    Closed,
+    /// The input ended within a frame.
+    Cut,
+    /// The other site was refused with this code.
+    Refused(u8),
+}
+
+/// What a session did: how many frames were answered, and how it ended.
+#[derive(Clone, Copy, Debug, PartialEq, Eq, Hash)]
+pub struct Served {
+    pub frames: u32,
+    pub end: End,
+}
+
+/// Why a session broke off.
+#[derive(Clone, Copy, Debug, PartialEq, Eq, Hash, Error)]
+pub enum ServeFault {
+    /// A call of the reader failed.
+    #[error("a read failed")]
+    Read,
+    /// A call of the writer failed, or took nothing.
+    #[error("a write failed")]
+    Write,
+    /// The other site sent more than `MOST_BYTES` bytes.
+    #[error("the session is too long")]
+    Bound,
+    /// Memory was refused.
+    #[error("out of memory")]
+    Memory,
+}
+
+impl From<AllocError> for ServeFault {
+    ghost from_gives = { λ _ fault. fault ≡ Memory };
+
+    fn from(_refused: AllocError) -> ServeFault {
+        ServeFault::Memory
+    }
+}
+
+impl From<WriteFault> for ServeFault {
+    ghost from_gives = { λ _ fault. fault ≡ Write };
+
+    fn from(_fault: WriteFault) -> ServeFault {
+        ServeFault::Write
+    }
+}
+
+impl From<StreamFault> for ServeFault {
+    ghost from_gives = { λ fault made. made ≡ serve_fault fault };
+
+    fn from(fault: StreamFault) -> ServeFault {
+        match fault {
+            StreamFault::Read => ServeFault::Read,
+            StreamFault::Bound => ServeFault::Bound,
+            StreamFault::Memory => ServeFault::Memory,
+        }
+    }
+}
+
+// Answers a frame.
+fn answer_frame<W: Write, A: Allocator + Copy>(
+    alloc: A,
+    frame: Frame<A>,
+    greeted: bool,
+    replica: &mut Replica<A>,
+    writer: &mut Counted<W>,
+) -> Result<Turn, ServeFault>
+    ensures source { replica.new.source ≡ replica.old.source }
+    ensures wrote { Wrote (answer replica.old.source replica.old.state greeted (content frame))
+        (W.contents (counted_device writer.old)) (W.contents (counted_device writer.new)) replica.old.state replica.new.state result }
+    ensures write { IsErrOf result Write → CountsFailure writer.old writer.new }
+    ensures kept { result ≢ Err Write → KeepsCount writer.old writer.new }
+{
+    let mut out = Vec::new(alloc);
+    let turn = reply_to(alloc, &frame, greeted, replica, &mut out)?;
+    write_whole(writer, &out)?;
+    Ok(turn)
+}
+
+// Answers bytes that are no frame.
+fn refuse<W: Write, A: Allocator + Copy>(
+    alloc: A,
+    code: u8,
+    writer: &mut Counted<W>,
+) -> Result<(), ServeFault>
+    ensures wrote { WroteRefused code (W.contents (counted_device writer.old)) (W.contents (counted_device writer.new)) result }
+    ensures write { IsErrOf result Write → CountsFailure writer.old writer.new }
+    ensures kept { result ≢ Err Write → KeepsCount writer.old writer.new }
+{
+    let mut out = Vec::new(alloc);
+    append_refused(code, &mut out)?;
+    write_whole(writer, &out)?;
+    Ok(())
+}
+
+/// Serves one session: reads frames to the end, answers each before it asks for more, and takes in
+/// what the other site holds. At most `MOST_BYTES` bytes are read.
+///
+/// A fault leaves what the frames that were answered left; after `Memory` and `Write` one frame more may
+/// be taken, whose reply is not written, or not all of it.
+pub fn serve<R: Read, W: Write, A: Allocator + Copy>(
+    alloc: A,
+    reader: &mut Counted<R>,
+    writer: &mut Counted<W>,
+    replica: &mut Replica<A>,
+) -> Result<Served, ServeFault>
+    requires reader_counts { failure_count reader.old < 2 ^ 64 - 1 }
+    requires writer_counts { failure_count writer.old < 2 ^ 64 - 1 }
+
+    // The bytes that were read are frames and a rest; the replies, the replica, the count and the end are those of the session.
+    ensures served { IfOk result (IsServed (opening replica.old.source replica.old.state)
+        (R.remaining (counted_device reader.old)) (R.remaining (counted_device reader.new))
+        (W.contents (counted_device writer.old)) (W.contents (counted_device writer.new)) replica.new.state) }
+
+    // The input ended where the answer says so.
+    ensures end { IfOk result (λ served. IsInputEnd served.end (R.remaining (counted_device reader.new))) }
+
+    // What a fault leaves.
+    ensures broken { IfErr result (IsBroken (opening replica.old.source replica.old.state)
+        (R.remaining (counted_device reader.old)) (R.remaining (counted_device reader.new))
+        (W.contents (counted_device writer.old)) (W.contents (counted_device writer.new)) replica.new.state) }
+    ensures source { replica.new.source ≡ replica.old.source }
+
+    // Each fault has its cause.
+    ensures read { IsErrOf result Read → failure_count reader.old < failure_count reader.new }
+    ensures write { IsErrOf result Write → failure_count writer.old < failure_count writer.new }
+    ensures reader_kept { result ≢ Err Read → KeepsCount reader.old reader.new }
+    ensures writer_kept { result ≢ Err Write → KeepsCount writer.old writer.new }
+{
+    let mut frames = FrameReader::new(alloc);
+    let mut greeted = false;
+    let mut count = 0;
+    'frames: loop {
+        match frames.next(reader)? {
+            Next::Frame(frame) => {
+                let turn = answer_frame(alloc, frame, greeted, replica, writer)?;
+                count += 1;
+                greeted = turn.greeted;
+                match turn.ended {
+                    None => {}
+                    Some(code) => {
+                        return Ok(Served {
+                            frames: count,
+                            end: End::Refused(code),
+                        });
+                    }
+                }
+            }
+            Next::Faulty(fault) => {
+                let code = fault.code();
+                refuse(alloc, code, writer)?;
+                return Ok(Served {
+                    frames: count,
+                    end: End::Refused(code),
+                });
+            }
+            Next::Closed => {
+                return Ok(Served {
+                    frames: count,
+                    end: End::Closed,
+                });
+            }
+            Next::Cut => {
+                return Ok(Served {
+                    frames: count,
+                    end: End::Cut,
+                });
+            }
+        }
+    }
+}

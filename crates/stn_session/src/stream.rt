@@ -1,0 +1,196 @@
+// Frames read piece by piece: no more than one piece and one unfinished frame is kept.
+ghost use Rattle.std.specs.Prelude.{◌≡◌, ◌≢◌, ◌⊎◌, ◌<◌, length, [], false, Ok, Err, IfOk, IfErr, OnOk, OnErr, IsErrOf};
+ghost use Rattle.std.specs.Io.KnownBytes.{Consumes, IsAtEnd};
+ghost use Rattle.stn_device.specs.Counted.{counted_device, CountsFailure, KeepsCount};
+ghost use Rattle.stn_session.specs.Stream.{pending, behind, frame_code, IsReading, IsFed, IsFilled, IsBeyond, Gives};
+ghost use Rattle.stn_session.specs.declared.stream.Next.TheVariants.{Closed, Cut};
+ghost use Rattle.stn_session.specs.declared.stream.StreamFault.TheVariants.{Read, Memory};
+
+use std::alloc::{AllocError, Allocator};
+use std::io::Read;
+use stn_device::{Counted, MOST_BYTES};
+use stn_wire::{Feeder, Frame, WireFault};
+use thiserror::Error;
+
+// How many bytes one call of the reader is asked for at most.
+const PIECE: usize = 4096;
+
+/// Why bytes begin no frame.
+#[derive(Clone, Copy, Debug, PartialEq, Eq, Hash, Error)]
+pub enum FrameFault {
+    /// The length of a body lies outside 1 to 262,144.
+    #[error("a frame of a wrong length")]
+    Length,
+    /// There is no frame of this kind.
+    #[error("a frame of no kind")]
+    Kind,
+    /// The body breaks a rule of its kind.
+    #[error("a frame whose body breaks a rule")]
+    Body,
+}
+
+impl FrameFault {
+    /// The code of the fault: 50, 51 or 52.
+    pub fn code(self) -> u8
+        ensures { result ≡ frame_code self }
+    {
+        match self {
+            FrameFault::Length => 50,
+            FrameFault::Kind => 51,
+            FrameFault::Body => 52,
+        }
+    }
+}
+
+/// What comes next in a stream.
+#[derive(Debug, Drop)]
+pub(crate) enum Next<A: Allocator> {
+    /// A frame.
+    Frame(Frame<A>),
+    /// Bytes that begin no frame.
+    Faulty(FrameFault),
+    /// The end, behind the last frame.
+    Closed,
+    /// The end, within a frame.
+    Cut,
+}
+
+/// Why nothing more comes of a stream.
+#[derive(Clone, Copy, Debug, PartialEq, Eq, Hash)]
+pub(crate) enum StreamFault {
+    /// A call of the reader failed.
+    Read,
+    /// The stream has more than `MOST_BYTES` bytes.
+    Bound,
+    /// Memory was refused.
+    Memory,
+}
+
+impl From<AllocError> for StreamFault {
+    ghost from_gives = { λ _ fault. fault ≡ Memory };
+
+    fn from(_refused: AllocError) -> StreamFault {
+        StreamFault::Memory
+    }
+}
+
+/// The frames of a reader.
+#[derive(Debug, Drop)]
+pub(crate) struct FrameReader<A: Allocator> {
+    feeder: Feeder<A>,
+    // What was read last, and from where on it was not taken yet.
+    piece: Vec<u8, A>,
+    at: usize,
+    // How many bytes were read.
+    taken: usize,
+}
+
+impl<A: Allocator + Copy> FrameReader<A> {
+    /// Nothing is read yet.
+    pub(crate) fn new(alloc: A) -> FrameReader<A>
+        ensures reading { IsReading result }
+        ensures pending { pending result ≡ [] }
+        ensures taken { result.taken ≡ 0 }
+    {
+        FrameReader {
+            feeder: Feeder::new(alloc),
+            piece: Vec::new(alloc),
+            at: 0,
+            taken: 0,
+        }
+    }
+
+    /// What comes next. It asks the reader for more only where no whole frame is left of what was read.
+    pub(crate) fn next<R: Read>(&mut self, reader: &mut Counted<R>) -> Result<Next<A>, StreamFault>
+        requires { IsReading self.old }
+        ensures gives { Gives self.old self.new (R.remaining (counted_device reader.old)) (R.remaining (counted_device reader.new)) result }
+        ensures closed { result ≡ Ok Closed → IsAtEnd (R.remaining (counted_device reader.new)) }
+        ensures cut { result ≡ Ok Cut → IsAtEnd (R.remaining (counted_device reader.new)) }
+        ensures read { IsErrOf result Read → CountsFailure reader.old reader.new }
+        ensures kept { result ≢ Err Read → KeepsCount reader.old reader.new }
+    {
+        'pieces: loop {
+            match self.feed() {
+                Ok(Some(frame)) => return Ok(Next::Frame(frame)),
+                Ok(None) => {}
+                Err(WireFault::Length) => return Ok(Next::Faulty(FrameFault::Length)),
+                Err(WireFault::Kind) => return Ok(Next::Faulty(FrameFault::Kind)),
+                Err(WireFault::Body) => return Ok(Next::Faulty(FrameFault::Body)),
+                Err(WireFault::Memory) => return Err(StreamFault::Memory),
+            }
+            let more = self.fill(reader)?;
+            if !more {
+                return Ok(self.end());
+            }
+        }
+    }
+
+    // Takes what was read, up to the end of the first frame.
+    fn feed(&mut self) -> Result<Option<Frame<A>>, WireFault>
+        requires { IsReading self.old }
+        ensures fed { IsFed self.old self.new result }
+        ensures reading { OnOk result (IsReading self.new) }
+        ensures taken { self.new.taken ≡ self.old.taken }
+    {
+        let fed = self.feeder.feed(&self.piece[self.at..])?;
+        self.at += fed.used;
+        Ok(fed.frame)
+    }
+
+    // Reads the next piece, where all that was read is held. Whether there is one.
+    fn fill<R: Read>(&mut self, reader: &mut Counted<R>) -> Result<bool, StreamFault>
+        requires reading { IsReading self.old }
+        requires held { behind self.old ≡ [] }
+        ensures filled { IsFilled self.old self.new (R.remaining (counted_device reader.old)) (R.remaining (counted_device reader.new)) result }
+        ensures reading { OnOk result (IsReading self.new) }
+        ensures read { IsErrOf result Read → CountsFailure reader.old reader.new }
+        ensures kept { result ≢ Err Read → KeepsCount reader.old reader.new }
+    {
+        let room = PIECE.min(MOST_BYTES - self.taken);
+        if room == 0 {
+            return look_beyond(reader);
+        }
+        let mut buffer = [0u8; PIECE];
+        match reader.read(&mut buffer[..room]) {
+            Ok(0) => Ok(false),
+            Ok(count) => {
+                self.at = 0;
+                self.piece.clear();
+                self.piece.extend_from_slice(&buffer[..count])?;
+                self.taken += count;
+                Ok(true)
+            }
+            Err(_) => Err(StreamFault::Read),
+        }
+    }
+
+    // The end, which came behind what is held.
+    fn end(&self) -> Next<A>
+        requires { behind self.now ≡ [] }
+        ensures closed { result ≡ Closed → pending self.now ≡ [] }
+        ensures cut { result ≡ Cut → 0 < length (pending self.now) }
+        ensures end { (result ≡ Closed) ⊎ (result ≡ Cut) }
+    {
+        if self.feeder.middle() {
+            Next::Cut
+        } else {
+            Next::Closed
+        }
+    }
+}
+
+// At the limit: no byte more, or the fault of one.
+fn look_beyond<R: Read>(reader: &mut Counted<R>) -> Result<bool, StreamFault>
+    ensures end { IfOk result (λ more. (more ≡ false) × Consumes (R.remaining (counted_device reader.old)) (R.remaining (counted_device reader.new)) []
+        × IsAtEnd (R.remaining (counted_device reader.new))) }
+    ensures fault { IfErr result (IsBeyond (R.remaining (counted_device reader.old)) (R.remaining (counted_device reader.new))) }
+    ensures read { IsErrOf result Read → CountsFailure reader.old reader.new }
+    ensures kept { result ≢ Err Read → KeepsCount reader.old reader.new }
+{
+    let mut beyond = [0u8; 1];
+    match reader.read(&mut beyond) {
+        Ok(0) => Ok(false),
+        Ok(_) => Err(StreamFault::Bound),
+        Err(_) => Err(StreamFault::Read),
+    }
+}
