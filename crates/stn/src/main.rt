@@ -1,35 +1,23 @@
-//! The program `stn`: runs a script from standard input to standard output.
+//! The program `stn`: does the command of its words.
 #![tactic(auto)]
 
-use std::io;
 use std::process::ExitCode;
-use stn_exec::{Counted, RunFault, run};
+use std::{env, io};
+use stn_device::Counted;
+use stn_shell::execute;
 
-/// Status 0 where nothing was refused and no device failed, else 1. A fault is printed to standard error.
-fn main(rt: HostRuntime) -> ExitCode {
+fn main(rt: HostRuntime) -> io::Result<ExitCode> {
+    let mut texts = Vec::new(rt.alloc());
+    for text in env::args(&rt)? {
+        texts.push(text)?;
+    }
+    let mut words = Vec::new(rt.alloc());
+    for text in &texts {
+        words.push(text.as_str())?;
+    }
     let mut reader = Counted::new(rt.reader());
-    let mut writer = Counted::new(io::writer(&rt));
-    match run(rt.alloc(), &mut reader, &mut writer) {
-        Ok(ran) => {
-            if ran.refused == 0 {
-                ExitCode::SUCCESS
-            } else {
-                ExitCode::FAILURE
-            }
-        }
-        Err(fault) => {
-            let _ = eprintln!(rt; "fault {}", fault_word(fault));
-            ExitCode::FAILURE
-        }
-    }
-}
-
-// The word that is printed for a fault.
-fn fault_word(fault: RunFault) -> &'static str {
-    match fault {
-        RunFault::Read => "read",
-        RunFault::Write => "write",
-        RunFault::Bound => "bound",
-        RunFault::Memory => "memory",
-    }
+    let mut out = Counted::new(io::writer(&rt));
+    let mut err = Counted::new(rt.stderr());
+    let status = execute(&rt, &words, &mut reader, &mut out, &mut err);
+    Ok(ExitCode::from(status))
 }

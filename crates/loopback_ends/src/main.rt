@@ -1,0 +1,179 @@
+//! For tests: both ends of connections on this machine, one end after the other. It prints what a session answers and what the
+//! other site makes of the replies, what `serve_on` and `send_on` print and their statuses, and what the saved log then reports.
+#![tactic(auto)]
+
+use anyhow::{Context, Error};
+use std::alloc::Global;
+use std::io::{Read, Write};
+use std::net::{TcpListener, TcpStream};
+use std::{fs, io};
+use stn_device::Counted;
+use stn_log::load;
+use stn_records::Site;
+use stn_replica::Replica;
+use stn_session::{receive_replies, send_requests, serve};
+use stn_shell::{execute, send_on, serve_on};
+
+// How long the requests of an empty replica are: HELLO, RECORDS and ASK.
+const REQUESTS_LENGTH: u64 = 22;
+
+// What a site with the records 1.1 and 1.2 replies to them: SAME, RECORDS, and TEXT, of which the report follows.
+const REPLIES: [u8; 53] = [
+    0, 0, 0, 1, 6, // SAME
+    0, 0, 0, 0x27, 2, // RECORDS
+    0, 2, // two records
+    0, 1, 0, 1, 0, 0, 1, 0, 2, 0x3b, 0x9a, 0xdd, 0x88, 0x3b, 0x9a, 0xdd, 0x88, // 1.1
+    0, 1, 0, 2, 0, 0, 0, 0, 1, 0x3b, 0x9a, 0xd1, 0xd0, 0x3b, 0x9a, 0xf1, 0x10, // 1.2
+    0, 0, // no tombstone
+    0, 0, 0, 0x55, 4, // TEXT
+];
+
+const REPORT: &[u8] =
+    b"plan 1 steps 2 events\nrecords 2 live 0 withdrawn\nok\ns1 2.000 10.000\ne1 7.000 15.000\n";
+
+// The replica of a site by its log.
+fn load_log(rt: &HostRuntime, log: &str, site: u8) -> Result<Replica<Global>, Error> {
+    let site = Site::new(site).context("no site")?;
+    let mut reader = Counted::new(fs::open(rt, log)?);
+    Ok(load(rt.alloc(), &mut reader, site)?)
+}
+
+// Does a command, and prints its status.
+fn command(rt: &HostRuntime, words: &[&str]) -> io::Result<()> {
+    let mut reader = Counted::new(b"".as_slice());
+    let mut out = Counted::new(io::writer(rt));
+    let mut err = Counted::new(io::writer(rt));
+    let status = execute(rt, words, &mut reader, &mut out, &mut err);
+    println!(rt; "status {status}")
+}
+
+// Connects, and writes the requests of a replica.
+fn ask(
+    rt: &HostRuntime,
+    listener: &TcpListener,
+    replica: &Replica<Global>,
+) -> Result<TcpStream, Error> {
+    let stream = TcpStream::connect(rt, listener.local_addr()?)?;
+    let mut writer = Counted::new(&stream);
+    send_requests(rt.alloc(), replica, &mut writer)?;
+    Ok(stream)
+}
+
+// Takes in the replies, and prints their text and what the replica then reports.
+fn receive(
+    rt: &HostRuntime,
+    stream: &TcpStream,
+    replica: &mut Replica<Global>,
+) -> Result<(), Error> {
+    let mut reader = Counted::new(stream);
+    let text = receive_replies(rt.alloc(), &mut reader, replica)?;
+    let mut report = Vec::new(rt.alloc());
+    replica.report(&mut report)?;
+    print!(rt; "{}", String::from_utf8_lossy(rt.alloc(), &text)?)?;
+    print!(rt; "{}", String::from_utf8_lossy(rt.alloc(), &report)?)?;
+    Ok(())
+}
+
+// A session over a connection whose other end stays.
+fn session(rt: &HostRuntime, listener: &TcpListener) -> Result<(), Error> {
+    let mut first = load_log(rt, "t.log", 1)?;
+    let mut second = load_log(rt, "u.log", 2)?;
+    let other = ask(rt, listener, &second)?;
+    let (stream, _) = listener.accept()?;
+    let mut reader = Counted::new((&stream).take(REQUESTS_LENGTH));
+    let mut writer = Counted::new(&stream);
+    let served = serve(rt.alloc(), &mut reader, &mut writer, &mut first)?;
+    println!(rt; "{} frames, {:?}", served.frames, served.end)?;
+    receive(rt, &other, &mut second)
+}
+
+// Serves the connections that wait, and prints the status.
+fn serve_waiting(rt: &HostRuntime, listener: &TcpListener, count: u16) -> Result<(), Error> {
+    let mut replica = load_log(rt, "t.log", 1)?;
+    let mut out = Counted::new(io::writer(rt));
+    let mut err = Counted::new(io::writer(rt));
+    let status = serve_on(
+        rt,
+        listener,
+        count,
+        "t.log",
+        &mut replica,
+        &mut out,
+        &mut err,
+    );
+    println!(rt; "status {status}")?;
+    Ok(())
+}
+
+// A connection whose requests end in bytes that are no frame.
+fn serve_refused(rt: &HostRuntime, listener: &TcpListener) -> Result<(), Error> {
+    let mut replica = load_log(rt, "u.log", 2)?;
+    let other = ask(rt, listener, &replica)?;
+    (&other).write_all(&[0, 4, 0, 1])?;
+    serve_waiting(rt, listener, 1)?;
+    receive(rt, &other, &mut replica)
+}
+
+// A connection that ends within a frame, and one that says nothing.
+fn serve_broken(rt: &HostRuntime, listener: &TcpListener) -> Result<(), Error> {
+    let stream = TcpStream::connect(rt, listener.local_addr()?)?;
+    (&stream).write_all(&[0, 0, 0, 4, 1])?;
+    drop(stream);
+    drop(TcpStream::connect(rt, listener.local_addr()?)?);
+    serve_waiting(rt, listener, 2)
+}
+
+// Sends over a connection on which the replies wait.
+fn send(rt: &HostRuntime, listener: &TcpListener) -> Result<(), Error> {
+    let mut replica = load_log(rt, "u.log", 2)?;
+    let stream = TcpStream::connect(rt, listener.local_addr()?)?;
+    let (other, _) = listener.accept()?;
+    (&other).write_all(&REPLIES)?;
+    (&other).write_all(REPORT)?;
+    let mut out = Counted::new(io::writer(rt));
+    let mut err = Counted::new(io::writer(rt));
+    let status = send_on(rt, &stream, "u.log", &mut replica, &mut out, &mut err);
+    println!(rt; "status {status}")?;
+    Ok(())
+}
+
+fn main(rt: HostRuntime) -> Result<(), Error> {
+    command(&rt, &["stn", "bare", "t.log", "1", "1"])?;
+    command(
+        &rt,
+        &[
+            "stn",
+            "add",
+            "t.log",
+            "1",
+            "s1",
+            "e1",
+            "--lo=5.000",
+            "--hi=5.000",
+        ],
+    )?;
+    command(
+        &rt,
+        &[
+            "stn",
+            "add",
+            "t.log",
+            "1",
+            "z",
+            "s1",
+            "--lo=2.000",
+            "--hi=10.000",
+        ],
+    )?;
+    command(&rt, &["stn", "bare", "u.log", "2", "1"])?;
+    let listener = TcpListener::bind(&rt, "127.0.0.1:0")?;
+    session(&rt, &listener)?;
+    serve_refused(&rt, &listener)?;
+    serve_broken(&rt, &listener)?;
+    send(&rt, &listener)?;
+    command(&rt, &["stn", "report", "u.log", "2"])?;
+    command(&rt, &["stn", "send", "u.log", "2", "nowhere"])?;
+    command(&rt, &["stn", "serve", "t.log", "1", "nowhere", "1"])?;
+    command(&rt, &["stn", "serve", "none.log", "1", "127.0.0.1:0", "1"])?;
+    Ok(())
+}

@@ -1,0 +1,4 @@
+pub mod Rests
+pub mod Takes
+pub mod OneLog
+pub mod Saved

@@ -1,0 +1,97 @@
+-- What is saved says what the replica holds.
+use Rattle.std.proofs.Common.{◌≡◌, ℕ, ◌+◌, ◌≤◌, Bool, false, ltb, List, [], ◌∷◌, ◌++◌, length, Option, Some, None, Result, Ok, refl, sym, ap, subst, ◌∙◌, arith, append-nil, length-append}
+use Rattle.std.specs.Prelude.{map, nat_lt, find}
+use Rattle.stn_records.specs.Record.{same_records}
+use Rattle.std.specs.Bool.{then_some}
+use Rattle.std.specs.Set.{distinct_count}
+use Rattle.std.specs.FinMap as fin
+use Rattle.std.specs.FinMap.{FinMap, entries-from_sorted}
+use Rattle.std.proofs.lemmas.List.{take_all}
+use Rattle.std.proofs.lemmas.Bool.Decides.{nat_tests}
+use Rattle.stn_device.specs.Bytes.{most_bytes}
+use Rattle.stn_lift.specs.PlanSource.{PlanSource, events_of, base_of}
+use Rattle.stn_records.specs.Id.{SiteCounter, id_cmp}
+use Rattle.stn_records.specs.declared.record.Record.{Record}
+use Rattle.stn_records.specs.Maps.{differ, with_entries}
+use Rattle.stn_records.specs.Content.{most_known, Content, same_ids, known_ids, known_count, known_in_either, no_content, dispute_contents, joined_contents, IsSound}
+use Rattle.stn_records.proofs.Places.{nothing_sorted}
+use Rattle.stn_replica.specs.Bounds.{RecordsName}
+use Rattle.stn_replica.specs.Refusals.{take_refusal}
+use Rattle.stn_replica.specs.declared.faults.ReplicaFault.{ReplicaFault}
+use Rattle.stn_replica.specs.declared.faults.ReplicaFault.TheVariants.{Full}
+use Rattle.stn_replica.proofs.Refused.{agreed_take}
+use Rattle.stn_wire.specs.Spelling.{four}
+use Rattle.stn_wire.specs.Frame.{FrameContent, hello, records, body_of, spelling, most_body, IsFrame}
+use Rattle.stn_wire.proofs.States.{few_additions, few_tombstones, length-state_bytes}
+use Rattle.stn_log.specs.Log.{Log, log_text, holder, opened, joined, taken, all_taken, all_taken_by, IsAnswer, IsLog}
+use Rattle.stn_log.specs.declared.fault.LoadFault.{LoadFault}
+
+-- the body of a state's frame is never too long
+pub body_fits : (state : Content) → IsSound state → length (body_of (records state)) ≤ most_body
+body_fits state sound = omega (arith, length-state_bytes state, few_additions state sound, few_tombstones state sound)
+
+-- ---- a state is taken into one that holds nothing
+
+no_entries : (X : Type 0) → (let m : FinMap id_cmp X = fin.empty in fin.entries m) ≡ []
+no_entries X = ap fin.entries (sym (nothing_sorted X)) ∙ entries-from_sorted id_cmp [] tt
+
+no_keys : (X : Type 0) → (let m : FinMap id_cmp X = fin.empty in fin.keys m) ≡ []
+no_keys X = ap (map (λ (e : SiteCounter × X). e.0)) (no_entries X)
+
+none_known : known_ids no_content ≡ []
+none_known = λ i. no_keys Record i ++ no_keys (Unit {0}) i
+
+joined_alone : (state : Content) → joined_contents no_content state ≡ state
+joined_alone state = λ i. record {
+  additions = with_entries state.additions (no_entries Record i);
+  tombstones = with_entries state.tombstones (no_entries (Unit {0}) i);
+}
+
+nothing_disputed : (state : Content) → dispute_contents no_content state ≡ None
+nothing_disputed state = ap (λ (ids : List SiteCounter). find (λ k. differ same_records (fin.get no_content.additions k) (fin.get state.additions k)) ids) (no_keys Record)
+
+known_alone : (state : Content) → known_in_either no_content state ≡ known_count state
+known_alone state = ap (λ (ids : List SiteCounter). distinct_count same_ids (ids ++ known_ids state)) none_known
+
+not_more : (n most : ℕ) → n ≤ most → ltb most n ≡ false
+not_more n most le = grind (arith, nat_tests)
+
+pub nothing_against : (log : Log) (state : Content) → log.state ≡ no_content → RecordsName (events_of log.source) state → IsSound state → take_refusal (holder log) state ≡ None
+nothing_against log state empty named sound =
+    let agreed : dispute_contents log.state state ≡ None = ap (λ (s : Content). dispute_contents s state) empty ∙ nothing_disputed state in
+    let few : known_in_either log.state state ≡ known_count state = ap (λ (s : Content). known_in_either s state) empty ∙ known_alone state in
+    agreed_take (holder log) state named agreed
+    ∙ ap (λ (b : Bool). then_some b Full) (not_more (known_in_either log.state state) most_known (omega (arith, few, sound.limited)))
+
+-- ---- the two frames of a log
+
+spelled_length : (frame : FrameContent) → length (spelling frame) ≡ 4 + length (body_of frame)
+spelled_length frame = length-append (four (length (body_of frame))) (body_of frame)
+
+-- the source has a base
+abbrev pub HasBase : PlanSource → Type 0
+HasBase source = base_of source ≡ Ok source
+
+pub saved_log : (log : Log) → IsFrame (hello log.source) → IsFrame (records log.state) → HasBase log.source → RecordsName (events_of log.source) log.state → IsSound log.state
+    → IsLog (log_text log) (Ok log)
+saved_log log first second based named sound =
+    let h = hello log.source in
+    let r = records log.state in
+    let text = spelling h ++ spelling r in
+    let long : length text ≤ most_bytes = omega (arith, length-append (spelling h) (spelling r), spelled_length h, spelled_length r, first.fits, second.fits) in
+    let begun : Log = record { source = log.source; state = no_content } in
+    let opens : taken None h ≡ Ok begun = ap opened based in
+    let takes : taken (Some begun) r ≡ Ok log =
+    ap (λ (o : Option ReplicaFault). joined o begun log.state) (nothing_against begun log.state refl named sound) ∙ (λ i. Ok (record { source = log.source; state = joined_alone log.state i })) in
+    let all : all_taken None (h ∷ r ∷ []) ≡ Ok (Some log) =
+    ap (all_taken_by (λ next. all_taken next (r ∷ []))) opens ∙ ap (all_taken_by (λ next. all_taken next [])) takes in
+    let more : nat_lt most_bytes (length text) ≡ false = not_more (length text) most_bytes long in
+    record {
+      said = record {
+        frames = h ∷ r ∷ [];
+        behind = [];
+        each = (first, (second, tt));
+        cut = take_all most_bytes text long ∙ (ap (λ (l : List ℕ). spelling h ++ l) (sym (append-nil (spelling r))) ∙ sym (append-nil (spelling h ++ (spelling r ++ []))));
+        answer = subst (λ (o : Result (Option Log) LoadFault). IsAnswer (nat_lt most_bytes (length text)) [] o (Ok log)) (sym all) (more, refl, refl);
+      };
+    }

@@ -1,0 +1,59 @@
+-- What a log makes of a frame, from what a base and a replica answer.
+use Rattle.std.proofs.Common.{◌≡◌, true, not, Option, Some, None, Ok, Err, IfSome, refl, sym, ap, subst, ◌∙◌}
+use Rattle.std.specs.Prelude.{unwrap_or, is_some}
+use Rattle.std.proofs.lemmas.Bool.{false≢true}
+use Rattle.stn_lift.specs.PlanSource.{PlanSource, base_of, Fails}
+use Rattle.stn_lift.specs.declared.fault.BaseFault.{BaseFault}
+use Rattle.stn_lift.specs.declared.fault.BaseFault.TheVariants as base
+use Rattle.stn_records.specs.Content.{Content, dispute_contents, join_contents, joined_contents}
+use Rattle.stn_records.specs.ContentLaws.{contents_dispute, contents_undisputed}
+use Rattle.stn_replica.specs.Calls.{Leaves, took}
+use Rattle.stn_replica.specs.Held.{Held}
+use Rattle.stn_replica.specs.Refusals.{take_refusal}
+use Rattle.stn_replica.specs.declared.faults.ReplicaFault.{ReplicaFault}
+use Rattle.stn_replica.specs.declared.faults.ReplicaFault.TheVariants as replica
+use Rattle.stn_wire.specs.Frame.{hello, records}
+use Rattle.stn_log.specs.Faults.{of_base, of_replica}
+use Rattle.stn_log.specs.Log.{Log, log_held, opened, joined, taken, meaning_of}
+
+-- a source without a base
+pub base_refused : (source : PlanSource) (fault : BaseFault) → Fails {Y = PlanSource} fault (base_of source) → IfSome (meaning_of (Err (of_base fault))) (λ meaning. taken None (hello source) ≡ meaning)
+base_refused source (base.Domain fault) is = ap opened is
+base_refused source (base.Plan fault) is = ap opened is
+base_refused source (base.Lift fault) is = ap opened is
+base_refused source base.TooManySteps is = ap opened is
+base_refused source base.Memory is = tt
+
+-- a state that is not taken
+named : (log : Log) (state : Content) (fault : ReplicaFault) → IfSome (meaning_of (Err (of_replica fault))) (λ meaning. joined (Some fault) log state ≡ meaning)
+named log state (replica.Bound fault) = refl
+named log state replica.CounterSpent = refl
+named log state replica.Full = refl
+named log state replica.Unknown = refl
+named log state (replica.Clash id) = refl
+named log state replica.Memory = tt
+
+by_refusal : (refusal : Option ReplicaFault) (log : Log) (state : Content) → IfSome (meaning_of (Err (of_replica (unwrap_or refusal replica.Memory)))) (λ meaning. joined refusal log state ≡ meaning)
+by_refusal None log state = tt
+by_refusal (Some fault) log state = named log state fault
+
+pub take_refused : (old : Held) (state : Content) (fault : ReplicaFault) → fault ≡ unwrap_or (take_refusal old state) replica.Memory
+    → IfSome (meaning_of (Err (of_replica fault))) (λ meaning. taken (Some (log_held old)) (records state) ≡ meaning)
+take_refused old state fault is =
+    subst (λ (f : ReplicaFault). IfSome (meaning_of (Err (of_replica f))) (λ meaning. taken (Some (log_held old)) (records state) ≡ meaning)) (sym is)
+    (by_refusal (take_refusal old state) (log_held old) state)
+
+-- a state that is taken
+none_there : {X : Type 0} (o : Option X) → not (is_some o) ≡ true → o ≡ None
+none_there None e = refl
+none_there (Some x) e = absurd (false≢true e)
+
+same_some : {X : Type 0} (x y : X) → Some x ≡ Some y → x ≡ y
+same_some x y e = cc
+
+pub state_taken : (old new : Held) (state : Content) → take_refusal old state ≡ None → Leaves old (took state) new → taken (Some (log_held old)) (records state) ≡ Ok (log_held new)
+state_taken old new state none leaves =
+    let there : is_some (join_contents old.state state) ≡ true = ap is_some leaves.state in
+    let agreed = none_there (dispute_contents old.state state) (sym (contents_dispute old.state state) ∙ there) in
+    let same = same_some new.state (joined_contents old.state state) (sym leaves.state ∙ contents_undisputed old.state state agreed) in
+    ap (λ (r : Option ReplicaFault). joined r (log_held old) state) none ∙ (λ i. Ok (record { source = sym leaves.source i; state = sym same i }))

@@ -1,0 +1,113 @@
+ghost use Rattle.std.specs.Prelude.{◌≡◌};
+ghost use Rattle.stn_log.specs.Faults.{of_wire, of_base, of_replica};
+ghost use Rattle.stn_log.specs.declared.fault.LoadFault.TheVariants as load;
+ghost use Rattle.stn_log.specs.declared.fault.SaveFault.TheVariants as save;
+
+use std::alloc::{AllocError, AllocFailed};
+use stn_device::WriteFault;
+use stn_lift::BaseFault;
+use stn_replica::ReplicaFault;
+use stn_wire::WireFault;
+use thiserror::Error;
+
+/// Why a log was not saved.
+#[derive(Clone, Copy, Debug, PartialEq, Eq, Hash, Error)]
+pub enum SaveFault {
+    /// A call of the writer failed, or took nothing.
+    #[error("a write failed")]
+    Write,
+    /// Memory ran out.
+    #[error("out of memory")]
+    Memory,
+}
+
+impl From<AllocError> for SaveFault {
+    ghost from_gives = { λ _ fault. fault ≡ save.Memory };
+
+    fn from(_refused: AllocError) -> SaveFault {
+        SaveFault::Memory
+    }
+}
+
+impl From<WriteFault> for SaveFault {
+    ghost from_gives = { λ _ fault. fault ≡ save.Write };
+
+    fn from(_fault: WriteFault) -> SaveFault {
+        SaveFault::Write
+    }
+}
+
+/// Why a log was not loaded. The first frame with a fault decides. Want of memory is always `Memory`, wherever it came.
+#[derive(Clone, Copy, Debug, PartialEq, Eq, Hash, Error)]
+pub enum LoadFault {
+    /// A call of the reader failed.
+    #[error("a read failed")]
+    Read,
+    /// The log goes on behind 16,777,216 bytes.
+    #[error("the log is too long")]
+    Bound,
+    /// The bytes of a frame have a fault.
+    #[error("{0}")]
+    Frame(WireFault),
+    /// The first frame is no HELLO, a later one no RECORDS, or the log ends before the first or within one.
+    #[error("no log")]
+    LogForm,
+    /// The source has no base.
+    #[error("{0}")]
+    Base(BaseFault),
+    /// The records of a frame are not taken.
+    #[error("{0}")]
+    Take(ReplicaFault),
+    /// Memory ran out.
+    #[error("out of memory")]
+    Memory,
+}
+
+impl From<AllocError> for LoadFault {
+    ghost from_gives = { λ _ fault. fault ≡ load.Memory };
+
+    fn from(_refused: AllocError) -> LoadFault {
+        LoadFault::Memory
+    }
+}
+
+impl<T: Drop> From<AllocFailed<T>> for LoadFault {
+    ghost from_gives = { λ _ fault. fault ≡ load.Memory };
+
+    fn from(_refused: AllocFailed<T>) -> LoadFault {
+        LoadFault::Memory
+    }
+}
+
+impl From<WireFault> for LoadFault {
+    ghost from_gives = { λ fault given. given ≡ of_wire fault };
+
+    fn from(fault: WireFault) -> LoadFault {
+        match fault {
+            WireFault::Memory => LoadFault::Memory,
+            _ => LoadFault::Frame(fault),
+        }
+    }
+}
+
+impl From<BaseFault> for LoadFault {
+    ghost from_gives = { λ fault given. given ≡ of_base fault };
+
+    fn from(fault: BaseFault) -> LoadFault {
+        match fault {
+            BaseFault::Memory => LoadFault::Memory,
+            _ => LoadFault::Base(fault),
+        }
+    }
+}
+
+impl From<ReplicaFault> for LoadFault {
+    ghost from_gives = { λ fault given. given ≡ of_replica fault };
+
+    fn from(fault: ReplicaFault) -> LoadFault {
+        match fault {
+            ReplicaFault::Memory => LoadFault::Memory,
+            _ => LoadFault::Take(fault),
+        }
+    }
+}

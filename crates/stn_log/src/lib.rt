@@ -1,0 +1,15 @@
+//! Logs: what a site knows, as the bytes of a file.
+#![tactic(auto)]
+
+pub use fault::{LoadFault, SaveFault};
+pub use laws::one_log;
+pub use reading::load;
+pub use writing::save;
+
+mod fault;
+mod input;
+mod laws;
+mod reading;
+#[cfg(test)]
+mod tests;
+mod writing;

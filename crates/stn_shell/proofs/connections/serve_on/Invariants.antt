@@ -1,0 +1,13 @@
+use Rattle.std.proofs.Common.{◌≡◌}
+use Rattle.std.specs.Io.KnownBytes.{Keeps}
+use Rattle.stn_device.specs.Counted.{counted_device}
+use Rattle.stn_shell.specs.Connections.{Serves}
+use Rattle.stn_shell.proofs.connections.serve_on.Given as goal
+
+abbrev pub invariant-connections : goal.invariant-connections
+invariant-connections g l = record {
+  served : Serves l.counter l.fn.replica.source l.fn.replica.state l.replica.state
+      (g.W.Write.contents (counted_device l.fn.out)) (g.W.Write.contents (counted_device l.out));
+  silent : Keeps (g.E.Write.contents (counted_device l.fn.err)) (g.E.Write.contents (counted_device l.err));
+  source : l.replica.source ≡ l.fn.replica.source;
+}

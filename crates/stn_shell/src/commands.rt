@@ -1,0 +1,351 @@
+//! One command, from its words to its status.
+
+ghost use Rattle.std.specs.Prelude.{◌≡◌, ◌≢◌, ◌<◌, ◌≤◌, ◌-◌, ◌^◌, ◌⊎◌, ◌++◌, [], ◌∷◌, map, codes, OnOk};
+ghost use Rattle.std.specs.Io.KnownBytes.{Appends, Keeps};
+ghost use Rattle.clap.specs.Words.{fault_of};
+ghost use Rattle.stn_device.specs.Counted.{counted_device, failure_count};
+ghost use Rattle.stn_line.specs.Commands.{stn as program};
+
+use crate::changes::{
+    add, done, merge, next, open_sides, read_event, read_id, read_side, read_time, report, withdraw,
+};
+use crate::connections::{send_on, serve_on};
+use crate::failure::{Failure, Fault};
+use crate::files::{is_there, load_log, read_text, save_log};
+use crate::printing::{print_now, tell_answer, tell_failure, tell_fault};
+use std::alloc::Global;
+use std::io::{Read, Write};
+use std::net::{Net, TcpListener, TcpStream};
+use std::rc::Rc;
+use std::rt::Files;
+use stn_device::{Counted, write_whole};
+use stn_exec::{RunFault, run};
+use stn_lift::{Base, Source};
+use stn_line::{Line, LineFault, line};
+use stn_records::Site;
+use stn_replica::Replica;
+
+/// Does the command of the words, of which the first is the program's name, and says its status: 0 where nothing was refused
+/// and no device failed, 1 where something was, 2 where the words are no command's. An answer or a refusal is printed to `out`,
+/// a device's fault to `err`.
+pub fn execute<
+    T: Files + AllocGlobal + Net<Listener = TcpListener, Stream = TcpStream>,
+    R: Read,
+    W: Write,
+    E: Write,
+>(rt: &T, words: &[&str], reader: &mut Counted<R>, out: &mut Counted<W>, err: &mut Counted<E>) -> u8
+    requires reader_counts { failure_count reader.old < 2 ^ 64 - 1 }
+    requires out_counts { failure_count out.old < 2 ^ 64 - 1 }
+
+    ensures status { result ≤ 2 }
+
+    // Status 2 comes of words that are no command's, and of nothing else.
+    ensures words { result ≡ 2 → fault_of program (map (λ word. word.now) words.entry.now) ≢ [] }
+{
+    let alloc = rt.alloc();
+    match line(alloc, words) {
+        Ok(line) => carry_out(rt, &line, reader, out, err),
+        Err(LineFault::Words(error)) => tell_words(alloc, &error, out, err),
+        Err(LineFault::Memory) => tell_fault(Fault::Memory, err),
+    }
+}
+
+// Does a command, and prints its answer or why there is none.
+fn carry_out<
+    T: Files + AllocGlobal + Net<Listener = TcpListener, Stream = TcpStream>,
+    R: Read,
+    W: Write,
+    E: Write,
+>(
+    rt: &T,
+    line: &Line<'_>,
+    reader: &mut Counted<R>,
+    out: &mut Counted<W>,
+    err: &mut Counted<E>,
+) -> u8
+    requires reader_counts { failure_count reader.old < 2 ^ 64 - 1 }
+    requires out_counts { failure_count out.old < 2 ^ 64 - 1 }
+    ensures { (result ≡ 0) ⊎ (result ≡ 1) }
+{
+    match line {
+        Line::Run => run_script(rt.alloc(), reader, out, err),
+        Line::Serve {
+            log,
+            site,
+            address,
+            count,
+        } => serve_at(rt, *log, *site, *address, *count, out, err),
+        Line::Send { log, site, address } => send_to(rt, *log, *site, *address, out, err),
+        _ => {
+            let mut text = Vec::new(rt.alloc());
+            match answer(rt, line, &mut text) {
+                Ok(()) => tell_answer(&text, out, err),
+                Err(failure) => tell_failure(rt.alloc(), failure, out, err),
+            }
+        }
+    }
+}
+
+// Prints what clap says of words that are no command's. Status 0 for help and the version, else 2.
+fn tell_words<W: Write, E: Write>(
+    alloc: Global,
+    error: &clap::Error,
+    out: &mut Counted<W>,
+    err: &mut Counted<E>,
+) -> u8
+    ensures { result ≤ 2 }
+{
+    match format!(in alloc; "{error}") {
+        Ok(text) => {
+            if error.use_stderr() {
+                let _ = write_whole(err, text.as_bytes());
+                2
+            } else {
+                tell_answer(text.as_bytes(), out, err)
+            }
+        }
+        Err(_) => tell_fault(Fault::Memory, err),
+    }
+}
+
+// Runs a script. Status 0 where no line was refused.
+fn run_script<R: Read, W: Write, E: Write>(
+    alloc: Global,
+    reader: &mut Counted<R>,
+    out: &mut Counted<W>,
+    err: &mut Counted<E>,
+) -> u8
+    requires reader_counts { failure_count reader.old < 2 ^ 64 - 1 }
+    requires out_counts { failure_count out.old < 2 ^ 64 - 1 }
+    ensures { (result ≡ 0) ⊎ (result ≡ 1) }
+{
+    match run(alloc, reader, out) {
+        Ok(ran) => { if ran.refused == 0 { 0 } else { 1 } }
+        Err(RunFault::Read) => tell_fault(Fault::Read, err),
+        Err(RunFault::Write) => tell_fault(Fault::Write, err),
+        Err(RunFault::Bound) => tell_fault(Fault::Bound, err),
+        Err(RunFault::Memory) => tell_fault(Fault::Memory, err),
+    }
+}
+
+// Serves at an address.
+fn serve_at<
+    T: Files + AllocGlobal + Net<Listener = TcpListener, Stream = TcpStream>,
+    W: Write,
+    E: Write,
+>(
+    rt: &T,
+    log: &str,
+    site: Site,
+    address: &str,
+    count: u16,
+    out: &mut Counted<W>,
+    err: &mut Counted<E>,
+) -> u8
+    ensures { (result ≡ 0) ⊎ (result ≡ 1) }
+{
+    match load_log(rt, log, site) {
+        Ok(mut replica) => match listen(rt, address, out) {
+            Ok(listener) => serve_on(rt, &listener, count, log, &mut replica, out, err),
+            Err(failure) => tell_failure(rt.alloc(), failure, out, err),
+        },
+        Err(failure) => tell_failure(rt.alloc(), failure, out, err),
+    }
+}
+
+// Binds an address, and says so.
+fn listen<T: Net<Listener = TcpListener, Stream = TcpStream>, W: Write>(
+    rt: &T,
+    address: &str,
+    out: &mut Counted<W>,
+) -> Result<TcpListener, Failure>
+    ensures { OnOk result (Appends (W.contents (counted_device out.old)) (W.contents (counted_device out.new)) (codes "listening" ++ 10 ∷ [])) }
+{
+    match TcpListener::bind(rt, address) {
+        Ok(listener) => {
+            print_now(b"listening\n", out)?;
+            Ok(listener)
+        }
+        Err(_) => Err(Failure::Failed(Fault::Net)),
+    }
+}
+
+// Exchanges with the site that serves at an address.
+fn send_to<
+    T: Files + AllocGlobal + Net<Listener = TcpListener, Stream = TcpStream>,
+    W: Write,
+    E: Write,
+>(rt: &T, log: &str, site: Site, address: &str, out: &mut Counted<W>, err: &mut Counted<E>) -> u8
+    ensures { (result ≡ 0) ⊎ (result ≡ 1) }
+{
+    match load_log(rt, log, site) {
+        Ok(mut replica) => match TcpStream::connect(rt, address) {
+            Ok(stream) => send_on(rt, &stream, log, &mut replica, out, err),
+            Err(_) => tell_fault(Fault::Net, err),
+        },
+        Err(failure) => tell_failure(rt.alloc(), failure, out, err),
+    }
+}
+
+// Does a command on a log, and appends its answer.
+fn answer<T: Files + AllocGlobal>(
+    rt: &T,
+    line: &Line<'_>,
+    out: &mut Vec<u8>,
+) -> Result<(), Failure> {
+    match line {
+        Line::Bare { log, site, steps } => make_bare(rt, *log, *site, *steps, out),
+        Line::Init {
+            log,
+            site,
+            domain,
+            plan,
+        } => make_of_files(rt, *log, *site, *domain, *plan, out),
+        Line::Add {
+            log,
+            site,
+            from,
+            to,
+            lo,
+            hi,
+        } => add_to(rt, *log, *site, *from, *to, *lo, *hi, out),
+        Line::Withdraw { log, site, id } => withdraw_from(rt, *log, *site, *id, out),
+        Line::Done {
+            log,
+            site,
+            event,
+            time,
+        } => done_at(rt, *log, *site, *event, *time, out),
+        Line::Merge { log, site, other } => merge_with(rt, *log, *site, *other, out),
+        Line::Report { log, site } => report_of(rt, *log, *site, out),
+        Line::Next { log, site, now } => next_of(rt, *log, *site, *now, out),
+        _ => Err(Failure::Failed(Fault::Net)),
+    }
+}
+
+// Makes the log of a source, where none is there.
+fn make<T: Files + AllocGlobal>(
+    rt: &T,
+    log: &str,
+    site: Site,
+    source: &Source<Global>,
+    out: &mut Vec<u8>,
+) -> Result<(), Failure> {
+    let base = Base::from_source(rt.alloc(), source)?;
+    let base = Rc::new(rt.alloc(), base)?;
+    let replica = Replica::new(rt.alloc(), site, base)?;
+    out.extend_from_slice(b"made\n")?;
+    save_log(rt, log, &replica)
+}
+
+fn make_bare<T: Files + AllocGlobal>(
+    rt: &T,
+    log: &str,
+    site: Site,
+    steps: u16,
+    out: &mut Vec<u8>,
+) -> Result<(), Failure> {
+    if is_there(rt, log) {
+        return Err(Failure::log_there());
+    }
+    make(rt, log, site, &Source::Bare(steps), out)
+}
+
+fn make_of_files<T: Files + AllocGlobal>(
+    rt: &T,
+    log: &str,
+    site: Site,
+    domain: &str,
+    plan: &str,
+    out: &mut Vec<u8>,
+) -> Result<(), Failure> {
+    if is_there(rt, log) {
+        return Err(Failure::log_there());
+    }
+    let domain = read_text(rt, domain)?;
+    let plan = read_text(rt, plan)?;
+    make(rt, log, site, &Source::Files(domain, plan), out)
+}
+
+fn add_to<T: Files + AllocGlobal>(
+    rt: &T,
+    log: &str,
+    site: Site,
+    from: &str,
+    to: &str,
+    lo: Option<&str>,
+    hi: Option<&str>,
+    out: &mut Vec<u8>,
+) -> Result<(), Failure> {
+    let from = read_event(from)?;
+    let to = read_event(to)?;
+    let (least, greatest) = open_sides();
+    let lo = read_side(lo, least)?;
+    let hi = read_side(hi, greatest)?;
+    let mut replica = load_log(rt, log, site)?;
+    add(&mut replica, from, to, lo, hi, out)?;
+    save_log(rt, log, &replica)
+}
+
+fn withdraw_from<T: Files + AllocGlobal>(
+    rt: &T,
+    log: &str,
+    site: Site,
+    id: &str,
+    out: &mut Vec<u8>,
+) -> Result<(), Failure> {
+    let id = read_id(id)?;
+    let mut replica = load_log(rt, log, site)?;
+    withdraw(&mut replica, id, out)?;
+    save_log(rt, log, &replica)
+}
+
+fn done_at<T: Files + AllocGlobal>(
+    rt: &T,
+    log: &str,
+    site: Site,
+    event: &str,
+    time: &str,
+    out: &mut Vec<u8>,
+) -> Result<(), Failure> {
+    let event = read_event(event)?;
+    let time = read_time(time)?;
+    let mut replica = load_log(rt, log, site)?;
+    done(&mut replica, event, time, out)?;
+    save_log(rt, log, &replica)
+}
+
+fn merge_with<T: Files + AllocGlobal>(
+    rt: &T,
+    log: &str,
+    site: Site,
+    other: &str,
+    out: &mut Vec<u8>,
+) -> Result<(), Failure> {
+    let mut replica = load_log(rt, log, site)?;
+    let other = load_log(rt, other, site)?;
+    merge(&mut replica, &other, out)?;
+    save_log(rt, log, &replica)
+}
+
+fn report_of<T: Files + AllocGlobal>(
+    rt: &T,
+    log: &str,
+    site: Site,
+    out: &mut Vec<u8>,
+) -> Result<(), Failure> {
+    let replica = load_log(rt, log, site)?;
+    report(&replica, out)
+}
+
+fn next_of<T: Files + AllocGlobal>(
+    rt: &T,
+    log: &str,
+    site: Site,
+    now: &str,
+    out: &mut Vec<u8>,
+) -> Result<(), Failure> {
+    let now = read_time(now)?;
+    let replica = load_log(rt, log, site)?;
+    next(&replica, now, out)
+}
