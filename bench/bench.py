@@ -7,14 +7,19 @@ import os
 import random
 import re
 import shutil
+import socket
+import struct
 import subprocess
 import sys
 import tempfile
+import threading
 import time
 from pathlib import Path
 
 TOP = Path(__file__).resolve().parent.parent
+PROGRAM = TOP / "crates" / "stn" / "out" / "launcher" / "stn"
 HORIZON = 1_000_000_000
+COUNTED = ["valgrind", "--tool=callgrind", f"--callgrind-out-file={os.devnull}"]
 
 
 def text(millis):
@@ -62,7 +67,34 @@ def conflict():
     return lines + ["1 add s1 e256 * -1000000.000", "1 report"]
 
 
-BENCHMARKS = {made.__name__: made for made in (windows, merges, conflict)}
+def rehearse():
+    """512 events, 2,000 bounds that have a schedule, and the rehearsal of all."""
+    rng = random.Random(4)
+    lines = ["steps 256", "sites 1"]
+    lines += [f"1 add {bound}" for bound in bounds(rng, 512, 2000)]
+    return lines + ["1 rehearse 0.000"]
+
+
+def packets():
+    """64 sites over 128 events, 1,024 records, 256 packets of all that a site holds, 4,096 random deliveries, and two reports."""
+    rng = random.Random(5)
+    lines = ["steps 64", "sites 64"]
+    lines += [f"{number % 64 + 1} add {bound}" for number, bound in enumerate(bounds(rng, 128, 1024))]
+    for sent in range(256):
+        lines.append(f"{rng.randrange(64) + 1} send")
+        lines += [f"{rng.randrange(64) + 1} deliver {rng.randrange(sent + 1) + 1}" for _ in range(16)]
+    return lines + ["1 report", "64 report"]
+
+
+def dense():
+    """A plan of 256 steps that all interfere, so with 131,328 bounds of its own, 64 sites, one report."""
+    domain = ["domain", "(define (domain one-at-a-time)", " (:durative-action go", "  :parameters ()", "  :duration (= ?duration 0.500)",
+              "  :condition (over all (free))", "  :effect (and (at start (free)) (at end (not (free))))))", "end"]
+    plan = ["plan"] + [f"{step}: (go)" for step in range(256)] + ["end"]
+    return domain + plan + ["sites 64", "64 report"]
+
+
+SCRIPTS = {made.__name__: made for made in (windows, merges, conflict, dense, rehearse, packets)}
 
 
 def processor():
@@ -72,35 +104,113 @@ def processor():
     return "unknown"
 
 
-def run(name, folder):
-    made = BENCHMARKS[name]()
-    script = folder / f"{name}.stn"
-    script.write_text("\n".join(made) + "\n")
-    words = [str(TOP / "crates" / "stn" / "out" / "launcher" / "stn")]
+def timed(words, folder, given):
+    """The best wall time of three runs, and the last run."""
     best = None
     for _ in range(3):
-        with script.open() as given:
+        with given.open("rb") as text:
             begun = time.monotonic()
-            done = subprocess.run(words, stdin=given, stdout=subprocess.PIPE, check=False)
+            done = subprocess.run([str(PROGRAM), *words], cwd=folder, stdin=text, stdout=subprocess.PIPE, check=False)
             spent = time.monotonic() - begun
         best = spent if best is None else min(best, spent)
+    return best, done
+
+
+def found_in(report):
+    found = re.search(r"Collected : (\d+)", report)
+    return int(found.group(1)) if found else None
+
+
+def instructions(words, folder, given):
+    """How many instructions a run takes; none without valgrind."""
+    if not shutil.which("valgrind"):
+        return None
+    with given.open("rb") as text:
+        counted = subprocess.run([*COUNTED, str(PROGRAM), *words], cwd=folder, stdin=text,
+                                 stdout=subprocess.DEVNULL, stderr=subprocess.PIPE, text=True, check=False)
+    return found_in(counted.stderr)
+
+
+def run_script(name, folder):
+    made = SCRIPTS[name]()
+    script = folder / f"{name}.stn"
+    script.write_text("\n".join(made) + "\n")
+    best, done = timed(["run"], folder, script)
     row = f"{name}: {len(made)} lines, {len(done.stdout)} bytes printed, status {done.returncode}, {best:.3f} s"
-    if shutil.which("valgrind"):
-        with script.open() as given:
-            counted = subprocess.run(["valgrind", "--tool=callgrind", f"--callgrind-out-file={os.devnull}", *words],
-                                     stdin=given, stdout=subprocess.DEVNULL, stderr=subprocess.PIPE, text=True, check=False)
-        found = re.search(r"Collected : (\d+)", counted.stderr)
-        if found:
-            row += f", {int(found.group(1)) / 1e6:.0f} million instructions"
+    count = instructions(["run"], folder, script)
+    print(row if count is None else f"{row}, {count / 1e6:.0f} million instructions", flush=True)
+
+
+def frame(body):
+    return struct.pack(">I", len(body)) + body
+
+
+def log_of(records):
+    """A log of a bare plan of 256 steps and so many records that bound nothing."""
+    listed = b"".join(struct.pack(">HHBHHII", 1, number + 1, 0, 0, 1, 0, 2 * HORIZON) for number in range(records))
+    return frame(struct.pack(">BBH", 1, 0, 256)) + frame(struct.pack(">BH", 2, records) + listed + struct.pack(">H", 0))
+
+
+def frames(folder):
+    """4,096 records: two logs of them are decoded, and one is encoded, by a merge of a log with itself."""
+    nothing = folder / "nothing"
+    nothing.write_bytes(b"")
+    counts = []
+    for records in (0, 4096):
+        (folder / "frames.log").write_bytes(log_of(records))
+        words = ["merge", "frames.log", "1", "frames.log"]
+        best, _ = timed(words, folder, nothing)
+        counts.append(instructions(words, folder, nothing))
+    size = len(log_of(4096))
+    row = f"frames: 2 logs of {size} bytes decoded and 1 encoded, {best:.3f} s"
+    if None not in counts:
+        row += f", {(counts[1] - counts[0]) / (3 * size):.0f} instructions a byte"
     print(row, flush=True)
 
 
+def send_pieces(port, data, piece):
+    """Sends the bytes in pieces, and reads all that comes back."""
+    with socket.create_connection(("127.0.0.1", port)) as link:
+        link.setsockopt(socket.IPPROTO_TCP, socket.TCP_NODELAY, 1)
+        reader = threading.Thread(target=lambda: [None for _ in iter(lambda: link.recv(65536), b"")])
+        reader.start()
+        for place in range(0, len(data), piece):
+            link.sendall(data[place:place + piece])
+        link.shutdown(socket.SHUT_WR)
+        reader.join()
+
+
+def feed(folder):
+    """Sessions of HELLO frames, in pieces of one byte (1 MiB of them), of 1,460 bytes and whole (16 MiB)."""
+    hello = frame(struct.pack(">BBH", 1, 0, 1))
+    for piece, size in ((1, 1 << 20), (1460, 1 << 24), (1 << 24, 1 << 24)):
+        subprocess.run([str(PROGRAM), "bare", f"feed{piece}.log", "1", "1"], cwd=folder, stdout=subprocess.DEVNULL, check=False)
+        with socket.socket() as probe:
+            probe.bind(("127.0.0.1", 0))
+            port = probe.getsockname()[1]
+        served = subprocess.Popen([str(PROGRAM), "serve", f"feed{piece}.log", "1", f"127.0.0.1:{port}", "1"],
+                                  cwd=folder, stdout=subprocess.PIPE, text=True)
+        served.stdout.readline()
+        begun = time.monotonic()
+        send_pieces(port, hello * (size // len(hello)), piece)
+        said = served.stdout.readline().strip()
+        print(f"feed: {size} bytes in pieces of {min(piece, size)}: {said}, {time.monotonic() - begun:.3f} s", flush=True)
+        served.wait()
+
+
+OTHERS = {made.__name__: made for made in (frames, feed)}
+
+
 def main():
-    subprocess.run([str(TOP / "stn")], stdin=subprocess.DEVNULL, stdout=subprocess.DEVNULL, check=False)
+    subprocess.run([str(TOP / "stn")], stdin=subprocess.DEVNULL, stdout=subprocess.DEVNULL, stderr=None, check=False)
     print(f"{os.cpu_count()} processors, {processor()}")
-    with tempfile.TemporaryDirectory() as folder:
-        for name in sys.argv[1:] or BENCHMARKS:
-            run(name, Path(folder))
+    with tempfile.TemporaryDirectory() as name:
+        folder = Path(name)
+        for wanted in sys.argv[1:] or [*SCRIPTS, *OTHERS]:
+            if wanted in SCRIPTS:
+                run_script(wanted, folder)
+            else:
+                OTHERS[wanted](folder)
 
 
 if __name__ == "__main__":

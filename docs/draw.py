@@ -1,16 +1,17 @@
 #!/usr/bin/env python3
 """Draws a report of stn as an SVG file: the windows of a plan's events on a line of time, or the cycle of a conflict.
 
-usage: ./stn < examples/satellites.stn | docs/draw.py ok > docs/windows.svg
-       ./stn < examples/conflict.stn | docs/draw.py conflict > docs/conflict.svg
+usage: ./stn run < examples/satellites.stn | docs/draw.py ok > docs/windows.svg
+       ./stn run < examples/conflict.stn | docs/draw.py conflict > docs/conflict.svg
 
 Of the reports in the input the last one of its kind is drawn. Times are in seconds, as the report has them.
 """
 import math
+import re
 import sys
 from xml.sax.saxutils import escape
 
-WIDTH, ROW, LEFT, TOP = 720, 30, 60, 40
+WIDTH, ROW, LEFT, RIGHT, TOP = 720, 30, 60, 110, 40
 
 
 def last_report(lines, kind):
@@ -19,7 +20,7 @@ def last_report(lines, kind):
     rows = []
     for line in lines[begins + 1:]:
         words = line.split()
-        if len(words) < (3 if kind == "ok" else 5) or words[0] in ("plan", "records"):
+        if len(words) != 5 if kind == "conflict" else not re.fullmatch(r"[se]\d+", words[0]):
             break
         rows.append(words)
     return lines[begins].split(), rows
@@ -40,7 +41,7 @@ def windows(rows):
     ends = sorted({time for _, least, most, _ in rows for time in (least, most)})
     near = [time for time in ends if time <= 100 * (1 + max(least for _, least, _, _ in rows))]
     last = max(near) or 1
-    scale = (WIDTH - LEFT - 70) / last
+    scale = (WIDTH - LEFT - RIGHT) / last
     parts = []
     for place, (event, least, most, done) in enumerate(rows):
         y = TOP + place * ROW
@@ -51,7 +52,7 @@ def windows(rows):
         if most > last:
             parts.append(text(end + 6, y + 15, f"to {most:.3f}", "start", 11))
     foot = TOP + len(rows) * ROW + 8
-    parts.append(f'<line x1="{LEFT}" y1="{foot}" x2="{WIDTH - 70}" y2="{foot}" stroke="#222"/>')
+    parts.append(f'<line x1="{LEFT}" y1="{foot}" x2="{WIDTH - RIGHT}" y2="{foot}" stroke="#222"/>')
     shown = []
     for time in near:
         x = LEFT + time * scale
@@ -65,7 +66,7 @@ def windows(rows):
 def steps(rows):
     """Each link as it is gone: from one event to another, and at most how much later that one comes."""
     for name, side, begin, end, bound in rows:
-        yield (name, begin, end, float(bound)) if side == "upper" else (name, end, begin, -float(bound))
+        yield (name, begin, end, float(bound)) if side == "upper" else (name, end, begin, 0 - float(bound))
 
 
 def cycle(total, rows):
@@ -86,7 +87,7 @@ def cycle(total, rows):
         outward = ((x1 + x2) / 2 - middle, (y1 + y2) / 2 - high)
         far = math.hypot(*outward) or 1
         x, y = (x1 + x2) / 2 + 58 * outward[0] / far, (y1 + y2) / 2 + 30 * outward[1] / far
-        parts.append(text(x, y, f"{name}: {most:+.3f}"))
+        parts.append(text(x, y, f"{name}: {most + 0.0:+.3f}"))
     for event, (x, y) in spots.items():
         parts.append(f'<circle cx="{x:.1f}" cy="{y:.1f}" r="20" fill="#fff" stroke="#222"/>')
         parts.append(text(x, y + 5, event))
