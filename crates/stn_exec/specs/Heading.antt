@@ -1,3 +1,4 @@
+-- For proofs alone: no public clause cites these words.
 -- What the code has read of a heading.
 use Rattle.std.specs.Prelude.{◌≡◌, ◌∷◌, Result, Ok, Err, ⊤}
 use Rattle.stn_lift.specs.PlanSource.{PlanSource}

@@ -1,3 +1,4 @@
+-- For proofs alone: no public clause cites these words.
 -- What the names and the spellings of atoms say.
 use Rattle.std.specs.Prelude.{ℕ, List, Vec}
 use Rattle.stn_tree.specs.declared.name.Name.{Name}

@@ -1,3 +1,4 @@
+-- For proofs alone: no public clause cites these words.
 -- How ground atoms are numbered: each name has a number, and each atom, spelt by the numbers of its names, has one too.
 use Rattle.std.specs.Prelude.{◌≡◌, ℕ, List, Contains, Some, slice_get}
 use Rattle.std.specs.List.{AllZip}

@@ -1,3 +1,4 @@
+-- For proofs alone: no public clause cites these words.
 -- What the code keeps of the steps of a plan.
 use Rattle.std.specs.Prelude.{◌≡◌, ℕ, ◌+◌, ◌*◌, ◌++◌, ℤ, pos, ◌+ℤ◌, ◌≤ℤ◌, ◌≤◌, nat_eq, Bool, List, map, length, slice_index_or}
 use Rattle.std.specs.List.{AllZip, AllByRecursion}

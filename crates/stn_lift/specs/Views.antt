@@ -1,3 +1,4 @@
+-- For proofs alone: no public clause cites these words.
 -- What an event of the code needs, adds and deletes.
 use Rattle.std.specs.Prelude.{ℕ}
 use Rattle.stn_lift.specs.declared.footprint.Footprint as code

@@ -1,3 +1,4 @@
+-- For proofs alone: no public clause cites these words.
 -- What the words of an accepted command hold.
 use Rattle.std.specs.Prelude.{◌≡◌, true, List, [], ◌∷◌, IsSomeAnd, ℕ, codes, ⊤, find}
 use Rattle.std.specs.Str.{bytes_eq}

@@ -1,3 +1,4 @@
+-- For proofs alone: no public clause cites these words.
 use Rattle.std.specs.Prelude.{◌≡◌, ◌≢◌, ℕ, ℤ, pos, ◌+◌, ◌*◌, ◌≤◌, ◌+ℤ◌, ◌≤ℤ◌, length}
 use Rattle.stn_time.specs.Time.{horizon}
 use Rattle.stn_net.specs.Event.{most_events}

@@ -1,3 +1,4 @@
+-- For proofs alone: no public clause cites these words.
 use Rattle.std.specs.Prelude.{◌≡◌, ◌≢◌, ◌⊎◌, ℕ, ℤ, pos, ◌+◌, ◌*◌, ◌≤◌, ◌<◌, ◌+ℤ◌, ◌≤ℤ◌, neg_ℤ, List, length, slice_index_or, All, Contains}
 use Rattle.std.specs.Int.{int_min}
 use Rattle.stn_time.specs.Time.{horizon}

@@ -1,3 +1,4 @@
+-- For proofs alone: no public clause cites these words.
 -- What the values of an action's keys say.
 use Rattle.std.specs.Option.{option_map}
 use Rattle.stn_tree.specs.Cursors.{row_at}

@@ -1,3 +1,4 @@
+-- For proofs alone: no public clause cites these words. They stand here since the laws of the trait `Join` name them.
 -- The joins of maps of records, of sets of ids and of contents are the unions of their items.
 use Rattle.std.specs.Prelude.{◌≡◌, ℕ, Bool, true, false, not, ◌↔◌, ◌⊎◌, Option, Some, None, option_and_then, is_some, refl}
 use Rattle.std.specs.Bool.{Decides}

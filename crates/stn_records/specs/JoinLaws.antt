@@ -1,3 +1,4 @@
+-- For proofs alone: no public clause cites these words. They stand here since the laws of the trait `Join` name them.
 -- The laws of a join that is the union of the items.
 use Rattle.std.specs.Prelude.{◌≡◌, ℕ, ◌<◌, Bool, true, false, cond, ◌⊎◌, ◌↔◌, List, [], ◌∷◌, ◌++◌, Option, Some, None, option_and_then, is_some, refl, length, All, Contains}
 use Rattle.std.specs.List.Sorted.{IsPermutation}

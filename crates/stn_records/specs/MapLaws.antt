@@ -1,3 +1,4 @@
+-- For proofs alone: no public clause cites these words. They stand here since the laws of the trait `Join` name them.
 -- The join of two finite maps is the union of their entries.
 use Rattle.std.specs.Prelude.{◌≡◌, Bool, true, false, cond, not, ◌↔◌, ◌⊎◌, List, [], ◌∷◌, map, Option, Some, None, is_some, find, refl}
 use Rattle.std.specs.declared.cmp.Ordering.{Ordering}

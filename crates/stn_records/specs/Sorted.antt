@@ -1,3 +1,4 @@
+-- For proofs alone: no public clause cites these words.
 -- Lists of entries in the order of their ids.
 use Rattle.std.specs.Prelude.{◌≡◌, ℕ, ◌<◌, ◌≤◌, Bool, List, [], ◌∷◌, length, map, insert, slice_index_or, Option, Some, None, is_some, if◌then◌else◌}
 use Rattle.std.specs.List.{list_all}

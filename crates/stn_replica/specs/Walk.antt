@@ -1,3 +1,4 @@
+-- For proofs alone: no public clause cites these words.
 -- Lists of entries in order of id, of which a walk leaves behind what it has passed.
 use Rattle.std.specs.Prelude.{Bool, false, List, [], ◌∷◌, if◌then◌else◌}
 use Rattle.std.specs.Ordering.{eq_by_cmp, is_lt}

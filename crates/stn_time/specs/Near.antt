@@ -1,3 +1,4 @@
+-- For proofs alone: no public clause cites these words.
 -- What is kept of a number of milliseconds of any size.
 use Rattle.std.specs.Prelude.{◌≡◌, ℤ}
 use Rattle.stn_time.specs.Time.{IsWithinHorizon}

@@ -1,3 +1,4 @@
+-- For proofs alone: no public clause cites these words.
 -- What the differences of the events say about which of them may come first.
 use Rattle.std.specs.Prelude.{◌≡◌, ◌⊎◌, ℕ, ℤ, pos, neg_ℤ, ◌<◌, ◌≤◌, ◌≤ℤ◌, ◌<ℤ◌, Bool, int_le, if◌then◌else◌, List, length, Option, Some, None}
 use Rattle.stn_windows.specs.Dispatch.{IsLeft, ComesFirst}

@@ -1,3 +1,4 @@
+-- For proofs alone: no public clause cites these words.
 -- Values with the same bytes are one.
 use Rattle.std.specs.Prelude.{◌≡◌, ℕ, ℤ, pos, neg_ℤ, ◌<◌, ◌^◌}
 use Rattle.std.proofs.Common.{negsuc, ap, sym, ◌∙◌, take, drop, get_or, arith}

@@ -1,3 +1,4 @@
+-- For proofs alone: no public clause cites these words.
 -- What a reader answers: the value that the bytes spell, or that they spell none.
 use Rattle.std.specs.Prelude.{◌≡◌, ◌≢◌, ℕ, ◌+◌, ◌<◌, ◌≤◌, List, ◌++◌, length, slice_index, Option, Some, None, Result, Ok, Err}
 use Rattle.std.specs.List.{flat_map, AllByRecursion}

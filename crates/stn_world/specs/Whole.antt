@@ -1,3 +1,4 @@
+-- For proofs alone: no public clause cites these words.
 -- What all sites and packets of a world hold together.
 use Rattle.std.specs.Prelude.{ℕ, ◌≤◌, List, length}
 use Rattle.stn_net.specs.Difference.{NamesEvents}
