@@ -9,7 +9,7 @@ use crate::additions::Additions;
 use crate::faults::{BuryFault, CounterSpent, PartFault, RecordsFault, WithdrawFault};
 use crate::id::{Id, Site};
 use crate::record::{Mark, Record, is_same};
-use crate::sorted::{count_ids, greatest_counter, has_ids};
+use crate::sorted::{count_ids, greatest_counter, has_ids, has_records};
 use crate::state::State;
 use crate::tombstones::Tombstones;
 use std::alloc::Allocator;
@@ -203,8 +203,7 @@ impl<A: Allocator + Copy> Records<A> {
         let ours = &self.state;
         let theirs = &other.state;
         has_ids(ours.tombstones.entries(), theirs.tombstones.entries())
-            && has_ids(ours.additions.entries(), theirs.additions.entries())
-            && ours.additions.dispute(&theirs.additions).is_none()
+            && has_records(ours.additions.entries(), theirs.additions.entries())
     }
 
     /// The records and the withdrawn ids of two lists, alone. An id may stand in a list twice.

@@ -8,7 +8,7 @@ ghost use Rattle.stn_records.specs.Id.{id_cmp};
 ghost use Rattle.stn_records.specs.Maps.{differ};
 ghost use Rattle.stn_records.specs.Record.{same_records};
 ghost use Rattle.stn_records.specs.Content.{same_ids, greatest_counter as greatest_of};
-ghost use Rattle.stn_records.specs.Sorted.{has_keys, keys_of, IsPlaceOf, IsGapFor, IsEndOf, merge, lesser_of, past_id};
+ghost use Rattle.stn_records.specs.Sorted.{has_keys, has_entries, keys_of, IsPlaceOf, IsGapFor, IsEndOf, merge, lesser_of, past_id};
 
 use crate::id::{Id, Site};
 use crate::record::{Record, is_same};
@@ -101,6 +101,30 @@ pub(crate) fn has_ids<X>(ours: &[(Id, X)], theirs: &[(Id, X)]) -> bool
         match ours[i].0.cmp(&theirs[j].0) {
             Ordering::Less => i += 1,
             Ordering::Equal => {
+                i += 1;
+                j += 1;
+            }
+            Ordering::Greater => return false,
+        }
+    }
+    j == theirs.len()
+}
+
+// Whether each record of theirs is one of ours.
+pub(crate) fn has_records(ours: &[(Id, Record)], theirs: &[(Id, Record)]) -> bool
+    requires ours { IsTrue (is_sorted id_cmp ours.now) }
+    requires theirs { IsTrue (is_sorted id_cmp theirs.now) }
+    ensures { result ≡ has_entries ours.now theirs.now }
+{
+    let mut i = 0;
+    let mut j = 0;
+    while i < ours.len() && j < theirs.len() {
+        match ours[i].0.cmp(&theirs[j].0) {
+            Ordering::Less => i += 1,
+            Ordering::Equal => {
+                if !is_same(&ours[i].1, &theirs[j].1) {
+                    return false;
+                }
                 i += 1;
                 j += 1;
             }
