@@ -1,15 +1,22 @@
--- The greatest counter of a site, in a list in order.
-use Rattle.std.proofs.Common.{◌≡◌, ℕ, zero, suc, ◌<◌, ◌≤◌, ◌-◌, ◌⊎◌, true, false, cond, max, List, [], ◌∷◌, length, get_or, take, Less, sym, refl, ap, ◌∙◌, arith, eqb, nat_le}
+-- The greatest counter of a site, in a list in order and in a content, and the next one.
+use Rattle.std.proofs.Common.{◌≡◌, ℕ, zero, suc, ◌<◌, ◌≤◌, ◌-◌, ◌⊎◌, true, false, cond, max, List, [], ◌∷◌, length, get_or, take, Less, sym, refl, ap, ◌∙◌, arith, eqb, nat_le, ◌+◌, ◌↔◌, ◌++◌, Option, Some, None, subst, ⊎_elim, Result, Ok, Err, IfOk, IsErr}
 use Rattle.std.proofs.lemmas.List.{length-take, length-take-le, get_or-take}
-use Rattle.std.proofs.lemmas.Bool.{leb-true, leb-false}
+use Rattle.std.proofs.lemmas.Bool.{leb-true, leb-false, false≢true, cases_lt, eq-eqb, and_parts, or_cases}
 use Rattle.std.proofs.lemmas.Bool.Decides.{nat_tests}
 use Rattle.std.specs.List.Sorted.{IsNonDecreasingBy, IsPartitionPoint}
 use Rattle.std.specs.FinMap.{is_sorted}
 use Rattle.stn_records.specs.Id.{SiteCounter, id_cmp}
-use Rattle.stn_records.specs.Sorted.{keys_of, IsEndOf}
-use Rattle.stn_records.specs.Content.{greatest_counter}
-use Rattle.stn_records.specs.ContentLaws.{ids_total}
-use Rattle.stn_records.proofs.Entries.{and_left, and_right, above_at}
+use Rattle.std.specs.Map.{keys_of}
+use Rattle.stn_records.specs.Sorted.{IsEndOf}
+use Rattle.stn_records.specs.Content.{greatest_counter, next_counter, RecordMap, IdSet, Content, same_ids, known_ids, is_known}
+use Rattle.stn_records.specs.ContentLaws.{ids_total, ids_exact}
+use Rattle.stn_records.proofs.Entries.{above_at}
+use Rattle.stn_records.proofs.KnownIds.{known_member}
+use Rattle.std.specs.Option.{SomeIff, ok_or}
+use Rattle.std.specs.Cmp.{Equal-is}
+use Rattle.std.specs.Set.{is_member}
+use Rattle.std.specs.FinMap as fin
+use Rattle.stn_records.specs.declared.record.Record.{Record}
 
 -- a lesser id is of a lesser site, or has a lesser counter
 lesser_id : (a b : SiteCounter) → id_cmp a b ≡ Less → (a.site < b.site) ⊎ ((a.site ≡ b.site) × (a.counter < b.counter))
@@ -36,19 +43,19 @@ module _ {X : Type 0} (site : ℕ) where
       grind (arith, nat_tests)
   last_of_site (e ∷ es) h (suc end) d within before behind =
       step_before site e.0 (get_or es end d).0 (greatest_counter site (keys_of es))
-      (lesser_id e.0 (get_or es end d).0 (above_at ids_total e.0 es (and_left _ _ h) end d (omega arith)))
+      (lesser_id e.0 (get_or es end d).0 (above_at ids_total e.0 es (and_parts _ _ h).0 end d (omega arith)))
       (before (suc end) d (omega arith))
-      (last_of_site es (and_right _ _ h) end d (omega arith) (λ k d l. before (suc k) d (omega arith)) (λ k d l m. behind (suc k) d (omega arith) (omega arith)))
+      (last_of_site es (and_parts _ _ h).1 end d (omega arith) (λ k d l. before (suc k) d (omega arith)) (λ k d l m. behind (suc k) d (omega arith) (omega arith)))
 
   -- the sites of a list in order do not fall
   pub sites_rise : (es : List (SiteCounter × X)) → is_sorted id_cmp es ≡ true → IsNonDecreasingBy (λ e. e.0.site) es
   sites_rise [] h i j d low high = absurd (omega arith)
   sites_rise (e ∷ es) h zero zero d low high = omega arith
   sites_rise (e ∷ es) h zero (suc j) d low high =
-      let above = lesser_id e.0 (get_or es j d).0 (above_at ids_total e.0 es (and_left _ _ h) j d (omega arith)) in
+      let above = lesser_id e.0 (get_or es j d).0 (above_at ids_total e.0 es (and_parts _ _ h).0 j d (omega arith)) in
       grind arith
   sites_rise (e ∷ es) h (suc i) zero d low high = absurd (omega arith)
-  sites_rise (e ∷ es) h (suc i) (suc j) d low high = sites_rise es (and_right _ _ h) i j d (omega arith) (omega arith)
+  sites_rise (e ∷ es) h (suc i) (suc j) d low high = sites_rise es (and_parts _ _ h).1 i j d (omega arith) (omega arith)
 
   -- where a search for the last entry up to the site ends
   pub ends : (es : List (SiteCounter × X)) (end : ℕ) → end ≤ length es → IsPartitionPoint (λ e. nat_le e.0.site site ≡ true) (λ e. nat_le e.0.site site ≡ false) es end → IsEndOf es site end
@@ -73,3 +80,50 @@ module _ {X : Type 0} (site : ℕ) where
       let within = is.in_range in
       let start : end ≡ 0 = omega (arith, length-take end es) in
       sym (none_of_site es (λ k d l. is.behind k d (omega arith) l))
+
+-- the greatest counter of two lists
+pub greatest-append : (site : ℕ) (xs ys : List SiteCounter) → greatest_counter site (xs ++ ys) ≡ max (greatest_counter site xs) (greatest_counter site ys)
+greatest-append site [] ys = omega arith
+greatest-append site (x ∷ xs) ys = elim (eqb x.site site) as (λ b. cond b (max x.counter (greatest_counter site (xs ++ ys))) (greatest_counter site (xs ++ ys)) ≡ max (cond b (max x.counter (greatest_counter site xs)) (greatest_counter site xs)) (greatest_counter site ys)) [
+  | true ↦ omega (arith, greatest-append site xs ys)
+  | false ↦ greatest-append site xs ys
+]
+
+counter_below : (site : ℕ) (ids : List SiteCounter) (id : SiteCounter) → id.site ≡ site → is_member same_ids ids id ≡ true → id.counter ≤ greatest_counter site ids
+counter_below site [] id s e = absurd (false≢true e)
+counter_below site (x ∷ ids) id s e = ⊎_elim
+    (λ here. let same = ids_exact id x ((Equal-is (id_cmp id x)).0 here) in
+    elim (eqb x.site site) as (λ b. eqb x.site site ≡ b → id.counter ≤ cond b (max x.counter (greatest_counter site ids)) (greatest_counter site ids)) [
+      | true ↦ λ t. let c : id.counter ≡ x.counter = ap (λ (i : SiteCounter). i.counter) same in omega arith
+      | false ↦ λ t. absurd (false≢true (sym t ∙ eq-eqb x.site site (ap (λ (i : SiteCounter). i.site) (sym same) ∙ s)))
+    ] refl)
+    (λ there. let below = counter_below site ids id s there in
+    elim (eqb x.site site) as (λ b. id.counter ≤ cond b (max x.counter (greatest_counter site ids)) (greatest_counter site ids)) [ true ↦ omega arith | false ↦ below ])
+    (or_cases _ _ e)
+
+-- the next counter of a site is new
+pub next_is_new : (s : Content) (site counter : ℕ) → counter ≡ next_counter s site → is_known s (record { site = site; counter = counter }) ≡ false
+next_is_new s site counter is = elim (is_known s (record { site = site; counter = counter })) as (λ b. is_known s (record { site = site; counter = counter }) ≡ b → b ≡ false) [
+  | true ↦ λ e. let below = counter_below site (known_ids s) (record { site = site; counter = counter }) refl (known_member s _ ∙ e) in absurd (omega (arith, below, is))
+  | false ↦ λ e. refl
+] refl
+
+-- one more than the greatest counter of both parts
+pub counter_read : (s : Content) (x : RecordMap) (y : IdSet) → record { additions = x; tombstones = y } ≡ s → (site : ℕ) (es : List (SiteCounter × Record)) (ts : List (SiteCounter × Unit {0})) → es ≡ fin.entries x → ts ≡ fin.entries y → (a b m : ℕ) → a ≡ greatest_counter site (keys_of es) → b ≡ greatest_counter site (keys_of ts) → m ≡ max a b → m + 1 ≡ next_counter s site
+counter_read s x y seen site es ts p q a b m ga gb gm =
+    let ours = ga ∙ ap (λ l. greatest_counter site (keys_of l)) p in
+    let theirs = gb ∙ ap (λ l. greatest_counter site (keys_of l)) q in
+    let both = greatest-append site (fin.keys x) (fin.keys y) in
+    let here : m + 1 ≡ next_counter (record { additions = x; tombstones = y }) site = omega (arith, both, ours, theirs, gm) in
+    here ∙ ap (λ (t : Content). next_counter t site) seen
+
+-- a counter that fits is the next one, and one that doesn't is spent
+pub next_cases : {E : Type 0} (o : Option ℕ) (err : E) (r : Result ℕ E) (m n : ℕ) → m + 1 ≡ n → SomeIff o (m + 1 < 65536) (m + 1) → r ≡ ok_or o err → IfOk r (λ counter. counter ≡ n) × (IsErr r ↔ (65535 < n))
+next_cases {E} None err r m n e h is = let P : Result ℕ E → Type 0 = λ q. IfOk q (λ counter. counter ≡ n) × (IsErr q ↔ (65535 < n)) in
+    subst P (sym is) (tt, (λ _. ⊎_elim (λ l. absurd (h l)) (λ g. omega arith) (cases_lt (m + 1) 65536), λ _. refl))
+next_cases {E} (Some x) err r m n e h is = let P : Result ℕ E → Type 0 = λ q. IfOk q (λ counter. counter ≡ n) × (IsErr q ↔ (65535 < n)) in
+    subst P (sym is) (h.1 ∙ e, (λ f. absurd (false≢true f), λ w. let small = h.0 in absurd (omega arith)))
+
+pub new_cases : {E : Type 0} (s : Content) (site : ℕ) (r : Result ℕ E) → IfOk r (λ counter. counter ≡ next_counter s site) → IfOk r (λ counter. is_known s (record { site = site; counter = counter }) ≡ false)
+new_cases s site (Ok counter) e = next_is_new s site counter e
+new_cases s site (Err fault) e = tt

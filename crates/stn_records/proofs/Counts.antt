@@ -1,17 +1,19 @@
 -- The count of the ids of four lists in order, by the least first id.
 use Rattle.std.proofs.Common.{◌≡◌, suc, ◌+◌, ◌<◌, ◌≤◌, ◌⊎◌, Bool, true, false, cond, not, ◌&&◌, ◌||◌, List, [], ◌∷◌, ◌++◌, length, Option, Some, None, is_some, slice_get, Less, Equal, Greater, is_eq, is_lt, sym, refl, ap, subst, ◌∙◌, inl, inr, ⊎_elim, arith, length-append}
 use Rattle.std.proofs.lemmas.List.{length-map}
-use Rattle.std.proofs.lemmas.Bool.{false≢true}
+use Rattle.std.proofs.lemmas.Bool.{false≢true, and_parts}
+use Rattle.std.proofs.lemmas.Option.{same_Some}
 use Rattle.std.specs.Cmp.{Equal-is, tied_itself, alike_right}
 use Rattle.std.specs.Set.{distinct_count, is_member}
 use Rattle.std.specs.FinMap.{is_sorted}
 use Rattle.std.specs.FinMap.Entries.{below_all}
 use Rattle.stn_records.specs.Id.{SiteCounter, id_cmp}
-use Rattle.stn_records.specs.Sorted.{keys_of, lesser_of, past_id}
+use Rattle.std.specs.Map.{keys_of}
+use Rattle.stn_records.specs.Sorted.{lesser_of, past_id}
 use Rattle.stn_records.specs.Content.{same_ids}
 use Rattle.stn_records.specs.ContentLaws.{ids_total, ids_exact}
-use Rattle.stn_records.proofs.Entries.{and_left, and_right, less_is, less_back, greater_back, tied_less}
-use Rattle.stn_records.proofs.Contents.{same_count, one_more, member-append}
+use Rattle.stn_records.proofs.Entries.{less_is, less_back, greater_back, below_less}
+use Rattle.stn_records.proofs.KnownIds.{same_count, one_more, member-append}
 
 -- the id is not above the first id
 abbrev pub NotAbove : SiteCounter → Option SiteCounter → Type 0
@@ -32,19 +34,16 @@ not_above_chain a x id p q = elim (id_cmp a id) as (λ r. id_cmp a id ≡ r → 
 self_not_above : (x : SiteCounter) → is_lt (id_cmp x x) ≡ false
 self_not_above x = ap is_lt (tied_itself ids_total x)
 
-same_some : (x y : SiteCounter) → Some x ≡ Some y → x ≡ y
-same_some x y e = cc
-
 -- the lesser of two is above neither, and is one of them
 pub lesser_least : (f g : Option SiteCounter) (id : SiteCounter) → lesser_of f g ≡ Some id → NotAbove id f × NotAbove id g
 lesser_least None None id e = (tt, tt)
-lesser_least None (Some y) id e = (tt, subst (λ x. is_lt (id_cmp y x) ≡ false) (same_some y id e) (self_not_above y))
-lesser_least (Some x) None id e = (subst (λ y. is_lt (id_cmp x y) ≡ false) (same_some x id e) (self_not_above x), tt)
+lesser_least None (Some y) id e = (tt, subst (λ x. is_lt (id_cmp y x) ≡ false) (same_Some y id e) (self_not_above y))
+lesser_least (Some x) None id e = (subst (λ y. is_lt (id_cmp x y) ≡ false) (same_Some x id e) (self_not_above x), tt)
 lesser_least (Some x) (Some y) id e =
     elim (is_lt (id_cmp y x)) as (λ b. is_lt (id_cmp y x) ≡ b → cond b (Some y) (Some x) ≡ Some id → (is_lt (id_cmp x id) ≡ false) × (is_lt (id_cmp y id) ≡ false)) [
-      | true ↦ λ t f. let same = same_some y id f in
+      | true ↦ λ t f. let same = same_Some y id f in
           (subst (λ z. is_lt (id_cmp x z) ≡ false) same (ap is_lt (less_back ids_total y x (less_is (id_cmp y x) t))), subst (λ z. is_lt (id_cmp y z) ≡ false) same (self_not_above y))
-      | false ↦ λ t f. let same = same_some x id f in
+      | false ↦ λ t f. let same = same_Some x id f in
           (subst (λ z. is_lt (id_cmp x z) ≡ false) same (self_not_above x), subst (λ z. is_lt (id_cmp y z) ≡ false) same t)
     ] refl e
 
@@ -53,17 +52,18 @@ lesser_member None g id e = inr e
 lesser_member (Some x) None id e = inl e
 lesser_member (Some x) (Some y) id e = elim (is_lt (id_cmp y x)) as (λ b. cond b (Some y) (Some x) ≡ Some id → (Some x ≡ Some id) ⊎ (Some y ≡ Some id)) [ true ↦ inr | false ↦ inl ] e
 
+-- where the lesser of two is none, neither is there
+lesser_none : (f g : Option SiteCounter) → lesser_of f g ≡ None → (f ≡ None) × (g ≡ None)
+lesser_none None None e = (refl, refl)
+lesser_none None (Some y) e = absurd (false≢true (ap is_some (sym e)))
+lesser_none (Some x) None e = absurd (false≢true (ap is_some (sym e)))
+lesser_none (Some x) (Some y) e = absurd (false≢true (elim (is_lt (id_cmp y x)) as (λ b. cond b (Some y) (Some x) ≡ None → false ≡ true) [ true ↦ λ n. ap is_some (sym n) | false ↦ λ n. ap is_some (sym n) ] e))
+
 not_above_within : (f g : Option SiteCounter) (id : SiteCounter) → NotAbove id (lesser_of f g) → NotAbove id f × NotAbove id g
 not_above_within f g id h = by (lesser_of f g) refl h
   where
     by : (o : Option SiteCounter) → lesser_of f g ≡ o → NotAbove id o → NotAbove id f × NotAbove id g
-    by None e h = none f g e
-      where
-        none : (f g : Option SiteCounter) → lesser_of f g ≡ None → NotAbove id f × NotAbove id g
-        none None None e = (tt, tt)
-        none None (Some y) e = absurd (false≢true (ap is_some (sym e)))
-        none (Some x) None e = absurd (false≢true (ap is_some (sym e)))
-        none (Some x) (Some y) e = absurd (false≢true (elim (is_lt (id_cmp y x)) as (λ b. cond b (Some y) (Some x) ≡ None → false ≡ true) [ true ↦ λ n. ap is_some (sym n) | false ↦ λ n. ap is_some (sym n) ] e))
+    by None e h = let none = lesser_none f g e in (subst (NotAbove id) (sym none.0) tt, subst (NotAbove id) (sym none.1) tt)
     by (Some x) e h = let least = lesser_least f g x e in (through f x least.0 h, through g x least.1 h)
       where
         through : (f : Option SiteCounter) (x : SiteCounter) → NotAbove x f → is_lt (id_cmp x id) ≡ false → NotAbove id f
@@ -86,7 +86,7 @@ module _ {X : Type 0} where
   -- an id below each entry is no key
   absent_below : (id : SiteCounter) (es : List (SiteCounter × X)) → below_all id_cmp id es ≡ true → is_member same_ids (keys_of es) id ≡ false
   absent_below id [] h = refl
-  absent_below id (e ∷ es) h = ap (λ r. is_eq r || is_member same_ids (keys_of es) id) (less_is (id_cmp id e.0) (and_left _ _ h)) ∙ absent_below id es (and_right _ _ h)
+  absent_below id (e ∷ es) h = ap (λ r. is_eq r || is_member same_ids (keys_of es) id) (less_is (id_cmp id e.0) (and_parts _ _ h).0) ∙ absent_below id es (and_parts _ _ h).1
 
   -- past an id that is not above the first, the list has its other keys
   pub past_members : (id : SiteCounter) (es : List (SiteCounter × X)) → is_sorted id_cmp es ≡ true → NotAbove id (slice_get (keys_of es) 0) → (q : SiteCounter) → is_member same_ids (keys_of (past_id id es)) q ≡ (is_member same_ids (keys_of es) q && not (same_ids q id))
@@ -96,7 +96,7 @@ module _ {X : Type 0} where
         | Less ↦ λ t f. absurd (false≢true (sym f))
         | Equal ↦ λ t f.
             let same = ids_exact e.0 id t in
-            dropped (is_member same_ids (keys_of es) q) (same_ids q e.0) (λ s. ap (is_member same_ids (keys_of es)) (ids_exact q e.0 ((Equal-is (id_cmp q e.0)).0 s)) ∙ absent_below e.0 es (and_left _ _ h))
+            dropped (is_member same_ids (keys_of es) q) (same_ids q e.0) (λ s. ap (is_member same_ids (keys_of es)) (ids_exact q e.0 ((Equal-is (id_cmp q e.0)).0 s)) ∙ absent_below e.0 es (and_parts _ _ h).0)
             ∙ unchanged (same_ids q e.0) (is_member same_ids (keys_of es) q)
             ∙ ap (λ z. (same_ids q e.0 || is_member same_ids (keys_of es) q) && not (same_ids q z)) same
         | Greater ↦ λ t f.
@@ -104,7 +104,7 @@ module _ {X : Type 0} where
             dropped (same_ids q e.0 || is_member same_ids (keys_of es) q) (same_ids q id) (λ s.
             let same = ids_exact q id ((Equal-is (id_cmp q id)).0 s) in
             ap (λ z. same_ids z e.0 || is_member same_ids (keys_of es) z) same
-            ∙ ap (λ r. is_eq r || is_member same_ids (keys_of es) id) below ∙ absent_below id es (Rattle.stn_records.proofs.Entries.below_less ids_total id e.0 es below (and_left _ _ h)))
+            ∙ ap (λ r. is_eq r || is_member same_ids (keys_of es) id) below ∙ absent_below id es (below_less ids_total id e.0 es below (and_parts _ _ h).0))
       ] refl n
     where
       unchanged : (t m : Bool) → (m && not t) ≡ ((t || m) && not t)
@@ -115,7 +115,7 @@ module _ {X : Type 0} where
   -- past the id, the list stays in order
   pub past_sorted : (id : SiteCounter) (es : List (SiteCounter × X)) → is_sorted id_cmp es ≡ true → is_sorted id_cmp (past_id id es) ≡ true
   past_sorted id [] h = refl
-  past_sorted id (e ∷ es) h = elim (is_eq (id_cmp e.0 id)) as (λ b. is_sorted id_cmp (cond b es (e ∷ es)) ≡ true) [ true ↦ and_right _ _ h | false ↦ h ]
+  past_sorted id (e ∷ es) h = elim (is_eq (id_cmp e.0 id)) as (λ b. is_sorted id_cmp (cond b es (e ∷ es)) ≡ true) [ true ↦ (and_parts _ _ h).1 | false ↦ h ]
 
   -- past an id, the list is no longer, and shorter where it is the first
   pub past_shorter : (id : SiteCounter) (es : List (SiteCounter × X)) → length (past_id id es) ≤ length es
@@ -124,11 +124,11 @@ module _ {X : Type 0} where
 
   pub past_first : (id : SiteCounter) (es : List (SiteCounter × X)) → slice_get (keys_of es) 0 ≡ Some id → suc (length (past_id id es)) ≡ length es
   past_first id [] e = absurd (false≢true (ap is_some e))
-  past_first id (e ∷ es) f = ap (λ r. suc (length (cond (is_eq r) es (e ∷ es)))) (ap (λ x. id_cmp e.0 x) (sym (same_some e.0 id f)) ∙ tied_itself ids_total e.0)
+  past_first id (e ∷ es) f = ap (λ r. suc (length (cond (is_eq r) es (e ∷ es)))) (ap (λ x. id_cmp e.0 x) (sym (same_Some e.0 id f)) ∙ tied_itself ids_total e.0)
 
   first_member : (id : SiteCounter) (es : List (SiteCounter × X)) → slice_get (keys_of es) 0 ≡ Some id → is_member same_ids (keys_of es) id ≡ true
   first_member id [] e = absurd (false≢true (ap is_some e))
-  first_member id (e ∷ es) f = ap (λ x. same_ids id x || is_member same_ids (keys_of es) id) (same_some e.0 id f) ∙ ap (λ r. is_eq r || is_member same_ids (keys_of es) id) (tied_itself ids_total id)
+  first_member id (e ∷ es) f = ap (λ x. same_ids id x || is_member same_ids (keys_of es) id) (same_Some e.0 id f) ∙ ap (λ r. is_eq r || is_member same_ids (keys_of es) id) (tied_itself ids_total id)
 
 without_both : (a b c d t : Bool) → (a ≡ (b && not t)) → (c ≡ (d && not t)) → (a || c) ≡ ((b || d) && not t)
 without_both a b c d t p q = (λ i. p i || q i) ∙ by b d t
@@ -182,12 +182,6 @@ module _ {X Y : Type 0} (a : List (SiteCounter × X)) (b : List (SiteCounter × 
   pub none_left : least_first ≡ None → distinct_count same_ids (all_keys a b c d) ≡ 0
   none_left e = by a b c d e
     where
-      lesser_none : (f g : Option SiteCounter) → lesser_of f g ≡ None → (f ≡ None) × (g ≡ None)
-      lesser_none None None e = (refl, refl)
-      lesser_none None (Some y) e = absurd (false≢true (ap is_some (sym e)))
-      lesser_none (Some x) None e = absurd (false≢true (ap is_some (sym e)))
-      lesser_none (Some x) (Some y) e = absurd (false≢true (elim (is_lt (id_cmp y x)) as (λ b. cond b (Some y) (Some x) ≡ None → false ≡ true) [ true ↦ λ n. ap is_some (sym n) | false ↦ λ n. ap is_some (sym n) ] e))
-
       no_keys : (ks : List SiteCounter) → slice_get ks 0 ≡ None → ks ≡ []
       no_keys [] e = refl
       no_keys (k ∷ ks) e = absurd (false≢true (ap is_some (sym e)))

@@ -1,18 +1,21 @@
 -- The first id in dispute, of what two lists have left.
-use Rattle.std.proofs.Common.{◌≡◌, ℕ, ◌<◌, Bool, true, false, cond, not, List, [], ◌∷◌, length, get_or, drop, Option, Some, None, find, Less, Equal, Greater, is_lt, is_eq, ◌+◌, ◌↔◌, sym, refl, ap, subst, ◌∙◌, add-one, drop-cons}
+use Rattle.std.proofs.Common.{◌≡◌, ℕ, ◌<◌, Bool, true, false, cond, not, List, [], ◌∷◌, length, get_or, drop, Option, Some, None, find, Less, Equal, Greater, is_lt, is_eq, ◌+◌, ◌↔◌, sym, refl, ap, ◌∙◌}
 use Rattle.std.proofs.lemmas.List.{get_or_default}
+use Rattle.std.proofs.lemmas.Bool.{and_parts, and_from}
 use Rattle.std.proofs.lemmas.Bool.Decides.{same_from_decides}
 use Rattle.std.specs.Cmp.{tied_back, tied_itself}
 use Rattle.std.specs.FinMap as fin
-use Rattle.std.specs.FinMap.{is_sorted}
+use Rattle.std.specs.FinMap.{is_sorted, get-entries}
 use Rattle.std.specs.FinMap.Entries.{below_all}
 use Rattle.stn_records.specs.Id.{SiteCounter, id_cmp}
 use Rattle.stn_records.specs.Maps.{differ}
 use Rattle.stn_records.specs.Record.{same_records}
-use Rattle.stn_records.specs.Sorted.{keys_of}
+use Rattle.std.specs.Map.{keys_of}
+use Rattle.stn_records.specs.Content.{RecordMap, dispute_records}
 use Rattle.stn_records.specs.ContentLaws.{ids_total, records_decide}
 use Rattle.stn_records.specs.declared.record.Record.{Record}
-use Rattle.stn_records.proofs.Entries.{and_left, and_right, and_both, less_is, less_back, greater_back, tied_less, below_less, find_below, sorted_drop}
+use Rattle.stn_records.specs.MapLaws.{none_found}
+use Rattle.stn_records.proofs.Entries.{front, less_is, greater_back, tied_less, below_less, find_below, passed_over, rest_sorted}
 
 abbrev pub Entry : Type 0
 Entry = SiteCounter × Record
@@ -29,11 +32,7 @@ dispute_of xs ys = find (in_dispute xs ys) (keys_of xs)
 found_above : (b : SiteCounter) (p q : SiteCounter → Bool) → ((k : SiteCounter) → id_cmp b k ≡ Less → p k ≡ q k) → (es : List Entry) → below_all id_cmp b es ≡ true → find p (keys_of es) ≡ find q (keys_of es)
 found_above b p q same [] h i = None
 found_above b p q same (e ∷ es) h i =
-    cond (same e.0 (less_is _ (and_left _ _ h)) i) (Some e.0) (found_above b p q same es (and_right _ _ h) i)
-
--- an entry before an id is no match for it
-passed_over : (id : SiteCounter) (e : Entry) (es : List Entry) → id_cmp e.0 id ≡ Less → fin.find id_cmp id (e ∷ es) ≡ fin.find id_cmp id es
-passed_over id e es l = ap (λ r. cond (is_eq r) (Some e.1) (fin.find id_cmp id es)) (less_back ids_total e.0 id l)
+    cond (same e.0 (less_is _ (and_parts _ _ h).0) i) (Some e.0) (found_above b p q same es (and_parts _ _ h).1 i)
 
 found_first : (id : SiteCounter) (e : Entry) (es : List Entry) → id_cmp id e.0 ≡ Equal → fin.find id_cmp id (e ∷ es) ≡ Some e.1
 found_first id e es t = ap (λ r. cond (is_eq r) (Some e.1) (fin.find id_cmp id es)) t
@@ -45,16 +44,16 @@ no_difference (Some x) = refl
 -- the first id of ours comes first: theirs has no record of it
 pub ours_first : (x : Entry) (xs : List Entry) (y : Entry) (ys : List Entry) → is_sorted id_cmp (x ∷ xs) ≡ true → is_sorted id_cmp (y ∷ ys) ≡ true → id_cmp x.0 y.0 ≡ Less → dispute_of xs (y ∷ ys) ≡ dispute_of (x ∷ xs) (y ∷ ys)
 ours_first x xs y ys g h l =
-    let none = find_below ids_total x.0 (y ∷ ys) (and_both _ _ (ap is_lt l) (below_less ids_total x.0 y.0 ys l (and_left _ _ h))) in
+    let none = find_below ids_total x.0 (y ∷ ys) (and_from _ _ (ap is_lt l) (below_less ids_total x.0 y.0 ys l (and_parts _ _ h).0)) in
     let agreed : in_dispute (x ∷ xs) (y ∷ ys) x.0 ≡ false = ap (differ same_records (fin.find id_cmp x.0 (x ∷ xs))) none ∙ no_difference _ in
-    found_above x.0 (in_dispute xs (y ∷ ys)) (in_dispute (x ∷ xs) (y ∷ ys)) (λ k a. ap (λ v. differ same_records v (fin.find id_cmp k (y ∷ ys))) (sym (passed_over k x xs a))) xs (and_left _ _ g)
+    found_above x.0 (in_dispute xs (y ∷ ys)) (in_dispute (x ∷ xs) (y ∷ ys)) (λ k a. ap (λ v. differ same_records v (fin.find id_cmp k (y ∷ ys))) (sym (passed_over ids_total k x xs a))) xs (and_parts _ _ g).0
     ∙ sym (ap (λ b. cond b (Some x.0) (find (in_dispute (x ∷ xs) (y ∷ ys)) (keys_of xs))) agreed)
 
 -- the first id of theirs comes first: no id of ours is its
 pub theirs_first : (x : Entry) (xs : List Entry) (y : Entry) (ys : List Entry) → is_sorted id_cmp (x ∷ xs) ≡ true → is_sorted id_cmp (y ∷ ys) ≡ true → id_cmp x.0 y.0 ≡ Greater → dispute_of (x ∷ xs) ys ≡ dispute_of (x ∷ xs) (y ∷ ys)
 theirs_first x xs y ys g h t =
     let l = greater_back ids_total x.0 y.0 t in
-    found_above y.0 (in_dispute (x ∷ xs) ys) (in_dispute (x ∷ xs) (y ∷ ys)) (λ k a. ap (differ same_records (fin.find id_cmp k (x ∷ xs))) (sym (passed_over k y ys a))) (x ∷ xs) (and_both _ _ (ap is_lt l) (below_less ids_total y.0 x.0 xs l (and_left _ _ g)))
+    found_above y.0 (in_dispute (x ∷ xs) ys) (in_dispute (x ∷ xs) (y ∷ ys)) (λ k a. ap (differ same_records (fin.find id_cmp k (x ∷ xs))) (sym (passed_over ids_total k y ys a))) (x ∷ xs) (and_from _ _ (ap is_lt l) (below_less ids_total y.0 x.0 xs l (and_parts _ _ g).0))
 
 -- both have the id: it is in dispute exactly where the records differ
 at_both : (x : Entry) (xs : List Entry) (y : Entry) (ys : List Entry) → id_cmp x.0 y.0 ≡ Equal → in_dispute (x ∷ xs) (y ∷ ys) x.0 ≡ not (same_records x.1 y.1)
@@ -65,7 +64,7 @@ at_both x xs y ys t =
 pub both_agree : (x : Entry) (xs : List Entry) (y : Entry) (ys : List Entry) → is_sorted id_cmp (x ∷ xs) ≡ true → is_sorted id_cmp (y ∷ ys) ≡ true → id_cmp x.0 y.0 ≡ Equal → same_records x.1 y.1 ≡ true → dispute_of xs ys ≡ dispute_of (x ∷ xs) (y ∷ ys)
 both_agree x xs y ys g h t s =
     found_above x.0 (in_dispute xs ys) (in_dispute (x ∷ xs) (y ∷ ys)) (λ k a i.
-    differ same_records (sym (passed_over k x xs a) i) (sym (passed_over k y ys (tied_less ids_total y.0 x.0 k (tied_back ids_total x.0 y.0 t) a)) i)) xs (and_left _ _ g)
+    differ same_records (sym (passed_over ids_total k x xs a) i) (sym (passed_over ids_total k y ys (tied_less ids_total y.0 x.0 k (tied_back ids_total x.0 y.0 t) a)) i)) xs (and_parts _ _ g).0
     ∙ sym (ap (λ b. cond b (Some x.0) (find (in_dispute (x ∷ xs) (y ∷ ys)) (keys_of xs))) (at_both x xs y ys t ∙ ap not s))
 
 pub both_differ : (x : Entry) (xs : List Entry) (y : Entry) (ys : List Entry) → id_cmp x.0 y.0 ≡ Equal → same_records x.1 y.1 ≡ false → dispute_of (x ∷ xs) (y ∷ ys) ≡ Some x.0
@@ -73,23 +72,15 @@ both_differ x xs y ys t s = ap (λ b. cond b (Some x.0) (find (in_dispute (x ∷
 
 -- where one list is at its end, nothing is in dispute
 pub no_more : (xs : List Entry) → dispute_of xs [] ≡ None
-no_more xs = none_found (keys_of xs)
-  where
-    none_found : (ks : List SiteCounter) → find (in_dispute xs []) ks ≡ None
-    none_found [] = refl
-    none_found (k ∷ ks) = ap (λ b. cond b (Some k) (find (in_dispute xs []) ks)) (no_difference (fin.find id_cmp k xs)) ∙ none_found ks
-
--- what is left of a list from a place within it
-pub front : {X : Type 0} (l : List X) (k : ℕ) (d : X) → k < length l → drop k l ≡ get_or l k d ∷ drop (k + 1) l
-front l k d h = rw add-one (drop-cons l k d h)
+no_more xs = none_found (in_dispute xs []) (keys_of xs) (λ k. no_difference (fin.find id_cmp k xs))
 
 -- one step of two cursors
 module _ (ours theirs : List Entry) (i j : ℕ) (x y : Entry) (in_ours : i < length ours) (in_theirs : j < length theirs) (g : is_sorted id_cmp ours ≡ true) (h : is_sorted id_cmp theirs ≡ true) where
   ours_sorted : is_sorted id_cmp (get_or ours i x ∷ drop (i + 1) ours) ≡ true
-  ours_sorted = subst (λ l. is_sorted id_cmp l ≡ true) (front ours i x in_ours) (sorted_drop ids_total i ours g)
+  ours_sorted = rest_sorted ids_total ours i x in_ours g
 
   theirs_sorted : is_sorted id_cmp (get_or theirs j y ∷ drop (j + 1) theirs) ≡ true
-  theirs_sorted = subst (λ l. is_sorted id_cmp l ≡ true) (front theirs j y in_theirs) (sorted_drop ids_total j theirs h)
+  theirs_sorted = rest_sorted ids_total theirs j y in_theirs h
 
   opened : dispute_of (get_or ours i x ∷ drop (i + 1) ours) (get_or theirs j y ∷ drop (j + 1) theirs) ≡ dispute_of (drop i ours) (drop j theirs)
   opened k = dispute_of (sym (front ours i x in_ours) k) (sym (front theirs j y in_theirs) k)
@@ -117,3 +108,7 @@ module _ (ours theirs : List Entry) (i j : ℕ) (x y : Entry) (in_ours : i < len
     stop_equal z t differs =
         ap (λ (e : Entry). Some e.0) (get_or_default ours i z x in_ours)
         ∙ sym (both_differ (get_or ours i x) (drop (i + 1) ours) (get_or theirs j y) (drop (j + 1) theirs) t (answered ∙ differs)) ∙ opened
+
+-- the dispute of two maps, as it is read from their entries
+pub disputed : (a b : RecordMap) (xs ys : List (SiteCounter × Record)) → xs ≡ fin.entries a → ys ≡ fin.entries b → find (λ id. differ same_records (fin.find id_cmp id xs) (fin.find id_cmp id ys)) (keys_of xs) ≡ dispute_records a b
+disputed a b xs ys p q i = find (λ id. differ same_records ((ap (fin.find id_cmp id) p ∙ sym (get-entries a id)) i) ((ap (fin.find id_cmp id) q ∙ sym (get-entries b id)) i)) (keys_of (p i))

@@ -1,6 +1,6 @@
 -- Lists of entries whose keys rise: what is found in them, and in their merge.
-use Rattle.std.proofs.Common.{◌≡◌, ℕ, zero, suc, ◌+◌, ◌<◌, ◌≤◌, Bool, true, false, cond, ◌&&◌, ◌||◌, T, List, [], ◌∷◌, ◌++◌, length, get_or, take, drop, Option, Some, None, Ordering, Less, Equal, Greater, is_lt, is_eq, sym, refl, ap, subst, ◌∙◌, inl, inr, arith, add-one, ◌⊎◌, append_assoc, append-nil, ◌-◌, length-drop, take_all}
-use Rattle.std.proofs.lemmas.Bool.{false≢true}
+use Rattle.std.proofs.Common.{◌≡◌, ℕ, zero, suc, ◌+◌, ◌<◌, ◌≤◌, Bool, true, false, cond, T, List, [], ◌∷◌, ◌++◌, length, get_or, take, drop, Option, Some, None, Ordering, Less, Equal, Greater, is_lt, is_eq, sym, refl, ap, subst, ◌∙◌, inl, inr, arith, add-one, ◌⊎◌, append_assoc, append-nil, ◌-◌, length-drop, take_all, drop-cons}
+use Rattle.std.proofs.lemmas.Bool.{false≢true, and_parts, and_from}
 use Rattle.std.specs.Option.{option_or}
 use Rattle.std.specs.List.{insert, IsAllAdjacentAnswer}
 use Rattle.std.specs.Prelude.{IsTrue, ◌↔◌}
@@ -8,37 +8,31 @@ use Rattle.std.specs.List.Sorted.{IsSortedBy}
 use Rattle.std.specs.Ordering.{eq_by_cmp, ordering_reverse}
 use Rattle.std.specs.Cmp.{IsTotalOrder, alike_right, tied_back, Equal-is}
 use Rattle.std.specs.FinMap as fin
-use Rattle.std.specs.FinMap.{is_sorted, put}
+use Rattle.std.specs.FinMap.{FinMap, is_sorted, put}
 use Rattle.std.specs.FinMap.Entries.{below_all, by_order}
+use Rattle.stn_records.specs.MapLaws.{or_after}
 use Rattle.stn_records.specs.Sorted.{merge, merge_from}
 
 -- a test that holds, as the logic's fact
 pub holds : (b : Bool) → b ≡ true → T b
 holds b e = subst T (sym e) tt
 
-pub and_left : (a b : Bool) → (a && b) ≡ true → a ≡ true
-and_left true b e = refl
-and_left false b e = e
-
-pub and_right : (a b : Bool) → (a && b) ≡ true → b ≡ true
-and_right true b e = e
-and_right false b e = absurd (false≢true e)
-
-pub and_both : (a b : Bool) → a ≡ true → b ≡ true → (a && b) ≡ true
-and_both a b e f = ap (λ x. x && b) e ∙ f
-
-pub or_right : (a b : Bool) → b ≡ true → (a || b) ≡ true
-or_right true b e = refl
-or_right false b e = e
+pub T_true : (b : Bool) → T b → b ≡ true
+T_true true h = refl
+T_true false h = absurd h
 
 pub less_is : (r : Ordering) → is_lt r ≡ true → r ≡ Less
 less_is Less e = refl
 less_is Equal e = absurd (false≢true e)
 less_is Greater e = absurd (false≢true e)
 
-pub or_after : {X : Type 0} (b : Bool) (x : X) (o p : Option X) → cond b (Some x) (option_or o p) ≡ option_or (cond b (Some x) o) p
-or_after true x o p = refl
-or_after false x o p = refl
+-- the entries of a map are in order
+pub in_order : {K X : Type 0} {R : K → K → Ordering} (m : FinMap R X) → is_sorted R (fin.entries m) ≡ true
+in_order m = T_true _ (fin.entries_sorted m)
+
+-- what is left of a list from a place within it
+pub front : {X : Type 0} (l : List X) (k : ℕ) (d : X) → k < length l → drop k l ≡ get_or l k d ∷ drop (k + 1) l
+front l k d h = rw add-one (drop-cons l k d h)
 
 module _ {K : Type 0} {R : K → K → Ordering} (o : IsTotalOrder R) where
   pub greater_back : (x y : K) → R x y ≡ Greater → R y x ≡ Less
@@ -57,32 +51,40 @@ module _ {K X : Type 0} {R : K → K → Ordering} (o : IsTotalOrder R) where
   pub below_less : (x y : K) (es : List (K × X)) → R x y ≡ Less → below_all R y es ≡ true → below_all R x es ≡ true
   below_less x y [] l h = refl
   below_less x y (e ∷ es) l h =
-      let first = less_is (R y e.0) (and_left _ _ h) in
-      and_both _ _ (ap is_lt (o.trans x y e.0 l first)) (below_less x y es l (and_right _ _ h))
+      let first = less_is (R y e.0) (and_parts _ _ h).0 in
+      and_from _ _ (ap is_lt (o.trans x y e.0 l first)) (below_less x y es l (and_parts _ _ h).1)
 
   pub below_tied : (x y : K) (es : List (K × X)) → R x y ≡ Equal → below_all R y es ≡ true → below_all R x es ≡ true
   below_tied x y [] t h = refl
   below_tied x y (e ∷ es) t h =
-      let first = less_is (R y e.0) (and_left _ _ h) in
-      and_both _ _ (ap is_lt (tied_less o x y e.0 t first)) (below_tied x y es t (and_right _ _ h))
+      let first = less_is (R y e.0) (and_parts _ _ h).0 in
+      and_from _ _ (ap is_lt (tied_less o x y e.0 t first)) (below_tied x y es t (and_parts _ _ h).1)
 
   -- nothing is found of a key below each
   pub find_below : (q : K) (es : List (K × X)) → below_all R q es ≡ true → fin.find R q es ≡ None
   find_below q [] h = refl
   find_below q (e ∷ es) h =
-      ap (λ r. cond (is_eq r) (Some e.1) (fin.find R q es)) (less_is (R q e.0) (and_left _ _ h)) ∙ find_below q es (and_right _ _ h)
+      ap (λ r. cond (is_eq r) (Some e.1) (fin.find R q es)) (less_is (R q e.0) (and_parts _ _ h).0) ∙ find_below q es (and_parts _ _ h).1
+
+  -- an entry before a key is no match for it
+  pub passed_over : (q : K) (e : K × X) (es : List (K × X)) → R e.0 q ≡ Less → fin.find R q (e ∷ es) ≡ fin.find R q es
+  passed_over q e es l = ap (λ r. cond (is_eq r) (Some e.1) (fin.find R q es)) (less_back o e.0 q l)
 
   -- a front of one leaves a list in order
   pub sorted_drop : (i : ℕ) (es : List (K × X)) → is_sorted R es ≡ true → is_sorted R (drop i es) ≡ true
   sorted_drop zero es h = h
   sorted_drop (suc i) [] h = h
-  sorted_drop (suc i) (e ∷ es) h = sorted_drop i es (and_right _ _ h)
+  sorted_drop (suc i) (e ∷ es) h = sorted_drop i es (and_parts _ _ h).1
+
+  -- and so does what is left from an entry on
+  pub rest_sorted : (es : List (K × X)) (i : ℕ) (d : K × X) → i < length es → is_sorted R es ≡ true → is_sorted R (get_or es i d ∷ drop (i + 1) es) ≡ true
+  rest_sorted es i d within h = subst (λ l. is_sorted R l ≡ true) (front es i d within) (sorted_drop i es h)
 
   next_rises : (es : List (K × X)) → is_sorted R es ≡ true → (k : ℕ) (d : K × X) → suc k < length es → is_lt (R (get_or es (suc k) d).0 (get_or es k d).0) ≡ false
   next_rises [] h k d high = absurd (omega arith)
   next_rises (e ∷ []) h k d high = absurd (omega arith)
-  next_rises (e ∷ f ∷ es) h zero d high = ap is_lt (less_back o e.0 f.0 (less_is (R e.0 f.0) (and_left _ _ (and_left _ _ h))))
-  next_rises (e ∷ f ∷ es) h (suc k) d high = next_rises (f ∷ es) (and_right _ _ h) k d (omega arith)
+  next_rises (e ∷ f ∷ es) h zero d high = ap is_lt (less_back o e.0 f.0 (less_is (R e.0 f.0) ((and_parts _ _ (and_parts _ _ h).0).0)))
+  next_rises (e ∷ f ∷ es) h (suc k) d high = next_rises (f ∷ es) (and_parts _ _ h).1 k d (omega arith)
 
   -- neighbours rise
   pub neighbours_rise : (es : List (K × X)) → is_sorted R es ≡ true → IsSortedBy (λ a b. is_lt (R a.0 b.0)) es
@@ -95,13 +97,13 @@ module _ {K X : Type 0} {R : K → K → Ordering} (o : IsTotalOrder R) where
   risen (e ∷ f ∷ es) h =
       let first : is_lt (R e.0 f.0) ≡ true = sym (h 0 e (omega arith)) in
       let rest = risen (f ∷ es) (λ k d l. rw add-one (rw add-one at (h (suc k) d (omega arith)))) in
-      and_both _ _ (and_both _ _ first (below_less e.0 f.0 es (less_is _ first) (and_left _ _ rest))) rest
+      and_from _ _ (and_from _ _ first (below_less e.0 f.0 es (less_is _ first) (and_parts _ _ rest).0)) rest
 
   pub rising_on : (es : List (K × X)) → is_sorted R es ≡ true → (k : ℕ) (d : K × X) → suc k < length es → is_lt (R (get_or es k d).0 (get_or es (suc k) d).0) ≡ true
   rising_on [] h k d high = absurd (omega arith)
   rising_on (e ∷ []) h k d high = absurd (omega arith)
-  rising_on (e ∷ f ∷ es) h zero d high = and_left _ _ (and_left _ _ h)
-  rising_on (e ∷ f ∷ es) h (suc k) d high = rising_on (f ∷ es) (and_right _ _ h) k d (omega arith)
+  rising_on (e ∷ f ∷ es) h zero d high = (and_parts _ _ (and_parts _ _ h).0).0
+  rising_on (e ∷ f ∷ es) h (suc k) d high = rising_on (f ∷ es) (and_parts _ _ h).1 k d (omega arith)
 
   -- a test of neighbours tells whether the entries are in order
   pub rising_test : (es : List (K × X)) (r : Bool) → IsAllAdjacentAnswer (λ x y b. b ≡ is_lt (R x.0 y.0)) es r → IsTrue r ↔ IsTrue (is_sorted R es)
@@ -118,17 +120,17 @@ module _ {K X : Type 0} {R : K → K → Ordering} (o : IsTotalOrder R) where
   -- a key at a place is above a key below each
   pub above_at : (x : K) (es : List (K × X)) → below_all R x es ≡ true → (at : ℕ) (d : K × X) → at < length es → R x (get_or es at d).0 ≡ Less
   above_at x [] h at d within = absurd (omega arith)
-  above_at x (e ∷ es) h zero d within = less_is (R x e.0) (and_left _ _ h)
-  above_at x (e ∷ es) h (suc at) d within = above_at x es (and_right _ _ h) at d (omega arith)
+  above_at x (e ∷ es) h zero d within = less_is (R x e.0) (and_parts _ _ h).0
+  above_at x (e ∷ es) h (suc at) d within = above_at x es (and_parts _ _ h).1 at d (omega arith)
 
   -- what is found of a key that stands at a place
   pub find_at : (es : List (K × X)) → is_sorted R es ≡ true → (q : K) (at : ℕ) (d : K × X) → at < length es → R q (get_or es at d).0 ≡ Equal → fin.find R q es ≡ Some (get_or es at d).1
   find_at [] h q at d within t = absurd (omega arith)
   find_at (e ∷ es) h q zero d within t = ap (λ r. cond (is_eq r) (Some e.1) (fin.find R q es)) t
   find_at (e ∷ es) h q (suc at) d within t =
-      let above = above_at e.0 es (and_left _ _ h) at d (omega arith) in
+      let above = above_at e.0 es (and_parts _ _ h).0 at d (omega arith) in
       let behind : R q e.0 ≡ Greater = less_back o e.0 q (less_tied o e.0 (get_or es at d).0 q above (tied_back o q (get_or es at d).0 t)) in
-      ap (λ r. cond (is_eq r) (Some e.1) (fin.find R q es)) behind ∙ find_at es (and_right _ _ h) q at d (omega arith) t
+      ap (λ r. cond (is_eq r) (Some e.1) (fin.find R q es)) behind ∙ find_at es (and_parts _ _ h).1 q at d (omega arith) t
 
   -- where the keys before a place are lesser and those from it on greater, nothing is found
   pub find_gap : (es : List (K × X)) (q : K) (at : ℕ) → ((j : ℕ) (d : K × X) → j < at → R (get_or es j d).0 q ≡ Less) → ((j : ℕ) (d : K × X) → at ≤ j → j < length es → R (get_or es j d).0 q ≡ Greater) → fin.find R q es ≡ None
@@ -152,33 +154,33 @@ module _ {K X : Type 0} {R : K → K → Ordering} (o : IsTotalOrder R) where
 
   -- ---- the merge
   merge_from_below : (k : K) (x : K × X) (rest : List (K × X) → List (K × X)) → R k x.0 ≡ Less → ((ys : List (K × X)) → below_all R k ys ≡ true → below_all R k (rest ys) ≡ true) → (ys : List (K × X)) → below_all R k ys ≡ true → below_all R k (merge_from R x rest ys) ≡ true
-  merge_from_below k x rest l ih [] h = and_both _ _ (ap is_lt l) (ih [] refl)
+  merge_from_below k x rest l ih [] h = and_from _ _ (ap is_lt l) (ih [] refl)
   merge_from_below k x rest l ih (y ∷ ys) h =
       elim (R x.0 y.0) as (λ r. below_all R k (by_order r (x ∷ rest (y ∷ ys)) (x ∷ rest ys) (y ∷ merge_from R x rest ys)) ≡ true) [
-        | Less ↦ and_both _ _ (ap is_lt l) (ih (y ∷ ys) h)
-        | Equal ↦ and_both _ _ (ap is_lt l) (ih ys (and_right _ _ h))
-        | Greater ↦ and_both _ _ (and_left _ _ h) (merge_from_below k x rest l ih ys (and_right _ _ h))
+        | Less ↦ and_from _ _ (ap is_lt l) (ih (y ∷ ys) h)
+        | Equal ↦ and_from _ _ (ap is_lt l) (ih ys (and_parts _ _ h).1)
+        | Greater ↦ and_from _ _ (and_parts _ _ h).0 (merge_from_below k x rest l ih ys (and_parts _ _ h).1)
       ]
 
   merge_below : (k : K) (xs ys : List (K × X)) → below_all R k xs ≡ true → below_all R k ys ≡ true → below_all R k (merge R xs ys) ≡ true
   merge_below k [] ys g h = h
-  merge_below k (x ∷ xs) ys g h = merge_from_below k x (merge R xs) (less_is _ (and_left _ _ g)) (λ zs. merge_below k xs zs (and_right _ _ g)) ys h
+  merge_below k (x ∷ xs) ys g h = merge_from_below k x (merge R xs) (less_is _ (and_parts _ _ g).0) (λ zs. merge_below k xs zs (and_parts _ _ g).1) ys h
 
   merge_from_sorted : (x : K × X) (xs : List (K × X)) → below_all R x.0 xs ≡ true → ((ys : List (K × X)) → is_sorted R ys ≡ true → is_sorted R (merge R xs ys) ≡ true) → (ys : List (K × X)) → is_sorted R ys ≡ true → is_sorted R (merge_from R x (merge R xs) ys) ≡ true
-  merge_from_sorted x xs b ih [] h = and_both _ _ (merge_below x.0 xs [] b refl) (ih [] refl)
+  merge_from_sorted x xs b ih [] h = and_from _ _ (merge_below x.0 xs [] b refl) (ih [] refl)
   merge_from_sorted x xs b ih (y ∷ ys) h =
       elim (R x.0 y.0) as (λ r. R x.0 y.0 ≡ r → is_sorted R (by_order r (x ∷ merge R xs (y ∷ ys)) (x ∷ merge R xs ys) (y ∷ merge_from R x (merge R xs) ys)) ≡ true) [
-        | Less ↦ λ t. and_both _ _ (merge_below x.0 xs (y ∷ ys) b (and_both _ _ (ap is_lt t) (below_less x.0 y.0 ys t (and_left _ _ h)))) (ih (y ∷ ys) h)
-        | Equal ↦ λ t. and_both _ _ (merge_below x.0 xs ys b (below_tied x.0 y.0 ys t (and_left _ _ h))) (ih ys (and_right _ _ h))
+        | Less ↦ λ t. and_from _ _ (merge_below x.0 xs (y ∷ ys) b (and_from _ _ (ap is_lt t) (below_less x.0 y.0 ys t (and_parts _ _ h).0))) (ih (y ∷ ys) h)
+        | Equal ↦ λ t. and_from _ _ (merge_below x.0 xs ys b (below_tied x.0 y.0 ys t (and_parts _ _ h).0)) (ih ys (and_parts _ _ h).1)
         | Greater ↦ λ t.
             let l = greater_back o x.0 y.0 t in
-            and_both _ _ (merge_from_below y.0 x (merge R xs) l (λ zs. merge_below y.0 xs zs (below_less y.0 x.0 xs l b)) ys (and_left _ _ h)) (merge_from_sorted x xs b ih ys (and_right _ _ h))
+            and_from _ _ (merge_from_below y.0 x (merge R xs) l (λ zs. merge_below y.0 xs zs (below_less y.0 x.0 xs l b)) ys (and_parts _ _ h).0) (merge_from_sorted x xs b ih ys (and_parts _ _ h).1)
       ] refl
 
   -- the merge is in order
   pub sorted-merge : (xs ys : List (K × X)) → is_sorted R xs ≡ true → is_sorted R ys ≡ true → is_sorted R (merge R xs ys) ≡ true
   sorted-merge [] ys g h = h
-  sorted-merge (x ∷ xs) ys g h = merge_from_sorted x xs (and_left _ _ g) (λ zs. sorted-merge xs zs (and_right _ _ g)) ys h
+  sorted-merge (x ∷ xs) ys g h = merge_from_sorted x xs (and_parts _ _ g).0 (λ zs. sorted-merge xs zs (and_parts _ _ g).1) ys h
 
   skipped : (b : Bool) (p r : Option X) (v : X) → (b ≡ true → p ≡ None) → cond b (Some v) (option_or p r) ≡ option_or p (cond b (Some v) r)
   skipped true p r v none = ap (λ u. option_or u (Some v)) (sym (none refl))
@@ -193,18 +195,18 @@ module _ {K X : Type 0} {R : K → K → Ordering} (o : IsTotalOrder R) where
   find-merge_from q x xs rest b ih (y ∷ ys) h =
       elim (R x.0 y.0) as (λ r. R x.0 y.0 ≡ r → fin.find R q (by_order r (x ∷ rest (y ∷ ys)) (x ∷ rest ys) (y ∷ merge_from R x rest ys)) ≡ option_or (fin.find R q (x ∷ xs)) (fin.find R q (y ∷ ys))) [
         | Less ↦ λ t. ap (cond (eq_by_cmp R q x.0) (Some x.1)) (ih (y ∷ ys) h) ∙ or_after (eq_by_cmp R q x.0) x.1 (fin.find R q xs) (fin.find R q (y ∷ ys))
-        | Equal ↦ λ t. ap (cond (eq_by_cmp R q x.0) (Some x.1)) (ih ys (and_right _ _ h))
+        | Equal ↦ λ t. ap (cond (eq_by_cmp R q x.0) (Some x.1)) (ih ys (and_parts _ _ h).1)
             ∙ tied_pair (eq_by_cmp R q x.0) (eq_by_cmp R q y.0) x.1 y.1 (fin.find R q xs) (fin.find R q ys) (ap is_eq (alike_right o x.0 y.0 q t))
-        | Greater ↦ λ t. ap (cond (eq_by_cmp R q y.0) (Some y.1)) (find-merge_from q x xs rest b ih ys (and_right _ _ h))
+        | Greater ↦ λ t. ap (cond (eq_by_cmp R q y.0) (Some y.1)) (find-merge_from q x xs rest b ih ys (and_parts _ _ h).1)
             ∙ skipped (eq_by_cmp R q y.0) (fin.find R q (x ∷ xs)) (fin.find R q ys) y.1 (λ s.
             let l : R q x.0 ≡ Less = tied_less o q y.0 x.0 ((Equal-is (R q y.0)).0 s) (greater_back o x.0 y.0 t) in
-            find_below q (x ∷ xs) (and_both _ _ (ap is_lt l) (below_less q x.0 xs l b)))
+            find_below q (x ∷ xs) (and_from _ _ (ap is_lt l) (below_less q x.0 xs l b)))
       ] refl
 
   -- what is found in the merge
   pub find-merge : (q : K) (xs ys : List (K × X)) → is_sorted R xs ≡ true → is_sorted R ys ≡ true → fin.find R q (merge R xs ys) ≡ option_or (fin.find R q xs) (fin.find R q ys)
   find-merge q [] ys g h = refl
-  find-merge q (x ∷ xs) ys g h = find-merge_from q x xs (merge R xs) (and_left _ _ g) (λ zs. find-merge q xs zs (and_right _ _ g)) ys h
+  find-merge q (x ∷ xs) ys g h = find-merge_from q x xs (merge R xs) (and_parts _ _ g).0 (λ zs. find-merge q xs zs (and_parts _ _ g).1) ys h
 
 -- a merge with nothing
 pub merge-nil : {K X : Type 0} (R : K → K → Ordering) (xs : List (K × X)) → merge R xs [] ≡ xs

@@ -1,5 +1,5 @@
 -- Whether all that one site holds is held by another.
-use Rattle.std.proofs.Common.{◌≡◌, ℕ, ◌+◌, ◌<◌, ◌≤◌, ◌↔◌, ◌⊎◌, Bool, true, false, cond, not, ◌&&◌, List, [], ◌∷◌, length, get_or, drop, eqb, length-drop, drop_of_length-le, Option, Some, None, is_some, option_and_then, Less, Equal, Greater, is_lt, is_eq, sym, refl, ap, subst, ◌∙◌, inl, inr, ⊎_elim, arith}
+use Rattle.std.proofs.Common.{◌≡◌, ℕ, ◌+◌, ◌<◌, ◌≤◌, ◌↔◌, ◌⊎◌, Bool, true, false, cond, ◌&&◌, List, [], ◌∷◌, length, get_or, drop, eqb, length-drop, drop_of_length-le, Option, Some, None, is_some, option_and_then, Less, Equal, Greater, is_lt, is_eq, sym, refl, ap, subst, ◌∙◌, inl, inr, ⊎_elim, arith}
 use Rattle.std.proofs.lemmas.Bool.{false≢true, cases_lt, and_from, and_parts, not-true, le-leb}
 use Rattle.std.proofs.lemmas.Bool.Decides.{nat_tests, same_from_decides}
 use Rattle.std.proofs.lemmas.List.{get_or_default}
@@ -17,25 +17,19 @@ use Rattle.stn_records.specs.JoinLaws.{first_step, join_is}
 use Rattle.stn_records.specs.Content.{Content, Item, addition, withdrawal, HasItem, most_known, is_within, known_count, dispute_contents, join_contents, taken}
 use Rattle.stn_records.specs.ContentLaws.{ids_total, ids_exact, records_decide, contents_join, contents_dispute}
 use Rattle.stn_records.specs.declared.record.Record.{Record}
-use Rattle.stn_records.proofs.Entries.{less_is, less_back, greater_back, below_less, find_below, sorted_drop}
-use Rattle.stn_records.proofs.Contents.{in_order}
-use Rattle.stn_records.proofs.Disputes.{front}
+use Rattle.stn_records.proofs.Entries.{in_order, front, less_is, greater_back, below_less, find_below, passed_over, rest_sorted}
 
 -- whether each entry of theirs passes a test with what ours has of its id, by two cursors; what is not there fails
 module _ {X : Type 0} (test : Option X → X → Bool) (fails : (x : X) → test None x ≡ false) where
   abbrev each_passes : List (SiteCounter × X) → List (SiteCounter × X) → Bool
   each_passes ours theirs = list_all (λ entry. test (fin.find id_cmp entry.0 ours) entry.1) theirs
 
-  -- an entry before an id is no match for it
-  passed : (id : SiteCounter) (e : SiteCounter × X) (es : List (SiteCounter × X)) → id_cmp e.0 id ≡ Less → fin.find id_cmp id (e ∷ es) ≡ fin.find id_cmp id es
-  passed id e es l = ap (λ r. cond (is_eq r) (Some e.1) (fin.find id_cmp id es)) (less_back ids_total e.0 id l)
-
   -- an entry of ours before all of theirs is none of theirs
   first_passed : (x : SiteCounter × X) (xs ys : List (SiteCounter × X)) → below_all id_cmp x.0 ys ≡ true → each_passes xs ys ≡ each_passes (x ∷ xs) ys
   first_passed x xs [] h = refl
   first_passed x xs (y ∷ ys) h =
       let below = and_parts _ _ h in
-      λ i. test (sym (passed y.0 x xs (less_is _ below.0)) i) y.1 && first_passed x xs ys below.1 i
+      λ i. test (sym (passed_over ids_total y.0 x xs (less_is _ below.0)) i) y.1 && first_passed x xs ys below.1 i
 
   ours_first : (x y : SiteCounter × X) (xs ys : List (SiteCounter × X)) → is_sorted id_cmp (y ∷ ys) ≡ true → id_cmp x.0 y.0 ≡ Less → each_passes xs (y ∷ ys) ≡ each_passes (x ∷ xs) (y ∷ ys)
   ours_first x y xs ys h l = first_passed x xs (y ∷ ys) (and_from _ _ (ap is_lt l) (below_less ids_total x.0 y.0 ys l (and_parts _ _ h).0))
@@ -54,10 +48,10 @@ module _ {X : Type 0} (test : Option X → X → Bool) (fails : (x : X) → test
   -- one step of two cursors
   module _ (ours theirs : List (SiteCounter × X)) (i j : ℕ) (x y : SiteCounter × X) (in_ours : i < length ours) (in_theirs : j < length theirs) (g : is_sorted id_cmp ours ≡ true) (h : is_sorted id_cmp theirs ≡ true) where
     ours_sorted : is_sorted id_cmp (get_or ours i x ∷ drop (i + 1) ours) ≡ true
-    ours_sorted = subst (λ l. is_sorted id_cmp l ≡ true) (front ours i x in_ours) (sorted_drop ids_total i ours g)
+    ours_sorted = rest_sorted ids_total ours i x in_ours g
 
     theirs_sorted : is_sorted id_cmp (get_or theirs j y ∷ drop (j + 1) theirs) ≡ true
-    theirs_sorted = subst (λ l. is_sorted id_cmp l ≡ true) (front theirs j y in_theirs) (sorted_drop ids_total j theirs h)
+    theirs_sorted = rest_sorted ids_total theirs j y in_theirs h
 
     opened : each_passes (get_or ours i x ∷ drop (i + 1) ours) (get_or theirs j y ∷ drop (j + 1) theirs) ≡ each_passes (drop i ours) (drop j theirs)
     opened k = each_passes (sym (front ours i x in_ours) k) (sym (front theirs j y in_theirs) k)

@@ -1,8 +1,12 @@
 pub mod Entries
+pub mod KnownIds
+pub mod Proper
+pub mod OneItem
+pub mod Limits
+pub mod Outcomes
 pub mod Lists
 pub mod Places
 pub mod Disputes
-pub mod Contents
 pub mod Holding
 pub mod Counts
 pub mod Counters

@@ -1,16 +1,25 @@
 -- Contents that are made of lists of entries.
-use Rattle.std.proofs.Common.{◌≡◌, true, false, cond, List, [], ◌∷◌, get_or, Some, is_some, is_eq, sym, ap, subst, ◌∙◌, All}
+use Rattle.std.proofs.Common.{◌≡◌, ℕ, ◌<◌, length, true, false, cond, List, [], ◌∷◌, get_or, Some, is_some, is_eq, sym, ap, subst, ◌∙◌, All}
 use Rattle.std.proofs.lemmas.Bool.{false≢true}
 use Rattle.std.proofs.lemmas.List.{get_or_default}
 use Rattle.std.proofs.lemmas.List.Elements.{All-same, recursion_from_All}
 use Rattle.std.specs.List.{AllByRecursion}
 use Rattle.std.specs.FinMap as fin
-use Rattle.std.specs.FinMap.{get-entries}
+use Rattle.std.specs.FinMap.{get-entries, is_sorted}
 use Rattle.stn_records.specs.Id.{SiteCounter, id_cmp}
 use Rattle.stn_records.specs.Record.{IsProper}
 use Rattle.stn_records.specs.declared.record.Record.{Record}
 use Rattle.stn_records.specs.Content.{RecordMap, AllProper}
-use Rattle.stn_records.proofs.Contents.{entry_at}
+use Rattle.std.specs.Cmp.{tied_itself}
+use Rattle.stn_records.specs.ContentLaws.{ids_total}
+use Rattle.stn_records.proofs.Entries.{in_order, find_at}
+
+-- the entry at a place is what its id has
+pub entry_at : (m : RecordMap) (es : List (SiteCounter × Record)) (place : ℕ) (e : SiteCounter × Record) → es ≡ fin.entries m → place < length es → e ≡ get_or es place e → fin.get m e.0 ≡ Some e.1
+entry_at m es place e is within read =
+    get-entries m e.0 ∙ ap (fin.find id_cmp e.0) (sym is)
+    ∙ find_at ids_total es (ap (is_sorted id_cmp) is ∙ in_order m) e.0 place e within (ap (λ (f : SiteCounter × Record). id_cmp e.0 f.0) (sym read) ∙ tied_itself ids_total e.0)
+    ∙ ap (λ (f : SiteCounter × Record). Some f.1) (sym read)
 
 abbrev pub IsProperEntry : SiteCounter × Record → Type 0
 IsProperEntry entry = IsProper entry.1.mark entry.1.bound

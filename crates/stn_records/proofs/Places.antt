@@ -1,11 +1,10 @@
 -- What a search for an id finds, and what an edit at that place does.
-use Rattle.std.proofs.Common.{◌≡◌, ◌<◌, Bool, T, Equal, ℕ, zero, suc, is_eq, is_ok, ⊎_elim, true, false, cond, List, [], ◌∷◌, length, get_or, Some, None, Result, Ok, Err, IfOk, IfErr, filter, sym, refl, ap, ◌∙◌, arith}
+use Rattle.std.proofs.Common.{◌≡◌, ◌<◌, Bool, Equal, ℕ, zero, suc, is_eq, is_ok, ⊎_elim, true, false, cond, List, [], ◌∷◌, length, get_or, Some, None, Result, Ok, Err, IfOk, IfErr, filter, sym, refl, ap, ◌∙◌, arith, ◌||◌}
 use Rattle.std.specs.List.Sorted.{IsSearchInRange, IsBinarySearchResult, IsSorted, IsPermutation}
 use Rattle.std.specs.Cmp.{tied_back}
-use Rattle.std.proofs.Common.{◌||◌}
 use Rattle.std.specs.Prelude.{◌↔◌}
 use Rattle.std.proofs.lemmas.List.{get_or_default}
-use Rattle.std.proofs.lemmas.Bool.{false≢true, cases_lt}
+use Rattle.std.proofs.lemmas.Bool.{false≢true, cases_lt, or_right}
 use Rattle.std.specs.Option.{option_or, is_some}
 use Rattle.std.specs.List.{insert}
 use Rattle.std.specs.Set.{is_member}
@@ -20,11 +19,7 @@ use Rattle.stn_records.specs.Maps.{union}
 use Rattle.stn_records.specs.MapLaws.{get-union}
 use Rattle.stn_records.specs.Content.{same_ids}
 use Rattle.stn_records.specs.ContentLaws.{ids_total, ids_exact}
-use Rattle.stn_records.proofs.Entries.{holds, or_right, less_back, greater_back, neighbours_rise, find_at, find_gap, put_gap, sorted-merge, find-merge}
-
-pub T_true : (b : Bool) → T b → b ≡ true
-T_true true h = refl
-T_true false h = absurd h
+use Rattle.stn_records.proofs.Entries.{holds, T_true, less_back, greater_back, neighbours_rise, find_at, find_gap, put_gap, sorted-merge, find-merge}
 
 alike : (p : SiteCounter → Bool) (q x : SiteCounter) → id_cmp q x ≡ Equal → p x ≡ p q
 alike p q x t = ap p (sym (ids_exact q x t))

@@ -14,7 +14,7 @@ use Rattle.stn_records.specs.Join.{IsJoin}
 use Rattle.stn_records.specs.JoinLaws.{same_options}
 use Rattle.stn_records.specs.Maps.{differ, with_entries, union, dispute, join, HasEntry}
 
-or_after : {X : Type 0} (b : Bool) (x : X) (o p : Option X) → cond b (Some x) (option_or o p) ≡ option_or (cond b (Some x) o) p
+pub or_after : {X : Type 0} (b : Bool) (x : X) (o p : Option X) → cond b (Some x) (option_or o p) ≡ option_or (cond b (Some x) o) p
 or_after true x o p = refl
 or_after false x o p = refl
 
@@ -26,7 +26,8 @@ pub either_value : {X : Type 0} (o p : Option X) (x : X) → option_or o p ≡ S
 either_value None p x e = inr e
 either_value (Some y) p x e = inl e
 
-none_found : {K : Type 0} (p : K → Bool) (ks : List K) → ((k : K) → p k ≡ false) → find p ks ≡ None
+-- where no key passes, none is found
+pub none_found : {K : Type 0} (p : K → Bool) (ks : List K) → ((k : K) → p k ≡ false) → find p ks ≡ None
 none_found p [] f = refl
 none_found p (k ∷ ks) f = ap (λ b. cond b (Some k) (find p ks)) (f k) ∙ none_found p ks f
 

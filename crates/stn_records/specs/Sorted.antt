@@ -1,6 +1,6 @@
 -- For proofs alone: no public clause cites these words.
 -- Lists of entries in the order of their ids.
-use Rattle.std.specs.Prelude.{◌≡◌, ℕ, ◌<◌, ◌≤◌, Bool, false, List, [], ◌∷◌, length, map, insert, slice_index_or, Option, Some, None, is_some, if◌then◌else◌}
+use Rattle.std.specs.Prelude.{◌≡◌, ℕ, ◌<◌, ◌≤◌, Bool, false, List, [], ◌∷◌, length, insert, slice_index_or, Option, Some, None, is_some, if◌then◌else◌}
 use Rattle.std.specs.List.{list_all}
 use Rattle.std.specs.declared.cmp.Ordering.{Ordering}
 use Rattle.std.specs.Ordering.{eq_by_cmp, is_lt}
@@ -9,10 +9,6 @@ use Rattle.std.specs.FinMap.Entries.{by_order}
 use Rattle.stn_records.specs.Id.{SiteCounter, id_cmp}
 use Rattle.stn_records.specs.Record.{same_records}
 use Rattle.stn_records.specs.declared.record.Record.{Record}
-
--- the ids of the entries
-abbrev pub keys_of : {K X : Type 0} → List (K × X) → List K
-keys_of entries = map (λ entry. entry.0) entries
 
 -- each id of theirs is one of ours
 abbrev pub has_keys : {X : Type 0} → List (SiteCounter × X) → List (SiteCounter × X) → Bool

@@ -8,7 +8,8 @@ ghost use Rattle.stn_records.specs.Id.{id_cmp};
 ghost use Rattle.stn_records.specs.Maps.{differ};
 ghost use Rattle.stn_records.specs.Record.{same_records};
 ghost use Rattle.stn_records.specs.Content.{same_ids, greatest_counter as greatest_of};
-ghost use Rattle.stn_records.specs.Sorted.{has_keys, has_entries, keys_of, IsPlaceOf, IsGapFor, IsEndOf, merge, lesser_of, past_id};
+ghost use Rattle.std.specs.Map.{keys_of};
+ghost use Rattle.stn_records.specs.Sorted.{has_keys, has_entries, IsPlaceOf, IsGapFor, IsEndOf, merge, lesser_of, past_id};
 
 use crate::id::{Id, Site};
 use crate::record::{Record, is_same};

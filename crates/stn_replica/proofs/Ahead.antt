@@ -1,5 +1,6 @@
 -- A walk over the entries of one map, and what walks beside it have left of the entries of others.
 use Rattle.std.proofs.Common.{◌≡◌, ℕ, ◌+◌, ◌<◌, Bool, true, false, cond, not, ◌&&◌, List, [], ◌∷◌, length, get_or, drop, Some, is_some, Less, Equal, Greater, is_lt, is_eq, sym, refl, ap, subst, ◌∙◌}
+use Rattle.std.proofs.lemmas.Bool.{and_parts}
 use Rattle.std.specs.List.{AllByRecursion}
 use Rattle.std.specs.Cmp.{tied_back}
 use Rattle.std.specs.FinMap.{FinMap, entries, get, get-entries, contains_key, find, is_sorted}
@@ -7,28 +8,22 @@ use Rattle.std.specs.FinMap.Entries.{below_all}
 use Rattle.stn_records.specs.Id.{SiteCounter, id_cmp}
 use Rattle.stn_records.specs.Content.{Content, is_live}
 use Rattle.stn_records.specs.ContentLaws.{ids_total}
-use Rattle.stn_records.proofs.Entries.{and_left, and_right, less_is, less_back, greater_back, below_less, find_below, sorted_drop}
-use Rattle.stn_records.proofs.Contents.{in_order}
-use Rattle.stn_records.proofs.Disputes.{front}
+use Rattle.stn_records.proofs.Entries.{less_is, less_back, greater_back, below_less, find_below, passed_over, sorted_drop, in_order, front}
 use Rattle.stn_replica.specs.Work.{is_risen}
 use Rattle.stn_replica.specs.Walk.{from_id, begins_with}
 
 module _ {X : Type 0} where
-  -- an entry below an id is no match for it
-  passed : (id : SiteCounter) (e : SiteCounter × X) (es : List (SiteCounter × X)) → id_cmp e.0 id ≡ Less → find id_cmp id (e ∷ es) ≡ find id_cmp id es
-  passed id e es l = ap (λ r. cond (is_eq r) (Some e.1) (find id_cmp id es)) (less_back ids_total e.0 id l)
-
   -- what is left from an id on is in order
   left_sorted : (id : SiteCounter) (es : List (SiteCounter × X)) → is_sorted id_cmp es ≡ true → is_sorted id_cmp (from_id id es) ≡ true
   left_sorted id [] h = refl
-  left_sorted id (e ∷ es) h = elim (is_lt (id_cmp e.0 id)) as (λ b. is_sorted id_cmp (cond b (from_id id es) (e ∷ es)) ≡ true) [ true ↦ left_sorted id es (and_right _ _ h) | false ↦ h ]
+  left_sorted id (e ∷ es) h = elim (is_lt (id_cmp e.0 id)) as (λ b. is_sorted id_cmp (cond b (from_id id es) (e ∷ es)) ≡ true) [ true ↦ left_sorted id es (and_parts _ _ h).1 | false ↦ h ]
 
   -- and has all that is found of the ids above
   left_finds : (id k : SiteCounter) (es : List (SiteCounter × X)) → id_cmp id k ≡ Less → find id_cmp k (from_id id es) ≡ find id_cmp k es
   left_finds id k [] l = refl
   left_finds id k (e ∷ es) l =
       elim (is_lt (id_cmp e.0 id)) as (λ b. is_lt (id_cmp e.0 id) ≡ b → find id_cmp k (cond b (from_id id es) (e ∷ es)) ≡ find id_cmp k (e ∷ es)) [
-        | true ↦ λ t. left_finds id k es l ∙ sym (passed k e es (ids_total.trans e.0 id k (less_is _ t) l))
+        | true ↦ λ t. left_finds id k es l ∙ sym (passed_over ids_total k e es (ids_total.trans e.0 id k (less_is _ t) l))
         | false ↦ λ t. refl
       ] refl
 
@@ -37,11 +32,11 @@ module _ {X : Type 0} where
   begins_where_found id [] h = refl
   begins_where_found id (e ∷ es) h =
       elim (id_cmp e.0 id) as (λ r. id_cmp e.0 id ≡ r → begins_with id (cond (is_lt r) (from_id id es) (e ∷ es)) ≡ is_some (find id_cmp id (e ∷ es))) [
-        | Less ↦ λ t. begins_where_found id es (and_right _ _ h) ∙ ap is_some (sym (passed id e es t))
+        | Less ↦ λ t. begins_where_found id es (and_parts _ _ h).1 ∙ ap is_some (sym (passed_over ids_total id e es t))
         | Equal ↦ λ t. ap is_eq t ∙ ap (λ r. is_some (cond (is_eq r) (Some e.1) (find id_cmp id es))) (sym (tied_back ids_total e.0 id t))
         | Greater ↦ λ t.
             let l = greater_back ids_total e.0 id t in
-            ap is_eq t ∙ ap is_some (sym (find_below ids_total id es (below_less ids_total id e.0 es l (and_left _ _ h)))) ∙ ap (λ r. is_some (cond (is_eq r) (Some e.1) (find id_cmp id es))) (sym l)
+            ap is_eq t ∙ ap is_some (sym (find_below ids_total id es (below_less ids_total id e.0 es l (and_parts _ _ h).0))) ∙ ap (λ r. is_some (cond (is_eq r) (Some e.1) (find id_cmp id es))) (sym l)
       ] refl
 
 module _ {Y : Type 0} where
@@ -54,7 +49,7 @@ module _ {Y : Type 0} where
 
   above : (P Q : SiteCounter × Y → Type 0) (id : SiteCounter) (es : List (SiteCounter × Y)) → below_all id_cmp id es ≡ true → ((e : SiteCounter × Y) → id_cmp id e.0 ≡ Less → P e → Q e) → AllByRecursion P es → AllByRecursion Q es
   above P Q id [] h f all = tt
-  above P Q id (e ∷ es) h f all = (f e (less_is _ (and_left _ _ h)) all.0, above P Q id es (and_right _ _ h) f all.1)
+  above P Q id (e ∷ es) h f all = (f e (less_is _ (and_parts _ _ h).0) all.0, above P Q id es (and_parts _ _ h).1 f all.1)
 
 -- what is left of the entries of a map has all that the map has of the ids from a place on
 pub record IsAhead {X Y : Type 0} (all : List (SiteCounter × Y)) (place : ℕ) (m : FinMap id_cmp X) (rest : List (SiteCounter × X)) : Type 0 where

@@ -5,7 +5,7 @@ use Rattle.std.specs.FinMap.{entries, keys, contains_key}
 use Rattle.stn_records.specs.Id.{SiteCounter}
 use Rattle.stn_records.specs.declared.record.Record.{Record}
 use Rattle.stn_records.specs.Content.{Content, known_count, live_of, listed}
-use Rattle.stn_records.proofs.Contents.{additions_within, tombstones_within}
+use Rattle.stn_records.proofs.Limits.{additions_within, tombstones_within}
 
 -- no more ids are withdrawn than are known
 pub withdrawn_within : (s : Content) → length (keys s.tombstones) ≤ known_count s

@@ -8,7 +8,8 @@ use Rattle.stn_records.specs.declared.record.Record.{Record}
 use Rattle.stn_records.specs.Id.{SiteCounter, id_cmp}
 use Rattle.stn_records.specs.Content.{Content, Item, addition, withdrawal, HasItem, is_known, no_content, one_record, one_tombstone, with_record, with_tombstone, next_counter}
 use Rattle.stn_records.specs.ContentLaws.{ids_total, ids_exact, contents_join}
-use Rattle.stn_records.proofs.Contents.{inserted_here, record_joins, tombstone_joins, next_is_new}
+use Rattle.stn_records.proofs.OneItem.{inserted_here, record_joins, tombstone_joins}
+use Rattle.stn_records.proofs.Counters.{next_is_new}
 use Rattle.stn_replica.specs.Held.{Held}
 use Rattle.stn_replica.specs.Calls.{Accepted, added, withdrew, took, LeavesState, AllLeave, CameBy, Brought, Took, TookSame}
 use Rattle.stn_replica.proofs.Changes.{unknown_absent}

@@ -23,7 +23,7 @@ use Rattle.stn_replica.specs.Bounds.{RecordsName}
 use Rattle.stn_replica.specs.FaultsOf.{of_records_fault}
 use Rattle.stn_replica.specs.Held.{Held}
 use Rattle.stn_replica.specs.Refusals.{names_events, bound_refusal, next_refusal, add_refusal, done_refusal, withdraw_refusal, records_name, take_refusal}
-use Rattle.stn_records.proofs.Contents.{too_many}
+use Rattle.stn_records.proofs.Outcomes.{too_many}
 use Rattle.stn_records.proofs.Holding.{held_agrees}
 use Rattle.stn_replica.proofs.Changes.{unknown_absent}
 

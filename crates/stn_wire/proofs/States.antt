@@ -5,7 +5,7 @@ use Rattle.std.specs.List.{flat_map}
 use Rattle.stn_records.specs.Id.{SiteCounter}
 use Rattle.stn_records.specs.declared.record.Record.{Record}
 use Rattle.stn_records.specs.Content.{Content, IsSound}
-use Rattle.stn_records.proofs.Contents.{additions_within, tombstones_within}
+use Rattle.stn_records.proofs.Limits.{additions_within, tombstones_within}
 use Rattle.stn_wire.specs.Spelling.{entry_bytes, IsEntry, tomb_bytes, IsTomb, counted, AreCounted}
 use Rattle.stn_wire.specs.Apart.{entry_apart, tomb_apart}
 use Rattle.stn_wire.specs.Frame.{state_bytes, IsState}

@@ -11,7 +11,7 @@ use Rattle.std.proofs.lemmas.List.Elements.{Contains-append_cases}
 use Rattle.stn_records.specs.Id.{SiteCounter}
 use Rattle.stn_records.specs.Content.{most_known, Content, Item, addition, withdrawal, HasItem, is_known, is_live, known_in_either, dispute_contents, joined_contents, no_content}
 use Rattle.stn_records.specs.ContentLaws.{contents_join, contents_undisputed}
-use Rattle.stn_records.proofs.Contents.{together}
+use Rattle.stn_records.proofs.Limits.{together}
 use Rattle.stn_replica.specs.declared.faults.ReplicaFault.TheVariants.{Full}
 use Rattle.stn_replica.specs.Refusals.{take_refusal}
 use Rattle.stn_replica.proofs.Refused.{agreed_take}

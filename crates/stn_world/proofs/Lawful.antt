@@ -12,8 +12,9 @@ use Rattle.stn_records.specs.Id.{SiteCounter}
 use Rattle.stn_records.specs.declared.record.Record.{Record}
 use Rattle.stn_records.specs.Content.{Content, Item, addition, withdrawal, HasItem, is_known, known_ids, known_count, same_ids, no_content, with_record, with_tombstone, joined_contents}
 use Rattle.stn_records.specs.ContentLaws.{ids_total, contents_join, contents_undisputed}
-use Rattle.stn_records.proofs.Entries.{or_right}
-use Rattle.stn_records.proofs.Contents.{fewer, known_member, next_is_new}
+use Rattle.std.proofs.lemmas.Bool.{or_right}
+use Rattle.stn_records.proofs.KnownIds.{fewer, known_member}
+use Rattle.stn_records.proofs.Counters.{next_is_new}
 use Rattle.stn_replica.specs.Held.{plain, executed}
 use Rattle.stn_replica.proofs.Items.{addition_items, withdrawal_brought, nothing_there}
 use Rattle.stn_replica.proofs.Refused.{accepted_named, accepted_known, executed_named}

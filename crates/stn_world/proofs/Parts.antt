@@ -11,7 +11,7 @@ use Rattle.stn_records.specs.Id.{SiteCounter, id_cmp}
 use Rattle.stn_records.specs.declared.record.Record.{Record}
 use Rattle.stn_records.specs.Content.{Content, addition, withdrawal, AllHeld, part_of, same_ids}
 use Rattle.stn_records.specs.ContentLaws.{ids_total, ids_exact, records_decide}
-use Rattle.stn_records.proofs.Contents.{retained_value}
+use Rattle.stn_records.proofs.Proper.{retained_value}
 use Rattle.stn_replica.proofs.Entries.{entries_from_get, get_from_entries}
 use Rattle.stn_world.specs.Parts.{IsPart, is_there, is_part, holds_all}
 

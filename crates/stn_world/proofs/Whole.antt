@@ -9,7 +9,8 @@ use Rattle.stn_records.specs.Id.{SiteCounter}
 use Rattle.stn_records.specs.declared.record.Record.{Record}
 use Rattle.stn_records.specs.Content.{Content, Item, addition, withdrawal, HasItem, is_known, no_content, with_record, with_tombstone, dispute_contents, join_contents, joined_contents}
 use Rattle.stn_records.specs.ContentLaws.{ids_total, ids_exact, contents_join, contents_dispute, contents_undisputed}
-use Rattle.stn_records.proofs.Contents.{inserted_here, next_is_new}
+use Rattle.stn_records.proofs.OneItem.{inserted_here}
+use Rattle.stn_records.proofs.Counters.{next_is_new}
 use Rattle.stn_replica.specs.Bounds.{RecordsName}
 use Rattle.stn_replica.specs.Held.{plain, executed}
 use Rattle.stn_replica.proofs.Entries.{entries_from_get}

@@ -3,7 +3,8 @@ use Rattle.std.proofs.lemmas.Map.Made.{distinct_count-le}
 use Rattle.std.specs.Set.{distinct_count}
 use Rattle.std.specs.FinMap.{is_sorted}
 use Rattle.stn_records.specs.Id.{id_cmp}
-use Rattle.stn_records.specs.Sorted.{keys_of, past_id}
+use Rattle.std.specs.Map.{keys_of}
+use Rattle.stn_records.specs.Sorted.{past_id}
 use Rattle.stn_records.specs.Content.{same_ids}
 use Rattle.stn_records.proofs.Counts.{all_keys, least_read, one_counted, fewer_left, none_left, keys_length, past_sorted}
 use Rattle.stn_records.proofs.sorted.count_ids.Goals as goal

@@ -3,7 +3,7 @@ use Rattle.std.proofs.lemmas.Bool.{false≢true}
 use Rattle.std.proofs.lemmas.List.Elements.{All-nil}
 use Rattle.std.specs.FinMap.{entries, contains_key}
 use Rattle.stn_records.specs.Content.{is_live}
-use Rattle.stn_records.proofs.Contents.{in_order}
+use Rattle.stn_records.proofs.Entries.{in_order}
 use Rattle.stn_replica.proofs.Ahead.{all_ahead, seen_there, seen_ahead}
 use Rattle.stn_replica.proofs.Live.{tombs_there, keeps_from_tombs, falls_from_tomb}
 use Rattle.stn_replica.proofs.Places.{walked_are, tombs_walked_are, seen_with, all_seen, next_of}

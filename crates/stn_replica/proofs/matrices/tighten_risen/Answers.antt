@@ -1,7 +1,7 @@
 use Rattle.std.proofs.Common.{◌≡◌, true, ◌+◌, [], ◌∷◌, ◌++◌, refl, sym, ap, ◌∙◌, take, arith}
 use Rattle.std.proofs.lemmas.Bool.{false≢true}
 use Rattle.std.specs.FinMap.{entries, contains_key}
-use Rattle.stn_records.proofs.Contents.{in_order}
+use Rattle.stn_records.proofs.Entries.{in_order}
 use Rattle.stn_replica.specs.Work.{is_risen}
 use Rattle.stn_replica.proofs.Ahead.{all_ahead, seen_there, seen_ahead, rises}
 use Rattle.stn_replica.proofs.Places.{walked_are, tombs_walked_are, one_more_seen, all_seen, next_of}

@@ -1,6 +1,6 @@
 use Rattle.std.proofs.Common.{ap, ◌∙◌}
 use Rattle.std.specs.FinMap as fin
-use Rattle.stn_records.proofs.Contents.{disputed}
+use Rattle.stn_records.proofs.Disputes.{disputed}
 use Rattle.stn_records.proofs.additions.Additions.dispute.Goals as goal
 
 pub returns : goal.returns

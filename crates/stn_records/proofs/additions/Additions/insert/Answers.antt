@@ -1,4 +1,4 @@
-use Rattle.stn_records.proofs.Contents.{inserted_proper}
+use Rattle.stn_records.proofs.Proper.{inserted_proper}
 use Rattle.stn_records.proofs.additions.Additions.insert.Goals as goal
 
 pub invariant_of-self : goal.invariant_of-self

@@ -1,6 +1,6 @@
 use Rattle.std.proofs.Common.{sym, subst}
 use Rattle.stn_records.specs.Content.{AllProper}
-use Rattle.stn_records.proofs.Contents.{empty_proper}
+use Rattle.stn_records.proofs.Proper.{empty_proper}
 use Rattle.stn_records.proofs.additions.Additions.new.Goals as goal
 
 pub invariant_of-result : goal.invariant_of-result

@@ -1,7 +1,7 @@
 use Rattle.std.proofs.Common.{sym, subst}
 use Rattle.std.specs.Set.{is_member}
 use Rattle.stn_records.specs.Content.{AllProper, same_ids}
-use Rattle.stn_records.proofs.Contents.{retain_proper}
+use Rattle.stn_records.proofs.Proper.{retain_proper}
 use Rattle.stn_records.proofs.additions.Additions.part.Goals as goal
 
 pub invariant_of-result : goal.invariant_of-result

@@ -1,6 +1,6 @@
 use Rattle.std.proofs.Common.{sym, subst}
 use Rattle.stn_records.specs.Content.{AllProper}
-use Rattle.stn_records.proofs.Contents.{union_proper}
+use Rattle.stn_records.proofs.Proper.{union_proper}
 use Rattle.stn_records.proofs.additions.Additions.union.Goals as goal
 
 pub invariant_of-result : goal.invariant_of-result

@@ -1,7 +1,8 @@
 use Rattle.std.proofs.Common.{◌≡◌, Some, is_some, sym, ap, subst, ◌∙◌}
 use Rattle.std.proofs.lemmas.Bool.{false≢true}
 use Rattle.stn_records.specs.Content.{IsSound}
-use Rattle.stn_records.proofs.Contents.{record_again, record_joins, added_is, added_sound, seen_tombstone, seen_record, known_by_tombstone, no_room_needed, room_left}
+use Rattle.stn_records.proofs.OneItem.{record_again, record_joins}
+use Rattle.stn_records.proofs.Outcomes.{added_is, added_sound, seen_tombstone, seen_record, known_by_tombstone, no_room_needed, room_left}
 use Rattle.stn_records.proofs.records.Records.add.Goals as goal
 use Rattle.stn_records.proofs.records.Records.add.Goals.{else-not-contains-via-then-not-contains+else-is_full, else-not-contains-via-else-not-contains}
 

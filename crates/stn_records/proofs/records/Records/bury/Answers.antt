@@ -1,6 +1,7 @@
 use Rattle.std.proofs.Common.{not, Some, is_some, sym, ap, subst, ◌∙◌}
 use Rattle.stn_records.specs.Content.{IsSound}
-use Rattle.stn_records.proofs.Contents.{tombstone_again, tombstone_joins, withdrawn_is, withdrawn_sound, seen_tombstone, seen_record, known_by_record, no_room_needed, room_left}
+use Rattle.stn_records.proofs.OneItem.{tombstone_again, tombstone_joins}
+use Rattle.stn_records.proofs.Outcomes.{withdrawn_is, withdrawn_sound, seen_tombstone, seen_record, known_by_record, no_room_needed, room_left}
 use Rattle.stn_records.proofs.records.Records.bury.Goals as goal
 use Rattle.stn_records.proofs.records.Records.bury.Goals.{else-is_none-via-then-is_none+else-is_full, else-is_none-via-else-is_none}
 

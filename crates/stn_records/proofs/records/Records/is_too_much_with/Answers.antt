@@ -2,7 +2,7 @@ use Rattle.std.proofs.Common.{◌≡◌, true, ◌+◌, ◌<◌, ◌≤◌, ℕ,
 use Rattle.std.proofs.lemmas.Bool.Decides.{nat_tests}
 use Rattle.std.specs.FinMap as fin
 use Rattle.stn_records.specs.Content.{Content, known_in_either}
-use Rattle.stn_records.proofs.Contents.{known_together}
+use Rattle.stn_records.proofs.Limits.{known_together}
 use Rattle.stn_records.proofs.records.Records.is_too_much_with.Goals as goal
 
 more : (a b : ℕ) → ltb a b ≡ true → a < b

@@ -1,6 +1,6 @@
 use Rattle.std.proofs.Common.{sym, ap, subst, ◌∙◌}
 use Rattle.stn_records.specs.Content.{IsSound, joined_contents}
-use Rattle.stn_records.proofs.Contents.{not_too_much, seen_dispute, too_many, taken_is, joined_sound}
+use Rattle.stn_records.proofs.Outcomes.{not_too_much, seen_dispute, too_many, taken_is, joined_sound}
 use Rattle.stn_records.proofs.records.Records.joined.Goals as goal
 
 pub returns-then-is_too_much_with-clause-refused : goal.returns-then-is_too_much_with-clause-refused

@@ -1,6 +1,7 @@
 use Rattle.std.proofs.Common.{sym, subst}
 use Rattle.stn_records.specs.Content.{IsSound}
-use Rattle.stn_records.proofs.Contents.{empty_proper, empty_limited}
+use Rattle.stn_records.proofs.Proper.{empty_proper}
+use Rattle.stn_records.proofs.Limits.{empty_limited}
 use Rattle.stn_records.proofs.records.Records.new.Goals as goal
 
 pub invariant_of-result : goal.invariant_of-result

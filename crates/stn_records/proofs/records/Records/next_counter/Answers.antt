@@ -1,6 +1,6 @@
 use Rattle.std.proofs.Common.{ap, ◌∙◌}
 use Rattle.stn_records.specs.Content.{next_counter}
-use Rattle.stn_records.proofs.Contents.{counter_read, next_cases, new_cases}
+use Rattle.stn_records.proofs.Counters.{counter_read, next_cases, new_cases}
 use Rattle.stn_records.proofs.records.Records.next_counter.Goals as goal
 
 pub returns : goal.returns

@@ -1,4 +1,4 @@
-use Rattle.stn_records.proofs.Contents.{part_sound}
+use Rattle.stn_records.proofs.Outcomes.{part_sound}
 use Rattle.stn_records.proofs.records.Records.part.Goals as goal
 
 pub invariant_of-result : goal.invariant_of-result

@@ -1,5 +1,5 @@
 use Rattle.std.proofs.Common.{sym, ltb-true}
-use Rattle.stn_records.proofs.Contents.{entry_at}
+use Rattle.stn_records.proofs.Lists.{entry_at}
 use Rattle.stn_records.proofs.records.Records.record_at.Goals as goal
 
 pub returns-clause-proper : goal.returns-clause-proper

@@ -1,6 +1,7 @@
 use Rattle.std.proofs.Common.{◌≡◌, true, not, Some, is_some, sym, ap, subst, ◌∙◌}
 use Rattle.stn_records.specs.Content.{IsSound}
-use Rattle.stn_records.proofs.Contents.{tombstone_again, tombstone_joins, withdrawn_is, withdrawn_sound, seen_tombstone, seen_record, known_by_record, no_room_needed}
+use Rattle.stn_records.proofs.OneItem.{tombstone_again, tombstone_joins}
+use Rattle.stn_records.proofs.Outcomes.{withdrawn_is, withdrawn_sound, seen_tombstone, seen_record, known_by_record, no_room_needed}
 use Rattle.stn_records.proofs.records.Records.withdraw.Goals as goal
 
 pub returns-then-contains-clause-withdrawn : goal.returns-then-contains-clause-withdrawn

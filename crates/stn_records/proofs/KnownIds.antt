@@ -1,0 +1,87 @@
+-- How many ids are known, each counted once.
+use Rattle.std.proofs.Common.{◌≡◌, suc, ◌≤◌, Bool, true, false, cond, ◌||◌, List, [], ◌∷◌, ◌++◌, length, Option, Some, None, is_some, sym, refl, ap, ◌∙◌, ⊎_elim, arith}
+use Rattle.std.proofs.lemmas.Bool.{false≢true, or_left, or_right, or_cases}
+use Rattle.std.specs.FinMap.{contains_key-keys}
+use Rattle.stn_records.specs.Content.{Content, Item, addition, withdrawal, HasItem, same_ids, known_ids, known_count, is_known}
+use Rattle.stn_records.specs.ContentLaws.{ids_total}
+use Rattle.std.proofs.lemmas.Map.Made.{length-le_from_is_member}
+use Rattle.std.specs.Cmp.{IsEquivalence, eq_by_cmp_equiv}
+use Rattle.std.specs.List.{IsDistinct, AllByRecursion}
+use Rattle.std.specs.Set.{distinct_count, unique_keys, is_member}
+use Rattle.std.specs.FinMap as fin
+use Rattle.stn_records.specs.Id.{SiteCounter}
+use Rattle.std.proofs.lemmas.List.Folds.{list_any-append}
+
+laws : IsEquivalence same_ids
+laws = eq_by_cmp_equiv ids_total
+
+apart : (x : SiteCounter) (ys : List SiteCounter) → is_member same_ids ys x ≡ false → AllByRecursion (λ y. same_ids x y ≡ false) ys
+apart x [] h = tt
+apart x (y ∷ ys) h = elim (same_ids x y) as (λ b. same_ids x y ≡ b → (b || is_member same_ids ys x) ≡ false → (same_ids x y ≡ false) × AllByRecursion (λ z. same_ids x z ≡ false) ys) [
+  | true ↦ λ t g. absurd (false≢true (sym g))
+  | false ↦ λ t g. (t, apart x ys g)
+] refl h
+
+member_alike : (xs : List SiteCounter) (q x : SiteCounter) → same_ids q x ≡ true → is_member same_ids xs q ≡ is_member same_ids xs x
+member_alike [] q x e i = false
+member_alike (y ∷ xs) q x e i = laws.congr q x y e i || member_alike xs q x e i
+
+member_unique : (xs : List SiteCounter) (q : SiteCounter) → is_member same_ids (unique_keys same_ids xs) q ≡ is_member same_ids xs q
+member_unique [] q = refl
+member_unique (x ∷ xs) q = by (is_member same_ids xs x) (same_ids q x) refl refl (member_unique xs q)
+  where
+    by : (b c : Bool) → is_member same_ids xs x ≡ b → same_ids q x ≡ c → is_member same_ids (unique_keys same_ids xs) q ≡ is_member same_ids xs q → is_member same_ids (cond b (unique_keys same_ids xs) (x ∷ unique_keys same_ids xs)) q ≡ (c || is_member same_ids xs q)
+    by true true m t r = r ∙ member_alike xs q x t ∙ m
+    by true false m t r = r
+    by false c m t r = rw t (ap (λ v. c || v) r)
+
+distinct : (xs : List SiteCounter) → IsDistinct same_ids (unique_keys same_ids xs)
+unfolding IsDistinct
+distinct [] = tt
+distinct (x ∷ xs) = by (is_member same_ids xs x) refl (distinct xs)
+  where
+    by : (b : Bool) → is_member same_ids xs x ≡ b → IsDistinct same_ids (unique_keys same_ids xs) → IsDistinct same_ids (cond b (unique_keys same_ids xs) (x ∷ unique_keys same_ids xs))
+    by true m r = r
+    by false m r = (apart x (unique_keys same_ids xs) (member_unique xs x ∙ m), r)
+
+-- ids that are all among others are no more than those
+pub fewer : (xs ys : List SiteCounter) → ((q : SiteCounter) → is_member same_ids xs q ≡ true → is_member same_ids ys q ≡ true) → distinct_count same_ids xs ≤ distinct_count same_ids ys
+fewer xs ys h = length-le_from_is_member laws (unique_keys same_ids xs) (unique_keys same_ids ys) (distinct xs) (λ q m. member_unique ys q ∙ h q (sym (member_unique xs q) ∙ m))
+
+-- lists with the same ids have as many
+pub same_count : (xs ys : List SiteCounter) → ((q : SiteCounter) → is_member same_ids xs q ≡ is_member same_ids ys q) → distinct_count same_ids xs ≡ distinct_count same_ids ys
+same_count xs ys h =
+    let up = fewer xs ys (λ q m. sym (h q) ∙ m) in
+    let down = fewer ys xs (λ q m. h q ∙ m) in
+    omega arith
+
+-- an id more that is not among the others
+pub one_more : (x : SiteCounter) (xs : List SiteCounter) → is_member same_ids xs x ≡ false → distinct_count same_ids (x ∷ xs) ≡ suc (distinct_count same_ids xs)
+one_more x xs e = ap (λ b. length (cond b (unique_keys same_ids xs) (x ∷ unique_keys same_ids xs))) e
+
+pub member-append : (xs ys : List SiteCounter) (q : SiteCounter) → is_member same_ids (xs ++ ys) q ≡ (is_member same_ids xs q || is_member same_ids ys q)
+member-append xs ys q = list_any-append (same_ids q) xs ys
+
+-- the known ids are those of both parts
+pub known_member : (s : Content) (q : SiteCounter) → is_member same_ids (known_ids s) q ≡ is_known s q
+known_member s q = member-append (fin.keys s.additions) (fin.keys s.tombstones) q
+    ∙ (λ i. sym (contains_key-keys s.additions q) i || sym (contains_key-keys s.tombstones q) i)
+
+there_is : {X : Type 0} (o : Option X) → is_some o ≡ true → (x : X) × (o ≡ Some x)
+there_is None e = absurd (false≢true e)
+there_is (Some x) e = (x, refl)
+
+-- an item's id is known, and a known id has an item
+known_of_item : (s t : Content) → ((item : Item) → HasItem s item → HasItem t item) → (q : SiteCounter) → is_known s q ≡ true → is_known t q ≡ true
+known_of_item s t h q k = ⊎_elim
+    (λ a. let v = there_is (fin.get s.additions q) a in or_left _ _ (ap is_some (h (addition q v.0) v.1)))
+    (λ b. let v = there_is (fin.get s.tombstones q) b in or_right _ _ (ap is_some (h (withdrawal q) v.1)))
+    (or_cases _ _ k)
+
+-- a content with fewer items knows no more ids
+pub known_fewer : (s t : Content) → ((item : Item) → HasItem s item → HasItem t item) → known_count s ≤ known_count t
+known_fewer s t h = fewer (known_ids s) (known_ids t) (λ q m. known_member t q ∙ known_of_item s t h q (sym (known_member s q) ∙ m))
+
+-- a map has at most as many keys as there are known ids
+pub keys_within : (xs ys : List SiteCounter) → IsDistinct same_ids xs → ((q : SiteCounter) → is_member same_ids xs q ≡ true → is_member same_ids ys q ≡ true) → length xs ≤ distinct_count same_ids ys
+keys_within xs ys d h = length-le_from_is_member laws xs (unique_keys same_ids ys) d (λ q m. member_unique ys q ∙ h q m)
