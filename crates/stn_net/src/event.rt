@@ -1,9 +1,9 @@
 ghost use Rattle.std.specs.Prelude.{◌≡◌, ℕ, ◌≤◌, ◌++◌, ◌↔◌, IsSome, IfSome, OnOk, OnErr};
 ghost use Rattle.stn_net.specs.Event.{most_events, event_text, IsStepText};
 
-use crate::decimal::{append_decimal, read_decimal};
 use std::alloc::Allocator;
 use std::marker::Model;
+use stn_text::{append_decimal, read_decimal};
 use stn_time::Memory;
 
 /// The greatest number of steps of a plan.

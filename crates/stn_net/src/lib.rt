@@ -2,11 +2,9 @@
 #![tactic(auto)]
 
 pub use bound::{Bound, BoundFault};
-pub use decimal::{append_decimal, read_decimal};
 pub use event::{Event, MOST_EVENTS, MOST_STEPS};
 pub use schedule::first_broken;
 
 mod bound;
-mod decimal;
 mod event;
 mod schedule;

@@ -3,7 +3,7 @@ ghost use Rattle.stn_records.specs.Id.{SiteCounter, IsSite, IsId, id_text, Split
 
 use std::alloc::Allocator;
 use std::marker::Model;
-use stn_net::{append_decimal, read_decimal};
+use stn_text::{append_decimal, read_decimal};
 use stn_time::Memory;
 
 /// The greatest number of a site.

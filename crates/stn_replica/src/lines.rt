@@ -19,8 +19,9 @@ ghost use Rattle.stn_conflict.specs.Arcs.{bound_at};
 use crate::names::BoundName;
 use std::alloc::Allocator;
 use stn_conflict::{Link, Side};
-use stn_net::{Bound, Event, MOST_EVENTS, append_decimal};
+use stn_net::{Bound, Event, MOST_EVENTS};
 use stn_records::Id;
+use stn_text::append_decimal;
 use stn_time::{Memory, Ms, print_millis};
 
 /// The most bytes of a line.

@@ -1,10 +1,14 @@
 -- Digits read one after the other.
-use Rattle.std.proofs.Common.{◌≡◌, ℕ, ◌+◌, Bool, true, false, cond, ◌&&◌, List, length, drop, get_or, Some, None, refl, sym, ap, ◌∙◌, ◌<◌}
+use Rattle.std.proofs.Common.{◌≡◌, ℕ, ◌+◌, true, false, cond, ◌&&◌, List, length, drop, get_or, Some, None, sym, ap, ◌∙◌, ◌<◌, ◌^◌, decimal, arith}
 use Rattle.std.specs.Prelude.{nat_le, nat_lt}
 use Rattle.std.specs.Char.{is_ascii_digit}
 use Rattle.std.specs.Str.{all_ascii_digits}
 use Rattle.std.specs.Str.Parse.{digits_value}
+use Rattle.std.proofs.Math.Bool.{and-false}
+use Rattle.std.proofs.lemmas.Bool.Decides.{nat_tests}
+use Rattle.std.proofs.lemmas.Fmt.{digits_decimal, digits_value-decimal, length-decimal-le, decimal_nonempty}
 use Rattle.std.proofs.lemmas.List.{drop_more}
+use Rattle.stn_time.proofs.Forms.{own}
 use Rattle.stn_text.specs.Numbers.{number_of}
 
 -- a word that has too few or too many bytes is no number
@@ -12,16 +16,12 @@ pub number_of-length : (word : List ℕ) → (nat_lt 0 (length word) && nat_le (
 unfolding number_of
 number_of-length word e = ap (λ t. cond (t && all_ascii_digits word) (Some (digits_value 10 word)) None) e
 
-and_false : (t : Bool) → (t && false) ≡ false
-and_false true = refl
-and_false false = refl
-
 -- a word with another byte is no number
 pub number_of-other : (word : List ℕ) → all_ascii_digits word ≡ false → number_of word ≡ None
 unfolding number_of
 number_of-other word e =
     ap (λ t. cond ((nat_lt 0 (length word) && nat_le (length word) 5) && t) (Some (digits_value 10 word)) None) e
-    ∙ ap (λ t. cond t (Some (digits_value 10 word)) None) (and_false (nat_lt 0 (length word) && nat_le (length word) 5))
+    ∙ ap (λ t. cond t (Some (digits_value 10 word)) None) (and-false (nat_lt 0 (length word) && nat_le (length word) 5))
 
 -- a word of digits alone
 pub number_of-digits : (word : List ℕ) → (nat_lt 0 (length word) && nat_le (length word) 5) ≡ true → all_ascii_digits word ≡ true → number_of word ≡ Some (digits_value 10 word)
@@ -33,3 +33,11 @@ number_of-digits word e d =
 pub digits-stop : (word : List ℕ) (i byte : ℕ) → i < length word → byte ≡ get_or word i 0 → is_ascii_digit byte ≡ false → all_ascii_digits (drop i word) ≡ all_ascii_digits word → all_ascii_digits word ≡ false
 digits-stop word i byte lt is other e =
     sym e ∙ ap all_ascii_digits (drop_more word i 0 lt) ∙ ap (λ t. t && all_ascii_digits (drop (i + 1) word)) (ap is_ascii_digit (sym is) ∙ other)
+
+-- the decimal form of a number is a word that reads as the number
+pub number_of-decimal : (n : ℕ) → n < 2 ^ 16 → number_of (decimal n) ≡ Some n
+number_of-decimal n small =
+    let wide : n < 2 ^ 64 = omega arith in
+    let some = decimal_nonempty n wide in
+    let short = length-decimal-le 5 n (omega arith) (omega arith) wide in
+    number_of-digits (decimal n) (grind (arith, nat_tests)) (digits_decimal own n wide) ∙ ap (λ m. Some m) (digits_value-decimal own n wide)

@@ -1,4 +1,4 @@
-use Rattle.std.proofs.Common.{◌≡◌, ◌+◌, ◌-◌, ◌++◌, ◌∷◌, arith, sym, ap, ◌∙◌, inl, inr, refl, take, drop, length}
+use Rattle.std.proofs.Common.{◌≡◌, ◌+◌, ◌-◌, arith, sym, inl, inr, refl, take, drop, length}
 use Rattle.std.proofs.lemmas.List.{take_all, length-drop}
 use Rattle.std.proofs.lemmas.Grind.{common_steps}
 use Rattle.stn_text.proofs.Splits.{cut_found, lines_of-found, lines_of-whole}
