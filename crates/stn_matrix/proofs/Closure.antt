@@ -234,6 +234,6 @@ tightened_narrower table other b closed named events entries here same =
     }
 
 -- a bound without room has no schedule together with the list
-pub no_room : (bounds : List Difference) (table : Table) (b : Difference) → NamesEvents table.events b → (HasRoom (far_of table) b → ⊥) → IsExact bounds table
-    → HasSchedule (bounds ++ b ∷ []) → ⊥
+pub no_room : (bounds : List Difference) (table : Table) (b : Difference) → NamesEvents table.events b → ¬ HasRoom (far_of table) b → IsExact bounds table
+    → ¬ HasSchedule (bounds ++ b ∷ [])
 no_room bounds table b named none exact s = none (room_from_schedule bounds table b named exact s)

@@ -145,7 +145,7 @@ pub same_millis : (text : List ℕ) (m n : ℤ) → Spells text m → Spells tex
 same_millis text m n a b = a.number ∙ (ap millis_of (same_parts text a.parts b.parts a.form b.form) ∙ sym b.number)
 
 -- what is known of a text whose parts were looked for
-no-form : (text : List ℕ) → parts_of text ≡ None → IsTimeForm text → ⊥
+no-form : (text : List ℕ) → parts_of text ≡ None → ¬ IsTimeForm text
 no-form text e form = none-some _ (sym e ∙ parts_of-form text form.0 form.1)
 
 within-is : (t : ℤ) → is_within_horizon t ≡ true → IsWithinHorizon t
@@ -154,7 +154,7 @@ within-is t h = grind (arith, ints)
 is-within : (t : ℤ) → IsWithinHorizon t → is_within_horizon t ≡ true
 is-within t h = grind (arith, ints)
 
-beyond-is : (t : ℤ) → is_within_horizon t ≡ false → IsWithinHorizon t → ⊥
+beyond-is : (t : ℤ) → is_within_horizon t ≡ false → ¬ IsWithinHorizon t
 beyond-is t e h = false≢true (sym e ∙ is-within t h)
 
 -- the meaning of each answer, by the parts that were found and the two tests on them

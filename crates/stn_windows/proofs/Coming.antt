@@ -11,7 +11,7 @@ use Rattle.stn_windows.proofs.Readiness.{left_within, exact_triangle, exact_itse
 
 -- an event whose latest time comes before now takes no time from now on
 past_without_time : (bounds : List Difference) (table : Table) (now : ℤ) (event : ℕ) → IsExact bounds table → event ≤ table.events
-    → far_of table 0 event <ℤ now → HasTimeFrom bounds now event → ⊥
+    → far_of table 0 event <ℤ now → ¬ HasTimeFrom bounds now event
 past_without_time bounds table now event exact within past some =
     let late = (exact.far 0 event (omega arith) within).bound some.2.0 some.2.1 in
     let origin = some.2.1.origin in
@@ -21,7 +21,7 @@ past_without_time bounds table now event exact within past some =
 
 -- an event that takes no time from now on has its latest time before now
 past_from_none : (bounds : List Difference) (table : Table) (now : ℤ) (event : ℕ) → IsExact bounds table → event ≤ table.events
-    → (HasTimeFrom bounds now event → ⊥) → far_of table 0 event <ℤ now
+    → ¬ HasTimeFrom bounds now event → far_of table 0 event <ℤ now
 past_from_none bounds table now event exact within none =
     let late = (exact.far 0 event (omega arith) within).attained in
     let origin = late.1.origin in
@@ -50,7 +50,7 @@ none_is_past far done time (Some event) test none = absurd (false≢true test)
 
 -- and where it finds one, nothing is ready then
 pub past_none_ready : (bounds : List Difference) (table : Table) (done : List Bool) (time : ℤ) (event : ℕ) (found : Option ℕ) → IsExact bounds table → length done ≡ table.events + 1
-    → is_none found ≡ false → IfSome found (IsFirstPast (far_of table) done time) → IsReady bounds done event time → ⊥
+    → is_none found ≡ false → IfSome found (IsFirstPast (far_of table) done time) → ¬ IsReady bounds done event time
 past_none_ready bounds table done time event None exact one_each test past ready = false≢true (sym test)
 past_none_ready bounds table done time event (Some other) exact one_each test past ready =
     let before = ready_none_past bounds table done event time exact one_each ready other past.left in
@@ -70,7 +70,7 @@ leader_is_first bounds table done now run exact one_each none leader =
 
 -- where no event can lead now, the first by earliest time runs first, at its earliest time
 pub earliest_is_first : (bounds : List Difference) (table : Table) (done : List Bool) (now : ℤ) (run : ℤ × ℕ) → IsExact bounds table → length done ≡ table.events + 1
-    → ((event : ℕ) → CanLead (far_of table) done now event → ⊥) → IsEarliestBelow (far_of table) done (length done) run → IsFirstReady bounds done now run.0 run.1
+    → ((event : ℕ) → ¬ CanLead (far_of table) done now event) → IsEarliestBelow (far_of table) done (length done) run → IsFirstReady bounds done now run.0 run.1
 earliest_is_first bounds table done now run exact one_each none first =
     let event = run.1 in
     let at = first.at in
@@ -107,7 +107,7 @@ earlier_takes run other before = let test : int_le run.0 other.0 ≡ false = gri
 
 -- where no event below a number is left, one of that number is the first below the next
 first_of_all : (far : ℕ → ℕ → ℤ) (done : List Bool) (number event : ℕ) (time : ℤ) → event ≡ number → IsLeft done event → time ≡ earliest far event
-    → ((other : ℕ) → other < number → IsLeft done other → ⊥) → IsEarliestBelow far done (number + 1) (time, event)
+    → ((other : ℕ) → other < number → ¬ IsLeft done other) → IsEarliestBelow far done (number + 1) (time, event)
 first_of_all far done number event time same left at none = record {
   left = left;
   at = at;
@@ -157,7 +157,7 @@ one_more_run far done number event (Some run) time same left at first =
     (λ no_later. rw (earlier_keeps run (time, event) no_later) (first_stays far done number event run time same at left first no_later))
 
 -- a look at one more event that is not left changes nothing
-pub same_first : (far : ℕ → ℕ → ℤ) (done : List Bool) (number event : ℕ) (first : Option (ℤ × ℕ)) → event ≡ number → (IsLeft done event → ⊥)
+pub same_first : (far : ℕ → ℕ → ℤ) (done : List Bool) (number event : ℕ) (first : Option (ℤ × ℕ)) → event ≡ number → ¬ IsLeft done event
     → IsEarliestSoFar far done number first → IsEarliestSoFar far done (number + 1) first
 same_first far done number event None same not_left none = λ other within is_left.
     elim (cases_lt other number) [
@@ -176,8 +176,8 @@ same_first far done number event (Some run) same not_left first = record {
 }
 
 -- no event below the next number can lead, where none below the number can and that of the number can't
-pub one_more_behind : (far : ℕ → ℕ → ℤ) (done : List Bool) (now : ℤ) (number event : ℕ) → event ≡ number → (CanLead far done now event → ⊥)
-    → ((other : ℕ) → other < number → CanLead far done now other → ⊥) → (other : ℕ) → other < number + 1 → CanLead far done now other → ⊥
+pub one_more_behind : (far : ℕ → ℕ → ℤ) (done : List Bool) (now : ℤ) (number event : ℕ) → event ≡ number → ¬ CanLead far done now event
+    → ((other : ℕ) → other < number → ¬ CanLead far done now other) → (other : ℕ) → other < number + 1 → ¬ CanLead far done now other
 one_more_behind far done now number event same cannot none = λ other within can.
     elim (cases_lt other number) [
       | inl before ↦ none other before can

@@ -41,6 +41,6 @@ one_rehearsal (run ∷ runs) (other ∷ others) bounds done now p q =
     rw (first, rest) refl
 
 -- no event is overdue in a plan that has a rehearsal
-pub none_overdue : (bounds : List Difference) (done : List Bool) (now : ℤ) (runs : List (ℤ × ℕ)) (event : ℕ) → IsRehearsal bounds done now runs → IsOverdue bounds done now event → ⊥
+pub none_overdue : (bounds : List Difference) (done : List Bool) (now : ℤ) (runs : List (ℤ × ℕ)) (event : ℕ) → IsRehearsal bounds done now runs → ¬ IsOverdue bounds done now event
 none_overdue bounds done now [] event rehearsal overdue = rehearsal event overdue.left
 none_overdue bounds done now (run ∷ runs) event rehearsal overdue = overdue.none run.0 run.1 rehearsal.0.later rehearsal.0.ready

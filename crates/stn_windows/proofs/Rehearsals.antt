@@ -1,4 +1,4 @@
-use Rattle.std.proofs.Common.{◌≡◌, ℕ, ℤ, true, Bool, List, [], ◌∷◌, ◌++◌, get_or, set, cond, eqb, inl, inr, refl, sym, ap, subst, ◌∙◌, arith, get_or-set_same, get_or-set_other}
+use Rattle.std.proofs.Common.{◌≡◌, ◌≢◌, ℕ, ℤ, true, Bool, List, [], ◌∷◌, ◌++◌, get_or, set, cond, eqb, inl, inr, refl, sym, ap, subst, ◌∙◌, arith, get_or-set_same, get_or-set_other}
 use Rattle.std.specs.Prelude.{slice_set, Result, Err, IfErr}
 use Rattle.std.proofs.lemmas.Int.{ints}
 use Rattle.std.proofs.lemmas.Bool.{false≢true}
@@ -31,19 +31,19 @@ ready_can_be_fixed bounds done time event ready =
     (ready.possible.0, fixed_schedule bounds ready.possible.0 time event ready.possible.1 ready.possible.2)
 
 -- what is left once an event is done is another event, which was left before
-pub left_before : (done : List Bool) (event other : ℕ) → IsLeft done event → IsLeft (slice_set done event true) other → (other ≡ event → ⊥) × IsLeft done other
+pub left_before : (done : List Bool) (event other : ℕ) → IsLeft done event → IsLeft (slice_set done event true) other → (other ≢ event) × IsLeft done other
 left_before done event other was_left left =
-    let differs : other ≡ event → ⊥ = λ same.
+    let differs : other ≢ event = λ same.
     false≢true (sym left.1 ∙ ap (λ e. get_or (set done event true) e true) same ∙ get_or-set_same done event true true (left_within done event was_left)) in
     (differs, (left.0, sym (get_or-set_other done event other true true differs) ∙ left.1))
 
 -- and another event that was left is left
-pub left_after : (done : List Bool) (event other : ℕ) → IsLeft done other → (other ≡ event → ⊥) → IsLeft (slice_set done event true) other
+pub left_after : (done : List Bool) (event other : ℕ) → IsLeft done other → other ≢ event → IsLeft (slice_set done event true) other
 left_after done event other left differs = (left.0, get_or-set_other done event other true true differs ∙ left.1)
 
 -- once an event has run, none is overdue from its time on
 pub none_overdue_after : (bounds : List Difference) (done : List Bool) (time : ℤ) (event other : ℕ) → IsReady bounds done event time
-    → IsOverdue (bounds ++ fixed_at time event ∷ []) (slice_set done event true) time other → ⊥
+    → ¬ IsOverdue (bounds ++ fixed_at time event ∷ []) (slice_set done event true) time other
 none_overdue_after bounds done time event other ready overdue =
     let times = ready.possible.0 in
     overdue.past (
@@ -78,7 +78,7 @@ rehearsed_in_time (run ∷ runs) bounds done now possible rehearsal =
     (ready.possible.0, ready.possible.1, λ event left. (let after = ready.possible.3 event left in omega (arith, ints)))
 
 -- a plan in which an event is overdue can't
-pub overdue_cannot_wait : (bounds : List Difference) (done : List Bool) (now : ℤ) (event : ℕ) → IsOverdue bounds done now event → CanWaitUntil bounds done now → ⊥
+pub overdue_cannot_wait : (bounds : List Difference) (done : List Bool) (now : ℤ) (event : ℕ) → IsOverdue bounds done now event → ¬ CanWaitUntil bounds done now
 overdue_cannot_wait bounds done now event overdue wait =
     overdue.past (wait.0 event, wait.2 event overdue.left, (wait.0, wait.1, refl))
 
@@ -107,7 +107,7 @@ rehearsed_once (run ∷ runs) bounds done now rehearsal =
 
 -- where no event is overdue, the plan can wait
 pub can_wait : (bounds : List Difference) (done : List Bool) (now : ℤ) (answer : Next) → HasSchedule bounds → IsNext bounds done now answer
-    → ((event : ℕ) → answer ≡ Overdue event → ⊥) → CanWaitUntil bounds done now
+    → ((event : ℕ) → answer ≢ Overdue event) → CanWaitUntil bounds done now
 can_wait bounds done now (Run time event) possible next none =
     let ready = next.ready in
     let later = next.later in
@@ -117,7 +117,7 @@ can_wait bounds done now (Overdue event) possible next none = absurd (none event
 
 -- where the first answer is no overdue event, want of memory is the first fault that stands
 pub want_of_memory : {X : Type 0} (result : Result X RehearseFault) (table : Table) (done : List Bool) (now : ℤ) (answer : Next) → result ≡ Err Memory
-    → ((bounds : List Difference) → IsExact bounds table → IsNext bounds done now answer) → ((event : ℕ) → answer ≡ Overdue event → ⊥)
+    → ((bounds : List Difference) → IsExact bounds table → IsNext bounds done now answer) → ((event : ℕ) → answer ≢ Overdue event)
     → IfErr result (λ fault. (bounds : List Difference) → IsExact bounds table → IsRehearseFault bounds done now fault)
 want_of_memory {X} result table done now answer is next none =
     let P : Result X RehearseFault → Type 0 = λ r. IfErr r (λ fault. (bounds : List Difference) → IsExact bounds table → IsRehearseFault bounds done now fault) in

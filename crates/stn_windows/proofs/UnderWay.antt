@@ -1,4 +1,4 @@
-use Rattle.std.proofs.Common.{◌≡◌, ℕ, ℤ, true, Bool, List, [], ◌∷◌, ◌++◌, refl, subst, append_assoc, append-nil}
+use Rattle.std.proofs.Common.{◌≡◌, ◌≢◌, ℕ, ℤ, true, Bool, List, [], ◌∷◌, ◌++◌, refl, subst, append_assoc, append-nil}
 use Rattle.std.specs.Prelude.{slice_set}
 use Rattle.stn_net.specs.Difference.{Difference}
 use Rattle.stn_net.specs.Schedule.{HasSchedule}
@@ -17,12 +17,12 @@ pub record IsUnderWay (bounds : List Difference) (done : List Bool) (now : ℤ) 
   pub time : ℤ
   pub exact : IsExact fixed table
   pub next : IsNext fixed finished time answer
-  pub in_time : (event : ℕ) → answer ≡ Overdue event → ⊥
+  pub in_time : (event : ℕ) → answer ≢ Overdue event
   pub goes_on : (more : List (ℤ × ℕ)) → IsRehearsal fixed finished time more → IsRehearsal bounds done now (runs ++ more)
 
 -- at first nothing has run
 pub under_way_at_first : (bounds : List Difference) (done : List Bool) (now : ℤ) (table : Table) (answer : Next) → IsExact bounds table → IsNext bounds done now answer
-    → ((event : ℕ) → answer ≡ Overdue event → ⊥) → IsUnderWay bounds done now [] table done answer
+    → ((event : ℕ) → answer ≢ Overdue event) → IsUnderWay bounds done now [] table done answer
 under_way_at_first bounds done now table answer exact next in_time = record { fixed = bounds; time = now; exact = exact; next = next; in_time = in_time; goes_on = λ more rehearsal. rehearsal }
 
 -- then one more event has run
@@ -46,7 +46,7 @@ under_way_further bounds done now runs table other finished time event answer un
 
 -- at last no run comes next, and the runs are a rehearsal
 pub rehearsal_at_end : (bounds : List Difference) (done : List Bool) (now : ℤ) (runs : List (ℤ × ℕ)) (table : Table) (finished : List Bool) (answer : Next)
-    → IsUnderWay bounds done now runs table finished answer → ((time : ℤ) (event : ℕ) → answer ≡ Run time event → ⊥) → IsRehearsal bounds done now runs
+    → IsUnderWay bounds done now runs table finished answer → ((time : ℤ) (event : ℕ) → answer ≢ Run time event) → IsRehearsal bounds done now runs
 rehearsal_at_end bounds done now runs table finished (Run time event) under none = absurd (none time event refl)
 rehearsal_at_end bounds done now runs table finished AllDone under none = subst (IsRehearsal bounds done now) (append-nil runs) (under.goes_on [] under.next)
 rehearsal_at_end bounds done now runs table finished (Overdue event) under none = absurd (under.in_time event refl)

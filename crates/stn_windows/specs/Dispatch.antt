@@ -35,21 +35,21 @@ HasTimeFrom bounds now event = (time : ℤ) × (now ≤ℤ time) × IsInWindow b
 
 -- no event may run at any time from now on, and this is the least of those that are left and take no time from now on
 pub record IsOverdue (bounds : List Difference) (done : List Bool) (now : ℤ) (event : ℕ) : Type 0 where
-  pub none : (time : ℤ) (other : ℕ) → now ≤ℤ time → IsReady bounds done other time → ⊥
+  pub none : (time : ℤ) (other : ℕ) → now ≤ℤ time → ¬ IsReady bounds done other time
   pub left : IsLeft done event
-  pub past : HasTimeFrom bounds now event → ⊥
-  pub least : (other : ℕ) → IsLeft done other → (HasTimeFrom bounds now other → ⊥) → event ≤ other
+  pub past : ¬ HasTimeFrom bounds now event
+  pub least : (other : ℕ) → IsLeft done other → ¬ HasTimeFrom bounds now other → event ≤ other
 
 -- what comes next from now on: the first event that may run, with its time; nothing, where no event is left; or an overdue event
 abbrev pub IsNext : List Difference → List Bool → ℤ → Next → Type 0
 IsNext bounds done now (Run time event) = IsFirstReady bounds done now time event
-IsNext bounds done now AllDone = (event : ℕ) → IsLeft done event → ⊥
+IsNext bounds done now AllDone = (event : ℕ) → ¬ IsLeft done event
 IsNext bounds done now (Overdue event) = IsOverdue bounds done now event
 
 -- the event that the answer names is left, and where it names none, none is
 abbrev pub NamesLeft : List Bool → Next → Type 0
 NamesLeft done (Run time event) = IsLeft done event
-NamesLeft done AllDone = (event : ℕ) → IsLeft done event → ⊥
+NamesLeft done AllDone = (event : ℕ) → ¬ IsLeft done event
 NamesLeft done (Overdue event) = IsLeft done event
 
 -- in some schedule no event that is left comes before now

@@ -43,15 +43,15 @@ pub record IsEarliestBelow (far : ℕ → ℕ → ℤ) (done : List Bool) (limit
 
 -- the same, where there is such an event
 abbrev pub IsEarliestSoFar : (ℕ → ℕ → ℤ) → List Bool → ℕ → Option (ℤ × ℕ) → Type 0
-IsEarliestSoFar far done limit None = (event : ℕ) → event < limit → IsLeft done event → ⊥
+IsEarliestSoFar far done limit None = (event : ℕ) → event < limit → ¬ IsLeft done event
 IsEarliestSoFar far done limit (Some run) = IsEarliestBelow far done limit run
 
 -- the run is the first of all that are left by earliest time, and no event can lead now; or that of the least event that can; there is
 -- none where no event is left
 abbrev pub IsFirstRun : (ℕ → ℕ → ℤ) → List Bool → ℤ → Option (ℤ × ℕ) → Type 0
-IsFirstRun far done now None = (event : ℕ) → IsLeft done event → ⊥
+IsFirstRun far done now None = (event : ℕ) → ¬ IsLeft done event
 IsFirstRun far done now (Some run) =
-    IsLeastLeader far done now run ⊎ (IsEarliestBelow far done (length done) run × ((event : ℕ) → CanLead far done now event → ⊥))
+    IsLeastLeader far done now run ⊎ (IsEarliestBelow far done (length done) run × ((event : ℕ) → ¬ CanLead far done now event))
 
 -- the run of the lesser time; the first, where both have one time
 abbrev pub earlier_of : Option (ℤ × ℕ) → ℤ × ℕ → ℤ × ℕ

@@ -26,7 +26,7 @@ NeverFalls now (run ∷ runs) = (now ≤ℤ run.0) × NeverFalls run.0 runs
 -- each event that is left runs once, and no other event runs
 pub record RunsEachOnce (done : List Bool) (runs : List (ℤ × ℕ)) : Type 0 where
   pub left : (event : ℕ) → IsLeft done event → count_by (λ run. run.1 == event) runs ≡ 1
-  pub others : (event : ℕ) → (IsLeft done event → ⊥) → count_by (λ run. run.1 == event) runs ≡ 0
+  pub others : (event : ℕ) → ¬ IsLeft done event → count_by (λ run. run.1 == event) runs ≡ 0
 
 -- some schedule has each run's event at its time
 abbrev pub HasScheduleThrough : List Difference → List (ℤ × ℕ) → Type 0
@@ -35,5 +35,5 @@ HasScheduleThrough bounds runs = (times : ℕ → ℤ) × IsSchedule bounds time
 -- the fault is the first that stands against a rehearsal: the event is overdue, and no schedule has every event that is left from now on;
 -- want of memory comes only where some schedule has
 abbrev pub IsRehearseFault : List Difference → List Bool → ℤ → RehearseFault → Type 0
-IsRehearseFault bounds done now (Overdue event) = IsOverdue bounds done now event × (CanWaitUntil bounds done now → ⊥)
+IsRehearseFault bounds done now (Overdue event) = IsOverdue bounds done now event × ¬ CanWaitUntil bounds done now
 IsRehearseFault bounds done now Memory = CanWaitUntil bounds done now

@@ -15,7 +15,7 @@ pub fn rehearsal_unique()
     ensures runs { (bounds : List Difference) → (done : List Bool) → (now : ℤ) → (one other : List (ℤ × ℕ))
         → IsRehearsal bounds done now one → IsRehearsal bounds done now other → one ≡ other }
     ensures overdue { (bounds : List Difference) → (done : List Bool) → (now : ℤ) → (runs : List (ℤ × ℕ)) → (event : ℕ)
-        → IsRehearsal bounds done now runs → IsOverdue bounds done now event → ⊥ }
+        → IsRehearsal bounds done now runs → ¬ IsOverdue bounds done now event }
 {
     next_unique();
 }

@@ -36,7 +36,7 @@ loop-number-preserved g c =
     elim c.if-is_left.branch [
       | then-is_left+else-le w ↦
           let time : w.neg-earliest.result ≡ earliest far event = rw (w.far.ensures.entry, w.origin.ensures) at w.neg-earliest.ensures in
-          let behind : CanLead far done now event → ⊥ = λ can. elim w.else-le.branch [
+          let behind : ¬ CanLead far done now event = λ can. elim w.else-le.branch [
             | else-le-via-then-le+else-leads v ↦ let leads = v.leads.ensures.1 can.leads in let not = v.if-leads.false in false≢true (cc)
             | else-le-via-else-le v ↦ let later : c.args.now <ℤ w.neg-earliest.result = (let le = sym w.le.ensures ∙ v.if-le.false in grind (arith, ints)) in let come = can.come in absurd (omega (arith, ints))
           ] in
@@ -45,7 +45,7 @@ loop-number-preserved g c =
             first = rw w.earlier_of.ensures (one_more_run far done number event first w.neg-earliest.result is (c.is_left.ensures.0 w.if-is_left.true) time c.loop-number.invariant.first);
           })
       | else-is_left w ↦
-          let not_left : IsLeft done event → ⊥ = λ left. let yes = c.is_left.ensures.1 left in let not = w.if-is_left.false in false≢true (cc) in
+          let not_left : ¬ IsLeft done event = λ left. let yes = c.is_left.ensures.1 left in let not = w.if-is_left.false in false≢true (cc) in
           rw w.first-is (record {
             none = one_more_behind far done now number event is (λ can. not_left can.left) c.loop-number.invariant.none;
             first = same_first far done number event first is not_left c.loop-number.invariant.first;

@@ -5,6 +5,6 @@ use Rattle.stn_windows.proofs.dispatch.first_run.Given as goal
 
 abbrev pub invariant-loop-number : goal.invariant-loop-number
 invariant-loop-number g l = record {
-  none : (event : ℕ) → event < l.number → CanLead (far_of l.matrix) l.done l.now event → ⊥;
+  none : (event : ℕ) → event < l.number → ¬ CanLead (far_of l.matrix) l.done l.now event;
   first : IsEarliestSoFar (far_of l.matrix) l.done l.number l.first;
 }

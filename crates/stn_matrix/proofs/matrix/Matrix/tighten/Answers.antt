@@ -16,7 +16,7 @@ returns-then-not-has_room-clause-possible g c = λ bounds exact.
     let table : Table = record { events = c.self.inside.events; entries = c.self.inside.entries.items; steps = c.self.inside.tightenings } in
     let named : NamesEvents table.events c.args.bound = rw (← c.self.view_is) at c.requires in
     let known : IsExact bounds table = rw (← c.self.view_is) at exact in
-    let none : HasRoom (far_of table) c.args.bound → ⊥ = λ room.
+    let none : ¬ HasRoom (far_of table) c.args.bound = λ room.
     let there : HasRoom (entry c.deref-then-not-is_implied.result.now c.from-events.result) c.args.bound = rw (c.deref-then-not-is_implied.ensures.value, c.from-events.ensures) room in
     let true_is = c.has_room.ensures.1 there in
     let false_is = c.if-not-has_room.true in
