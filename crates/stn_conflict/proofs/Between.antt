@@ -47,6 +47,6 @@ fits_between bounds bound m n ordered far back upper lower =
     )
 
 -- a bound that can't be added, and not for its upper side, is refused by its lower side
-pub refused_lower : (bounds : List Difference) (bound : Difference) (m n : ℤ) → bound.lo ≤ℤ bound.hi → (HasSchedule (bounds ++ bound ∷ []) → ⊥) → IsTightest bounds bound.from bound.to m → IsTightest bounds bound.to bound.from n → pos 0 ≤ℤ (n +ℤ bound.hi) → (m -ℤ bound.lo) <ℤ pos 0
+pub refused_lower : (bounds : List Difference) (bound : Difference) (m n : ℤ) → bound.lo ≤ℤ bound.hi → ¬ HasSchedule (bounds ++ bound ∷ []) → IsTightest bounds bound.from bound.to m → IsTightest bounds bound.to bound.from n → pos 0 ≤ℤ (n +ℤ bound.hi) → (m -ℤ bound.lo) <ℤ pos 0
 refused_lower bounds bound m n ordered refused far back not_upper =
     by_lt_z (m -ℤ bound.lo) (pos 0) (λ h. h) (λ h. absurd (refused (fits_between bounds bound m n ordered far back not_upper h)))

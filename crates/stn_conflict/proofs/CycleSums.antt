@@ -21,7 +21,7 @@ use Rattle.stn_conflict.proofs.Between.{refused_lower}
 use Rattle.stn_conflict.proofs.Chains.{way_is_tight, weight_of_tight, chain_before}
 
 -- a refused side and the way back from its end to its beginning have a negative sum
-refused_negative : (bounds : List Difference) (bound : Difference) (side : Side) (far : ℤ) → bound.lo ≤ℤ bound.hi → (HasSchedule (bounds ++ bound ∷ []) → ⊥) → IsRefusedSide bounds bound side → IsTightest bounds (arc bound side).to (arc bound side).from far → ((arc bound side).weight +ℤ far) <ℤ pos 0
+refused_negative : (bounds : List Difference) (bound : Difference) (side : Side) (far : ℤ) → bound.lo ≤ℤ bound.hi → ¬ HasSchedule (bounds ++ bound ∷ []) → IsRefusedSide bounds bound side → IsTightest bounds (arc bound side).to (arc bound side).from far → ((arc bound side).weight +ℤ far) <ℤ pos 0
 refused_negative bounds bound Upper far ordered refused (m, is, below) back =
     omega (arith, ints, tightest_unique bounds bound.to bound.from m far is back)
 refused_negative bounds bound Lower far ordered refused (m, is, above) back =
@@ -49,7 +49,7 @@ named_negative bounds link links self far ordered here there named =
     let (culprit, way) = named in
     let bound = bound_at bounds link.place in
     let (chain, weights) = chain_before bounds link.place links _ _ way.chain in
-    let refused : HasSchedule (take link.place bounds ++ bound_at bounds link.place ∷ []) → ⊥ = λ h. culprit.refused (subst HasSchedule (sym (take_more bounds link.place _ culprit.there)) h) in
+    let refused : ¬ HasSchedule (take link.place bounds ++ bound_at bounds link.place ∷ []) = λ h. culprit.refused (subst HasSchedule (sym (take_more bounds link.place _ culprit.there)) h) in
     let negative = refused_negative (take link.place bounds) bound link.side far ordered refused culprit.side there in
     let whole = weight_of_named bounds link links self far here there named in
     record {
@@ -84,7 +84,7 @@ chain_kept bounds (link ∷ links) x y time is (there, from, rest) =
     omega (arith, ints, link_kept bounds link time there is, chain_kept bounds links _ y time is rest)
 
 -- bounds with a negative cycle have no schedule
-pub negative_no_schedule : (bounds : List Difference) (links : List Link) → IsNegativeCycle bounds links → HasSchedule bounds → ⊥
+pub negative_no_schedule : (bounds : List Difference) (links : List Link) → IsNegativeCycle bounds links → ¬ HasSchedule bounds
 negative_no_schedule bounds links cycle (time, is) =
     let (x, chain) = cycle.closed in
     omega (arith, ints, cycle.negative, chain_kept bounds links x x time is chain)

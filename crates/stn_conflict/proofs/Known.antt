@@ -19,7 +19,7 @@ pub known_first : (events : ℕ) (base extra : List Difference) → take events 
 known_first events base extra begins = take-append-le events base extra (known_within events base begins) ∙ begins
 
 -- bounds that have no schedule up to a place have none at all
-pub no_schedule : (bounds : List Difference) (place : ℕ) → (HasSchedule (take place bounds) → ⊥) → HasSchedule bounds → ⊥
+pub no_schedule : (bounds : List Difference) (place : ℕ) → ¬ HasSchedule (take place bounds) → ¬ HasSchedule bounds
 no_schedule bounds place refused (time, is) = refused (time, schedule_before bounds place time is)
 
 -- and so do those before the next of them
@@ -33,8 +33,8 @@ bare_schedule events =
     (time, record { origin = refl; met = horizon_each (Meets time) events (λ event apart within. (omega (arith, ints), omega (arith, ints))) })
 
 -- bounds that begin with the horizon bounds and have no schedule are more than these, which have one
-pub more_than_known : (events : ℕ) (bounds : List Difference) → take events bounds ≡ horizon_bounds events → (HasSchedule bounds → ⊥)
-    → (events < length bounds) × HasSchedule (take events bounds) × (HasSchedule (take (length bounds) bounds) → ⊥)
+pub more_than_known : (events : ℕ) (bounds : List Difference) → take events bounds ≡ horizon_bounds events → ¬ HasSchedule bounds
+    → (events < length bounds) × HasSchedule (take events bounds) × ¬ HasSchedule (take (length bounds) bounds)
 more_than_known events bounds begins none =
     let first : HasSchedule (take events bounds) = subst HasSchedule (sym begins) (bare_schedule events) in (
       elim (cases_lt events (length bounds)) [

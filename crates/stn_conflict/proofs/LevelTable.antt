@@ -99,7 +99,7 @@ abbrev raised : List ℤ → (ℕ → Option ℕ) → ℕ → ℤ
 raised far levels x = times_of far x +ℤ raise (levels x)
 
 -- a link that is not tight has room for one more
-room_of_link : (bounds : List Difference) (start : ℕ) (link : Link) (m n : ℤ) → link.place < length bounds → IsTightest bounds start (arc_of bounds link).from m → IsTightest bounds start (arc_of bounds link).to n → (IsTight bounds start link → ⊥) → n <ℤ (m +ℤ (arc_of bounds link).weight)
+room_of_link : (bounds : List Difference) (start : ℕ) (link : Link) (m n : ℤ) → link.place < length bounds → IsTightest bounds start (arc_of bounds link).from m → IsTightest bounds start (arc_of bounds link).to n → ¬ IsTight bounds start link → n <ℤ (m +ℤ (arc_of bounds link).weight)
 room_of_link bounds start link m n there near far loose =
     let w = (arc_of bounds link).weight in
     let reaches = link_reaches bounds start link m n there near far in
@@ -120,7 +120,7 @@ raised_kept bounds start levels closed link m n there near far =
       | inl e ↦ elim (some_or_none (levels (arc_of bounds link).from)) [
         | inl f ↦ omega (arith, ints, raise_none _ e, raise_none _ f)
         | inr (i, f) ↦
-            let loose : IsTight bounds start link → ⊥ = λ tight. let (k, k_at, k_le) = closed.on link tight i f in cc in
+            let loose : ¬ IsTight bounds start link = λ tight. let (k, k_at, k_le) = closed.on link tight i f in cc in
             omega (arith, ints, raise_none _ e, raise_some _ i f, room_of_link bounds start link m n there near far loose)
       ]
     ]

@@ -46,7 +46,7 @@ level_of_start bounds start = record {
 }
 
 -- no step ends at the start
-pub no_step_to_start : (bounds : List Difference) (start : ℕ) (link : Link) → (arc_of bounds link).to ≡ start → IsStep bounds start link → ⊥
+pub no_step_to_start : (bounds : List Difference) (start : ℕ) (link : Link) → (arc_of bounds link).to ≡ start → ¬ IsStep bounds start link
 no_step_to_start bounds start link e step =
     let (k, from, to) = step.level in
     let here : IsLevel bounds start start (suc k) = subst (λ z. IsLevel bounds start z (suc k)) e to in

@@ -80,7 +80,7 @@ way_sound bounds start far link time h there s =
 
 -- an estimate of the start below 0 refuses each schedule
 pub refused_at_start : (bounds : List Difference) (start : ℕ) (far : List ℤ) (link : Link) (way : ℤ) → AreEstimates bounds start far → link.place < length bounds
-    → way ≡ times_of far (arc_of bounds link).from +ℤ (arc_of bounds link).weight → (arc_of bounds link).to ≡ start → way <ℤ times_of far (arc_of bounds link).to → HasSchedule bounds → ⊥
+    → way ≡ times_of far (arc_of bounds link).from +ℤ (arc_of bounds link).weight → (arc_of bounds link).to ≡ start → way <ℤ times_of far (arc_of bounds link).to → ¬ HasSchedule bounds
 refused_at_start bounds start far link way h there is same less (time, s) =
     let sound = way_sound bounds start far link time h there s in
     let own = h.own in
@@ -90,7 +90,7 @@ refused_at_start bounds start far link way h there is same less (time, s) =
 
 -- and so does one beyond the horizon
 pub refused_beyond : (bounds : List Difference) (start : ℕ) (far : List ℤ) (link : Link) (way : ℤ) → AreEstimates bounds start far → link.place < length bounds
-    → way ≡ times_of far (arc_of bounds link).from +ℤ (arc_of bounds link).weight → way <ℤ neg_ℤ horizon → HasSchedule bounds → ⊥
+    → way ≡ times_of far (arc_of bounds link).from +ℤ (arc_of bounds link).weight → way <ℤ neg_ℤ horizon → ¬ HasSchedule bounds
 refused_beyond bounds start far link way h there is less (time, s) =
     let sound = way_sound bounds start far link time h there s in
     let ends = link_among bounds (length far) link h.named there in

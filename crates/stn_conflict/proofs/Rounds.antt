@@ -24,7 +24,7 @@ pub record AreMarking (bounds : List Difference) (start level seen : ℕ) (level
       → (k : ℕ) × (levels (arc_of bounds link).to ≡ Some k) × (k ≤ suc level)
 
 -- a link that does not lead on
-pub marking_skips : (bounds : List Difference) (start level seen : ℕ) (levels : ℕ → Option ℕ) (link : Link) → rank link ≡ seen → (LeadsOn bounds start level levels link → ⊥) → AreMarking bounds start level seen levels → AreMarking bounds start level (seen + 1) levels
+pub marking_skips : (bounds : List Difference) (start level seen : ℕ) (levels : ℕ → Option ℕ) (link : Link) → rank link ≡ seen → ¬ LeadsOn bounds start level levels link → AreMarking bounds start level seen levels → AreMarking bounds start level (seen + 1) levels
 marking_skips bounds start level seen levels link at stays h = record {
   zero_at_start = h.zero_at_start;
   only = h.only;

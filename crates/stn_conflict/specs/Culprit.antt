@@ -17,5 +17,5 @@ IsRefusedSide bounds bound Lower = (most : ℤ) × IsTightest bounds bound.to bo
 pub record IsCulprit (bounds : List Difference) (link : Link) : Type 0 where
   pub there : link.place < length bounds
   pub before : HasSchedule (take link.place bounds)
-  pub refused : HasSchedule (take (link.place + 1) bounds) → ⊥
+  pub refused : ¬ HasSchedule (take (link.place + 1) bounds)
   pub side : IsRefusedSide (take link.place bounds) (bound_at bounds link.place) link.side

@@ -32,7 +32,7 @@ pub record IsStep (bounds : List Difference) (start : ℕ) (link : Link) : Type 
 pub record IsFirstStep (bounds : List Difference) (start : ℕ) (link : Link) : Type 0 where
   pub step : IsStep bounds start link
   pub first : (other : Link) → rank other < rank link → (arc_of bounds other).to ≡ (arc_of bounds link).to
-      → IsStep bounds start other → ⊥
+      → ¬ IsStep bounds start other
 
 -- the chain from `start` to x that takes, going back from x, the first step to each event that it comes to
 pub record IsWay (bounds : List Difference) (start x : ℕ) (links : List Link) : Type 0 where

@@ -1,5 +1,5 @@
 -- For proofs alone: no public clause cites these words.
-use Rattle.std.specs.Prelude.{◌≡◌, ℕ, ℤ, pos, neg_ℤ, ◌*ℤ◌, ◌≤ℤ◌, suc, ◌+◌, ◌<◌, ◌≤◌, ◌↔◌, List, length, All, Option, Some, None, slice_index_or}
+use Rattle.std.specs.Prelude.{◌≡◌, ◌≢◌, ℕ, ℤ, pos, neg_ℤ, ◌*ℤ◌, ◌≤ℤ◌, suc, ◌+◌, ◌<◌, ◌≤◌, ◌↔◌, List, length, All, Option, Some, None, slice_index_or}
 use Rattle.stn_time.specs.Time.{horizon}
 use Rattle.stn_net.specs.Difference.{Difference}
 use Rattle.stn_conflict.specs.declared.links.Link.{Link}
@@ -28,7 +28,7 @@ pub record AreStepsBack (bounds : List Difference) (start : ℕ) (levels : ℕ �
   pub step : (x i : ℕ) → levels x ≡ Some (suc i)
       → IsTight bounds start (back x) × ((arc_of bounds (back x)).to ≡ x) × (levels (arc_of bounds (back x)).from ≡ Some i)
   pub first : (x i : ℕ) → levels x ≡ Some (suc i) → (other : Link) → rank other < rank (back x) → IsTight bounds start other
-      → (arc_of bounds other).to ≡ x → levels (arc_of bounds other).from ≡ Some i → ⊥
+      → (arc_of bounds other).to ≡ x → levels (arc_of bounds other).from ≢ Some i
 
 -- a tight link from an event of this level to an event without one
 pub record LeadsOn (bounds : List Difference) (start level : ℕ) (levels : ℕ → Option ℕ) (link : Link) : Type 0 where

@@ -71,7 +71,7 @@ fn first_refused<A: Allocator + Copy>(
     ensures past { IfOk result (λ found. IfSome found (λ place. events ≤ place)) }
     ensures before { IfOk result (λ found. IfSome found (λ place. HasSchedule (take place bounds.now))) }
     ensures refused { IfOk result (λ found. IfSome found
-        (λ place. HasSchedule (take (place + 1) bounds.now) → ⊥)) }
+        (λ place. ¬ HasSchedule (take (place + 1) bounds.now))) }
     ensures tables { HasTables (events + 1) tables.new }
 {
     let origin = Event::origin();
@@ -125,7 +125,7 @@ fn named<A: Allocator + Copy>(
     requires there { place < length bounds.now }
     requires past { events ≤ place }
     requires before { HasSchedule (take place bounds.now) }
-    requires refused { HasSchedule (take (place + 1) bounds.now) → ⊥ }
+    requires refused { ¬ HasSchedule (take (place + 1) bounds.now) }
     ensures { IfOk result (λ cycle. IsCycleOf bounds.now events cycle.links.items cycle.sum) }
 {
     let before = bounds.before(place);

@@ -20,7 +20,7 @@ named-requires-clause-named g c =
 
 pub returns-in-Some-clause-none : goal.returns-in-Some-clause-none
 returns-in-Some-clause-none g c =
-    let refused : HasSchedule (take (c.in-Some.place + 1) c.new-bounds.result) → ⊥ = rw c.in-Some.is at c.in_ok-place.ensures.refused in (
+    let refused : ¬ HasSchedule (take (c.in-Some.place + 1) c.new-bounds.result) = rw c.in-Some.is at c.in_ok-place.ensures.refused in (
       λ e. absurd (false≢true (sym e)),
       λ has. absurd (no_schedule c.new-bounds.result _ refused (subst HasSchedule (sym c.new-bounds.ensures) has)),
     )

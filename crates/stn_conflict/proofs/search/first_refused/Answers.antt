@@ -11,7 +11,7 @@ use Rattle.stn_conflict.proofs.search.first_refused.Goals as goal
 pub loop-high-init : goal.loop-high-init
 loop-high-init g c =
     let bounds = c.args.bounds.now in
-    let none : HasSchedule bounds → ⊥ = λ has. (let some = c.settle.ensures.possible.1 has in cc) in
+    let none : ¬ HasSchedule bounds = λ has. (let some = c.settle.ensures.possible.1 has in cc) in
     let (more, first, last) = more_than_known c.args.events bounds c.requires.begins none in
     let low = c.from-low.ensures in
     let high = c.len-high.ensures in
@@ -72,4 +72,4 @@ pub returns-clause-refused : goal.returns-clause-refused
 returns-clause-refused g c =
     let h = c.loop-high.invariant in
     let next : c.loop-high.high ≡ c.loop-high.low + 1 = omega arith in
-    subst (λ n. HasSchedule (take n c.args.bounds.now) → ⊥) next h.none
+    subst (λ n. ¬ HasSchedule (take n c.args.bounds.now)) next h.none

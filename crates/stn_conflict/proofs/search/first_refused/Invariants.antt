@@ -13,7 +13,7 @@ invariant-loop-high g l = record {
   apart : l.low < l.high;
   within : l.high ≤ length l.bounds;
   has : HasSchedule (take l.low l.bounds);
-  none : HasSchedule (take l.high l.bounds) → ⊥;
+  none : ¬ HasSchedule (take l.high l.bounds);
 }
 
 abbrev pub decreases-loop-high : goal.decreases-loop-high
