@@ -33,8 +33,6 @@ pub record HasTooManySteps (lines : List (ℕ × List ℕ)) : Type 0 where
 -- the cause that a fault has
 abbrev pub IsCause : List ℕ → PlanFault → Type 0
 IsCause text TooLong = most_text < length text
-IsCause text (Syntax line) = IsFirstFault (lines_of text) (Syntax line)
-IsCause text (Number line) = IsFirstFault (lines_of text) (Number line)
-IsCause text (Negative line) = IsFirstFault (lines_of text) (Negative line)
 IsCause text TooManySteps = HasTooManySteps (lines_of text)
 IsCause text Memory = Unit {0}
+IsCause text fault = IsFirstFault (lines_of text) fault

@@ -110,12 +110,8 @@ plan_of text = if nat_lt most_text (length text) then Err TooLong else (steps_of
 
 -- The fault is the one that the meaning gives, unless memory ran out.
 abbrev pub Fails : {Y : Type 0} → PlanFault → Result Y PlanFault → Type 0
-Fails TooLong meaning = meaning ≡ Err TooLong
-Fails (Syntax line) meaning = meaning ≡ Err (Syntax line)
-Fails (Number line) meaning = meaning ≡ Err (Number line)
-Fails (Negative line) meaning = meaning ≡ Err (Negative line)
-Fails TooManySteps meaning = meaning ≡ Err TooManySteps
 Fails Memory meaning = Unit {0}
+Fails fault meaning = meaning ≡ Err fault
 
 -- What a function returned, seen by view, is what the meaning gives, unless memory ran out.
 abbrev pub Gives : {X Y : Type 0} → (X → Y) → Result X PlanFault → Result Y PlanFault → Type 0
