@@ -10,7 +10,7 @@ use Rattle.stn_plan.specs.declared.fault.PlanFault.{PlanFault}
 use Rattle.stn_plan.specs.declared.fault.PlanFault.TheVariants.{TooLong, Syntax, Number, Negative, TooManySteps, Memory}
 use Rattle.stn_plan.specs.Tokens.{Lexeme, Word, Sign, tokens_of}
 use Rattle.stn_plan.specs.Lines.{lines_of}
-use Rattle.stn_plan.specs.Steps.{PlannedStep, Form, ◌>>=◌, args_of, duration_form, form_of, or_number, number_of, duration_of, step_at, timed_step, step_of, line_step, steps_of, Fails}
+use Rattle.stn_plan.specs.Steps.{PlannedStep, Form, ◌>>=◌, args_of, duration_form, form_of, or_number, time_at, duration_of, step_at, timed_step, step_of, line_step, steps_of, Fails}
 use Rattle.stn_plan.specs.Faults.{IsFaultOf, IsFirstFault, IsCause}
 
 -- the fault that is given is the one that is found
@@ -51,15 +51,15 @@ or_number-fault : (line : ℕ) (time : Result ℤ TimeFault) (fault : PlanFault)
 or_number-fault line (Ok millis) fault e = cc
 or_number-fault line (Err refused) fault e = its line (Number line) fault refl e
 
-number_of-fault : (line : ℕ) (word : List ℕ) (fault : PlanFault) → number_of line word ≡ Err fault → IsFaultOf line fault
-unfolding number_of
-number_of-fault line word fault e = or_number-fault line (time_of word) fault e
+time_at-fault : (line : ℕ) (word : List ℕ) (fault : PlanFault) → time_at line word ≡ Err fault → IsFaultOf line fault
+unfolding time_at
+time_at-fault line word fault e = or_number-fault line (time_of word) fault e
 
 duration_of-fault : (line : ℕ) (word : Option (List ℕ)) (fault : PlanFault) → duration_of line word ≡ Err fault → IsFaultOf line fault
 unfolding duration_of
 duration_of-fault line None fault e = cc
 duration_of-fault line (Some word) fault e =
-    either line (number_of line word) (λ millis. Ok (Some millis)) fault (number_of-fault line word fault) (λ millis none. cc) e
+    either line (time_at line word) (λ millis. Ok (Some millis)) fault (time_at-fault line word fault) (λ millis none. cc) e
 
 chosen-fault : (line : ℕ) (refused : Bool) (step : PlannedStep) (fault : PlanFault) → cond refused (Err (Negative line)) (Ok step) ≡ Err fault → IsFaultOf line fault
 chosen-fault line true step fault e = its line (Negative line) fault refl e
@@ -74,8 +74,8 @@ step_at-fault line form time duration fault e =
 timed_step-fault : (line : ℕ) (form : Form) (fault : PlanFault) → timed_step line form ≡ Err fault → IsFaultOf line fault
 unfolding timed_step
 timed_step-fault line form fault e =
-    either line (number_of line form.time) (λ time. duration_of line form.duration >>= λ duration. step_at line form time duration) fault
-    (number_of-fault line form.time fault)
+    either line (time_at line form.time) (λ time. duration_of line form.duration >>= λ duration. step_at line form time duration) fault
+    (time_at-fault line form.time fault)
     (λ time f. either line (duration_of line form.duration) (λ duration. step_at line form time duration) fault
     (duration_of-fault line form.duration fault) (λ duration g. step_at-fault line form time duration fault g) f) e
 

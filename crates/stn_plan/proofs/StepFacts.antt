@@ -10,7 +10,7 @@ use Rattle.stn_plan.specs.declared.fault.PlanFault.{PlanFault}
 use Rattle.stn_plan.specs.declared.fault.PlanFault.TheVariants.{TooLong, Negative, TooManySteps}
 use Rattle.stn_plan.specs.Tokens.{Lexeme, tokens_of}
 use Rattle.stn_plan.specs.Lines.{lines_of}
-use Rattle.stn_plan.specs.Steps.{most_text, most_steps, PlannedStep, Form, IsPlan, IsTimely, ◌>>=◌, form_of, number_of, duration_of, step_at, timed_step, step_of, line_step, steps_of, limited, plan_of}
+use Rattle.stn_plan.specs.Steps.{most_text, most_steps, PlannedStep, Form, IsPlan, IsTimely, ◌>>=◌, form_of, time_at, duration_of, step_at, timed_step, step_of, line_step, steps_of, limited, plan_of}
 
 -- names that were read before those that are found
 abbrev pub behind_names : List (List ℕ) → Result (List (List ℕ) × List Lexeme) PlanFault → Result (List (List ℕ) × List Lexeme) PlanFault
@@ -50,7 +50,7 @@ step_at-timely line form time duration step e =
 timed_step-timely : (line : ℕ) (form : Form) (step : PlannedStep) → timed_step line form ≡ Ok step → IsTimely step
 unfolding timed_step
 timed_step-timely line form step e =
-    let time = bind_ok (number_of line form.time) (λ time. duration_of line form.duration >>= λ duration. step_at line form time duration) step e in
+    let time = bind_ok (time_at line form.time) (λ time. duration_of line form.duration >>= λ duration. step_at line form time duration) step e in
     let duration = bind_ok (duration_of line form.duration) (λ duration. step_at line form time.0 duration) step time.2 in
     step_at-timely line form time.0 duration.0 step duration.2
 

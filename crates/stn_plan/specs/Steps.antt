@@ -59,13 +59,13 @@ or_number line (Ok millis) = Ok millis
 or_number line (Err fault) = Err (Number line)
 
 -- the time that a word spells
-unfoldable pub number_of : ℕ → List ℕ → Result ℤ PlanFault
-number_of line word = or_number line (time_of word)
+unfoldable pub time_at : ℕ → List ℕ → Result ℤ PlanFault
+time_at line word = or_number line (time_of word)
 
 -- the time that the word of a duration spells, where there is one
 unfoldable pub duration_of : ℕ → Option (List ℕ) → Result (Option ℤ) PlanFault
 duration_of line None = Ok None
-duration_of line (Some word) = number_of line word >>= λ millis. Ok (Some millis)
+duration_of line (Some word) = time_at line word >>= λ millis. Ok (Some millis)
 
 -- the step at these times, of which neither may be below 0
 unfoldable pub step_at : ℕ → Form → ℤ → Option ℤ → Result PlannedStep PlanFault
@@ -76,7 +76,7 @@ step_at line form time duration =
 -- the step of a line of the form: both words are times, and then neither is below 0
 unfoldable pub timed_step : ℕ → Form → Result PlannedStep PlanFault
 timed_step line form =
-    number_of line form.time >>= λ time.
+    time_at line form.time >>= λ time.
     duration_of line form.duration >>= λ duration.
     step_at line form time duration
 

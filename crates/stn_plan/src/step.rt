@@ -4,7 +4,7 @@ ghost use Rattle.std.specs.Prelude.{◌≡◌};
 ghost use Rattle.std.specs.Int as int;
 ghost use Rattle.std.specs.Option.{option_map};
 ghost use Rattle.stn_plan.specs.Tokens.{tokens_of};
-ghost use Rattle.stn_plan.specs.Steps.{Gives, args_of, duration_form, form_of, number_of, duration_of, timed_step, step_of};
+ghost use Rattle.stn_plan.specs.Steps.{Gives, args_of, duration_form, form_of, time_at, duration_of, timed_step, step_of};
 ghost use Rattle.stn_plan.specs.Views.{names_of, word_of, form_in, planned_step};
 
 use crate::bytes::Mark;
@@ -119,20 +119,20 @@ fn is_negative(time: Ms) -> bool
 }
 
 /// The time that a word spells.
-#[tactic(auto, unfolding(crate::specs::Steps::number_of))]
-fn read_number(line: u32, word: &[u8]) -> Result<Ms, PlanFault>
-    ensures { Gives (λ time. time) result (number_of line word.now) }
+#[tactic(auto, unfolding(crate::specs::Steps::time_at))]
+fn read_time(line: u32, word: &[u8]) -> Result<Ms, PlanFault>
+    ensures { Gives (λ time. time) result (time_at line word.now) }
 {
     Ms::read(word).map_err(|_| PlanFault::Number(line))
 }
 
 /// The time that the word of a duration spells, where there is one.
 #[tactic(auto, unfolding(crate::specs::Steps::duration_of))]
-fn read_duration_number(line: u32, word: Option<&[u8]>) -> Result<Option<Ms>, PlanFault>
+fn read_duration_time(line: u32, word: Option<&[u8]>) -> Result<Option<Ms>, PlanFault>
     ensures { Gives (λ duration. duration) result (duration_of line (option_map word_of word.entry)) }
 {
     match word {
-        Some(word) => Ok(Some(read_number(line, word)?)),
+        Some(word) => Ok(Some(read_time(line, word)?)),
         None => Ok(None),
     }
 }
@@ -148,8 +148,8 @@ fn timed<'a, A: Allocator>(line: u32, words: Words<'a, A>) -> Result<Step<'a, A>
         args,
         duration,
     } = words;
-    let time = read_number(line, time)?;
-    let duration = read_duration_number(line, duration)?;
+    let time = read_time(line, time)?;
+    let duration = read_duration_time(line, duration)?;
     if is_negative(time) || matches!(duration, Some(duration) if is_negative(duration)) {
         return Err(PlanFault::Negative(line));
     }
