@@ -1,7 +1,6 @@
 -- The rows before a byte of each kind.
 use Rattle.std.proofs.Common.{◌≡◌, ◌≢◌, ℕ, suc, ◌+◌, ◌-◌, ◌<◌, ◌≤◌, Bool, true, false, cond, eqb, List, [], ◌∷◌, length, get_or, take, drop, refl, sym, ◌∙◌, ap, arith, add-one, drop-cons, ◌⊎◌, inl, inr}
 use Rattle.std.proofs.lemmas.List.{drop_all}
-use Rattle.std.proofs.lemmas.Slice.{between_to_end}
 use Rattle.std.proofs.lemmas.Bool.Decides.{nat_tests}
 use Rattle.stn_tree.specs.declared.bytes.Kind.{Kind}
 use Rattle.stn_tree.specs.declared.bytes.Kind.TheVariants.{Blank, Open, Close, Letter, Stray}
@@ -88,7 +87,7 @@ pub letter-begins : (b : ℕ) (bytes : List ℕ) → kind_of b ≡ Letter → be
 unfolding begins_word
 letter-begins b bytes is = rw is refl
 
-begins-none : begins_word [] ≡ true → ⊥
+begins-none : begins_word [] ≢ true
 unfolding begins_word
 begins-none h = cc
 
@@ -113,10 +112,6 @@ word_len-positive (b ∷ bytes) begins = rw (word_len-letter b bytes (begins-let
 pub split-word : (line n : ℕ) (bytes word rest : List ℕ) → begins_word bytes ≡ true → n ≡ word_len bytes → word ≡ take n bytes → rest ≡ drop n bytes
     → ((rows_from false line bytes).row ≡ Word line word (rows_from false line rest).row) × (behind (rows_from false line rest) ≡ behind (rows_from false line bytes))
 split-word line n bytes word rest begins len front back = rw (rows-word line bytes begins, front, back, len) (refl, refl)
-
--- a part up to the end
-pub to_end : (i : ℕ) (bytes : List ℕ) → take (length bytes - i) (drop i bytes) ≡ drop i bytes
-to_end i bytes = between_to_end bytes i (length bytes) (omega arith)
 
 -- what is left behind the byte at i
 drop-at : (i : ℕ) (bytes rest : List ℕ) → i < length bytes → rest ≡ drop (i + 1) bytes → drop i bytes ≡ get_or bytes i 0 ∷ rest

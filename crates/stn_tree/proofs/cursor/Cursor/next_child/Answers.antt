@@ -1,6 +1,7 @@
 use Rattle.std.proofs.Common.{◌∙◌, ◌+◌, get_or, arith, refl, sym, length-drop}
 use Rattle.stn_tree.specs.Cursors.{rows_at, left_at}
-use Rattle.stn_tree.proofs.Rows.{opened, closed, passed, begins-at, rows-at-letter, line_after-most, at-end, to_end}
+use Rattle.std.proofs.lemmas.List.{take_rest}
+use Rattle.stn_tree.proofs.Rows.{opened, closed, passed, begins-at, rows-at-letter, line_after-most, at-end}
 use Rattle.stn_tree.proofs.Cursors.{IsShorter-more}
 use Rattle.stn_tree.proofs.cursor.Cursor.next_child.Goals as goal
 
@@ -12,36 +13,36 @@ pub returns-in-Open-clause-first : goal.returns-in-Open-clause-first
 unfolding rows_at
 returns-in-Open-clause-first c =
     let bytes = c.args.self.rest.now in
-    opened _ c.loop-index.index _ _ _ c.loop-index.comment c.loop-index-test.true (to_end (c.loop-index.index + 1) bytes) c.loop-index.invariant.same_rows (sym c.kind_in.ensures ∙ c.in-Open.is)
+    opened _ c.loop-index.index _ _ _ c.loop-index.comment c.loop-index-test.true (take_rest bytes (c.loop-index.index + 1)) c.loop-index.invariant.same_rows (sym c.kind_in.ensures ∙ c.in-Open.is)
 
 pub returns-in-Open-clause-shorter : goal.returns-in-Open-clause-shorter
 unfolding left_at
-returns-in-Open-clause-shorter c = rw (to_end _ _, length-drop) (omega arith)
+returns-in-Open-clause-shorter c = rw (take_rest _ _, length-drop) (omega arith)
 
 pub returns-in-Close-clause-first : goal.returns-in-Close-clause-first
 unfolding rows_at
 returns-in-Close-clause-first c =
     let bytes = c.args.self.rest.now in
-    closed _ c.loop-index.index _ _ _ c.loop-index.comment c.loop-index-test.true (to_end (c.loop-index.index + 1) bytes) c.loop-index.invariant.same_rows (sym c.kind_in.ensures ∙ c.in-Close.is)
+    closed _ c.loop-index.index _ _ _ c.loop-index.comment c.loop-index-test.true (take_rest bytes (c.loop-index.index + 1)) c.loop-index.invariant.same_rows (sym c.kind_in.ensures ∙ c.in-Close.is)
 
 pub returns-in-Close-clause-shorter : goal.returns-in-Close-clause-shorter
 unfolding left_at
-returns-in-Close-clause-shorter c = rw (to_end _ _, length-drop) (omega arith)
+returns-in-Close-clause-shorter c = rw (take_rest _ _, length-drop) (omega arith)
 
 pub word_at-requires-clause-letter : goal.word_at-requires-clause-letter
 word_at-requires-clause-letter c =
-    begins-at c.loop-index.index _ _ c.loop-index.comment c.loop-index-test.true (to_end c.loop-index.index c.args.self.rest.now) (sym c.kind_in.ensures ∙ c.in-Letter.is)
+    begins-at c.loop-index.index _ _ c.loop-index.comment c.loop-index-test.true (take_rest c.args.self.rest.now c.loop-index.index) (sym c.kind_in.ensures ∙ c.in-Letter.is)
 
 pub returns-in-Letter-clause-first : goal.returns-in-Letter-clause-first
 unfolding rows_at
 returns-in-Letter-clause-first c =
     let bytes = c.args.self.rest.now in
-    let same = rows-at-letter c.loop-index.line c.loop-index.index bytes _ _ c.loop-index.comment (to_end c.loop-index.index bytes) (sym c.kind_in.ensures ∙ c.in-Letter.is) c.loop-index.invariant.same_rows in
+    let same = rows-at-letter c.loop-index.line c.loop-index.index bytes _ _ c.loop-index.comment (take_rest bytes c.loop-index.index) (sym c.kind_in.ensures ∙ c.in-Letter.is) c.loop-index.invariant.same_rows in
     rw same at c.word_at.ensures.first
 
 pub returns-in-Letter-clause-shorter : goal.returns-in-Letter-clause-shorter
 unfolding left_at
-returns-in-Letter-clause-shorter c = IsShorter-more _ _ _ (rw (to_end _ _, length-drop) (omega arith)) c.word_at.ensures.shorter
+returns-in-Letter-clause-shorter c = IsShorter-more _ _ _ (rw (take_rest _ _, length-drop) (omega arith)) c.word_at.ensures.shorter
 
 pub loop-index-preserved : goal.loop-index-preserved
 loop-index-preserved c = record {
