@@ -26,7 +26,7 @@ module _ {K X : Type 0} (eq : K → K → Bool) (view : K → X) (decides : (a b
       by (Some k) e said = (k, e, same_Some (view k) x said)
 
   -- two places with one key are not in order
-  not_before : (ks : List K) (i j : ℕ) (x : X) → IsDistinct eq ks → slice_get (map view ks) i ≡ Some x → slice_get (map view ks) j ≡ Some x → i < j → ⊥
+  not_before : (ks : List K) (i j : ℕ) (x : X) → IsDistinct eq ks → slice_get (map view ks) i ≡ Some x → slice_get (map view ks) j ≡ Some x → ¬ (i < j)
   not_before ks i j x distinct at_i at_j less =
       let one = key_at ks i x at_i in
       let other = key_at ks j x at_j in
