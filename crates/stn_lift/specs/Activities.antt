@@ -71,19 +71,13 @@ pub record IsFirstRefused (actions : List ActionSchema) (steps : List PlannedSte
 
 -- the cause that a fault has: the first step that is refused, refused by the first cause against it
 abbrev pub IsCause : List ActionSchema → List PlannedStep → LiftFault → Type 0
-IsCause actions steps (UnknownAction step) = IsFirstRefused actions steps (UnknownAction step)
-IsCause actions steps (Arity step) = IsFirstRefused actions steps (Arity step)
-IsCause actions steps (DurationDiffers step) = IsFirstRefused actions steps (DurationDiffers step)
-IsCause actions steps (PastHorizon step) = IsFirstRefused actions steps (PastHorizon step)
 IsCause actions steps Memory = Unit {0}
+IsCause actions steps fault = IsFirstRefused actions steps fault
 
 -- The fault is the one that the meaning gives, unless memory ran out.
 abbrev pub Fails : {Y : Type 0} → LiftFault → Result Y LiftFault → Type 0
-Fails (UnknownAction step) meaning = meaning ≡ Err (UnknownAction step)
-Fails (Arity step) meaning = meaning ≡ Err (Arity step)
-Fails (DurationDiffers step) meaning = meaning ≡ Err (DurationDiffers step)
-Fails (PastHorizon step) meaning = meaning ≡ Err (PastHorizon step)
 Fails Memory meaning = Unit {0}
+Fails fault meaning = meaning ≡ Err fault
 
 -- What a function returned, seen by view, is what the meaning gives, unless memory ran out.
 abbrev pub Gives : {X Y : Type 0} → (X → Y) → Result X LiftFault → Result Y LiftFault → Type 0

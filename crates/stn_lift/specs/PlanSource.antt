@@ -89,11 +89,8 @@ base_of (files domain plan) = source_with (files domain plan) (lifted domain pla
 
 -- The fault is the one that the meaning gives, unless memory ran out.
 abbrev pub Fails : {Y : Type 0} → BaseFault → Result Y BaseFault → Type 0
-Fails (Domain fault) meaning = meaning ≡ Err (Domain fault)
-Fails (Plan fault) meaning = meaning ≡ Err (Plan fault)
-Fails (Lift fault) meaning = meaning ≡ Err (Lift fault)
-Fails TooManySteps meaning = meaning ≡ Err TooManySteps
 Fails Memory meaning = Unit {0}
+Fails fault meaning = meaning ≡ Err fault
 
 -- What a function returned, seen by view, is what the meaning gives, unless memory ran out.
 abbrev pub Gives : {X Y : Type 0} → (X → Y) → Result X BaseFault → Result Y BaseFault → Type 0
