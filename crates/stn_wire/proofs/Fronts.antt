@@ -55,7 +55,7 @@ shown bytes frame n h =
     }
 
 -- unfinished bytes are no more than a frame has
-pub unfinished_short : (bytes : List ℕ) → IsFront bytes unfinished → IsLength (announced bytes) → 4 + announced bytes ≤ length bytes → ⊥
+pub unfinished_short : (bytes : List ℕ) → IsFront bytes unfinished → IsLength (announced bytes) → ¬ (4 + announced bytes ≤ length bytes)
 unfinished_short bytes h long enough = ⊎_elim (λ few. omega (arith, long.0)) (λ more. ⊎_elim (λ four. omega (arith, long.0)) (λ less. omega (arith, less.1)) more.1) h
 
 unfinished_bodied : (bytes : List ℕ) → IsFront bytes unfinished → 4 ≤ length bytes → IsLength (announced bytes)

@@ -23,7 +23,7 @@ in_two n m bytes long =
     let last : take m (drop n bytes) ≡ drop n bytes = take_all m (drop n bytes) (omega (arith, length-drop n bytes)) in
     sym (take-append-drop n bytes) ∙ ap (λ l. take n bytes ++ l) (sym last)
 
-no_fault : (events : ℕ) (bound : Difference) (fault : BoundFault) → IsBoundWithin events bound → IsFaultOf events bound fault → ⊥
+no_fault : (events : ℕ) (bound : Difference) (fault : BoundFault) → IsBoundWithin events bound → ¬ IsFaultOf events bound fault
 no_fault events bound NoEvent sound h = ⊎_elim (λ from. omega (arith, sound.named.from, from)) (λ to. omega (arith, sound.named.to, to)) h
 no_fault events bound SameEvent sound h = sound.differs h.1
 no_fault events bound Crossed sound h = omega (arith, ints, sound.ordered, h.2)
