@@ -1,10 +1,11 @@
 -- What the rows hold after a parse without a fault, where each argument takes one value or asks for help.
-use Rattle.std.proofs.Common.{◌≡◌, ◌⊎◌, ◌∙◌, ℕ, Bool, true, false, not, cond, List, [], ◌∷◌, Option, Some, None, refl, sym, ap, subst, inl, inr, arith, length, zero, suc, is_some, ◌&&◌, ◌||◌, ◌==◌, option_map}
+use Rattle.std.proofs.Common.{◌≡◌, ◌≢◌, ◌⊎◌, ◌∙◌, ℕ, Bool, true, false, not, cond, List, [], ◌∷◌, Option, Some, None, refl, sym, ap, subst, inl, inr, arith, length, zero, suc, is_some, ◌&&◌, ◌||◌, ◌==◌, option_map}
 use Rattle.std.specs.Prelude.{IsSomeAnd, find, fold, slice_get, option_and_then}
 use Rattle.std.specs.List.{list_any}
 use Rattle.std.specs.Option.{option_map_or}
 use Rattle.std.specs.Str.{bytes_eq, chars}
-use Rattle.std.proofs.lemmas.Bool.{ne_eqb}
+use Rattle.std.proofs.lemmas.Bool.{ne_eqb, or_parts}
+use Rattle.std.proofs.lemmas.Option.{same_Some}
 use Rattle.std.proofs.lemmas.Slice.Eq.{bytes_eq-Decides}
 use Rattle.clap.specs.Lexer.{long_of, short_of}
 use Rattle.clap.specs.Facts.{explicit_source, parser_of_value, unwrap_or_range}
@@ -79,7 +80,7 @@ new_row c id more new (r ∷ rows) none fit fits = go (bytes_eq r.id id) refl (�
     go true t rest = let bad : true ≡ false = rw t at none in cc
     go false t rest = rw (t, t) (fit.0, rest (rw t at none))
 
-no_request : (x : ArgAction) → is_request x ≡ true → request_kinds x ≡ [] → ⊥
+no_request : (x : ArgAction) → is_request x ≡ true → request_kinds x ≢ []
 no_request action.Set e none = cc
 no_request action.Append e none = cc
 no_request action.SetTrue e none = cc
@@ -243,17 +244,6 @@ accepted a v none = accepts-Accepts a.ignore_case (parser_of_value a.parser) v (
     go true none = refl
     go false none = cc
 
-some_injective : {X : Type 0} {a b : X} → Some a ≡ Some b → a ≡ b
-some_injective e = cc
-
-no_left : (a b : Bool) → (a || b) ≡ false → a ≡ false
-no_left true b e = e
-no_left false b e = refl
-
-no_right : (a b : Bool) → (a || b) ≡ false → b ≡ false
-no_right true b e = cc
-no_right false b e = e
-
 is_there : (required given : Bool) → required ≡ true → (required && not given) ≡ false → given ≡ true
 is_there true true e none = refl
 is_there true false e none = cc
@@ -346,7 +336,7 @@ given_by_row c rows a fit plain given = go (find (λ r. bytes_eq r.id a.id) rows
         let fits = at.0 in
         let same : r.id ≡ a.id = (bytes_eq-Decides r.id a.id).0 at.1 in
         let own : arg_by_id c a.id ≡ Some fits.rule = ap (arg_by_id c) (sym same) ∙ fits.own in
-        let rule : fits.rule ≡ a = some_injective (sym own ∙ plain.1) in
+        let rule : fits.rule ≡ a = same_Some _ _ (sym own ∙ plain.1) in
         let passes = subst (λ (x : Rule). value_kinds x.ignore_case (parser_of_value x.parser) fits.value ≡ []) rule fits.passes in
         rw fits.one (accepted a fits.value passes)
 
@@ -354,7 +344,7 @@ all_given : (c : List Rule) (rows : List Row) (rules : List Rule) → Fit c rows
     → list_any (λ a. a.required && not (is_given a.id rows)) rules ≡ false → Each (IsGiven rows) rules
 all_given c rows [] fit plain none = tt
 all_given c rows (a ∷ rest) fit plain none =
-    (λ required. given_by_row c rows a fit plain.0 (is_there a.required (is_given a.id rows) required (no_left _ _ none)), all_given c rows rest fit plain.1 (no_right _ _ none))
+    (λ required. given_by_row c rows a fit plain.0 (is_there a.required (is_given a.id rows) required (or_parts _ _ none).0), all_given c rows rest fit plain.1 (or_parts _ _ none).1)
 
 -- one level of the parse: what is required is given
 level_given : (commands : List Shape) (s : Shape) (words : List Text) → ReadsPlainly commands s → level_fault s [] nothing_held words false [] ≡ []
@@ -404,7 +394,7 @@ command_given app words required plain none = go (walk.stop_after top.rules name
     checks : check_fault top (finished top.rules end) has ≡ []
     checks = no_second (defaults_fault (settled top.rules end).rows top.rules) _ (no_second (settle_fault top.rules top.args_override_self end) _ (no_second (entered_fault (built app) (walk.stop_after top.rules names given)) _ rest))
 
-    wanted : (help wants missing : Bool) → wants ≡ true → check_kinds help wants missing ≡ [] → ⊥
+    wanted : (help wants missing : Bool) → wants ≡ true → check_kinds help wants missing ≢ []
     wanted true wants missing is none = cc
     wanted false true missing is none = cc
     wanted false false missing is none = cc

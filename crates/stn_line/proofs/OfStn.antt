@@ -1,5 +1,5 @@
 -- The general law at the program's own commands.
-use Rattle.std.proofs.Common.{map, Option, Bor, option_map, subst, false, Bool, codes, cond, sym, ◌∷◌, ◌≡◌, ◌⊎◌, true, [], refl, inl, inr, Some, List}
+use Rattle.std.proofs.Common.{map, Option, Bor, option_map, subst, false, Bool, codes, cond, sym, ◌∷◌, ◌≡◌, ◌≢◌, ◌⊎◌, true, [], refl, inl, inr, Some, List}
 use Rattle.std.specs.Prelude.{IsSomeAnd, find}
 use Rattle.std.specs.Str.{bytes_eq}
 use Rattle.std.proofs.lemmas.Slice.Eq.{bytes_eq-Decides}
@@ -131,22 +131,22 @@ is_one_of (s ∷ rest) name rows has = go (bytes_eq s.name name) refl has (is_on
     go true t has more = inl (sym ((bytes_eq-Decides s.name name).0 t))
     go false t has more = inr (more has)
 
-other : {A B : Type 0} → A ⊎ B → (A → ⊥) → B
+other : {A B : Type 0} → A ⊎ B → ¬ A → B
 other (inl a) none = absurd (none a)
 other (inr b) none = b
 
 -- what is none of the other commands is the last
 pub is_send : (name : Text) (rows : List Row) → HasWords name rows
-    → (name ≡ codes "run" → ⊥)
-    → (name ≡ codes "bare" → ⊥)
-    → (name ≡ codes "init" → ⊥)
-    → (name ≡ codes "add" → ⊥)
-    → (name ≡ codes "withdraw" → ⊥)
-    → (name ≡ codes "done" → ⊥)
-    → (name ≡ codes "merge" → ⊥)
-    → (name ≡ codes "report" → ⊥)
-    → (name ≡ codes "next" → ⊥)
-    → (name ≡ codes "serve" → ⊥)
+    → name ≢ codes "run"
+    → name ≢ codes "bare"
+    → name ≢ codes "init"
+    → name ≢ codes "add"
+    → name ≢ codes "withdraw"
+    → name ≢ codes "done"
+    → name ≢ codes "merge"
+    → name ≢ codes "report"
+    → name ≢ codes "next"
+    → name ≢ codes "serve"
     → name ≡ codes "send"
 unfolding stn IsOneOf
 is_send name rows has run bare init add withdraw done merge report next serve =
