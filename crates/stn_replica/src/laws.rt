@@ -40,9 +40,9 @@ pub fn state_is_union()
 /// in any order, more than once or merged in any grouping, hold the same and report the same bytes;
 /// it does nothing.
 pub fn took_same_same_bytes()
-    ensures states { (ours theirs : List Accepted) → (one other : Held) → CameBy ours one → CameBy theirs other → TookSame ours theirs → one.state ≡ other.state }
-    ensures bytes { (ours theirs : List Accepted) → (one other : Held) → CameBy ours one → CameBy theirs other → TookSame ours theirs → one.source ≡ other.source
-        → (text last : List ℕ) → IsReport one.source one.state text → IsReport other.source other.state last → text ≡ last }
+    ensures { (ours theirs : List Accepted) → (one other : Held) → CameBy ours one → CameBy theirs other → TookSame ours theirs
+        → (one.state ≡ other.state) × (one.source ≡ other.source
+        → (text last : List ℕ) → IsReport one.source one.state text → IsReport other.source other.state last → text ≡ last) }
 {
     state_is_union();
     one_report();
