@@ -1,12 +1,12 @@
 -- The first of all bounds that times break.
-use Rattle.std.proofs.Common.{◌≡◌, ℕ, ℤ, pos, ◌-ℤ◌, ◌≤ℤ◌, zero, suc, ◌+◌, ◌-◌, ◌<◌, ◌≤◌, nat_lt, Bool, true, false, not, cond, List, [], ◌∷◌, ◌++◌, length, get_or, take, Option, Some, None, IfSome, refl, sym, ap, subst, ◌∙◌, arith, zero-add, length-append, length-take, All}
+use Rattle.std.proofs.Common.{◌≡◌, ℕ, ℤ, pos, ◌-ℤ◌, ◌≤ℤ◌, suc, ◌+◌, ◌-◌, ◌<◌, ◌≤◌, nat_lt, Bool, true, false, not, cond, List, [], ◌∷◌, ◌++◌, length, get_or, take, Some, None, refl, sym, ap, subst, ◌∙◌, arith, zero-add, length-append, length-take, All}
 use Rattle.std.specs.Prelude.{int_le, position, option_map}
 use Rattle.std.specs.List.{position_or_len}
 use Rattle.std.specs.Bool.{Decides}
 use Rattle.std.proofs.lemmas.Bool.{false_from_ne_true}
 use Rattle.std.proofs.lemmas.Bool.Decides.{nat_tests, Decides-ltb, Decides-and}
 use Rattle.std.proofs.lemmas.Int.{ints}
-use Rattle.std.proofs.lemmas.List.{take-append-le, get_or-append-add, get_or-take, get_or_default}
+use Rattle.std.proofs.lemmas.List.{take-append-le, get_or_append_left, get_or-append-add, get_or-take, get_or_default}
 use Rattle.std.proofs.lemmas.List.Sums.{position_or_len_is}
 use Rattle.std.proofs.lemmas.List.Elements.{All-append}
 use Rattle.std.specs.List.{HoldsAt}
@@ -28,11 +28,6 @@ pub record IsFirstBroken (source : PlanSource) (state : Content) (time : ℕ →
   pub earlier : All (Meets time) (take place (all_bounds source state))
   pub name : first ≡ name_in (base_bounds source) (live_ids state) place
 
-get_or-left : {X : Type 0} (xs ys : List X) (i : ℕ) (d : X) → i < length xs → get_or (xs ++ ys) i d ≡ get_or xs i d
-get_or-left [] ys i d within = absurd (omega arith)
-get_or-left (x ∷ xs) ys zero d within = refl
-get_or-left (x ∷ xs) ys (suc i) d within = get_or-left xs ys i d (omega arith)
-
 take-beyond : {X : Type 0} (xs ys : List X) (n : ℕ) → take (length xs + n) (xs ++ ys) ≡ xs ++ take n ys
 take-beyond [] ys n = ap (λ k. take k ys) (zero-add n)
 take-beyond (x ∷ xs) ys n = ap (λ k. take k (x ∷ (xs ++ ys))) (let e : length (x ∷ xs) + n ≡ suc (length xs + n) = omega arith in e) ∙ ap (λ rest. x ∷ rest) (take-beyond xs ys n)
@@ -46,18 +41,18 @@ chosen_second b x y e = ap (λ c. cond c x y) e
 not_less : (a b : ℕ) → b ≤ a → nat_lt a b ≡ false
 not_less a b h = elim (nat_lt a b) as (λ t. nat_lt a b ≡ t → t ≡ false) [ true ↦ λ e. absurd (past ((Decides-ltb a b).0 e)) | false ↦ λ e. refl ] refl
   where
-    past : a < b → ⊥
+    past : ¬ (a < b)
     past l = omega arith
 
 -- one of the plan's own
 pub broken_in_plan : (source : PlanSource) (state : Content) (base : List Difference) (time : ℕ → ℤ) (place : ℕ) → base ≡ base_bounds source
-    → place < length base → (HoldsAt (Meets time) base place → ⊥) → All (Meets time) (take place base) → IsFirstBroken source state time (Plan (place + 1))
+    → place < length base → ¬ HoldsAt (Meets time) base place → All (Meets time) (take place base) → IsFirstBroken source state time (Plan (place + 1))
 broken_in_plan source state base time place is within broken earlier =
     let inside : place < length (base_bounds source) = subst (λ bounds. place < length bounds) is within in
     record {
       place = place;
       there = omega (arith, length-append (base_bounds source) (live_bounds state));
-      broken = λ h. broken (λ d. subst (Meets time) (get_or-left (base_bounds source) (live_bounds state) place d inside ∙ ap (λ bounds. get_or bounds place d) (sym is)) (h d));
+      broken = λ h. broken (λ d. subst (Meets time) (get_or_append_left (base_bounds source) (live_bounds state) d place inside ∙ ap (λ bounds. get_or bounds place d) (sym is)) (h d));
       earlier = subst (All (Meets time)) (ap (take place) is ∙ sym (take-append-le place (base_bounds source) (live_bounds state) (omega arith))) earlier;
       name = sym (chosen_first (nat_lt place (length (base_bounds source))) (Plan (place + 1)) (Record (id_at (live_ids state) (place - length (base_bounds source)))) ((Decides-ltb place (length (base_bounds source))).1 inside));
     }
@@ -107,7 +102,7 @@ place_of met count place e lt = grind (arith, nat_tests)
 no_place : (met count : ℕ) → met ≡ count → cond (nat_lt met count) (Some met) None ≡ None
 no_place met count e = grind (arith, nat_tests)
 
-first_place : (time : ℕ → ℤ) (bounds : List Difference) (place : ℕ) → place < length bounds → (HoldsAt (Meets time) bounds place → ⊥) → All (Meets time) (take place bounds)
+first_place : (time : ℕ → ℤ) (bounds : List Difference) (place : ℕ) → place < length bounds → ¬ HoldsAt (Meets time) bounds place → All (Meets time) (take place bounds)
     → position (is_broken time) bounds ≡ Some place
 first_place time bounds place lt broken earlier =
     place_of (position_or_len (is_broken time) bounds) (length bounds) place
@@ -133,8 +128,5 @@ unfolding broken_bound
 broken_none source state time schedule =
     sym (ap (option_map (name_in (base_bounds source) (live_ids state))) (nothing_broken time (all_bounds source state) schedule.met))
 
-pub broken_no_schedule : (source : PlanSource) (state : Content) (time : ℕ → ℤ) (name : BoundName) → IsFirstBroken source state time name → IsSchedule (all_bounds source state) time → ⊥
+pub broken_no_schedule : (source : PlanSource) (state : Content) (time : ℕ → ℤ) (name : BoundName) → IsFirstBroken source state time name → ¬ IsSchedule (all_bounds source state) time
 broken_no_schedule source state time name first schedule = first.broken (λ d. schedule.met first.place d first.there)
-
-pub if_some : {X : Type 0} (o : Option X) (x : X) (P : X → Type 0) → o ≡ Some x → IfSome o P → P x
-if_some o x P e h = subst (λ p. IfSome p P) e h

@@ -1,5 +1,5 @@
 -- What an addition, a withdrawal and a take make of a state.
-use Rattle.std.proofs.Common.{◌≡◌, ℕ, ◌<◌, ◌≤◌, Bool, true, false, cond, not, ◌&&◌, ◌||◌, List, [], ◌∷◌, ◌++◌, length, Option, Some, None, is_some, inl, inr, ⊎_elim, refl, sym, ap, subst, ◌∙◌, arith, All}
+use Rattle.std.proofs.Common.{◌≡◌, ◌≢◌, ℕ, ◌<◌, ◌≤◌, Bool, true, false, cond, not, ◌&&◌, ◌||◌, List, [], ◌∷◌, ◌++◌, length, Option, Some, None, is_some, inl, inr, ⊎_elim, refl, sym, ap, subst, ◌∙◌, arith, All}
 use Rattle.std.proofs.lemmas.Bool.{false≢true, cases_lt}
 use Rattle.std.proofs.lemmas.List.Elements.{All-append, All-nil, All-push}
 use Rattle.std.specs.Ordering.{eq_by_cmp}
@@ -15,11 +15,11 @@ use Rattle.stn_records.specs.Content.{Content, addition, is_live, is_known, no_c
 use Rattle.stn_records.specs.ContentLaws.{ids_total, ids_exact, contents_join}
 use Rattle.stn_records.proofs.Holding.{joined_is}
 use Rattle.stn_replica.specs.Bounds.{bounds_of, live_bounds, RecordsName}
-use Rattle.stn_replica.specs.Invariant.{IsKnown}
+use Rattle.stn_replica.specs.Invariant.{IsSettled}
 use Rattle.stn_replica.specs.Work.{is_risen, risen, Extends, KeepsLive}
 use Rattle.stn_replica.proofs.Entries.{entries_from_get, get_from_entries}
 use Rattle.stn_replica.proofs.Live.{RisenHold, live_from_bounds, bounds_from_live, risen_from_bounds, old_hold, risen_hold, new_hold, live_named, nothing_live}
-use Rattle.stn_replica.proofs.Schedules.{schedule_before, met_behind, schedule_with, known_same_schedules}
+use Rattle.stn_replica.proofs.Schedules.{schedule_before, met_behind, schedule_with, settled_same_schedules}
 
 same_id : (q id : SiteCounter) → eq_by_cmp id_cmp q id ≡ true → q ≡ id
 same_id q id t = ids_exact q id ((Equal-is (id_cmp q id)).0 t)
@@ -81,7 +81,7 @@ module _ (s : Content) (id : SiteCounter) (r : Record) (unknown : is_known s id 
   pub added_hold : (P : Difference → Type 0) → RisenHold P s (with_record s id r) → P r.bound
   added_hold P f = f id r there_added risen_itself
 
-  contrary : (a : Bool) → (a && not a) ≡ true → ⊥
+  contrary : (a : Bool) → (a && not a) ≢ true
   contrary true e = false≢true e
   contrary false e = false≢true e
 
@@ -108,13 +108,13 @@ module _ (s : Content) (id : SiteCounter) (r : Record) (unknown : is_known s id 
         | false ↦ λ t. get_from_entries ids_total ids_exact s.additions (λ entry. NamesEvents events entry.1.bound) named q v (sym (get_added q false t) ∙ there)
       ] refl)
 
-  -- what is known with the bound is known of all bounds
-  pub known_added : (base : List Difference) (table : Table) (possible : Bool)
+  -- what is settled with the bound is settled of all bounds
+  pub settled_added : (base : List Difference) (table : Table) (possible : Bool)
       → All (NamesEvents table.events) (base ++ live_bounds (with_record s id r))
-      → IsKnown ((base ++ live_bounds s) ++ r.bound ∷ []) table possible → IsKnown (base ++ live_bounds (with_record s id r)) table possible
-  known_added base table possible named known =
+      → IsSettled ((base ++ live_bounds s) ++ r.bound ∷ []) table possible → IsSettled (base ++ live_bounds (with_record s id r)) table possible
+  settled_added base table possible named settled =
       let new = with_record s id r in
-      known_same_schedules ((base ++ live_bounds s) ++ r.bound ∷ []) (base ++ live_bounds new) table possible
+      settled_same_schedules ((base ++ live_bounds s) ++ r.bound ∷ []) (base ++ live_bounds new) table possible
       (λ time h.
       let before = schedule_before (base ++ live_bounds s) (r.bound ∷ []) time h in
       schedule_with base (live_bounds new) time (schedule_before base (live_bounds s) time before)
@@ -126,7 +126,7 @@ module _ (s : Content) (id : SiteCounter) (r : Record) (unknown : is_known s id 
       schedule_with (base ++ live_bounds s) (r.bound ∷ []) time
       (schedule_with base (live_bounds s) time (schedule_before base (live_bounds new) time h) (bounds_from_live (Meets time) s (old_hold (Meets time) s new extends_added keeps_with_record all)))
       (All-push (Meets time) [] r.bound (All-nil (Meets time)) (added_hold (Meets time) (risen_hold (Meets time) s new extends_added keeps_with_record all))))
-      named known
+      named settled
 
 -- ---- a state that takes another
 pub extends_joined : (a b c : Content) → join_contents a b ≡ Some c → Extends a c
@@ -164,38 +164,15 @@ module _ (s : Content) (id : SiteCounter) where
   pub withdrawn_dead : is_live (with_tombstone s id) id ≡ false
   withdrawn_dead = ap (λ b. is_some (get s.additions id) && not b) (tombs_with id true (itself id)) ∙ last_false (is_some (get s.additions id))
 
-  live_else : (q : SiteCounter) → eq_by_cmp id_cmp q id ≡ false → is_live (with_tombstone s id) q ≡ is_live s q
-  live_else q t = ap (λ b. is_some (get s.additions q) && not b) (tombs_with q false t)
-
-  -- where it was not live, the live records are the same
-  pub live_same : is_live s id ≡ false → (q : SiteCounter) → is_live (with_tombstone s id) q ≡ is_live s q
-  live_same dead q =
-      elim (eq_by_cmp id_cmp q id) as (λ b. eq_by_cmp id_cmp q id ≡ b → is_live (with_tombstone s id) q ≡ is_live s q) [
-        | true ↦ λ t. ap (λ k. is_live (with_tombstone s id) k) (same_id q id t) ∙ withdrawn_dead ∙ sym dead ∙ ap (λ k. is_live s k) (sym (same_id q id t))
-        | false ↦ λ t. live_else q t
-      ] refl
-
-  pub known_withdrawn : (base : List Difference) (table : Table) (possible : Bool) → is_live s id ≡ false
-      → All (NamesEvents table.events) (base ++ live_bounds (with_tombstone s id))
-      → IsKnown (base ++ live_bounds s) table possible → IsKnown (base ++ live_bounds (with_tombstone s id)) table possible
-  known_withdrawn base table possible dead named known =
-      let new = with_tombstone s id in
-      known_same_schedules (base ++ live_bounds s) (base ++ live_bounds new) table possible
-      (λ time h. schedule_with base (live_bounds new) time (schedule_before base (live_bounds s) time h)
-      (bounds_from_live (Meets time) new (λ q v there live. live_from_bounds (Meets time) s (met_behind base (live_bounds s) time h) q v there (sym (live_same dead q) ∙ live))))
-      (λ time h. schedule_with base (live_bounds s) time (schedule_before base (live_bounds new) time h)
-      (bounds_from_live (Meets time) s (λ q v there live. live_from_bounds (Meets time) new (met_behind base (live_bounds new) time h) q v there (live_same dead q ∙ live))))
-      named known
-
 -- ---- nothing at first
 pub none_named : (events : ℕ) (none : Content) → none ≡ no_content → RecordsName events none
 none_named events none is =
     entries_from_get ids_total ids_exact none.additions (λ entry. NamesEvents events entry.1.bound) (λ q v there.
     absurd (false≢true (ap is_some (sym (get-empty id_cmp q) ∙ ap (λ (s : Content). get s.additions q) (sym is) ∙ there))))
 
-pub known_at_first : (base : List Difference) (none : Content) (table : Table) → none ≡ no_content → IsExact base table → IsKnown (base ++ live_bounds none) table true
-known_at_first base none table is exact =
-    known_same_schedules base (base ++ live_bounds none) table true
+pub settled_at_first : (base : List Difference) (none : Content) (table : Table) → none ≡ no_content → IsExact base table → IsSettled (base ++ live_bounds none) table true
+settled_at_first base none table is exact =
+    settled_same_schedules base (base ++ live_bounds none) table true
     (λ time h. schedule_with base (live_bounds none) time h (bounds_from_live (Meets time) none (λ q v there live. absurd (false≢true (sym (nothing_live none is q) ∙ live)))))
     (λ time h. schedule_before base (live_bounds none) time h)
     (All-append (NamesEvents table.events) base (live_bounds none) exact.named (live_named table.events none (none_named table.events none is)))

@@ -18,7 +18,7 @@ nothing_at : {X : Type 0} (q : SiteCounter) (y : X) {P : Type 0} → fin.get {R 
 nothing_at q y none = absurd (false≢true (ap is_some (sym (get-empty id_cmp q) ∙ none)))
 
 -- nothing has no item
-pub nothing_there : (item : Item) → HasItem no_content item → ⊥
+pub nothing_there : (item : Item) → ¬ HasItem no_content item
 nothing_there (addition id one) there = nothing_at id one there
 nothing_there (withdrawal id) there = nothing_at id tt there
 
@@ -69,7 +69,7 @@ one_brought old (withdrew id) new left item = withdrawal_brought old.state new i
 one_brought old (took other) new left item = contents_join.union old.state other new left item
 
 -- three parts in a row
-regroup : {A B C N L : Type 0} → (L ↔ (N ⊎ C)) → (N ↔ (A ⊎ B)) → L ↔ (A ⊎ (B ⊎ C))
+pub regroup : {A B C N L : Type 0} → (L ↔ (N ⊎ C)) → (N ↔ (A ⊎ B)) → L ↔ (A ⊎ (B ⊎ C))
 regroup last first = (
   λ h. ⊎_elim (λ n. ⊎_elim inl (λ b. inr (inl b)) (first.0 n)) (λ c. inr (inr c)) (last.0 h),
   λ h. ⊎_elim (λ a. last.1 (inl (first.1 (inl a)))) (λ rest. ⊎_elim (λ b. last.1 (inl (first.1 (inr b)))) (λ c. last.1 (inr c)) rest) h,

@@ -12,10 +12,10 @@ use Rattle.stn_records.specs.declared.record.Record.{Record}
 use Rattle.stn_records.specs.Content.{Content, is_live, live_of, no_content}
 use Rattle.stn_records.specs.ContentLaws.{ids_total, ids_exact}
 use Rattle.stn_replica.specs.Bounds.{bounds_of, live_bounds, RecordsName}
-use Rattle.stn_replica.specs.Invariant.{IsKnown}
+use Rattle.stn_replica.specs.Invariant.{IsSettled}
 use Rattle.stn_replica.specs.Work.{is_risen, risen, Extends, KeepsLive}
 use Rattle.stn_replica.proofs.Entries.{entries_from_get, get_from_entries}
-use Rattle.stn_replica.proofs.Schedules.{schedule_before, met_behind, schedule_with, known_same_schedules}
+use Rattle.stn_replica.proofs.Schedules.{schedule_before, met_behind, schedule_with, settled_same_schedules}
 
 abbrev pub Entry : Type 0
 Entry = SiteCounter × Record
@@ -126,14 +126,14 @@ module _ (P : Difference → Type 0) (old new : Content) (extends : Extends old 
         | false ↦ λ t. g id r there (ap (λ b. b && not (is_live old id)) live ∙ ap not t)
       ] refl
 
--- what is known with the bounds of those that have become live is known of all
-pub known_grown : (base : List Difference) (old new : Content) (table : Table) (possible : Bool)
+-- what is settled with the bounds of those that have become live is settled of all
+pub settled_grown : (base : List Difference) (old new : Content) (table : Table) (possible : Bool)
     → Extends old new → KeepsLive old new
     → All (NamesEvents table.events) (base ++ live_bounds new)
-    → IsKnown ((base ++ live_bounds old) ++ bounds_of (risen old new)) table possible
-    → IsKnown (base ++ live_bounds new) table possible
-known_grown base old new table possible extends keeps named known =
-    known_same_schedules ((base ++ live_bounds old) ++ bounds_of (risen old new)) (base ++ live_bounds new) table possible
+    → IsSettled ((base ++ live_bounds old) ++ bounds_of (risen old new)) table possible
+    → IsSettled (base ++ live_bounds new) table possible
+settled_grown base old new table possible extends keeps named settled =
+    settled_same_schedules ((base ++ live_bounds old) ++ bounds_of (risen old new)) (base ++ live_bounds new) table possible
     (λ time s.
     let before = schedule_before (base ++ live_bounds old) (bounds_of (risen old new)) time s in
     schedule_with base (live_bounds new) time (schedule_before base (live_bounds old) time before)
@@ -145,11 +145,11 @@ known_grown base old new table possible extends keeps named known =
     schedule_with (base ++ live_bounds old) (bounds_of (risen old new)) time
     (schedule_with base (live_bounds old) time (schedule_before base (live_bounds new) time s) (bounds_from_live (Meets time) old (old_hold (Meets time) old new extends keeps all)))
     (bounds_from_risen (Meets time) old new (risen_hold (Meets time) old new extends keeps all)))
-    named known
+    named settled
 
 -- bounds without a schedule have none with more
 pub conflict_stays : (base : List Difference) (old new : Content) → Extends old new → KeepsLive old new
-    → (HasSchedule (base ++ live_bounds old) → ⊥) → HasSchedule (base ++ live_bounds new) → ⊥
+    → ¬ HasSchedule (base ++ live_bounds old) → ¬ HasSchedule (base ++ live_bounds new)
 conflict_stays base old new extends keeps none s =
     let all = live_from_bounds (Meets s.0) new (met_behind base (live_bounds new) s.0 s.1) in
     none (s.0, schedule_with base (live_bounds old) s.0 (schedule_before base (live_bounds new) s.0 s.1) (bounds_from_live (Meets s.0) old (old_hold (Meets s.0) old new extends keeps all)))
@@ -172,7 +172,7 @@ keeps_from_tombs old new extends dead id live =
     ] refl
 
 -- where an id that is withdrawn now was live, it no longer is
-pub falls_from_tomb : (old new : Content) (id : SiteCounter) → contains_key new.tombstones id ≡ true → is_live old id ≡ true → KeepsLive old new → ⊥
+pub falls_from_tomb : (old new : Content) (id : SiteCounter) → contains_key new.tombstones id ≡ true → is_live old id ≡ true → ¬ KeepsLive old new
 falls_from_tomb old new id tomb live keeps = false≢true (sym (ap (λ b. contains_key new.additions id && not b) tomb ∙ and_false (contains_key new.additions id)) ∙ keeps id live)
 
 -- records that name some events, named by the bounds of the live ones
@@ -181,18 +181,3 @@ live_named events s named = bounds_from_records (NamesEvents events) (live_of s)
 
 pub nothing_live : (none : Content) → none ≡ no_content → (id : SiteCounter) → is_live none id ≡ false
 nothing_live none is id = ap (λ s. is_live s id) is ∙ ap (λ o. is_some o && not (contains_key no_content.tombstones id)) (get-empty id_cmp id)
-
--- what is known with the bounds of all that have become live since there was nothing is known of all
-pub known_rebuilt : (base : List Difference) (none new : Content) (table : Table) (possible : Bool) → none ≡ no_content
-    → All (NamesEvents table.events) (base ++ live_bounds new)
-    → IsKnown (base ++ bounds_of (risen none new)) table possible → IsKnown (base ++ live_bounds new) table possible
-known_rebuilt base none new table possible is named known =
-    known_same_schedules (base ++ bounds_of (risen none new)) (base ++ live_bounds new) table possible
-    (λ time s. schedule_with base (live_bounds new) time (schedule_before base (bounds_of (risen none new)) time s)
-    (bounds_from_live (Meets time) new (λ id r there live.
-    risen_from_bounds (Meets time) none new (met_behind base (bounds_of (risen none new)) time s) id r there
-    (ap (λ b. b && not (is_live none id)) live ∙ ap not (nothing_live none is id)))))
-    (λ time s. schedule_with base (bounds_of (risen none new)) time (schedule_before base (live_bounds new) time s)
-    (bounds_from_risen (Meets time) none new (λ id r there rose.
-    live_from_bounds (Meets time) new (met_behind base (live_bounds new) time s) id r there (left_true (is_live new id) (not (is_live none id)) rose))))
-    named known

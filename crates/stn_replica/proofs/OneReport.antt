@@ -1,11 +1,10 @@
 -- A plan and a state have one report.
-use Rattle.std.proofs.Common.{◌≡◌, ℕ, ℤ, zero, suc, ◌+◌, ◌≤ℤ◌, ◌⊎◌, List, [], ◌∷◌, ◌++◌, codes, Bool, Some, refl, sym, ap, subst, ◌∙◌, ⊎_elim, arith}
-use Rattle.std.proofs.lemmas.Int.{ints}
+use Rattle.std.proofs.Common.{◌≡◌, ℕ, zero, suc, ◌+◌, ◌⊎◌, List, [], ◌∷◌, ◌++◌, codes, Bool, Some, sym, ap, subst, ◌∙◌, ⊎_elim}
 use Rattle.std.proofs.lemmas.List.Elements.{All-take}
 use Rattle.std.specs.List.{flat_map}
 use Rattle.stn_net.specs.Difference.{Difference}
 use Rattle.stn_net.specs.Schedule.{HasSchedule, Meets}
-use Rattle.stn_windows.specs.Window.{IsWindow}
+use Rattle.stn_windows.proofs.Windows.{one_window}
 use Rattle.stn_lift.specs.PlanSource.{PlanSource, base_bounds, events_of}
 use Rattle.stn_records.specs.Content.{Content}
 use Rattle.stn_conflict.specs.declared.links.Link.{Link}
@@ -16,17 +15,6 @@ use Rattle.stn_replica.specs.Names.{live_ids}
 use Rattle.stn_replica.specs.Lines.{line, window_line, conflict_line, link_line}
 use Rattle.stn_replica.specs.Report.{is_done, IsWindowLines, IsWindowsPart, IsConflictPart, IsReport, heading}
 
--- the ends of a window are its own
-one_window : (bounds : List Difference) (event : ℕ) (a b c d : ℤ) → HasSchedule bounds → IsWindow bounds event a b → IsWindow bounds event c d → (a ≡ c) × (b ≡ d)
-one_window bounds event a b c d s p q =
-    let mine = (p (s.0 event)).0 (s.0, s.1, refl) in
-    let theirs = (q (s.0 event)).0 (s.0, s.1, refl) in
-    let low : (c ≤ℤ a) × (a ≤ℤ d) = (q a).0 ((p a).1 (omega (arith, ints), omega (arith, ints))) in
-    let high : (c ≤ℤ b) × (b ≤ℤ d) = (q b).0 ((p b).1 (omega (arith, ints), omega (arith, ints))) in
-    let low_back : (a ≤ℤ c) × (c ≤ℤ b) = (p c).0 ((q c).1 (omega (arith, ints), omega (arith, ints))) in
-    let high_back : (a ≤ℤ d) × (d ≤ℤ b) = (p d).0 ((q d).1 (omega (arith, ints), omega (arith, ints))) in
-    (omega (arith, ints), omega (arith, ints))
-
 one_lines : (bounds : List Difference) (done : ℕ → Bool) → HasSchedule bounds → (n : ℕ) (text other : List ℕ) → IsWindowLines bounds done n text → IsWindowLines bounds done n other → text ≡ other
 one_lines bounds done s zero text other p q = p ∙ sym q
 one_lines bounds done s (suc n) text other p q =
@@ -35,7 +23,7 @@ one_lines bounds done s (suc n) text other p q =
     p.5 ∙ (λ i. before i ++ window_line (suc n) (ends.0 i) (ends.1 i) (done (suc n))) ∙ sym q.5
 
 -- bounds with a named cycle have no schedule
-no_schedule : (bounds : List Difference) (links : List Link) → IsNamedCycle bounds links → HasSchedule bounds → ⊥
+no_schedule : (bounds : List Difference) (links : List Link) → IsNamedCycle bounds links → ¬ HasSchedule bounds
 no_schedule bounds [] p s = p
 no_schedule bounds (link ∷ links) p s =
     p.0.refused (s.0, record { origin = s.1.origin; met = All-take (Meets s.0) (link.place + 1) bounds s.1.met })

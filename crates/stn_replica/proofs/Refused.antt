@@ -1,16 +1,14 @@
 -- The first cause that refuses each call, from what its parts answer.
-use Rattle.std.proofs.Common.{◌≡◌, ◌≢◌, ℕ, ℤ, inl, inr, subst, ◌<◌, ◌≤◌, Bool, true, false, not, ◌&&◌, ◌↔◌, leb, ltb, Option, Some, None, is_some, Result, Ok, Err, refl, sym, ap, ◌∙◌, arith}
-use Rattle.std.specs.Prelude.{unwrap_or, ◌==◌, int_lt, option_map}
+use Rattle.std.proofs.Common.{◌≡◌, ◌≢◌, ℕ, ℤ, subst, ◌<◌, ◌≤◌, Bool, true, false, not, ◌&&◌, ◌↔◌, leb, ltb, Option, Some, None, is_some, Result, Ok, Err, refl, sym, ap, ◌∙◌, arith}
+use Rattle.std.specs.Prelude.{unwrap_or, ◌==◌, option_map}
 use Rattle.std.specs.Bool.{Decides, then_some}
 use Rattle.std.specs.Option.{option_or}
 use Rattle.std.specs.List.{list_all}
 use Rattle.std.specs.FinMap.{get, entries}
 use Rattle.std.proofs.lemmas.Bool.{false≢true, false_from_ne_true}
 use Rattle.std.proofs.lemmas.Bool.Decides.{nat_tests, Decides-by_and}
-use Rattle.std.proofs.lemmas.Int.{ints}
-use Rattle.stn_net.specs.Difference.{Difference, NamesEvents, IsBoundWithin, IsFaultOf}
-use Rattle.stn_net.specs.declared.bound.BoundFault.{BoundFault}
-use Rattle.stn_net.specs.declared.bound.BoundFault.TheVariants.{NoEvent, SameEvent, Crossed}
+use Rattle.stn_net.specs.Difference.{Difference, NamesEvents}
+use Rattle.stn_net.specs.declared.bound.BoundFault.TheVariants.{NoEvent}
 use Rattle.stn_windows.specs.Rehearsal.{fixed_at}
 use Rattle.stn_lift.specs.PlanSource.{events_of}
 use Rattle.stn_records.specs.Id.{most_counter, SiteCounter}
@@ -49,15 +47,12 @@ failed A fault = Err fault
 abbrev pub succeeded : (A : Type 0) → A → Result A RecordsFault
 succeeded A x = Ok x
 
--- ---- bounds
-named_true : (from to events : ℕ) → from ≤ events → to ≤ events → not (leb from events && leb to events) ≡ false
-named_true from to events a b = grind (arith, nat_tests)
+-- ---- numbers
+less_true : (a b : ℕ) → a < b → ltb a b ≡ true
+less_true a b h = grind (arith, nat_tests)
 
-from_beyond : (from to events : ℕ) → events < from → not (leb from events && leb to events) ≡ true
-from_beyond from to events a = grind (arith, nat_tests)
-
-to_beyond : (from to events : ℕ) → events < to → not (leb from events && leb to events) ≡ true
-to_beyond from to events a = grind (arith, nat_tests)
+less_false : (a b : ℕ) → b ≤ a → ltb a b ≡ false
+less_false a b h = grind (arith, nat_tests)
 
 same_number : (a b : ℕ) → a ≡ b → (a == b) ≡ true
 same_number a b e = grind (arith, nat_tests)
@@ -65,41 +60,18 @@ same_number a b e = grind (arith, nat_tests)
 other_number : (a b : ℕ) → a ≢ b → (a == b) ≡ false
 other_number a b e = grind (arith, nat_tests)
 
-pub bound_fault : (events : ℕ) (bound : Difference) (fault : BoundFault) → IsFaultOf events bound fault → bound_refusal events bound ≡ Some fault
-bound_fault events bound NoEvent (inl past) = first_stands (not (names_events events bound)) NoEvent _ (from_beyond bound.from bound.to events past)
-bound_fault events bound NoEvent (inr past) = first_stands (not (names_events events bound)) NoEvent _ (to_beyond bound.from bound.to events past)
-bound_fault events bound SameEvent fault =
-    first_passes (not (names_events events bound)) NoEvent _ (named_true bound.from bound.to events fault.0.from fault.0.to)
-    ∙ first_stands (bound.from == bound.to) SameEvent _ (same_number bound.from bound.to fault.1)
-bound_fault events bound Crossed fault =
-    first_passes (not (names_events events bound)) NoEvent _ (named_true bound.from bound.to events fault.0.from fault.0.to)
-    ∙ (first_passes (bound.from == bound.to) SameEvent _ (other_number bound.from bound.to fault.1)
-    ∙ stands (int_lt bound.hi bound.lo) Crossed (let below = fault.2 in grind (arith, ints)))
-
-pub sound_bound : (events : ℕ) (bound : Difference) → IsBoundWithin events bound → bound_refusal events bound ≡ None
-sound_bound events bound sound =
-    first_passes (not (names_events events bound)) NoEvent _ (named_true bound.from bound.to events sound.named.from sound.named.to)
-    ∙ (first_passes (bound.from == bound.to) SameEvent _ (other_number bound.from bound.to sound.differs)
-    ∙ passes (int_lt bound.hi bound.lo) Crossed (let ordered = sound.ordered in grind (arith, ints)))
-
 -- ---- additions
 pub next_spent : (held : Held) → most_counter < next_counter held.state held.site → next_refusal held ≡ Some CounterSpent
-next_spent held past = first_stands (ltb most_counter (next_counter held.state held.site)) CounterSpent _ (more most_counter (next_counter held.state held.site) past)
-  where
-    more : (a b : ℕ) → a < b → ltb a b ≡ true
-    more a b h = grind (arith, nat_tests)
-
-counter_left : (a b : ℕ) → b ≤ a → ltb a b ≡ false
-counter_left a b h = grind (arith, nat_tests)
+next_spent held past = first_stands (ltb most_counter (next_counter held.state held.site)) CounterSpent _ (less_true most_counter (next_counter held.state held.site) past)
 
 pub next_full : (held : Held) → next_counter held.state held.site ≤ most_counter → known_count held.state ≡ most_known → next_refusal held ≡ Some Full
 next_full held counter full =
-    first_passes (ltb most_counter (next_counter held.state held.site)) CounterSpent _ (counter_left most_counter (next_counter held.state held.site) counter)
+    first_passes (ltb most_counter (next_counter held.state held.site)) CounterSpent _ (less_false most_counter (next_counter held.state held.site) counter)
     ∙ stands (known_count held.state == most_known) Full (same_number (known_count held.state) most_known full)
 
 pub next_free : (held : Held) → next_counter held.state held.site ≤ most_counter → known_count held.state ≢ most_known → next_refusal held ≡ None
 next_free held counter room =
-    first_passes (ltb most_counter (next_counter held.state held.site)) CounterSpent _ (counter_left most_counter (next_counter held.state held.site) counter)
+    first_passes (ltb most_counter (next_counter held.state held.site)) CounterSpent _ (less_false most_counter (next_counter held.state held.site) counter)
     ∙ passes (known_count held.state == most_known) Full (other_number (known_count held.state) most_known room)
 
 -- a record under the site's next id is refused only for want of room or of memory
@@ -115,7 +87,7 @@ next_fault held one id records.Full counter unknown clash refused full = ap (λ 
 next_fault held one id records.Memory counter unknown clash refused full =
     ap (λ o. unwrap_or o Memory) (sym (next_free held counter (λ e. other_fault (full.1 (unknown, e)))))
   where
-    other_fault : failed (Unit {0}) records.Memory ≡ Err records.Full → ⊥
+    other_fault : failed (Unit {0}) records.Memory ≢ Err records.Full
     other_fault e = cc
 
 -- ---- takes
@@ -138,7 +110,7 @@ named_take : (held : Held) (other : Content) → RecordsName (events_of held.sou
 named_take held other named =
     first_passes (not (records_name (events_of held.source) other)) (Bound NoEvent) _ (ap not ((records_name-decides (events_of held.source) other).1 named))
 
-pub unnamed_take : (held : Held) (other : Content) → (RecordsName (events_of held.source) other → ⊥) → take_refusal held other ≡ Some (Bound NoEvent)
+pub unnamed_take : (held : Held) (other : Content) → ¬ RecordsName (events_of held.source) other → take_refusal held other ≡ Some (Bound NoEvent)
 unnamed_take held other unnamed =
     first_stands (not (records_name (events_of held.source) other)) (Bound NoEvent) _
     (ap not (false_from_ne_true (records_name (events_of held.source) other) (λ e. unnamed ((records_name-decides (events_of held.source) other).0 e))))
@@ -150,18 +122,18 @@ agreed_take held other named agreed =
 
 -- where the join neither clashes nor is too large
 joinable : (held : Held) (other : Content) → RecordsName (events_of held.source) other
-    → ((id : SiteCounter) → dispute_contents held.state other ≡ Some id → ⊥)
-    → ((dispute_contents held.state other ≡ None) × (most_known < known_in_either held.state other) → ⊥)
+    → ((id : SiteCounter) → dispute_contents held.state other ≢ Some id)
+    → ¬ ((dispute_contents held.state other ≡ None) × (most_known < known_in_either held.state other))
     → take_refusal held other ≡ None
 joinable held other named clash full =
     let agreed = none (dispute_contents held.state other) clash in
     agreed_take held other named agreed ∙ passes (ltb most_known (known_in_either held.state other)) Full (within most_known (known_in_either held.state other) (λ past. full (agreed, past)))
   where
-    none : (o : Option SiteCounter) → ((id : SiteCounter) → o ≡ Some id → ⊥) → o ≡ None
+    none : (o : Option SiteCounter) → ((id : SiteCounter) → o ≢ Some id) → o ≡ None
     none None h = refl
     none (Some id) h = absurd (h id refl)
 
-    within : (a b : ℕ) → (a < b → ⊥) → ltb a b ≡ false
+    within : (a b : ℕ) → ¬ (a < b) → ltb a b ≡ false
     within a b h = let le : b ≤ a = omega arith in grind (arith, nat_tests)
 
 pub take_fault : (held : Held) (other : Content) (A : Type 0) (fault : RecordsFault) → RecordsName (events_of held.source) other
@@ -173,17 +145,14 @@ take_fault held other A (records.Clash id) named clash full =
     ∙ ap (λ o. option_or (option_map Clash o) (then_some (ltb most_known (known_in_either held.state other)) Full)) ((clash id).0 refl)))
 take_fault held other A records.Full named clash full =
     sym (ap (λ o. unwrap_or o Memory) (agreed_take held other named (full.0 refl).0
-    ∙ stands (ltb most_known (known_in_either held.state other)) Full (more most_known (known_in_either held.state other) (full.0 refl).1)))
-  where
-    more : (a b : ℕ) → a < b → ltb a b ≡ true
-    more a b h = grind (arith, nat_tests)
+    ∙ stands (ltb most_known (known_in_either held.state other)) Full (less_true most_known (known_in_either held.state other) (full.0 refl).1)))
 take_fault held other A records.Memory named clash full =
     sym (ap (λ o. unwrap_or o Memory) (joinable held other named (λ id e. other_clash id ((clash id).1 e)) (λ p. other_full (full.1 p))))
   where
-    other_clash : (id : SiteCounter) → failed A records.Memory ≡ Err (records.Clash id) → ⊥
+    other_clash : (id : SiteCounter) → failed A records.Memory ≢ Err (records.Clash id)
     other_clash id e = cc
 
-    other_full : failed A records.Memory ≡ Err records.Full → ⊥
+    other_full : failed A records.Memory ≢ Err records.Full
     other_full e = cc
 
 pub can_take : (held : Held) (other : Content) (A : Type 0) (all : A) → RecordsName (events_of held.source) other
@@ -192,10 +161,10 @@ pub can_take : (held : Held) (other : Content) (A : Type 0) (all : A) → Record
     → take_refusal held other ≡ None
 can_take held other A all named clash full = joinable held other named (λ id e. no_clash id ((clash id).1 e)) (λ p. no_full (full.1 p))
   where
-    no_clash : (id : SiteCounter) → succeeded A all ≡ Err (records.Clash id) → ⊥
+    no_clash : (id : SiteCounter) → succeeded A all ≢ Err (records.Clash id)
     no_clash id e = cc
 
-    no_full : succeeded A all ≡ Err records.Full → ⊥
+    no_full : succeeded A all ≢ Err records.Full
     no_full e = cc
 
 -- where all is held already, nothing stands against a take

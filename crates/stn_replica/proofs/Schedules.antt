@@ -1,4 +1,4 @@
--- What is known of bounds depends on their schedules alone.
+-- What is settled of bounds depends on their schedules alone.
 use Rattle.std.proofs.Common.{ℕ, ℤ, Bool, true, false, ◌↔◌, List, [], ◌∷◌, ◌++◌, All, IsTrue, refl}
 use Rattle.std.proofs.lemmas.Bool.{false≢true}
 use Rattle.std.proofs.lemmas.List.Elements.{All-append, All-from_recursion, recursion_from_All}
@@ -8,7 +8,7 @@ use Rattle.stn_net.specs.Schedule.{IsSchedule, HasSchedule, Meets}
 use Rattle.stn_matrix.specs.Table.{Table}
 use Rattle.stn_matrix.specs.Tightest.{IsExact}
 use Rattle.stn_matrix.proofs.Tightest.{exact_same_schedules}
-use Rattle.stn_replica.specs.Invariant.{IsKnown}
+use Rattle.stn_replica.specs.Invariant.{IsSettled}
 
 module _ {X : Type 0} (P : X → Type 0) where
   parted : (xs ys : List X) → AllByRecursion P (xs ++ ys) → AllByRecursion P xs × AllByRecursion P ys
@@ -34,19 +34,19 @@ met_behind bounds more time s = All-right (Meets time) bounds more s.met
 pub schedule_with : (bounds more : List Difference) (time : ℕ → ℤ) → IsSchedule bounds time → All (Meets time) more → IsSchedule (bounds ++ more) time
 schedule_with bounds more time s met = record { origin = s.origin; met = All-append (Meets time) bounds more s.met met }
 
--- what is known of bounds is known of others with the same schedules
-pub known_same_schedules : (these those : List Difference) (table : Table) (possible : Bool)
+-- what is settled of bounds is settled of others with the same schedules
+pub settled_same_schedules : (these those : List Difference) (table : Table) (possible : Bool)
     → ((time : ℕ → ℤ) → IsSchedule these time → IsSchedule those time)
     → ((time : ℕ → ℤ) → IsSchedule those time → IsSchedule these time)
     → All (NamesEvents table.events) those
-    → IsKnown these table possible → IsKnown those table possible
-known_same_schedules these those table true forth back named known = exact_same_schedules these those table forth back named known
-known_same_schedules these those table false forth back named known = λ s. known (s.0, back s.0 s.1)
+    → IsSettled these table possible → IsSettled those table possible
+settled_same_schedules these those table true forth back named settled = exact_same_schedules these those table forth back named settled
+settled_same_schedules these those table false forth back named settled = λ s. settled (s.0, back s.0 s.1)
 
--- what `tighten` answers is what is known with the bound
-pub known_tightened : (bounds : List Difference) (bound : Difference) (table : Table) (result : Bool)
+-- what `tighten` answers settles the bounds with the bound
+pub settled_tightened : (bounds : List Difference) (bound : Difference) (table : Table) (result : Bool)
     → (IsTrue result ↔ HasSchedule (bounds ++ bound ∷ []))
     → (IsTrue result → IsExact (bounds ++ bound ∷ []) table)
-    → IsKnown (bounds ++ bound ∷ []) table result
-known_tightened bounds bound table true possible exact = exact refl
-known_tightened bounds bound table false possible exact = λ s. false≢true (possible.1 s)
+    → IsSettled (bounds ++ bound ∷ []) table result
+settled_tightened bounds bound table true possible exact = exact refl
+settled_tightened bounds bound table false possible exact = λ s. false≢true (possible.1 s)

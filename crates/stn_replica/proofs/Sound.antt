@@ -1,5 +1,5 @@
 -- That a replica stays sound, and what its work is.
-use Rattle.std.proofs.Common.{◌≡◌, ℕ, ◌+◌, ◌<◌, ◌≤◌, min, Bool, true, false, ◌↔◌, List, [], ◌∷◌, ◌++◌, Option, Some, Ok, Err, IfSome, IsTrue, ⊎_elim, refl, sym, ap, subst, ◌∙◌, arith, All}
+use Rattle.std.proofs.Common.{◌≡◌, ◌≢◌, ℕ, ◌+◌, ◌<◌, ◌≤◌, min, Bool, true, false, ◌↔◌, List, [], ◌∷◌, ◌++◌, Option, Some, Ok, Err, IfSome, IsTrue, ⊎_elim, refl, sym, ap, subst, ◌∙◌, arith, All}
 use Rattle.std.proofs.lemmas.Bool.{false≢true, cases_lt}
 use Rattle.std.proofs.lemmas.List.Elements.{All-append}
 use Rattle.stn_net.specs.Difference.{Difference, NamesEvents}
@@ -12,29 +12,29 @@ use Rattle.stn_records.specs.declared.record.Record.{Record}
 use Rattle.stn_records.specs.Content.{Content, is_live, is_known, no_content, with_record, with_tombstone, join_contents}
 use Rattle.stn_replica.specs.Bounds.{all_bounds, live_bounds, bounds_of, RecordsName}
 use Rattle.stn_replica.specs.Held.{Held}
-use Rattle.stn_replica.specs.Invariant.{IsKnown, IsSoundReplica}
+use Rattle.stn_replica.specs.Invariant.{IsSettled, IsSoundReplica}
 use Rattle.stn_replica.specs.Work.{risen, KeepsLive, SparesWork}
-use Rattle.stn_replica.proofs.Changes.{extends_added, keeps_with_record, one_risen, named_added, known_added, extends_joined, named_joined, withdrawn_dead, none_named, known_at_first}
-use Rattle.stn_replica.proofs.Live.{live_named, known_grown, conflict_stays}
-use Rattle.stn_replica.proofs.Schedules.{known_tightened}
+use Rattle.stn_replica.proofs.Changes.{extends_added, keeps_with_record, one_risen, named_added, settled_added, extends_joined, named_joined, withdrawn_dead, none_named, settled_at_first}
+use Rattle.stn_replica.proofs.Live.{live_named, settled_grown, conflict_stays}
+use Rattle.stn_replica.proofs.Schedules.{settled_tightened}
 
 -- what an option holds, from what it is
 pub held_is : {X : Type 0} (o : Option X) (x y : X) → o ≡ Some x → IfSome o (λ v. v ≡ y) → x ≡ y
 held_is o x y e h = subst (λ p. IfSome p (λ v. v ≡ y)) e h
 
-pub ok_not_err : {T E : Type 0} (x : T) (y : E) → Ok x ≡ Err y → ⊥
+pub ok_not_err : {T E : Type 0} (x : T) (y : E) → Ok x ≢ Err y
 ok_not_err x y e = cc
 
 -- a number that cannot pass a limit
 pub not_past : (n : ℕ) → (65535 < n → false ≡ true) → n ≤ 65535
 not_past n h = ⊎_elim (λ past. absurd (false≢true (h past))) (λ within. within) (cases_lt 65535 n)
 
--- the table is exact where the bounds are known to have a schedule
-pub known_exact : (bounds : List Difference) (table : Table) (possible : Bool) → possible ≡ true → IsKnown bounds table possible → IsExact bounds table
-known_exact bounds table possible t known = subst (λ b. IsKnown bounds table b) t known
+-- the table is exact where the bounds have a schedule
+pub settled_exact : (bounds : List Difference) (table : Table) (possible : Bool) → possible ≡ true → IsSettled bounds table possible → IsExact bounds table
+settled_exact bounds table possible t settled = subst (λ b. IsSettled bounds table b) t settled
 
-pub known_conflict : (bounds : List Difference) (table : Table) (possible : Bool) → possible ≡ false → IsKnown bounds table possible → HasSchedule bounds → ⊥
-known_conflict bounds table possible t known = subst (λ b. IsKnown bounds table b) t known
+pub settled_conflict : (bounds : List Difference) (table : Table) (possible : Bool) → possible ≡ false → IsSettled bounds table possible → ¬ HasSchedule bounds
+settled_conflict bounds table possible t settled = subst (λ b. IsSettled bounds table b) t settled
 
 -- what `tighten` does to the steps
 pub tightened_steps : (current next : Table) (result : Bool) → current.steps ≤ 18446744073709551615
@@ -60,16 +60,16 @@ pub sound_added : (source : PlanSource) (state : Content) (opening current next 
     → next.events ≡ current.events → next.steps ≤ 18446744073709551615
     → IsSoundReplica source (with_record state id r) opening next result
 sound_added source state opening current next possible result id r p t unknown this can exact events counted =
-    let before = known_exact (all_bounds source state) current possible t p.known in
+    let before = settled_exact (all_bounds source state) current possible t p.settled in
     let named = named_added state id r unknown (events_of source) p.named this in
     record {
       named = named;
       opening_events = p.opening_events;
       current_events = events ∙ p.current_events;
       opening_exact = p.opening_exact;
-      known = known_added state id r unknown (base_bounds source) next result
+      settled = settled_added state id r unknown (base_bounds source) next result
           (all_named source (with_record state id r) opening next p.opening_exact p.opening_events (events ∙ p.current_events) named)
-          (known_tightened (all_bounds source state) r.bound next result (can (all_bounds source state) before) (exact (all_bounds source state) before));
+          (settled_tightened (all_bounds source state) r.bound next result (can (all_bounds source state) before) (exact (all_bounds source state) before));
       counted = counted;
     }
 
@@ -81,8 +81,8 @@ sound_in_conflict source state opening current possible id r p t unknown this = 
   opening_events = p.opening_events;
   current_events = p.current_events;
   opening_exact = p.opening_exact;
-  known = subst (λ b. IsKnown (all_bounds source (with_record state id r)) current b) (sym t)
-      (conflict_stays (base_bounds source) state (with_record state id r) (extends_added state id r unknown) (keeps_with_record state id r unknown) (known_conflict (all_bounds source state) current possible t p.known));
+  settled = subst (λ b. IsSettled (all_bounds source (with_record state id r)) current b) (sym t)
+      (conflict_stays (base_bounds source) state (with_record state id r) (extends_added state id r unknown) (keeps_with_record state id r unknown) (settled_conflict (all_bounds source state) current possible t p.settled));
   counted = p.counted;
 }
 
@@ -93,34 +93,34 @@ spares_added old new state id r unknown before after least most = λ _ _. (least
 -- after a rebuild
 pub sound_rebuilt : (source : PlanSource) (state new : Content) (opening current next : Table) (possible result : Bool)
     → IsSoundReplica source state opening current possible → RecordsName (events_of source) new
-    → ((bounds : List Difference) → IsExact bounds opening → IsKnown (bounds ++ live_bounds new) next result)
+    → ((bounds : List Difference) → IsExact bounds opening → IsSettled (bounds ++ live_bounds new) next result)
     → next.events ≡ current.events → next.steps ≤ 18446744073709551615
     → IsSoundReplica source new opening next result
-sound_rebuilt source state new opening current next possible result p named known events counted = record {
+sound_rebuilt source state new opening current next possible result p named settled events counted = record {
   named = named;
   opening_events = p.opening_events;
   current_events = events ∙ p.current_events;
   opening_exact = p.opening_exact;
-  known = known (base_bounds source) p.opening_exact;
+  settled = settled (base_bounds source) p.opening_exact;
   counted = counted;
 }
 
 -- after a take by which no live record stops being live
 pub sound_taken : (source : PlanSource) (state other new : Content) (opening current next : Table) (possible result : Bool)
     → IsSoundReplica source state opening current possible → possible ≡ true → KeepsLive state new → join_contents state other ≡ Some new → RecordsName (events_of source) other
-    → ((bounds : List Difference) → IsExact bounds current → IsKnown (bounds ++ bounds_of (risen state new)) next result)
+    → ((bounds : List Difference) → IsExact bounds current → IsSettled (bounds ++ bounds_of (risen state new)) next result)
     → next.events ≡ current.events → next.steps ≤ 18446744073709551615
     → IsSoundReplica source new opening next result
-sound_taken source state other new opening current next possible result p t keeps joined theirs known events counted =
+sound_taken source state other new opening current next possible result p t keeps joined theirs settled events counted =
     let named = named_joined (events_of source) state other new joined p.named theirs in
     record {
       named = named;
       opening_events = p.opening_events;
       current_events = events ∙ p.current_events;
       opening_exact = p.opening_exact;
-      known = known_grown (base_bounds source) state new next result (extends_joined state other new joined) keeps
+      settled = settled_grown (base_bounds source) state new next result (extends_joined state other new joined) keeps
           (all_named source new opening next p.opening_exact p.opening_events (events ∙ p.current_events) named)
-          (known (all_bounds source state) (known_exact (all_bounds source state) current possible t p.known));
+          (settled (all_bounds source state) (settled_exact (all_bounds source state) current possible t p.settled));
       counted = counted;
     }
 
@@ -132,8 +132,8 @@ sound_taken_in_conflict source state other new opening current possible p t keep
   opening_events = p.opening_events;
   current_events = p.current_events;
   opening_exact = p.opening_exact;
-  known = subst (λ b. IsKnown (all_bounds source new) current b) (sym t)
-      (conflict_stays (base_bounds source) state new (extends_joined state other new joined) keeps (known_conflict (all_bounds source state) current possible t p.known));
+  settled = subst (λ b. IsSettled (all_bounds source new) current b) (sym t)
+      (conflict_stays (base_bounds source) state new (extends_joined state other new joined) keeps (settled_conflict (all_bounds source state) current possible t p.settled));
   counted = p.counted;
 }
 
@@ -159,6 +159,6 @@ sound_at_first source none opening current is opens opening_events exact events 
   opening_events = opening_events;
   current_events = events;
   opening_exact = opens;
-  known = known_at_first (base_bounds source) none current is exact;
+  settled = settled_at_first (base_bounds source) none current is exact;
   counted = counted;
 }

@@ -1,7 +1,8 @@
--- Tightening a matrix by the bounds of the records that have become live, one after another.
-use Rattle.std.proofs.Common.{◌≡◌, ℕ, ◌+◌, ◌≤◌, Bool, true, false, cond, List, [], ◌∷◌, ◌++◌, length, filter, take, drop, min, refl, sym, ap, subst, ◌∙◌, arith, append_assoc, append-nil, length-append}
+-- Tightening a matrix by the bounds of the records that are live, or have become so, one after another.
+use Rattle.std.proofs.Common.{◌≡◌, ℕ, ◌+◌, ◌≤◌, Bool, true, false, cond, not, List, [], ◌∷◌, ◌++◌, length, filter, take, drop, min, refl, sym, ap, subst, ◌∙◌, arith, append_assoc, append-nil, length-append}
 use Rattle.std.proofs.lemmas.List.{map-append, take-append-drop}
 use Rattle.std.proofs.lemmas.List.Elements.{filter-append}
+use Rattle.std.specs.FinMap.{entries, contains_key}
 use Rattle.stn_net.specs.Difference.{Difference}
 use Rattle.stn_net.specs.Schedule.{HasSchedule, IsSchedule}
 use Rattle.stn_matrix.specs.Table.{Table}
@@ -9,9 +10,10 @@ use Rattle.stn_matrix.specs.Tightest.{IsExact}
 use Rattle.stn_records.specs.Id.{SiteCounter}
 use Rattle.stn_records.specs.declared.record.Record.{Record}
 use Rattle.stn_records.specs.Content.{Content}
-use Rattle.stn_replica.specs.Bounds.{bounds_of}
+use Rattle.stn_replica.specs.Bounds.{bounds_of, live_bounds}
 use Rattle.stn_replica.specs.Work.{is_risen}
 use Rattle.stn_replica.proofs.Schedules.{schedule_before}
+use Rattle.stn_replica.proofs.Walk.{bounds_seen, live_seen, live_ahead, live_parts, bounds_with_live}
 
 -- those of the records that have become live
 abbrev pub risen_of : Content → Content → List (SiteCounter × Record) → List (SiteCounter × Record)
@@ -94,21 +96,48 @@ split_risen old new records place =
     ap (risen_of old new) (sym (take-append-drop place records)) ∙ filter-append (λ entry. is_risen old new entry.0) (take place records) (drop place records)
 
 -- where the bounds so far have no schedule, all have none
+conflict_behind : (bounds seen rest : List Difference) (bound : Difference) (all : List Difference) → all ≡ (seen ++ bound ∷ []) ++ rest
+    → ¬ HasSchedule ((bounds ++ seen) ++ bound ∷ []) → ¬ HasSchedule (bounds ++ all)
+conflict_behind bounds seen rest bound all is none s =
+    let whole : bounds ++ all ≡ ((bounds ++ seen) ++ bound ∷ []) ++ rest =
+    ap (λ back. bounds ++ back) is ∙ sym (append_assoc bounds (seen ++ bound ∷ []) rest) ∙ ap (λ front. front ++ rest) (sym (append_assoc bounds seen (bound ∷ []))) in
+    none (s.0, schedule_before ((bounds ++ seen) ++ bound ∷ []) rest s.0 (subst (λ these. IsSchedule these s.0) whole s.1))
+
+-- those of records that have become live
 pub conflict_ahead : (old new : Content) (records : List (SiteCounter × Record)) (place : ℕ) (e : SiteCounter × Record) (bounds : List Difference)
     → take (place + 1) records ≡ take place records ++ e ∷ [] → is_risen old new e.0 ≡ true
-    → (HasSchedule ((bounds ++ bounds_of (risen_of old new (take place records))) ++ e.1.bound ∷ []) → ⊥)
-    → HasSchedule (bounds ++ bounds_of (risen_of old new records)) → ⊥
+    → ¬ HasSchedule ((bounds ++ bounds_of (risen_of old new (take place records))) ++ e.1.bound ∷ [])
+    → ¬ HasSchedule (bounds ++ bounds_of (risen_of old new records))
 conflict_ahead old new records place e bounds more is none s =
     let seen = bounds_of (risen_of old new (take place records)) in
     let rest = bounds_of (risen_of old new (drop (place + 1) records)) in
     let parts : bounds_of (risen_of old new records) ≡ (seen ++ e.1.bound ∷ []) ++ rest =
     ap bounds_of (split_risen old new records (place + 1)) ∙ map-append (λ entry. entry.1.bound) (risen_of old new (take (place + 1) records)) (risen_of old new (drop (place + 1) records))
     ∙ ap (λ front. front ++ rest) (ap (λ front. bounds_of (risen_of old new front)) more ∙ last_risen old new (take place records) e is) in
-    let whole : bounds ++ bounds_of (risen_of old new records) ≡ ((bounds ++ seen) ++ e.1.bound ∷ []) ++ rest =
-    ap (λ back. bounds ++ back) parts ∙ sym (append_assoc bounds (seen ++ e.1.bound ∷ []) rest) ∙ ap (λ front. front ++ rest) (sym (append_assoc bounds seen (e.1.bound ∷ []))) in
-    none (s.0, schedule_before ((bounds ++ seen) ++ e.1.bound ∷ []) rest s.0 (subst (λ all. IsSchedule all s.0) whole s.1))
+    conflict_behind bounds seen rest e.1.bound (bounds_of (risen_of old new records)) parts none s
 
 -- a part of the records has no more that have become live than all
 pub fewer_risen : (old new : Content) (records : List (SiteCounter × Record)) (place : ℕ) → length (risen_of old new (take place records)) ≤ length (risen_of old new records)
 fewer_risen old new records place =
     omega (arith, ap length (split_risen old new records place), length-append (risen_of old new (take place records)) (risen_of old new (drop place records)))
+
+-- those of live records
+pub conflict_live : (state : Content) (place : ℕ) (e : SiteCounter × Record) (bounds : List Difference)
+    → take (place + 1) (entries state.additions) ≡ take place (entries state.additions) ++ e ∷ [] → not (contains_key state.tombstones e.0) ≡ true
+    → ¬ HasSchedule ((bounds ++ bounds_seen state place) ++ e.1.bound ∷ [])
+    → ¬ HasSchedule (bounds ++ live_bounds state)
+conflict_live state place e bounds more live none =
+    let rest = bounds_of (live_ahead state (place + 1)) in
+    conflict_behind bounds (bounds_seen state place) rest e.1.bound (live_bounds state)
+    (ap bounds_of (live_parts state (place + 1)) ∙ map-append (λ entry. entry.1.bound) (live_seen state (place + 1)) (live_ahead state (place + 1))
+    ∙ ap (λ front. front ++ rest) (bounds_with_live state place e more live))
+    none
+
+-- the matrix takes the bound of one more that is live
+pub live_taken : (state : Content) (place : ℕ) (e : SiteCounter × Record) (bounds : List Difference) (next : Table)
+    → take (place + 1) (entries state.additions) ≡ take place (entries state.additions) ++ e ∷ [] → not (contains_key state.tombstones e.0) ≡ true
+    → IsExact ((bounds ++ bounds_seen state place) ++ e.1.bound ∷ []) next → IsExact (bounds ++ bounds_seen state (place + 1)) next
+live_taken state place e bounds next more live exact =
+    subst (λ all. IsExact all next)
+    (append_assoc bounds (bounds_seen state place) (e.1.bound ∷ []) ∙ ap (λ seen. bounds ++ seen) (sym (bounds_with_live state place e more live)))
+    exact

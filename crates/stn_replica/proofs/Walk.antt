@@ -42,6 +42,12 @@ one_more_live state place e more live =
     ∙ filter-append (λ entry. not (contains_key state.tombstones entry.0)) (take place (entries state.additions)) (e ∷ [])
     ∙ ap (λ b. live_seen state place ++ cond b (e ∷ []) []) live
 
+-- and its bound
+pub bounds_with_live : (state : Content) (place : ℕ) (e : SiteCounter × Record) → take (place + 1) (entries state.additions) ≡ take place (entries state.additions) ++ e ∷ []
+    → not (contains_key state.tombstones e.0) ≡ true → bounds_seen state (place + 1) ≡ bounds_seen state place ++ e.1.bound ∷ []
+bounds_with_live state place e more live =
+    ap bounds_of (one_more_live state place e more live) ∙ map-append (λ entry. entry.1.bound) (live_seen state place) (e ∷ [])
+
 -- one more that is not
 pub one_more_dead : (state : Content) (place : ℕ) (e : SiteCounter × Record) → take (place + 1) (entries state.additions) ≡ take place (entries state.additions) ++ e ∷ []
     → not (contains_key state.tombstones e.0) ≡ false → live_seen state (place + 1) ≡ live_seen state place
@@ -78,7 +84,7 @@ pub seen_live : (P : Difference → Type 0) (state : Content) (place : ℕ) (e :
     → is_live state e.0 ≡ true → All P (bounds_seen state place) → P e.1.bound → All P (bounds_seen state (place + 1))
 seen_live P state place e more live seen this =
     All-same P (bounds_seen state (place + 1)) (bounds_seen state place ++ e.1.bound ∷ [])
-    (ap bounds_of (one_more_live state place e more (live_at state place e true more live)) ∙ map-append (λ entry. entry.1.bound) (live_seen state place) (e ∷ []))
+    (bounds_with_live state place e more (live_at state place e true more live))
     (All-push P (bounds_seen state place) e.1.bound seen this)
 
 pub seen_dead : (P : Difference → Type 0) (state : Content) (place : ℕ) (e : SiteCounter × Record) → take (place + 1) (entries state.additions) ≡ take place (entries state.additions) ++ e ∷ []
@@ -88,7 +94,7 @@ seen_dead P state place e more dead seen =
 
 -- the first live record whose bound is broken
 pub found_record : (state : Content) (time : ℕ → ℤ) (place : ℕ) (e : SiteCounter × Record) → take (place + 1) (entries state.additions) ≡ take place (entries state.additions) ++ e ∷ []
-    → is_live state e.0 ≡ true → All (Meets time) (bounds_seen state place) → (Meets time e.1.bound → ⊥) → IsFirstBrokenRecord state time e.0
+    → is_live state e.0 ≡ true → All (Meets time) (bounds_seen state place) → ¬ Meets time e.1.bound → IsFirstBrokenRecord state time e.0
 found_record state time place e more live seen broken =
     let now = one_more_live state place e more (live_at state place e true more live) in
     let all : live_of state ≡ live_seen state place ++ (e ∷ live_ahead state (place + 1)) =

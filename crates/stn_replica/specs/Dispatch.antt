@@ -45,7 +45,7 @@ pub record SaysRuns (source : PlanSource) (state : Content) (now : ℤ) (text : 
 
 -- all bounds have no schedule, and the text is `conflict`
 pub record SaysNoSchedule (source : PlanSource) (state : Content) (text : List ℕ) : Type 0 where
-  pub conflict : HasSchedule (all_bounds source state) → ⊥
+  pub conflict : ¬ HasSchedule (all_bounds source state)
   pub lines : text ≡ line (codes "conflict")
 
 -- the text of a rehearsal from now on

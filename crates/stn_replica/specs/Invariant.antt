@@ -9,9 +9,9 @@ use Rattle.stn_records.specs.Content.{Content}
 use Rattle.stn_replica.specs.Bounds.{all_bounds, RecordsName}
 
 -- the bounds have a schedule, and the table is exact for them; or they have none
-abbrev pub IsKnown : List Difference → Table → Bool → Type 0
-IsKnown bounds table true = IsExact bounds table
-IsKnown bounds table false = HasSchedule bounds → ⊥
+abbrev pub IsSettled : List Difference → Table → Bool → Type 0
+IsSettled bounds table true = IsExact bounds table
+IsSettled bounds table false = ¬ HasSchedule bounds
 
 -- the records are about the plan's events, the opening table is exact for the plan's own bounds, and the current one
 -- for all bounds where these have a schedule
@@ -20,5 +20,5 @@ pub record IsSoundReplica (source : PlanSource) (state : Content) (opening curre
   pub opening_events : opening.events ≡ events_of source
   pub current_events : current.events ≡ events_of source
   pub opening_exact : IsExact (base_bounds source) opening
-  pub known : IsKnown (all_bounds source state) current possible
+  pub settled : IsSettled (all_bounds source state) current possible
   pub counted : current.steps ≤ 18446744073709551615

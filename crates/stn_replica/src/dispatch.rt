@@ -21,7 +21,7 @@ impl<A: Allocator + Copy> Replica<A> {
     /// What comes next from now on, by all bounds; an event is done where a live record says so. None
     /// where all bounds have no schedule. It asks for no memory.
     pub fn next(&self, now: Ms) -> Option<Next>
-        ensures { MatchOption result (HasSchedule (all_bounds self.now.source self.now.state) → ⊥)
+        ensures { MatchOption result (¬ HasSchedule (all_bounds self.now.source self.now.state))
             (λ answer. HasSchedule (all_bounds self.now.source self.now.state)
             × IsNext (all_bounds self.now.source self.now.state) (done_events self.now.source self.now.state) now answer) }
     {
@@ -36,7 +36,7 @@ impl<A: Allocator + Copy> Replica<A> {
     /// Refused in this order: `Overdue`, where every schedule has an event that is not done before
     /// now; `Memory`.
     pub fn rehearse(&self, now: Ms) -> Result<Option<Vec<(Ms, Event), A>>, RehearseFault>
-        ensures rest { IfOk result (λ found. MatchOption found (HasSchedule (all_bounds self.now.source self.now.state) → ⊥)
+        ensures rest { IfOk result (λ found. MatchOption found (¬ HasSchedule (all_bounds self.now.source self.now.state))
             (λ runs. IsRestOfPlan self.now.source self.now.state now runs.items)) }
         ensures fault { IfErr result (λ fault. HasSchedule (all_bounds self.now.source self.now.state)
             × IsRehearseFault (all_bounds self.now.source self.now.state) (done_events self.now.source self.now.state) now fault) }

@@ -1,10 +1,9 @@
 ghost use Rattle.std.specs.Prelude.{◌≡◌, ◌+◌, ◌≤◌, ◌++◌, ◌↔◌, ◌&&◌, not, List, length, IsTrue, IfOk};
 ghost use Rattle.stn_net.specs.Difference.{Difference, NamesEvents};
-ghost use Rattle.stn_records.specs.Content.{no_content};
 ghost use Rattle.stn_matrix.specs.Tightest.{IsExact};
 ghost use Rattle.stn_lift.specs.PlanSource.{base_bounds, events_of};
 ghost use Rattle.stn_replica.specs.Bounds.{bounds_of, live_bounds, RecordsName};
-ghost use Rattle.stn_replica.specs.Invariant.{IsKnown};
+ghost use Rattle.stn_replica.specs.Invariant.{IsSettled};
 ghost use Rattle.stn_replica.specs.Work.{risen, Extends, KeepsLive};
 ghost use Rattle.stn_replica.specs.Walk as walk;
 
@@ -37,18 +36,35 @@ pub fn rebuild<A: Allocator + Copy>(
     opening: &PlanMatrix<A>,
     current: &mut Matrix<A>,
     records: &Records<A>,
-    none: &Records<A>,
 ) -> bool
     requires events { current.old.events ≡ opening.now.events }
     requires named { RecordsName current.old.events records.now }
-    requires nothing { none.now ≡ no_content }
     requires counted { current.old.steps ≤ u64.MAX }
-    ensures known { (bounds : List Difference) → IsExact bounds opening.now → IsKnown (bounds ++ live_bounds records.now) current.new result }
+    ensures settled { (bounds : List Difference) → IsExact bounds opening.now → IsSettled (bounds ++ live_bounds records.now) current.new result }
     ensures events { current.new.events ≡ current.old.events }
     ensures counted { current.new.steps ≤ u64.MAX }
 {
     current.copy_from(opening.matrix());
-    tighten_risen(current, none, records)
+    tighten_live(current, records)
+}
+
+// Takes the bounds of the live records, up to one with which the bounds have no schedule. Whether
+// there is no such bound.
+fn tighten_live<A: Allocator + Copy>(matrix: &mut Matrix<A>, records: &Records<A>) -> bool
+    requires named { RecordsName matrix.old.events records.now }
+    requires counted { matrix.old.steps ≤ u64.MAX }
+    ensures settled { (bounds : List Difference) → IsExact bounds matrix.old → IsSettled (bounds ++ live_bounds records.now) matrix.new result }
+    ensures events { matrix.new.events ≡ matrix.old.events }
+    ensures counted { matrix.new.steps ≤ u64.MAX }
+{
+    let mut withdrawn = records.state().tombstones().entries();
+    for &(id, record) in records.state().additions().entries() {
+        withdrawn = from_id(withdrawn, id);
+        if !begins_with(withdrawn, id) && !matrix.tighten(record.bound) {
+            return false;
+        }
+    }
+    true
 }
 
 // Takes the bounds of the records that have become live, up to one with which the bounds have no
@@ -60,8 +76,8 @@ pub fn tighten_risen<A: Allocator + Copy>(
 ) -> bool
     requires named { RecordsName matrix.old.events after.now }
     requires counted { matrix.old.steps ≤ u64.MAX }
-    ensures known { (bounds : List Difference) → IsExact bounds matrix.old
-        → IsKnown (bounds ++ bounds_of (risen before.now after.now)) matrix.new result }
+    ensures settled { (bounds : List Difference) → IsExact bounds matrix.old
+        → IsSettled (bounds ++ bounds_of (risen before.now after.now)) matrix.new result }
     ensures events { matrix.new.events ≡ matrix.old.events }
     ensures counted { matrix.new.steps ≤ u64.MAX }
     ensures least { matrix.old.steps ≤ matrix.new.steps }

@@ -175,8 +175,7 @@ impl<A: Allocator + Copy> Replica<A> {
         let was_live = self.records.is_live(id);
         self.records.withdraw(id)?;
         if was_live {
-            let none = Records::new(self.alloc);
-            self.possible = rebuild(&self.opening, &mut self.current, &self.records, &none);
+            self.possible = rebuild(&self.opening, &mut self.current, &self.records);
         }
         Ok(())
     }
@@ -201,8 +200,7 @@ impl<A: Allocator + Copy> Replica<A> {
         }
         let records = self.records.joined(other)?;
         if !keeps_live(&self.records, &records) {
-            let none = Records::new(self.alloc);
-            self.possible = rebuild(&self.opening, &mut self.current, &records, &none);
+            self.possible = rebuild(&self.opening, &mut self.current, &records);
         } else if self.possible {
             self.possible = tighten_risen(&mut self.current, &self.records, &records);
         }
@@ -213,7 +211,7 @@ impl<A: Allocator + Copy> Replica<A> {
     /// The earliest and the latest time of an event; none where all bounds have no schedule.
     pub fn window(&self, event: Event) -> Option<(Ms, Ms)>
         requires { event ≤ events_of self.now.source }
-        ensures { MatchOption result (HasSchedule (all_bounds self.now.source self.now.state) → ⊥)
+        ensures { MatchOption result (¬ HasSchedule (all_bounds self.now.source self.now.state))
             (λ window. HasSchedule (all_bounds self.now.source self.now.state)
             × IsWindow (all_bounds self.now.source self.now.state) event window.0 window.1) }
     {
@@ -266,7 +264,7 @@ impl<A: Allocator + Copy> Replica<A> {
 
     /// The matrix of all bounds; none where they have no schedule.
     pub fn current(&self) -> Option<&Matrix<A>>
-        ensures exact { MatchOption result (HasSchedule (all_bounds self.now.source self.now.state) → ⊥)
+        ensures exact { MatchOption result (¬ HasSchedule (all_bounds self.now.source self.now.state))
             (λ matrix. IsExact (all_bounds self.now.source self.now.state) matrix.now) }
         ensures events { IfSome result (λ matrix. matrix.now.events ≡ events_of self.now.source) }
         ensures steps { IfSome result (λ matrix. matrix.now.steps ≡ self.now.steps) }

@@ -91,7 +91,7 @@ impl<A: Allocator + Copy> Replica<A> {
     ) -> Result<(), Memory>
         requires live { live.now ≡ map listed (live_of self.now.state) }
         requires named { RecordsName (events_of self.now.source) self.now.state }
-        requires conflict { HasSchedule (all_bounds self.now.source self.now.state) → ⊥ }
+        requires conflict { ¬ HasSchedule (all_bounds self.now.source self.now.state) }
         ensures part { OnOk result ((text : List ℕ) × IsConflictPart self.now.source self.now.state text × (out.new.items ≡ out.old.items ++ text)) }
         ensures short { OnOk result (length out.new.items ≤ length out.old.items + MOST_LINE * 514) }
     {
@@ -101,10 +101,8 @@ impl<A: Allocator + Copy> Replica<A> {
         let others = all_others.as_slice();
         let base = self.base().bounds();
         let found = cycle(self.alloc(), self.base().events(), base, others)?;
-        match found {
-            Some(named) => append_cycle(base, ids, others, &named, out)?,
-            None => {}
-        }
+        let named = found.unwrap();
+        append_cycle(base, ids, others, &named, out)?;
         Ok(())
     }
 }

@@ -10,8 +10,8 @@ use Rattle.stn_replica.proofs.Tightening.{IsTightenedBy, none_taken, one_taken, 
 use Rattle.stn_replica.proofs.matrices.tighten_risen.Goals as goal
 use Rattle.stn_replica.proofs.matrices.tighten_risen.Goals.{else-has_risen-via-then-has_risen+else-not-tighten, else-has_risen-via-else-has_risen}
 
-pub returns-then-not-tighten-clause-known : goal.returns-then-not-tighten-clause-known
-returns-then-not-tighten-clause-known g c =
+pub returns-then-not-tighten-clause-settled : goal.returns-then-not-tighten-clause-settled
+returns-then-not-tighten-clause-settled g c =
     let items = walked_are c.args.after.now c.state-4.result.now c.additions-2.result.now c.entries-id-items.result.now c.entries-id-items.ensures.value c.additions-2.ensures c.state-4.ensures.value in
     let there = next_of (λ entry. contains_key c.args.after.now.additions entry.0 ≡ true) (entries c.args.after.now.additions) c.entries-id-items.result.now c.loop-id.id-index c.loop-id-item.result items
     c.loop-id-test.true c.loop-id-item.is (added_there c.args.after.now) in
@@ -87,8 +87,8 @@ loop-id-init g c = record {
       (tombs_walked_are c.args.after.now c.state-3.result.now c.tombstones-2.result.now c.entries-withdrawn.result.now c.entries-withdrawn.ensures.value c.tombstones-2.ensures c.state-3.ensures.value);
 }
 
-pub returns-clause-known : goal.returns-clause-known
-returns-clause-known g c = λ bounds exact.
+pub returns-clause-settled : goal.returns-clause-settled
+returns-clause-settled g c = λ bounds exact.
     (taken_same c.args.before.now c.args.after.now _ _ c.args.matrix.now c.loop-id.matrix c.loop-id.matrix
     (sym (all_seen (entries c.args.after.now.additions) c.entries-id-items.result.now c.loop-id.id-index
     (walked_are c.args.after.now c.state-4.result.now c.additions-2.result.now c.entries-id-items.result.now c.entries-id-items.ensures.value c.additions-2.ensures c.state-4.ensures.value)

@@ -16,7 +16,7 @@ use Rattle.stn_replica.proofs.replica.Replica.take.Goals.{then-not-keeps_live, e
 
 pub returns-then-not-all_name_events-clause-fault : goal.returns-then-not-all_name_events-clause-fault
 returns-then-not-all_name_events-clause-fault g c =
-    let unnamed : RecordsName (events_of (rc_value c.self.inside.base)) c.args.other.now → ⊥ =
+    let unnamed : ¬ RecordsName (events_of (rc_value c.self.inside.base)) c.args.other.now =
     λ named. false≢true (c.if-not-all_name_events.ensures.1 (subst (λ n. RecordsName n c.args.other.now) (sym (c.events.ensures.value ∙ ap events_of c.deref.ensures)) named)) in
     let held : Held = record { site = c.self.inside.site; source = rc_value c.self.inside.base; state = c.self.inside.records; steps = c.self.inside.current.steps } in
     rw (← c.self.view_is) (ap (λ o. unwrap_or o Memory) (sym (unnamed_take held c.args.other.now unnamed)))
@@ -68,12 +68,12 @@ invariant_of-self g c =
       | then-not-keeps_live w ↦
           rw w.self-inside-is
           (sound_rebuilt (rc_value c.self.inside.base) c.self.inside.records c.in_ok-records.records c.self.inside.opening c.self.inside.current w.rebuild-self-inside.new.current c.self.inside.possible w.rebuild-self-inside.result
-          c.self.invariant named w.rebuild-self-inside.ensures.known w.rebuild-self-inside.ensures.events w.rebuild-self-inside.ensures.counted)
+          c.self.invariant named w.rebuild-self-inside.ensures.settled w.rebuild-self-inside.ensures.events w.rebuild-self-inside.ensures.counted)
       | else-not-keeps_live+then-self w ↦
           rw w.self-inside-is
           (sound_taken (rc_value c.self.inside.base) c.self.inside.records c.args.other.now c.in_ok-records.records c.self.inside.opening c.self.inside.current w.tighten_risen-self-inside.new.matrix c.self.inside.possible w.tighten_risen-self-inside.result
           c.self.invariant w.if-self.true (w.if-not-keeps_live.ensures.0 refl) c.in_ok-records.ensures.joined theirs
-          w.tighten_risen-self-inside.ensures.known w.tighten_risen-self-inside.ensures.events w.tighten_risen-self-inside.ensures.counted)
+          w.tighten_risen-self-inside.ensures.settled w.tighten_risen-self-inside.ensures.events w.tighten_risen-self-inside.ensures.counted)
       | else-not-keeps_live+else-self w ↦
           rw w.self-inside-is
           (sound_taken_in_conflict (rc_value c.self.inside.base) c.self.inside.records c.args.other.now c.in_ok-records.records c.self.inside.opening c.self.inside.current c.self.inside.possible

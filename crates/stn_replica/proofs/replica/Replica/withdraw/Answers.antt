@@ -11,7 +11,7 @@ pub invariant_of-self-then-was_live : goal.invariant_of-self-then-was_live
 invariant_of-self-then-was_live g c =
     let named : RecordsName (events_of (rc_value c.self.inside.base)) c.withdraw.new.self = rw c.in_ok-withdraw.ensures.withdrawn c.self.invariant.named in
     sound_rebuilt (rc_value c.self.inside.base) c.self.inside.records c.withdraw.new.self c.self.inside.opening c.self.inside.current c.rebuild-self-inside.new.current c.self.inside.possible c.rebuild-self-inside.result
-    c.self.invariant named c.rebuild-self-inside.ensures.known c.rebuild-self-inside.ensures.events c.rebuild-self-inside.ensures.counted
+    c.self.invariant named c.rebuild-self-inside.ensures.settled c.rebuild-self-inside.ensures.events c.rebuild-self-inside.ensures.counted
 
 pub returns-clause-work : goal.returns-clause-work
 returns-clause-work g c =
