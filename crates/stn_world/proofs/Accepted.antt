@@ -38,17 +38,13 @@ packet_decides world number =
 pub at_site : (world : World) (site : ℕ) (refusal : Option WorldFault) → HasSite world site → option_or (missing world site) refusal ≡ refusal
 at_site world site refusal there = ap (λ b. option_or (then_some (not b) NoSite) refusal) ((site_decides world site).1 there)
 
-pub no_site : (world : World) (site : ℕ) (refusal : Option WorldFault) → (HasSite world site → ⊥) → option_or (missing world site) refusal ≡ Some NoSite
+pub no_site : (world : World) (site : ℕ) (refusal : Option WorldFault) → ¬ HasSite world site → option_or (missing world site) refusal ≡ Some NoSite
 no_site world site refusal missing =
     ap (λ b. option_or (then_some (not b) NoSite) refusal) (false_from_ne_true (has_site world site) (λ e. missing ((site_decides world site).0 e)))
 
 -- a packet that is there, and one that is not
 pub at_packet : (world : World) (number : ℕ) (refusal : Option WorldFault) → HasPacket world number → option_or (then_some (not (has_packet world number)) NoPacket) refusal ≡ refusal
 at_packet world number refusal there = ap (λ b. option_or (then_some (not b) NoPacket) refusal) ((packet_decides world number).1 there)
-
-pub no_packet : (world : World) (number : ℕ) (refusal : Option WorldFault) → (HasPacket world number → ⊥) → option_or (then_some (not (has_packet world number)) NoPacket) refusal ≡ Some NoPacket
-no_packet world number refusal missing =
-    ap (λ b. option_or (then_some (not b) NoPacket) refusal) (false_from_ne_true (has_packet world number) (λ e. missing ((packet_decides world number).0 e)))
 
 -- a fault of a replica is the world's
 pub refused_by : (refusal : Option ReplicaFault) (fault : ReplicaFault) → fault ≡ unwrap_or refusal replica_fault.Memory
@@ -138,11 +134,6 @@ pub send_with_room : (world : World) (site : ℕ) (held : Bool) → HasSite worl
 send_with_room world site held there room =
     at_site world site _ there
     ∙ ap (λ b. option_or (then_some b TooManyPackets) (then_some (not held) (Replica replica_fault.Unknown))) (room_left (length world.packets) most_packets room)
-
-pub send_without_room : (world : World) (site : ℕ) (held : Bool) → HasSite world site → most_packets ≤ length world.packets → send_refusal world site held ≡ Some TooManyPackets
-send_without_room world site held there full =
-    at_site world site _ there
-    ∙ ap (λ b. option_or (then_some b TooManyPackets) (then_some (not held) (Replica replica_fault.Unknown))) (no_room (length world.packets) most_packets full)
 
 -- ---- deliveries
 pub accepted_delivery : (world : World) (site number : ℕ) → IsAccepted world (delivered site number)

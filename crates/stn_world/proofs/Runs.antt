@@ -1,12 +1,12 @@
 -- What the sites of a world hold after a run.
-use Rattle.std.proofs.Common.{◌≡◌, ◌↔◌, ◌⊎◌, inl, inr, ⊎_elim, ℕ, ◌-◌, ◌≤◌, cond, is_some, Option, Some, None, List, [], ◌∷◌, refl, ap, sym, subst, ◌∙◌, arith}
+use Rattle.std.proofs.Common.{◌≡◌, ◌≢◌, ◌↔◌, ◌⊎◌, inl, inr, ⊎_elim, ℕ, ◌-◌, ◌≤◌, cond, is_some, Option, Some, None, List, [], ◌∷◌, refl, ap, sym, subst, ◌∙◌, arith}
 use Rattle.std.proofs.lemmas.Bool.{false≢true, cases_eq}
 use Rattle.std.proofs.lemmas.List.{length-set, get_or-set_other}
 use Rattle.stn_lift.specs.PlanSource.{PlanSource}
 use Rattle.stn_records.specs.Content.{Content, Item, HasItem, no_content, with_record, with_tombstone, joined_contents, addition, withdrawal}
 use Rattle.stn_records.specs.ContentLaws.{contents_join}
 use Rattle.stn_replica.specs.Held.{plain, executed}
-use Rattle.stn_replica.proofs.Items.{nothing_there, record_brought, withdrawal_brought}
+use Rattle.stn_replica.proofs.Items.{nothing_there, record_brought, withdrawal_brought, regroup}
 use Rattle.stn_world.specs.declared.faults.WorldFault.{WorldFault}
 use Rattle.stn_world.specs.World.{World, HasSite, opening_world, content_at, packet_at, next_id_at, with_content}
 use Rattle.stn_world.specs.Steps.{Step, added, finished, withdrew, merged, sent, delivered, after, stepped, run, step_refusal, IsAccepted, Brings, TookAt}
@@ -18,7 +18,7 @@ use Rattle.stn_world.proofs.Whole.{content_here, sites_join, packet_joins, coher
 there_after : (world : World) (at : ℕ) (content : Content) (site : ℕ) → HasSite world site → HasSite (with_content world at content) site
 there_after world at content site there = record { least = there.least; most = subst (λ (n : ℕ). site ≤ n) (sym (length-set world.sites (at - 1) content)) there.most }
 
-content_else : (world : World) (at site : ℕ) (content : Content) → HasSite world at → HasSite world site → (at ≡ site → ⊥) → content_at (with_content world at content) site ≡ content_at world site
+content_else : (world : World) (at site : ℕ) (content : Content) → HasSite world at → HasSite world site → at ≢ site → content_at (with_content world at content) site ≡ content_at world site
 content_else world at site content there other apart = let a = there.least in let b = other.least in
     get_or-set_other world.sites (at - 1) (site - 1) content no_content (λ e. apart (omega (arith, a, b, e)))
 
@@ -76,11 +76,11 @@ after_keeps world (delivered at number) = refl
 
 -- a step that is accepted is taken, and one that is refused changes nothing
 module _ (P : World → Type 0) (world : World) (step : Step) where
-  by_refusal : (o : Option WorldFault) → step_refusal world step ≡ o → (IsAccepted world step → P (after world step)) → ((IsAccepted world step → ⊥) → P world) → P (cond (is_some o) world (after world step))
+  by_refusal : (o : Option WorldFault) → step_refusal world step ≡ o → (IsAccepted world step → P (after world step)) → (¬ IsAccepted world step → P world) → P (cond (is_some o) world (after world step))
   by_refusal None e taken kept = taken e
   by_refusal (Some cause) e taken kept = kept (λ none. absurd (false≢true (ap is_some (sym none ∙ e))))
 
-  pub for_step : (IsAccepted world step → P (after world step)) → ((IsAccepted world step → ⊥) → P world) → P (stepped world step)
+  pub for_step : (IsAccepted world step → P (after world step)) → (¬ IsAccepted world step → P world) → P (stepped world step)
   for_step = by_refusal (step_refusal world step) refl
 
 -- a run keeps the sites and the plan
@@ -107,12 +107,6 @@ grows_run world [] coherent site item there = there
 grows_run world (step ∷ steps) coherent site item there =
     grows_run (stepped world step) steps (coherent_stepped world step coherent) site item
     (for_step (λ (next : World). HasItem (content_at next site) item) world step (λ _. grows_after world step coherent site item there) (λ _. there))
-
-regroup : {A B C N L : Type 0} → (L ↔ (N ⊎ C)) → (N ↔ (A ⊎ B)) → L ↔ (A ⊎ (B ⊎ C))
-regroup last first = (
-  λ h. ⊎_elim (λ n. ⊎_elim inl (λ b. inr (inl b)) (first.0 n)) (λ c. inr (inr c)) (last.0 h),
-  λ h. ⊎_elim (λ a. last.1 (inl (first.1 (inl a)))) (λ rest. ⊎_elim (λ b. last.1 (inl (first.1 (inr b)))) (λ c. last.1 (inr c)) rest) h,
-)
 
 pub this_step : (world : World) (step : Step) → IsCoherent world → (site : ℕ) → HasSite world site → (item : Item)
     → HasItem (content_at (stepped world step) site) item ↔ (HasItem (content_at world site) item ⊎ (IsAccepted world step × Brings world step site item))

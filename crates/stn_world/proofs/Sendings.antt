@@ -1,5 +1,5 @@
 -- What refuses a call that sends, and what it leaves.
-use Rattle.std.proofs.Common.{◌≡◌, ◌↔◌, ℕ, ◌<◌, Bool, true, false, not, List, None, Result, Ok, Err, length, refl, sym, ap, ◌∙◌}
+use Rattle.std.proofs.Common.{◌≡◌, ◌≢◌, ◌↔◌, ℕ, ◌<◌, Bool, true, false, not, List, None, Result, Ok, Err, length, refl, sym, ap, ◌∙◌}
 use Rattle.std.specs.Prelude.{unwrap_or}
 use Rattle.std.specs.Bool.{then_some}
 use Rattle.std.proofs.lemmas.Bool.{false≢true, false_from_ne_true}
@@ -20,7 +20,7 @@ use Rattle.stn_world.proofs.Parts.{part_of-part, holds_all-decides}
 abbrev failed : (A : Type 0) → PartFault → Result A PartFault
 failed A fault = Err fault
 
-pub not_err : {T E : Type 0} {x : T} {e : E} → Ok x ≡ Err e → ⊥
+pub not_err : {T E : Type 0} {x : T} {e : E} → Ok x ≢ Err e
 not_err e = absurd (cc)
 
 module _ (world : World) (site : ℕ) (there : HasSite world site) (room : length world.packets < most_packets) where
@@ -36,13 +36,13 @@ module _ (world : World) (site : ℕ) (there : HasSite world site) (room : lengt
   send_unheld held e = ap (λ o. unwrap_or o Memory) (sym (send_with_room world site held there room ∙ ap (λ b. then_some (not b) (Replica replica_fault.Unknown)) e))
 
   part_fault_of : (theirs : Content) (records tombstones : List SiteCounter) (A : Type 0) (fault : PartFault)
-      → ((failed A fault ≡ Err part_fault.Unknown) ↔ (AllHeld theirs.additions records × AllHeld theirs.tombstones tombstones → ⊥))
+      → ((failed A fault ≡ Err part_fault.Unknown) ↔ ¬ (AllHeld theirs.additions records × AllHeld theirs.tombstones tombstones))
       → of_part_fault fault ≡ unwrap_or (send_refusal world site (holds_all theirs records tombstones)) Memory
   part_fault_of theirs records tombstones A part_fault.Unknown is =
       send_unheld (holds_all theirs records tombstones) (false_from_ne_true (holds_all theirs records tombstones) (λ e. is.0 refl ((holds_all-decides theirs records tombstones).0 e)))
   part_fault_of theirs records tombstones A part_fault.Memory is = send_memory (holds_all theirs records tombstones) (held (holds_all theirs records tombstones) refl)
     where
-      other : failed A part_fault.Memory ≡ Err part_fault.Unknown → ⊥
+      other : failed A part_fault.Memory ≢ Err part_fault.Unknown
       other e = cc
 
       held : (b : Bool) → holds_all theirs records tombstones ≡ b → b ≡ true
@@ -51,7 +51,7 @@ module _ (world : World) (site : ℕ) (there : HasSite world site) (room : lengt
 
   -- a part is refused where not all is held, or for want of memory
   pub part_refused : (theirs : Content) (records tombstones : List SiteCounter) (A : Type 0) (fault : PartFault) → theirs ≡ content_at world site
-      → ((failed A fault ≡ Err part_fault.Unknown) ↔ (AllHeld theirs.additions records × AllHeld theirs.tombstones tombstones → ⊥))
+      → ((failed A fault ≡ Err part_fault.Unknown) ↔ ¬ (AllHeld theirs.additions records × AllHeld theirs.tombstones tombstones))
       → of_part_fault fault ≡ unwrap_or (send_refusal world site (holds_all (content_at world site) records tombstones)) Memory
   part_refused theirs records tombstones A fault same is =
       part_fault_of theirs records tombstones A fault is ∙ ap (λ (c : Content). unwrap_or (send_refusal world site (holds_all c records tombstones)) Memory) same

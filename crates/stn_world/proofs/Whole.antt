@@ -82,7 +82,7 @@ items_known s id one there = ap (λ (o : Option Record). is_some o || fin.contai
 pub next_unknown : (world : World) (all : Content) (site : ℕ) → IsWhole world all → is_known all (next_id_at world site) ≡ false
 next_unknown world all site whole = none (is_known all (next_id_at world site)) refl
   where
-    here : (one : Record) → HasItem all (addition (next_id_at world site) one) → ⊥
+    here : (one : Record) → ¬ HasItem all (addition (next_id_at world site) one)
     here one there = false≢true (sym (next_is_new (content_at world site) site (next_id_at world site).counter refl) ∙ items_known (content_at world site) (next_id_at world site) one (whole.own (next_id_at world site) one there))
 
     none : (known : Bool) → is_known all (next_id_at world site) ≡ known → known ≡ false
