@@ -12,7 +12,7 @@ use Rattle.stn_replica.specs.Refusals.{add_refusal, done_refusal}
 use Rattle.stn_world.specs.Faults.{of_replica_fault}
 use Rattle.stn_world.specs.World.{World, HasSite, has_site, opening_world, held_at, content_at, next_id_at}
 use Rattle.stn_records.specs.Content.{Item, HasItem, part_of}
-use Rattle.stn_world.specs.Steps.{Step, added, finished, stepped, run, TookAt}
+use Rattle.stn_world.specs.Steps.{Step, added, finished, stepped, run, TookAt, TookSameAt}
 use Rattle.stn_world.proofs.Accepted.{no_site}
 use Rattle.stn_world.specs.Parts.{holds_all}
 use Rattle.stn_world.proofs.Sendings.{part_free, all_free}
@@ -181,15 +181,15 @@ unions law script at site says item =
 
 -- and two that took the same print the same
 pub same_bytes : ((source : PlanSource) (sites others : ℕ) (ours theirs : List Step) (site other : ℕ) → HasSite (opening_world source sites) site → HasSite (opening_world source others) other
-    → ((item : Item) → TookAt (opening_world source sites) ours site item ↔ TookAt (opening_world source others) theirs other item)
+    → TookSameAt (opening_world source sites) ours site (opening_world source others) theirs other
     → (text last : List ℕ) → IsReport source (content_at (run (opening_world source sites) ours) site) text → IsReport source (content_at (run (opening_world source others) theirs) other) last → text ≡ last)
     → (script other output last text last_text : List ℕ) (at : LineOf script) (there : LineOf other) (site others : ℕ) → ReportsSite at site → ReportsSite there others
     → at.start.source ≡ there.start.source
-    → ((item : Item) → TookAt (first_world at) (steps_before at) site item ↔ TookAt (first_world there) (steps_before there) others item)
+    → TookSameAt (first_world at) (steps_before at) site (first_world there) (steps_before there) others
     → PrintsAt at output text → PrintsAt there last last_text → text ≡ last_text
 same_bytes law script other output last text last_text at there site others one two plan same p q =
     subst (λ (s : PlanSource). HasSite (opening_world s there.start.sites) others
-    → ((item : Item) → TookAt (first_world at) (steps_before at) site item ↔ TookAt (opening_world s there.start.sites) (steps_before there) others item)
+    → TookSameAt (first_world at) (steps_before at) site (opening_world s there.start.sites) (steps_before there) others
     → IsReport s (content_at (run (opening_world s there.start.sites) (steps_before there)) others) last_text → text ≡ last_text) plan
     (λ here took said.
     law at.start.source at.start.sites there.start.sites (steps_before at) (steps_before there) site others one.there here took text last_text

@@ -3,13 +3,13 @@ ghost use Rattle.stn_text.specs.Lines.{lines_of};
 ghost use Rattle.stn_records.specs.Content.{Item, HasItem};
 ghost use Rattle.stn_replica.specs.Report.{IsReport};
 ghost use Rattle.stn_world.specs.World.{opening_world, content_at};
-ghost use Rattle.stn_world.specs.Steps.{run, TookAt};
+ghost use Rattle.stn_world.specs.Steps.{run, TookAt, TookSameAt};
 ghost use Rattle.stn_exec.specs.Output.{IsOutput, CountsRefusals};
 ghost use Rattle.stn_exec.specs.Script.{Start, heading_of, last_line, script_outcome};
 ghost use Rattle.stn_exec.specs.Reports.{steps_of_lines, LineOf, first_world, steps_before, world_at, ReportsSite, PrintsAt};
 
 use stn_replica::one_report;
-use stn_world::{sites_are_unions, took_same_same_bytes};
+use stn_world::{sites_are_unions, sites_took_same_same_bytes};
 
 /// The law that a script has one output, and one number of refusals; it does nothing.
 pub fn one_script()
@@ -39,9 +39,9 @@ pub fn scripts_are_runs()
         → (item : Item) → HasItem (content_at (world_at at) site) item ↔ TookAt (first_world at) (steps_before at) site item }
     ensures bytes { (script other output last text last_text : List ℕ) (at : LineOf script) (there : LineOf other) (site others : ℕ)
         → ReportsSite at site → ReportsSite there others → at.start.source ≡ there.start.source
-        → ((item : Item) → TookAt (first_world at) (steps_before at) site item ↔ TookAt (first_world there) (steps_before there) others item)
+        → TookSameAt (first_world at) (steps_before at) site (first_world there) (steps_before there) others
         → PrintsAt at output text → PrintsAt there last last_text → text ≡ last_text }
 {
     sites_are_unions();
-    took_same_same_bytes();
+    sites_took_same_same_bytes();
 }

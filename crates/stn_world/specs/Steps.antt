@@ -1,5 +1,5 @@
 -- The calls of a world as steps: why one is refused, what it leaves, and what it brings to each site.
-use Rattle.std.specs.Prelude.{◌≡◌, ℕ, ℤ, ◌+◌, ◌==◌, nat_le, ◌⊎◌, Bool, not, fold, List, [], ◌∷◌, length, Option, None, option_map, is_some, unwrap_or, Result, Ok, Err, if◌then◌else◌, ⊤}
+use Rattle.std.specs.Prelude.{◌≡◌, ℕ, ℤ, ◌+◌, ◌==◌, nat_le, ◌⊎◌, ◌↔◌, Bool, not, fold, List, [], ◌∷◌, length, Option, None, option_map, is_some, unwrap_or, Result, Ok, Err, if◌then◌else◌, ⊤}
 use Rattle.std.specs.Bool.{then_some}
 use Rattle.std.specs.Option.{option_or}
 use Rattle.stn_net.specs.Difference.{Difference}
@@ -93,6 +93,10 @@ Brings world (delivered at number) site item = (at ≡ site) × HasItem (packet_
 abbrev pub TookAt : World → List Step → ℕ → Item → Type 0
 TookAt world [] site item = ⊥
 TookAt world (step ∷ steps) site item = (IsAccepted world step × Brings world step site item) ⊎ TookAt (stepped world step) steps site item
+
+-- two sites, of one world or of two, took the same additions and withdrawals
+abbrev pub TookSameAt : World → List Step → ℕ → World → List Step → ℕ → Type 0
+TookSameAt world ours site other theirs there = (item : Item) → TookAt world ours site item ↔ TookAt other theirs there item
 
 -- what a merge can be refused for: a site is not there, the site would know too many ids, or want of memory
 abbrev pub IsMergeFault : WorldFault → Type 0

@@ -6,7 +6,7 @@ ghost use Rattle.stn_records.specs.Content.{most_known, Content, Item, withdrawa
 ghost use Rattle.stn_replica.specs.Report.{IsReport};
 ghost use Rattle.stn_world.specs.Parts.{IsPart};
 ghost use Rattle.stn_world.specs.World.{World, HasSite, HasPacket, opening_world, content_at, packet_at};
-ghost use Rattle.stn_world.specs.Steps.{Step, merged, delivered, IsAccepted, run, Brings, TookAt};
+ghost use Rattle.stn_world.specs.Steps.{Step, merged, delivered, IsAccepted, run, Brings, TookAt, TookSameAt};
 ghost use Rattle.stn_world.specs.Runs.{Making, WasMade, records_made, states_of, InEachRun};
 
 use stn_replica::one_report;
@@ -73,16 +73,13 @@ pub fn withdrawn_for_good()
 /// The law that two sites of one plan, in one world or in two, that took the same additions and
 /// withdrawals, in any order, more than once or merged in any grouping, hold the same and report the
 /// same bytes; it does nothing.
-pub fn took_same_same_bytes()
-    ensures states { (source : PlanSource) (sites others : ℕ) (ours theirs : List Step)
+pub fn sites_took_same_same_bytes()
+    ensures { (source : PlanSource) (sites others : ℕ) (ours theirs : List Step)
         → (site other : ℕ) → HasSite (opening_world source sites) site → HasSite (opening_world source others) other
-        → ((item : Item) → TookAt (opening_world source sites) ours site item ↔ TookAt (opening_world source others) theirs other item)
-        → content_at (run (opening_world source sites) ours) site ≡ content_at (run (opening_world source others) theirs) other }
-    ensures bytes { (source : PlanSource) (sites others : ℕ) (ours theirs : List Step)
-        → (site other : ℕ) → HasSite (opening_world source sites) site → HasSite (opening_world source others) other
-        → ((item : Item) → TookAt (opening_world source sites) ours site item ↔ TookAt (opening_world source others) theirs other item)
-        → (text last : List ℕ) → IsReport source (content_at (run (opening_world source sites) ours) site) text
-        → IsReport source (content_at (run (opening_world source others) theirs) other) last → text ≡ last }
+        → TookSameAt (opening_world source sites) ours site (opening_world source others) theirs other
+        → let one = content_at (run (opening_world source sites) ours) site in
+        let two = content_at (run (opening_world source others) theirs) other in
+        (one ≡ two) × ((text last : List ℕ) → IsReport source one text → IsReport source two last → text ≡ last) }
 {
     sites_are_unions();
     one_report();

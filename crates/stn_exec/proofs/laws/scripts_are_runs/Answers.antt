@@ -17,4 +17,6 @@ pub returns-clause-union : goal.returns-clause-union
 returns-clause-union c = unions c.sites_are_unions.ensures
 
 pub returns-clause-bytes : goal.returns-clause-bytes
-returns-clause-bytes c = same_bytes c.took_same_same_bytes.ensures.bytes
+returns-clause-bytes c =
+    same_bytes (λ source sites others ours theirs site other here there same.
+    (c.sites_took_same_same_bytes.ensures source sites others ours theirs site other here there same).1)
