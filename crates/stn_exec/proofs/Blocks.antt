@@ -41,9 +41,6 @@ pub record IsSought (number : ℕ) (text : List ℕ) (at : ℕ) (left : List ℕ
   pub whole : 0 < length left → text ≡ front ++ left
   pub same : block_from number (lines_of text) ≡ option_map (with_text front) (block_from at (lines_of left))
 
-pub sought_first : (number : ℕ) (text : List ℕ) → IsSought number text number text
-sought_first number text = record { front = []; whole = λ some. refl; same = with_no_text (block_from number (lines_of text)) }
-
 cut_on : (text front left line behind : List ℕ) → (0 < length left → text ≡ front ++ left) → 0 < length left → IsCutBehindLine left line behind
     → 0 < length behind → text ≡ (front ++ line_text line) ++ behind
 cut_on text front left line behind whole some (inl cut) more =

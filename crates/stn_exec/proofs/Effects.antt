@@ -1,5 +1,5 @@
 -- What calls of a world answer.
-use Rattle.std.proofs.Common.{◌≡◌, ℕ, ℤ, neg_ℤ, Bool, true, false, cond, is_some, List, Option, Some, None, Result, Ok, Err, IfOk, refl, sym, ap, ◌∙◌}
+use Rattle.std.proofs.Common.{◌≡◌, ◌≢◌, ℕ, ℤ, neg_ℤ, Bool, true, false, cond, is_some, List, Option, Some, None, Result, Ok, Err, IfOk, refl, sym, ap, ◌∙◌}
 use Rattle.std.specs.Prelude.{◌+◌, length, option_map, option_to_list, unwrap_or}
 use Rattle.std.specs.Option.{option_map_or}
 use Rattle.stn_time.specs.Time.{horizon}
@@ -30,7 +30,7 @@ missing_answer : (world next : World) (made : Answer) (cause : Option WorldFault
 missing_answer world next made cause none = ap (answered world next made) none
 
 -- a command that is a call tests its site by what refuses the call
-tested_answer : (world : World) (site : ℕ) (next : World) (made : Answer) (cause : Option WorldFault) → ((HasSite world site → ⊥) → cause ≡ Some world_fault.NoSite)
+tested_answer : (world : World) (site : ℕ) (next : World) (made : Answer) (cause : Option WorldFault) → (¬ HasSite world site → cause ≡ Some world_fault.NoSite)
     → answered world next made cause ≡ cond (has_site world site) (answered world next made cause) (refusing world refusal.NoSite)
 tested_answer world site next made cause none = tested (has_site world site) refl
   where
@@ -38,10 +38,10 @@ tested_answer world site next made cause none = tested (has_site world site) ref
     tested true e = refl
     tested false e = missing_answer world next made cause (none (λ there. absurd (both (sym e ∙ (site_decides world site).1 there))))
       where
-        both : false ≡ true → ⊥
+        both : false ≢ true
         both q = absurd (cc)
 
-pub as_called : (world : World) (site : ℕ) (step : Step) (made : Answer) → ((HasSite world site → ⊥) → step_refusal world step ≡ Some world_fault.NoSite)
+pub as_called : (world : World) (site : ℕ) (step : Step) (made : Answer) → (¬ HasSite world site → step_refusal world step ≡ Some world_fault.NoSite)
     → called world step made ≡ cond (has_site world site) (called world step made) (refusing world refusal.NoSite)
 as_called world site step made none = tested_answer world site (after world step) made (step_refusal world step) none
 
@@ -51,7 +51,7 @@ answered_refused : (old new next : World) (made : Answer) (refused_for : Option 
     → record { world = new; reply = said (answer.Refused cause) } ≡ answered old next made refused_for
 answered_refused old new next made refused_for fault cause is kept refused = by_cause refused_for is
   where
-    apart : None ≡ Some cause → ⊥
+    apart : None ≢ Some cause
     apart q = absurd (cc)
 
     by_cause : (o : Option WorldFault) → fault ≡ unwrap_or o world_fault.Memory
@@ -218,7 +218,7 @@ sending_run world site part held free = tested (has_site world site) refl
     by_cause there None = ap (λ o. cond (is_some o) world (after world (sent site part))) (sym (free there))
     by_cause there (Some cause) = refl
 
-    both : false ≡ true → ⊥
+    both : false ≢ true
     both q = absurd (cc)
 
     tested : (b : Bool) → has_site world site ≡ b → (cond b (sending world site part held) (refusing world refusal.NoSite)).world ≡ leaves (send_refusal world site held)

@@ -25,7 +25,7 @@ find-range_one p a (suc n) x low high passes one =
     at_first p a x (find p (range_with_len (a + 1) n)) passes (p a) refl (λ e. one a (omega arith) (omega arith) e)
     (λ other. find-range_one p (a + 1) n x (omega arith) (omega arith) passes (λ k from to yes. one k (omega arith) (omega arith) yes))
 
-same_word : (word text : List ℕ) (b : Bool) → bytes_eq word text ≡ b → (word ≡ text → ⊥) → b ≡ false
+same_word : (word text : List ℕ) (b : Bool) → bytes_eq word text ≡ b → word ≢ text → b ≡ false
 same_word word text true e other = absurd (other ((bytes_eq-Decides word text).0 e))
 same_word word text false e other = refl
 
@@ -38,7 +38,7 @@ event_below-some count word event lt named one =
     (λ e low high yes. let same = one e (omega arith) ((bytes_eq-Decides word (event_text e)).0 yes) in cc)
 
 -- a word that names none
-pub event_below-none : (count : ℕ) (word : List ℕ) → ((e : ℕ) → e < count → word ≡ event_text e → ⊥) → event_below count word ≡ None
+pub event_below-none : (count : ℕ) (word : List ℕ) → ((e : ℕ) → e < count → word ≢ event_text e) → event_below count word ≡ None
 unfolding event_below
 event_below-none count word other =
     find-range_none (λ e. bytes_eq word (event_text e)) 0 count (λ e low high. same_word word (event_text e) (bytes_eq word (event_text e)) refl (other e (omega arith)))
@@ -54,7 +54,7 @@ id_below-some count word id place lt is named one =
     ∙ ap (λ (i : SiteCounter). Some i) is
 
 -- a word that names none
-pub id_below-none : (count : ℕ) (word : List ℕ) → ((k : ℕ) → k < count → word ≡ id_text (nth_id k) → ⊥) → id_below count word ≡ None
+pub id_below-none : (count : ℕ) (word : List ℕ) → ((k : ℕ) → k < count → word ≢ id_text (nth_id k)) → id_below count word ≡ None
 unfolding id_below
 id_below-none count word other =
     ap (option_map nth_id) (find-range_none (λ k. bytes_eq word (id_text (nth_id k))) 0 count (λ k low high. same_word word (id_text (nth_id k)) (bytes_eq word (id_text (nth_id k))) refl (other k (omega arith))))

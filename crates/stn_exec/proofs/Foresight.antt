@@ -22,11 +22,11 @@ one_next_text source state now text other (inr p) (inl q) = absurd (p.conflict q
 one_next_text source state now text other (inr p) (inr q) = p.line ∙ sym q.line
 
 -- where some schedule runs the whole plan, no event is overdue
-runs_not_overdue : (source : PlanSource) (state : Content) (now : ℤ) (text : List ℕ) (event : ℕ) → SaysRuns source state now text → IsOverdueAt source state now event → ⊥
+runs_not_overdue : (source : PlanSource) (state : Content) (now : ℤ) (text : List ℕ) (event : ℕ) → SaysRuns source state now text → ¬ IsOverdueAt source state now event
 runs_not_overdue source state now text event says late = late.overdue.1 says.rest.in_time
 
 -- a text of a rehearsal is that of none that is refused
-pub text_not_refused : (source : PlanSource) (state : Content) (now : ℤ) (text : List ℕ) → IsRehearsalText source state now text → IsRefusedRehearsal source state now → ⊥
+pub text_not_refused : (source : PlanSource) (state : Content) (now : ℤ) (text : List ℕ) → IsRehearsalText source state now text → ¬ IsRefusedRehearsal source state now
 text_not_refused source state now text (inl runs) late = runs_not_overdue source state now text late.0 runs late.1
 text_not_refused source state now text (inr none) late = none.conflict late.1.possible
 

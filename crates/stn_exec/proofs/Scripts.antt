@@ -7,9 +7,8 @@ use Rattle.stn_device.specs.Bytes.{AppendsPart}
 use Rattle.stn_text.specs.Lines.{lines_of, words_of}
 use Rattle.stn_exec.specs.declared.answer.Refusal.{Refusal}
 use Rattle.stn_exec.specs.declared.answer.Refusal.TheVariants as refusal
-use Rattle.stn_exec.specs.Effect.{Reply, said, reported, foreseen, rehearsed, Effect, and_then}
-use Rattle.stn_exec.specs.Dispatch.{IsNextText, IsRehearseText, IsRefusedRehearsal}
-use Rattle.stn_replica.specs.Report.{IsReport}
+use Rattle.stn_exec.specs.Effect.{Reply, said, rehearsed, Effect, and_then}
+use Rattle.stn_exec.specs.Dispatch.{IsRehearseText, IsRefusedRehearsal}
 use Rattle.stn_records.specs.Content.{Content}
 use Rattle.std.specs.Bool.{Decides}
 use Rattle.stn_exec.specs.Command.{Command, command_of}
@@ -44,7 +43,7 @@ next_line-skip number line lines e = ap (λ t. cond t (next_line (number + 1) li
 pub sites_of-some : (sites : ℕ) → 1 ≤ sites → sites ≤ 64 → sites_of sites ≡ Ok sites
 sites_of-some sites least most = grind (arith, nat_tests)
 
-pub sites_of-none : (sites : ℕ) → (1 ≤ sites → sites ≤ 64 → ⊥) → sites_of sites ≡ Err refusal.NoSite
+pub sites_of-none : (sites : ℕ) → (1 ≤ sites → ¬ (sites ≤ 64)) → sites_of sites ≡ Err refusal.NoSite
 sites_of-none sites none = ⊎_elim (λ few. some few) (λ many. past many) (cases_lt sites 1)
   where
     some : sites < 1 → sites_of sites ≡ Err refusal.NoSite
@@ -184,25 +183,6 @@ pub said_replied : {E : Type 0} (result : Result Bool E) (world : World) (old ne
 said_replied (Ok refused) world old new answer e f =
     record { text = answer_text answer; left = refl; printed = refl; appended = e; answered = (λ yes. sym f ∙ yes, λ yes. f ∙ yes) }
 said_replied (Err fault) world old new answer e f = tt
-
--- and with the world that it leaves
-pub said_left : {E : Type 0} (result : Result Bool E) (world : World) (old new : List ℕ) (answer : Answer) (effect : Effect) → record { world = world; reply = said answer } ≡ effect
-    → OnOk result (new ≡ old ++ answer_text answer) → IfOk result (λ refused. refused ≡ is_refusal answer) → IfOk result (IsReplied world old new effect)
-said_left result world old new answer effect same e f = subst (λ (given : Effect). IfOk result (IsReplied world old new given)) same (said_replied result world old new answer e f)
-
--- a report that was appended, and what comes next
-not_refused : Decides false ⊥
-not_refused = (λ e. absurd (cc), λ none. absurd none)
-
-pub report_replied : (world : World) (old new text : List ℕ) (source : PlanSource) (state : Content) (effect : Effect) → record { world = world; reply = reported source state } ≡ effect
-    → IsReport source state text → new ≡ old ++ text → IsReplied world old new effect false
-report_replied world old new text source state effect same is e =
-    subst (λ (given : Effect). IsReplied world old new given false) same (record { text = text; left = refl; printed = is; appended = e; answered = not_refused })
-
-pub next_replied : (world : World) (old new text : List ℕ) (source : PlanSource) (state : Content) (now : ℤ) (effect : Effect) → record { world = world; reply = foreseen source state now } ≡ effect
-    → IsNextText source state now text → new ≡ old ++ text → IsReplied world old new effect false
-next_replied world old new text source state now effect same is e =
-    subst (λ (given : Effect). IsReplied world old new given false) same (record { text = text; left = refl; printed = is; appended = e; answered = not_refused })
 
 -- a rehearsal that was appended
 pub rehearsal_replied : {E : Type 0} (result : Result Bool E) (world : World) (old new : List ℕ) (source : PlanSource) (state : Content) (now : ℤ) (effect : Effect)

@@ -26,7 +26,7 @@ next_text (Overdue event) = line_with_event (codes "overdue ") event
 
 -- all bounds have no schedule, and the text is `conflict`
 pub record SaysConflict (source : PlanSource) (state : Content) (text : List ℕ) : Type 0 where
-  pub conflict : HasSchedule (all_bounds source state) → ⊥
+  pub conflict : ¬ HasSchedule (all_bounds source state)
   pub line : text ≡ conflict_text
 
 -- all bounds have a schedule, and the text is the line of what comes next from now on
