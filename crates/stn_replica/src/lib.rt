@@ -7,7 +7,6 @@ pub use laws::{one_report, same_items_same_bytes, state_is_union, took_same_same
 pub use lines::append_run_line;
 pub use names::BoundName;
 pub use replica::Replica;
-pub use report::MOST_REPORT;
 
 mod cursors;
 mod dispatch;

@@ -23,14 +23,11 @@ use stn_records::{Id, Mark, Records};
 use stn_time::Memory;
 use stn_windows::window;
 
-/// The most bytes of a report.
-pub const MOST_REPORT: usize = 65_536;
-
 impl<A: Allocator + Copy> Replica<A> {
     /// Appends the report: how many steps, events, live and withdrawn records there are; then, where
     /// all bounds have a schedule, the window of each event, and else one cycle of bounds that
-    /// contradict each other. It depends on the plan and the state alone, and has at most
-    /// `MOST_REPORT` bytes. For want of memory it appends nothing.
+    /// contradict each other. It depends on the plan and the state alone, and has at most 65,536
+    /// bytes. For want of memory it appends nothing.
     pub fn report<B: Allocator>(&self, out: &mut Vec<u8, B>) -> Result<(), Memory>
         ensures reported { OnOk result ((text : List ℕ) × IsReport self.now.source self.now.state text × (out.new.items ≡ out.old.items ++ text)) }
         ensures short { OnOk result (length out.new.items ≤ length out.old.items + most_report) }
