@@ -78,7 +78,7 @@ module _ {X Y : Type 0} (all : List (SiteCounter × Y)) (m : FinMap id_cmp X) wh
       sorted = left_sorted e.0 rest ahead.sorted;
       finds =
           above (λ k. find id_cmp k.0 rest ≡ get m k.0) (λ k. find id_cmp k.0 (from_id e.0 rest) ≡ get m k.0) e.0 (drop (place + 1) all)
-          (and_left _ _ (subst (λ l. is_sorted id_cmp l ≡ true) (opened all place e within at) (sorted_drop ids_total place all sorted)))
+          (and_parts _ _ (subst (λ l. is_sorted id_cmp l ≡ true) (opened all place e within at) (sorted_drop ids_total place all sorted))).0
           (λ k l found. left_finds e.0 k.0 rest l ∙ found) here.1;
     }
 
