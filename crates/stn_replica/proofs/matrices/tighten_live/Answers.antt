@@ -5,7 +5,7 @@ use Rattle.stn_net.specs.Difference.{Difference}
 use Rattle.stn_matrix.specs.Tightest.{IsExact}
 use Rattle.stn_records.specs.Id.{SiteCounter}
 use Rattle.stn_records.specs.declared.record.Record.{Record}
-use Rattle.stn_records.proofs.Contents.{in_order}
+use Rattle.stn_records.proofs.Entries.{in_order}
 use Rattle.stn_replica.specs.Bounds.{bounds_of}
 use Rattle.stn_replica.proofs.Ahead.{all_ahead, seen_there, seen_ahead}
 use Rattle.stn_replica.proofs.Places.{walked_are, tombs_walked_are, one_more_seen, all_seen}
