@@ -1,11 +1,9 @@
 -- The event that a word names.
-use Rattle.std.proofs.Common.{sym, ◌≡◌, ◌≢◌, ℕ, suc, zero, ◌+◌, ◌-◌, ◌*◌, ◌/◌, ◌%◌, ◌<◌, ◌≤◌, Bool, true, false, cond, List, Option, Some, None, find, refl, ap, ◌∙◌, arith, bytes_eq}
+use Rattle.std.proofs.Common.{sym, ◌≡◌, ◌≢◌, ℕ, suc, zero, ◌+◌, ◌-◌, ◌<◌, ◌≤◌, Bool, true, false, cond, List, Option, Some, None, find, refl, ap, ◌∙◌, arith, bytes_eq}
 use Rattle.std.specs.List.{range_with_len}
 use Rattle.std.proofs.lemmas.Slice.Eq.{bytes_eq-Decides}
 use Rattle.stn_net.specs.Event.{event_text}
-use Rattle.stn_records.specs.Id.{SiteCounter, IsId, id_text}
-use Rattle.std.specs.Option.{option_map}
-use Rattle.stn_exec.specs.Command.{event_below, nth_id, id_below}
+use Rattle.stn_exec.specs.Command.{event_below}
 
 -- nothing in a range passes
 find-range_none : (p : ℕ → Bool) (a n : ℕ) → ((e : ℕ) → a ≤ e → e < a + n → p e ≡ false) → find p (range_with_len a n) ≡ None
@@ -42,41 +40,3 @@ pub event_below-none : (count : ℕ) (word : List ℕ) → ((e : ℕ) → e < co
 unfolding event_below
 event_below-none count word other =
     find-range_none (λ e. bytes_eq word (event_text e)) 0 count (λ e low high. same_word word (event_text e) (bytes_eq word (event_text e)) refl (other e (omega arith)))
-
--- a word that names an id
-pub id_below-some : (count : ℕ) (word : List ℕ) (id : SiteCounter) (place : ℕ) → place < count → nth_id place ≡ id → word ≡ id_text id
-    → ((k : ℕ) → k < count → word ≡ id_text (nth_id k) → k ≡ place) → id_below count word ≡ Some id
-unfolding id_below
-id_below-some count word id place lt is named one =
-    ap (option_map nth_id) (find-range_one (λ k. bytes_eq word (id_text (nth_id k))) 0 count place (omega arith) (omega arith)
-    ((bytes_eq-Decides word (id_text (nth_id place))).1 (named ∙ ap id_text (sym is)))
-    (λ k low high yes. one k (omega arith) ((bytes_eq-Decides word (id_text (nth_id k))).0 yes)))
-    ∙ ap (λ (i : SiteCounter). Some i) is
-
--- a word that names none
-pub id_below-none : (count : ℕ) (word : List ℕ) → ((k : ℕ) → k < count → word ≢ id_text (nth_id k)) → id_below count word ≡ None
-unfolding id_below
-id_below-none count word other =
-    ap (option_map nth_id) (find-range_none (λ k. bytes_eq word (id_text (nth_id k))) 0 count (λ k low high. same_word word (id_text (nth_id k)) (bytes_eq word (id_text (nth_id k))) refl (other k (omega arith))))
-
--- the place of an id
-abbrev pub place_of : SiteCounter → ℕ
-place_of id = (id.site - 1) * 65535 + (id.counter - 1)
-
-pub place_of-nth : (id : SiteCounter) → 1 ≤ id.site → 1 ≤ id.counter → id.counter ≤ 65535 → nth_id (place_of id) ≡ id
-place_of-nth id least_site least most =
-    let site : place_of id / 65535 + 1 ≡ id.site = omega arith in
-    let counter : place_of id % 65535 + 1 ≡ id.counter = omega arith in
-    ap (λ (k : ℕ). record { site = k; counter = place_of id % 65535 + 1 }) site ∙ ap (λ (k : ℕ). record { site = id.site; counter = k }) counter
-
-pub place_of-lt : (id : SiteCounter) (count : ℕ) → count ≡ 4194240 → id.site ≤ 64 → id.counter ≤ 65535 → 1 ≤ id.counter → place_of id < count
-place_of-lt id count is most_site most least = omega arith
-
-pub nth_is : (k count : ℕ) → count ≡ 4194240 → k < count → IsId (nth_id k)
-nth_is k count is lt = record { site = record { least = omega arith; most = omega arith }; least = omega arith; most = omega arith }
-
-pub nth_one : (k place : ℕ) → nth_id place ≡ nth_id k → k ≡ place
-nth_one k place e =
-    let site : place / 65535 + 1 ≡ k / 65535 + 1 = ap (λ (i : SiteCounter). i.site) e in
-    let counter : place % 65535 + 1 ≡ k % 65535 + 1 = ap (λ (i : SiteCounter). i.counter) e in
-    omega arith

@@ -1,8 +1,9 @@
 -- The commands that lines are.
-use Rattle.std.specs.Prelude.{◌≡◌, ℕ, ◌+◌, ◌*◌, ◌/◌, ◌%◌, ◌==◌, Bool, ◌||◌, if◌then◌else◌, List, [], ◌∷◌, length, codes, find, Option, Some, None, is_some, option_and_then}
-use Rattle.std.specs.List.{range_with_len, list_all, filter_map}
+use Rattle.std.specs.Prelude.{◌≡◌, ℕ, ◌+◌, ◌==◌, Bool, ◌&&◌, ◌||◌, nat_le, if◌then◌else◌, List, [], ◌∷◌, length, codes, find, Option, Some, None, is_some, option_and_then}
+use Rattle.std.specs.List.{range_with_len, list_all, filter_map, before_first, after_first}
 use Rattle.std.specs.Option.{option_map}
 use Rattle.std.specs.Str.{bytes_eq}
+use Rattle.std.specs.Str.Parse.{digits_value}
 use Rattle.stn_net.specs.Event.{most_events, event_text}
 use Rattle.stn_records.specs.Id.{most_sites, most_counter, SiteCounter, id_text}
 use Rattle.stn_text.specs.Lines.{words_of}
@@ -40,17 +41,17 @@ event_below count word = find (λ event. bytes_eq word (event_text event)) (rang
 abbrev pub event_of : List ℕ → Option ℕ
 event_of word = event_below (most_events + 1) word
 
--- the ids in their order, from 0 on
-abbrev pub nth_id : ℕ → SiteCounter
-nth_id place = record { site = place / most_counter + 1; counter = place % most_counter + 1 }
+-- the numbers that stand before the first dot of a word and behind it, as a site and a counter
+abbrev pub around_dot : List ℕ → SiteCounter
+around_dot word = record { site = digits_value 10 (before_first (λ byte. byte == 46) word); counter = digits_value 10 (after_first (λ byte. byte == 46) word) }
 
--- the id, among so many, that is printed so
-unfoldable pub id_below : ℕ → List ℕ → Option SiteCounter
-id_below count word = option_map nth_id (find (λ place. bytes_eq word (id_text (nth_id place))) (range_with_len 0 count))
+-- both numbers lie in their ranges
+abbrev pub is_id : SiteCounter → Bool
+is_id id = nat_le 1 id.site && (nat_le id.site most_sites && (nat_le 1 id.counter && nat_le id.counter most_counter))
 
 -- the id that is printed so
-abbrev pub id_of : List ℕ → Option SiteCounter
-id_of word = id_below (most_sites * most_counter) word
+unfoldable pub id_of : List ℕ → Option SiteCounter
+id_of word = if is_id (around_dot word) && bytes_eq word (id_text (around_dot word)) then Some (around_dot word) else None
 
 -- the form `add <event> <event> <bound> <bound>`, behind its name
 abbrev pub add_of : List (List ℕ) → Option Action
