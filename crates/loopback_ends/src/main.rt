@@ -2,17 +2,17 @@
 //! other site makes of the replies, what `serve_on` and `send_on` print and their statuses, and what the saved log then reports.
 #![tactic(auto)]
 
-use anyhow::{Context, Error};
+use anyhow::{Context, Error, bail};
 use std::alloc::Global;
 use std::io::{Read, Write};
-use std::net::{TcpListener, TcpStream};
+use std::net::{Shutdown, TcpListener, TcpStream};
 use std::{fs, io};
 use stn_device::Counted;
 use stn_log::load;
 use stn_records::Site;
 use stn_replica::Replica;
 use stn_session::{receive_replies, send_requests, serve};
-use stn_shell::{execute, send_on, serve_on};
+use stn_shell::{FileStore, execute, send_on, serve_on};
 
 // How long the requests of an empty replica are: HELLO, RECORDS and ASK.
 const REQUESTS_LENGTH: u64 = 22;
@@ -93,7 +93,8 @@ fn serve_waiting(rt: &HostRuntime, listener: &TcpListener, count: u16) -> Result
     let mut out = Counted::new(io::writer(rt));
     let mut err = Counted::new(io::writer(rt));
     let status = serve_on(
-        rt,
+        rt.alloc(),
+        &mut FileStore::new(rt),
         listener,
         count,
         "t.log",
@@ -125,15 +126,125 @@ fn serve_broken(rt: &HostRuntime, listener: &TcpListener) -> Result<(), Error> {
 
 // Sends over a connection on which the replies wait.
 fn send(rt: &HostRuntime, listener: &TcpListener) -> Result<(), Error> {
+    let mut replies = Vec::new(rt.alloc());
+    replies.extend_from_slice(&REPLIES)?;
+    replies.extend_from_slice(REPORT)?;
+    send_waiting(rt, listener, &replies)
+}
+
+// Requests that site 1 answers, each over a connection of its own whose other end says nothing more: a HELLO of another plan, ASK
+// before any HELLO, an unknown kind, a HELLO and a body that breaks a rule; a HELLO, a record 1.1 that clashes, and ASK.
+const REQUESTS: [&str; 5] = [
+    "0000000401000002",
+    "0000000103",
+    "0000000109",
+    "00000004010000010000000102",
+    "0000000401000001000000160200010001000100000000013b9aca003b9aca0000000000000103",
+];
+
+// Sends requests, and says that nothing more comes.
+fn send_bytes(rt: &HostRuntime, listener: &TcpListener, digits: &str) -> Result<TcpStream, Error> {
+    let stream = TcpStream::connect(rt, listener.local_addr()?)?;
+    (&stream).write_all(&hex::decode(rt.alloc(), digits)?)?;
+    stream.shutdown(Shutdown::Write)?;
+    Ok(stream)
+}
+
+// Serves each of the requests, and prints the replies.
+fn serve_requests(rt: &HostRuntime, listener: &TcpListener) -> Result<(), Error> {
+    for digits in REQUESTS {
+        let mut other = send_bytes(rt, listener, digits)?;
+        serve_waiting(rt, listener, 1)?;
+        let mut replies = Vec::new(rt.alloc());
+        other.read_to_end(&mut replies)?;
+        println!(rt; "{}", hex::encode(rt.alloc(), &replies)?)?;
+    }
+    Ok(())
+}
+
+// A HELLO, the record 3.1 from z to s1 at 3.000, and 100 times ASK, from a site that goes away before it is answered.
+fn serve_gone(rt: &HostRuntime, listener: &TcpListener) -> Result<(), Error> {
+    let stream = TcpStream::connect(rt, listener.local_addr()?)?;
+    let mut requests = Vec::new(rt.alloc());
+    requests.extend_from_slice(&[0, 0, 0, 4, 1, 0, 0, 1])?;
+    requests.extend_from_slice(&[0, 0, 0, 0x16, 2, 0, 1, 0, 3, 0, 1, 0, 0, 0, 0, 1])?;
+    requests.extend_from_slice(&[0x3b, 0x9a, 0xd5, 0xb8, 0x3b, 0x9a, 0xd5, 0xb8, 0, 0])?;
+    for _ in 0..100 {
+        requests.extend_from_slice(&[0, 0, 0, 1, 3])?;
+    }
+    (&stream).write_all(&requests)?;
+    drop(stream);
+    serve_waiting(rt, listener, 1)
+}
+
+// A session after which the log can't be saved.
+fn serve_unsaved(rt: &HostRuntime, listener: &TcpListener) -> Result<(), Error> {
+    fs::create_dir(rt, "t.log.new")?;
+    drop(TcpStream::connect(rt, listener.local_addr()?)?);
+    serve_waiting(rt, listener, 1)?;
+    fs::remove_dir(rt, "t.log.new")?;
+    Ok(())
+}
+
+// Replies that are refused: REFUSED 52, SAME and the end, a length of 0, an unknown kind, a body that breaks a rule, ASK; SAME, a
+// record 1.3 and ASK; SAME and a record 1.1 that clashes.
+const REFUSED_REPLIES: [&str; 8] = [
+    "000000020534",
+    "0000000106",
+    "00000000",
+    "0000000109",
+    "0000000102",
+    "0000000103",
+    "0000000106000000160200010001000300000000013b9aca003b9aca0000000000000103",
+    "0000000106000000160200010001000100000000013b9aca003b9aca000000",
+];
+
+// Sends over a connection on which these replies wait, and prints the status.
+fn send_waiting(rt: &HostRuntime, listener: &TcpListener, replies: &[u8]) -> Result<(), Error> {
     let mut replica = load_log(rt, "u.log", 2)?;
     let stream = TcpStream::connect(rt, listener.local_addr()?)?;
     let (other, _) = listener.accept()?;
-    (&other).write_all(&REPLIES)?;
-    (&other).write_all(REPORT)?;
+    (&other).write_all(replies)?;
+    other.shutdown(Shutdown::Write)?;
     let mut out = Counted::new(io::writer(rt));
     let mut err = Counted::new(io::writer(rt));
-    let status = send_on(rt, &stream, "u.log", &mut replica, &mut out, &mut err);
+    let status = send_on(
+        rt.alloc(),
+        &mut FileStore::new(rt),
+        &stream,
+        "u.log",
+        &mut replica,
+        &mut out,
+        &mut err,
+    );
     println!(rt; "status {status}")?;
+    Ok(())
+}
+
+// Each of the refused replies, after which the log is as before.
+fn send_refused(rt: &HostRuntime, listener: &TcpListener) -> Result<(), Error> {
+    let before = fs::read(rt, "u.log")?;
+    for digits in REFUSED_REPLIES {
+        send_waiting(rt, listener, &hex::decode(rt.alloc(), digits)?)?;
+        if fs::read(rt, "u.log")? != before {
+            bail!("u.log was saved");
+        }
+    }
+    Ok(())
+}
+
+// An address at which another listens, and one at which nobody does; after either no log was saved.
+fn reach_nothing(rt: &HostRuntime, listener: &TcpListener) -> Result<(), Error> {
+    let before = fs::read(rt, "t.log")?;
+    let taken = format!(in rt.alloc(); "{}", listener.local_addr()?)?;
+    command(rt, &["stn", "serve", "t.log", "1", &taken, "1"])?;
+    let other = TcpListener::bind(rt, "127.0.0.1:0")?;
+    let free = format!(in rt.alloc(); "{}", other.local_addr()?)?;
+    drop(other);
+    command(rt, &["stn", "send", "t.log", "1", &free])?;
+    if fs::read(rt, "t.log")? != before {
+        bail!("t.log was saved");
+    }
     Ok(())
 }
 
@@ -172,6 +283,12 @@ fn main(rt: HostRuntime) -> Result<(), Error> {
     serve_broken(&rt, &listener)?;
     send(&rt, &listener)?;
     command(&rt, &["stn", "report", "u.log", "2"])?;
+    serve_requests(&rt, &listener)?;
+    send_refused(&rt, &listener)?;
+    serve_gone(&rt, &listener)?;
+    command(&rt, &["stn", "report", "t.log", "1"])?;
+    serve_unsaved(&rt, &listener)?;
+    reach_nothing(&rt, &listener)?;
     command(&rt, &["stn", "send", "u.log", "2", "nowhere"])?;
     command(&rt, &["stn", "serve", "t.log", "1", "nowhere", "1"])?;
     command(&rt, &["stn", "serve", "none.log", "1", "127.0.0.1:0", "1"])?;

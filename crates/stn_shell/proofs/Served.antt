@@ -8,25 +8,40 @@ use Rattle.stn_lift.specs.PlanSource.{PlanSource}
 use Rattle.stn_records.specs.Content.{Content}
 use Rattle.stn_session.specs.declared.session.Served.{Served}
 use Rattle.stn_session.specs.declared.session.ServeFault.{ServeFault}
-use Rattle.stn_shell.specs.Connections.{session_text, IsSessionBetween, AreSessionsBetween, Serves}
+use Rattle.stn_shell.specs.Store.{Saved}
+use Rattle.stn_shell.specs.Connections.{session_text, IsSavedSession, AreSessionsBetween, Serves}
 
 -- no session yet
-pub serves_none : (source : PlanSource) (state : Content) (known : Option (List ℕ)) → Serves 0 source state state known known
-serves_none source state known = record { answers = []; many = refl; sessions = refl; printed = Appends-nil known }
+pub serves_none : (source : PlanSource) (log : List ℕ) (state : Content) (saves : Option (List Saved)) (known : Option (List ℕ))
+    → Serves 0 source log state state saves saves known known
+serves_none source log state saves known = record { answers = []; many = refl; sessions = (refl, refl); printed = Appends-nil known }
 
 -- one session more
-sessions_more : (source : PlanSource) (first : Content) (answers : List (Result Served ServeFault)) (middle : Content) (answer : Result Served ServeFault) (last : Content)
-    → AreSessionsBetween source first answers middle → IsSessionBetween source middle answer last → AreSessionsBetween source first (answers ++ answer ∷ []) last
-sessions_more source first [] middle answer last none one = (last, subst (λ (state : Content). IsSessionBetween source state answer last) none one, refl)
-sessions_more source first (earlier ∷ answers) middle answer last all one = (all.0, all.1, sessions_more source all.0 answers middle answer last all.2 one)
+sessions_more : (source : PlanSource) (log : List ℕ) (first : Content) (old : Option (List Saved))
+    (answers : List (Result Served ServeFault))
+    (middle : Content) (between : Option (List Saved)) (answer : Result Served ServeFault) (last : Content) (new : Option (List Saved))
+    → AreSessionsBetween source log first old answers middle between → IsSavedSession source log middle between answer last new
+    → AreSessionsBetween source log first old (answers ++ answer ∷ []) last new
+sessions_more source log first old [] middle between answer last new none one = (
+  last,
+  new,
+  subst (λ (saves : Option (List Saved)). IsSavedSession source log first saves answer last new) none.1
+      (subst (λ (state : Content). IsSavedSession source log state between answer last new) none.0 one),
+  (refl, refl),
+)
+sessions_more source log first old (earlier ∷ answers) middle between answer last new all one =
+    (all.0, all.1, all.2, sessions_more source log all.0 all.1 answers middle between answer last new all.3 one)
 
-pub serves_more : (count : ℕ) (source here : PlanSource) (first middle last : Content) (old between new : Option (List ℕ)) (answer : Result Served ServeFault)
-    → Serves count source first middle old between → here ≡ source → IsSessionBetween here middle answer last → Appends between new (session_text answer)
-    → Serves (count + 1) source first last old new
-serves_more count source here first middle last old between new answer done same one told = record {
+pub serves_more : (count : ℕ) (source here : PlanSource) (log : List ℕ) (first middle last : Content)
+    (before saves after : Option (List Saved))
+    (old between new : Option (List ℕ)) (answer : Result Served ServeFault)
+    → Serves count source log first middle before saves old between → here ≡ source → IsSavedSession here log middle saves answer last after
+    → Appends between new (session_text answer) → Serves (count + 1) source log first last before after old new
+serves_more count source here log first middle last before saves after old between new answer done same one told = record {
   answers = done.answers ++ answer ∷ [];
   many = length-append done.answers (answer ∷ []) ∙ ap (λ (n : ℕ). n + 1) done.many;
-  sessions = sessions_more source first done.answers middle answer last done.sessions (subst (λ (plan : PlanSource). IsSessionBetween plan middle answer last) same one);
+  sessions = sessions_more source log first before done.answers middle saves answer last after done.sessions
+      (subst (λ (plan : PlanSource). IsSavedSession plan log middle saves answer last after) same one);
   printed = subst (Appends old new) (flat_map_more session_text [] done.answers answer)
       (Appends-trans old between new (flat_map session_text done.answers) (session_text answer) done.printed told);
 }

@@ -1,5 +1,5 @@
 -- Why a command ends: the number of each refusal, and the device of each fault.
-use Rattle.std.specs.Prelude.{ℕ}
+use Rattle.std.specs.Prelude.{ℕ, Option, Some, None}
 use Rattle.stn_time.specs.declared.reading.TimeFault.{TimeFault}
 use Rattle.stn_time.specs.declared.reading.TimeFault.TheVariants.{Malformed, TooFine, OutOfRange}
 use Rattle.stn_net.specs.declared.bound.BoundFault.{BoundFault}
@@ -26,6 +26,7 @@ use Rattle.stn_session.specs.declared.exchange.SendFault.{SendFault}
 use Rattle.stn_session.specs.declared.exchange.SendFault.TheVariants as send
 use Rattle.stn_session.specs.declared.exchange.ReplyFault.{ReplyFault}
 use Rattle.stn_session.specs.declared.exchange.ReplyFault.TheVariants as reply
+use Rattle.stn_exec.specs.BaseRefusals.{domain_code, domain_place, plan_code, plan_place, lift_code, lift_place}
 use Rattle.stn_shell.specs.declared.failure.Argument.TheVariants.{Nothing, Number, Name}
 use Rattle.stn_shell.specs.declared.failure.Failure.{Failure}
 use Rattle.stn_shell.specs.declared.failure.Failure.TheVariants.{Refused, Failed}
@@ -52,30 +53,22 @@ of_bound bound.NoEvent = refused 4
 of_bound bound.SameEvent = refused 5
 of_bound bound.Crossed = refused 6
 
+-- a refusal, and the line or the step that it names
+abbrev pub refused_by : ℕ → Option ℕ → Failure
+refused_by code None = refused code
+refused_by code (Some number) = refused_at code number
+
 abbrev pub of_domain : DomainFault → Failure
-of_domain domain.TooLong = refused 10
-of_domain (domain.Syntax line) = refused_at 11 line
-of_domain (domain.TooDeep line) = refused_at 12 line
-of_domain (domain.Unsupported line) = refused_at 13 line
-of_domain (domain.Number line) = refused_at 14 line
-of_domain (domain.Twice line) = refused_at 15 line
-of_domain (domain.Variable line) = refused_at 16 line
 of_domain domain.Memory = Failed Memory
+of_domain fault = refused_by (domain_code fault) (domain_place fault)
 
 abbrev pub of_plan : PlanFault → Failure
-of_plan plan.TooLong = refused 20
-of_plan (plan.Syntax line) = refused_at 21 line
-of_plan (plan.Number line) = refused_at 22 line
-of_plan (plan.Negative line) = refused_at 23 line
-of_plan plan.TooManySteps = refused 24
 of_plan plan.Memory = Failed Memory
+of_plan fault = refused_by (plan_code fault) (plan_place fault)
 
 abbrev pub of_lifting : LiftFault → Failure
-of_lifting (lifting.UnknownAction step) = refused_at 30 step
-of_lifting (lifting.Arity step) = refused_at 31 step
-of_lifting (lifting.DurationDiffers step) = refused_at 32 step
-of_lifting (lifting.PastHorizon step) = refused_at 33 step
 of_lifting lifting.Memory = Failed Memory
+of_lifting fault = refused_by (lift_code fault) (lift_place fault)
 
 abbrev pub of_base : BaseFault → Failure
 of_base (base.Domain fault) = of_domain fault

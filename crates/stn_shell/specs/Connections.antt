@@ -3,6 +3,7 @@ use Rattle.std.specs.Prelude.{◌≡◌, ℕ, List, [], ◌∷◌, ◌++◌, len
 use Rattle.std.specs.Io.KnownBytes.{Appends}
 use Rattle.stn_lift.specs.PlanSource.{PlanSource}
 use Rattle.stn_records.specs.Content.{Content}
+use Rattle.stn_shell.specs.Store.{Saved, saved_too}
 use Rattle.stn_session.specs.Session.{opening}
 use Rattle.stn_session.specs.Serving.{IsServed, IsBroken}
 use Rattle.stn_session.specs.Exchange.{IsReceived}
@@ -39,17 +40,26 @@ pub record IsSessionBetween (source : PlanSource) (first : Content) (answer : Re
   pub served : IfOk answer (IsServed (opening source first) before after old new last)
   pub broken : IfErr answer (IsBroken (opening source first) before after old new last)
 
--- sessions, each of which found what the one before it left
-abbrev pub AreSessionsBetween : PlanSource → Content → List (Result Served ServeFault) → Content → Type 0
-AreSessionsBetween source first [] last = last ≡ first
-AreSessionsBetween source first (answer ∷ answers) last =
-    (next : Content) × IsSessionBetween source first answer next × AreSessionsBetween source next answers last
+-- such a session, behind which the log was saved with the state that it left
+pub record IsSavedSession (source : PlanSource) (log : List ℕ) (first : Content) (old : Option (List Saved))
+    (answer : Result Served ServeFault) (last : Content) (new : Option (List Saved)) : Type 0 where
+  pub session : IsSessionBetween source first answer last
+  pub saved : new ≡ saved_too old log (record { source = source; state = last })
 
--- so many sessions, and their lines
-pub record Serves (count : ℕ) (source : PlanSource) (first last : Content) (old new : Option (List ℕ)) : Type 0 where
+-- sessions, each of which found what the one before it left
+abbrev pub AreSessionsBetween : PlanSource → List ℕ → Content → Option (List Saved) → List (Result Served ServeFault)
+    → Content → Option (List Saved) → Type 0
+AreSessionsBetween source log first old [] last new = (last ≡ first) × (new ≡ old)
+AreSessionsBetween source log first old (answer ∷ answers) last new =
+    (next : Content) × (saves : Option (List Saved)) × IsSavedSession source log first old answer next saves
+    × AreSessionsBetween source log next saves answers last new
+
+-- so many sessions, the log saved behind each, and their lines
+pub record Serves (count : ℕ) (source : PlanSource) (log : List ℕ) (first last : Content) (before after : Option (List Saved))
+    (old new : Option (List ℕ)) : Type 0 where
   pub answers : List (Result Served ServeFault)
   pub many : length answers ≡ count
-  pub sessions : AreSessionsBetween source first answers last
+  pub sessions : AreSessionsBetween source log first before answers last after
   pub printed : Appends old new (flat_map session_text answers)
 
 -- an exchange of a plan, over what some reader gave, that found one state, left another and was told a text

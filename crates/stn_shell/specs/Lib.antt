@@ -1,3 +1,5 @@
 pub mod Endings
 pub mod Causes
 pub mod Connections
+pub mod Store
+pub mod Commands

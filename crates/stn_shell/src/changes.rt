@@ -1,6 +1,6 @@
 //! What a command does to a replica, or asks of it, by its words.
 
-ghost use Rattle.std.specs.Prelude.{◌≡◌, ◌++◌, codes, [], ◌∷◌, List, ℕ, ◌≤◌, ◌⊎◌, Ok, Err, None, unwrap_or, OnOk, IfOk, IfErr, IfSome, neg_ℤ};
+ghost use Rattle.std.specs.Prelude.{◌≡◌, ◌≢◌, ◌++◌, codes, [], ◌∷◌, List, ℕ, ◌≤◌, ◌⊎◌, Ok, Err, None, unwrap_or, OnOk, IfOk, IfErr, IfSome, neg_ℤ};
 ghost use Rattle.stn_time.specs.Time.{horizon};
 ghost use Rattle.stn_time.specs.TimeOf.{time_of};
 ghost use Rattle.stn_time.specs.declared.reading.TimeFault.{TimeFault};
@@ -8,11 +8,12 @@ ghost use Rattle.stn_net.specs.Event.{event_text, most_events};
 ghost use Rattle.stn_records.specs.Id.{id_text, IsId, SiteCounter};
 ghost use Rattle.stn_replica.specs.Calls.{added, withdrew, took, Leaves};
 ghost use Rattle.stn_replica.specs.Held.{difference, plain, executed};
-ghost use Rattle.stn_replica.specs.Refusals.{add_refusal, done_refusal, withdraw_refusal};
+ghost use Rattle.stn_replica.specs.Refusals.{add_refusal, done_refusal, withdraw_refusal, take_refusal};
 ghost use Rattle.stn_replica.specs.Report.{IsReport};
 ghost use Rattle.stn_replica.specs.declared.faults.ReplicaFault.TheVariants as ReplicaFault;
 ghost use Rattle.stn_exec.specs.Dispatch.{IsNextText};
-ghost use Rattle.stn_shell.specs.Causes.{of_time, of_replica, no_such_word};
+ghost use Rattle.stn_shell.specs.Causes.{of_time, of_replica, no_such_word, other_plan};
+ghost use Rattle.stn_shell.specs.Commands.{IsSide};
 ghost use Rattle.stn_shell.specs.declared.failure.Failure.TheVariants.{Failed};
 ghost use Rattle.stn_shell.specs.declared.failure.Fault.TheVariants as lack;
 
@@ -58,8 +59,10 @@ pub fn read_time(word: &str) -> Result<Ms, Failure>
 
 /// The side of a bound that a word spells; the given one, where there is no word.
 pub fn read_side(word: Option<&str>, otherwise: Ms) -> Result<Ms, Failure>
+    ensures side { IfOk result (λ time. IsSide word.entry otherwise time) }
     ensures none { word.entry ≡ None → result ≡ Ok otherwise }
-    ensures some { IfSome word.entry (λ spelled. IfOk result (λ time. time_of spelled.now ≡ Ok time)) }
+    ensures refused { IfErr result (λ failure. IfSome word.entry (λ spelled.
+        (fault : TimeFault) × (time_of spelled.now ≡ Err fault) × (failure ≡ of_time fault))) }
 {
     match word {
         Some(word) => read_time(word),
@@ -138,6 +141,13 @@ pub fn merge<A: Allocator + Copy>(
     ensures same { OnOk result (replica.old.source ≡ other.now.source) }
     ensures left { OnOk result (Leaves replica.old (took other.now.state) replica.new) }
     ensures text { OnOk result (out.new.items ≡ out.old.items ++ (codes "merged" ++ 10 ∷ [])) }
+    ensures accepted { OnOk result (take_refusal replica.old other.now.state ≡ None) }
+
+    // The plans differ, or what the replica's own call says.
+    ensures refused { IfErr result (λ failure. (failure ≡ Failed lack.Memory)
+        ⊎ ((replica.old.source ≢ other.now.source) × (failure ≡ other_plan))
+        ⊎ ((replica.old.source ≡ other.now.source)
+        × (failure ≡ of_replica (unwrap_or (take_refusal replica.old other.now.state) ReplicaFault.Memory)))) }
 {
     if !replica.base().same(other.base()) {
         return Err(Failure::other_plan());
@@ -152,7 +162,9 @@ pub fn report<A: Allocator + Copy>(
     replica: &Replica<A>,
     out: &mut Vec<u8, A>,
 ) -> Result<(), Failure>
-    ensures { OnOk result ((text : List ℕ) × IsReport replica.now.source replica.now.state text × (out.new.items ≡ out.old.items ++ text)) }
+    ensures reported { OnOk result ((text : List ℕ) × IsReport replica.now.source replica.now.state text
+        × (out.new.items ≡ out.old.items ++ text)) }
+    ensures refused { IfErr result (λ failure. failure ≡ Failed lack.Memory) }
 {
     replica.report(out)?;
     Ok(())
@@ -164,8 +176,9 @@ pub fn next<A: Allocator + Copy>(
     now: Ms,
     out: &mut Vec<u8, A>,
 ) -> Result<(), Failure>
-    ensures { OnOk result ((text : List ℕ) × IsNextText replica.now.source replica.now.state now text
+    ensures told { OnOk result ((text : List ℕ) × IsNextText replica.now.source replica.now.state now text
         × (out.new.items ≡ out.old.items ++ text)) }
+    ensures refused { IfErr result (λ failure. failure ≡ Failed lack.Memory) }
 {
     append_next(replica, now, out)?;
     Ok(())

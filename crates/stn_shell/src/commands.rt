@@ -1,18 +1,21 @@
 //! One command, from its words to its status.
 
-ghost use Rattle.std.specs.Prelude.{◌≡◌, ◌≢◌, ◌<◌, ◌≤◌, ◌-◌, ◌^◌, ◌⊎◌, ◌++◌, [], ◌∷◌, map, codes, OnOk};
+ghost use Rattle.std.specs.Prelude.{◌≡◌, ◌≢◌, ◌<◌, ◌≤◌, ◌-◌, ◌^◌, ◌⊎◌, ◌++◌, [], ◌∷◌, List, ℕ, map, codes, OnOk, OnErr, IfOk};
 ghost use Rattle.std.specs.Io.KnownBytes.{Appends, Keeps};
 ghost use Rattle.clap.specs.Words.{fault_of};
 ghost use Rattle.stn_device.specs.Counted.{counted_device, failure_count};
+ghost use Rattle.stn_lift.specs.PlanSource.{plan_source, bare, files};
 ghost use Rattle.stn_line.specs.Commands.{stn as program};
+ghost use Rattle.stn_shell.specs.Commands.{IsAnswered, IsMade, IsAdded, IsWithdrawn, IsDone, IsMerged, IsReported, IsNextSaid};
 
 use crate::changes::{
     add, done, merge, next, open_sides, read_event, read_id, read_side, read_time, report, withdraw,
 };
 use crate::connections::{send_on, serve_on};
 use crate::failure::{Failure, Fault};
-use crate::files::{is_there, load_log, read_text, save_log};
+use crate::files::FileStore;
 use crate::printing::{print_now, tell_answer, tell_failure, tell_fault};
+use crate::store::Store;
 use std::alloc::Global;
 use std::io::{Read, Write};
 use std::net::{Net, TcpListener, TcpStream};
@@ -67,6 +70,7 @@ fn carry_out<
     requires out_counts { failure_count out.old < 2 ^ 64 - 1 }
     ensures { (result ≡ 0) ⊎ (result ≡ 1) }
 {
+    let mut store = FileStore::new(rt);
     match line {
         Line::Run => run_script(rt.alloc(), reader, out, err),
         Line::Serve {
@@ -74,11 +78,13 @@ fn carry_out<
             site,
             address,
             count,
-        } => serve_at(rt, *log, *site, *address, *count, out, err),
-        Line::Send { log, site, address } => send_to(rt, *log, *site, *address, out, err),
+        } => serve_at(rt, &mut store, *log, *site, *address, *count, out, err),
+        Line::Send { log, site, address } => {
+            send_to(rt, &mut store, *log, *site, *address, out, err)
+        }
         _ => {
             let mut text = Vec::new(rt.alloc());
-            match answer(rt, line, &mut text) {
+            match answer(rt.alloc(), &mut store, line, &mut text) {
                 Ok(()) => tell_answer(&text, out, err),
                 Err(failure) => tell_failure(rt.alloc(), failure, out, err),
             }
@@ -130,11 +136,13 @@ fn run_script<R: Read, W: Write, E: Write>(
 
 // Serves at an address.
 fn serve_at<
-    T: Files + AllocGlobal + Net<Listener = TcpListener, Stream = TcpStream>,
+    S: Store,
+    T: AllocGlobal + Net<Listener = TcpListener, Stream = TcpStream>,
     W: Write,
     E: Write,
 >(
     rt: &T,
+    store: &mut S,
     log: &str,
     site: Site,
     address: &str,
@@ -144,12 +152,13 @@ fn serve_at<
 ) -> u8
     ensures { (result ≡ 0) ⊎ (result ≡ 1) }
 {
-    match load_log(rt, log, site) {
+    let alloc = rt.alloc();
+    match store.load(log, site) {
         Ok(mut replica) => match listen(rt, address, out) {
-            Ok(listener) => serve_on(rt, &listener, count, log, &mut replica, out, err),
-            Err(failure) => tell_failure(rt.alloc(), failure, out, err),
+            Ok(listener) => serve_on(alloc, store, &listener, count, log, &mut replica, out, err),
+            Err(failure) => tell_failure(alloc, failure, out, err),
         },
-        Err(failure) => tell_failure(rt.alloc(), failure, out, err),
+        Err(failure) => tell_failure(alloc, failure, out, err),
     }
 }
 
@@ -159,7 +168,8 @@ fn listen<T: Net<Listener = TcpListener, Stream = TcpStream>, W: Write>(
     address: &str,
     out: &mut Counted<W>,
 ) -> Result<TcpListener, Failure>
-    ensures { OnOk result (Appends (W.contents (counted_device out.old)) (W.contents (counted_device out.new)) (codes "listening" ++ 10 ∷ [])) }
+    ensures { OnOk result (Appends (W.contents (counted_device out.old)) (W.contents (counted_device out.new))
+        (codes "listening" ++ 10 ∷ [])) }
 {
     match TcpListener::bind(rt, address) {
         Ok(listener) => {
@@ -172,35 +182,51 @@ fn listen<T: Net<Listener = TcpListener, Stream = TcpStream>, W: Write>(
 
 // Exchanges with the site that serves at an address.
 fn send_to<
-    T: Files + AllocGlobal + Net<Listener = TcpListener, Stream = TcpStream>,
+    S: Store,
+    T: AllocGlobal + Net<Listener = TcpListener, Stream = TcpStream>,
     W: Write,
     E: Write,
->(rt: &T, log: &str, site: Site, address: &str, out: &mut Counted<W>, err: &mut Counted<E>) -> u8
+>(
+    rt: &T,
+    store: &mut S,
+    log: &str,
+    site: Site,
+    address: &str,
+    out: &mut Counted<W>,
+    err: &mut Counted<E>,
+) -> u8
     ensures { (result ≡ 0) ⊎ (result ≡ 1) }
 {
-    match load_log(rt, log, site) {
+    let alloc = rt.alloc();
+    match store.load(log, site) {
         Ok(mut replica) => match TcpStream::connect(rt, address) {
-            Ok(stream) => send_on(rt, &stream, log, &mut replica, out, err),
+            Ok(stream) => send_on(alloc, store, &stream, log, &mut replica, out, err),
             Err(_) => tell_fault(Fault::Net, err),
         },
-        Err(failure) => tell_failure(rt.alloc(), failure, out, err),
+        Err(failure) => tell_failure(alloc, failure, out, err),
     }
 }
 
-// Does a command on a log, and appends its answer.
-fn answer<T: Files + AllocGlobal>(
-    rt: &T,
+/// Does a command of a log, and appends its answer. Where it is refused or a device fails, nothing was saved.
+pub fn answer<S: Store>(
+    alloc: Global,
+    store: &mut S,
     line: &Line<'_>,
     out: &mut Vec<u8>,
-) -> Result<(), Failure> {
+) -> Result<(), Failure>
+    ensures done { OnOk result ((text : List ℕ)
+        × IsAnswered (S.says store.old) (S.spells store.old) (S.saves store.old) (S.saves store.new) line.now text
+        × (out.new.items ≡ out.old.items ++ text)) }
+    ensures unsaved { OnErr result (S.saves store.new ≡ S.saves store.old) }
+{
     match line {
-        Line::Bare { log, site, steps } => make_bare(rt, *log, *site, *steps, out),
+        Line::Bare { log, site, steps } => make_bare(alloc, store, *log, *site, *steps, out),
         Line::Init {
             log,
             site,
             domain,
             plan,
-        } => make_of_files(rt, *log, *site, *domain, *plan, out),
+        } => make_of_files(alloc, store, *log, *site, *domain, *plan, out),
         Line::Add {
             log,
             site,
@@ -208,67 +234,84 @@ fn answer<T: Files + AllocGlobal>(
             to,
             lo,
             hi,
-        } => add_to(rt, *log, *site, *from, *to, *lo, *hi, out),
-        Line::Withdraw { log, site, id } => withdraw_from(rt, *log, *site, *id, out),
+        } => add_to(store, *log, *site, *from, *to, *lo, *hi, out),
+        Line::Withdraw { log, site, id } => withdraw_from(store, *log, *site, *id, out),
         Line::Done {
             log,
             site,
             event,
             time,
-        } => done_at(rt, *log, *site, *event, *time, out),
-        Line::Merge { log, site, other } => merge_with(rt, *log, *site, *other, out),
-        Line::Report { log, site } => report_of(rt, *log, *site, out),
-        Line::Next { log, site, now } => next_of(rt, *log, *site, *now, out),
+        } => done_at(store, *log, *site, *event, *time, out),
+        Line::Merge { log, site, other } => merge_with(store, *log, *site, *other, out),
+        Line::Report { log, site } => report_of(store, *log, *site, out),
+        Line::Next { log, site, now } => next_of(store, *log, *site, *now, out),
         _ => Err(Failure::Failed(Fault::Net)),
     }
 }
 
 // Makes the log of a source, where none is there.
-fn make<T: Files + AllocGlobal>(
-    rt: &T,
+fn make<S: Store>(
+    alloc: Global,
+    store: &mut S,
     log: &str,
     site: Site,
     source: &Source<Global>,
     out: &mut Vec<u8>,
-) -> Result<(), Failure> {
-    let base = Base::from_source(rt.alloc(), source)?;
-    let base = Rc::new(rt.alloc(), base)?;
-    let replica = Replica::new(rt.alloc(), site, base)?;
+) -> Result<(), Failure>
+    ensures done { OnOk result ((text : List ℕ) × IsMade (S.saves store.old) (S.saves store.new) log.now (plan_source source.now) text
+        × (out.new.items ≡ out.old.items ++ text)) }
+    ensures unsaved { OnErr result (S.saves store.new ≡ S.saves store.old) }
+{
+    let base = Base::from_source(alloc, source)?;
+    let base = Rc::new(alloc, base)?;
+    let replica = Replica::new(alloc, site, base)?;
     out.extend_from_slice(b"made\n")?;
-    save_log(rt, log, &replica)
+    store.save(log, &replica)
 }
 
-fn make_bare<T: Files + AllocGlobal>(
-    rt: &T,
+fn make_bare<S: Store>(
+    alloc: Global,
+    store: &mut S,
     log: &str,
     site: Site,
     steps: u16,
     out: &mut Vec<u8>,
-) -> Result<(), Failure> {
-    if is_there(rt, log) {
+) -> Result<(), Failure>
+    ensures done { OnOk result ((text : List ℕ) × IsMade (S.saves store.old) (S.saves store.new) log.now (bare steps) text
+        × (out.new.items ≡ out.old.items ++ text)) }
+    ensures unsaved { OnErr result (S.saves store.new ≡ S.saves store.old) }
+{
+    if store.is_there(log) {
         return Err(Failure::log_there());
     }
-    make(rt, log, site, &Source::Bare(steps), out)
+    make(alloc, store, log, site, &Source::Bare(steps), out)
 }
 
-fn make_of_files<T: Files + AllocGlobal>(
-    rt: &T,
+fn make_of_files<S: Store>(
+    alloc: Global,
+    store: &mut S,
     log: &str,
     site: Site,
     domain: &str,
     plan: &str,
     out: &mut Vec<u8>,
-) -> Result<(), Failure> {
-    if is_there(rt, log) {
+) -> Result<(), Failure>
+    ensures done { OnOk result ((text : List ℕ) × (actions : List ℕ) × (steps : List ℕ)
+        × S.spells store.old domain.now actions × S.spells store.old plan.now steps
+        × IsMade (S.saves store.old) (S.saves store.new) log.now (files actions steps) text
+        × (out.new.items ≡ out.old.items ++ text)) }
+    ensures unsaved { OnErr result (S.saves store.new ≡ S.saves store.old) }
+{
+    if store.is_there(log) {
         return Err(Failure::log_there());
     }
-    let domain = read_text(rt, domain)?;
-    let plan = read_text(rt, plan)?;
-    make(rt, log, site, &Source::Files(domain, plan), out)
+    let domain = store.text(domain)?;
+    let plan = store.text(plan)?;
+    make(alloc, store, log, site, &Source::Files(domain, plan), out)
 }
 
-fn add_to<T: Files + AllocGlobal>(
-    rt: &T,
+fn add_to<S: Store>(
+    store: &mut S,
     log: &str,
     site: Site,
     from: &str,
@@ -276,76 +319,106 @@ fn add_to<T: Files + AllocGlobal>(
     lo: Option<&str>,
     hi: Option<&str>,
     out: &mut Vec<u8>,
-) -> Result<(), Failure> {
+) -> Result<(), Failure>
+    ensures done { OnOk result ((text : List ℕ)
+        × IsAdded (S.says store.old) (S.saves store.old) (S.saves store.new) log.now site from.now to.now lo.entry hi.entry text
+        × (out.new.items ≡ out.old.items ++ text)) }
+    ensures unsaved { OnErr result (S.saves store.new ≡ S.saves store.old) }
+{
     let from = read_event(from)?;
     let to = read_event(to)?;
     let (least, greatest) = open_sides();
     let lo = read_side(lo, least)?;
     let hi = read_side(hi, greatest)?;
-    let mut replica = load_log(rt, log, site)?;
+    let mut replica = store.load(log, site)?;
     add(&mut replica, from, to, lo, hi, out)?;
-    save_log(rt, log, &replica)
+    store.save(log, &replica)
 }
 
-fn withdraw_from<T: Files + AllocGlobal>(
-    rt: &T,
+fn withdraw_from<S: Store>(
+    store: &mut S,
     log: &str,
     site: Site,
     id: &str,
     out: &mut Vec<u8>,
-) -> Result<(), Failure> {
+) -> Result<(), Failure>
+    ensures done { OnOk result ((text : List ℕ)
+        × IsWithdrawn (S.says store.old) (S.saves store.old) (S.saves store.new) log.now site id.now text
+        × (out.new.items ≡ out.old.items ++ text)) }
+    ensures unsaved { OnErr result (S.saves store.new ≡ S.saves store.old) }
+{
     let id = read_id(id)?;
-    let mut replica = load_log(rt, log, site)?;
+    let mut replica = store.load(log, site)?;
     withdraw(&mut replica, id, out)?;
-    save_log(rt, log, &replica)
+    store.save(log, &replica)
 }
 
-fn done_at<T: Files + AllocGlobal>(
-    rt: &T,
+fn done_at<S: Store>(
+    store: &mut S,
     log: &str,
     site: Site,
     event: &str,
     time: &str,
     out: &mut Vec<u8>,
-) -> Result<(), Failure> {
+) -> Result<(), Failure>
+    ensures done { OnOk result ((text : List ℕ)
+        × IsDone (S.says store.old) (S.saves store.old) (S.saves store.new) log.now site event.now time.now text
+        × (out.new.items ≡ out.old.items ++ text)) }
+    ensures unsaved { OnErr result (S.saves store.new ≡ S.saves store.old) }
+{
     let event = read_event(event)?;
     let time = read_time(time)?;
-    let mut replica = load_log(rt, log, site)?;
+    let mut replica = store.load(log, site)?;
     done(&mut replica, event, time, out)?;
-    save_log(rt, log, &replica)
+    store.save(log, &replica)
 }
 
-fn merge_with<T: Files + AllocGlobal>(
-    rt: &T,
+fn merge_with<S: Store>(
+    store: &mut S,
     log: &str,
     site: Site,
     other: &str,
     out: &mut Vec<u8>,
-) -> Result<(), Failure> {
-    let mut replica = load_log(rt, log, site)?;
-    let other = load_log(rt, other, site)?;
+) -> Result<(), Failure>
+    ensures done { OnOk result ((text : List ℕ)
+        × IsMerged (S.says store.old) (S.saves store.old) (S.saves store.new) log.now site other.now text
+        × (out.new.items ≡ out.old.items ++ text)) }
+    ensures unsaved { OnErr result (S.saves store.new ≡ S.saves store.old) }
+{
+    let mut replica = store.load(log, site)?;
+    let other = store.load(other, site)?;
     merge(&mut replica, &other, out)?;
-    save_log(rt, log, &replica)
+    store.save(log, &replica)
 }
 
-fn report_of<T: Files + AllocGlobal>(
-    rt: &T,
+fn report_of<S: Store>(
+    store: &mut S,
     log: &str,
     site: Site,
     out: &mut Vec<u8>,
-) -> Result<(), Failure> {
-    let replica = load_log(rt, log, site)?;
+) -> Result<(), Failure>
+    ensures done { OnOk result ((text : List ℕ)
+        × IsReported (S.says store.old) (S.saves store.old) (S.saves store.new) log.now text
+        × (out.new.items ≡ out.old.items ++ text)) }
+    ensures unsaved { OnErr result (S.saves store.new ≡ S.saves store.old) }
+{
+    let replica = store.load(log, site)?;
     report(&replica, out)
 }
 
-fn next_of<T: Files + AllocGlobal>(
-    rt: &T,
+fn next_of<S: Store>(
+    store: &mut S,
     log: &str,
     site: Site,
     now: &str,
     out: &mut Vec<u8>,
-) -> Result<(), Failure> {
+) -> Result<(), Failure>
+    ensures done { OnOk result ((text : List ℕ)
+        × IsNextSaid (S.says store.old) (S.saves store.old) (S.saves store.new) log.now now.now text
+        × (out.new.items ≡ out.old.items ++ text)) }
+    ensures unsaved { OnErr result (S.saves store.new ≡ S.saves store.old) }
+{
     let now = read_time(now)?;
-    let replica = load_log(rt, log, site)?;
+    let replica = store.load(log, site)?;
     next(&replica, now, out)
 }

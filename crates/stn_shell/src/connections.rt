@@ -1,20 +1,21 @@
 //! Sessions and exchanges over connections.
 
-ghost use Rattle.std.specs.Prelude.{◌≡◌, ◌⊎◌, ◌++◌, List, ℕ, Result, IfOk, OnOk};
+ghost use Rattle.std.specs.Prelude.{◌≡◌, ◌⊎◌, ◌++◌, List, ℕ, Result, IfOk, OnOk, OnErr};
 ghost use Rattle.std.specs.Io.KnownBytes.{Appends, Keeps};
 ghost use Rattle.stn_device.specs.Counted.{counted_device};
-ghost use Rattle.stn_shell.specs.Connections.{end_text, fault_word, session_text, IsSessionBetween, Serves, Exchanges};
+ghost use Rattle.stn_log.specs.Log.{log_held};
+ghost use Rattle.stn_shell.specs.Store.{saved_too};
+ghost use Rattle.stn_shell.specs.Connections.{end_text, fault_word, session_text, IsSessionBetween, IsSavedSession, Serves, Exchanges};
 ghost use Rattle.stn_session.specs.declared.session.Served.{Served as ServedView};
 ghost use Rattle.stn_session.specs.declared.session.ServeFault.{ServeFault as ServeFaultView};
 
 use crate::failure::{Failure, Fault};
-use crate::files::save_log;
 use crate::printing::{print_now, tell_answer, tell_failure};
+use crate::store::Store;
 use itoa::Buffer;
 use std::alloc::{Allocator, Global};
 use std::io::Write;
 use std::net::{TcpListener, TcpStream};
-use std::rt::Files;
 use stn_device::Counted;
 use stn_replica::Replica;
 use stn_session::{End, ServeFault, Served, receive_replies, send_requests, serve};
@@ -23,8 +24,9 @@ use stn_time::Memory;
 /// Serves `count` connections, one after another: each session ends by itself alone, however it ends, and then the log is saved
 /// and a line is printed. Status 0. Where no connection comes any more, the log can't be saved or the line can't be printed, the
 /// fault is printed and the status is 1.
-pub fn serve_on<T: Files + AllocGlobal, W: Write, E: Write>(
-    rt: &T,
+pub fn serve_on<S: Store, W: Write, E: Write>(
+    alloc: Global,
+    store: &mut S,
     listener: &TcpListener,
     count: u16,
     log: &str,
@@ -34,39 +36,41 @@ pub fn serve_on<T: Files + AllocGlobal, W: Write, E: Write>(
 ) -> u8
     ensures status { (result ≡ 0) ⊎ (result ≡ 1) }
 
-    // A line for each of `count` sessions, which led the replica one after the other to what it is.
-    ensures served { result ≡ 0 → Serves count replica.old.source replica.old.state replica.new.state
+    // A line for each of `count` sessions, which led the replica one after the other to what it is, the log saved behind each.
+    ensures served { result ≡ 0 → Serves count replica.old.source log.now replica.old.state replica.new.state
+        (S.saves store.old) (S.saves store.new)
         (W.contents (counted_device out.old)) (W.contents (counted_device out.new)) }
     ensures silent { result ≡ 0 → Keeps (E.contents (counted_device err.old)) (E.contents (counted_device err.new)) }
     ensures source { replica.new.source ≡ replica.old.source }
 {
     'connections: for _ in 0..count {
-        match serve_next(rt, listener, log, replica, out) {
+        match serve_next(alloc, store, listener, log, replica, out) {
             Ok(()) => {}
-            Err(failure) => return tell_failure(rt.alloc(), failure, out, err),
+            Err(failure) => return tell_failure(alloc, failure, out, err),
         }
     }
     0
 }
 
 // Serves the next connection, saves the log, and prints how the session ended.
-fn serve_next<T: Files + AllocGlobal, W: Write>(
-    rt: &T,
+fn serve_next<S: Store, W: Write>(
+    alloc: Global,
+    store: &mut S,
     listener: &TcpListener,
     log: &str,
     replica: &mut Replica<Global>,
     out: &mut Counted<W>,
 ) -> Result<(), Failure>
     ensures served { OnOk result ((answer : Result ServedView ServeFaultView)
-        × IsSessionBetween replica.old.source replica.old.state answer replica.new.state
+        × IsSavedSession replica.old.source log.now replica.old.state (S.saves store.old) answer replica.new.state (S.saves store.new)
         × Appends (W.contents (counted_device out.old)) (W.contents (counted_device out.new)) (session_text answer)) }
     ensures source { replica.new.source ≡ replica.old.source }
 {
     match listener.accept() {
         Ok((stream, _)) => {
-            let session = serve_stream(rt.alloc(), &stream, replica);
-            save_log(rt, log, replica)?;
-            print_session(rt.alloc(), session, out)
+            let session = serve_stream(alloc, &stream, replica);
+            store.save(log, replica)?;
+            print_session(alloc, session, out)
         }
         Err(_) => Err(Failure::Failed(Fault::Net)),
     }
@@ -150,8 +154,9 @@ fn word_of(fault: ServeFault) -> &'static [u8]
 
 /// Sends over a connection what a replica holds, takes in what the other site replies, saves the log, and prints the text that
 /// came. Status 0. A refusal or a fault is printed, the status is 1, and nothing is saved.
-pub fn send_on<T: Files + AllocGlobal, W: Write, E: Write>(
-    rt: &T,
+pub fn send_on<S: Store, W: Write, E: Write>(
+    alloc: Global,
+    store: &mut S,
     stream: &TcpStream,
     log: &str,
     replica: &mut Replica<Global>,
@@ -163,29 +168,33 @@ pub fn send_on<T: Files + AllocGlobal, W: Write, E: Write>(
     // The text of the replies, whose records led the replica to what it is.
     ensures told { result ≡ 0 → (text : List ℕ) × Exchanges replica.old.source replica.old.state replica.new.state text
         × Appends (W.contents (counted_device out.old)) (W.contents (counted_device out.new)) text }
+    ensures saved { result ≡ 0 → S.saves store.new ≡ saved_too (S.saves store.old) log.now (log_held replica.new) }
     ensures silent { result ≡ 0 → Keeps (E.contents (counted_device err.old)) (E.contents (counted_device err.new)) }
     ensures source { replica.new.source ≡ replica.old.source }
 {
-    match exchange(rt, stream, log, replica) {
+    match exchange(alloc, store, stream, log, replica) {
         Ok(text) => tell_answer(&text, out, err),
-        Err(failure) => tell_failure(rt.alloc(), failure, out, err),
+        Err(failure) => tell_failure(alloc, failure, out, err),
     }
 }
 
 // Sends, takes in, and saves the log: the text that came.
-fn exchange<T: Files + AllocGlobal>(
-    rt: &T,
+fn exchange<S: Store>(
+    alloc: Global,
+    store: &mut S,
     stream: &TcpStream,
     log: &str,
     replica: &mut Replica<Global>,
 ) -> Result<Vec<u8>, Failure>
+    ensures saved { OnOk result (S.saves store.new ≡ saved_too (S.saves store.old) log.now (log_held replica.new)) }
+    ensures unsaved { OnErr result (S.saves store.new ≡ S.saves store.old) }
     ensures exchanged { IfOk result (λ text. Exchanges replica.old.source replica.old.state replica.new.state text.items) }
     ensures source { replica.new.source ≡ replica.old.source }
 {
     let mut writer = Counted::new(stream);
     let mut reader = Counted::new(stream);
-    send_requests(rt.alloc(), replica, &mut writer)?;
-    let text = receive_replies(rt.alloc(), &mut reader, replica)?;
-    save_log(rt, log, replica)?;
+    send_requests(alloc, replica, &mut writer)?;
+    let text = receive_replies(alloc, &mut reader, replica)?;
+    store.save(log, replica)?;
     Ok(text)
 }

@@ -1,6 +1,7 @@
 //! Logs and texts as files.
 
 use crate::failure::{Failure, Fault};
+use crate::store::Store;
 use std::alloc::Global;
 use std::fs;
 use std::io::Read;
@@ -13,45 +14,69 @@ use stn_replica::Replica;
 /// How many bytes of a domain or a plan are read at most: one more than a text may have.
 const MOST_TEXT_READ: usize = 65_537;
 
-/// Whether a file can be opened.
-pub fn is_there<T: Files>(rt: &T, path: &str) -> bool {
-    fs::open(rt, path).is_ok()
+/// Files, each under its path.
+#[derive(Drop)]
+pub struct FileStore<'a, T> {
+    rt: &'a T,
+}
+
+impl<'a, T> FileStore<'a, T> {
+    /// The files of a runtime.
+    pub fn new(rt: &'a T) -> FileStore<'a, T> {
+        FileStore { rt }
+    }
+}
+
+// What files hold is known to no clause.
+impl<T: Files + AllocGlobal> Store for FileStore<'_, T> {
+    ghost use Rattle.std.specs.Prelude.{None, ⊤};
+
+    ghost saves = { λ _. None };
+
+    ghost says = { λ _ _ _. ⊤ };
+
+    ghost spells = { λ _ _ _. ⊤ };
+
+    fn is_there(&self, path: &str) -> bool {
+        fs::open(self.rt, path).is_ok()
+    }
+
+    fn load(&self, path: &str, site: Site) -> Result<Replica<Global>, Failure> {
+        let mut reader = Counted::new(open(self.rt, path)?);
+        Ok(load(self.rt.alloc(), &mut reader, site)?)
+    }
+
+    fn text(&self, path: &str) -> Result<Vec<u8>, Failure> {
+        let mut reader = Counted::new(open(self.rt, path)?.take(MOST_TEXT_READ as u64));
+        match read_whole(self.rt.alloc(), &mut reader, MOST_TEXT_READ) {
+            Ok(text) => Ok(text),
+            Err(ReadFault::Read) => Err(Failure::Failed(Fault::Read)),
+            Err(ReadFault::Bound) => Err(Failure::Failed(Fault::Bound)),
+            Err(ReadFault::Memory) => Err(Failure::Failed(Fault::Memory)),
+        }
+    }
+
+    // The log is written beside the old one, and renamed over it.
+    fn save(&mut self, path: &str, replica: &Replica<Global>) -> Result<(), Failure> {
+        let beside = beside(self.rt.alloc(), path)?;
+        if let Err(failure) = write_log(self.rt, &beside, replica) {
+            let _ = fs::remove_file(self.rt, &beside);
+            return Err(failure);
+        }
+        match fs::rename(self.rt, &beside, path) {
+            Ok(()) => Ok(()),
+            Err(_) => {
+                let _ = fs::remove_file(self.rt, &beside);
+                Err(Failure::Failed(Fault::File))
+            }
+        }
+    }
 }
 
 fn open<T: Files>(rt: &T, path: &str) -> Result<T::File, Failure> {
     match fs::open(rt, path) {
         Ok(file) => Ok(file),
         Err(_) => Err(Failure::Failed(Fault::File)),
-    }
-}
-
-/// The replica of a site by its log.
-pub fn load_log<T: Files + AllocGlobal>(
-    rt: &T,
-    path: &str,
-    site: Site,
-) -> Result<Replica<Global>, Failure> {
-    let mut reader = Counted::new(open(rt, path)?);
-    Ok(load(rt.alloc(), &mut reader, site)?)
-}
-
-/// Saves a replica: its log is written beside the old one, and renamed over it. Where it can't be, the old one stays.
-pub fn save_log<T: Files + AllocGlobal>(
-    rt: &T,
-    path: &str,
-    replica: &Replica<Global>,
-) -> Result<(), Failure> {
-    let beside = beside(rt.alloc(), path)?;
-    if let Err(failure) = write_log(rt, &beside, replica) {
-        let _ = fs::remove_file(rt, &beside);
-        return Err(failure);
-    }
-    match fs::rename(rt, &beside, path) {
-        Ok(()) => Ok(()),
-        Err(_) => {
-            let _ = fs::remove_file(rt, &beside);
-            Err(Failure::Failed(Fault::File))
-        }
     }
 }
 
@@ -74,16 +99,5 @@ fn write_log<T: Files + AllocGlobal>(
             Ok(save(rt.alloc(), replica, &mut writer)?)
         }
         Err(_) => Err(Failure::Failed(Fault::File)),
-    }
-}
-
-/// The text of a domain or a plan; of a longer one so much that it shows.
-pub fn read_text<T: Files + AllocGlobal>(rt: &T, path: &str) -> Result<Vec<u8>, Failure> {
-    let mut reader = Counted::new(open(rt, path)?.take(MOST_TEXT_READ as u64));
-    match read_whole(rt.alloc(), &mut reader, MOST_TEXT_READ) {
-        Ok(text) => Ok(text),
-        Err(ReadFault::Read) => Err(Failure::Failed(Fault::Read)),
-        Err(ReadFault::Bound) => Err(Failure::Failed(Fault::Bound)),
-        Err(ReadFault::Memory) => Err(Failure::Failed(Fault::Memory)),
     }
 }

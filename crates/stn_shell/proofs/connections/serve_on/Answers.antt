@@ -4,7 +4,7 @@ use Rattle.stn_shell.proofs.Served.{serves_none, serves_more}
 use Rattle.stn_shell.proofs.connections.serve_on.Goals as goal
 
 pub connections-init : goal.connections-init
-connections-init g c = record { served = serves_none _ _ _; silent = Keeps-refl _; source = refl }
+connections-init g c = record { served = serves_none _ _ _ _ _; silent = Keeps-refl _; source = refl }
 
 pub returns-in-Err-clause-source : goal.returns-in-Err-clause-source
 returns-in-Err-clause-source g c = c.in-Err.ensures.source ∙ c.connections.invariant.source
@@ -14,7 +14,7 @@ connections-preserved g c =
     let i = c.connections.invariant in
     let one = c.in-Ok.ensures.served in
     record {
-      served = serves_more _ _ _ _ _ _ _ _ _ one.0 i.served i.source one.1 one.2;
+      served = serves_more _ _ _ _ _ _ _ _ _ _ _ _ _ one.0 i.served i.source one.1 one.2;
       silent = i.silent;
       source = c.in-Ok.ensures.source ∙ i.source;
     }

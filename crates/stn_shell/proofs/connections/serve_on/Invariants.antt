@@ -6,7 +6,8 @@ use Rattle.stn_shell.proofs.connections.serve_on.Given as goal
 
 abbrev pub invariant-connections : goal.invariant-connections
 invariant-connections g l = record {
-  served : Serves l.counter l.fn.replica.source l.fn.replica.state l.replica.state
+  served : Serves l.counter l.fn.replica.source l.fn.log l.fn.replica.state l.replica.state
+      (g.S.Store.saves l.fn.store) (g.S.Store.saves l.store)
       (g.W.Write.contents (counted_device l.fn.out)) (g.W.Write.contents (counted_device l.out));
   silent : Keeps (g.E.Write.contents (counted_device l.fn.err)) (g.E.Write.contents (counted_device l.err));
   source : l.replica.source ≡ l.fn.replica.source;
