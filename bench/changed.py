@@ -1,0 +1,203 @@
+#!/usr/bin/env python3
+"""Prints what the program changed_bytes is to print, by the formats alone (docs/FORMATS.md).
+
+usage: bench/changed.py < crates/changed_bytes/stdin > crates/changed_bytes/stdout
+
+A frame is read, is less than a frame, or has a fault: 50, 51 or 52. A log is read or refused.
+"""
+import sys
+
+HORIZON = 1_000_000_000
+MOST_BODY = 262_144
+MOST_IDS = 4096
+HELLO, RECORDS, TEXT, REFUSED = 1, 2, 4, 5
+
+
+class Fault(Exception):
+    """A refusal, with its code."""
+
+    def __init__(self, code):
+        super().__init__(code)
+        self.code = code
+
+
+class Reader:
+    """The numbers of a body, one after the other."""
+
+    def __init__(self, data):
+        self.data = data
+        self.at = 0
+
+    def take(self, count):
+        if len(self.data) - self.at < count:
+            raise Fault(52)
+        taken = self.data[self.at : self.at + count]
+        self.at += count
+        return taken
+
+    def number(self, count):
+        return int.from_bytes(self.take(count), "big")
+
+    def end(self):
+        if self.at != len(self.data):
+            raise Fault(52)
+
+
+def rule(holds):
+    if not holds:
+        raise Fault(52)
+
+
+def an_id(reader):
+    site, counter = reader.number(2), reader.number(2)
+    rule(1 <= site <= 64 and counter >= 1)
+    return site, counter
+
+
+def a_record(reader):
+    mark, start, to, lo, hi = (reader.number(count) for count in (1, 2, 2, 4, 4))
+    rule(mark <= 1 and start <= 512 and to <= 512 and start != to)
+    rule(lo <= hi <= 2 * HORIZON)
+    rule(mark == 0 or (start == 0 and lo == hi))
+    return mark, start, to, lo, hi
+
+
+def records_of(reader):
+    added, last = {}, (0, 0)
+    for _ in range(reader.number(2)):
+        one = an_id(reader)
+        rule(last < one)
+        added[one] = a_record(reader)
+        last = one
+    withdrawn, last = set(), (0, 0)
+    for _ in range(reader.number(2)):
+        one = an_id(reader)
+        rule(last < one)
+        withdrawn.add(one)
+        last = one
+    rule(len(withdrawn | added.keys()) <= MOST_IDS)
+    return added, withdrawn
+
+
+def source_of(reader):
+    form = reader.number(1)
+    rule(form <= 1)
+    if form == 0:
+        return reader.number(2)
+    domain = reader.take(reader.number(4))
+    return domain, reader.take(reader.number(4))
+
+
+def content_of(body):
+    reader = Reader(body)
+    kind = reader.number(1)
+    if kind == HELLO:
+        content = source_of(reader)
+    elif kind == RECORDS:
+        content = records_of(reader)
+    elif kind == TEXT:
+        content = reader.take(len(body) - 1)
+    elif kind == REFUSED:
+        content = reader.number(1)
+    else:
+        content = None
+    reader.end()
+    return kind, content
+
+
+def frame_of(data):
+    """The kind, the content and the length of the frame in front; None where the bytes are less than a frame."""
+    if len(data) < 4:
+        return None
+    length = int.from_bytes(data[:4], "big")
+    if not 1 <= length <= MOST_BODY:
+        raise Fault(50)
+    if len(data) < 5:
+        return None
+    if not 1 <= data[4] <= 6:
+        raise Fault(51)
+    if len(data) < 4 + length:
+        return None
+    return content_of(data[4 : 4 + length]) + (4 + length,)
+
+
+class Replica:
+    """What a site holds over a bare plan, made from its source."""
+
+    def __init__(self, source):
+        if source > 256:
+            raise Fault(34)
+        self.steps = source
+        self.added = {}
+        self.withdrawn = set()
+
+    def take(self, added, withdrawn):
+        if any(max(record[1], record[2]) > 2 * self.steps for record in added.values()):
+            raise Fault(4)
+        if any(self.added.get(one, record) != record for one, record in added.items()):
+            raise Fault(40)
+        known = self.added.keys() | self.withdrawn | added.keys() | withdrawn
+        if len(known) > MOST_IDS:
+            raise Fault(41)
+        self.added.update(added)
+        self.withdrawn |= withdrawn
+
+
+def frame_case(data):
+    try:
+        return "unfinished" if frame_of(data) is None else "read"
+    except Fault as fault:
+        return str(fault.code)
+
+
+def load(data):
+    """The replica of a log."""
+    replica = None
+    while data or replica is None:
+        frame = frame_of(data)
+        if frame is None:
+            raise Fault(62)
+        kind, content, length = frame
+        if kind != (HELLO if replica is None else RECORDS):
+            raise Fault(62)
+        if replica is None:
+            replica = Replica(content)
+        else:
+            replica.take(*content)
+        data = data[length:]
+    return replica
+
+
+def log_case(data):
+    try:
+        load(data)
+        return "read"
+    except Fault as fault:
+        return str(fault.code)
+
+
+def print_cases(head, cases):
+    runs = []
+    for at, case in enumerate(cases):
+        if runs and runs[-1][2] == case:
+            runs[-1][1] = at
+        else:
+            runs.append([at, at, case])
+    spans = (f"{first}-{last} {case}" if first < last else f"{first} {case}" for first, last, case in runs)
+    print(f"{head}: {', '.join(spans)}")
+
+
+def print_row(name, data, case_of):
+    print_cases(f"{name} cut to", [case_of(data[:length]) for length in range(len(data) + 1)])
+    for place in range(len(data)):
+        cases = [case_of(data[:place] + bytes([value]) + data[place + 1 :]) for value in range(256)]
+        print_cases(f"{name} byte {place}", cases)
+
+
+def main():
+    for line in sys.stdin:
+        name, kind, data = line.split()
+        print_row(name, bytes.fromhex(data), frame_case if kind == "frame" else log_case)
+
+
+main()
