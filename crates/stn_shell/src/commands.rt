@@ -281,7 +281,7 @@ fn make_bare<S: Store>(
         × (out.new.items ≡ out.old.items ++ text)) }
     ensures unsaved { OnErr result (S.saves store.new ≡ S.saves store.old) }
 {
-    if store.is_there(log) {
+    if store.is_there(log)? {
         return Err(Failure::log_there());
     }
     make(alloc, store, log, site, &Source::Bare(steps), out)
@@ -302,7 +302,7 @@ fn make_of_files<S: Store>(
         × (out.new.items ≡ out.old.items ++ text)) }
     ensures unsaved { OnErr result (S.saves store.new ≡ S.saves store.old) }
 {
-    if store.is_there(log) {
+    if store.is_there(log)? {
         return Err(Failure::log_there());
     }
     let domain = store.text(domain)?;

@@ -3,8 +3,8 @@
 use crate::failure::{Failure, Fault};
 use crate::store::Store;
 use std::alloc::Global;
-use std::fs;
-use std::io::Read;
+use std::fs::{self, OpenFile};
+use std::io::{ErrorKind, Read};
 use std::rt::Files;
 use stn_device::{Counted, ReadFault, read_whole};
 use stn_log::{load, save};
@@ -37,8 +37,15 @@ impl<T: Files + AllocGlobal> Store for FileStore<'_, T> {
 
     ghost spells = { λ _ _ _. ⊤ };
 
-    fn is_there(&self, path: &str) -> bool {
-        fs::open(self.rt, path).is_ok()
+    // What is there and can't be opened is not taken for a free name.
+    fn is_there(&self, path: &str) -> Result<bool, Failure> {
+        match fs::open(self.rt, path) {
+            Ok(_) => Ok(true),
+            Err(error) => match error.kind() {
+                ErrorKind::NotFound => Ok(false),
+                _ => Err(Failure::Failed(Fault::File)),
+            },
+        }
     }
 
     fn load(&self, path: &str, site: Site) -> Result<Replica<Global>, Failure> {
@@ -87,7 +94,7 @@ fn beside(alloc: Global, path: &str) -> Result<String, Failure> {
     Ok(name)
 }
 
-// Writes the log of a replica as a file.
+// Writes the log of a replica as a file, and waits until the device has it.
 fn write_log<T: Files + AllocGlobal>(
     rt: &T,
     path: &str,
@@ -96,7 +103,11 @@ fn write_log<T: Files + AllocGlobal>(
     match fs::create(rt, path) {
         Ok(file) => {
             let mut writer = Counted::new(file);
-            Ok(save(rt.alloc(), replica, &mut writer)?)
+            save(rt.alloc(), replica, &mut writer)?;
+            match writer.into_inner().sync_all() {
+                Ok(()) => Ok(()),
+                Err(_) => Err(Failure::Failed(Fault::Write)),
+            }
         }
         Err(_) => Err(Failure::Failed(Fault::File)),
     }

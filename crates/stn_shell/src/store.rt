@@ -21,7 +21,7 @@ pub trait Store {
     ghost spells: { Self → List ℕ → List ℕ → Type 0 };
 
     /// Whether something of the name is there.
-    fn is_there(&self, name: &str) -> bool;
+    fn is_there(&self, name: &str) -> Result<bool, Failure>;
 
     /// The replica of a site by its log.
     fn load(&self, name: &str, site: Site) -> Result<Replica<Global>, Failure>
