@@ -10,8 +10,8 @@ use Rattle.stn_lift.specs.PlanSource.{PlanSource}
 use Rattle.stn_records.specs.Content.{Content}
 use Rattle.stn_wire.specs.Frame.{FrameContent, content, text, spelling, IsFrame}
 use Rattle.stn_wire.specs.declared.frame.Frame.{Frame}
-use Rattle.stn_session.specs.Stream.{pending}
-use Rattle.stn_session.specs.declared.stream.FrameReader.{FrameReader}
+use Rattle.stn_stream.specs.Stream.{pending, read_count}
+use Rattle.stn_stream.specs.declared.reader.FrameReader.{FrameReader}
 use Rattle.stn_session.specs.Exchange.{Stage, greeting, telling, told, failed, Reception, at_stage, expecting, told_by, staged, replied, IsWaiting, IsLost, IsReceived, Finds, seen}
 use Rattle.stn_session.specs.declared.exchange.ReplyFault.{ReplyFault}
 use Rattle.stn_session.specs.declared.exchange.ReplyFault.TheVariants.{Memory}
@@ -127,23 +127,23 @@ lost source first before after rest taken stage state p waits fault is = record 
 
 -- ---- one frame more of the reader
 module _ {A : Type 0} (source : PlanSource) (first : Content) (before mid after : Option (List ℕ)) (old new : FrameReader A) (stage : Stage) (state : Content)
-    (p : Came source first before mid (pending old) old.taken stage state) where
+    (p : Came source first before mid (pending old) (read_count old) stage state) where
   pub next_lost : IsWaiting stage → (fault : ReplyFault) → Finds old new mid after (Err fault) → IsReceived source first before after state (Err fault)
-  next_lost waits fault f = lost source first before after _ _ stage state (read_on source first before mid (pending old) old.taken stage state p after f.bytes f.consumed) waits fault f.found
+  next_lost waits fault f = lost source first before after _ _ stage state (read_on source first before mid (pending old) (read_count old) stage state p after f.bytes f.consumed) waits fault f.found
 
   module _ (frame : Frame A) (f : Finds old new mid after (Ok frame)) where
-    pub next_came : (next : Stage) (left : Content) → staged source stage state (content frame) ≡ at_stage next left → Came source first before after (pending new) new.taken next left
+    pub next_came : (next : Stage) (left : Content) → staged source stage state (content frame) ≡ at_stage next left → Came source first before after (pending new) (read_count new) next left
     next_came next left leads =
-        frame_came source first before after (pending old ++ f.bytes) (old.taken + length f.bytes) stage state (read_on source first before mid (pending old) old.taken stage state p after f.bytes f.consumed)
-        (content frame) (pending new) f.found.0 f.found.1 new.taken f.found.3 next left leads
+        frame_came source first before after (pending old ++ f.bytes) (read_count old + length f.bytes) stage state (read_on source first before mid (pending old) (read_count old) stage state p after f.bytes f.consumed)
+        (content frame) (pending new) f.found.0 f.found.1 (read_count new) f.found.3 next left leads
 
     pub next_refused : (fault : ReplyFault) → staged source stage state (content frame) ≡ at_stage (failed fault) state → IsReceived source first before after state (Err fault)
-    next_refused fault leads = refusal_came source first before after (pending new) new.taken fault state (next_came (failed fault) state leads)
+    next_refused fault leads = refusal_came source first before after (pending new) (read_count new) fault state (next_came (failed fault) state leads)
 
     -- want of memory: the frame is not taken
     pub next_kept : IsWaiting stage → IsReceived source first before after state (Err Memory)
     next_kept waits =
-        lost source first before after _ _ stage state (read_on source first before mid (pending old) old.taken stage state p after f.bytes f.consumed) waits Memory
+        lost source first before after _ _ stage state (read_on source first before mid (pending old) (read_count old) stage state p after f.bytes f.consumed) waits Memory
         (omega (arith, f.found.3, f.found.2.few))
 
     pub next_taken : IsWaiting stage → (now : Content) → now ≡ state → (fault : ReplyFault) → (fault ≡ Memory) ⊎ (staged source stage state (content frame) ≡ at_stage (failed fault) state)
@@ -153,10 +153,10 @@ module _ {A : Type 0} (source : PlanSource) (first : Content) (before mid after 
         (⊎_elim (λ is. subst (λ e. IsReceived source first before after state (Err e)) (sym is) (next_kept waits)) (next_refused fault) why)
 
 pub text_answered : {A T : Type 0} (source : PlanSource) (first : Content) (before mid after : Option (List ℕ)) (old new : FrameReader A) (state : Content)
-    → Came source first before mid (pending old) old.taken telling state → (frame : Frame A) → Finds old new mid after (Ok frame)
+    → Came source first before mid (pending old) (read_count old) telling state → (frame : Frame A) → Finds old new mid after (Ok frame)
     → (view : T → List ℕ) (answer : Result T ReplyFault) → IfOk answer (λ given. content frame ≡ text (view given))
     → IfErr answer (λ fault. (s : Content) → told_by s (content frame) ≡ at_stage (failed fault) s) → IsReceived source first before after state (seen view answer)
 text_answered source first before mid after old new state p frame f view (Ok given) is why =
-    text_came source first before after (pending new) new.taken (view given) state
+    text_came source first before after (pending new) (read_count new) (view given) state
     (next_came source first before mid after old new telling state p frame f (told (view given)) state (ap (told_by state) is))
 text_answered source first before mid after old new state p frame f view (Err fault) is why = next_refused source first before mid after old new telling state p frame f fault (why state)

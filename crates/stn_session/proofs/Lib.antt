@@ -1,4 +1,3 @@
-pub mod Streams
 pub mod Frames
 pub mod Sessions
 pub mod Exchanges

@@ -11,17 +11,17 @@ use Rattle.stn_lift.specs.PlanSource.{PlanSource}
 use Rattle.stn_records.specs.Content.{Content}
 use Rattle.stn_wire.specs.Frame.{FrameContent, spelling, refused, IsFrame}
 use Rattle.stn_wire.specs.Front.{IsFront, faulty, unfinished}
-use Rattle.stn_session.specs.Stream.{wire_fault, frame_code, IsNext, IsCounted}
+use Rattle.stn_stream.specs.Stream.{wire_fault, frame_code, IsNext, IsCounted}
 use Rattle.stn_session.specs.Session.{Reply, said, Session, answer, opening, followed, advanced, broken_off}
 use Rattle.stn_session.specs.Serving.{IsReplyBytes, AreReplies, WritesReplies, Reaches, IsServed, GoesOn, IsBroken}
-use Rattle.stn_session.specs.declared.stream.FrameFault.{FrameFault}
+use Rattle.stn_stream.specs.declared.fault.FrameFault.{FrameFault}
 use Rattle.stn_session.specs.declared.session.End.TheVariants.{Closed, Cut, Refused}
 use Rattle.stn_session.specs.Turns.{Wrote, WroteRefused, serve_fault}
 use Rattle.stn_session.specs.declared.session.ServeFault.{ServeFault}
 use Rattle.stn_session.specs.declared.session.ServeFault.TheVariants.{Read, Write, Bound, Memory}
-use Rattle.stn_session.specs.declared.stream.FrameReader.{FrameReader}
-use Rattle.stn_session.specs.declared.stream.StreamFault.{StreamFault}
-use Rattle.stn_session.specs.declared.stream.StreamFault.TheVariants as stream
+use Rattle.stn_stream.specs.declared.reader.FrameReader.{FrameReader}
+use Rattle.stn_stream.specs.declared.fault.StreamFault.{StreamFault}
+use Rattle.stn_stream.specs.declared.fault.StreamFault.TheVariants as stream
 
 -- ---- replies, one after the other
 pub replies_more : (first : List Reply) (done : List ℕ) (reply : Reply) (bytes : List ℕ) → AreReplies first done → IsReplyBytes reply bytes → AreReplies (first ++ reply ∷ []) (done ++ bytes)
@@ -60,10 +60,6 @@ reaches_more first bytes session rest more r = record {
   cut = ap (λ l. l ++ more) r.cut ∙ append_assoc (flat_map spelling r.frames) rest more;
   talked = r.talked;
 }
-
--- a spelling has some bytes
-pub spelling_some : (frame : FrameContent) → 0 < length (spelling frame)
-spelling_some frame = omega arith
 
 -- ---- how far a session has come
 pub record Progress (first : Session) (before after old new : Option (List ℕ)) (rest : List ℕ) (taken : ℕ) (source : PlanSource) (state : Content) (greeted : Bool) (count : ℕ) : Type 0 where
@@ -350,14 +346,3 @@ module _ (first : Session) (before after old new : Option (List ℕ)) (rest : Li
     frame_fails Memory wrote = ⊎_elim (λ same. frame_kept wrote.0 same) (λ left. frame_taken wrote.0 left) wrote.1
     frame_fails Read none = absurd none
     frame_fails Bound none = absurd none
-
--- ---- how many bytes and frames there can be
-module _ (rest more later : List ℕ) (frame : FrameContent) (front : rest ++ more ≡ spelling frame ++ later) (taken then : ℕ) (then_is : then ≡ taken + length more) where
-  lengths : length rest + length more ≡ length (spelling frame) + length later
-  lengths = omega (arith, length-append rest more, length-append (spelling frame) later, ap length front)
-
-  pub count_fits : (count : ℕ) → count + length rest ≤ taken → count + 1 + length later ≤ then
-  count_fits count fits = omega (arith, fits, lengths, then_is, spelling_some frame)
-
-  pub measure_falls : then ≤ 16777216 → 16777216 + length later - then < 16777216 + length rest - taken
-  measure_falls few = omega (arith, few, lengths, then_is, spelling_some frame)

@@ -11,10 +11,10 @@ use Rattle.stn_wire.specs.declared.frame.Frame as wire
 use Rattle.stn_wire.specs.Frame.{FrameContent, content, hello, records, ask, text, refused, same, spelling, IsFrame}
 use Rattle.stn_wire.specs.Front.{IsFront, faulty, unfinished}
 use Rattle.stn_session.specs.Session.{holding_state}
-use Rattle.stn_session.specs.Stream.{wire_fault, pending, IsReading}
-use Rattle.stn_session.specs.declared.stream.FrameReader.{FrameReader}
-use Rattle.stn_session.specs.declared.stream.StreamFault.{StreamFault}
-use Rattle.stn_session.specs.declared.stream.StreamFault.TheVariants as stream
+use Rattle.stn_stream.specs.Stream.{wire_fault, pending, read_count, IsReading}
+use Rattle.stn_stream.specs.declared.reader.FrameReader.{FrameReader}
+use Rattle.stn_stream.specs.declared.fault.StreamFault.{StreamFault}
+use Rattle.stn_stream.specs.declared.fault.StreamFault.TheVariants as stream
 use Rattle.stn_session.specs.declared.exchange.ReplyFault.{ReplyFault}
 use Rattle.stn_session.specs.declared.exchange.ReplyFault.TheVariants.{Refused, Frame, Reply, Replica, Read, Bound, Memory}
 
@@ -127,14 +127,14 @@ pub record IsReceived (source : PlanSource) (first : Content) (before after : Op
 
 -- the next frame of the bytes, behind which the rest is pending; or why there is none
 abbrev pub IsFound : {A : Type 0} → List ℕ → ℕ → FrameReader A → Option (List ℕ) → Result (wire.Frame A) ReplyFault → Type 0
-IsFound bytes many new after (Ok frame) = IsFrame (content frame) × (bytes ≡ spelling (content frame) ++ pending new) × IsReading new × (new.taken ≡ many)
+IsFound bytes many new after (Ok frame) = IsFrame (content frame) × (bytes ≡ spelling (content frame) ++ pending new) × IsReading new × (read_count new ≡ many)
 IsFound bytes many new after (Err fault) = IsLost bytes many after fault
 
 -- the bytes that were read for it
 pub record Finds {A : Type 0} (old new : FrameReader A) (before after : Option (List ℕ)) (answer : Result (wire.Frame A) ReplyFault) : Type 0 where
   pub bytes : List ℕ
   pub consumed : Consumes before after bytes
-  pub found : IsFound (pending old ++ bytes) (old.taken + length bytes) new after answer
+  pub found : IsFound (pending old ++ bytes) (read_count old + length bytes) new after answer
 
 -- a fault of the stream is one of the replies
 abbrev pub reply_fault : StreamFault → ReplyFault

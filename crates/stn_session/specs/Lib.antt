@@ -1,4 +1,3 @@
-pub mod Stream
 pub mod Session
 pub mod Serving
 pub mod Turns

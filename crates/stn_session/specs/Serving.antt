@@ -7,9 +7,9 @@ use Rattle.stn_records.specs.Content.{Content}
 use Rattle.stn_replica.specs.Report.{IsReport}
 use Rattle.stn_wire.specs.Frame.{FrameContent, text, spelling, IsFrame}
 use Rattle.stn_wire.specs.Front.{IsFront, faulty, unfinished}
-use Rattle.stn_session.specs.Stream.{wire_fault, frame_code}
+use Rattle.stn_stream.specs.Stream.{wire_fault, frame_code}
 use Rattle.stn_session.specs.Session.{Reply, said, reported, Session, advanced, talked, broken_off}
-use Rattle.stn_session.specs.declared.stream.FrameFault.{FrameFault}
+use Rattle.stn_stream.specs.declared.fault.FrameFault.{FrameFault}
 use Rattle.stn_session.specs.declared.session.End.{End}
 use Rattle.stn_session.specs.declared.session.End.TheVariants.{Closed, Cut, Refused}
 use Rattle.stn_session.specs.declared.session.Served.{Served}

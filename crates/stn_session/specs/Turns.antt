@@ -11,8 +11,8 @@ use Rattle.stn_session.specs.declared.session.End.{End}
 use Rattle.stn_session.specs.declared.session.End.TheVariants.{Closed, Cut, Refused}
 use Rattle.stn_session.specs.declared.session.ServeFault.{ServeFault}
 use Rattle.stn_session.specs.declared.session.ServeFault.TheVariants as serve
-use Rattle.stn_session.specs.declared.stream.StreamFault.{StreamFault}
-use Rattle.stn_session.specs.declared.stream.StreamFault.TheVariants as stream
+use Rattle.stn_stream.specs.declared.fault.StreamFault.{StreamFault}
+use Rattle.stn_stream.specs.declared.fault.StreamFault.TheVariants as stream
 
 -- the answer's state is left, its reply's bytes were appended, and the turn says the rest
 pub record IsAnswered (answer : Answer) (state : Content) (old new : List ℕ) (turn : Turn) : Type 0 where

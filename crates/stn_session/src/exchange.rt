@@ -6,18 +6,18 @@ ghost use Rattle.stn_device.specs.Counted.{counted_device, failure_count, Counts
 ghost use Rattle.stn_lift.specs.PlanSource.{PlanSource};
 ghost use Rattle.stn_records.specs.Content.{Content};
 ghost use Rattle.stn_wire.specs.Frame.{content, same, records, text};
-ghost use Rattle.stn_session.specs.Stream.{IsReading};
+ghost use Rattle.stn_stream.specs.Stream.{IsReading};
 ghost use Rattle.stn_session.specs.Exchange.{request_bytes, at_stage, telling, failed, greeted_by, handed, told_by, reply_fault, Finds, IsReceived, seen};
 ghost use Rattle.stn_session.specs.declared.exchange.SendFault.TheVariants as send;
 ghost use Rattle.stn_session.specs.declared.exchange.ReplyFault.TheVariants.{Read, Memory};
 
 use crate::replies::{append_ask, append_hello, append_state};
-use crate::stream::{FrameFault, FrameReader, Next, StreamFault};
 use std::alloc::{AllocError, Allocator};
 use std::io::{Read, Write};
 use stn_device::{Counted, WriteFault, write_whole};
 use stn_records::Records;
 use stn_replica::{Replica, ReplicaFault};
+use stn_stream::{FrameFault, FrameReader, Next, StreamFault};
 use stn_wire::Frame;
 use thiserror::Error;
 

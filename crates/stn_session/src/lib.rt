@@ -6,10 +6,9 @@ pub use exchange::{ReplyFault, SendFault, receive_replies, send_requests};
 pub use laws::one_session;
 pub use session::{End, ServeFault, Served, serve};
 pub use stn_device::{Counted, MOST_BYTES};
-pub use stream::FrameFault;
+pub use stn_stream::FrameFault;
 
 mod exchange;
 mod laws;
 mod replies;
 mod session;
-mod stream;

@@ -7,11 +7,11 @@ ghost use Rattle.stn_session.specs.Turns.{Wrote, WroteRefused, IsInputEnd, serve
 ghost use Rattle.stn_session.specs.declared.session.ServeFault.TheVariants.{Read, Write, Memory};
 
 use crate::replies::{Turn, append_refused, reply_to};
-use crate::stream::{FrameReader, Next, StreamFault};
 use std::alloc::{AllocError, Allocator};
 use std::io::{Read, Write};
 use stn_device::{Counted, WriteFault, write_whole};
 use stn_replica::Replica;
+use stn_stream::{FrameReader, Next, StreamFault};
 use stn_wire::Frame;
 use thiserror::Error;
 

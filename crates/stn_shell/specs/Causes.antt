@@ -21,7 +21,7 @@ use Rattle.stn_log.specs.declared.fault.LoadFault.{LoadFault}
 use Rattle.stn_log.specs.declared.fault.LoadFault.TheVariants as load
 use Rattle.stn_log.specs.declared.fault.SaveFault.{SaveFault}
 use Rattle.stn_log.specs.declared.fault.SaveFault.TheVariants as save
-use Rattle.stn_session.specs.Stream.{frame_code}
+use Rattle.stn_stream.specs.Stream.{frame_code}
 use Rattle.stn_session.specs.declared.exchange.SendFault.{SendFault}
 use Rattle.stn_session.specs.declared.exchange.SendFault.TheVariants as send
 use Rattle.stn_session.specs.declared.exchange.ReplyFault.{ReplyFault}

@@ -1,14 +1,15 @@
 use Rattle.std.proofs.Common.{refl, sym, ◌∙◌, arith}
 use Rattle.std.proofs.lemmas.Result.{err_from_is_err_and}
 use Rattle.stn_wire.specs.Frame.{content}
-use Rattle.stn_session.specs.Stream.{pending}
-use Rattle.stn_session.proofs.Sessions.{begun, closes, cuts, stream_fails, refuses, refusal_fails, frame_fails, frame_answered, frame_ends, count_fits, measure_falls}
+use Rattle.stn_stream.specs.Stream.{pending, read_count}
+use Rattle.stn_session.proofs.Sessions.{begun, closes, cuts, stream_fails, refuses, refusal_fails, frame_fails, frame_answered, frame_ends}
+use Rattle.stn_stream.proofs.Streams.{count_fits, measure_falls}
 use Rattle.stn_session.proofs.session.serve.Goals as goal
 
 pub frames-init : goal.frames-init
 frames-init g c = record {
   reading = c.new-frames.ensures.reading;
-  progress = begun c.args.replica.now.source c.args.replica.now.state _ _ (pending c.new-frames.result) c.new-frames.result.taken c.new-frames.ensures.pending c.new-frames.ensures.taken;
+  progress = begun c.args.replica.now.source c.args.replica.now.state _ _ (pending c.new-frames.result) (read_count c.new-frames.result) c.new-frames.ensures.pending c.new-frames.ensures.count;
   source = refl;
   few = omega (arith, c.new-frames.ensures.reading.counted);
   reader_kept = refl;
@@ -32,7 +33,7 @@ returns-in_err-turn-in-Frame-clause-broken g c =
 pub frames-smaller : goal.frames-smaller
 frames-smaller g c =
     let gave = rw c.in-Frame.is at c.in_ok-frame.ensures.gives in
-    measure_falls (pending c.frames.frames) gave.bytes (pending c.next.new.self) (content c.in-Frame.frame) gave.next.1 c.frames.frames.taken c.next.new.self.taken gave.counted.0 gave.next.2.few
+    measure_falls (pending c.frames.frames) gave.bytes (pending c.next.new.self) (content c.in-Frame.frame) gave.next.1 (read_count c.frames.frames) (read_count c.next.new.self) gave.counted.0 gave.next.2.few
 
 pub frames-preserved : goal.frames-preserved
 frames-preserved g c =
@@ -43,9 +44,9 @@ frames-preserved g c =
       reading = gave.next.2;
       progress = frame_answered _ _ _ _ _ _ _ _ _ _ _ i.progress _ gave.bytes gave.consumed gave.counted.1 (content c.in-Frame.frame) (pending c.next.new.self) gave.next.0 gave.next.1 _
           c.answer_frame.new.replica.state wrote.0 wrote.1 wrote.3 wrote.2 c.in_ok-turn-in-Frame.turn.greeted wrote.4 (sym wrote.5 ∙ c.in-None.is)
-          c.next.new.self.taken gave.counted.0 c.answer_frame.new.replica.source c.in_ok-turn-in-Frame.ensures.source;
+          (read_count c.next.new.self) gave.counted.0 c.answer_frame.new.replica.source c.in_ok-turn-in-Frame.ensures.source;
       source = c.in_ok-turn-in-Frame.ensures.source ∙ i.source;
-      few = count_fits (pending c.frames.frames) gave.bytes (pending c.next.new.self) (content c.in-Frame.frame) gave.next.1 c.frames.frames.taken c.next.new.self.taken gave.counted.0 c.frames.count i.few;
+      few = count_fits (pending c.frames.frames) gave.bytes (pending c.next.new.self) (content c.in-Frame.frame) gave.next.1 (read_count c.frames.frames) (read_count c.next.new.self) gave.counted.0 c.frames.count i.few;
       reader_kept = c.in_ok-frame.ensures.kept (λ e. cc) ∙ i.reader_kept;
       writer_kept = c.in_ok-turn-in-Frame.ensures.kept (λ e. cc) ∙ i.writer_kept;
     }

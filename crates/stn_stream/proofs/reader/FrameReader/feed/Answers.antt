@@ -1,7 +1,7 @@
 use Rattle.std.proofs.Common.{◌+◌, ◌-◌, length, take, drop, refl, ap, ◌∙◌}
 use Rattle.std.proofs.lemmas.List.{take_rest}
-use Rattle.stn_session.proofs.Streams.{fed_is}
-use Rattle.stn_session.proofs.stream.FrameReader.feed.Goals as goal
+use Rattle.stn_stream.proofs.Streams.{fed_is}
+use Rattle.stn_stream.proofs.reader.FrameReader.feed.Goals as goal
 
 pub returns-clause-fed : goal.returns-clause-fed
 returns-clause-fed g c =

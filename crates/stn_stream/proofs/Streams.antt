@@ -1,5 +1,5 @@
 -- Frames that are cut off the bytes of a reader, piece by piece.
-use Rattle.std.proofs.Common.{◌≡◌, ℕ, ◌+◌, ◌≤◌, Bool, true, false, List, [], ◌∷◌, ◌++◌, length, drop, Option, Some, None, Ok, Err, sym, ap, subst, ◌∙◌, arith, append_assoc, append-nil, length-append, take-append-drop, drop-drop}
+use Rattle.std.proofs.Common.{◌≡◌, ℕ, ◌+◌, ◌-◌, ◌<◌, ◌≤◌, Bool, true, false, List, [], ◌∷◌, ◌++◌, length, drop, Option, Some, None, Ok, Err, sym, ap, subst, ◌∙◌, arith, append_assoc, append-nil, length-append, take-append-drop, drop-drop}
 use Rattle.std.proofs.Math.Seq.{drop-append-add}
 use Rattle.std.proofs.KnownBytes.{Consumes-trans}
 use Rattle.std.proofs.lemmas.List.{drop_all}
@@ -8,10 +8,10 @@ use Rattle.stn_wire.specs.Feeder.{FeederState, IsTaken}
 use Rattle.stn_wire.specs.Frame.{FrameContent, content, spelling}
 use Rattle.stn_wire.specs.Front.{IsFront, whole, unfinished}
 use Rattle.stn_wire.specs.declared.frame.Frame.{Frame}
-use Rattle.stn_session.specs.Stream.{pending, behind, IsFed, IsFilled, Gives}
-use Rattle.stn_session.specs.declared.stream.FrameReader.{FrameReader}
-use Rattle.stn_session.specs.declared.stream.StreamFault.{StreamFault}
-use Rattle.stn_session.specs.declared.stream.StreamFault.TheVariants.{Read, Bound, Memory}
+use Rattle.stn_stream.specs.Stream.{pending, behind, IsFed, IsFilled, Gives}
+use Rattle.stn_stream.specs.declared.reader.FrameReader.{FrameReader}
+use Rattle.stn_stream.specs.declared.fault.StreamFault.{StreamFault}
+use Rattle.stn_stream.specs.declared.fault.StreamFault.TheVariants.{Read, Bound, Memory}
 
 -- a frame was taken, and what stands behind it is pending
 frame_taken : (held rest : List ℕ) (used : ℕ) (frame : FrameContent) → IsFront (held ++ rest) (whole frame (length held + used)) → held ++ rest ≡ spelling frame ++ drop used rest
@@ -70,3 +70,18 @@ module _ {A : Type 0} (first mid new : FrameReader A) (a b c : Option (List ℕ)
     next = tt;
     counted = omega (arith, h.2, taken, length-append bytes h.0);
   }
+
+-- a spelling has some bytes
+pub spelling_some : (frame : FrameContent) → 0 < length (spelling frame)
+spelling_some frame = omega arith
+
+-- how many bytes and frames there can be
+module _ (rest more later : List ℕ) (frame : FrameContent) (front : rest ++ more ≡ spelling frame ++ later) (taken then : ℕ) (then_is : then ≡ taken + length more) where
+  lengths : length rest + length more ≡ length (spelling frame) + length later
+  lengths = omega (arith, length-append rest more, length-append (spelling frame) later, ap length front)
+
+  pub count_fits : (count : ℕ) → count + length rest ≤ taken → count + 1 + length later ≤ then
+  count_fits count fits = omega (arith, fits, lengths, then_is, spelling_some frame)
+
+  pub measure_falls : then ≤ 16777216 → 16777216 + length later - then < 16777216 + length rest - taken
+  measure_falls few = omega (arith, few, lengths, then_is, spelling_some frame)

@@ -1,8 +1,8 @@
 use Rattle.std.proofs.Common.{◌≡◌, ◌+◌, ◌-◌, List, ℕ, ◌++◌, length}
 use Rattle.std.specs.Io.KnownBytes.{Consumes}
 use Rattle.stn_device.specs.Counted.{counted_device, KeepsCount}
-use Rattle.stn_session.specs.Stream.{pending, IsReading}
-use Rattle.stn_session.proofs.stream.FrameReader.next.Given as goal
+use Rattle.stn_stream.specs.Stream.{pending, IsReading}
+use Rattle.stn_stream.proofs.reader.FrameReader.next.Given as goal
 
 abbrev pub invariant-pieces : goal.invariant-pieces
 invariant-pieces g l = record {

@@ -1,8 +1,8 @@
 use Rattle.std.proofs.Common.{sym, subst, ◌∙◌}
 use Rattle.std.proofs.lemmas.Result.{err_from_is_err_and}
 use Rattle.stn_wire.specs.Front.{IsFront, unfinished}
-use Rattle.stn_session.proofs.Streams.{filled_more, fill_fails}
-use Rattle.stn_session.proofs.stream.FrameReader.next.Goals as goal
+use Rattle.stn_stream.proofs.Streams.{filled_more, fill_fails}
+use Rattle.stn_stream.proofs.reader.FrameReader.next.Goals as goal
 
 pub returns-in_err-more-clause-gives : goal.returns-in_err-more-clause-gives
 returns-in_err-more-clause-gives g c =

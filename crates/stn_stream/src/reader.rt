@@ -2,49 +2,22 @@
 ghost use Rattle.std.specs.Prelude.{◌≡◌, ◌≢◌, ◌⊎◌, ◌<◌, length, [], false, Ok, Err, IfOk, IfErr, OnOk, OnErr, IsErrOf};
 ghost use Rattle.std.specs.Io.KnownBytes.{Consumes, IsAtEnd};
 ghost use Rattle.stn_device.specs.Counted.{counted_device, CountsFailure, KeepsCount};
-ghost use Rattle.stn_session.specs.Stream.{pending, behind, frame_code, IsReading, IsFed, IsFilled, IsBeyond, Gives};
-ghost use Rattle.stn_session.specs.declared.stream.Next.TheVariants.{Closed, Cut};
-ghost use Rattle.stn_session.specs.declared.stream.StreamFault.TheVariants.{Read, Memory};
+ghost use Rattle.stn_stream.specs.Stream.{pending, behind, read_count, IsReading, IsFed, IsFilled, IsBeyond, Gives};
+ghost use Rattle.stn_stream.specs.declared.reader.Next.TheVariants.{Closed, Cut};
+ghost use Rattle.stn_stream.specs.declared.fault.StreamFault.TheVariants.{Read};
 
-use std::alloc::{AllocError, Allocator};
+use crate::fault::{FrameFault, StreamFault};
+use std::alloc::Allocator;
 use std::io::Read;
 use stn_device::{Counted, MOST_BYTES};
 use stn_wire::{Feeder, Frame, WireFault};
-use thiserror::Error;
 
 // How many bytes one call of the reader is asked for at most.
 const PIECE: usize = 4096;
 
-/// Why bytes begin no frame.
-#[derive(Clone, Copy, Debug, PartialEq, Eq, Hash, Error)]
-pub enum FrameFault {
-    /// The length of a body lies outside 1 to 262,144.
-    #[error("a frame of a wrong length")]
-    Length,
-    /// There is no frame of this kind.
-    #[error("a frame of no kind")]
-    Kind,
-    /// The body breaks a rule of its kind.
-    #[error("a frame whose body breaks a rule")]
-    Body,
-}
-
-impl FrameFault {
-    /// The code of the fault: 50, 51 or 52.
-    pub fn code(self) -> u8
-        ensures { result ≡ frame_code self }
-    {
-        match self {
-            FrameFault::Length => 50,
-            FrameFault::Kind => 51,
-            FrameFault::Body => 52,
-        }
-    }
-}
-
 /// What comes next in a stream.
 #[derive(Debug, Drop)]
-pub(crate) enum Next<A: Allocator> {
+pub enum Next<A: Allocator> {
     /// A frame.
     Frame(Frame<A>),
     /// Bytes that begin no frame.
@@ -55,28 +28,9 @@ pub(crate) enum Next<A: Allocator> {
     Cut,
 }
 
-/// Why nothing more comes of a stream.
-#[derive(Clone, Copy, Debug, PartialEq, Eq, Hash)]
-pub(crate) enum StreamFault {
-    /// A call of the reader failed.
-    Read,
-    /// The stream has more than `MOST_BYTES` bytes.
-    Bound,
-    /// Memory was refused.
-    Memory,
-}
-
-impl From<AllocError> for StreamFault {
-    ghost from_gives = { λ _ fault. fault ≡ Memory };
-
-    fn from(_refused: AllocError) -> StreamFault {
-        StreamFault::Memory
-    }
-}
-
 /// The frames of a reader.
 #[derive(Debug, Drop)]
-pub(crate) struct FrameReader<A: Allocator> {
+pub struct FrameReader<A: Allocator> {
     feeder: Feeder<A>,
     // What was read last, and from where on it was not taken yet.
     piece: Vec<u8, A>,
@@ -87,10 +41,10 @@ pub(crate) struct FrameReader<A: Allocator> {
 
 impl<A: Allocator + Copy> FrameReader<A> {
     /// Nothing is read yet.
-    pub(crate) fn new(alloc: A) -> FrameReader<A>
+    pub fn new(alloc: A) -> FrameReader<A>
         ensures reading { IsReading result }
         ensures pending { pending result ≡ [] }
-        ensures taken { result.taken ≡ 0 }
+        ensures count { read_count result ≡ 0 }
     {
         FrameReader {
             feeder: Feeder::new(alloc),
@@ -101,7 +55,7 @@ impl<A: Allocator + Copy> FrameReader<A> {
     }
 
     /// What comes next. It asks the reader for more only where no whole frame is left of what was read.
-    pub(crate) fn next<R: Read>(&mut self, reader: &mut Counted<R>) -> Result<Next<A>, StreamFault>
+    pub fn next<R: Read>(&mut self, reader: &mut Counted<R>) -> Result<Next<A>, StreamFault>
         requires { IsReading self.old }
         ensures gives { Gives self.old self.new (R.remaining (counted_device reader.old)) (R.remaining (counted_device reader.new)) result }
         ensures closed { result ≡ Ok Closed → IsAtEnd (R.remaining (counted_device reader.new)) }

@@ -7,13 +7,13 @@ use Rattle.stn_wire.specs.Front.{IsFront, faulty, unfinished}
 use Rattle.stn_wire.specs.declared.fault.WireFault.{WireFault}
 use Rattle.stn_wire.specs.declared.fault.WireFault.TheVariants as wire
 use Rattle.stn_wire.specs.declared.frame.Frame.{Frame}
-use Rattle.stn_session.specs.declared.stream.FrameReader.{FrameReader}
-use Rattle.stn_session.specs.declared.stream.FrameFault.{FrameFault}
-use Rattle.stn_session.specs.declared.stream.FrameFault.TheVariants.{Length, Kind, Body}
-use Rattle.stn_session.specs.declared.stream.Next.{Next}
-use Rattle.stn_session.specs.declared.stream.Next.TheVariants.{Frame as frame, Faulty, Closed, Cut}
-use Rattle.stn_session.specs.declared.stream.StreamFault.{StreamFault}
-use Rattle.stn_session.specs.declared.stream.StreamFault.TheVariants.{Read, Bound, Memory}
+use Rattle.stn_stream.specs.declared.reader.FrameReader.{FrameReader}
+use Rattle.stn_stream.specs.declared.fault.FrameFault.{FrameFault}
+use Rattle.stn_stream.specs.declared.fault.FrameFault.TheVariants.{Length, Kind, Body}
+use Rattle.stn_stream.specs.declared.reader.Next.{Next}
+use Rattle.stn_stream.specs.declared.reader.Next.TheVariants.{Frame as frame, Faulty, Closed, Cut}
+use Rattle.stn_stream.specs.declared.fault.StreamFault.{StreamFault}
+use Rattle.stn_stream.specs.declared.fault.StreamFault.TheVariants.{Read, Bound, Memory}
 
 -- the fault of a stream of frames, as that of bytes
 abbrev pub wire_fault : FrameFault → WireFault
@@ -34,6 +34,10 @@ behind frames = drop frames.at frames.piece.items
 -- the bytes that were read and given in no frame
 abbrev pub pending : {A : Type 0} → FrameReader A → List ℕ
 pending frames = frames.feeder.held ++ behind frames
+
+-- how many bytes were read
+abbrev pub read_count : {A : Type 0} → FrameReader A → ℕ
+read_count frames = frames.taken
 
 -- a reader of frames that met no fault, and has read no more than the limit
 pub record IsReading {A : Type 0} (frames : FrameReader A) : Type 0 where

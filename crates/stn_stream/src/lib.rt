@@ -1,0 +1,8 @@
+//! Frames that are cut off a reader's bytes, piece by piece.
+#![tactic(auto)]
+
+pub use fault::{FrameFault, StreamFault};
+pub use reader::{FrameReader, Next};
+
+mod fault;
+mod reader;
