@@ -1,4 +1,4 @@
-pub mod Rests
+pub mod Progress
 pub mod Takes
 pub mod OneLog
 pub mod Saved

@@ -1,16 +1,22 @@
--- Why a log is not loaded, from why one of its frames is refused: want of memory is always Memory.
-use Rattle.stn_wire.specs.declared.fault.WireFault.{WireFault}
-use Rattle.stn_wire.specs.declared.fault.WireFault.TheVariants as wire
+-- Why a log is not loaded, from why its stream ends or one of its frames is refused: want of memory is always Memory.
+use Rattle.stn_stream.specs.declared.fault.FrameFault.{FrameFault}
+use Rattle.stn_stream.specs.declared.fault.StreamFault.{StreamFault}
+use Rattle.stn_stream.specs.declared.fault.StreamFault.TheVariants as stream
+use Rattle.stn_stream.specs.Stream.{wire_fault}
 use Rattle.stn_lift.specs.declared.fault.BaseFault.{BaseFault}
 use Rattle.stn_lift.specs.declared.fault.BaseFault.TheVariants as base
 use Rattle.stn_replica.specs.declared.faults.ReplicaFault.{ReplicaFault}
 use Rattle.stn_replica.specs.declared.faults.ReplicaFault.TheVariants as replica
 use Rattle.stn_log.specs.declared.fault.LoadFault.{LoadFault}
-use Rattle.stn_log.specs.declared.fault.LoadFault.TheVariants.{Frame, Base, Take, Memory}
+use Rattle.stn_log.specs.declared.fault.LoadFault.TheVariants.{Read, Bound, Frame, Base, Take, Memory}
 
-abbrev pub of_wire : WireFault → LoadFault
-of_wire wire.Memory = Memory
-of_wire fault = Frame fault
+abbrev pub of_stream : StreamFault → LoadFault
+of_stream stream.Read = Read
+of_stream stream.Bound = Bound
+of_stream stream.Memory = Memory
+
+abbrev pub of_frame : FrameFault → LoadFault
+of_frame fault = Frame (wire_fault fault)
 
 abbrev pub of_base : BaseFault → LoadFault
 of_base base.Memory = Memory

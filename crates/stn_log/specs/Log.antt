@@ -86,6 +86,16 @@ abbrev pub IsDecided : Option (List ℕ) → Option (List ℕ) → Result Log Lo
 IsDecided old new meaning =
     (read : List ℕ) × Consumes old new read × ((IsAtEnd new × IsLog read meaning) ⊎ ((more : List ℕ) → IsLog (read ++ more) meaning))
 
+-- what was read leaves a log open: whole frames that are all taken, and less than a frame behind them
+pub record IsOpen (old new : Option (List ℕ)) : Type 0 where
+  pub frames : List FrameContent
+  pub behind : List ℕ
+  pub log : Option Log
+  pub each : AllByRecursion IsFrame frames
+  pub read : Consumes old new (flat_map spelling frames ++ behind)
+  pub taken : all_taken None frames ≡ Ok log
+  pub unfinished : IsFront behind unfinished
+
 -- what an answer says of a log; nothing where a read failed or memory ran out
 abbrev pub meaning_of : Result Held LoadFault → Option (Result Log LoadFault)
 meaning_of (Ok held) = Some (Ok (log_held held))

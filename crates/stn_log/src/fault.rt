@@ -1,5 +1,5 @@
 ghost use Rattle.std.specs.Prelude.{◌≡◌};
-ghost use Rattle.stn_log.specs.Faults.{of_wire, of_base, of_replica};
+ghost use Rattle.stn_log.specs.Faults.{of_frame, of_stream, of_base, of_replica};
 ghost use Rattle.stn_log.specs.declared.fault.LoadFault.TheVariants as load;
 ghost use Rattle.stn_log.specs.declared.fault.SaveFault.TheVariants as save;
 
@@ -7,6 +7,7 @@ use std::alloc::{AllocError, AllocFailed};
 use stn_device::WriteFault;
 use stn_lift::BaseFault;
 use stn_replica::ReplicaFault;
+use stn_stream::{FrameFault, StreamFault};
 use stn_wire::WireFault;
 use thiserror::Error;
 
@@ -79,14 +80,23 @@ impl<T: Drop> From<AllocFailed<T>> for LoadFault {
     }
 }
 
-impl From<WireFault> for LoadFault {
-    ghost from_gives = { λ fault given. given ≡ of_wire fault };
+impl From<StreamFault> for LoadFault {
+    ghost from_gives = { λ fault given. given ≡ of_stream fault };
 
-    fn from(fault: WireFault) -> LoadFault {
+    fn from(fault: StreamFault) -> LoadFault {
         match fault {
-            WireFault::Memory => LoadFault::Memory,
-            _ => LoadFault::Frame(fault),
+            StreamFault::Read => LoadFault::Read,
+            StreamFault::Bound => LoadFault::Bound,
+            StreamFault::Memory => LoadFault::Memory,
         }
+    }
+}
+
+impl From<FrameFault> for LoadFault {
+    ghost from_gives = { λ fault given. given ≡ of_frame fault };
+
+    fn from(fault: FrameFault) -> LoadFault {
+        LoadFault::Frame(WireFault::from(fault))
     }
 }
 

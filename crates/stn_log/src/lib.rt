@@ -7,7 +7,6 @@ pub use reading::load;
 pub use writing::save;
 
 mod fault;
-mod input;
 mod laws;
 mod reading;
 #[cfg(test)]

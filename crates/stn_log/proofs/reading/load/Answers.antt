@@ -1,22 +1,150 @@
-use Rattle.std.proofs.Common.{◌≡◌, ℕ, List, Bool, None, length, subst, sym, ap, ◌∙◌, take}
-use Rattle.std.specs.Prelude.{nat_lt}
-use Rattle.stn_device.specs.Bytes.{most_bytes}
-use Rattle.stn_log.specs.Log.{meaning_of, IsRest}
-use Rattle.stn_log.proofs.Rests.{decided, if_some_map, used_up}
+use Rattle.std.proofs.Common.{refl, ap, Ok, arith, ◌∙◌}
+use Rattle.std.proofs.lemmas.Result.{err_from_is_err_and}
+use Rattle.stn_wire.specs.Frame.{content}
+use Rattle.stn_stream.specs.Stream.{pending, read_count, wire_fault}
+use Rattle.stn_stream.proofs.Streams.{measure_falls}
+use Rattle.stn_log.proofs.Progress.{begun, read_on, used, next_taken, refuses, shows_fault, closes, cuts, stream_fails, stream_open, stream_used, stream_bound}
 use Rattle.stn_log.proofs.reading.load.Goals as goal
 
-pub returns-clause-meaning : goal.returns-clause-meaning
-returns-clause-meaning g c =
-    let read = c.in_ok-bytes.bytes.items in
-    let more : c.looked_at-more.result.1 ≡ nat_lt most_bytes (length read) = c.looked_at-more.ensures.more ∙ ap (λ (l : List ℕ). nat_lt most_bytes (length l)) c.deref.ensures.value in
-    let text : c.looked_at-more.result.0.now ≡ take most_bytes read = c.looked_at-more.ensures.bytes ∙ ap (λ (l : List ℕ). take most_bytes l) c.deref.ensures.value in
-    if_some_map (meaning_of c.replay.result)
-    (λ meaning rest. decided _ _ read meaning c.in_ok-bytes.ensures.bytes c.in_ok-bytes.ensures.end
-    (subst (λ (b : Bool). IsRest b None (take most_bytes read) meaning) more (subst (λ (l : List ℕ). IsRest c.looked_at-more.result.1 None l meaning) text rest)))
-    c.replay.ensures.meaning
+pub frames-init : goal.frames-init
+frames-init g c = record {
+  reading = c.new-frames.ensures.reading;
+  progress = begun _ (pending c.new-frames.result) (read_count c.new-frames.result) c.new-frames.ensures.pending c.new-frames.ensures.count;
+  site = tt;
+  kept = refl;
+}
 
-pub returns-clause-bound : goal.returns-clause-bound
-returns-clause-bound g c =
-    let more : c.looked_at-more.result.1 ≡ nat_lt most_bytes (length c.in_ok-bytes.bytes.items) =
-    c.looked_at-more.ensures.more ∙ ap (λ (l : List ℕ). nat_lt most_bytes (length l)) c.deref.ensures.value in
-    λ bound. used_up _ _ c.in_ok-bytes.bytes.items c.in_ok-bytes.ensures.bytes (sym more ∙ c.replay.ensures.bound bound)
+pub returns-in_err-frame-clause-meaning : goal.returns-in_err-frame-clause-meaning
+returns-in_err-frame-clause-meaning g c =
+    let p = err_from_is_err_and c.from_residual.result c.from_residual.ensures.1 in
+    let gave = c.in_err-frame.ensures.gives in
+    let i = c.frames.invariant.progress in
+    rw (p.1, p.2) (stream_fails _ _ _ _ _ (read_on _ _ _ _ _ i _ gave.bytes gave.consumed) c.next.new.self c.in_err-frame.field-0.0 gave.next gave.counted)
+
+pub returns-in_err-frame-clause-bound : goal.returns-in_err-frame-clause-bound
+returns-in_err-frame-clause-bound g c =
+    let p = err_from_is_err_and c.from_residual.result c.from_residual.ensures.1 in
+    let gave = c.in_err-frame.ensures.gives in
+    let q = read_on _ _ _ _ _ c.frames.invariant.progress _ gave.bytes gave.consumed in
+    rw (p.1, p.2) (λ e. stream_bound _ _ _ _ _ q c.next.new.self c.in_err-frame.field-0.0 (cc) gave.counted)
+
+pub returns-in_err-frame-clause-open : goal.returns-in_err-frame-clause-open
+returns-in_err-frame-clause-open g c =
+    let p = err_from_is_err_and c.from_residual.result c.from_residual.ensures.1 in
+    let gave = c.in_err-frame.ensures.gives in
+    let q = read_on _ _ _ _ _ c.frames.invariant.progress _ gave.bytes gave.consumed in
+    rw (p.1, p.2) (λ e. stream_open _ _ _ _ _ q c.next.new.self c.in_err-frame.field-0.0 (cc) gave.next)
+
+pub returns-in_err-frame-clause-used : goal.returns-in_err-frame-clause-used
+returns-in_err-frame-clause-used g c =
+    let gave = c.in_err-frame.ensures.gives in
+    stream_used _ _ _ _ _ (read_on _ _ _ _ _ c.frames.invariant.progress _ gave.bytes gave.consumed) c.next.new.self c.in_err-frame.field-0.0 gave.counted
+
+pub returns-in_err-take-in-Frame-clause-meaning : goal.returns-in_err-take-in-Frame-clause-meaning
+returns-in_err-take-in-Frame-clause-meaning g c =
+    let p = err_from_is_err_and c.from_residual-in_err-take-in-Frame.result c.from_residual-in_err-take-in-Frame.ensures.1 in
+    let gave = rw c.in-Frame.is at c.in_ok-frame.ensures.gives in
+    let q = read_on _ _ _ _ _ c.frames.invariant.progress _ gave.bytes gave.consumed in
+    rw (p.1, p.2) (refuses _ _ _ _ _ q gave.counted.1 (content c.in-Frame.frame) (pending c.next.new.self) gave.next.0 gave.next.1 c.in_err-take-in-Frame.field-0.0 c.in_err-take-in-Frame.ensures.meaning)
+
+pub returns-in_err-take-in-Frame-clause-used : goal.returns-in_err-take-in-Frame-clause-used
+returns-in_err-take-in-Frame-clause-used g c =
+    let gave = rw c.in-Frame.is at c.in_ok-frame.ensures.gives in
+    used _ _ _ _ _ (read_on _ _ _ _ _ c.frames.invariant.progress _ gave.bytes gave.consumed) (omega (arith, gave.counted.1))
+
+pub frames-smaller : goal.frames-smaller
+frames-smaller g c =
+    let gave = rw c.in-Frame.is at c.in_ok-frame.ensures.gives in
+    measure_falls (pending c.frames.frames) gave.bytes (pending c.next.new.self) (content c.in-Frame.frame) gave.next.1 (read_count c.frames.frames) (read_count c.next.new.self) gave.counted.0 gave.next.2.few
+
+pub frames-preserved : goal.frames-preserved
+frames-preserved g c =
+    let gave = rw c.in-Frame.is at c.in_ok-frame.ensures.gives in
+    let q = read_on _ _ _ _ _ c.frames.invariant.progress _ gave.bytes gave.consumed in
+    record {
+      reading = gave.next.2;
+      progress = next_taken _ _ _ _ _ q (content c.in-Frame.frame) (pending c.next.new.self) gave.next.0 gave.next.1 (read_count c.next.new.self) gave.counted.0 _ c.in_ok-take-in-Frame.ensures.meaning;
+      site = c.in_ok-take-in-Frame.ensures.site;
+      kept = c.in_ok-frame.ensures.kept (λ e. cc) ∙ c.frames.invariant.kept;
+    }
+
+pub frames-smaller-in_ok-take-in-Frame : goal.frames-smaller-in_ok-take-in-Frame
+frames-smaller-in_ok-take-in-Frame g c =
+    let gave = rw c.in-Frame.is at c.in_ok-frame.ensures.gives in
+    measure_falls (pending c.frames.frames) gave.bytes (pending c.next.new.self) (content c.in-Frame.frame) gave.next.1 (read_count c.frames.frames) (read_count c.next.new.self) gave.counted.0 gave.next.2.few
+
+pub frames-preserved-in_ok-take-in-Frame : goal.frames-preserved-in_ok-take-in-Frame
+frames-preserved-in_ok-take-in-Frame g c =
+    let gave = rw c.in-Frame.is at c.in_ok-frame.ensures.gives in
+    let q = read_on _ _ _ _ _ c.frames.invariant.progress _ gave.bytes gave.consumed in
+    record {
+      reading = gave.next.2;
+      progress = next_taken _ _ _ _ _ q (content c.in-Frame.frame) (pending c.next.new.self) gave.next.0 gave.next.1 (read_count c.next.new.self) gave.counted.0 _ c.in_ok-take-in-Frame.ensures.meaning;
+      site = c.in_ok-take-in-Frame.ensures.site;
+      kept = c.in_ok-frame.ensures.kept (λ e. cc) ∙ c.frames.invariant.kept;
+    }
+
+pub frames-smaller-in_ok-take-in-Frame-2 : goal.frames-smaller-in_ok-take-in-Frame-2
+frames-smaller-in_ok-take-in-Frame-2 g c =
+    let gave = rw c.in-Frame.is at c.in_ok-frame.ensures.gives in
+    measure_falls (pending c.frames.frames) gave.bytes (pending c.next.new.self) (content c.in-Frame.frame) gave.next.1 (read_count c.frames.frames) (read_count c.next.new.self) gave.counted.0 gave.next.2.few
+
+pub frames-preserved-in_ok-take-in-Frame-2 : goal.frames-preserved-in_ok-take-in-Frame-2
+frames-preserved-in_ok-take-in-Frame-2 g c =
+    let gave = rw c.in-Frame.is at c.in_ok-frame.ensures.gives in
+    let q = read_on _ _ _ _ _ c.frames.invariant.progress _ gave.bytes gave.consumed in
+    record {
+      reading = gave.next.2;
+      progress = next_taken _ _ _ _ _ q (content c.in-Frame.frame) (pending c.next.new.self) gave.next.0 gave.next.1 (read_count c.next.new.self) gave.counted.0 _ c.in_ok-take-in-Frame.ensures.meaning;
+      site = c.in_ok-take-in-Frame.ensures.site;
+      kept = c.in_ok-frame.ensures.kept (λ e. cc) ∙ c.frames.invariant.kept;
+    }
+
+pub frames-smaller-in_ok-take-in-Frame-3 : goal.frames-smaller-in_ok-take-in-Frame-3
+frames-smaller-in_ok-take-in-Frame-3 g c =
+    let gave = rw c.in-Frame.is at c.in_ok-frame.ensures.gives in
+    measure_falls (pending c.frames.frames) gave.bytes (pending c.next.new.self) (content c.in-Frame.frame) gave.next.1 (read_count c.frames.frames) (read_count c.next.new.self) gave.counted.0 gave.next.2.few
+
+pub frames-preserved-in_ok-take-in-Frame-3 : goal.frames-preserved-in_ok-take-in-Frame-3
+frames-preserved-in_ok-take-in-Frame-3 g c =
+    let gave = rw c.in-Frame.is at c.in_ok-frame.ensures.gives in
+    let q = read_on _ _ _ _ _ c.frames.invariant.progress _ gave.bytes gave.consumed in
+    record {
+      reading = gave.next.2;
+      progress = next_taken _ _ _ _ _ q (content c.in-Frame.frame) (pending c.next.new.self) gave.next.0 gave.next.1 (read_count c.next.new.self) gave.counted.0 _ c.in_ok-take-in-Frame.ensures.meaning;
+      site = c.in_ok-take-in-Frame.ensures.site;
+      kept = c.in_ok-frame.ensures.kept (λ e. cc) ∙ c.frames.invariant.kept;
+    }
+
+pub returns-in-Faulty-clause-meaning : goal.returns-in-Faulty-clause-meaning
+returns-in-Faulty-clause-meaning g c =
+    let gave = rw c.in-Faulty.is at c.in_ok-frame.ensures.gives in
+    let q = read_on _ _ _ _ _ c.frames.invariant.progress _ gave.bytes gave.consumed in
+    rw c.from.ensures (shows_fault _ _ _ _ _ q gave.counted.1 (wire_fault c.in-Faulty.fault) gave.next)
+
+pub returns-in-Faulty-clause-used : goal.returns-in-Faulty-clause-used
+returns-in-Faulty-clause-used g c =
+    let gave = rw c.in-Faulty.is at c.in_ok-frame.ensures.gives in
+    used _ _ _ _ _ (read_on _ _ _ _ _ c.frames.invariant.progress _ gave.bytes gave.consumed) (omega (arith, gave.counted.1))
+
+pub returns-in-Cut-clause-meaning : goal.returns-in-Cut-clause-meaning
+returns-in-Cut-clause-meaning g c =
+    let gave = rw c.in-Cut.is at c.in_ok-frame.ensures.gives in
+    let q = read_on _ _ _ _ _ c.frames.invariant.progress _ gave.bytes gave.consumed in
+    cuts _ _ _ _ _ q gave.counted.1 (c.in_ok-frame.ensures.cut (ap Ok c.in-Cut.is)) gave.next.0 gave.next.1
+
+pub returns-in-Cut-clause-used : goal.returns-in-Cut-clause-used
+returns-in-Cut-clause-used g c =
+    let gave = rw c.in-Cut.is at c.in_ok-frame.ensures.gives in
+    used _ _ _ _ _ (read_on _ _ _ _ _ c.frames.invariant.progress _ gave.bytes gave.consumed) (omega (arith, gave.counted.1))
+
+pub returns-in-Closed-clause-meaning : goal.returns-in-Closed-clause-meaning
+returns-in-Closed-clause-meaning g c =
+    let gave = rw c.in-Closed.is at c.in_ok-frame.ensures.gives in
+    let q = read_on _ _ _ _ _ c.frames.invariant.progress _ gave.bytes gave.consumed in
+    rw c.ok_or.ensures.value (closes _ _ _ _ _ q gave.counted.1 (c.in_ok-frame.ensures.closed (ap Ok c.in-Closed.is)) gave.next _ refl)
+
+pub returns-in-Closed-clause-used : goal.returns-in-Closed-clause-used
+returns-in-Closed-clause-used g c =
+    let gave = rw c.in-Closed.is at c.in_ok-frame.ensures.gives in
+    used _ _ _ _ _ (read_on _ _ _ _ _ c.frames.invariant.progress _ gave.bytes gave.consumed) (omega (arith, gave.counted.1))
