@@ -1,0 +1,113 @@
+// Calls of which one request for memory, one read or one write is refused.
+use anyhow::Error;
+use std::alloc::Global;
+use stn_refusing::{PieceReader, PieceWriter, Refusing};
+
+// More calls of one kind than a test makes.
+const MOST_CALLS: u64 = 10_000;
+
+/// What is refused.
+#[derive(Clone, Copy, PartialEq, Eq)]
+pub enum Kind {
+    Nothing,
+    Memory,
+    Read,
+    Write,
+    /// Each write takes no byte.
+    EachByte,
+}
+
+/// What is refused, and which request, read or write it is, counted from 1.
+#[derive(Clone, Copy, PartialEq, Eq)]
+pub struct Failing {
+    pub kind: Kind,
+    pub number: u64,
+}
+
+pub const NOTHING: Failing = Failing {
+    kind: Kind::Nothing,
+    number: 0,
+};
+
+pub const EACH_BYTE: Failing = Failing {
+    kind: Kind::EachByte,
+    number: 0,
+};
+
+impl Failing {
+    /// The number of the refused call, where it is of this kind; else 0.
+    pub fn number_of(self, kind: Kind) -> u64 {
+        if self.kind == kind { self.number } else { 0 }
+    }
+}
+
+/// A reader that hands on one byte a call.
+pub fn reader(bytes: &[u8], failing: Failing) -> PieceReader<'_> {
+    PieceReader {
+        rest: bytes,
+        piece: 1,
+        calls: 0,
+        fails_at: failing.number_of(Kind::Read),
+    }
+}
+
+/// A writer that takes seven bytes a call.
+pub fn writer(alloc: Global, failing: Failing) -> PieceWriter {
+    PieceWriter {
+        held: Vec::new(alloc),
+        piece: if failing.kind == Kind::EachByte { 0 } else { 7 },
+        calls: 0,
+        fails_at: failing.number_of(Kind::Write),
+    }
+}
+
+/// What came of a call.
+#[derive(Clone, Copy, PartialEq, Eq)]
+pub enum Outcome {
+    /// Nothing was refused, and all is as it must be.
+    Right,
+    /// Something was refused, and all is as it must be.
+    Answered,
+    /// Something is not as it must be.
+    Wrong,
+}
+
+pub fn outcome_of(refused: bool, right: bool) -> Outcome {
+    match (refused, right) {
+        (_, false) => Outcome::Wrong,
+        (true, true) => Outcome::Answered,
+        (false, true) => Outcome::Right,
+    }
+}
+
+/// Refuses the request for memory of this number, counted from here on.
+pub fn begin_refusing(heap: &Refusing<Global>, failing: Failing) {
+    heap.refuse(failing.number_of(Kind::Memory));
+}
+
+/// Whether a request for memory was refused. From here on none is.
+pub fn end_refusing(heap: &Refusing<Global>, failing: Failing) -> bool {
+    let refused = failing.kind == Kind::Memory && !heap.is_waiting();
+    heap.refuse(0);
+    refused
+}
+
+/// Whether all is as it must be, whichever call of this kind is refused: the first, the second, and so on until none is left.
+/// `call` is handed an allocator that refuses nothing yet.
+pub fn each_is_answered<F: Fn(&Refusing<Global>, Failing) -> Result<Outcome, Error>>(
+    alloc: Global,
+    kind: Kind,
+    call: F,
+) -> Result<bool, Error>
+    requires { F.IsAlwaysCallable call }
+{
+    for number in 1..MOST_CALLS {
+        let heap = Refusing::new(alloc, 0);
+        match call(&heap, Failing { kind, number })? {
+            Outcome::Right => return Ok(true),
+            Outcome::Answered => {}
+            Outcome::Wrong => return Ok(false),
+        }
+    }
+    Ok(false)
+}

@@ -1,0 +1,33 @@
+// Bytes in words.
+use anyhow::Error;
+use std::alloc::Global;
+
+/// The bytes of each word, which has them in hex.
+pub fn bytes_of(alloc: Global, words: &str) -> Result<Vec<Vec<u8>>, Error> {
+    let mut frames = Vec::new(alloc);
+    for word in words.split(' ') {
+        frames.push(hex::decode(alloc, word)?)?;
+    }
+    Ok(frames)
+}
+
+/// The bytes of some frames, one behind the other.
+pub fn joined(alloc: Global, frames: &[Vec<u8>]) -> Result<Vec<u8>, Error> {
+    let mut bytes = Vec::new(alloc);
+    for frame in frames {
+        bytes.extend_from_slice(frame)?;
+    }
+    Ok(bytes)
+}
+
+/// How many of the frames have come whole where so many bytes have come.
+pub fn whole_frames(frames: &[Vec<u8>], bytes: u64) -> usize {
+    let mut left = bytes;
+    for (at, frame) in frames.iter().enumerate() {
+        match left.checked_sub(frame.len() as u64) {
+            Some(behind) => left = behind,
+            None => return at,
+        }
+    }
+    frames.len()
+}
