@@ -153,28 +153,42 @@ fn send_bytes(rt: &HostRuntime, listener: &TcpListener, digits: &str) -> Result<
 // Serves each of the requests, and prints the replies.
 fn serve_requests(rt: &HostRuntime, listener: &TcpListener) -> Result<(), Error> {
     for digits in REQUESTS {
-        let mut other = send_bytes(rt, listener, digits)?;
+        let other = send_bytes(rt, listener, digits)?;
         serve_waiting(rt, listener, 1)?;
-        let mut replies = Vec::new(rt.alloc());
-        other.read_to_end(&mut replies)?;
-        println!(rt; "{}", hex::encode(rt.alloc(), &replies)?)?;
+        print_replies(rt, &other)?;
     }
     Ok(())
 }
 
-// A HELLO, the record 3.1 from z to s1 at 3.000, and 100 times ASK, from a site that goes away before it is answered.
+fn print_replies(rt: &HostRuntime, other: &TcpStream) -> Result<(), Error> {
+    let mut reader = other;
+    let mut replies = Vec::new(rt.alloc());
+    reader.read_to_end(&mut replies)?;
+    println!(rt; "{}", hex::encode(rt.alloc(), &replies)?)?;
+    Ok(())
+}
+
+// A HELLO, and the record 3.1 from z to s1 at 3.000.
+const BEFORE_ASKING: [u8; 34] = [
+    0, 0, 0, 4, 1, 0, 0, 1, // HELLO
+    0, 0, 0, 0x16, 2, 0, 1, // RECORDS, one record
+    0, 3, 0, 1, 0, 0, 0, 0, 1, 0x3b, 0x9a, 0xd5, 0xb8, 0x3b, 0x9a, 0xd5, 0xb8, // 3.1
+    0, 0, // no tombstone
+];
+
+// These, and 100 times ASK, from a site that goes away before it is answered.
 fn serve_gone(rt: &HostRuntime, listener: &TcpListener) -> Result<(), Error> {
-    let stream = TcpStream::connect(rt, listener.local_addr()?)?;
-    let mut requests = Vec::new(rt.alloc());
-    requests.extend_from_slice(&[0, 0, 0, 4, 1, 0, 0, 1])?;
-    requests.extend_from_slice(&[0, 0, 0, 0x16, 2, 0, 1, 0, 3, 0, 1, 0, 0, 0, 0, 1])?;
-    requests.extend_from_slice(&[0x3b, 0x9a, 0xd5, 0xb8, 0x3b, 0x9a, 0xd5, 0xb8, 0, 0])?;
-    for _ in 0..100 {
-        requests.extend_from_slice(&[0, 0, 0, 1, 3])?;
-    }
-    (&stream).write_all(&requests)?;
-    drop(stream);
+    ask_and_go(rt, listener)?;
     serve_waiting(rt, listener, 1)
+}
+
+fn ask_and_go(rt: &HostRuntime, listener: &TcpListener) -> Result<(), Error> {
+    let stream = TcpStream::connect(rt, listener.local_addr()?)?;
+    (&stream).write_all(&BEFORE_ASKING)?;
+    for _ in 0..100 {
+        (&stream).write_all(&[0, 0, 0, 1, 3])?;
+    }
+    Ok(())
 }
 
 // A session after which the log can't be saved.
@@ -199,19 +213,30 @@ const REFUSED_REPLIES: [&str; 8] = [
     "0000000106000000160200010001000100000000013b9aca003b9aca000000",
 ];
 
-// Sends over a connection on which these replies wait, and prints the status.
+// Sends over a connection on which these replies wait.
 fn send_waiting(rt: &HostRuntime, listener: &TcpListener, replies: &[u8]) -> Result<(), Error> {
-    let mut replica = load_log(rt, "u.log", 2)?;
     let stream = TcpStream::connect(rt, listener.local_addr()?)?;
     let (other, _) = listener.accept()?;
-    (&other).write_all(replies)?;
-    other.shutdown(Shutdown::Write)?;
+    reply(&other, replies)?;
+    send_over(rt, &stream)
+}
+
+// Writes replies, and says that nothing more comes.
+fn reply(other: &TcpStream, replies: &[u8]) -> io::Result<()> {
+    let mut writer = other;
+    writer.write_all(replies)?;
+    other.shutdown(Shutdown::Write)
+}
+
+// Sends over a connection, and prints the status.
+fn send_over(rt: &HostRuntime, stream: &TcpStream) -> Result<(), Error> {
+    let mut replica = load_log(rt, "u.log", 2)?;
     let mut out = Counted::new(io::writer(rt));
     let mut err = Counted::new(io::writer(rt));
     let status = send_on(
         rt.alloc(),
         &mut FileStore::new(rt),
-        &stream,
+        stream,
         "u.log",
         &mut replica,
         &mut out,
@@ -223,12 +248,22 @@ fn send_waiting(rt: &HostRuntime, listener: &TcpListener, replies: &[u8]) -> Res
 
 // Each of the refused replies, after which the log is as before.
 fn send_refused(rt: &HostRuntime, listener: &TcpListener) -> Result<(), Error> {
-    let before = fs::read(rt, "u.log")?;
     for digits in REFUSED_REPLIES {
-        send_waiting(rt, listener, &hex::decode(rt.alloc(), digits)?)?;
-        if fs::read(rt, "u.log")? != before {
-            bail!("u.log was saved");
-        }
+        send_refused_one(rt, listener, digits)?;
+    }
+    Ok(())
+}
+
+fn send_refused_one(rt: &HostRuntime, listener: &TcpListener, digits: &str) -> Result<(), Error> {
+    let before = fs::read(rt, "u.log")?;
+    let replies = hex::decode(rt.alloc(), digits)?;
+    send_waiting(rt, listener, &replies)?;
+    is_as_before(rt, "u.log", &before)
+}
+
+fn is_as_before(rt: &HostRuntime, log: &str, before: &[u8]) -> Result<(), Error> {
+    if fs::read(rt, log)?.as_slice() != before {
+        bail!("the log was saved");
     }
     Ok(())
 }
@@ -236,16 +271,21 @@ fn send_refused(rt: &HostRuntime, listener: &TcpListener) -> Result<(), Error> {
 // An address at which another listens, and one at which nobody does; after either no log was saved.
 fn reach_nothing(rt: &HostRuntime, listener: &TcpListener) -> Result<(), Error> {
     let before = fs::read(rt, "t.log")?;
+    serve_at_taken(rt, listener)?;
+    let free = free_address(rt)?;
+    command(rt, &["stn", "send", "t.log", "1", &free])?;
+    is_as_before(rt, "t.log", &before)
+}
+
+fn serve_at_taken(rt: &HostRuntime, listener: &TcpListener) -> Result<(), Error> {
     let taken = format!(in rt.alloc(); "{}", listener.local_addr()?)?;
     command(rt, &["stn", "serve", "t.log", "1", &taken, "1"])?;
-    let other = TcpListener::bind(rt, "127.0.0.1:0")?;
-    let free = format!(in rt.alloc(); "{}", other.local_addr()?)?;
-    drop(other);
-    command(rt, &["stn", "send", "t.log", "1", &free])?;
-    if fs::read(rt, "t.log")? != before {
-        bail!("t.log was saved");
-    }
     Ok(())
+}
+
+fn free_address(rt: &HostRuntime) -> Result<String, Error> {
+    let other = TcpListener::bind(rt, "127.0.0.1:0")?;
+    Ok(format!(in rt.alloc(); "{}", other.local_addr()?)?)
 }
 
 fn main(rt: HostRuntime) -> Result<(), Error> {
