@@ -125,6 +125,8 @@ class Replica:
     """What a site holds over a bare plan, made from its source."""
 
     def __init__(self, source):
+        if isinstance(source, tuple):  # two texts, here always too short for a domain
+            raise Fault(11)
         if source > 256:
             raise Fault(34)
         self.steps = source
@@ -200,4 +202,5 @@ def main():
         print_row(name, bytes.fromhex(data), frame_case if kind == "frame" else log_case)
 
 
-main()
+if __name__ == "__main__":
+    main()

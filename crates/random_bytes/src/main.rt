@@ -1,0 +1,50 @@
+//! For tests: sessions and logs of random bytes, and of random changes to the frames of the input, as many of each as the argument
+//! says. Each comes whole and byte by byte, with the same answer, replies and state, and what the replica then holds is saved and
+//! loaded again with the same report. It prints how often each answer came, and the digest of what the replicas then saved. A line
+//! of standard input has a name and the bytes of a frame in hex; the first is HELLO of a bare plan of one step.
+#![tactic(auto)]
+
+mod case;
+mod random;
+mod session;
+mod tally;
+
+use crate::tally::{print_logs, print_sessions};
+use anyhow::{Context, Error};
+use std::env;
+
+fn read_frames(rt: &HostRuntime) -> Result<Vec<Vec<u8>>, Error> {
+    let mut frames = Vec::new(rt.alloc());
+    for line in rt.lines(rt.alloc()) {
+        let line = line?;
+        let digits = line.split(' ').last().context("no bytes")?;
+        let bytes = hex::decode(rt.alloc(), digits)?;
+        frames.push(bytes)?;
+    }
+    Ok(frames)
+}
+
+// The frames that a log may have: HELLO and RECORDS.
+fn of_logs(rt: &HostRuntime, frames: &[Vec<u8>]) -> Result<Vec<Vec<u8>>, Error> {
+    let mut some = Vec::new(rt.alloc());
+    for frame in frames {
+        if matches!(frame.get(4), Some(1 | 2)) {
+            some.push(Vec::from_slice(rt.alloc(), frame)?)?;
+        }
+    }
+    Ok(some)
+}
+
+// How many cases of each kind are wanted.
+fn wanted(rt: &HostRuntime) -> Result<u32, Error> {
+    let word = env::args(rt)?.nth(1).context("how many cases?")?;
+    Ok(word.as_str().parse::<u32>()?)
+}
+
+fn main(rt: HostRuntime) -> Result<(), Error> {
+    let count = wanted(&rt)?;
+    let frames = read_frames(&rt)?;
+    print_sessions(&rt, count, &frames)?;
+    let frames = of_logs(&rt, &frames)?;
+    print_logs(&rt, count, &frames)
+}
