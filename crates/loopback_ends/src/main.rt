@@ -47,6 +47,11 @@ fn command(rt: &HostRuntime, words: &[&str]) -> io::Result<()> {
     println!(rt; "status {status}")
 }
 
+// Adds a bound to the log of site 1.
+fn add(rt: &HostRuntime, from: &str, to: &str, lo: &str, hi: &str) -> io::Result<()> {
+    command(rt, &["stn", "add", "t.log", "1", from, to, lo, hi])
+}
+
 // Connects, and writes the requests of a replica.
 fn ask(
     rt: &HostRuntime,
@@ -290,32 +295,8 @@ fn free_address(rt: &HostRuntime) -> Result<String, Error> {
 
 fn main(rt: HostRuntime) -> Result<(), Error> {
     command(&rt, &["stn", "bare", "t.log", "1", "1"])?;
-    command(
-        &rt,
-        &[
-            "stn",
-            "add",
-            "t.log",
-            "1",
-            "s1",
-            "e1",
-            "--lo=5.000",
-            "--hi=5.000",
-        ],
-    )?;
-    command(
-        &rt,
-        &[
-            "stn",
-            "add",
-            "t.log",
-            "1",
-            "z",
-            "s1",
-            "--lo=2.000",
-            "--hi=10.000",
-        ],
-    )?;
+    add(&rt, "s1", "e1", "--lo=5.000", "--hi=5.000")?;
+    add(&rt, "z", "s1", "--lo=2.000", "--hi=10.000")?;
     command(&rt, &["stn", "bare", "u.log", "2", "1"])?;
     let listener = TcpListener::bind(&rt, "127.0.0.1:0")?;
     session(&rt, &listener)?;
