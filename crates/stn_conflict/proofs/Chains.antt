@@ -28,16 +28,6 @@ chain-unpush bounds (first ∷ links) link x y (placed, from, rest) =
     let parts = chain-unpush bounds links link _ y rest in
     record { there = parts.there; before = (placed, from, parts.before); ends = parts.ends }
 
-pub each-push : (P : Link → Type 0) (links : List Link) (link : Link) → AllByRecursion P links → P link → AllByRecursion P (links ++ link ∷ [])
-each-push P [] link all last = (last, tt)
-each-push P (first ∷ links) link all last = (all.0, each-push P links link all.1 last)
-
-pub each-unpush : (P : Link → Type 0) (links : List Link) (link : Link) → AllByRecursion P (links ++ link ∷ []) → AllByRecursion P links × P link
-each-unpush P [] link all = (tt, all.0)
-each-unpush P (first ∷ links) link all =
-    let rest = each-unpush P links link all.1 in
-    ((all.0, rest.0), rest.1)
-
 pub each-weaker : (P Q : Link → Type 0) → ((link : Link) → P link → Q link) → (links : List Link) → AllByRecursion P links → AllByRecursion Q links
 each-weaker P Q f [] all = tt
 each-weaker P Q f (link ∷ links) all = (f link all.0, each-weaker P Q f links all.1)

@@ -4,6 +4,7 @@ use Rattle.std.specs.List.{AllByRecursion}
 use Rattle.std.proofs.lemmas.Int.{ints, by_lt_z}
 use Rattle.std.proofs.lemmas.List.{length_push}
 use Rattle.std.proofs.lemmas.List.Elements.{All-from_get_or}
+use Rattle.stn_time.proofs.Each.{each_pushed}
 use Rattle.stn_net.specs.Difference.{Difference}
 use Rattle.stn_net.specs.Schedule.{Meets, IsSchedule, times_of}
 use Rattle.stn_matrix.specs.Tightest.{IsTightest}
@@ -15,7 +16,7 @@ use Rattle.stn_conflict.specs.Distances.{AreDistances}
 use Rattle.stn_conflict.specs.Named.{IsTight, IsTightChain, IsLevel}
 use Rattle.stn_conflict.specs.Search.{HasLevelsUpTo, AreStepsBack}
 use Rattle.stn_conflict.proofs.Distances.{tightest_self, link_reaches, link_among}
-use Rattle.stn_conflict.proofs.Chains.{chain-push, each-push}
+use Rattle.stn_conflict.proofs.Chains.{chain-push}
 
 pub some_or_none : (o : Option ℕ) → (o ≡ None) ⊎ ((k : ℕ) × (o ≡ Some k))
 some_or_none None = inl refl
@@ -60,7 +61,7 @@ chain_to_level bounds start levels closed (suc level) x at =
       links ++ link ∷ [],
       record {
         chain = subst (λ z. IsChain bounds (links ++ link ∷ []) start z) ends (chain-push bounds links link start _ chain.chain tight.there refl);
-        tight = each-push (IsTight bounds start) links link chain.tight tight;
+        tight = each_pushed (IsTight bounds start) links link chain.tight tight;
       },
       omega (arith, length_push links link),
     )

@@ -2,6 +2,7 @@ use Rattle.std.proofs.Common.{◌≡◌, inl, inr, ℕ, zero, suc, ◌+◌, ◌�
 use Rattle.std.proofs.lemmas.Int.{ints}
 use Rattle.std.proofs.lemmas.Bool.{cases_order}
 use Rattle.std.proofs.lemmas.List.{length_push, take-take}
+use Rattle.stn_time.proofs.Each.{each_parted}
 use Rattle.stn_net.specs.Difference.{Difference}
 use Rattle.stn_net.specs.Schedule.{IsSchedule, HasSchedule}
 use Rattle.stn_matrix.proofs.Tightest.{tightest_unique}
@@ -12,7 +13,7 @@ use Rattle.stn_conflict.specs.Arcs.{arc_of, bound_at, rank, side_rank}
 use Rattle.stn_conflict.specs.Culprit.{IsRefusedSide, IsCulprit}
 use Rattle.stn_conflict.specs.Named.{IsLevel, IsStep, IsFirstStep, IsWay, IsNamedCycle}
 use Rattle.stn_conflict.proofs.Distances.{schedule_before}
-use Rattle.stn_conflict.proofs.Chains.{IsPushedChain, chain-unpush, each-unpush, last_of}
+use Rattle.stn_conflict.proofs.Chains.{IsPushedChain, chain-unpush, last_of}
 
 link_same : (p q : ℕ) (s t : Side) → p ≡ q → s ≡ t → (let one : Link = record { place = p; side = s } in let other : Link = record { place = q; side = t } in one ≡ other)
 link_same p q s t e f = cc
@@ -65,8 +66,8 @@ first_step_unique bounds start one other e p q =
 unpush_way : (bounds : List Difference) (start x : ℕ) (links : List Link) (link : Link) → IsWay bounds start x (links ++ link ∷ []) → IsPushedChain bounds links link start x × IsWay bounds start (arc_of bounds link).from links × IsFirstStep bounds start link
 unpush_way bounds start x links link way =
     let parts = chain-unpush bounds links link start x way.chain in
-    let (others, last) = each-unpush (IsFirstStep bounds start) links link way.first in
-    (parts, record { chain = parts.before; first = others }, last)
+    let (others, last) = each_parted (IsFirstStep bounds start) links (link ∷ []) way.first in
+    (parts, record { chain = parts.before; first = others }, last.0)
 
 -- an event has one way at most; n bounds the length of one
 way_unique_by : (bounds : List Difference) (start : ℕ) (n : ℕ) (x : ℕ) (one other : List Link) → length one ≤ n → IsWay bounds start x one → IsWay bounds start x other → one ≡ other

@@ -8,20 +8,12 @@ use Rattle.std.proofs.lemmas.Int.{ints}
 use Rattle.std.proofs.lemmas.List.{take-append-le, take_all}
 use Rattle.std.proofs.lemmas.List.Elements.{All-from_recursion, recursion_from_All}
 use Rattle.stn_time.specs.Time.{horizon}
+use Rattle.stn_time.proofs.Each.{each_joined, each_parted, each_pushed}
 use Rattle.stn_net.specs.Difference.{Difference, NamesEvents}
 use Rattle.stn_net.specs.Horizon.{horizon_bound, horizon_bounds}
 use Rattle.stn_net.specs.Schedule.{Meets, IsSchedule}
 use Rattle.stn_net.proofs.Horizons.{length-horizon_bounds}
 use Rattle.stn_lift.specs.BaseBounds.{step_of, duration_bound, order_bound, pair_order, event_orders, orders, duration_bounds, Interfere, KeepsOrder}
-
-module _ {X : Type 0} (P : X → Type 0) where
-  joined : (xs ys : List X) → AllByRecursion P xs → AllByRecursion P ys → AllByRecursion P (xs ++ ys)
-  joined [] ys first second = second
-  joined (x ∷ xs) ys first second = (first.0, joined xs ys first.1 second)
-
-  parted : (xs ys : List X) → AllByRecursion P (xs ++ ys) → AllByRecursion P xs × AllByRecursion P ys
-  parted [] ys all = (tt, all)
-  parted (x ∷ xs) ys all = let rest = parted xs ys all.1 in ((all.0, rest.0), rest.1)
 
 -- by which events interfere, and when each is planned
 module _ (interferes : ℕ → ℕ → Bool) (planned duration : ℕ → ℤ) (steps : ℕ) where
@@ -50,13 +42,13 @@ module _ (interferes : ℕ → ℕ → Bool) (planned duration : ℕ → ℤ) (s
     unfolding event_orders
     each_event one zero first most = tt
     each_event one (suc events) first most =
-        joined P (event_orders interferes planned one events) (pair_order interferes planned one (suc events)) (each_event one events first (omega arith)) (each_pair one (suc events) first most)
+        each_joined P (event_orders interferes planned one events) (pair_order interferes planned one (suc events)) (each_event one events first (omega arith)) (each_pair one (suc events) first most)
 
     each_order : (one : ℕ) → AllByRecursion P (orders interferes planned (2 * steps) one)
     unfolding orders
     each_order zero = tt
     each_order (suc one) =
-        joined P (orders interferes planned (2 * steps) one) (event_orders interferes planned (suc one) (2 * steps)) (each_order one) (each_event (suc one) (2 * steps) (omega arith) (omega arith))
+        each_joined P (orders interferes planned (2 * steps) one) (event_orders interferes planned (suc one) (2 * steps)) (each_order one) (each_event (suc one) (2 * steps) (omega arith) (omega arith))
 
   module _ (P : Difference → Type 0) (horizons : (event : ℕ) → 0 < event → event ≤ 2 * steps → P (horizon_bound event))
       (durations : (step : ℕ) → step < steps → P (duration_bound step (duration step)))
@@ -64,19 +56,19 @@ module _ (interferes : ℕ → ℕ → Bool) (planned duration : ℕ → ℤ) (s
     each_horizon : (events : ℕ) → events ≤ 2 * steps → AllByRecursion P (horizon_bounds events)
     unfolding horizon_bounds
     each_horizon zero most = tt
-    each_horizon (suc events) most = joined P (horizon_bounds events) (horizon_bound (suc events) ∷ []) (each_horizon events (omega arith)) (horizons (suc events) (omega arith) most, tt)
+    each_horizon (suc events) most = each_pushed P (horizon_bounds events) (horizon_bound (suc events)) (each_horizon events (omega arith)) (horizons (suc events) (omega arith) most)
 
     each_duration : (count : ℕ) → count ≤ steps → AllByRecursion P (duration_bounds duration count)
     unfolding duration_bounds
     each_duration zero most = tt
-    each_duration (suc count) most = joined P (duration_bounds duration count) (duration_bound count (duration count) ∷ []) (each_duration count (omega arith)) (durations count (omega arith), tt)
+    each_duration (suc count) most = each_pushed P (duration_bounds duration count) (duration_bound count (duration count)) (each_duration count (omega arith)) (durations count (omega arith))
 
     -- what holds of each kind of bound holds of all bounds
     each_bound : All P bounds
     each_bound =
         All-from_recursion P bounds
-        (joined P (horizon_bounds (2 * steps) ++ duration_bounds duration steps) (orders interferes planned (2 * steps) (2 * steps))
-        (joined P (horizon_bounds (2 * steps)) (duration_bounds duration steps) (each_horizon (2 * steps) (omega arith)) (each_duration steps (omega arith)))
+        (each_joined P (horizon_bounds (2 * steps) ++ duration_bounds duration steps) (orders interferes planned (2 * steps) (2 * steps))
+        (each_joined P (horizon_bounds (2 * steps)) (duration_bounds duration steps) (each_horizon (2 * steps) (omega arith)) (each_duration steps (omega arith)))
         (each_order P pairs (2 * steps)))
 
   -- the first bounds are the horizon bounds
@@ -128,7 +120,7 @@ module _ (interferes : ℕ → ℕ → Bool) (planned duration : ℕ → ℤ) (s
     unfolding event_orders
     pair_in_event zero first last all = absurd (omega arith)
     pair_in_event (suc events) first last all =
-        let parts = parted P (event_orders interferes planned one events) (pair_order interferes planned one (suc events)) all in
+        let parts = each_parted P (event_orders interferes planned one events) (pair_order interferes planned one (suc events)) all in
         by (eqb other (suc events)) refl parts.1 (λ before. pair_in_event events first before parts.0)
       where
         by : (same : Bool) → eqb other (suc events) ≡ same → AllByRecursion P (pair_order interferes planned one (suc events))
@@ -140,7 +132,7 @@ module _ (interferes : ℕ → ℕ → Bool) (planned duration : ℕ → ℤ) (s
     unfolding orders
     event_in_orders events zero first last all = absurd (omega arith)
     event_in_orders events (suc count) first last all =
-        let parts = parted P (orders interferes planned events count) (event_orders interferes planned (suc count) events) all in
+        let parts = each_parted P (orders interferes planned events count) (event_orders interferes planned (suc count) events) all in
         by (eqb one (suc count)) refl parts.1 (λ before. event_in_orders events count first before parts.0)
       where
         by : (same : Bool) → eqb one (suc count) ≡ same → AllByRecursion P (event_orders interferes planned (suc count) events)
@@ -151,7 +143,7 @@ module _ (interferes : ℕ → ℕ → Bool) (planned duration : ℕ → ℤ) (s
     -- what holds of all bounds holds of the order of two events that interfere
     pair_holds : Interfere (2 * steps) interferes one other → All P bounds → P (order_bound one other (int_cmp (planned one) (planned other)))
     pair_holds pair all =
-        let parts = parted P (horizon_bounds (2 * steps) ++ duration_bounds duration steps) (orders interferes planned (2 * steps) (2 * steps)) (recursion_from_All P bounds all) in
+        let parts = each_parted P (horizon_bounds (2 * steps) ++ duration_bounds duration steps) (orders interferes planned (2 * steps) (2 * steps)) (recursion_from_All P bounds all) in
         let events = event_in_orders (2 * steps) (2 * steps) pair.first (omega (arith, pair.later, pair.last)) parts.1 in
         let orders = pair_in_event (2 * steps) (omega (arith, pair.later)) pair.last events in
         let less : nat_lt one other ≡ true = grind (arith, nat_tests, pair.later) in

@@ -6,7 +6,7 @@ use Rattle.std.proofs.Math.Seq.{drop-cons}
 use Rattle.std.proofs.lemmas.List.{map-append, append-nil, length-map}
 use Rattle.stn_time.specs.Time.{horizon, IsWithinHorizon}
 use Rattle.stn_pddl.specs.Schemas.{ActionSchema}
-use Rattle.stn_pddl.proofs.Kept.{All-push}
+use Rattle.stn_time.proofs.Each.{each_pushed}
 use Rattle.stn_plan.specs.Steps.{PlannedStep}
 use Rattle.stn_lift.specs.declared.fault.LiftFault.{LiftFault}
 use Rattle.stn_lift.specs.declared.fault.LiftFault.TheVariants.{UnknownAction, Arity, DurationDiffers, PastHorizon, Memory}
@@ -53,7 +53,7 @@ timeline_push old middle new steps step durations times footprints start end one
       lasting = ap (λ ds. ds ++ step.duration ∷ []) was.lasting ∙ sym (map-append (λ (s : Activity). s.duration) steps (step ∷ []));
       timed = ap (λ ts. (ts ++ step.time ∷ []) ++ (step.time +ℤ step.duration) ∷ []) was.timed ∙ ap (λ ts. pos 0 ∷ ts) (sym (times_behind-push steps step));
       numbered = subst (λ fs. AllZip (IsNumbered new) ((footprints ++ start ∷ []) ++ end ∷ []) (no_footprint ∷ fs)) (sym (footprints_behind-push steps step)) third;
-      within = All-push IsTimed steps step was.within timed;
+      within = each_pushed IsTimed steps step was.within timed;
     }
 
 -- the same, of lists that are known by equations

@@ -10,6 +10,7 @@ use Rattle.std.proofs.lemmas.List.{take_all, take_at}
 use Rattle.std.proofs.lemmas.Bool.Decides.{nat_tests}
 use Rattle.std.proofs.lemmas.Grind.{flat_map-append}
 use Rattle.stn_device.specs.Bytes.{most_bytes, ConsumesAtMost}
+use Rattle.stn_time.proofs.Each.{each_pushed}
 use Rattle.stn_replica.specs.Held.{Held}
 use Rattle.stn_wire.specs.Frame.{FrameContent, spelling, IsFrame}
 use Rattle.stn_wire.specs.Front.{IsFront, faulty, unfinished}
@@ -89,10 +90,6 @@ behind_frames (frame ∷ frames) log last each came more tail meaning rest =
     subst (λ l. IsRest more log l meaning) (sym (append_assoc (spelling frame) (flat_map spelling frames) tail))
     (later_rest (taken log frame) more log frame frames last (flat_map spelling frames ++ tail) meaning each.0 refl (λ next came. behind_frames frames (Some next) last each.1 came more tail meaning rest) came)
 
-all_more : (frames : List FrameContent) (frame : FrameContent) → AllByRecursion IsFrame frames → IsFrame frame → AllByRecursion IsFrame (frames ++ frame ∷ [])
-all_more [] frame each one = (one, tt)
-all_more (f ∷ frames) frame each one = (each.0, all_more frames frame each.1 one)
-
 -- ---- how far a log was read: frames that were all taken, and what stands behind them
 pub record Progress (before after : Option (List ℕ)) (log : Option Log) (rest : List ℕ) (count : ℕ) : Type 0 where
   pub bytes : List ℕ
@@ -144,7 +141,7 @@ module _ (before after : Option (List ℕ)) (log : Option Log) (rest : List ℕ)
     frames = p.frames ++ frame ∷ [];
     consumed = p.consumed;
     many = same ∙ p.many;
-    each = all_more p.frames frame p.each valid;
+    each = each_pushed IsFrame p.frames frame p.each valid;
     cut = p.cut
         ∙ (ap (λ l. given ++ l) (front ∙ ap (λ l. l ++ later) (sym (append-nil (spelling frame))))
         ∙ (sym (append_assoc given (flat_map spelling (frame ∷ [])) later)

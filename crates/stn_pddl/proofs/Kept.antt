@@ -2,6 +2,7 @@
 use Rattle.std.proofs.Common.{◌≡◌, ℕ, ◌<◌, Bool, true, false, cond, nat_lt, List, [], ◌∷◌, ◌++◌, length, Option, Some, None, Result, Ok, Err, refl, ◌∙◌, subst, arith, position, codes}
 use Rattle.std.specs.List.{AllByRecursion, position_or_len}
 use Rattle.std.proofs.lemmas.Bool.{ltb-true}
+use Rattle.stn_time.proofs.Each.{each_pushed}
 use Rattle.stn_tree.specs.Names.{is_same_word}
 use Rattle.stn_tree.specs.Trees.{Trees, End, Word, Group}
 use Rattle.stn_pddl.specs.declared.fault.DomainFault.{DomainFault}
@@ -54,11 +55,6 @@ ok_same x y is = cc
 refused : {A B : Type 0} (e : DomainFault) (y : A) → Err e ≡ Ok y → B
 refused e y is = cc
 
--- one more
-pub All-push : {X : Type 0} (P : X → Type 0) (xs : List X) (x : X) → AllByRecursion P xs → P x → AllByRecursion P (xs ++ x ∷ [])
-All-push P [] x all p = (p, tt)
-All-push P (y ∷ xs) x all p = (all.0, All-push P xs x all.1 p)
-
 -- the place of a parameter is one of the list
 place-within : (test : List ℕ → Bool) (names : List (List ℕ)) (place : ℕ) → position test names ≡ Some place → place < length names
 place-within test names place is = within (nat_lt (position_or_len test names) (length names)) refl is
@@ -85,18 +81,18 @@ unfolding terms
 terms-sound names End before found all is = subst (AllByRecursion (IsSoundTerm (length names))) (ok_same _ _ is) all
 terms-sound names (Word line word next) before found all is =
     let step = bind_ok (term names line word) (λ t. terms names next (before ++ t ∷ [])) found is in
-    terms-sound names next (before ++ step.0 ∷ []) found (All-push (IsSoundTerm (length names)) before step.0 all (term-sound names line word step.0 step.1)) step.2
+    terms-sound names next (before ++ step.0 ∷ []) found (each_pushed (IsSoundTerm (length names)) before step.0 all (term-sound names line word step.0 step.1)) step.2
 terms-sound names (Group line children next) before found all is = cc
 
 literal-keeps : (label : Label) (negated : Bool) (found : AtomSchema) (a : ActionSchema) → IsSoundAtom (length a.parameters) found → Keeps a (with_literal label negated found a)
 unfolding with_literal
-literal-keeps StartCondition negated found a p = record { name = refl; parameters = refl; duration = refl; atoms = λ (h : HasSoundAtoms a). record { start_needs = All-push (IsSoundAtom (length a.parameters)) a.start_needs found h.start_needs p; all_needs = h.all_needs; end_needs = h.end_needs; start_adds = h.start_adds; start_deletes = h.start_deletes; end_adds = h.end_adds; end_deletes = h.end_deletes } }
-literal-keeps OverAll negated found a p = record { name = refl; parameters = refl; duration = refl; atoms = λ (h : HasSoundAtoms a). record { start_needs = h.start_needs; all_needs = All-push (IsSoundAtom (length a.parameters)) a.all_needs found h.all_needs p; end_needs = h.end_needs; start_adds = h.start_adds; start_deletes = h.start_deletes; end_adds = h.end_adds; end_deletes = h.end_deletes } }
-literal-keeps EndCondition negated found a p = record { name = refl; parameters = refl; duration = refl; atoms = λ (h : HasSoundAtoms a). record { start_needs = h.start_needs; all_needs = h.all_needs; end_needs = All-push (IsSoundAtom (length a.parameters)) a.end_needs found h.end_needs p; start_adds = h.start_adds; start_deletes = h.start_deletes; end_adds = h.end_adds; end_deletes = h.end_deletes } }
-literal-keeps StartEffect false found a p = record { name = refl; parameters = refl; duration = refl; atoms = λ (h : HasSoundAtoms a). record { start_needs = h.start_needs; all_needs = h.all_needs; end_needs = h.end_needs; start_adds = All-push (IsSoundAtom (length a.parameters)) a.start_adds found h.start_adds p; start_deletes = h.start_deletes; end_adds = h.end_adds; end_deletes = h.end_deletes } }
-literal-keeps StartEffect true found a p = record { name = refl; parameters = refl; duration = refl; atoms = λ (h : HasSoundAtoms a). record { start_needs = h.start_needs; all_needs = h.all_needs; end_needs = h.end_needs; start_adds = h.start_adds; start_deletes = All-push (IsSoundAtom (length a.parameters)) a.start_deletes found h.start_deletes p; end_adds = h.end_adds; end_deletes = h.end_deletes } }
-literal-keeps EndEffect false found a p = record { name = refl; parameters = refl; duration = refl; atoms = λ (h : HasSoundAtoms a). record { start_needs = h.start_needs; all_needs = h.all_needs; end_needs = h.end_needs; start_adds = h.start_adds; start_deletes = h.start_deletes; end_adds = All-push (IsSoundAtom (length a.parameters)) a.end_adds found h.end_adds p; end_deletes = h.end_deletes } }
-literal-keeps EndEffect true found a p = record { name = refl; parameters = refl; duration = refl; atoms = λ (h : HasSoundAtoms a). record { start_needs = h.start_needs; all_needs = h.all_needs; end_needs = h.end_needs; start_adds = h.start_adds; start_deletes = h.start_deletes; end_adds = h.end_adds; end_deletes = All-push (IsSoundAtom (length a.parameters)) a.end_deletes found h.end_deletes p } }
+literal-keeps StartCondition negated found a p = record { name = refl; parameters = refl; duration = refl; atoms = λ (h : HasSoundAtoms a). record { start_needs = each_pushed (IsSoundAtom (length a.parameters)) a.start_needs found h.start_needs p; all_needs = h.all_needs; end_needs = h.end_needs; start_adds = h.start_adds; start_deletes = h.start_deletes; end_adds = h.end_adds; end_deletes = h.end_deletes } }
+literal-keeps OverAll negated found a p = record { name = refl; parameters = refl; duration = refl; atoms = λ (h : HasSoundAtoms a). record { start_needs = h.start_needs; all_needs = each_pushed (IsSoundAtom (length a.parameters)) a.all_needs found h.all_needs p; end_needs = h.end_needs; start_adds = h.start_adds; start_deletes = h.start_deletes; end_adds = h.end_adds; end_deletes = h.end_deletes } }
+literal-keeps EndCondition negated found a p = record { name = refl; parameters = refl; duration = refl; atoms = λ (h : HasSoundAtoms a). record { start_needs = h.start_needs; all_needs = h.all_needs; end_needs = each_pushed (IsSoundAtom (length a.parameters)) a.end_needs found h.end_needs p; start_adds = h.start_adds; start_deletes = h.start_deletes; end_adds = h.end_adds; end_deletes = h.end_deletes } }
+literal-keeps StartEffect false found a p = record { name = refl; parameters = refl; duration = refl; atoms = λ (h : HasSoundAtoms a). record { start_needs = h.start_needs; all_needs = h.all_needs; end_needs = h.end_needs; start_adds = each_pushed (IsSoundAtom (length a.parameters)) a.start_adds found h.start_adds p; start_deletes = h.start_deletes; end_adds = h.end_adds; end_deletes = h.end_deletes } }
+literal-keeps StartEffect true found a p = record { name = refl; parameters = refl; duration = refl; atoms = λ (h : HasSoundAtoms a). record { start_needs = h.start_needs; all_needs = h.all_needs; end_needs = h.end_needs; start_adds = h.start_adds; start_deletes = each_pushed (IsSoundAtom (length a.parameters)) a.start_deletes found h.start_deletes p; end_adds = h.end_adds; end_deletes = h.end_deletes } }
+literal-keeps EndEffect false found a p = record { name = refl; parameters = refl; duration = refl; atoms = λ (h : HasSoundAtoms a). record { start_needs = h.start_needs; all_needs = h.all_needs; end_needs = h.end_needs; start_adds = h.start_adds; start_deletes = h.start_deletes; end_adds = each_pushed (IsSoundAtom (length a.parameters)) a.end_adds found h.end_adds p; end_deletes = h.end_deletes } }
+literal-keeps EndEffect true found a p = record { name = refl; parameters = refl; duration = refl; atoms = λ (h : HasSoundAtoms a). record { start_needs = h.start_needs; all_needs = h.all_needs; end_needs = h.end_needs; start_adds = h.start_adds; start_deletes = h.start_deletes; end_adds = h.end_adds; end_deletes = each_pushed (IsSoundAtom (length a.parameters)) a.end_deletes found h.end_deletes p } }
 
 module _ (a b : ActionSchema) where
   atom-keeps : (label : Label) (negated : Bool) (word : List ℕ) (rest : Trees) → atom label negated word rest a ≡ Ok b → Keeps a b

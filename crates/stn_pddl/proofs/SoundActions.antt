@@ -4,6 +4,7 @@ use Rattle.std.specs.List.{AllByRecursion}
 use Rattle.std.specs.Borrow.{Bor}
 use Rattle.std.proofs.lemmas.Bool.Decides.{nat_tests}
 use Rattle.std.proofs.lemmas.Int.{ints}
+use Rattle.stn_time.proofs.Each.{each_pushed}
 use Rattle.stn_time.specs.declared.reading.TimeFault.{TimeFault}
 use Rattle.stn_time.specs.TimeOf.{time_of}
 use Rattle.stn_tree.specs.declared.scan.Place.TheVariants.{Before}
@@ -27,7 +28,7 @@ use Rattle.stn_pddl.specs.Actions.{timed_value, action_of_lists, action_of_value
 use Rattle.stn_pddl.specs.Domains.{part, parts, root, domain_of_tree, domain_of_bytes, domain_of, action_named}
 use Rattle.stn_pddl.specs.Views.{action_schema}
 use Rattle.stn_pddl.specs.Sound.{IsSound}
-use Rattle.stn_pddl.proofs.Kept.{Keeps, bind_ok, guard_ok, unless_ok, ok_same, All-push, timed_tree-keeps}
+use Rattle.stn_pddl.proofs.Kept.{Keeps, bind_ok, guard_ok, unless_ok, ok_same, timed_tree-keeps}
 
 refused : {A B : Type 0} (e : DomainFault) (y : A) → Err e ≡ Ok y → B
 refused e y is = cc
@@ -118,7 +119,7 @@ part-sound line (Word at word rest) before after all is = by (section_of word) i
     by section.Skipped h = subst (AllByRecursion IsSound) (ok_same _ _ h) all
     by section.Action h =
         let step = bind_ok (action line rest before) (λ (found : ActionSchema). Ok (before ++ found ∷ [])) after h in
-        subst (AllByRecursion IsSound) (ok_same _ _ step.2) (All-push IsSound before step.0 all (action-sound line rest before step.0 step.1))
+        subst (AllByRecursion IsSound) (ok_same _ _ step.2) (each_pushed IsSound before step.0 all (action-sound line rest before step.0 step.1))
     by section.Unknown h = refused (Unsupported line) after h
     by section.NoSection h = refused (Syntax line) after h
 

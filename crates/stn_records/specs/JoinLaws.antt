@@ -5,7 +5,7 @@ use Rattle.std.specs.List.Sorted.{IsPermutation}
 use Rattle.std.proofs.Common.{zero, suc, get_or, arith, sym, ap, subst, ◌∙◌, inl, inr, ⊎_elim}
 use Rattle.std.proofs.lemmas.Bool.{false≢true}
 use Rattle.std.proofs.lemmas.List.Sorted.{All-permutation, Contains-permutation, IsPermutation-sym}
-use Rattle.std.proofs.lemmas.List.Elements.{All-nil, All-cons, All-head, All-tail}
+use Rattle.stn_time.proofs.Each.{All-left, All-right}
 use Rattle.stn_records.specs.Join.{join_all, HeldByOne, SameItems, Takes, alone, both, contents_of, outcome_of, passing, join_within, IsJoin}
 
 -- two options that give the same values are equal
@@ -22,15 +22,6 @@ first_step f (Some a) b e = (a, refl, e)
 -- and where the first step gives a value, the chain gives what the second does
 pub both_steps : {A B : Type 0} (f : A → Option B) (o : Option A) (a : A) → o ≡ Some a → option_and_then f o ≡ f a
 both_steps f o a e = ap (option_and_then f) e
-
--- what holds of each element holds of each in front, and of each behind
-All-left : {X : Type 0} (P : X → Type 0) (xs ys : List X) → All P (xs ++ ys) → All P xs
-All-left P [] ys h = All-nil P
-All-left P (x ∷ xs) ys h = All-cons P x xs (All-head P x (xs ++ ys) h) (All-left P xs ys (All-tail P x (xs ++ ys) h))
-
-All-right : {X : Type 0} (P : X → Type 0) (xs ys : List X) → All P (xs ++ ys) → All P ys
-All-right P [] ys h = h
-All-right P (x ∷ xs) ys h = All-right P xs ys (All-tail P x (xs ++ ys) h)
 
 module _ {C I : Type 0} {Holds : C → I → Type 0} {join : C → C → Option C} (j : IsJoin Holds join) where
   -- a content with the items of both is the join

@@ -1,26 +1,14 @@
 -- What is settled of bounds depends on their schedules alone.
 use Rattle.std.proofs.Common.{ℕ, ℤ, Bool, true, false, ◌↔◌, List, [], ◌∷◌, ◌++◌, All, IsTrue, refl}
 use Rattle.std.proofs.lemmas.Bool.{false≢true}
-use Rattle.std.proofs.lemmas.List.Elements.{All-append, All-from_recursion, recursion_from_All}
-use Rattle.std.specs.List.{AllByRecursion}
+use Rattle.std.proofs.lemmas.List.Elements.{All-append}
+use Rattle.stn_time.proofs.Each.{All-left, All-right}
 use Rattle.stn_net.specs.Difference.{Difference, NamesEvents}
 use Rattle.stn_net.specs.Schedule.{IsSchedule, HasSchedule, Meets}
 use Rattle.stn_matrix.specs.Table.{Table}
 use Rattle.stn_matrix.specs.Tightest.{IsExact}
 use Rattle.stn_matrix.proofs.Tightest.{exact_same_schedules}
 use Rattle.stn_replica.specs.Invariant.{IsSettled}
-
-module _ {X : Type 0} (P : X → Type 0) where
-  parted : (xs ys : List X) → AllByRecursion P (xs ++ ys) → AllByRecursion P xs × AllByRecursion P ys
-  parted [] ys h = (tt, h)
-  parted (x ∷ xs) ys h = let rest = parted xs ys h.1 in ((h.0, rest.0), rest.1)
-
-  -- what holds of each element of a list holds of each of its parts
-  pub All-left : (xs ys : List X) → All P (xs ++ ys) → All P xs
-  All-left xs ys h = All-from_recursion P xs (parted xs ys (recursion_from_All P (xs ++ ys) h)).0
-
-  pub All-right : (xs ys : List X) → All P (xs ++ ys) → All P ys
-  All-right xs ys h = All-from_recursion P ys (parted xs ys (recursion_from_All P (xs ++ ys) h)).1
 
 -- a schedule of bounds and more is one of the bounds
 pub schedule_before : (bounds more : List Difference) (time : ℕ → ℤ) → IsSchedule (bounds ++ more) time → IsSchedule bounds time

@@ -22,8 +22,8 @@ use Rattle.stn_replica.proofs.Schedules.{settled_tightened}
 pub held_is : {X : Type 0} (o : Option X) (x y : X) → o ≡ Some x → IfSome o (λ v. v ≡ y) → x ≡ y
 held_is o x y e h = subst (λ p. IfSome p (λ v. v ≡ y)) e h
 
-pub ok_not_err : {T E : Type 0} (x : T) (y : E) → Ok x ≢ Err y
-ok_not_err x y e = cc
+pub ok_not_err : {T E : Type 0} {x : T} {e : E} → Ok x ≢ Err e
+ok_not_err is = absurd (cc)
 
 -- a number that cannot pass a limit
 pub not_past : (n : ℕ) → (65535 < n → false ≡ true) → n ≤ 65535

@@ -4,6 +4,7 @@ use Rattle.std.proofs.lemmas.List.{map-append, take-append-drop, take-append-le,
 use Rattle.std.proofs.lemmas.Bool.{false≢true}
 use Rattle.std.proofs.lemmas.List.Elements.{filter-append, All-same, All-push, All-head, All-take}
 use Rattle.std.specs.FinMap.{entries, get, contains_key}
+use Rattle.stn_time.proofs.Each.{All-right}
 use Rattle.stn_net.specs.Difference.{Difference}
 use Rattle.stn_records.specs.Id.{SiteCounter}
 use Rattle.stn_records.specs.declared.record.Record.{Record}
@@ -12,7 +13,6 @@ use Rattle.stn_records.specs.ContentLaws.{ids_total, ids_exact}
 use Rattle.stn_net.specs.Schedule.{Meets}
 use Rattle.stn_replica.specs.Names.{live_ids, IsFirstBrokenRecord}
 use Rattle.stn_replica.proofs.Entries.{entries_from_get}
-use Rattle.stn_replica.proofs.Schedules.{All-right}
 use Rattle.stn_replica.specs.Bounds.{bounds_of, live_bounds}
 
 get_or-append_here : {X : Type 0} (xs : List X) (y : X) (ys : List X) (d : X) → get_or (xs ++ (y ∷ ys)) (length xs) d ≡ y

@@ -6,6 +6,7 @@ use Rattle.std.specs.Io.KnownBytes.{Consumes}
 use Rattle.std.proofs.KnownBytes.{Consumes-nil, Consumes-trans}
 use Rattle.std.proofs.lemmas.Grind.{flat_map-append}
 use Rattle.std.proofs.lemmas.List.Sums.{fold-append}
+use Rattle.stn_time.proofs.Each.{each_pushed}
 use Rattle.stn_lift.specs.PlanSource.{PlanSource}
 use Rattle.stn_records.specs.Content.{Content}
 use Rattle.stn_wire.specs.Frame.{FrameContent, content, text, spelling, IsFrame}
@@ -19,10 +20,6 @@ use Rattle.stn_session.specs.declared.exchange.ReplyFault.TheVariants.{Memory}
 -- one frame more
 abbrev received : PlanSource → Reception → FrameContent → Reception
 received source reception frame = staged source reception.stage reception.state frame
-
-all_more : {X : Type 0} (P : X → Type 0) (xs : List X) (x : X) → AllByRecursion P xs → P x → AllByRecursion P (xs ++ x ∷ [])
-all_more P [] x all one = (one, tt)
-all_more P (y ∷ xs) x all one = (all.0, all_more P xs x all.1 one)
 
 -- the frames that were read led to a stage, and this is the rest
 pub record Came (source : PlanSource) (first : Content) (before after : Option (List ℕ)) (rest : List ℕ) (taken : ℕ) (stage : Stage) (state : Content) : Type 0 where
@@ -69,7 +66,7 @@ frame_came source first before after rest taken stage state p frame later is fro
   frames = p.frames ++ frame ∷ [];
   consumed = p.consumed;
   many = now_is ∙ p.many;
-  each = all_more IsFrame p.frames frame p.each is;
+  each = each_pushed IsFrame p.frames frame p.each is;
   cut = p.cut
       ∙ (ap (λ l. flat_map spelling p.frames ++ l) (front ∙ ap (λ l. l ++ later) (sym (append-nil (spelling frame))))
       ∙ (sym (append_assoc (flat_map spelling p.frames) (flat_map spelling (frame ∷ [])) later)

@@ -1,12 +1,12 @@
 -- A session that goes on, frame by frame.
 use Rattle.std.proofs.Common.{◌≡◌, ℕ, ◌+◌, ◌-◌, ◌<◌, ◌≤◌, cond, Bool, List, [], ◌∷◌, ◌++◌, length, Option, Some, None, Err, refl, sym, ap, subst, ◌∙◌, inl, inr, ⊎_elim, arith, append_assoc, append-nil, length-append}
 use Rattle.std.specs.Prelude.{flat_map, is_some}
-use Rattle.std.specs.List.{AllByRecursion}
 use Rattle.std.specs.Io.KnownBytes.{Consumes, Appends}
 use Rattle.std.proofs.KnownBytes.{Consumes-nil, Consumes-trans, Appends-nil, Appends-trans}
 use Rattle.std.proofs.lemmas.Grind.{flat_map-append}
 use Rattle.std.proofs.lemmas.List.Sums.{fold-append}
 use Rattle.stn_device.specs.Bytes.{AppendsPart}
+use Rattle.stn_time.proofs.Each.{each_pushed}
 use Rattle.stn_lift.specs.PlanSource.{PlanSource}
 use Rattle.stn_records.specs.Content.{Content}
 use Rattle.stn_wire.specs.Frame.{FrameContent, spelling, refused, IsFrame}
@@ -37,15 +37,11 @@ writes_same : (a b c : Option (List ℕ)) (replies : List Reply) → WritesRepli
 writes_same a b c replies done none = (done.0, done.1, subst (Appends a c) (append-nil done.0) (Appends-trans a b c done.0 [] done.2 none))
 
 -- ---- frames, one after the other
-all_more : {X : Type 0} (P : X → Type 0) (xs : List X) (x : X) → AllByRecursion P xs → P x → AllByRecursion P (xs ++ x ∷ [])
-all_more P [] x all one = (one, tt)
-all_more P (y ∷ xs) x all one = (all.0, all_more P xs x all.1 one)
-
 pub reaches_frame : (first : Session) (bytes : List ℕ) (session : Session) (rest later : List ℕ) (frame : FrameContent) → Reaches first bytes session rest → IsFrame frame → rest ≡ spelling frame ++ later
     → Reaches first bytes (advanced session frame) later
 reaches_frame first bytes session rest later frame r is e = record {
   frames = r.frames ++ frame ∷ [];
-  each = all_more IsFrame r.frames frame r.each is;
+  each = each_pushed IsFrame r.frames frame r.each is;
   cut = r.cut
       ∙ (ap (λ l. flat_map spelling r.frames ++ l) (e ∙ ap (λ l. l ++ later) (sym (append-nil (spelling frame))))
       ∙ (sym (append_assoc (flat_map spelling r.frames) (flat_map spelling (frame ∷ [])) later)

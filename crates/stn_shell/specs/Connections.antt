@@ -3,6 +3,7 @@ use Rattle.std.specs.Prelude.{◌≡◌, ℕ, List, [], ◌∷◌, ◌++◌, len
 use Rattle.std.specs.Io.KnownBytes.{Appends}
 use Rattle.stn_lift.specs.PlanSource.{PlanSource}
 use Rattle.stn_records.specs.Content.{Content}
+use Rattle.stn_log.specs.Log.{Log}
 use Rattle.stn_shell.specs.Store.{Saved, saved_too}
 use Rattle.stn_session.specs.Session.{opening}
 use Rattle.stn_session.specs.Serving.{IsServed, IsBroken}
@@ -67,3 +68,24 @@ pub record Exchanges (source : PlanSource) (first last : Content) (text : List �
   pub before : Option (List ℕ)
   pub after : Option (List ℕ)
   pub received : IsReceived source first before after last (Ok text)
+
+-- a log was served: `listening` was printed, and then so many sessions were served
+pub record ServesAt (Says : List ℕ → Log → Type 0) (log : List ℕ) (count : ℕ) (before after : Option (List Saved))
+    (old new : Option (List ℕ)) : Type 0 where
+  pub found : Log
+  pub said : Says log found
+  pub left : Content
+  pub bound : Option (List ℕ)
+  pub listening : Appends old bound (codes "listening" ++ 10 ∷ [])
+  pub served : Serves count found.source log found.state left before after bound new
+
+-- an exchange over a log: what the replies brought was saved, and their text printed
+pub record SendsFrom (Says : List ℕ → Log → Type 0) (log : List ℕ) (before after : Option (List Saved))
+    (old new : Option (List ℕ)) : Type 0 where
+  pub found : Log
+  pub said : Says log found
+  pub left : Content
+  pub text : List ℕ
+  pub exchanged : Exchanges found.source found.state left text
+  pub saved : after ≡ saved_too before log (record { source = found.source; state = left })
+  pub printed : Appends old new text

@@ -3,3 +3,4 @@ pub mod Causes
 pub mod Connections
 pub mod Store
 pub mod Commands
+pub mod Carried

@@ -1,11 +1,15 @@
 //! One command, from its words to its status.
 
-ghost use Rattle.std.specs.Prelude.{◌≡◌, ◌≢◌, ◌<◌, ◌≤◌, ◌-◌, ◌^◌, ◌⊎◌, ◌++◌, [], ◌∷◌, List, ℕ, map, codes, OnOk, OnErr, IfOk};
+ghost use Rattle.std.specs.Prelude.{◌≡◌, ◌≢◌, ◌<◌, ◌≤◌, ◌-◌, ◌^◌, ◌⊎◌, ◌++◌, [], ◌∷◌, List, ℕ, ⊤, None, map, codes, OnOk, OnErr, IfOk, IsSomeAnd};
 ghost use Rattle.std.specs.Io.KnownBytes.{Appends, Keeps};
-ghost use Rattle.clap.specs.Words.{fault_of};
+ghost use Rattle.clap.specs.Words.{fault_of, subcommand_of};
 ghost use Rattle.stn_device.specs.Counted.{counted_device, failure_count};
 ghost use Rattle.stn_lift.specs.PlanSource.{plan_source, bare, files};
 ghost use Rattle.stn_line.specs.Commands.{stn as program};
+ghost use Rattle.stn_line.specs.Lines.{IsLineOf};
+ghost use Rattle.stn_line.specs.declared.words.Line.{Line as LineView};
+ghost use Rattle.stn_shell.specs.Carried.{RunsScript, IsCarriedOut};
+ghost use Rattle.stn_shell.specs.Connections.{ServesAt, SendsFrom};
 ghost use Rattle.stn_shell.specs.Commands.{IsAnswered, IsMade, IsAdded, IsWithdrawn, IsDone, IsMerged, IsReported, IsNextSaid};
 
 use crate::changes::{
@@ -44,10 +48,17 @@ pub fn execute<
 
     // Status 2 comes of words that are no command's, and of nothing else.
     ensures words { result ≡ 2 → fault_of program (map (λ word. word.now) words.entry.now) ≢ [] }
+
+    // Status 0 comes of a command that was done, and of words that ask for help or the version. What files hold is not known.
+    ensures done { result ≡ 0 → fault_of program (map (λ word. word.now) words.entry.now) ≡ [] → (line : LineView)
+        × IsSomeAnd (subcommand_of program (map (λ word. word.now) words.entry.now)) (λ command. IsLineOf line command.0 command.1)
+        × IsCarriedOut (λ _ _. ⊤) (λ _ _. ⊤) None None line
+        (R.remaining (counted_device reader.old)) (R.remaining (counted_device reader.new))
+        (W.contents (counted_device out.old)) (W.contents (counted_device out.new)) }
 {
     let alloc = rt.alloc();
     match line(alloc, words) {
-        Ok(line) => carry_out(rt, &line, reader, out, err),
+        Ok(line) => carry_out(rt, &mut FileStore::new(rt), &line, reader, out, err),
         Err(LineFault::Words(error)) => tell_words(alloc, &error, out, err),
         Err(LineFault::Memory) => tell_fault(Fault::Memory, err),
     }
@@ -55,12 +66,14 @@ pub fn execute<
 
 // Does a command, and prints its answer or why there is none.
 fn carry_out<
-    T: Files + AllocGlobal + Net<Listener = TcpListener, Stream = TcpStream>,
+    S: Store,
+    T: AllocGlobal + Net<Listener = TcpListener, Stream = TcpStream>,
     R: Read,
     W: Write,
     E: Write,
 >(
     rt: &T,
+    store: &mut S,
     line: &Line<'_>,
     reader: &mut Counted<R>,
     out: &mut Counted<W>,
@@ -68,9 +81,11 @@ fn carry_out<
 ) -> u8
     requires reader_counts { failure_count reader.old < 2 ^ 64 - 1 }
     requires out_counts { failure_count out.old < 2 ^ 64 - 1 }
-    ensures { (result ≡ 0) ⊎ (result ≡ 1) }
+    ensures status { (result ≡ 0) ⊎ (result ≡ 1) }
+    ensures done { result ≡ 0 → IsCarriedOut (S.says store.old) (S.spells store.old) (S.saves store.old) (S.saves store.new) line.now
+        (R.remaining (counted_device reader.old)) (R.remaining (counted_device reader.new))
+        (W.contents (counted_device out.old)) (W.contents (counted_device out.new)) }
 {
-    let mut store = FileStore::new(rt);
     match line {
         Line::Run => run_script(rt.alloc(), reader, out, err),
         Line::Serve {
@@ -78,13 +93,11 @@ fn carry_out<
             site,
             address,
             count,
-        } => serve_at(rt, &mut store, *log, *site, *address, *count, out, err),
-        Line::Send { log, site, address } => {
-            send_to(rt, &mut store, *log, *site, *address, out, err)
-        }
+        } => serve_at(rt, store, *log, *site, *address, *count, out, err),
+        Line::Send { log, site, address } => send_to(rt, store, *log, *site, *address, out, err),
         _ => {
             let mut text = Vec::new(rt.alloc());
-            match answer(rt.alloc(), &mut store, line, &mut text) {
+            match answer(rt.alloc(), store, line, &mut text) {
                 Ok(()) => tell_answer(&text, out, err),
                 Err(failure) => tell_failure(rt.alloc(), failure, out, err),
             }
@@ -123,7 +136,9 @@ fn run_script<R: Read, W: Write, E: Write>(
 ) -> u8
     requires reader_counts { failure_count reader.old < 2 ^ 64 - 1 }
     requires out_counts { failure_count out.old < 2 ^ 64 - 1 }
-    ensures { (result ≡ 0) ⊎ (result ≡ 1) }
+    ensures status { (result ≡ 0) ⊎ (result ≡ 1) }
+    ensures done { result ≡ 0 → RunsScript (R.remaining (counted_device reader.old)) (R.remaining (counted_device reader.new))
+        (W.contents (counted_device out.old)) (W.contents (counted_device out.new)) }
 {
     match run(alloc, reader, out) {
         Ok(ran) => { if ran.refused == 0 { 0 } else { 1 } }
@@ -150,7 +165,9 @@ fn serve_at<
     out: &mut Counted<W>,
     err: &mut Counted<E>,
 ) -> u8
-    ensures { (result ≡ 0) ⊎ (result ≡ 1) }
+    ensures status { (result ≡ 0) ⊎ (result ≡ 1) }
+    ensures done { result ≡ 0 → ServesAt (S.says store.old) log.now count (S.saves store.old) (S.saves store.new)
+        (W.contents (counted_device out.old)) (W.contents (counted_device out.new)) }
 {
     let alloc = rt.alloc();
     match store.load(log, site) {
@@ -195,7 +212,9 @@ fn send_to<
     out: &mut Counted<W>,
     err: &mut Counted<E>,
 ) -> u8
-    ensures { (result ≡ 0) ⊎ (result ≡ 1) }
+    ensures status { (result ≡ 0) ⊎ (result ≡ 1) }
+    ensures done { result ≡ 0 → SendsFrom (S.says store.old) log.now (S.saves store.old) (S.saves store.new)
+        (W.contents (counted_device out.old)) (W.contents (counted_device out.new)) }
 {
     let alloc = rt.alloc();
     match store.load(log, site) {
@@ -207,7 +226,8 @@ fn send_to<
     }
 }
 
-/// Does a command of a log, and appends its answer. Where it is refused or a device fails, nothing was saved.
+/// Does a command of a log, and appends its answer. Where it is refused or a device fails, nothing was saved. `run`, `serve` and
+/// `send` are no such commands, and are a fault here.
 pub fn answer<S: Store>(
     alloc: Global,
     store: &mut S,

@@ -1,3 +1,4 @@
+pub mod Each
 pub mod Forms
 pub mod Prints
 pub mod Sums

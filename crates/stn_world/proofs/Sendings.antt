@@ -20,9 +20,6 @@ use Rattle.stn_world.proofs.Parts.{part_of-part, holds_all-decides}
 abbrev failed : (A : Type 0) → PartFault → Result A PartFault
 failed A fault = Err fault
 
-pub not_err : {T E : Type 0} {x : T} {e : E} → Ok x ≢ Err e
-not_err e = absurd (cc)
-
 module _ (world : World) (site : ℕ) (there : HasSite world site) (room : length world.packets < most_packets) where
   -- nothing stands against a site that sends what it holds
   pub send_free : (held : Bool) → held ≡ true → send_refusal world site held ≡ None

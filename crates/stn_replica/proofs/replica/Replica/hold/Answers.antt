@@ -63,7 +63,7 @@ returns-clause-accepted g c =
     let unknown : is_known c.self.inside.records c.unwrap-id.result ≡ false = subst (λ i. is_known c.self.inside.records i ≡ false) (sym is) c.in_ok-counter.ensures.new in
     let held : Held = record { site = c.self.inside.site; source = rc_value c.self.inside.base; state = c.self.inside.records; steps = c.self.inside.current.steps } in
     rw (← c.self.view_is)
-    (next_free held (not_past _ c.in_ok-counter.ensures.spent.1) (λ e. ok_not_err _ _ (c.in_ok-add.ensures.full.1 (unknown, e))))
+    (next_free held (not_past _ c.in_ok-counter.ensures.spent.1) (λ e. ok_not_err (c.in_ok-add.ensures.full.1 (unknown, e))))
 
 pub returns-in_err-counter-clause-fault : goal.returns-in_err-counter-clause-fault
 returns-in_err-counter-clause-fault g c =

@@ -2,12 +2,13 @@ use Rattle.std.proofs.Common.{◌≡◌, List, refl, sym, ap, subst, ◌∙◌}
 use Rattle.std.specs.Rc.{rc_value}
 use Rattle.std.proofs.lemmas.Result.{err_from_is_err_and}
 use Rattle.stn_records.specs.Content.{Content, part_of}
+use Rattle.stn_replica.proofs.Sound.{ok_not_err}
 use Rattle.stn_world.specs.Parts.{holds_all}
 use Rattle.stn_world.specs.Steps.{sent}
 use Rattle.stn_world.specs.Sites.{world_of}
 use Rattle.stn_world.specs.World.{content_at}
 use Rattle.stn_world.specs.Whole.{IsCoherent, IsSoundWorld}
-use Rattle.stn_world.proofs.Sendings.{not_err, send_free, send_memory, part_refused, holds_there, part_free}
+use Rattle.stn_world.proofs.Sendings.{send_free, send_memory, part_refused, holds_there, part_free}
 use Rattle.stn_world.proofs.Sites.{held_there, sent_there, sound_sent}
 use Rattle.stn_world.proofs.Whole.{coherent_after}
 use Rattle.stn_world.proofs.world.World.send.Goals as goal
@@ -28,7 +29,7 @@ pub returns-in_err-push : goal.returns-in_err-push
 returns-in_err-push g c =
     let p = err_from_is_err_and c.from_residual-in_err-push.result c.from_residual-in_err-push.ensures.1 in
     let held = held_there c.args.self.now _ _ _ c.args.site c.index.result.now c.self.view_is c.self.invariant.sites c.in_ok-place.ensures.place c.in_ok-place.ensures.there c.index.ensures in
-    let all = holds_there c.records.result.now (content_at c.args.self.now c.args.site) c.args.records.now c.args.tombstones.now (c.records.ensures.value ∙ held.state) (c.in_ok-part.ensures.held not_err) in
+    let all = holds_there c.records.result.now (content_at c.args.self.now c.args.site) c.args.records.now c.args.tombstones.now (c.records.ensures.value ∙ held.state) (c.in_ok-part.ensures.held ok_not_err) in
     rw (p.1, p.2) (record {
       step = (
         send_memory c.args.self.now c.args.site c.in_ok-place.ensures.there c.in_ok-number.ensures.room (holds_all (content_at c.args.self.now c.args.site) c.args.records.now c.args.tombstones.now) all,
@@ -51,7 +52,7 @@ returns g c =
     let held = held_there c.args.self.now _ _ _ c.args.site c.index.result.now c.self.view_is c.self.invariant.sites c.in_ok-place.ensures.place c.in_ok-place.ensures.there c.index.ensures in
     let part = part_of (content_at c.args.self.now c.args.site) c.args.records.now c.args.tombstones.now in
     let same : c.in_ok-part.part ≡ part = c.in_ok-part.ensures.part ∙ ap (λ (s : Content). part_of s c.args.records.now c.args.tombstones.now) (c.records.ensures.value ∙ held.state) in
-    let all = holds_there c.records.result.now (content_at c.args.self.now c.args.site) c.args.records.now c.args.tombstones.now (c.records.ensures.value ∙ held.state) (c.in_ok-part.ensures.held not_err) in
+    let all = holds_there c.records.result.now (content_at c.args.self.now c.args.site) c.args.records.now c.args.tombstones.now (c.records.ensures.value ∙ held.state) (c.in_ok-part.ensures.held ok_not_err) in
     record {
       step = (
         send_free c.args.self.now c.args.site c.in_ok-place.ensures.there c.in_ok-number.ensures.room (holds_all (content_at c.args.self.now c.args.site) c.args.records.now c.args.tombstones.now) all,
