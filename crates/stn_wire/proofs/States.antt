@@ -8,7 +8,7 @@ use Rattle.stn_records.specs.Content.{Content, IsSound}
 use Rattle.stn_records.proofs.Limits.{additions_within, tombstones_within}
 use Rattle.stn_wire.specs.Spelling.{entry_bytes, IsEntry, tomb_bytes, IsTomb, counted, AreCounted}
 use Rattle.stn_wire.specs.Apart.{entry_apart, tomb_apart}
-use Rattle.stn_wire.specs.Frame.{state_bytes, IsState}
+use Rattle.stn_wire.specs.Frame.{records, body_of, state_bytes, most_body, IsState}
 use Rattle.stn_wire.specs.Reading.{IsReading, counted_then}
 use Rattle.stn_wire.proofs.Chunks.{length-flat_map, counted_cut}
 
@@ -23,6 +23,10 @@ few_tombstones s sound = omega (arith, tombstones_within s, sound.limited)
 pub length-state_bytes : (s : Content) → length (state_bytes s) ≡ 4 + length (entries s.additions) * 17 + length (entries s.tombstones) * 4
 length-state_bytes s =
     omega (arith, length-append (flat_map entry_bytes (entries s.additions)) (counted tomb_bytes (entries s.tombstones)), length-flat_map IsEntry entry_bytes 17 (λ _. refl) (entries s.additions), length-flat_map IsTomb tomb_bytes 4 (λ _. refl) (entries s.tombstones))
+
+-- so its frame is never too long
+pub state_fits : (s : Content) → IsSound s → length (body_of (records s)) ≤ most_body
+state_fits s sound = omega (arith, length-state_bytes s, few_additions s sound, few_tombstones s sound)
 
 -- ---- reading a state: its additions, its tombstones, and nothing behind them
 

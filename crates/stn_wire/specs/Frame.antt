@@ -6,6 +6,8 @@ use Rattle.stn_records.specs.Content.{Content, IsSound}
 use Rattle.stn_wire.specs.Spelling.{two, measured, counted, AreCounted, entry_bytes, IsEntry, tomb_bytes, IsTomb}
 use Rattle.stn_wire.specs.declared.frame.Frame.{Frame}
 use Rattle.stn_wire.specs.declared.frame.Frame.TheVariants.{Hello, Records, Ask, Text, Refused, Same}
+use Rattle.stn_wire.specs.declared.frame.Said.{Said}
+use Rattle.stn_wire.specs.declared.frame.Said.TheVariants as said
 
 -- the most bytes that a body has
 abbrev pub most_body : ℕ
@@ -28,6 +30,14 @@ content Ask = ask
 content (Text bytes) = text bytes.items
 content (Refused code) = refused code
 content Same = same
+
+abbrev pub said_content : {A : Type 0} → Said A → FrameContent
+said_content (said.Hello source) = hello (plan_source source.now)
+said_content (said.Records state) = records state.now
+said_content said.Ask = ask
+said_content (said.Text bytes) = text bytes.now
+said_content (said.Refused code) = refused code
+said_content said.Same = same
 
 -- a source: its form, and its steps or its two texts
 abbrev pub source_bytes : PlanSource → List ℕ

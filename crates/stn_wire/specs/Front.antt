@@ -36,6 +36,10 @@ IsFront bytes (faulty Memory) = ⊥
 IsFront bytes unfinished = (length bytes < 4) ⊎ (IsLength (announced bytes)
     × ((length bytes ≡ 4) ⊎ (IsKind (slice_index bytes 4) × (length bytes < 4 + announced bytes))))
 
+-- a whole frame stands in front
+abbrev pub BeginsFrame : List ℕ → Type 0
+BeginsFrame bytes = (frame : FrameContent) × (n : ℕ) × IsFront bytes (whole frame n)
+
 -- the front that an answer names; none for want of memory
 abbrev pub answered : {A : Type 0} → Result (Option (Frame A × ℕ)) WireFault → Option Front
 answered (Ok None) = Some unfinished

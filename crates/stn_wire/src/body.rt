@@ -1,9 +1,9 @@
 // Bodies of frames: a table by kinds.
 ghost use Rattle.std.specs.Prelude.{◌≡◌, ◌∷◌, ◌≤◌, ◌++◌, length, IfOk, OnOk, option_map};
-ghost use Rattle.stn_wire.specs.Frame.{most_body, content, body_of, IsSaid};
+ghost use Rattle.stn_wire.specs.Frame.{most_body, content, said_content, body_of, IsSaid};
 ghost use Rattle.stn_wire.specs.Reading.{IsBodyReading};
 
-use crate::frame::Frame;
+use crate::frame::{Frame, Said};
 use crate::source::{append_source, read_source};
 use crate::state::{append_state, read_state};
 use std::alloc::Allocator;
@@ -83,27 +83,27 @@ fn read_same<A: Allocator>(rest: &[u8]) -> Option<Frame<A>>
 
 pub(crate) fn append_body<A: Allocator + Copy, B: Allocator>(
     out: &mut Vec<u8, B>,
-    frame: &Frame<A>,
+    said: &Said<A>,
 ) -> Result<(), Memory>
-    requires { length (body_of (content frame.now)) ≤ most_body }
-    ensures appended { OnOk result (out.new.items ≡ out.old.items ++ body_of (content frame.now)) }
-    ensures said { OnOk result (IsSaid (content frame.now)) }
+    requires { length (body_of (said_content said.now)) ≤ most_body }
+    ensures appended { OnOk result (out.new.items ≡ out.old.items ++ body_of (said_content said.now)) }
+    ensures said { OnOk result (IsSaid (said_content said.now)) }
 {
-    match frame {
-        Frame::Hello(source) => {
+    match said {
+        Said::Hello(source) => {
             out.push(1)?;
             append_source(out, source)
         }
-        Frame::Records(state) => {
+        Said::Records(state) => {
             out.push(2)?;
             append_state(out, state)
         }
-        Frame::Ask => Ok(out.push(3)?),
-        Frame::Text(bytes) => {
+        Said::Ask => Ok(out.push(3)?),
+        Said::Text(bytes) => {
             out.push(4)?;
             out.extend_from_slice(bytes)
         }
-        Frame::Refused(code) => out.extend_from_slice(&[5, *code]),
-        Frame::Same => Ok(out.push(6)?),
+        Said::Refused(code) => out.extend_from_slice(&[5, *code]),
+        Said::Same => Ok(out.push(6)?),
     }
 }
