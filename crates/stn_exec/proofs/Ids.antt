@@ -1,5 +1,5 @@
 -- The id that a word names.
-use Rattle.std.proofs.Common.{◌≡◌, ◌≢◌, ℕ, suc, ◌+◌, ◌<◌, ◌≤◌, ◌^◌, Bool, true, false, ◌==◌, ◌&&◌, cond, List, [], ◌∷◌, ◌++◌, length, get_or, take, drop, Option, Some, None, IfSome, codes, decimal, refl, sym, ap, subst, ◌∙◌, arith, append_assoc, bytes_eq}
+use Rattle.std.proofs.Common.{◌≡◌, ◌≢◌, ℕ, suc, ◌+◌, ◌<◌, ◌^◌, Bool, true, false, ◌==◌, ◌&&◌, cond, List, [], ◌∷◌, ◌++◌, length, take, drop, Some, None, decimal, refl, sym, ap, ◌∙◌, arith, append_assoc, bytes_eq}
 use Rattle.std.specs.Prelude.{nat_le}
 use Rattle.std.specs.List.{before_first, after_first, position_or_len}
 use Rattle.std.specs.Char.{is_ascii_digit}
@@ -11,7 +11,7 @@ use Rattle.std.proofs.lemmas.Bool.{and_parts, and_from}
 use Rattle.std.proofs.lemmas.Fmt.{digits_decimal, digits_value-decimal}
 use Rattle.std.proofs.lemmas.List.{take_at, drop_at, length_push}
 use Rattle.stn_time.proofs.Forms.{own}
-use Rattle.stn_records.specs.Id.{SiteCounter, IsId, IsSite, id_text}
+use Rattle.stn_records.specs.Id.{SiteCounter, IsId, id_text}
 use Rattle.stn_exec.specs.Command.{around_dot, is_id, id_of}
 
 -- digits are no dot

@@ -1,71 +1,106 @@
 -- The commands of a script are a run of the world's steps.
-use Rattle.std.proofs.Common.{◌≡◌, ◌↔◌, ℕ, ℤ, ◌+◌, Bool, true, false, cond, List, [], ◌∷◌, ◌++◌, length, Option, Some, None, Result, Ok, Err, option_map, option_to_list, refl, sym, ap, subst, ◌∙◌, arith, append_assoc, append-nil}
+use Rattle.std.proofs.Common.{◌≡◌, ◌↔◌, ℕ, ℤ, ◌+◌, Bool, true, false, cond, is_some, List, [], ◌∷◌, ◌++◌, length, Option, Some, None, Result, Ok, Err, option_map, option_to_list, refl, sym, ap, subst, ◌∙◌, arith, append_assoc, append-nil}
 use Rattle.std.specs.Prelude.{option_and_then}
 use Rattle.std.specs.Result.{result_ok}
+use Rattle.std.proofs.lemmas.Bool.{false≢true}
 use Rattle.std.proofs.lemmas.List.Sums.{fold-append}
 use Rattle.stn_time.specs.TimeOf.{time_of}
 use Rattle.stn_net.specs.Difference.{Difference}
 use Rattle.stn_lift.specs.PlanSource.{PlanSource, events_of}
 use Rattle.stn_text.specs.Lines.{lines_of, words_of}
 use Rattle.stn_replica.specs.Report.{IsReport}
-use Rattle.stn_replica.specs.Refusals.{add_refusal, done_refusal}
+use Rattle.stn_replica.specs.Refusals.{add_refusal, done_refusal, withdraw_refusal}
+use Rattle.stn_world.specs.declared.faults.WorldFault.{WorldFault}
+use Rattle.stn_world.specs.declared.faults.WorldFault.TheVariants.{NoSite}
 use Rattle.stn_world.specs.Faults.{of_replica_fault}
-use Rattle.stn_world.specs.World.{World, HasSite, has_site, opening_world, held_at, content_at, next_id_at}
-use Rattle.stn_records.specs.Content.{Item, HasItem, part_of}
-use Rattle.stn_world.specs.Steps.{Step, added, finished, stepped, run, TookAt, TookSameAt}
-use Rattle.stn_world.proofs.Accepted.{no_site}
+use Rattle.stn_world.specs.World.{World, HasSite, has_site, opening_world, held_at, content_at}
+use Rattle.stn_records.specs.Content.{Content, Item, HasItem, part_of}
+use Rattle.stn_world.specs.Steps.{Step, added, finished, withdrew, merged, sent, delivered, step_refusal, send_refusal, after, IsAccepted, stepped, run, TookAt, TookSameAt}
+use Rattle.stn_world.proofs.Accepted.{site_decides, no_site}
 use Rattle.stn_world.specs.Parts.{holds_all}
 use Rattle.stn_world.proofs.Sendings.{part_free, all_free}
 use Rattle.stn_world.proofs.Runs.{run_stays, run_keeps}
 use Rattle.stn_exec.specs.declared.answer.Refusal.{Refusal}
 use Rattle.stn_exec.specs.declared.answer.Refusal.TheVariants as refusal
-use Rattle.stn_exec.specs.declared.answer.Answer.TheVariants as answer
 use Rattle.stn_exec.specs.Command.{Action, add, done, withdraw, merge, send_all, send, deliver, report, check, next, rehearse, Command, sites_command, command_of}
-use Rattle.stn_exec.specs.Effect.{Effect, Reply, reported, foreseen, rehearsed, refusing, refusing_time, difference_read, add_effect, done_effect, asked, action_effect, command_effect, action_step, step_of}
+use Rattle.stn_exec.specs.Effect.{Effect, Reply, reported, foreseen, rehearsed, refusing, refusing_time, difference_read, add_effect, done_effect, sending, sent_step, asked, action_effect, command_effect, action_step, step_of}
 use Rattle.stn_exec.specs.Script.{Outcome, Start, is_skipped, form_effect, line_outcome, lines_outcome, heading_of, last_line, script_outcome}
 use Rattle.stn_exec.specs.Output.{IsOutput}
 use Rattle.stn_exec.specs.Reports.{line_steps, steps_of_lines, LineOf, first_world, steps_before, world_at, ReportsSite, PrintsAt}
-use Rattle.stn_exec.proofs.Effects.{withdraws, merges, delivers, sending_run, as_called, there_effect}
+use Rattle.stn_exec.proofs.Effects.{there_effect}
 use Rattle.stn_exec.proofs.Scripts.{line_outcome-skipped, line_outcome-run, line_effect-is, script_outcome-is}
 
 -- ---- what a command leaves is what its step leaves
-stays : (b : Bool) (world : World) (one two : Effect) → one.world ≡ world → two.world ≡ world → (cond b one two).world ≡ world
-stays true world one two e f = e
-stays false world one two e f = f
-
-addition_run : (world : World) (site : ℕ) (read : Result Difference Refusal)
-    → (cond (has_site world site) (add_effect world site read) (refusing world refusal.NoSite)).world ≡ run world (option_to_list (option_map (added site) (result_ok read)))
-addition_run world site (Ok bound) =
-    ap (λ (e : Effect). e.world) (sym (as_called world site (added site bound) (answer.Added (next_id_at world site)) (no_site world site (option_map of_replica_fault (add_refusal (held_at world site) bound)))))
-addition_run world site (Err cause) = stays (has_site world site) world (refusing world cause) (refusing world refusal.NoSite) refl refl
+addition_run : (world : World) (site : ℕ) (read : Result Difference Refusal) → (add_effect world site read).world ≡ run world (option_to_list (option_map (added site) (result_ok read)))
+addition_run world site (Ok bound) = refl
+addition_run world site (Err cause) = refl
 
 execution_run : (world : World) (site event : ℕ) (read : Result ℤ Refusal)
-    → (cond (has_site world site) (done_effect world site event read) (refusing world refusal.NoSite)).world ≡ run world (option_to_list (option_map (finished site event) (result_ok read)))
-execution_run world site event (Ok time) =
-    ap (λ (e : Effect). e.world) (sym (as_called world site (finished site event time) (answer.Added (next_id_at world site)) (no_site world site (option_map of_replica_fault (done_refusal (held_at world site) event)))))
-execution_run world site event (Err cause) = stays (has_site world site) world (refusing world cause) (refusing world refusal.NoSite) refl refl
+    → (done_effect world site event read).world ≡ run world (option_to_list (option_map (finished site event) (result_ok read)))
+execution_run world site event (Ok time) = refl
+execution_run world site event (Err cause) = refl
+
+sending_run : (world : World) (site : ℕ) (part : Content) (held : Bool) → IsAccepted world (sent site part)
+    → (sending world site part held).world ≡ run world (option_to_list (sent_step world site part held))
+sending_run world site part held free = by_cause (send_refusal world site held)
+  where
+    by_cause : (o : Option WorldFault) → cond (is_some o) world (after world (sent site part)) ≡ run world (option_to_list (cond (is_some o) None (Some (sent site part))))
+    by_cause None = ap (λ o. cond (is_some o) world (after world (sent site part))) (sym free)
+    by_cause (Some cause) = refl
 
 asked_stays : (world : World) (reply : ℤ → Reply) (read : Result ℤ Refusal) → (asked world reply read).world ≡ world
 asked_stays world reply (Ok now) = refl
 asked_stays world reply (Err cause) = refl
 
+there_run : (world : World) (site : ℕ) (action : Action) → HasSite world site → (action_effect world site action).world ≡ run world (option_to_list (action_step world site action))
+there_run world site (add from to lo hi) there = addition_run world site (difference_read from to lo hi)
+there_run world site (done event time) there = execution_run world site event (refusing_time (time_of time))
+there_run world site (withdraw id) there = refl
+there_run world site (merge other) there = refl
+there_run world site send_all there = sending_run world site (content_at world site) true (all_free world site there)
+there_run world site (send records tombstones) there =
+    sending_run world site (part_of (content_at world site) records tombstones) (holds_all (content_at world site) records tombstones) (part_free world site records tombstones there)
+there_run world site (deliver packet) there = refl
+there_run world site report there = refl
+there_run world site (check times) there = refl
+there_run world site (next now) there = asked_stays world (foreseen world.source (content_at world site)) (refusing_time (time_of now))
+there_run world site (rehearse now) there = asked_stays world (rehearsed world.source (content_at world site)) (refusing_time (time_of now))
+
+-- at a site that is not there, each step is refused
+refused_run : (world : World) (step : Step) → step_refusal world step ≡ Some NoSite → run world (step ∷ []) ≡ world
+refused_run world step refused = ap (λ o. cond (is_some o) world (after world step)) refused
+
+unsent_run : (world : World) (site : ℕ) (part : Content) (held : Bool) → ¬ HasSite world site → run world (option_to_list (sent_step world site part held)) ≡ world
+unsent_run world site part held missing = ap (λ o. run world (option_to_list (cond (is_some o) None (Some (sent site part))))) (no_site world site _ missing)
+
+missing_run : (world : World) (site : ℕ) (action : Action) → ¬ HasSite world site → run world (option_to_list (action_step world site action)) ≡ world
+missing_run world site (add from to lo hi) missing = read (difference_read from to lo hi)
+  where
+    read : (r : Result Difference Refusal) → run world (option_to_list (option_map (added site) (result_ok r))) ≡ world
+    read (Ok bound) = refused_run world (added site bound) (no_site world site (option_map of_replica_fault (add_refusal (held_at world site) bound)) missing)
+    read (Err cause) = refl
+missing_run world site (done event time) missing = read (refusing_time (time_of time))
+  where
+    read : (r : Result ℤ Refusal) → run world (option_to_list (option_map (finished site event) (result_ok r))) ≡ world
+    read (Ok at) = refused_run world (finished site event at) (no_site world site (option_map of_replica_fault (done_refusal (held_at world site) event)) missing)
+    read (Err cause) = refl
+missing_run world site (withdraw id) missing = refused_run world (withdrew site id) (no_site world site (option_map of_replica_fault (withdraw_refusal (held_at world site) id)) missing)
+missing_run world site (merge other) missing = refused_run world (merged site other) (no_site world site _ missing)
+missing_run world site send_all missing = unsent_run world site (content_at world site) true missing
+missing_run world site (send records tombstones) missing =
+    unsent_run world site (part_of (content_at world site) records tombstones) (holds_all (content_at world site) records tombstones) missing
+missing_run world site (deliver packet) missing = refused_run world (delivered site packet) (no_site world site _ missing)
+missing_run world site report missing = refl
+missing_run world site (check times) missing = refl
+missing_run world site (next now) missing = refl
+missing_run world site (rehearse now) missing = refl
+
 effect_run : (world : World) (site : ℕ) (action : Action) → (command_effect world (sites_command site action)).world ≡ run world (option_to_list (action_step world site action))
-effect_run world site (add from to lo hi) = addition_run world site (difference_read from to lo hi)
-effect_run world site (done event time) = execution_run world site event (refusing_time (time_of time))
-effect_run world site (withdraw id) = ap (λ (e : Effect). e.world) (sym (withdraws world site id))
-effect_run world site (merge other) = ap (λ (e : Effect). e.world) (sym (merges world site other))
-effect_run world site send_all = sending_run world site (content_at world site) true (all_free world site)
-effect_run world site (send records tombstones) =
-    sending_run world site (part_of (content_at world site) records tombstones) (holds_all (content_at world site) records tombstones) (part_free world site records tombstones)
-effect_run world site (deliver packet) = ap (λ (e : Effect). e.world) (sym (delivers world site packet))
-effect_run world site report = stays (has_site world site) world (action_effect world site report) (refusing world refusal.NoSite) refl refl
-effect_run world site (check times) = stays (has_site world site) world (action_effect world site (check times)) (refusing world refusal.NoSite) refl refl
-effect_run world site (next now) =
-    stays (has_site world site) world (action_effect world site (next now)) (refusing world refusal.NoSite)
-    (asked_stays world (foreseen world.source (content_at world site)) (refusing_time (time_of now))) refl
-effect_run world site (rehearse now) =
-    stays (has_site world site) world (action_effect world site (rehearse now)) (refusing world refusal.NoSite)
-    (asked_stays world (rehearsed world.source (content_at world site)) (refusing_time (time_of now))) refl
+effect_run world site action = tested (has_site world site) refl
+  where
+    tested : (b : Bool) → has_site world site ≡ b → (cond b (action_effect world site action) (refusing world refusal.NoSite)).world ≡ run world (option_to_list (action_step world site action))
+    tested true e = there_run world site action ((site_decides world site).0 e)
+    tested false e = sym (missing_run world site action (λ there. false≢true (sym e ∙ (site_decides world site).1 there)))
 
 form_run : (number : ℕ) (world : World) (command : Option Command) → (form_effect number world command).world ≡ run world (option_to_list (option_and_then (step_of world) command))
 form_run number world None = refl

@@ -16,7 +16,8 @@ use Rattle.stn_lift.specs.PlanSource.{PlanSource, events_of}
 use Rattle.stn_world.specs.World.{World, opening_world}
 use Rattle.stn_exec.specs.declared.answer.Answer.{Answer}
 use Rattle.stn_exec.specs.Answer.{answer_text, is_refusal}
-use Rattle.stn_exec.specs.Output.{IsReplyText, IsOutput, CountsRefusals, WritesOutput, WritesOutputPart, IsReplied}
+use Rattle.stn_exec.specs.Output.{IsReplyText, IsOutput, CountsRefusals, WritesOutput, WritesOutputPart}
+use Rattle.stn_exec.specs.Running.{IsReplied}
 use Rattle.stn_exec.proofs.Outputs.{counts_join, one_refusal}
 use Rattle.stn_exec.specs.Script.{Outcome, nothing_run, followed_by, form_effect, is_skipped, line_effect, effect_outcome, line_outcome, lines_outcome, next_line, Part, part_of, sites_of, Based, Start, based, with_sites, heading_of, started, last_line, script_outcome}
 

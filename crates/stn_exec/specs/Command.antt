@@ -1,16 +1,12 @@
 -- The commands that lines are.
-use Rattle.std.specs.Prelude.{◌≡◌, ℕ, ◌+◌, ◌==◌, Bool, ◌&&◌, ◌||◌, nat_le, if◌then◌else◌, List, [], ◌∷◌, length, codes, find, Option, Some, None, is_some, option_and_then}
+use Rattle.std.specs.Prelude.{ℕ, ◌+◌, ◌==◌, Bool, ◌&&◌, ◌||◌, nat_le, if◌then◌else◌, List, [], ◌∷◌, length, codes, find, Option, Some, None, is_some, option_and_then}
 use Rattle.std.specs.List.{range_with_len, list_all, filter_map, before_first, after_first}
 use Rattle.std.specs.Option.{option_map}
 use Rattle.std.specs.Str.{bytes_eq}
 use Rattle.std.specs.Str.Parse.{digits_value}
 use Rattle.stn_net.specs.Event.{most_events, event_text}
 use Rattle.stn_records.specs.Id.{most_sites, most_counter, SiteCounter, id_text}
-use Rattle.stn_text.specs.Lines.{words_of}
 use Rattle.stn_text.specs.Numbers.{number_of}
-use Rattle.stn_exec.specs.declared.command.Command.{Command as CommandOfLine}
-use Rattle.stn_exec.specs.declared.command.Action.{Action as ActionOfLine}
-use Rattle.stn_exec.specs.declared.command.Action.TheVariants as line
 
 -- what a command does: it adds the bound of two events and two sides, records the time at which an event was executed, withdraws a
 -- record, merges another site, sends all that the site holds or some of its records and withdrawn ids, takes in a packet, prints the
@@ -140,26 +136,3 @@ command_of events [] = None
 command_of events (site ∷ []) = None
 command_of events (site ∷ (name ∷ words)) =
     option_and_then (λ number. option_map (sites_command number) (action_of events name words)) (number_of site)
-
--- the action that the code has read from a line
-abbrev pub seen_action : ActionOfLine → Action
-seen_action (line.Add from to lo hi) = add from to lo.now hi.now
-seen_action (line.Done event time) = done event time.now
-seen_action (line.Withdraw id) = withdraw id
-seen_action (line.Merge other) = merge other
-seen_action line.SendAll = send_all
-seen_action (line.Send items) = send_items (words_of items.now)
-seen_action (line.Deliver packet) = deliver packet
-seen_action line.Report = report
-seen_action (line.Check times) = check (words_of times.now)
-seen_action (line.Next now) = next now.now
-seen_action (line.Rehearse now) = rehearse now.now
-
--- the command that the code has read from a line
-abbrev pub seen_command : CommandOfLine → Command
-seen_command command = sites_command command.site (seen_action command.action)
-
--- a check has one time for each event
-abbrev pub IsForEvents : ℕ → Action → Type 0
-IsForEvents events (check times) = length times ≡ events
-IsForEvents events other = Unit {0}

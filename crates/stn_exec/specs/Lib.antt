@@ -8,4 +8,5 @@ pub mod Blocks
 pub mod Script
 pub mod Heading
 pub mod Output
+pub mod Running
 pub mod Reports

@@ -1,4 +1,4 @@
-ghost use Rattle.std.specs.Prelude.{◌≡◌, ℕ, ◌+◌, Some, Ok, Err, length, pos, neg_ℤ, IfOk, IfErr, if◌then◌else◌};
+ghost use Rattle.std.specs.Prelude.{◌≡◌, ℕ, ◌+◌, Some, Ok, Err, length, pos, neg_ℤ, IfOk, IfErr};
 ghost use Rattle.std.specs.Option.{option_map_or};
 ghost use Rattle.stn_time.specs.Time.{horizon};
 ghost use Rattle.stn_time.specs.TimeOf.{time_of};
@@ -6,14 +6,12 @@ ghost use Rattle.stn_net.specs.Schedule.{times_of};
 ghost use Rattle.stn_lift.specs.PlanSource.{events_of};
 ghost use Rattle.stn_replica.specs.Names.{broken_bound};
 ghost use Rattle.stn_text.specs.Lines.{words_of};
-ghost use Rattle.stn_world.specs.World.{has_site};
 ghost use Rattle.stn_exec.specs.declared.answer.Refusal.{Refusal};
-ghost use Rattle.stn_exec.specs.declared.answer.Refusal.TheVariants.{NoSite};
 ghost use Rattle.stn_world.specs.declared.faults.WorldFault.TheVariants.{Replica};
 ghost use Rattle.stn_exec.specs.declared.answer.Answer.TheVariants.{Broken, Schedule, Refused};
-ghost use Rattle.stn_exec.specs.Command.{add, done, withdraw, merge, send_all, send, send_items, deliver, check, sites_command};
+ghost use Rattle.stn_exec.specs.Command.{add, done, withdraw, merge, send_all, send, send_items, deliver};
 ghost use Rattle.stn_exec.specs.Refusals.{refusal_of};
-ghost use Rattle.stn_exec.specs.Effect.{said, refusing_time, side_of, difference_read, command_effect, check_answer, times_from};
+ghost use Rattle.stn_exec.specs.Effect.{said, refusing_time, side_of, difference_read, action_effect, check_answer, times_from};
 
 use crate::answer::{Answer, Refusal};
 use crate::command::{read_records, read_tombstones};
@@ -35,14 +33,14 @@ pub fn add<A: Allocator + Copy>(
     hi: &[u8],
 ) -> Result<Answer, Memory>
     ensures { IfOk result (λ answer. record { world = world.new; reply = said answer }
-        ≡ command_effect world.old (sites_command site (add from to lo.now hi.now))) }
+        ≡ action_effect world.old site (add from to lo.now hi.now)) }
 {
     match read_sides(lo, hi) {
         Ok((low, high)) => match world.add(site, from, to, low, high) {
             Ok(id) => Ok(Answer::Added(id)),
             Err(fault) => refused(fault),
         },
-        Err(refusal) => Ok(Answer::Refused(at_site(world, site, refusal))),
+        Err(refusal) => Ok(Answer::Refused(refusal)),
     }
 }
 
@@ -54,14 +52,14 @@ pub fn done<A: Allocator + Copy>(
     time: &[u8],
 ) -> Result<Answer, Memory>
     ensures { IfOk result (λ answer. record { world = world.new; reply = said answer }
-        ≡ command_effect world.old (sites_command site (done event time.now))) }
+        ≡ action_effect world.old site (done event time.now)) }
 {
     match read_time(time) {
         Ok(time) => match world.done(site, event, time) {
             Ok(id) => Ok(Answer::Added(id)),
             Err(fault) => refused(fault),
         },
-        Err(refusal) => Ok(Answer::Refused(at_site(world, site, refusal))),
+        Err(refusal) => Ok(Answer::Refused(refusal)),
     }
 }
 
@@ -72,7 +70,7 @@ pub fn withdraw<A: Allocator + Copy>(
     id: Id,
 ) -> Result<Answer, Memory>
     ensures { IfOk result (λ answer. record { world = world.new; reply = said answer }
-        ≡ command_effect world.old (sites_command site (withdraw id))) }
+        ≡ action_effect world.old site (withdraw id)) }
 {
     match world.withdraw(site, id) {
         Ok(()) => Ok(Answer::Withdrawn(id)),
@@ -87,7 +85,7 @@ pub fn merge<A: Allocator + Copy>(
     other: u32,
 ) -> Result<Answer, Memory>
     ensures { IfOk result (λ answer. record { world = world.new; reply = said answer }
-        ≡ command_effect world.old (sites_command site (merge other))) }
+        ≡ action_effect world.old site (merge other)) }
 {
     match world.merge(site, other) {
         Ok(()) => Ok(Answer::Merged),
@@ -98,7 +96,7 @@ pub fn merge<A: Allocator + Copy>(
 /// Sends all that a site holds.
 pub fn send_all<A: Allocator + Copy>(world: &mut World<A>, site: u32) -> Result<Answer, Memory>
     ensures { IfOk result (λ answer. record { world = world.new; reply = said answer }
-        ≡ command_effect world.old (sites_command site send_all)) }
+        ≡ action_effect world.old site send_all) }
 {
     match world.send_all(site) {
         Ok(number) => Ok(Answer::Sent(number)),
@@ -114,7 +112,7 @@ pub fn send<A: Allocator + Copy>(
     items: &[u8],
 ) -> Result<Answer, Memory>
     ensures { IfOk result (λ answer. record { world = world.new; reply = said answer }
-        ≡ command_effect world.old (sites_command site (send_items (words_of items.now)))) }
+        ≡ action_effect world.old site (send_items (words_of items.now))) }
 {
     let records = read_records(alloc, items)?;
     let tombstones = read_tombstones(alloc, items)?;
@@ -128,7 +126,7 @@ fn send_part<A: Allocator + Copy>(
     tombstones: &[Id],
 ) -> Result<Answer, Memory>
     ensures { IfOk result (λ answer. record { world = world.new; reply = said answer }
-        ≡ command_effect world.old (sites_command site (send records.now tombstones.now))) }
+        ≡ action_effect world.old site (send records.now tombstones.now)) }
 {
     match world.send(site, records, tombstones) {
         Ok(number) => Ok(Answer::Sent(number)),
@@ -143,7 +141,7 @@ pub fn deliver<A: Allocator + Copy>(
     packet: u32,
 ) -> Result<Answer, Memory>
     ensures { IfOk result (λ answer. record { world = world.new; reply = said answer }
-        ≡ command_effect world.old (sites_command site (deliver packet))) }
+        ≡ action_effect world.old site (deliver packet)) }
 {
     match world.deliver(site, packet) {
         Ok(()) => Ok(Answer::Delivered),
@@ -151,8 +149,8 @@ pub fn deliver<A: Allocator + Copy>(
     }
 }
 
-// Checks the times of the events from 1 on, which are the words of a line.
-fn check<A: Allocator + Copy>(
+/// Checks the times of the events from 1 on, which are the words of a line.
+pub fn check<A: Allocator + Copy>(
     alloc: A,
     replica: &SiteReplica<A>,
     line: &[u8],
@@ -164,30 +162,13 @@ fn check<A: Allocator + Copy>(
     times.push(Ms::new(0).unwrap())?;
     let mut rest = line;
     while let Some((word, behind)) = first_word(rest) {
-        match Ms::read(word) {
+        match read_time(word) {
             Ok(time) => times.push(time)?,
-            Err(fault) => return Ok(Answer::Refused(Refusal::Time(fault))),
+            Err(refusal) => return Ok(Answer::Refused(refusal)),
         }
         rest = behind;
     }
     Ok(check_times(replica, &times))
-}
-
-/// Checks at a site the times of the events from 1 on, which are the words of a line.
-pub fn check_at<A: Allocator + Copy>(
-    alloc: A,
-    world: &World<A>,
-    site: u32,
-    line: &[u8],
-) -> Result<Answer, Memory>
-    requires { length (words_of line.now) ≡ events_of world.now.source }
-    ensures { IfOk result (λ answer. record { world = world.now; reply = said answer }
-        ≡ command_effect world.now (sites_command site (check (words_of line.now)))) }
-{
-    match world.replica(site) {
-        Some(replica) => check(alloc, replica, line),
-        None => Ok(Answer::Refused(Refusal::NoSite)),
-    }
 }
 
 fn check_times<A: Allocator + Copy>(replica: &SiteReplica<A>, times: &[Ms]) -> Answer
@@ -229,16 +210,6 @@ pub fn read_time(word: &[u8]) -> Result<Ms, Refusal>
     match Ms::read(word) {
         Ok(time) => Ok(time),
         Err(fault) => Err(Refusal::Time(fault)),
-    }
-}
-
-// The refusal of a command of a site, where the site is there.
-fn at_site<A: Allocator + Copy>(world: &World<A>, site: u32, refusal: Refusal) -> Refusal
-    ensures { result ≡ (if has_site world.now site then refusal else NoSite) }
-{
-    match world.replica(site) {
-        Some(_replica) => refusal,
-        None => Refusal::NoSite,
     }
 }
 

@@ -2,7 +2,8 @@ ghost use Rattle.std.specs.Prelude.{◌≡◌, ℕ, ◌∷◌, length, IfSome, I
 ghost use Rattle.std.specs.List.{list_all, filter_map};
 ghost use Rattle.std.specs.Option.{option_map};
 ghost use Rattle.stn_text.specs.Lines.{words_of};
-ghost use Rattle.stn_exec.specs.Command.{command_of, action_of, add_of, done_of, withdraw_of, merge_of, send_of, deliver_of, report_of, check_of, next_of, rehearse_of, event_of, id_of, tombstone_of, is_item, seen_command, seen_action, IsForEvents};
+ghost use Rattle.stn_exec.specs.Command.{command_of, action_of, add_of, done_of, withdraw_of, merge_of, send_of, deliver_of, report_of, check_of, next_of, rehearse_of, event_of, id_of, tombstone_of, is_item};
+ghost use Rattle.stn_exec.specs.Running.{seen_command, seen_action, IsForEvents};
 
 use std::alloc::Allocator;
 use stn_net::Event;

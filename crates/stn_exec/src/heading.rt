@@ -101,11 +101,18 @@ pub fn open<A: Allocator + Copy>(
         number: sites.found.number + 1,
         text: sites.found.behind,
     };
-    match World::new(alloc, Rc::new(alloc, base)?, sites.value.min(255) as u8) {
+    match World::new(alloc, Rc::new(alloc, base)?, sites_of(sites.value)) {
         Ok(world) => Ok((world, rest)),
         Err(SitesFault::NoSite) => Err(HeadingFault::Refused(Refusal::NoSite)),
         Err(SitesFault::Memory) => Err(HeadingFault::Memory),
     }
+}
+
+// The number of sites as a byte; one too large for it is given as the greatest, which no world has either.
+fn sites_of(number: u32) -> u8
+    ensures { result ≡ min number u8.MAX }
+{
+    u8::try_from(number).unwrap_or(u8::MAX)
 }
 
 // The base that the first part of a heading gives, and what stands behind that part.
@@ -143,7 +150,7 @@ fn read_bare<A: Allocator + Copy>(
 {
     match read_value(b"steps", found.word, found.rest) {
         Some(steps) => {
-            let source = Source::Bare(steps.min(65_535) as u16);
+            let source = Source::Bare(u16::try_from(steps).unwrap_or(u16::MAX));
             let base = make_base(alloc, &source)?;
             let rest = Rest {
                 number: found.number + 1,

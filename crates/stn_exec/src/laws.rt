@@ -24,10 +24,10 @@ pub fn one_script()
 /// The law that the commands of a script are a run of the world's steps, and what its reports say; it
 /// does nothing. The script's world is the end of the run of its steps, and at each line the end of
 /// the run of the steps before it. The output of the script falls into what the lines before a line
-/// print, what the line prints, and what the lines behind it print. What a site's command `report` prints is the report of what the site
-/// holds, which is the union of what it took. So two sites of one plan, of one script or of two, that
-/// took the same additions and withdrawals, in any order, more than once or merged in any grouping,
-/// print the same bytes.
+/// print, what the line prints, and what the lines behind it print. What a site's command `report`
+/// prints is the report of what the site holds, which is the union of what it took. So two sites of
+/// one plan, of one script or of two, that took the same additions and withdrawals, in any order, more
+/// than once or merged in any grouping, print the same bytes.
 pub fn scripts_are_runs()
     ensures end { (script : List ℕ) (start : Start) → heading_of (last_line script) (lines_of script) ≡ Ok start
         → (script_outcome script).world ≡ run (opening_world start.source start.sites) (steps_of_lines (opening_world start.source start.sites) start.lines) }

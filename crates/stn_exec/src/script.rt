@@ -5,13 +5,15 @@ ghost use Rattle.stn_device.specs.Bytes.{most_bytes, ConsumesAtMost};
 ghost use Rattle.stn_lift.specs.PlanSource.{events_of};
 ghost use Rattle.stn_text.specs.Lines.{lines_of, words_of};
 ghost use Rattle.stn_exec.specs.Answer.{answer_text, is_refusal};
-ghost use Rattle.stn_exec.specs.Command.{report, next, rehearse, sites_command, seen_action, seen_command, IsForEvents};
-ghost use Rattle.stn_exec.specs.Effect.{command_effect};
-ghost use Rattle.stn_exec.specs.Output.{CountsRefusals, WritesOutput, WritesOutputPart, IsReplied, IsRun};
+ghost use Rattle.stn_world.specs.World.{HasSite, content_at};
+ghost use Rattle.stn_exec.specs.Command.{report, next, rehearse};
+ghost use Rattle.stn_exec.specs.Effect.{action_effect, command_effect};
+ghost use Rattle.stn_exec.specs.Output.{CountsRefusals, WritesOutput, WritesOutputPart};
+ghost use Rattle.stn_exec.specs.Running.{seen_action, seen_command, IsForEvents, IsReplied, IsRun};
 ghost use Rattle.stn_exec.specs.Script.{line_effect, line_outcome, lines_outcome, started, script_outcome, last_line};
 ghost use Rattle.stn_exec.specs.declared.script.RunFault.TheVariants.{Read, Write, Bound, Memory};
 
-use crate::actions::{add, check_at, deliver, done, merge, read_time, send, send_all, withdraw};
+use crate::actions::{add, check, deliver, done, merge, read_time, send, send_all, withdraw};
 use crate::answer::{Answer, Refusal};
 use crate::command::{Action, Command, read_command};
 use crate::dispatch::{append_next, append_rehearsal};
@@ -19,6 +21,7 @@ use crate::heading::{HeadingFault, open, opening_word};
 use std::alloc::{AllocError, Allocator};
 use std::io::{Read, Write};
 use stn_device::{Counted, MOST_BYTES, ReadFault, WriteFault, read_whole, write_whole};
+use stn_replica::Replica;
 use stn_text::first_line;
 use stn_time::Memory;
 use stn_world::World;
@@ -151,8 +154,25 @@ fn reply_command<A: Allocator + Copy>(
     requires { IsForEvents (events_of world.old.source) (seen_action command.now.action) }
     ensures { IfOk result (IsReplied world.new out.old.items out.new.items (command_effect world.old (seen_command command.now))) }
 {
-    let site = command.site;
-    match &command.action {
+    if world.replica(command.site).is_none() {
+        return say(&Answer::Refused(Refusal::NoSite), out);
+    }
+    reply_action(alloc, world, command.site, &command.action, out)
+}
+
+// Appends what an action of a site that is there prints. Whether it is refused.
+fn reply_action<A: Allocator + Copy>(
+    alloc: A,
+    world: &mut World<A>,
+    site: u32,
+    action: &Action<'_>,
+    out: &mut Vec<u8, A>,
+) -> Result<bool, Memory>
+    requires there { HasSite world.old site }
+    requires fits { IsForEvents (events_of world.old.source) (seen_action action.now) }
+    ensures { IfOk result (IsReplied world.new out.old.items out.new.items (action_effect world.old site (seen_action action.now))) }
+{
+    match action {
         Action::Add { from, to, lo, hi } => say(&add(world, site, *from, *to, lo, hi)?, out),
         Action::Done { event, time } => say(&done(world, site, *event, time)?, out),
         Action::Withdraw(id) => say(&withdraw(world, site, *id)?, out),
@@ -161,27 +181,32 @@ fn reply_command<A: Allocator + Copy>(
         Action::Send(items) => say(&send(alloc, world, site, items)?, out),
         Action::Deliver(packet) => say(&deliver(world, site, *packet)?, out),
         Action::Report => report_at(world, site, out),
-        Action::Check(times) => say(&check_at(alloc, world, site, times)?, out),
+        Action::Check(times) => say(&check(alloc, replica_at(world, site), times)?, out),
         Action::Next(now) => next_at(world, site, now, out),
         Action::Rehearse(now) => rehearse_at(world, site, now, out),
     }
 }
 
-// Appends the report of a site, or the refusal where it is not there. Whether it is refused.
+// The replica of a site that is there.
+fn replica_at<A: Allocator + Copy>(world: &World<A>, site: u32) -> &Replica<A>
+    requires { HasSite world.now site }
+    ensures source { result.now.source ≡ world.now.source }
+    ensures state { result.now.state ≡ content_at world.now site }
+{
+    world.replica(site).unwrap()
+}
+
+// Appends the report of a site.
 fn report_at<A: Allocator + Copy>(
     world: &World<A>,
     site: u32,
     out: &mut Vec<u8, A>,
 ) -> Result<bool, Memory>
-    ensures { IfOk result (IsReplied world.now out.old.items out.new.items (command_effect world.now (sites_command site report))) }
+    requires { HasSite world.now site }
+    ensures { IfOk result (IsReplied world.now out.old.items out.new.items (action_effect world.now site report)) }
 {
-    match world.replica(site) {
-        Some(replica) => {
-            replica.report(out)?;
-            Ok(false)
-        }
-        None => say(&Answer::Refused(Refusal::NoSite), out),
-    }
+    replica_at(world, site).report(out)?;
+    Ok(false)
 }
 
 // Appends what comes next at a site from a time on, which is a word of a line. Whether it is refused.
@@ -191,17 +216,15 @@ fn next_at<A: Allocator + Copy>(
     now: &[u8],
     out: &mut Vec<u8, A>,
 ) -> Result<bool, Memory>
-    ensures { IfOk result (IsReplied world.now out.old.items out.new.items (command_effect world.now (sites_command site (next now.now)))) }
+    requires { HasSite world.now site }
+    ensures { IfOk result (IsReplied world.now out.old.items out.new.items (action_effect world.now site (next now.now))) }
 {
-    match world.replica(site) {
-        Some(replica) => match read_time(now) {
-            Ok(time) => {
-                append_next(replica, time, out)?;
-                Ok(false)
-            }
-            Err(refusal) => say(&Answer::Refused(refusal), out),
-        },
-        None => say(&Answer::Refused(Refusal::NoSite), out),
+    match read_time(now) {
+        Ok(time) => {
+            append_next(replica_at(world, site), time, out)?;
+            Ok(false)
+        }
+        Err(refusal) => say(&Answer::Refused(refusal), out),
     }
 }
 
@@ -212,14 +235,12 @@ fn rehearse_at<A: Allocator + Copy>(
     now: &[u8],
     out: &mut Vec<u8, A>,
 ) -> Result<bool, Memory>
-    ensures { IfOk result (IsReplied world.now out.old.items out.new.items (command_effect world.now (sites_command site (rehearse now.now)))) }
+    requires { HasSite world.now site }
+    ensures { IfOk result (IsReplied world.now out.old.items out.new.items (action_effect world.now site (rehearse now.now))) }
 {
-    match world.replica(site) {
-        Some(replica) => match read_time(now) {
-            Ok(time) => append_rehearsal(replica, time, out),
-            Err(refusal) => say(&Answer::Refused(refusal), out),
-        },
-        None => say(&Answer::Refused(Refusal::NoSite), out),
+    match read_time(now) {
+        Ok(time) => append_rehearsal(replica_at(world, site), time, out),
+        Err(refusal) => say(&Answer::Refused(refusal), out),
     }
 }
 

@@ -8,7 +8,7 @@ use Rattle.std.specs.FinMap.Entries.{below_all}
 use Rattle.stn_records.specs.Id.{SiteCounter, id_cmp}
 use Rattle.stn_records.specs.Content.{Content, is_live}
 use Rattle.stn_records.specs.ContentLaws.{ids_total}
-use Rattle.stn_records.proofs.Entries.{less_is, less_back, greater_back, below_less, find_below, passed_over, sorted_drop, in_order, front}
+use Rattle.stn_records.proofs.Entries.{less_is, greater_back, below_less, find_below, passed_over, sorted_drop, in_order, front}
 use Rattle.stn_replica.specs.Work.{is_risen}
 use Rattle.stn_replica.specs.Walk.{from_id, begins_with}
 

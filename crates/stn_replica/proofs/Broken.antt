@@ -18,7 +18,8 @@ use Rattle.stn_records.specs.Content.{Content}
 use Rattle.stn_replica.specs.declared.names.BoundName.{BoundName}
 use Rattle.stn_replica.specs.declared.names.BoundName.TheVariants.{Plan, Record}
 use Rattle.stn_replica.specs.Bounds.{all_bounds, live_bounds}
-use Rattle.stn_replica.specs.Names.{live_ids, id_at, name_in, is_met, broken_bound, IsFirstBrokenRecord}
+use Rattle.stn_replica.specs.Names.{live_ids, id_at, name_in, is_met, broken_bound}
+use Rattle.stn_replica.specs.Walk.{IsFirstBrokenRecord}
 
 -- the first of all bounds that the times break, and its name
 pub record IsFirstBroken (source : PlanSource) (state : Content) (time : ℕ → ℤ) (first : BoundName) : Type 0 where

@@ -13,7 +13,8 @@ use Rattle.stn_records.specs.Content.{Content, is_live, live_of, no_content}
 use Rattle.stn_records.specs.ContentLaws.{ids_total, ids_exact}
 use Rattle.stn_replica.specs.Bounds.{bounds_of, live_bounds, RecordsName}
 use Rattle.stn_replica.specs.Invariant.{IsSettled}
-use Rattle.stn_replica.specs.Work.{is_risen, risen, Extends, KeepsLive}
+use Rattle.stn_replica.specs.Work.{is_risen, risen, KeepsLive}
+use Rattle.stn_replica.specs.Walk.{Extends}
 use Rattle.stn_replica.proofs.Entries.{entries_from_get, get_from_entries}
 use Rattle.stn_replica.proofs.Schedules.{schedule_before, met_behind, schedule_with, settled_same_schedules}
 

@@ -11,7 +11,8 @@ use Rattle.stn_records.specs.declared.record.Record.{Record}
 use Rattle.stn_records.specs.Content.{Content, live_of, is_live}
 use Rattle.stn_records.specs.ContentLaws.{ids_total, ids_exact}
 use Rattle.stn_net.specs.Schedule.{Meets}
-use Rattle.stn_replica.specs.Names.{live_ids, IsFirstBrokenRecord}
+use Rattle.stn_replica.specs.Names.{live_ids}
+use Rattle.stn_replica.specs.Walk.{IsFirstBrokenRecord}
 use Rattle.stn_replica.proofs.Entries.{entries_from_get}
 use Rattle.stn_replica.specs.Bounds.{bounds_of, live_bounds}
 

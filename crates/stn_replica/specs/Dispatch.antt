@@ -1,16 +1,13 @@
 -- The rest of a replica's plan: which events are done, and the runs of those that are left.
-use Rattle.std.specs.Prelude.{◌≡◌, ◌⊎◌, ℕ, ℤ, true, ◌+◌, ◌++◌, codes, Bool, List, map, All}
-use Rattle.std.specs.List.{range_with_len, flat_map}
-use Rattle.stn_net.specs.Schedule.{IsSchedule, HasSchedule}
+use Rattle.std.specs.Prelude.{◌≡◌, ℕ, ℤ, true, ◌+◌, Bool, List, map, All}
+use Rattle.std.specs.List.{range_with_len}
+use Rattle.stn_net.specs.Schedule.{IsSchedule}
 use Rattle.stn_windows.specs.Dispatch.{CanWaitUntil}
-use Rattle.stn_windows.specs.Rehearsal.{IsRehearsal, NeverFalls, RunsEachOnce, IsRehearseFault}
-use Rattle.stn_windows.specs.declared.answers.RehearseFault.{RehearseFault}
-use Rattle.stn_windows.specs.declared.answers.RehearseFault.TheVariants.{Overdue, Memory}
+use Rattle.stn_windows.specs.Rehearsal.{IsRehearsal, NeverFalls, RunsEachOnce}
 use Rattle.stn_lift.specs.PlanSource.{PlanSource, events_of}
 use Rattle.stn_records.specs.Record.{is_done as marks_done}
 use Rattle.stn_records.specs.Content.{Content, live_of}
 use Rattle.stn_replica.specs.Bounds.{all_bounds}
-use Rattle.stn_replica.specs.Lines.{line, run_line}
 use Rattle.stn_replica.specs.Report.{is_done}
 
 -- for each event of the plan, the origin first, whether some live record says that it is done
@@ -32,32 +29,3 @@ pub record IsRestOfPlan (source : PlanSource) (state : Content) (now : ℤ) (run
   pub schedule : IsSchedule (all_bounds source state) times
   pub running : All (λ run. times run.1 ≡ run.0) runs
   pub recorded : KeepsRecorded state times
-
--- a line for each run, and `all done`
-abbrev pub runs_text : List (ℤ × ℕ) → List ℕ
-runs_text runs = flat_map (λ run. run_line run.0 run.1) runs ++ line (codes "all done")
-
--- the text is the lines of the rest of the plan from now on
-pub record SaysRuns (source : PlanSource) (state : Content) (now : ℤ) (text : List ℕ) : Type 0 where
-  pub runs : List (ℤ × ℕ)
-  pub rest : IsRestOfPlan source state now runs
-  pub lines : text ≡ runs_text runs
-
--- all bounds have no schedule, and the text is `conflict`
-pub record SaysNoSchedule (source : PlanSource) (state : Content) (text : List ℕ) : Type 0 where
-  pub conflict : ¬ HasSchedule (all_bounds source state)
-  pub lines : text ≡ line (codes "conflict")
-
--- the text of a rehearsal from now on
-abbrev pub IsRehearsalText : PlanSource → Content → ℤ → List ℕ → Type 0
-IsRehearsalText source state now text = SaysRuns source state now text ⊎ SaysNoSchedule source state text
-
--- all bounds have a schedule, and the event is the one that is overdue
-pub record IsOverdueAt (source : PlanSource) (state : Content) (now : ℤ) (event : ℕ) : Type 0 where
-  pub possible : HasSchedule (all_bounds source state)
-  pub overdue : IsRehearseFault (all_bounds source state) (done_events source state) now (Overdue event)
-
--- why a rehearsal has no text: an event is overdue; or memory is wanted, and none is
-abbrev pub IsRehearsalFault : PlanSource → Content → ℤ → RehearseFault → Type 0
-IsRehearsalFault source state now (Overdue event) = IsOverdueAt source state now event
-IsRehearsalFault source state now Memory = HasSchedule (all_bounds source state) → CanWaitUntil (all_bounds source state) (done_events source state) now

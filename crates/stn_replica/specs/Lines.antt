@@ -33,10 +33,6 @@ times_text earliest latest = printed earliest ++ codes " " ++ printed latest
 abbrev pub window_line : ℕ → ℤ → ℤ → Bool → List ℕ
 window_line event earliest latest done = line (event_text event ++ codes " " ++ times_text earliest latest ++ done_text done)
 
--- `run <time> <event>`
-abbrev pub run_line : ℤ → ℕ → List ℕ
-run_line time event = line (codes "run " ++ printed time ++ codes " " ++ event_text event)
-
 -- `conflict <sum>`
 abbrev pub conflict_line : ℤ → List ℕ
 conflict_line sum = line (codes "conflict " ++ printed sum)

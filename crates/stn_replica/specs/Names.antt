@@ -1,14 +1,11 @@
-use Rattle.std.specs.Prelude.{◌≡◌, ℕ, ℤ, ◌+◌, ◌-◌, ◌-ℤ◌, ◌<◌, nat_lt, int_le, Bool, not, ◌&&◌, List, ◌++◌, length, take, All, slice_index_or, position, if◌then◌else◌, codes, decimal, map, Option, option_map}
-use Rattle.std.specs.List.{HoldsAt}
-use Rattle.std.specs.FinMap.{entries}
+use Rattle.std.specs.Prelude.{ℕ, ℤ, ◌+◌, ◌-◌, ◌-ℤ◌, nat_lt, int_le, Bool, not, ◌&&◌, List, ◌++◌, length, slice_index_or, position, if◌then◌else◌, codes, decimal, map, Option, option_map}
 use Rattle.stn_net.specs.Difference.{Difference}
-use Rattle.stn_net.specs.Schedule.{Meets, NamesTimes}
 use Rattle.stn_lift.specs.PlanSource.{PlanSource, base_bounds}
 use Rattle.stn_records.specs.Id.{SiteCounter, id_text}
 use Rattle.stn_records.specs.Content.{Content, live_of}
 use Rattle.stn_replica.specs.declared.names.BoundName.{BoundName}
 use Rattle.stn_replica.specs.declared.names.BoundName.TheVariants.{Plan, Record}
-use Rattle.stn_replica.specs.Bounds.{all_bounds, live_bounds}
+use Rattle.stn_replica.specs.Bounds.{all_bounds}
 
 -- the ids of the live records, in order
 abbrev pub live_ids : Content → List SiteCounter
@@ -36,15 +33,3 @@ is_met time bound = int_le bound.lo (time bound.to -ℤ time bound.from) && int_
 unfoldable pub broken_bound : PlanSource → Content → (ℕ → ℤ) → Option BoundName
 broken_bound source state time =
     option_map (name_in (base_bounds source) (live_ids state)) (position (λ bound. not (is_met time bound)) (all_bounds source state))
-
--- `first` is the id of the first live record whose bound the times break
-pub record IsFirstBrokenRecord (state : Content) (time : ℕ → ℤ) (first : SiteCounter) : Type 0 where
-  pub place : ℕ
-  pub there : place < length (live_bounds state)
-  pub broken : ¬ HoldsAt (Meets time) (live_bounds state) place
-  pub earlier : All (Meets time) (take place (live_bounds state))
-  pub id : first ≡ id_at (live_ids state) place
-
--- each record, live or not, names events that have a time
-abbrev pub RecordsTimed : List ℤ → Content → Type 0
-RecordsTimed times state = All (λ entry. NamesTimes times entry.1.bound) (entries state.additions)

@@ -6,10 +6,11 @@ ghost use Rattle.stn_replica.specs.Report.{is_done};
 
 use crate::replica::Replica;
 use std::alloc::Allocator;
+use stn_net::MOST_EVENTS;
 use stn_records::{Mark, Records};
 
 /// How many events a plan has at most, the origin too.
-pub const EVENT_FLAGS: usize = 513;
+pub const EVENT_FLAGS: usize = MOST_EVENTS as usize + 1;
 
 impl<A: Allocator + Copy> Replica<A> {
     /// For each event, the origin first, whether a live record says that it is done, which fixes the

@@ -4,7 +4,6 @@
 pub use done::EVENT_FLAGS;
 pub use faults::ReplicaFault;
 pub use laws::{one_report, same_items_same_bytes, state_is_union, took_same_same_bytes};
-pub use lines::append_run_line;
 pub use names::BoundName;
 pub use replica::Replica;
 

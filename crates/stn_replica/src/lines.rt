@@ -5,7 +5,6 @@ ghost use Rattle.stn_replica.specs.Lines.{
   done_text,
   times_text,
   window_line,
-  run_line,
   conflict_line,
   side_text,
   limit_of,
@@ -71,22 +70,6 @@ pub fn append_window_line<B: Allocator>(
     out.extend_from_slice(b" ")?;
     append_times(out, earliest, latest)?;
     out.extend_from_slice(done_text(done))?;
-    out.extend_from_slice(b"\n")?;
-    Ok(())
-}
-
-/// Appends the line `run <time> <event>`.
-pub fn append_run_line<B: Allocator>(
-    out: &mut Vec<u8, B>,
-    time: Ms,
-    event: Event,
-) -> Result<(), Memory>
-    ensures { OnOk result (out.new.items ≡ out.old.items ++ run_line time event) }
-{
-    out.extend_from_slice(b"run ")?;
-    time.print(out)?;
-    out.extend_from_slice(b" ")?;
-    event.print(out)?;
     out.extend_from_slice(b"\n")?;
     Ok(())
 }

@@ -4,8 +4,9 @@ ghost use Rattle.stn_matrix.specs.Tightest.{IsExact};
 ghost use Rattle.stn_lift.specs.PlanSource.{base_bounds, events_of};
 ghost use Rattle.stn_replica.specs.Bounds.{bounds_of, live_bounds, RecordsName};
 ghost use Rattle.stn_replica.specs.Invariant.{IsSettled};
-ghost use Rattle.stn_replica.specs.Work.{risen, Extends, KeepsLive};
+ghost use Rattle.stn_replica.specs.Work.{risen, KeepsLive};
 ghost use Rattle.stn_replica.specs.Walk as walk;
+ghost use Rattle.stn_replica.specs.Walk.{Extends};
 
 use crate::cursors::{begins_with, from_id};
 use crate::plan_matrix::PlanMatrix;

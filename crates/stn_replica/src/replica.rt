@@ -1,4 +1,5 @@
-ghost use Rattle.std.specs.Prelude.{◌≡◌, ◌+◌, ◌≤◌, pos, true, false, length, All, None, unwrap_or, IfOk, IfErr, IfSome, IfNone, OnOk, OnErr, MatchOption};
+ghost use Rattle.std.specs.Prelude.{◌≡◌, ◌+◌, ◌≤◌, pos, true, false, length, All, Some, None, unwrap_or, IsOk, IfOk, IfErr, IfSome, IfNone, OnOk, OnErr, MatchOption};
+ghost use Rattle.std.specs.FinMap.{contains_key};
 ghost use Rattle.std.specs.Rc.{rc_value};
 ghost use Rattle.stn_net.specs.Schedule.{HasSchedule, IsSchedule, Meets, NamesTimes, times_of};
 ghost use Rattle.stn_matrix.specs.Tightest.{IsExact};
@@ -6,9 +7,10 @@ ghost use Rattle.stn_windows.specs.Window.{IsWindow};
 ghost use Rattle.stn_lift.specs.PlanSource.{base_bounds, events_of};
 ghost use Rattle.stn_net.specs.Difference.{NamesEvents};
 ghost use Rattle.stn_records.specs.Record.{IsProper};
-ghost use Rattle.stn_records.specs.Content.{no_content};
+ghost use Rattle.stn_records.specs.Content.{no_content, taken};
 ghost use Rattle.stn_replica.specs.Bounds.{all_bounds, live_bounds, RecordsName};
-ghost use Rattle.stn_replica.specs.Names.{broken_bound, IsFirstBrokenRecord, RecordsTimed};
+ghost use Rattle.stn_replica.specs.Names.{broken_bound};
+ghost use Rattle.stn_replica.specs.Walk.{IsFirstBrokenRecord, RecordsTimed};
 ghost use Rattle.stn_replica.specs.Held.{difference, plain, executed};
 ghost use Rattle.stn_replica.specs.Work.{SparesWork};
 ghost use Rattle.stn_replica.specs.Calls.{added, withdrew, took, Leaves};
@@ -168,6 +170,7 @@ impl<A: Allocator + Copy> Replica<A> {
     pub fn withdraw(&mut self, id: Id) -> Result<(), ReplicaFault>
         ensures leaves { OnOk result (Leaves self.old (withdrew id) self.new) }
         ensures work { OnOk result (SparesWork self.old self.new) }
+        ensures again { contains_key self.old.state.tombstones id ≡ true → IsOk result × (self.new ≡ self.old) }
         ensures accepted { OnOk result (withdraw_refusal self.old id ≡ None) }
         ensures fault { IfErr result (λ fault. fault ≡ unwrap_or (withdraw_refusal self.old id) ReplicaFault.Memory) }
         ensures kept { OnErr result (self.new ≡ self.old) }
@@ -180,7 +183,8 @@ impl<A: Allocator + Copy> Replica<A> {
         Ok(())
     }
 
-    /// Takes in all that another site holds.
+    /// Takes in all that another site holds; where all of it is held already, that changes nothing and
+    /// asks for no memory.
     ///
     /// Refused in this order: `NoEvent` of a bound, where a record names an event that the plan has
     /// not; `Clash`, with the least id that has two different records; `Full`, where both know more
@@ -188,6 +192,7 @@ impl<A: Allocator + Copy> Replica<A> {
     pub fn take(&mut self, other: &Records<A>) -> Result<(), ReplicaFault>
         ensures leaves { OnOk result (Leaves self.old (took other.now) self.new) }
         ensures work { OnOk result (SparesWork self.old self.new) }
+        ensures again { taken self.old.state other.now ≡ Some self.old.state → IsOk result × (self.new ≡ self.old) }
         ensures accepted { OnOk result (take_refusal self.old other.now ≡ None) }
         ensures fault { IfErr result (λ fault. fault ≡ unwrap_or (take_refusal self.old other.now) ReplicaFault.Memory) }
         ensures kept { OnErr result (self.new ≡ self.old) }

@@ -2,10 +2,11 @@ ghost use Rattle.std.specs.Prelude.{◌≡◌, ℕ, ◌+◌, ◌*◌, ◌<◌, �
 ghost use Rattle.std.specs.FinMap.{keys};
 ghost use Rattle.std.specs.List.{flat_map};
 ghost use Rattle.stn_net.specs.Difference.{Difference};
+ghost use Rattle.stn_net.specs.Event.{most_events};
 ghost use Rattle.stn_net.specs.Schedule.{HasSchedule};
 ghost use Rattle.stn_matrix.specs.Tightest.{IsExact};
 ghost use Rattle.stn_lift.specs.PlanSource.{events_of};
-ghost use Rattle.stn_records.specs.Content.{known_count, live_of, listed};
+ghost use Rattle.stn_records.specs.Content.{most_known, known_count, live_of, listed};
 ghost use Rattle.stn_replica.specs.Bounds.{all_bounds, RecordsName};
 ghost use Rattle.stn_replica.specs.Lines.{line, conflict_line, link_line};
 ghost use Rattle.stn_replica.specs.Report.{most_report, is_done, IsWindowLines, IsReport, IsConflictPart, heading};
@@ -69,7 +70,7 @@ impl<A: Allocator + Copy> Replica<A> {
         ensures part { OnOk result ((bounds : List Difference) → IsExact bounds matrix.now → (text : List ℕ)
             × IsWindowLines bounds (is_done self.now.state) matrix.now.events text
             × (out.new.items ≡ out.old.items ++ (line (codes "ok") ++ text))) }
-        ensures short { OnOk result (length out.new.items ≤ length out.old.items + MOST_LINE * 513) }
+        ensures short { OnOk result (length out.new.items ≤ length out.old.items + MOST_LINE * (most_events + 1)) }
     {
         let done = self.done_flags();
         out.extend_from_slice(b"ok\n")?;
@@ -90,7 +91,7 @@ impl<A: Allocator + Copy> Replica<A> {
         requires named { RecordsName (events_of self.now.source) self.now.state }
         requires conflict { ¬ HasSchedule (all_bounds self.now.source self.now.state) }
         ensures part { OnOk result ((text : List ℕ) × IsConflictPart self.now.source self.now.state text × (out.new.items ≡ out.old.items ++ text)) }
-        ensures short { OnOk result (length out.new.items ≤ length out.old.items + MOST_LINE * 514) }
+        ensures short { OnOk result (length out.new.items ≤ length out.old.items + MOST_LINE * (most_events + 2)) }
     {
         let all_ids = ids_of(self.alloc(), live)?;
         let all_others = bounds_of(self.alloc(), live)?;
@@ -119,7 +120,7 @@ fn bounds_of<A: Allocator>(alloc: A, records: &[(Id, Mark, Bound)]) -> Result<Ve
 // How many ids are withdrawn.
 fn withdrawn_count<A: Allocator + Copy>(records: &Records<A>) -> u16
     ensures value { result ≡ length (keys records.now.tombstones) }
-    ensures limited { known_count records.now ≤ 4096 }
+    ensures limited { known_count records.now ≤ most_known }
 {
     records.state().tombstones().entries().len() as u16
 }

@@ -1,8 +1,13 @@
 use Rattle.std.proofs.Common.{sym}
-use Rattle.stn_exec.proofs.Effects.{refused_execution}
+use Rattle.stn_records.specs.Id.{SiteCounter}
+use Rattle.stn_world.specs.Steps.{finished}
+use Rattle.stn_world.specs.World.{next_id_at}
+use Rattle.stn_exec.specs.declared.answer.Answer.TheVariants as answer
+use Rattle.stn_exec.proofs.Effects.{refused_call, finishes}
 use Rattle.stn_exec.proofs.actions.done.Goals as goal
 
 pub returns-in-Err-done : goal.returns-in-Err-done
 returns-in-Err-done g c =
-    refused_execution c.refused.result c.args.world.now c.done.new.self c.args.site c.args.event c.args.time.now _ c.in-Err-done.fault
-    (sym c.in-Ok.ensures) c.in-Err-done.ensures.step c.refused.ensures
+    refused_call SiteCounter c.refused.result c.args.world.now c.done.new.self (finished c.args.site c.args.event c.in-Ok.time)
+    (answer.Added (next_id_at c.args.world.now c.args.site)) c.in-Err-done.fault _ c.in-Err-done.ensures.step c.refused.ensures
+    (finishes c.args.world.now c.args.site c.args.event c.args.time.now c.in-Ok.time (sym c.in-Ok.ensures))

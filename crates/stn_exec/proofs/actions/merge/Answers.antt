@@ -1,10 +1,12 @@
-use Rattle.stn_exec.proofs.Effects.{accepted_merge_of, refused_merge}
+use Rattle.std.proofs.Common.{refl}
+use Rattle.stn_world.specs.Steps.{merged}
+use Rattle.stn_exec.specs.declared.answer.Answer.TheVariants as answer
+use Rattle.stn_exec.proofs.Effects.{accepted_call, refused_call}
 use Rattle.stn_exec.proofs.actions.merge.Goals as goal
 
 pub returns-in-Ok : goal.returns-in-Ok
-returns-in-Ok g c = accepted_merge_of c.args.world.now c.merge.new.self c.args.site c.args.other c.in-Ok.ensures.step
+returns-in-Ok g c = accepted_call (Unit {0}) tt c.args.world.now c.merge.new.self (merged c.args.site c.args.other) answer.Merged _ c.in-Ok.ensures.step refl
 
 pub returns-in-Err : goal.returns-in-Err
 returns-in-Err g c =
-    refused_merge c.refused.result c.args.world.now c.merge.new.self c.args.site c.args.other c.in-Err.fault
-    c.in-Err.ensures.step c.refused.ensures
+    refused_call (Unit {0}) c.refused.result c.args.world.now c.merge.new.self (merged c.args.site c.args.other) answer.Merged c.in-Err.fault _ c.in-Err.ensures.step c.refused.ensures refl

@@ -1,10 +1,12 @@
-use Rattle.stn_exec.proofs.Effects.{accepted_withdrawal_of, refused_withdrawal}
+use Rattle.std.proofs.Common.{refl}
+use Rattle.stn_world.specs.Steps.{withdrew}
+use Rattle.stn_exec.specs.declared.answer.Answer.TheVariants as answer
+use Rattle.stn_exec.proofs.Effects.{accepted_call, refused_call}
 use Rattle.stn_exec.proofs.actions.withdraw.Goals as goal
 
 pub returns-in-Ok : goal.returns-in-Ok
-returns-in-Ok g c = accepted_withdrawal_of c.args.world.now c.withdraw.new.self c.args.site c.args.id c.in-Ok.ensures.step
+returns-in-Ok g c = accepted_call (Unit {0}) tt c.args.world.now c.withdraw.new.self (withdrew c.args.site c.args.id) (answer.Withdrawn c.args.id) _ c.in-Ok.ensures.step refl
 
 pub returns-in-Err : goal.returns-in-Err
 returns-in-Err g c =
-    refused_withdrawal c.refused.result c.args.world.now c.withdraw.new.self c.args.site c.args.id c.in-Err.fault
-    c.in-Err.ensures.step c.refused.ensures
+    refused_call (Unit {0}) c.refused.result c.args.world.now c.withdraw.new.self (withdrew c.args.site c.args.id) (answer.Withdrawn c.args.id) c.in-Err.fault _ c.in-Err.ensures.step c.refused.ensures refl

@@ -1,4 +1,4 @@
-use Rattle.std.proofs.Common.{◌≡◌, ◌≢◌, List, ℕ, Option, Some, None, IfSome, sym}
+use Rattle.std.proofs.Common.{◌≡◌, List, ℕ, Option, Some, None, IfSome, sym}
 use Rattle.std.proofs.lemmas.Option.{none-some}
 use Rattle.stn_records.specs.Id.{SiteCounter, IsId, id_text}
 use Rattle.stn_exec.specs.Command.{id_of}

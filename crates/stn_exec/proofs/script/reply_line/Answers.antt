@@ -1,9 +1,9 @@
 use Rattle.std.proofs.Common.{◌∷◌, Some, None, IfOk, subst, ap, ◌∙◌}
 use Rattle.stn_text.specs.Lines.{words_of}
 use Rattle.stn_lift.specs.PlanSource.{events_of}
-use Rattle.stn_exec.specs.Command.{seen_command, command_of}
+use Rattle.stn_exec.specs.Command.{command_of}
+use Rattle.stn_exec.specs.Running.{seen_command, IsReplied}
 use Rattle.stn_exec.specs.Effect.{Effect}
-use Rattle.stn_exec.specs.Output.{IsReplied}
 use Rattle.stn_exec.specs.declared.answer.Answer.TheVariants.{Refused}
 use Rattle.stn_exec.specs.declared.answer.Refusal.TheVariants.{Line}
 use Rattle.stn_exec.proofs.Scripts.{line_effect-is, said_replied}

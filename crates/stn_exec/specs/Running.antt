@@ -1,0 +1,59 @@
+-- For proofs alone: no public clause cites these words.
+-- What the code has read of a line, and what running it leaves.
+use Rattle.std.specs.Prelude.{◌≡◌, ℕ, ◌+◌, ◌-◌, ◌^◌, min, Bool, List, ◌++◌, length, Option, Result, Ok, Err}
+use Rattle.std.specs.Bool.{Decides}
+use Rattle.stn_text.specs.Lines.{words_of}
+use Rattle.stn_world.specs.World.{World}
+use Rattle.stn_exec.specs.declared.command.Command.{Command as CommandOfLine}
+use Rattle.stn_exec.specs.declared.command.Action.{Action as ActionOfLine}
+use Rattle.stn_exec.specs.declared.command.Action.TheVariants as line
+use Rattle.stn_exec.specs.declared.script.Ran.{Ran}
+use Rattle.stn_exec.specs.declared.script.RunFault.{RunFault}
+use Rattle.stn_exec.specs.declared.script.RunFault.TheVariants.{Write, Memory}
+use Rattle.stn_exec.specs.Command.{Action, add, done, withdraw, merge, send_all, send_items, deliver, report, check, next, rehearse, Command, sites_command}
+use Rattle.stn_exec.specs.Effect.{Effect}
+use Rattle.stn_exec.specs.Script.{Outcome}
+use Rattle.stn_exec.specs.Output.{IsReplyText, IsRefusal, CountsRefusals, WritesOutput, WritesOutputPart}
+
+-- the action that the code has read from a line
+abbrev pub seen_action : ActionOfLine → Action
+seen_action (line.Add from to lo hi) = add from to lo.now hi.now
+seen_action (line.Done event time) = done event time.now
+seen_action (line.Withdraw id) = withdraw id
+seen_action (line.Merge other) = merge other
+seen_action line.SendAll = send_all
+seen_action (line.Send items) = send_items (words_of items.now)
+seen_action (line.Deliver packet) = deliver packet
+seen_action line.Report = report
+seen_action (line.Check times) = check (words_of times.now)
+seen_action (line.Next now) = next now.now
+seen_action (line.Rehearse now) = rehearse now.now
+
+-- the command that the code has read from a line
+abbrev pub seen_command : CommandOfLine → Command
+seen_command command = sites_command command.site (seen_action command.action)
+
+-- a check has one time for each event
+abbrev pub IsForEvents : ℕ → Action → Type 0
+IsForEvents events (check times) = length times ≡ events
+IsForEvents events other = Unit {0}
+
+-- the effect's world is left, its reply's text was appended, and the answer says whether it is a refusal
+pub record IsReplied (world : World) (old new : List ℕ) (effect : Effect) (refused : Bool) : Type 0 where
+  pub text : List ℕ
+  pub left : world ≡ effect.world
+  pub printed : IsReplyText effect.reply text
+  pub appended : new ≡ old ++ text
+  pub answered : Decides refused (IsRefusal effect.reply)
+
+-- what a fault of a run of lines leaves in the writer's count of failures; a run of lines reads nothing
+abbrev pub LeavesCount : RunFault → ℕ → ℕ → Type 0
+LeavesCount Write before after = after ≡ min (before + 1) (2 ^ 64 - 1)
+LeavesCount Memory before after = after ≡ before
+LeavesCount other before after = ⊥
+
+-- lines were run: all their output was written, and they were counted; or a front part of it, up to a fault
+abbrev pub IsRun : Outcome → Option (List ℕ) → Option (List ℕ) → ℕ → ℕ → Result Ran RunFault → Type 0
+IsRun outcome old new before after (Ok ran) =
+    WritesOutput old new outcome.replies × (ran.commands ≡ outcome.commands) × CountsRefusals outcome.replies ran.refused × (after ≡ before)
+IsRun outcome old new before after (Err fault) = WritesOutputPart old new outcome.replies × LeavesCount fault before after
