@@ -18,12 +18,16 @@ use stn_shell::{FileStore, execute, send_on, serve_on};
 const REQUESTS_LENGTH: u64 = 22;
 
 // What a site with the records 1.1 and 1.2 replies to them: SAME, RECORDS, and TEXT, of which the report follows.
-const REPLIES: [u8; 53] = [
+const REPLIES: [u8; 69] = [
     0, 0, 0, 1, 6, // SAME
-    0, 0, 0, 0x27, 2, // RECORDS
+    0, 0, 0, 0x37, 8, // RECORDS
     0, 2, // two records
-    0, 1, 0, 1, 0, 0, 1, 0, 2, 0x3b, 0x9a, 0xdd, 0x88, 0x3b, 0x9a, 0xdd, 0x88, // 1.1
-    0, 1, 0, 2, 0, 0, 0, 0, 1, 0x3b, 0x9a, 0xd1, 0xd0, 0x3b, 0x9a, 0xf1, 0x10, // 1.2
+    0, 1, 0, 1, 0, 0, 1, 0, 2, // 1.1 from s1 to e1
+    0, 0, 0, 7, 0x57, 0xb1, 0x3f, 0x88, // 5.000
+    0, 0, 0, 7, 0x57, 0xb1, 0x3f, 0x88, // 5.000
+    0, 1, 0, 2, 0, 0, 0, 0, 1, // 1.2 from z to s1
+    0, 0, 0, 7, 0x57, 0xb1, 0x33, 0xd0, // 2.000
+    0, 0, 0, 7, 0x57, 0xb1, 0x53, 0x10, // 10.000
     0, 0, // no tombstone
     0, 0, 0, 0x55, 4, // TEXT
 ];
@@ -123,7 +127,136 @@ fn serve_refused(rt: &HostRuntime, listener: &TcpListener) -> Result<(), Error> 
 // A connection that ends within a frame, and one that says nothing.
 fn serve_broken(rt: &HostRuntime, listener: &TcpListener) -> Result<(), Error> {
     let stream = TcpStream::connect(rt, listener.local_addr()?)?;
-    (&stream).write_all(&[0, 0, 0, 4, 1])?;
+    (&stream).write_all(&[0, 0, 0, 4, 7])?;
+    drop(stream);
+    drop(TcpStream::connect(rt, listener.local_addr()?)?);
+    serve_waiting(rt, listener, 2)
+}
+
+// Sends over a connection on which the replies wait.
+fn send(rt: &HostRuntime, listener: &TcpListener) -> Result<(), Error> {
+    let mut replies = Vec::new(rt.alloc());
+    replies.extend_from_slice(&REPLIES)?;
+    replies.extend_from_slice(REPORT)?;
+    send_waiting(rt, listener, &replies)
+}
+
+// Requests that site 1 answers, each over a connection of its own whose other end says nothing more: a HELLO of another plan, ASK
+// before any HELLO, an unknown kind, a HELLO and a body that breaks a rule; a HELLO, a record 1.1 that clashes, and ASK; an old
+// HELLO; a HELLO and old RECORDS.
+const REQUESTS_LENGTH: u64 = 22;
+
+// What a site with the records 1.1 and 1.2 replies to them: SAME, RECORDS, and TEXT, of which the report follows.
+const REPLIES: [u8; 69] = [
+    0, 0, 0, 1, 6, // SAME
+    0, 0, 0, 0x37, 8, // RECORDS
+    0, 2, // two records
+    0, 1, 0, 1, 0, 0, 1, 0, 2, // 1.1 from s1 to e1
+    0, 0, 0, 7, 0x57, 0xb1, 0x3f, 0x88, // 5.000
+    0, 0, 0, 7, 0x57, 0xb1, 0x3f, 0x88, // 5.000
+    0, 1, 0, 2, 0, 0, 0, 0, 1, // 1.2 from z to s1
+    0, 0, 0, 7, 0x57, 0xb1, 0x33, 0xd0, // 2.000
+    0, 0, 0, 7, 0x57, 0xb1, 0x53, 0x10, // 10.000
+    0, 0, // no tombstone
+    0, 0, 0, 0x55, 4, // TEXT
+];
+
+const REPORT: &[u8] =
+    b"plan 1 steps 2 events\nrecords 2 live 0 withdrawn\nok\ns1 2.000 10.000\ne1 7.000 15.000\n";
+
+// The replica of a site by its log.
+fn load_log(rt: &HostRuntime, log: &str, site: u8) -> Result<Replica<Global>, Error> {
+    let site = Site::new(site).context("no site")?;
+    let mut reader = Counted::new(fs::open(rt, log)?);
+    Ok(load(rt.alloc(), &mut reader, site)?)
+}
+
+// Does a command, and prints its status.
+fn command(rt: &HostRuntime, words: &[&str]) -> io::Result<()> {
+    let mut reader = Counted::new(b"".as_slice());
+    let mut out = Counted::new(io::writer(rt));
+    let mut err = Counted::new(io::writer(rt));
+    let status = execute(rt, words, &mut reader, &mut out, &mut err);
+    println!(rt; "status {status}")
+}
+
+// Adds a bound to the log of site 1.
+fn add(rt: &HostRuntime, from: &str, to: &str, lo: &str, hi: &str) -> io::Result<()> {
+    command(rt, &["stn", "add", "t.log", "1", from, to, lo, hi])
+}
+
+// Connects, and writes the requests of a replica.
+fn ask(
+    rt: &HostRuntime,
+    listener: &TcpListener,
+    replica: &Replica<Global>,
+) -> Result<TcpStream, Error> {
+    let stream = TcpStream::connect(rt, listener.local_addr()?)?;
+    let mut writer = Counted::new(&stream);
+    send_requests(rt.alloc(), replica, &mut writer)?;
+    Ok(stream)
+}
+
+// Takes in the replies, and prints their text and what the replica then reports.
+fn receive(
+    rt: &HostRuntime,
+    stream: &TcpStream,
+    replica: &mut Replica<Global>,
+) -> Result<(), Error> {
+    let mut reader = Counted::new(stream);
+    let text = receive_replies(rt.alloc(), &mut reader, replica)?;
+    let mut report = Vec::new(rt.alloc());
+    replica.report(&mut report)?;
+    print!(rt; "{}", String::from_utf8_lossy(rt.alloc(), &text)?)?;
+    print!(rt; "{}", String::from_utf8_lossy(rt.alloc(), &report)?)?;
+    Ok(())
+}
+
+// A session over a connection whose other end stays.
+fn session(rt: &HostRuntime, listener: &TcpListener) -> Result<(), Error> {
+    let mut first = load_log(rt, "t.log", 1)?;
+    let mut second = load_log(rt, "u.log", 2)?;
+    let other = ask(rt, listener, &second)?;
+    let (stream, _) = listener.accept()?;
+    let mut reader = Counted::new((&stream).take(REQUESTS_LENGTH));
+    let mut writer = Counted::new(&stream);
+    let served = serve(rt.alloc(), &mut reader, &mut writer, &mut first)?;
+    println!(rt; "{} frames, {:?}", served.frames, served.end)?;
+    receive(rt, &other, &mut second)
+}
+
+// Serves the connections that wait, and prints the status.
+fn serve_waiting(rt: &HostRuntime, listener: &TcpListener, count: u16) -> Result<(), Error> {
+    let mut replica = load_log(rt, "t.log", 1)?;
+    let mut out = Counted::new(io::writer(rt));
+    let mut err = Counted::new(io::writer(rt));
+    let status = serve_on(
+        rt.alloc(),
+        &mut FileStore::new(rt),
+        listener,
+        count,
+        "t.log",
+        &mut replica,
+        &mut out,
+        &mut err,
+    );
+    println!(rt; "status {status}")?;
+    Ok(())
+}
+
+// A connection whose requests end in bytes that are no frame.
+fn serve_refused(rt: &HostRuntime, listener: &TcpListener) -> Result<(), Error> {
+    let mut replica = load_log(rt, "u.log", 2)?;
+    let other = ask(rt, listener, &replica)?;
+    (&other).write_all(&[0, 4, 0, 1])?;
+    serve_waiting(rt, listener, 1)?;
+    receive(rt, &other, &mut replica)
+}
+
+// A connection that ends within a frame, and one that says nothing.
+fn serve_broken(rt: &HostRuntime, listener: &TcpListener) -> Result<(), Error> {
+    let stream = TcpStream::connect(rt, listener.local_addr()?)?;
+    (&stream).write_all(&[0, 0, 0, 4, 7])?;
     drop(stream);
     drop(TcpStream::connect(rt, listener.local_addr()?)?);
     serve_waiting(rt, listener, 2)
@@ -139,12 +272,14 @@ fn send(rt: &HostRuntime, listener: &TcpListener) -> Result<(), Error> {
 
 // Requests that site 1 answers, each over a connection of its own whose other end says nothing more: a HELLO of another plan, ASK
 // before any HELLO, an unknown kind, a HELLO and a body that breaks a rule; a HELLO, a record 1.1 that clashes, and ASK.
-const REQUESTS: [&str; 5] = [
-    "0000000401000002",
+const REQUESTS: [&str; 7] = [
+    "0000000407000002",
     "0000000103",
     "0000000109",
-    "00000004010000010000000102",
-    "0000000401000001000000160200010001000100000000013b9aca003b9aca0000000000000103",
+    "00000004070000010000000108",
+    "00000004070000010000001e0800010001000100000000010000000757b12c000000000757b12c0000000000000103",
+    "0000000401000001",
+    "0000000407000001000000050200000000",
 ];
 
 // Sends requests, and says that nothing more comes.
@@ -174,10 +309,12 @@ fn print_replies(rt: &HostRuntime, other: &TcpStream) -> Result<(), Error> {
 }
 
 // A HELLO, and the record 3.1 from z to s1 at 3.000.
-const BEFORE_ASKING: [u8; 34] = [
-    0, 0, 0, 4, 1, 0, 0, 1, // HELLO
-    0, 0, 0, 0x16, 2, 0, 1, // RECORDS, one record
-    0, 3, 0, 1, 0, 0, 0, 0, 1, 0x3b, 0x9a, 0xd5, 0xb8, 0x3b, 0x9a, 0xd5, 0xb8, // 3.1
+const BEFORE_ASKING: [u8; 42] = [
+    0, 0, 0, 4, 7, 0, 0, 1, // HELLO
+    0, 0, 0, 0x1e, 8, 0, 1, // RECORDS, one record
+    0, 3, 0, 1, 0, 0, 0, 0, 1, // 3.1 from z to s1
+    0, 0, 0, 7, 0x57, 0xb1, 0x37, 0xb8, // 3.000
+    0, 0, 0, 7, 0x57, 0xb1, 0x37, 0xb8, // 3.000
     0, 0, // no tombstone
 ];
 
@@ -206,16 +343,17 @@ fn serve_unsaved(rt: &HostRuntime, listener: &TcpListener) -> Result<(), Error> 
 }
 
 // Replies that are refused: REFUSED 52, SAME and the end, a length of 0, an unknown kind, a body that breaks a rule, ASK; SAME, a
-// record 1.3 and ASK; SAME and a record 1.1 that clashes.
-const REFUSED_REPLIES: [&str; 8] = [
+// record 1.3 and ASK; SAME and a record 1.1 that clashes; SAME and old RECORDS.
+const REFUSED_REPLIES: [&str; 9] = [
     "000000020534",
     "0000000106",
     "00000000",
     "0000000109",
-    "0000000102",
+    "0000000108",
     "0000000103",
-    "0000000106000000160200010001000300000000013b9aca003b9aca0000000000000103",
-    "0000000106000000160200010001000100000000013b9aca003b9aca000000",
+    "00000001060000001e0800010001000300000000010000000757b12c000000000757b12c0000000000000103",
+    "00000001060000001e0800010001000100000000010000000757b12c000000000757b12c000000",
+    "0000000106000000050200000000",
 ];
 
 // Sends over a connection on which these replies wait.
