@@ -1,7 +1,7 @@
 use Rattle.std.proofs.Common.{◌+◌, ◌∙◌, arith}
 use Rattle.stn_conflict.proofs.Distances.{link_among}
 use Rattle.stn_conflict.proofs.Relaxing.{among_events}
-use Rattle.stn_conflict.proofs.relaxation.Tables.new.Goals as goal
+use Rattle.stn_conflict.proofs.relaxation.outgoing_links.Goals as goal
 
 pub index_mut-requires : goal.index_mut-requires
 index_mut-requires g c =
