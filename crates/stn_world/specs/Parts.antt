@@ -1,8 +1,7 @@
 -- Parts of what a site holds.
-use Rattle.std.specs.Prelude.{Bool, false, ◌&&◌, List, Option, Some, None}
+use Rattle.std.specs.Prelude.{Bool, ◌&&◌, List}
 use Rattle.std.specs.List.{list_all}
 use Rattle.std.specs.FinMap as map
-use Rattle.stn_records.specs.declared.record.Record.{Record}
 use Rattle.stn_records.specs.Id.{SiteCounter}
 use Rattle.stn_records.specs.Record.{is_there}
 use Rattle.stn_records.specs.Content.{Content, Item, HasItem}
