@@ -14,7 +14,7 @@ use Rattle.stn_records.specs.Record.{same_records, is_there}
 use Rattle.stn_records.specs.Sorted.{has_keys, has_entries}
 use Rattle.stn_records.specs.Join.{passing}
 use Rattle.stn_records.specs.JoinLaws.{first_step, join_is}
-use Rattle.stn_records.specs.Content.{Content, Item, addition, withdrawal, HasItem, most_known, is_within, known_count, dispute_contents, join_contents, taken}
+use Rattle.stn_records.specs.Content.{Content, addition, withdrawal, IsPart, most_known, is_within, known_count, dispute_contents, join_contents, taken}
 use Rattle.stn_records.specs.ContentLaws.{ids_total, ids_exact, records_decide, contents_join, contents_dispute}
 use Rattle.stn_records.specs.declared.record.Record.{Record}
 use Rattle.stn_records.proofs.Entries.{in_order, front, less_is, greater_back, below_less, find_below, passed_over, rest_sorted}
@@ -163,19 +163,22 @@ module _ (a b : Content) where
       none_of (Some x) e = absurd (false≢true (sym e))
 
   -- all that b holds is held by a exactly where its ids and its records are
-  pub told : known_count a ≤ most_known → IsTrue (has_keys (fin.entries a.tombstones) (fin.entries b.tombstones) && has_entries (fin.entries a.additions) (fin.entries b.additions)) ↔ (taken a b ≡ Some a)
-  told few = (
-    λ held. let parts = and_parts _ _ held in
-        ap (option_and_then (passing is_within)) (join_is contents_join a b a (λ item. (inl, λ h. ⊎_elim (λ x. x) (λ x. ours parts.0 parts.1 item x) h)))
-        ∙ ap (λ b. cond b (Some a) None) (le-leb (known_count a) most_known few),
-    λ is. and_from _ _
-        (all_pass (λ o _. is_some o) is_own_id a.tombstones b.tombstones (λ q v there. (items is (withdrawal q)).1 (inr there)))
-        (all_pass is_there is_own_record a.additions b.additions (λ q v there. (items is (addition q v)).1 (inr there))),
+  pub told_part : IsTrue (has_keys (fin.entries a.tombstones) (fin.entries b.tombstones) && has_entries (fin.entries a.additions) (fin.entries b.additions)) ↔ IsPart b a
+  told_part = (
+    λ held. let parts = and_parts _ _ held in ours parts.0 parts.1,
+    λ inside. and_from _ _
+        (all_pass (λ o _. is_some o) is_own_id a.tombstones b.tombstones (λ q v there. inside (withdrawal q) there))
+        (all_pass is_there is_own_record a.additions b.additions (λ q v there. inside (addition q v) there)),
   )
     where
-      ours : has_keys (fin.entries a.tombstones) (fin.entries b.tombstones) ≡ true → has_entries (fin.entries a.additions) (fin.entries b.additions) ≡ true → (item : Item) → HasItem b item → HasItem a item
+      ours : has_keys (fin.entries a.tombstones) (fin.entries b.tombstones) ≡ true → has_entries (fin.entries a.additions) (fin.entries b.additions) ≡ true → IsPart b a
       ours tombs adds (addition id r) h = has_all is_there is_own_record a.additions b.additions adds id r h
       ours tombs adds (withdrawal id) h = has_all (λ o _. is_some o) is_own_id a.tombstones b.tombstones tombs id tt h
 
-      items : taken a b ≡ Some a → (item : Item) → HasItem a item ↔ (HasItem a item ⊎ HasItem b item)
-      items is item = contents_join.union a b a (joined_is is) item
+  -- and then a take leaves a as it is
+  pub told_taken : known_count a ≤ most_known → IsPart b a ↔ (taken a b ≡ Some a)
+  told_taken few = (
+    λ inside. ap (option_and_then (passing is_within)) (join_is contents_join a b a (λ item. (inl, λ h. ⊎_elim (λ x. x) (λ x. inside item x) h)))
+        ∙ ap (λ b. cond b (Some a) None) (le-leb (known_count a) most_known few),
+    λ is item h. (contents_join.union a b a (joined_is is) item).1 (inr h),
+  )

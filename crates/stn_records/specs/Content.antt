@@ -49,6 +49,10 @@ abbrev pub HasItem : Content → Item → Type 0
 HasItem s (addition id r) = map.get s.additions id ≡ Some r
 HasItem s (withdrawal id) = map.get s.tombstones id ≡ Some tt
 
+-- the whole has each item of the part
+abbrev pub IsPart : Content → Content → Type 0
+IsPart part whole = (item : Item) → HasItem part item → HasItem whole item
+
 -- the map has the record of the id, and the set the id
 abbrev pub HasRecord : RecordMap → SiteCounter × Record → Type 0
 HasRecord = maps.HasEntry

@@ -2,7 +2,7 @@ ghost use Rattle.std.specs.Prelude.{◌≡◌, ◌≢◌, ◌+◌, ◌<◌, ◌�
 ghost use Rattle.std.specs.FinMap as fin;
 ghost use Rattle.stn_records.specs.Id.{most_counter, SiteCounter};
 ghost use Rattle.stn_records.specs.Record.{IsProper};
-ghost use Rattle.stn_records.specs.Content.{most_known, Content, IsSound, AllHeld, no_content, one_record, one_tombstone, with_record, with_tombstone, is_known, is_live as is_live_in, known_count, known_in_either, live_of, listed, next_counter as next_counter_of, part_of, dispute_contents, join_contents, taken as taken_of, HasAnother};
+ghost use Rattle.stn_records.specs.Content.{most_known, Content, IsSound, IsPart, AllHeld, no_content, one_record, one_tombstone, with_record, with_tombstone, is_known, is_live as is_live_in, known_count, known_in_either, live_of, listed, next_counter as next_counter_of, part_of, dispute_contents, join_contents, taken as taken_of, HasAnother};
 
 use crate::MOST_KNOWN;
 use crate::additions::Additions;
@@ -198,7 +198,8 @@ impl<A: Allocator + Copy> Records<A> {
 
     /// Whether all that the other holds is held already, so that to take it in changes nothing.
     pub fn holds(&self, other: &Records<A>) -> bool
-        ensures { IsTrue result ↔ (taken_of self.now other.now ≡ Some self.now) }
+        ensures part { IsTrue result ↔ IsPart other.now self.now }
+        ensures taken { IsTrue result ↔ (taken_of self.now other.now ≡ Some self.now) }
     {
         let ours = &self.state;
         let theirs = &other.state;

@@ -1,4 +1,4 @@
-ghost use Rattle.std.specs.Prelude.{◌≡◌, ◌+◌, ◌≤◌, pos, true, false, length, All, Some, None, unwrap_or, IsOk, IfOk, IfErr, IfSome, IfNone, OnOk, OnErr, MatchOption};
+ghost use Rattle.std.specs.Prelude.{◌≡◌, ◌+◌, ◌≤◌, pos, true, false, length, All, None, unwrap_or, IsOk, IfOk, IfErr, IfSome, IfNone, OnOk, OnErr, MatchOption};
 ghost use Rattle.std.specs.FinMap.{contains_key};
 ghost use Rattle.std.specs.Rc.{rc_value};
 ghost use Rattle.stn_net.specs.Schedule.{HasSchedule, IsSchedule, Meets, NamesTimes, times_of};
@@ -7,7 +7,7 @@ ghost use Rattle.stn_windows.specs.Window.{IsWindow};
 ghost use Rattle.stn_lift.specs.PlanSource.{base_bounds, events_of};
 ghost use Rattle.stn_net.specs.Difference.{NamesEvents};
 ghost use Rattle.stn_records.specs.Record.{IsProper};
-ghost use Rattle.stn_records.specs.Content.{no_content, taken};
+ghost use Rattle.stn_records.specs.Content.{no_content, IsPart};
 ghost use Rattle.stn_replica.specs.Bounds.{all_bounds, live_bounds, RecordsName};
 ghost use Rattle.stn_replica.specs.Names.{broken_bound};
 ghost use Rattle.stn_replica.specs.Walk.{IsFirstBrokenRecord, RecordsTimed};
@@ -192,7 +192,7 @@ impl<A: Allocator + Copy> Replica<A> {
     pub fn take(&mut self, other: &Records<A>) -> Result<(), ReplicaFault>
         ensures leaves { OnOk result (Leaves self.old (took other.now) self.new) }
         ensures work { OnOk result (SparesWork self.old self.new) }
-        ensures again { taken self.old.state other.now ≡ Some self.old.state → IsOk result × (self.new ≡ self.old) }
+        ensures again { IsPart other.now self.old.state → IsOk result × (self.new ≡ self.old) }
         ensures accepted { OnOk result (take_refusal self.old other.now ≡ None) }
         ensures fault { IfErr result (λ fault. fault ≡ unwrap_or (take_refusal self.old other.now) ReplicaFault.Memory) }
         ensures kept { OnErr result (self.new ≡ self.old) }

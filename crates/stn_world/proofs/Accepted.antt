@@ -14,8 +14,8 @@ use Rattle.stn_replica.proofs.Refused.{or_none, mapped_none, untested}
 use Rattle.stn_world.specs.declared.faults.WorldFault.{WorldFault}
 use Rattle.stn_world.specs.declared.faults.WorldFault.TheVariants.{NoSite, TooManyPackets, NoPacket, Replica, Memory}
 use Rattle.stn_world.specs.Faults.{of_replica_fault}
-use Rattle.stn_records.specs.Content.{Content}
-use Rattle.stn_world.specs.Parts.{IsPart, is_part}
+use Rattle.stn_records.specs.Content.{Content, IsPart}
+use Rattle.stn_world.specs.Parts.{is_part}
 use Rattle.stn_world.specs.World.{World, most_packets, HasSite, has_site, HasPacket, has_packet, held_at, content_at, packet_at}
 use Rattle.stn_world.specs.Steps.{added, finished, withdrew, merged, sent, delivered, missing, step_refusal, IsAccepted, send_refusal}
 use Rattle.stn_world.proofs.Parts.{part_decides}

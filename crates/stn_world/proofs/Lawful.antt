@@ -10,7 +10,7 @@ use Rattle.stn_net.specs.Difference.{NamesEvents}
 use Rattle.stn_lift.specs.PlanSource.{PlanSource, events_of}
 use Rattle.stn_records.specs.Id.{SiteCounter}
 use Rattle.stn_records.specs.declared.record.Record.{Record}
-use Rattle.stn_records.specs.Content.{Content, Item, addition, withdrawal, HasItem, is_known, known_ids, known_count, same_ids, no_content, with_record, with_tombstone, joined_contents}
+use Rattle.stn_records.specs.Content.{Content, Item, addition, withdrawal, HasItem, is_known, known_ids, known_count, same_ids, no_content, with_record, with_tombstone, joined_contents, IsPart}
 use Rattle.stn_records.specs.ContentLaws.{ids_total, contents_join, contents_undisputed}
 use Rattle.std.proofs.lemmas.Bool.{or_right}
 use Rattle.stn_records.proofs.KnownIds.{fewer, known_member}
@@ -19,7 +19,6 @@ use Rattle.stn_replica.specs.Held.{plain, executed}
 use Rattle.stn_replica.proofs.Items.{addition_items, withdrawal_brought, nothing_there}
 use Rattle.stn_replica.proofs.Refused.{accepted_named, accepted_known, executed_named}
 use Rattle.stn_world.specs.declared.faults.WorldFault.{WorldFault}
-use Rattle.stn_world.specs.Parts.{IsPart}
 use Rattle.stn_world.specs.World.{World, HasSite, opening_world, content_at, packet_at, held_at, next_id_at, with_content, make, withdraw, send}
 use Rattle.stn_world.specs.Steps.{Step, added, finished, withdrew, merged, sent, delivered, step_refusal, IsAccepted, after, stepped, run}
 use Rattle.stn_world.specs.Whole.{IsWhole}

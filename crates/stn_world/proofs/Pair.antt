@@ -2,13 +2,13 @@
 use Rattle.std.proofs.Common.{◌≡◌, ◌≢◌, ℕ, zero, suc, ◌-◌, ◌<◌, ◌≤◌, List, [], ◌∷◌, ◌++◌, length, set, get_or, take, drop, refl, ap, sym, ◌∙◌, arith, subst, length-append}
 use Rattle.std.proofs.lemmas.List.{length-set, set-get_or, get_or-set_same, get_or_append_left, get_or_default}
 use Rattle.stn_lift.specs.PlanSource.{PlanSource}
-use Rattle.stn_records.specs.Content.{Content, no_content, joined_contents}
+use Rattle.stn_records.specs.Content.{Content, IsPart, no_content, joined_contents}
 use Rattle.stn_replica.specs.Held.{Held}
 use Rattle.stn_replica.specs.Calls.{took, Leaves}
 use Rattle.stn_replica.specs.Refusals.{take_refusal}
 use Rattle.stn_world.specs.World.{World, HasSite, content_at, with_content, merge}
-use Rattle.stn_world.specs.Sites.{world_of, IsSites, held_in}
-use Rattle.stn_world.specs.Whole.{IsCoherent, IsSoundWorld}
+use Rattle.stn_world.specs.Sites.{world_of}
+use Rattle.stn_world.specs.Whole.{IsSites, held_in, IsCoherent, IsSoundWorld}
 use Rattle.stn_world.proofs.Sites.{IsHeldAt, held_at_place, world_set, sites_set, join_is_joined, joined_itself}
 
 set_front : {X : Type 0} (front back : List X) (i : ℕ) (x : X) → i < length front → set front i x ++ back ≡ set (front ++ back) i x
@@ -94,6 +94,9 @@ left_back front back i one other a b next at lt e f left = moved_leaves one othe
 
 pub moved_refusal : (one other : Held) (a b : Content) → one ≡ other → a ≡ b → take_refusal one a ≡ take_refusal other b
 moved_refusal one other a b e f = ap (λ (h : Held). take_refusal h a) e ∙ ap (take_refusal other) f
+
+pub moved_part : (one other : Held) (a b : Content) → one ≡ other → a ≡ b → IsPart b other.state → IsPart a one.state
+moved_part one other a b e f inside = subst (λ (c : Content). IsPart c one.state) (sym f) (subst (λ (h : Held). IsPart b h.state) (sym e) inside)
 
 -- the replicas behind a borrowed slice that was given back
 back_again : (replicas new : List Held) (len : ℕ) → length new ≡ len → take len (new ++ drop (length new) replicas) ≡ new

@@ -3,14 +3,13 @@ use Rattle.std.proofs.Common.{◌≡◌, ◌≢◌, ◌↔◌, ◌⊎◌, inl, i
 use Rattle.std.proofs.lemmas.Bool.{false≢true, cases_eq}
 use Rattle.std.proofs.lemmas.List.{length-set, get_or-set_other}
 use Rattle.stn_lift.specs.PlanSource.{PlanSource}
-use Rattle.stn_records.specs.Content.{Content, Item, HasItem, no_content, with_record, with_tombstone, joined_contents, addition, withdrawal}
+use Rattle.stn_records.specs.Content.{Content, Item, HasItem, no_content, with_record, with_tombstone, joined_contents, addition, withdrawal, IsPart}
 use Rattle.stn_records.specs.ContentLaws.{contents_join}
 use Rattle.stn_replica.specs.Held.{plain, executed}
 use Rattle.stn_replica.proofs.Items.{nothing_there, record_brought, withdrawal_brought, regroup}
 use Rattle.stn_world.specs.declared.faults.WorldFault.{WorldFault}
 use Rattle.stn_world.specs.World.{World, HasSite, opening_world, content_at, packet_at, next_id_at, with_content}
 use Rattle.stn_world.specs.Steps.{Step, added, finished, withdrew, merged, sent, delivered, after, stepped, run, step_refusal, IsAccepted, Brings, TookAt}
-use Rattle.stn_world.specs.Parts.{IsPart}
 use Rattle.stn_world.specs.Whole.{IsCoherent}
 use Rattle.stn_world.proofs.Accepted.{accepted_addition, accepted_execution, accepted_withdrawal, accepted_merge, accepted_delivery}
 use Rattle.stn_world.proofs.Whole.{content_here, sites_join, packet_joins, coherent_after, grows_after, coherent_at_first, nothing_at_first}

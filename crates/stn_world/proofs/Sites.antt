@@ -5,7 +5,7 @@ use Rattle.std.proofs.lemmas.List.FromFn.{get_or-range_with_len}
 use Rattle.std.proofs.Math.Seq.{map-set_same}
 use Rattle.std.specs.List.{range_with_len}
 use Rattle.stn_lift.specs.PlanSource.{PlanSource}
-use Rattle.stn_records.specs.Content.{Content, no_content, with_record, with_tombstone, dispute_contents, join_contents, joined_contents}
+use Rattle.stn_records.specs.Content.{Content, IsPart, no_content, with_record, with_tombstone, dispute_contents, join_contents, joined_contents}
 use Rattle.stn_records.specs.ContentLaws.{contents_dispute, contents_undisputed, contents_repeat}
 use Rattle.stn_replica.specs.Held.{Held, next_id}
 use Rattle.stn_net.specs.Difference.{Difference}
@@ -14,10 +14,10 @@ use Rattle.stn_records.specs.declared.record.Record.{Record}
 use Rattle.stn_replica.specs.Refusals.{add_refusal, done_refusal, withdraw_refusal, take_refusal}
 use Rattle.stn_world.specs.World.{World, most_packets, HasSite, HasPacket, content_at, packet_at, held_at, next_id_at, with_content, make, withdraw, send, deliver}
 use Rattle.stn_replica.specs.Calls.{Accepted, added, withdrew, took, Leaves}
-use Rattle.stn_world.specs.Whole.{IsCoherent, IsSoundWorld}
+use Rattle.stn_world.specs.Whole.{IsSites, IsCoherent, IsSoundWorld}
 use Rattle.stn_records.specs.Id.{most_sites}
 use Rattle.stn_world.proofs.Whole.{coherent_at_first}
-use Rattle.stn_world.specs.Sites.{contents_of, world_of, IsSites}
+use Rattle.stn_world.specs.Sites.{contents_of, world_of}
 
 -- one number more
 pub range_more : (a n : ℕ) → range_with_len a (suc n) ≡ range_with_len a n ++ (a + n) ∷ []
@@ -140,6 +140,10 @@ withdraw_refusal_at world site one id held = ap (λ (h : Held). withdraw_refusal
 
 pub take_refusal_at : (world : World) (site : ℕ) (one : Held) (theirs other : Content) → IsHeldAt world site one → theirs ≡ other → take_refusal one theirs ≡ take_refusal (held_at world site) other
 take_refusal_at world site one theirs other held is = ap (λ (h : Held). take_refusal h theirs) (held_is world site one held) ∙ ap (take_refusal (held_at world site)) is
+
+-- what is part of what the site holds is part of what its replica holds
+pub part_there : (world : World) (site : ℕ) (one : Held) (theirs other : Content) → IsHeldAt world site one → theirs ≡ other → IsPart other (content_at world site) → IsPart theirs one.state
+part_there world site one theirs other held is inside = subst (λ (c : Content). IsPart c one.state) (sym is) (subst (IsPart other) (sym held.state) inside)
 
 -- a join that is there is the union of both
 pub join_is_joined : (a b c : Content) → join_contents a b ≡ Some c → c ≡ joined_contents a b

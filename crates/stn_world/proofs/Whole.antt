@@ -7,7 +7,7 @@ use Rattle.stn_net.specs.Difference.{NamesEvents}
 use Rattle.stn_lift.specs.PlanSource.{PlanSource, events_of}
 use Rattle.stn_records.specs.Id.{SiteCounter}
 use Rattle.stn_records.specs.declared.record.Record.{Record}
-use Rattle.stn_records.specs.Content.{Content, Item, addition, withdrawal, HasItem, is_known, no_content, with_record, with_tombstone, dispute_contents, join_contents, joined_contents}
+use Rattle.stn_records.specs.Content.{Content, Item, addition, withdrawal, HasItem, is_known, no_content, with_record, with_tombstone, dispute_contents, join_contents, joined_contents, IsPart}
 use Rattle.stn_records.specs.ContentLaws.{ids_total, ids_exact, contents_join, contents_dispute, contents_undisputed}
 use Rattle.stn_records.proofs.OneItem.{inserted_here}
 use Rattle.stn_records.proofs.Counters.{next_is_new}
@@ -18,7 +18,6 @@ use Rattle.stn_replica.proofs.Items.{nothing_there, addition_items, withdrawal_b
 use Rattle.stn_replica.proofs.Refused.{accepted_named, accepted_known, executed_named}
 use Rattle.stn_world.specs.World.{World, HasSite, opening_world, content_at, packet_at, held_at, next_id_at, with_content, make, withdraw, send}
 use Rattle.stn_world.specs.Steps.{Step, added, finished, withdrew, merged, sent, delivered, after, IsAccepted}
-use Rattle.stn_world.specs.Parts.{IsPart}
 use Rattle.stn_world.specs.Whole.{IsWhole, IsCoherent}
 use Rattle.stn_world.proofs.Accepted.{accepted_addition, accepted_execution, accepted_withdrawal, accepted_sending}
 

@@ -1,15 +1,26 @@
 -- For proofs alone: no public clause cites these words.
--- What all sites and packets of a world hold together.
-use Rattle.std.specs.Prelude.{ℕ, ◌≤◌, List, length}
+-- The replicas of a world, and what all its sites and packets hold together.
+use Rattle.std.specs.Prelude.{◌≡◌, ℕ, ◌≤◌, List, length, map, replicate, slice_index_or}
+use Rattle.std.specs.List.{range_with_len}
 use Rattle.stn_net.specs.Difference.{NamesEvents}
-use Rattle.stn_lift.specs.PlanSource.{PlanSource, events_of}
+use Rattle.stn_lift.specs.PlanSource.{PlanSource, bare, events_of}
 use Rattle.stn_records.specs.declared.record.Record.{Record}
-use Rattle.stn_records.specs.Id.{SiteCounter}
-use Rattle.stn_records.specs.Content.{Content, addition, withdrawal, HasItem}
+use Rattle.stn_records.specs.Id.{most_sites, SiteCounter}
+use Rattle.stn_records.specs.Content.{Content, no_content, addition, withdrawal, HasItem, IsPart}
 use Rattle.stn_replica.specs.Held.{Held}
-use Rattle.stn_world.specs.Parts.{IsPart}
 use Rattle.stn_world.specs.World.{World, most_packets, content_at, packet_at}
-use Rattle.stn_world.specs.Sites.{IsSites, world_of}
+use Rattle.stn_world.specs.Sites.{world_of}
+
+-- from 1 to 64 replicas of one plan, in order of site from 1 on
+pub record IsSites (source : PlanSource) (replicas : List Held) : Type 0 where
+  pub least : 1 ≤ length replicas
+  pub most : length replicas ≤ most_sites
+  pub numbers : map (λ replica. replica.site) replicas ≡ range_with_len 1 (length replicas)
+  pub sources : map (λ replica. replica.source) replicas ≡ replicate (length replicas) source
+
+-- the replica at a place
+abbrev pub held_in : List Held → ℕ → Held
+held_in replicas place = slice_index_or replicas place (record { site = 0; source = bare 0; state = no_content; steps = 0 })
 
 -- what each site and each packet holds is part of a whole, of which each record is held by the site that made it, each withdrawn id has a
 -- record, and each record is about the plan's events. So any two of them agree on every id

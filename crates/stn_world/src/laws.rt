@@ -2,9 +2,8 @@ ghost use Rattle.std.specs.Prelude.{◌≡◌, ℕ, ◌≤◌, ◌↔◌, List, 
 ghost use Rattle.std.specs.List.{Contains};
 ghost use Rattle.stn_lift.specs.PlanSource.{PlanSource};
 ghost use Rattle.stn_records.specs.Id.{SiteCounter};
-ghost use Rattle.stn_records.specs.Content.{most_known, Content, Item, withdrawal, HasItem, is_known, is_live, dispute_contents};
+ghost use Rattle.stn_records.specs.Content.{most_known, Content, Item, withdrawal, HasItem, is_known, is_live, dispute_contents, IsPart};
 ghost use Rattle.stn_replica.specs.Report.{IsReport};
-ghost use Rattle.stn_world.specs.Parts.{IsPart};
 ghost use Rattle.stn_world.specs.World.{World, HasSite, HasPacket, opening_world, content_at, packet_at};
 ghost use Rattle.stn_world.specs.Steps.{Step, merged, delivered, IsAccepted, run, Brings, TookAt, TookSameAt};
 ghost use Rattle.stn_world.specs.Runs.{Making, WasMade, records_made, states_of, InEachRun};

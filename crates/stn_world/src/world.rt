@@ -1,16 +1,17 @@
 ghost use Rattle.std.specs.Prelude.{◌≡◌, ◌≢◌, ◌+◌, true, ◌-◌, ◌<◌, ◌≤◌, None, unwrap_or, length, map, replicate, slice_set, MatchOption, IfSome, IsOk, IfOk, IfErr, OnOk, OnErr};
+ghost use Rattle.std.specs.FinMap.{contains_key};
 ghost use Rattle.std.specs.Rc.{rc_value};
 ghost use Rattle.stn_records.specs.Id.{most_sites, IsSite};
 ghost use Rattle.stn_replica.specs.Held.{difference};
 ghost use Rattle.stn_replica.specs.Calls.{took, Leaves};
 ghost use Rattle.stn_replica.specs.Refusals.{take_refusal};
-ghost use Rattle.stn_records.specs.Content.{no_content, part_of};
+ghost use Rattle.stn_records.specs.Content.{no_content, part_of, IsPart};
 ghost use Rattle.stn_world.specs.declared.faults.WorldFault.TheVariants.{NoSite, TooManyPackets, NoPacket};
 ghost use Rattle.stn_world.specs.Faults.{IsSitesFault};
 ghost use Rattle.stn_world.specs.Parts.{holds_all};
-ghost use Rattle.stn_world.specs.Sites.{held_in};
+ghost use Rattle.stn_world.specs.Whole.{held_in};
 ghost use Rattle.stn_world.specs.Steps.{added, finished, withdrew, merged, sent, delivered, IsStep, IsMergeFault, IsSending, send_refusal, IsDeliveryFault};
-ghost use Rattle.stn_world.specs.World.{most_packets, HasSite, HasPacket, opening_world, content_at, next_id_at};
+ghost use Rattle.stn_world.specs.World.{most_packets, HasSite, HasPacket, opening_world, content_at, packet_at, next_id_at};
 
 use crate::faults::{SitesFault, WorldFault};
 use std::alloc::Allocator;
@@ -136,26 +137,31 @@ impl<A: Allocator + Copy> World<A> {
         Ok(id)
     }
 
-    /// Withdraws at a site a record that it knows, for good.
+    /// Withdraws at a site a record that it knows, for good; one that is withdrawn there already changes
+    /// nothing.
     ///
     /// Refused in this order: `NoSite`; the faults of `Replica::withdraw`. After a fault all is as
     /// before.
     pub fn withdraw(&mut self, site: u32, id: Id) -> Result<(), WorldFault>
         ensures step { IsStep self.old (withdrew site id) result self.new }
+        ensures again { HasSite self.old site → contains_key (content_at self.old site).tombstones id ≡ true → IsOk result × (self.new ≡ self.old) }
     {
         let place = self.place_of(site)?;
         self.replicas[place].withdraw(id)?;
         Ok(())
     }
 
-    /// Takes in at a site all that another holds. A site may merge itself, which changes nothing. Any
-    /// two sites agree on every id, so no merge is refused for an id or an event.
+    /// Takes in at a site all that another holds. Where the site holds all of it already, as where it
+    /// merges itself, that changes nothing and asks for no memory. Any two sites agree on every id, so no
+    /// merge is refused for an id or an event.
     ///
     /// Refused in this order: `NoSite`, for either site; `Full` and `Memory` of `Replica::take`. After
     /// a fault all is as before.
     pub fn merge(&mut self, site: u32, other: u32) -> Result<(), WorldFault>
         ensures step { IsStep self.old (merged site other) result self.new }
         ensures itself { HasSite self.old site → site ≡ other → IsOk result }
+        ensures again { HasSite self.old site → HasSite self.old other → IsPart (content_at self.old other) (content_at self.old site)
+            → IsOk result × (self.new ≡ self.old) }
         ensures agreed { IfErr result IsMergeFault }
     {
         let ours = self.place_of(site)?;
@@ -198,13 +204,16 @@ impl<A: Allocator + Copy> World<A> {
         Ok(number)
     }
 
-    /// Takes in at a site all that a packet holds. Any site agrees with any packet on every id, so no
-    /// delivery is refused for an id or an event.
+    /// Takes in at a site all that a packet holds; where the site holds all of it already, that changes
+    /// nothing and asks for no memory. Any site agrees with any packet on every id, so no delivery is
+    /// refused for an id or an event.
     ///
     /// Refused in this order: `NoSite`; `NoPacket`, where no packet has the number; `Full` and `Memory`
     /// of `Replica::take`. After a fault all is as before.
     pub fn deliver(&mut self, site: u32, packet: u32) -> Result<(), WorldFault>
         ensures step { IsStep self.old (delivered site packet) result self.new }
+        ensures again { HasSite self.old site → HasPacket self.old packet → IsPart (packet_at self.old packet) (content_at self.old site)
+            → IsOk result × (self.new ≡ self.old) }
         ensures agreed { IfErr result IsDeliveryFault }
     {
         let place = self.place_of(site)?;
@@ -289,6 +298,7 @@ fn take_from<A: Allocator + Copy>(
     ensures leaves { OnOk result (Leaves (held_in replicas.old ours) (took (held_in replicas.old theirs).state) (held_in replicas.new ours)) }
     ensures accepted { OnOk result (take_refusal (held_in replicas.old ours) (held_in replicas.old theirs).state ≡ None) }
     ensures fault { IfErr result (λ fault. fault ≡ unwrap_or (take_refusal (held_in replicas.old ours) (held_in replicas.old theirs).state) ReplicaFault.Memory) }
+    ensures again { IsPart (held_in replicas.old theirs).state (held_in replicas.old ours).state → IsOk result × (replicas.new ≡ replicas.old) }
     ensures kept { OnErr result (replicas.new ≡ replicas.old) }
 {
     if ours < theirs {

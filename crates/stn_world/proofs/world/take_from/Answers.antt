@@ -3,7 +3,7 @@ use Rattle.std.specs.Prelude.{unwrap_or}
 use Rattle.std.proofs.lemmas.Result.{on_ok_weaker, on_err_weaker, IfErr-weaker}
 use Rattle.stn_replica.specs.Held.{Held}
 use Rattle.stn_replica.specs.declared.faults.ReplicaFault.TheVariants.{Memory}
-use Rattle.stn_world.proofs.Pair.{one_front, one_back, changed_front, changed_back, kept_front, kept_back, left_front, left_back, moved_refusal}
+use Rattle.stn_world.proofs.Pair.{one_front, one_back, changed_front, changed_back, kept_front, kept_back, left_front, left_back, moved_refusal, moved_part}
 use Rattle.stn_world.proofs.world.take_from.Goals as goal
 
 pub returns-then-ours-theirs-clause-set : goal.returns-then-ours-theirs-clause-set
@@ -103,3 +103,32 @@ returns-else-ours-theirs-clause-kept g c =
     on_err_weaker c.take-else-ours-theirs.result (λ same. kept_back c.args.replicas.now c.split_at_mut-front-else-ours-theirs.result.0.now back c.args.ours (get_or back 0 c.index-back-0-else-ours-theirs.result) c.take-else-ours-theirs.new.self
     s.value (omega (arith, s.front_len)) (omega (arith, s.back_len, c.requires.ours)) (ap (get_or back 0) c.index-back-0-else-ours-theirs.is) same)
     c.take-else-ours-theirs.ensures.kept
+
+pub returns-then-ours-theirs-clause-again : goal.returns-then-ours-theirs-clause-again
+returns-then-ours-theirs-clause-again g c = λ inside.
+    let s = c.split_at_mut-front.ensures in
+    let front = c.split_at_mut-front.result.0.now in
+    let back = c.split_at_mut-front.result.1.now in
+    let same = c.take.ensures.again (moved_part (get_or front c.args.ours c.index-front-ours.result) _ c.records.result.now _
+    (one_front c.args.replicas.now front back c.args.ours (get_or front c.args.ours c.index-front-ours.result) s.value (omega (arith, s.front_len, c.if-ours-theirs.true)) (ap (get_or front c.args.ours) c.index-front-ours.is))
+    (c.records.ensures.value ∙ ap (λ (h : Held). h.state) (one_back c.args.replicas.now front back c.args.theirs (get_or back 0 c.index-back-0.result) s.value
+    (omega (arith, s.front_len)) (omega (arith, s.back_len, c.requires.theirs)) (ap (get_or back 0) c.index-back-0.is))) inside) in (
+      same.0,
+      kept_front c.args.replicas.now front back c.args.ours (get_or front c.args.ours c.index-front-ours.result) c.take.new.self
+          s.value (omega (arith, s.front_len, c.if-ours-theirs.true)) (ap (get_or front c.args.ours) c.index-front-ours.is) same.1,
+    )
+
+pub returns-else-ours-theirs-clause-again : goal.returns-else-ours-theirs-clause-again
+returns-else-ours-theirs-clause-again g c = λ inside.
+    let s = c.split_at_mut-front-else-ours-theirs.ensures in
+    let front = c.split_at_mut-front-else-ours-theirs.result.0.now in
+    let back = c.split_at_mut-front-else-ours-theirs.result.1.now in
+    let same = c.take-else-ours-theirs.ensures.again (moved_part (get_or back 0 c.index-back-0-else-ours-theirs.result) _ c.records-else-ours-theirs.result.now _
+    (one_back c.args.replicas.now front back c.args.ours (get_or back 0 c.index-back-0-else-ours-theirs.result) s.value
+    (omega (arith, s.front_len)) (omega (arith, s.back_len, c.requires.ours)) (ap (get_or back 0) c.index-back-0-else-ours-theirs.is))
+    (c.records-else-ours-theirs.ensures.value ∙ ap (λ (h : Held). h.state) (one_front c.args.replicas.now front back c.args.theirs
+    (get_or front c.args.theirs c.index-front-theirs.result) s.value (omega (arith, s.front_len, c.if-ours-theirs.false, c.requires.apart)) (ap (get_or front c.args.theirs) c.index-front-theirs.is))) inside) in (
+      same.0,
+      kept_back c.args.replicas.now front back c.args.ours (get_or back 0 c.index-back-0-else-ours-theirs.result) c.take-else-ours-theirs.new.self
+          s.value (omega (arith, s.front_len)) (omega (arith, s.back_len, c.requires.ours)) (ap (get_or back 0) c.index-back-0-else-ours-theirs.is) same.1,
+    )

@@ -24,7 +24,7 @@ returns-then-not-all_name_events-clause-fault g c =
 pub returns-then-holds-clause-accepted : goal.returns-then-holds-clause-accepted
 returns-then-holds-clause-accepted g c =
     let held : Held = record { site = c.self.inside.site; source = rc_value c.self.inside.base; state = c.self.inside.records; steps = c.self.inside.current.steps } in
-    let is = c.if-holds.ensures.0 refl in
+    let is = c.if-holds.ensures.taken.0 refl in
     rw (← c.self.view_is) (can_hold held c.args.other.now (named_held (events_of (rc_value c.self.inside.base)) c.self.inside.records c.args.other.now is c.self.invariant.named) is)
 
 pub returns-in_err-records-clause-fault : goal.returns-in_err-records-clause-fault

@@ -1,5 +1,6 @@
-use Rattle.std.proofs.Common.{◌≡◌, sym, ap, subst, ◌∙◌}
+use Rattle.std.proofs.Common.{◌≡◌, refl, sym, ap, subst, ◌∙◌}
 use Rattle.std.specs.Prelude.{option_map, unwrap_or}
+use Rattle.std.proofs.lemmas.Bool.{false≢true}
 use Rattle.std.proofs.lemmas.Result.{err_from_is_err_and}
 use Rattle.stn_replica.specs.Refusals.{take_refusal}
 use Rattle.stn_replica.specs.declared.faults.ReplicaFault.TheVariants as replica_fault
@@ -10,7 +11,7 @@ use Rattle.stn_world.specs.World.{held_at, packet_at}
 use Rattle.stn_world.specs.Whole.{IsCoherent}
 use Rattle.stn_world.proofs.Accepted.{refused_by, delivery_refusal}
 use Rattle.stn_world.proofs.Merges.{delivery_agrees}
-use Rattle.stn_world.proofs.Sites.{held_there, packet_there, delivered_there, take_refusal_at, sound_changed, sound_stayed, world_stayed}
+use Rattle.stn_world.proofs.Sites.{held_there, part_there, packet_there, delivered_there, take_refusal_at, sound_changed, sound_stayed, world_stayed}
 use Rattle.stn_world.proofs.Whole.{coherent_after}
 use Rattle.stn_world.proofs.world.World.deliver.Goals as goal
 
@@ -56,4 +57,19 @@ returns-clause-step g c =
       delivery_refusal c.args.self.now c.args.site c.args.packet c.in_ok-place.ensures.there c.in_ok-from.ensures.there
           ∙ ap (option_map of_replica_fault) (sym (take_refusal_at c.args.self.now c.args.site c.index_mut.result.now c.index.result.now (packet_at c.args.self.now c.args.packet) held packet) ∙ c.in_ok-take.ensures.accepted),
       delivered_there c.args.self.now _ c.self.inside.replicas.items c.in_ok-place.place c.args.site c.args.packet c.index_mut.result.now c.take.new.self c.index.result.now c.self.view_is c.in_ok-place.ensures.place held packet c.in_ok-take.ensures.leaves,
+    )
+
+pub returns-in_err-take-clause-again : goal.returns-in_err-take-clause-again
+returns-in_err-take-clause-again g c =
+    let held = held_there c.args.self.now _ _ _ c.args.site c.index_mut.result.now c.self.view_is c.self.invariant.sites c.in_ok-place.ensures.place c.in_ok-place.ensures.there c.index_mut.ensures.value in
+    let packet = packet_there c.args.self.now _ c.self.inside.replicas.items c.in_ok-from.from c.args.packet c.index.result.now c.self.view_is c.in_ok-from.ensures.place c.in_ok-from.ensures.there c.index.ensures in
+    λ there sent inside. absurd (false≢true (c.in_err-take.ensures.again (part_there c.args.self.now c.args.site c.index_mut.result.now c.index.result.now (packet_at c.args.self.now c.args.packet) held packet inside)).0)
+
+pub returns-clause-again : goal.returns-clause-again
+returns-clause-again g c = λ there sent inside.
+    let held = held_there c.args.self.now _ _ _ c.args.site c.index_mut.result.now c.self.view_is c.self.invariant.sites c.in_ok-place.ensures.place c.in_ok-place.ensures.there c.index_mut.ensures.value in
+    let packet = packet_there c.args.self.now _ c.self.inside.replicas.items c.in_ok-from.from c.args.packet c.index.result.now c.self.view_is c.in_ok-from.ensures.place c.in_ok-from.ensures.there c.index.ensures in (
+      refl,
+      world_stayed c.args.self.now _ c.self.inside.replicas.items c.in_ok-place.place c.index_mut.result.now c.take.new.self c.self.view_is c.index_mut.ensures.value
+          (c.in_ok-take.ensures.again (part_there c.args.self.now c.args.site c.index_mut.result.now c.index.result.now (packet_at c.args.self.now c.args.packet) held packet inside)).1,
     )

@@ -1,12 +1,13 @@
-use Rattle.std.proofs.Common.{sym, ap, subst, ◌∙◌}
+use Rattle.std.proofs.Common.{refl, sym, ap, subst, ◌∙◌}
 use Rattle.std.specs.Prelude.{unwrap_or}
+use Rattle.std.proofs.lemmas.Bool.{false≢true}
 use Rattle.std.proofs.lemmas.Result.{err_from_is_err_and}
 use Rattle.stn_replica.specs.declared.faults.ReplicaFault.TheVariants as replica_fault
 use Rattle.stn_world.specs.Steps.{merged, IsAccepted}
 use Rattle.stn_world.specs.World.{content_at}
 use Rattle.stn_world.specs.Whole.{IsCoherent}
 use Rattle.stn_world.proofs.Accepted.{merge_free, merge_itself, merge_fault}
-use Rattle.stn_world.proofs.Sites.{take_refusal_at}
+use Rattle.stn_world.proofs.Sites.{part_there, take_refusal_at}
 use Rattle.stn_world.proofs.Pair.{held_at_site, merged_there, sound_merged, merged_itself, one_site, other_site, sound_kept, world_kept}
 use Rattle.stn_world.proofs.Whole.{coherent_after}
 use Rattle.stn_world.proofs.Merges.{merge_agrees}
@@ -69,4 +70,23 @@ returns-clause-step g c = elim c.if-ours-theirs.branch [
   | else-ours-theirs w ↦
       let one = one_site c.args.self.now c.in_ok-ours.ours c.in_ok-theirs.theirs c.args.site c.args.other w.if-ours-theirs.false c.in_ok-ours.ensures.place c.in_ok-theirs.ensures.place c.in_ok-ours.ensures.there c.in_ok-theirs.ensures.there in
       (merge_itself c.args.self.now c.args.site c.args.other c.in_ok-ours.ensures.there c.in_ok-theirs.ensures.there one, w.self-is ∙ merged_itself c.args.self.now c.args.site c.args.other one)
+]
+
+pub returns-in_err-take_from-clause-again : goal.returns-in_err-take_from-clause-again
+returns-in_err-take_from-clause-again g c =
+    let ours = held_at_site c.args.self.now _ _ c.deref_mut.result.now _ c.args.site c.self.view_is c.self.invariant.sites c.deref_mut.ensures.value c.in_ok-ours.ensures.place c.in_ok-ours.ensures.there in
+    let theirs = held_at_site c.args.self.now _ _ c.deref_mut.result.now _ c.args.other c.self.view_is c.self.invariant.sites c.deref_mut.ensures.value c.in_ok-theirs.ensures.place c.in_ok-theirs.ensures.there in
+    λ there others inside. absurd (false≢true (c.in_err-take_from.ensures.again (part_there c.args.self.now c.args.site _ _ (content_at c.args.self.now c.args.other) ours theirs.state inside)).0)
+
+pub returns-clause-again : goal.returns-clause-again
+returns-clause-again g c = elim c.if-ours-theirs.branch [
+  | then-ours-theirs+in_ok-take_from w ↦ λ there others inside.
+      let ours = held_at_site c.args.self.now _ _ w.deref_mut.result.now _ c.args.site c.self.view_is c.self.invariant.sites w.deref_mut.ensures.value c.in_ok-ours.ensures.place c.in_ok-ours.ensures.there in
+      let theirs = held_at_site c.args.self.now _ _ w.deref_mut.result.now _ c.args.other c.self.view_is c.self.invariant.sites w.deref_mut.ensures.value c.in_ok-theirs.ensures.place c.in_ok-theirs.ensures.there in (
+        refl,
+        w.self-is ∙ world_kept c.args.self.now _ c.self.inside.replicas.items w.deref_mut.result.now w.take_from.new.replicas c.self.inside.replicas.len c.self.view_is
+            w.deref_mut.ensures.value w.deref_mut.ensures.len
+            (w.in_ok-take_from.ensures.again (part_there c.args.self.now c.args.site _ _ (content_at c.args.self.now c.args.other) ours theirs.state inside)).1,
+      )
+  | else-ours-theirs w ↦ λ there others inside. (refl, w.self-is)
 ]

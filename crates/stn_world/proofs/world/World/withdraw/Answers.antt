@@ -1,6 +1,9 @@
-use Rattle.std.proofs.Common.{◌≡◌, sym, ap, subst, ◌∙◌}
+use Rattle.std.proofs.Common.{◌≡◌, true, refl, sym, ap, subst, ◌∙◌}
+use Rattle.std.specs.FinMap.{contains_key}
 use Rattle.std.specs.Prelude.{option_map, unwrap_or}
+use Rattle.std.proofs.lemmas.Bool.{false≢true}
 use Rattle.std.proofs.lemmas.Result.{err_from_is_err_and}
+use Rattle.stn_records.specs.Content.{Content}
 use Rattle.stn_replica.specs.Refusals.{withdraw_refusal}
 use Rattle.stn_replica.specs.declared.faults.ReplicaFault.TheVariants as replica_fault
 use Rattle.stn_world.specs.declared.faults.WorldFault.TheVariants.{Memory}
@@ -28,6 +31,7 @@ returns-in_err-withdraw g c =
             ∙ ap (λ o. unwrap_or o Memory) (sym (at_site c.args.self.now c.args.site (option_map of_replica_fault (withdraw_refusal (held_at c.args.self.now c.args.site) c.args.id)) c.in_ok-place.ensures.there)),
         world_stayed c.args.self.now _ c.self.inside.replicas.items c.in_ok-place.place c.index_mut.result.now c.withdraw.new.self c.self.view_is c.index_mut.ensures.value c.in_err-withdraw.ensures.kept,
       );
+      again = λ there is. absurd (false≢true (c.in_err-withdraw.ensures.again (subst (λ (s : Content). contains_key s.tombstones c.args.id ≡ true) (sym held.state) is)).0);
     })
 
 pub invariant_of-self-2 : goal.invariant_of-self-2
@@ -48,5 +52,10 @@ returns g c =
         at_site c.args.self.now c.args.site (option_map of_replica_fault (withdraw_refusal (held_at c.args.self.now c.args.site) c.args.id)) c.in_ok-place.ensures.there
             ∙ ap (option_map of_replica_fault) (sym (withdraw_refusal_at c.args.self.now c.args.site c.index_mut.result.now c.args.id held) ∙ c.in_ok-withdraw.ensures.accepted),
         withdrawn_there c.args.self.now _ c.self.inside.replicas.items c.in_ok-place.place c.args.site c.index_mut.result.now c.withdraw.new.self c.args.id c.self.view_is c.in_ok-place.ensures.place held c.in_ok-withdraw.ensures.leaves,
+      );
+      again = λ there is. (
+        refl,
+        world_stayed c.args.self.now _ c.self.inside.replicas.items c.in_ok-place.place c.index_mut.result.now c.withdraw.new.self c.self.view_is c.index_mut.ensures.value
+            (c.in_ok-withdraw.ensures.again (subst (λ (s : Content). contains_key s.tombstones c.args.id ≡ true) (sym held.state) is)).1,
       );
     }
