@@ -280,5 +280,5 @@ pub written_same : (events : ℕ) (old new : ℕ → ℕ → ℤ) (row column : 
 written_same events old new row column value other e written = rw (← e) written
 
 -- a value that fits is itself, passed as bits
-pub passed : (z : ℤ) → neg_ℤ (pos 2147483648) ≤ℤ z → z ≤ℤ pos 2147483647 → to_z w64 (of_z w64 z) ≡ z
+pub passed : (z : ℤ) → neg_ℤ (pos 9223372036854775808) ≤ℤ z → z ≤ℤ pos 9223372036854775807 → to_z w64 (of_z w64 z) ≡ z
 passed z least most = omega (arith, ints)

@@ -13,15 +13,12 @@ use std::marker::Model;
 use stn_net::{Bound, Event};
 use stn_time::{HORIZON, Memory, Ms};
 
-// The horizon, as an entry.
-const FARTHEST: i32 = HORIZON as i32;
-
 /// The tightest differences of the events of a plan, in milliseconds: how much later than each
 /// event each other can be in the schedules of a list of bounds (Dechter, Meiri and Pearl, 1991).
 #[derive(Drop)]
 pub struct Matrix<A: Allocator> {
     events: u16,
-    entries: Vec<i32, A>,
+    entries: Vec<i64, A>,
     tightenings: u64,
 }
 
@@ -46,7 +43,7 @@ impl<A: Allocator> Matrix<A> {
         ensures steps { IfOk result (λ matrix. matrix.steps ≡ 0) }
     {
         let size = usize::from(events) + 1;
-        let mut entries = vec![in alloc; FARTHEST; size * size]?;
+        let mut entries = vec![in alloc; HORIZON; size * size]?;
         widen(&mut entries, usize::from(events));
         Ok(Matrix {
             events,

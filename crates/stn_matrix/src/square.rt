@@ -22,7 +22,7 @@ struct Arc {
 
 // Writes the differences of events that lie anywhere from the origin to the horizon into a square
 // that is full of the horizon.
-pub(crate) fn widen(entries: &mut [i32], events: usize)
+pub(crate) fn widen(entries: &mut [i64], events: usize)
     requires whole { IsWhole events entries.old }
     requires full { (x y : ℕ) → x ≤ events → y ≤ events → entry entries.old events x y ≡ horizon }
     ensures { IsWidest events (entry entries.new events) }
@@ -34,7 +34,7 @@ pub(crate) fn widen(entries: &mut [i32], events: usize)
 }
 
 // Whether the entries are no looser than the bound already.
-pub(crate) fn is_implied(entries: &[i32], events: usize, bound: Bound) -> bool
+pub(crate) fn is_implied(entries: &[i64], events: usize, bound: Bound) -> bool
     requires whole { IsWhole events entries.now }
     requires named { NamesEvents events bound }
     ensures { IsTrue result ↔ IsImplied (entry entries.now events) bound }
@@ -45,7 +45,7 @@ pub(crate) fn is_implied(entries: &[i32], events: usize, bound: Bound) -> bool
 }
 
 // Whether some time between the entries of its events meets the bound.
-pub(crate) fn has_room(entries: &[i32], events: usize, bound: Bound) -> bool
+pub(crate) fn has_room(entries: &[i64], events: usize, bound: Bound) -> bool
     requires whole { IsWhole events entries.now }
     requires named { NamesEvents events bound }
     ensures { IsTrue result ↔ HasRoom (entry entries.now events) bound }
@@ -56,7 +56,7 @@ pub(crate) fn has_room(entries: &[i32], events: usize, bound: Bound) -> bool
 }
 
 // Shortens each entry by way of both sides of the bound.
-pub(crate) fn narrow(entries: &mut [i32], events: usize, bound: Bound)
+pub(crate) fn narrow(entries: &mut [i64], events: usize, bound: Bound)
     requires whole { IsWhole events entries.old }
     requires closed { IsClosed events (entry entries.old events) }
     requires named { NamesEvents events bound }
@@ -80,7 +80,7 @@ pub(crate) fn narrow(entries: &mut [i32], events: usize, bound: Bound)
 }
 
 // Shortens each entry by way of the arc; none can change where what is known is no longer than the arc.
-fn shorten(entries: &mut [i32], events: usize, arc: Arc)
+fn shorten(entries: &mut [i64], events: usize, arc: Arc)
     requires whole { IsWhole events entries.old }
     requires closed { IsClosed events (entry entries.old events) }
     requires from { arc.from ≤ events }
@@ -98,7 +98,7 @@ fn shorten(entries: &mut [i32], events: usize, arc: Arc)
 
 // Shortens each entry by way of the arc; only a row from which the arc's end comes nearer can
 // change, and only in a column that comes nearer to the arc's beginning.
-fn shorten_rows(entries: &mut [i32], events: usize, arc: Arc)
+fn shorten_rows(entries: &mut [i64], events: usize, arc: Arc)
     requires whole { IsWhole events entries.old }
     requires closed { IsClosed events (entry entries.old events) }
     requires from { arc.from ≤ events }
@@ -121,8 +121,9 @@ fn shorten_rows(entries: &mut [i32], events: usize, arc: Arc)
 }
 
 // Lists the columns that come nearer to the arc's beginning by way of it, and answers their number.
-fn nearer_columns(entries: &[i32], events: usize, arc: Arc, columns: &mut [u16]) -> usize
+fn nearer_columns(entries: &[i64], events: usize, arc: Arc, columns: &mut [u16]) -> usize
     requires whole { IsWhole events entries.now }
+    requires closed { IsClosed events (entry entries.now events) }
     requires from { arc.from ≤ events }
     requires to { arc.to ≤ events }
     requires long { events < length columns.old }
@@ -147,7 +148,7 @@ fn nearer_columns(entries: &[i32], events: usize, arc: Arc, columns: &mut [u16])
 // Shortens each entry of a row by way of an event that lies at most so long after the row's own; only
 // these columns can change. Where they are many, all of them take less time.
 fn shorten_row(
-    entries: &mut [i32],
+    entries: &mut [i64],
     events: usize,
     row: usize,
     by: usize,
@@ -165,7 +166,6 @@ fn shorten_row(
         ⊎ (entry entries.old events row y ≤ℤ (through +ℤ entry entries.old events by y)) }
     ensures { IsRowShortened events (entry entries.old events) (entry entries.new events) row by through }
 {
-    let through = through as i32;
     if columns.len() < events / 6 {
         shorten_columns(entries, events, row, by, through, columns);
     } else {
@@ -175,11 +175,11 @@ fn shorten_row(
 
 // Shortens each entry of a row, of which only these columns can change.
 fn shorten_columns(
-    entries: &mut [i32],
+    entries: &mut [i64],
     events: usize,
     row: usize,
     by: usize,
-    through: i32,
+    through: i64,
     columns: &[u16],
 )
     requires whole { IsWhole events entries.old }
@@ -200,7 +200,7 @@ fn shorten_columns(
 // Shortens each entry of a row: a loop that the compiler turns into vectors, as long as it stands
 // alone.
 #[inline(never)]
-fn shorten_all(entries: &mut [i32], events: usize, row: usize, by: usize, through: i32)
+fn shorten_all(entries: &mut [i64], events: usize, row: usize, by: usize, through: i64)
     requires whole { IsWhole events entries.old }
     requires row { row ≤ events }
     requires by { by ≤ events }
@@ -215,11 +215,11 @@ fn shorten_all(entries: &mut [i32], events: usize, row: usize, by: usize, throug
 // Shortens the entry in a row and a column by way of an event.
 #[inline]
 fn shorten_entry(
-    entries: &mut [i32],
+    entries: &mut [i64],
     events: usize,
     row: usize,
     by: usize,
-    through: i32,
+    through: i64,
     column: usize,
 )
     requires whole { IsWhole events entries.old }
@@ -230,38 +230,27 @@ fn shorten_entry(
     ensures { IsWritten events (entry entries.old events) (entry entries.new events) row column
         (int_min (entry entries.old events row column) (through +ℤ entry entries.old events by column)) }
 {
-    let way = through + millis_of(entries, events, by, column);
-    let own = millis_of(entries, events, row, column);
+    let way = through + entry_of(entries, events, by, column);
+    let own = entry_of(entries, events, row, column);
     set_entry(entries, events, row, column, own.min(way));
 }
 
 // The entry in a row and a column.
 #[inline]
-pub(crate) fn entry_of(entries: &[i32], events: usize, row: usize, column: usize) -> i64
+pub(crate) fn entry_of(entries: &[i64], events: usize, row: usize, column: usize) -> i64
     requires whole { IsWhole events entries.now }
     requires row { row ≤ events }
     requires column { column ≤ events }
     ensures value { result ≡ entry entries.now events row column }
-    ensures least { neg_ℤ (pos 2147483648) ≤ℤ result }
-    ensures most { result ≤ℤ pos 2147483647 }
-{
-    i64::from(millis_of(entries, events, row, column))
-}
-
-// The entry in a row and a column, as it is kept.
-#[inline]
-fn millis_of(entries: &[i32], events: usize, row: usize, column: usize) -> i32
-    requires whole { IsWhole events entries.now }
-    requires row { row ≤ events }
-    requires column { column ≤ events }
-    ensures { result ≡ entry entries.now events row column }
+    ensures least { i64.MIN ≤ℤ result }
+    ensures most { result ≤ℤ i64.MAX }
 {
     entries[place(events, row, column)]
 }
 
 // Writes the entry in a row and a column.
 #[inline]
-fn set_entry(entries: &mut [i32], events: usize, row: usize, column: usize, value: i32)
+fn set_entry(entries: &mut [i64], events: usize, row: usize, column: usize, value: i64)
     requires whole { IsWhole events entries.old }
     requires row { row ≤ events }
     requires column { column ≤ events }

@@ -171,7 +171,7 @@ fn first_faults(rt: HostRuntime) {
         (b"5.: (a)", 1),
         (b"1,5: (a)", 1),
         (b"0.0005: (a)", 1),
-        (b"1000000.001: (a)", 1),
+        (b"31536000.001: (a)", 1),
         (b"0: (a) [x]", 1),
         (b"-1: (a) [x]", 1),
         (b"x: (a) [-1]", 1),
@@ -183,7 +183,7 @@ fn first_faults(rt: HostRuntime) {
     }
     let negative: [(&[u8], u32); 6] = [
         (b"-0.001: (a)", 1),
-        (b"-1000000: (a) [1]", 1),
+        (b"-31536000: (a) [1]", 1),
         (b"0: (a) [-0.001]", 1),
         (b"-1: (a) [-1]", 1),
         (b"0: (a)\n\n-0.5: (b)", 3),
@@ -256,10 +256,10 @@ fn accepted(rt: HostRuntime) {
     };
     assert_steps(&rt, alloc, b"  \n;\n007:(Fly p1 City)[1.5000];]", &[dense]);
     let widest = Expected {
-        duration: Some(1_000_000_000),
-        ..lone(1, 1_000_000_000, b"a")
+        duration: Some(31_536_000_000),
+        ..lone(1, 31_536_000_000, b"a")
     };
-    assert_steps(&rt, alloc, b"1000000: (a) [1000000.000]", &[widest]);
+    assert_steps(&rt, alloc, b"31536000: (a) [31536000.000]", &[widest]);
 }
 
 #[test]

@@ -5,7 +5,7 @@ use std::marker::Model;
 use std::ops::Neg;
 
 /// The greatest time and the greatest difference of two times, in milliseconds.
-pub const HORIZON: i64 = 1_000_000_000;
+pub const HORIZON: i64 = 31_536_000_000;
 
 /// A time, or a difference of two times, in whole milliseconds from `-HORIZON` to `HORIZON`.
 #[derive(Clone, Copy, Debug, PartialEq, Eq, Hash, PartialOrd, Ord)]

@@ -4,16 +4,17 @@ use std::test::Fail;
 
 #[test]
 fn time_texts(rt: HostRuntime) -> Result<(), Fail> {
-    let times: [(&[u8], i64); 9] = [
+    let times: [(&[u8], i64); 10] = [
         (b"0.0010", 1),
         (b"-0.000", 0),
         (b"-0.5", -500),
         (b"007", 7_000),
-        (b"1000000", 1_000_000_000),
-        (b"-1000000.000", -1_000_000_000),
+        (b"1000000.001", 1_000_000_001),
+        (b"31536000", 31_536_000_000),
+        (b"-31536000.000", -31_536_000_000),
         (b"0", 0),
         (b"12.34", 12_340),
-        (b"999999.999000", 999_999_999),
+        (b"31535999.999000", 31_535_999_999),
     ];
     for (text, millis) in times {
         assert_eq!(rt;
@@ -25,8 +26,8 @@ fn time_texts(rt: HostRuntime) -> Result<(), Fail> {
     let faults: [(&[u8], TimeFault); 13] = [
         (b"0.0005", TimeFault::TooFine),
         (b"99999999.0005", TimeFault::TooFine),
-        (b"1000000.001", TimeFault::OutOfRange),
-        (b"-1000000.001", TimeFault::OutOfRange),
+        (b"31536000.001", TimeFault::OutOfRange),
+        (b"-31536000.001", TimeFault::OutOfRange),
         (b"18446744073709551617", TimeFault::OutOfRange),
         (b"5.", TimeFault::Malformed),
         (b".5", TimeFault::Malformed),
@@ -50,8 +51,8 @@ fn printed_times(rt: HostRuntime) -> Result<(), Fail> {
         (7_000, b"7.000"),
         (0, b"0.000"),
         (-1, b"-0.001"),
-        (1_000_000_000, b"1000000.000"),
-        (-2_000_000_000, b"-2000000.000"),
+        (31_536_000_000, b"31536000.000"),
+        (-63_072_000_000, b"-63072000.000"),
         (i64::MAX, b"9223372036854775.807"),
         (i64::MIN, b"-9223372036854775.808"),
     ];

@@ -11,7 +11,7 @@ fn bare_base(rt: HostRuntime) -> Result<(), Fail> {
     assert_eq!(rt; last.from().number(), 0);
     assert_eq!(rt; last.to().number(), 2);
     assert_eq!(rt; last.lo().get(), 0);
-    assert_eq!(rt; last.hi().get(), 1_000_000_000);
+    assert_eq!(rt; last.hi().get(), 31_536_000_000);
     assert_eq!(rt; base.planned(last.to()).get(), 0);
     assert!(rt; base.source().same(&Source::Bare(1)));
     Ok(())

@@ -2,9 +2,17 @@ use Rattle.std.proofs.Common.{◌≡◌, ◌≤◌, ◌<◌, ◌∙◌, ◌+ℤ�
 use Rattle.std.proofs.lemmas.Int.{ints}
 use Rattle.std.proofs.lemmas.List.{take_more_set}
 use Rattle.stn_matrix.specs.Way.{entry}
+use Rattle.stn_matrix.proofs.Closure.{closed_within}
 use Rattle.stn_matrix.proofs.Entries.{nearer_skip, nearer_more}
 use Rattle.stn_matrix.proofs.square.nearer_columns.Goals as goal
 use Rattle.stn_matrix.proofs.square.nearer_columns.Goals.{then-through-entry_of, else-through-entry_of}
+
+pub overflow_add-through : goal.overflow_add-through
+overflow_add-through c =
+    let column : c.loop-column.column ≤ c.args.events = omega arith in
+    let to : c.from-to.result ≤ c.args.events = rw (c.from-to.ensures, c.number-2.ensures.value) c.requires.to in
+    let within = closed_within c.args.events (entry c.args.entries.now c.args.events) c.requires.closed c.from-to.result c.loop-column.column to column in
+    omega (arith, ints)
 
 pub loop-column-preserved : goal.loop-column-preserved
 loop-column-preserved c =
@@ -28,6 +36,7 @@ loop-column-preserved c =
           let weight = c.get-weight.ensures.value in
           let within = c.get-weight.ensures.within in
           let test = w.if-through-entry_of.false in
+          let to_column = closed_within c.args.events far c.requires.closed arc.to column c.requires.to cs in
           let longer : far arc.from column ≤ℤ (arc.weight +ℤ far arc.to column) = omega (arith, ints) in
           rw (w.count-is, w.columns-is)
           (record { few = omega arith; listed = nearer_skip c.args.events far arc.from arc.to arc.weight before column so_far longer }))

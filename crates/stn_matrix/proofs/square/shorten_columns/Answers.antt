@@ -1,4 +1,4 @@
-use Rattle.std.proofs.Common.{◌≡◌, ◌≤◌, ◌∷◌, [], ◌++◌, w32, take, sym, arith, ◌+◌}
+use Rattle.std.proofs.Common.{◌≡◌, ◌≤◌, ◌∷◌, [], ◌++◌, w64, take, sym, arith, ◌+◌}
 use Rattle.std.proofs.lemmas.Int.{ints, to_z-of_z}
 use Rattle.std.proofs.lemmas.List.{take_more, take_all}
 use Rattle.stn_matrix.specs.Way.{entry}
@@ -30,5 +30,5 @@ returns c =
     let old = entry c.args.entries.now c.args.events in
     let new = entry c.loop-column.entries c.args.events in
     let all = take_all c.loop-column.column-index c.args.columns.now c.loop-column-test.false in
-    let so_far : AreShortened c.args.events old new c.args.row c.args.by c.args.through c.args.columns.now = rw (all, to_z-of_z w32 c.args.through c.ranges.through) at c.loop-column.invariant in
+    let so_far : AreShortened c.args.events old new c.args.row c.args.by c.args.through c.args.columns.now = rw (all, to_z-of_z w64 c.args.through c.ranges.through) at c.loop-column.invariant in
     shortened_columns c.args.events old new c.args.row c.args.by c.args.through c.args.columns.now so_far c.requires.left_out

@@ -1,9 +1,19 @@
-use Rattle.std.proofs.Common.{◌≡◌, ◌∙◌, arith, take, to_z, of_z, w64, ◌+ℤ◌, ◌≤ℤ◌, ◌<ℤ◌, ◌+◌}
+use Rattle.std.proofs.Common.{◌≡◌, ◌∙◌, arith, take, to_z, of_z, w64, ◌+ℤ◌, ◌≤ℤ◌, ◌<ℤ◌, ◌+◌, ◌≤◌}
 use Rattle.std.proofs.lemmas.Int.{ints}
 use Rattle.stn_matrix.specs.Way.{entry}
+use Rattle.stn_matrix.proofs.Closure.{closed_within}
 use Rattle.stn_matrix.proofs.Entries.{IsShortenedTo, IsNearerRow, nearer_row, row_left_out, shortened_skip, shortened_turn}
 use Rattle.stn_matrix.proofs.square.shorten_rows.Goals as goal
 use Rattle.stn_matrix.proofs.square.shorten_rows.Goals.{then-through-entry_of, else-through-entry_of}
+
+pub overflow_add-through : goal.overflow_add-through
+overflow_add-through c =
+    let old = entry c.args.entries.now c.args.events in
+    let row : c.loop-row.row ≤ c.args.events = c.loop-row-test.true in
+    let from : c.from-from.result ≤ c.args.events = rw (c.from-from.ensures, c.number.ensures.value) c.requires.from in
+    let same = c.loop-row.invariant.left c.loop-row.row c.from-from.result (omega arith) row from in
+    let within = closed_within c.args.events old c.requires.closed c.loop-row.row c.from-from.result row from in
+    omega (arith, ints)
 
 -- the row is one from which the arc's end comes nearer
 nearer : (c : goal.After-columns-then-through-entry_of-1)
@@ -21,6 +31,8 @@ nearer c =
     let end : c.entry_of-in-loop-row.result ≡ new row arc.to = rw to_is at c.entry_of-in-loop-row.ensures.value in
     let weight = c.get-weight.ensures.value in
     let within = c.get-weight.ensures.within in
+    let start_is = c.loop-row.invariant.left row arc.from (omega arith) c.loop-row-test.true c.requires.from in
+    let start_within = closed_within c.args.events old c.requires.closed row arc.from c.loop-row-test.true c.requires.from in
     let through = to_z w64 (of_z w64 (to_z w64 (of_z w64 c.entry_of.result) +ℤ to_z w64 (of_z w64 c.get-weight.result))) in
     let is : through ≡ (new row arc.from +ℤ arc.weight) = omega (arith, ints) in
     let test = c.if-through-entry_of.true in
@@ -48,6 +60,8 @@ shorten_row-requires-clause-left_out c =
     let start : c.entry_of.result ≡ new row arc.from = rw from_is at c.entry_of.ensures.value in
     let weight = c.get-weight.ensures.value in
     let within = c.get-weight.ensures.within in
+    let start_is = c.loop-row.invariant.left row arc.from (omega arith) c.loop-row-test.true c.requires.from in
+    let start_within = closed_within c.args.events old c.requires.closed row arc.from c.loop-row-test.true c.requires.from in
     let through = to_z w64 (of_z w64 (to_z w64 (of_z w64 c.entry_of.result) +ℤ to_z w64 (of_z w64 c.get-weight.result))) in
     let is : through ≡ (new row arc.from +ℤ arc.weight) = omega (arith, ints) in
     let columns = take c.nearer_columns-count.result c.nearer_columns-count.new.columns in
@@ -67,6 +81,8 @@ loop-row-preserved c =
     let end : c.entry_of-in-loop-row.result ≡ new row arc.to = rw to_is at c.entry_of-in-loop-row.ensures.value in
     let weight = c.get-weight.ensures.value in
     let within = c.get-weight.ensures.within in
+    let start_is = c.loop-row.invariant.left row arc.from (omega arith) c.loop-row-test.true c.requires.from in
+    let start_within = closed_within c.args.events old c.requires.closed row arc.from c.loop-row-test.true c.requires.from in
     let through : to_z w64 (of_z w64 (to_z w64 (of_z w64 c.entry_of.result) +ℤ to_z w64 (of_z w64 c.get-weight.result))) ≡ (new row arc.from +ℤ arc.weight) = omega (arith, ints) in
     elim c.if-through-entry_of.branch [
       | then-through-entry_of w ↦ rw w.entries-is
@@ -90,6 +106,8 @@ returns-after-through-entry_of c =
     let end : c.entry_of-in-loop-row.result ≡ new row arc.to = rw to_is at c.entry_of-in-loop-row.ensures.value in
     let weight = c.get-weight.ensures.value in
     let within = c.get-weight.ensures.within in
+    let start_is = c.loop-row.invariant.left row arc.from (omega arith) c.loop-row-test.true c.requires.from in
+    let start_within = closed_within c.args.events old c.requires.closed row arc.from c.loop-row-test.true c.requires.from in
     let through : to_z w64 (of_z w64 (to_z w64 (of_z w64 c.entry_of.result) +ℤ to_z w64 (of_z w64 c.get-weight.result))) ≡ (new row arc.from +ℤ arc.weight) = omega (arith, ints) in
     let last : IsShortenedTo c.args.events old (entry c.if-through-entry_of.entries c.args.events) arc.from arc.to arc.weight (row + 1) = elim c.if-through-entry_of.branch [
       | then-through-entry_of w ↦ rw w.entries-is
