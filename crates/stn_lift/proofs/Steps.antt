@@ -1,6 +1,7 @@
 -- The steps of a source, one by one and together.
 use Rattle.std.proofs.Common.{◌≡◌, ℕ, ◌+◌, ◌≤◌, List, [], ◌∷◌, ◌++◌, length, Result, Ok, Err, IsOk, refl, ap, subst, ◌∙◌, arith}
 use Rattle.std.specs.Result.{result_unwrap_or}
+use Rattle.stn_text.specs.Faults.{◌>>=◌, Fails}
 use Rattle.stn_net.specs.Event.{most_steps}
 use Rattle.stn_pddl.specs.declared.fault.DomainFault.{DomainFault}
 use Rattle.stn_pddl.specs.Schemas.{ActionSchema}
@@ -10,7 +11,7 @@ use Rattle.stn_plan.specs.Steps.{PlannedStep, plan_of}
 use Rattle.stn_plan.proofs.StepFacts.{plan_of-few}
 use Rattle.stn_lift.specs.declared.fault.LiftFault.{LiftFault}
 use Rattle.stn_lift.specs.declared.fault.LiftFault.TheVariants.{UnknownAction, Arity, DurationDiffers, PastHorizon, Memory}
-use Rattle.stn_lift.specs.Activities.{Activity, ◌>>=◌, activity_of, activities, IsFirstRefused, IsCause, Fails}
+use Rattle.stn_lift.specs.Activities.{Activity, activity_of, activities, IsFirstRefused, IsCause, is_memory}
 use Rattle.stn_lift.specs.PlanSource.{files, of_lift, steps_in, lifted, activities_of, steps_of}
 
 -- the step of a chain that gave a value
@@ -94,7 +95,7 @@ first_refused actions steps fault e =
       none_before = parts.none_before;
     }
 
-pub cause_of : (actions : List ActionSchema) (steps : List PlannedStep) (fault : LiftFault) → Fails fault (activities actions 0 steps) → IsCause actions steps fault
+pub cause_of : (actions : List ActionSchema) (steps : List PlannedStep) (fault : LiftFault) → Fails is_memory fault (activities actions 0 steps) → IsCause actions steps fault
 cause_of actions steps (UnknownAction step) is = first_refused actions steps _ is
 cause_of actions steps (Arity step) is = first_refused actions steps _ is
 cause_of actions steps (DurationDiffers step) is = first_refused actions steps _ is

@@ -1,5 +1,6 @@
 -- The base of two texts, from what their readers and the lifting give.
 use Rattle.std.proofs.Common.{◌≡◌, ℕ, List, Result, Ok, Err, ap, ◌∙◌}
+use Rattle.stn_text.specs.Faults.{Fails}
 use Rattle.stn_pddl.specs.declared.fault.DomainFault.{DomainFault}
 use Rattle.stn_pddl.specs.declared.fault.DomainFault.TheVariants as domain_fault
 use Rattle.stn_pddl.specs.Faults as pddl
@@ -15,7 +16,7 @@ use Rattle.stn_lift.specs.declared.fault.LiftFault.TheVariants.{UnknownAction, A
 use Rattle.stn_lift.specs.Faults.{of_domain, of_plan, of_lifting}
 use Rattle.stn_lift.specs.Activities as lifting
 use Rattle.stn_lift.specs.Activities.{Activity, activities}
-use Rattle.stn_lift.specs.PlanSource.{PlanSource, files, of_lift, steps_in, lifted, source_with, source_with_lifted, base_of, Fails}
+use Rattle.stn_lift.specs.PlanSource.{PlanSource, files, of_lift, steps_in, lifted, source_with, source_with_lifted, base_of, is_memory}
 
 module _ (domain plan : List ℕ) where
   -- a domain without a fault, and a plan without one
@@ -29,7 +30,7 @@ module _ (domain plan : List ℕ) where
   unfolding lifted
   refused_at_domain fault is = ap (λ r. source_with (files domain plan) (steps_in r (plan_of plan))) is
 
-  pub domain_refused : (fault : DomainFault) → pddl.Fails fault (domain_of domain) → Fails (of_domain fault) (base_of (files domain plan))
+  pub domain_refused : (fault : DomainFault) → Fails pddl.is_memory fault (domain_of domain) → Fails is_memory (of_domain fault) (base_of (files domain plan))
   domain_refused domain_fault.TooLong h = refused_at_domain _ h
   domain_refused (domain_fault.Syntax line) h = refused_at_domain _ h
   domain_refused (domain_fault.TooDeep line) h = refused_at_domain _ h
@@ -47,7 +48,7 @@ module _ (domain plan : List ℕ) where
         ap (λ r. source_with (files domain plan) (steps_in r (plan_of plan))) domain_is
         ∙ ap (λ r. source_with (files domain plan) (steps_in (Ok actions) r)) is
 
-    pub plan_refused : (fault : PlanFault) → timed.Fails fault (plan_of plan) → Fails (of_plan fault) (base_of (files domain plan))
+    pub plan_refused : (fault : PlanFault) → Fails timed.is_memory fault (plan_of plan) → Fails is_memory (of_plan fault) (base_of (files domain plan))
     plan_refused plan_fault.TooLong h = refused_at_plan _ h
     plan_refused (plan_fault.Syntax line) h = refused_at_plan _ h
     plan_refused (plan_fault.Number line) h = refused_at_plan _ h
@@ -57,7 +58,7 @@ module _ (domain plan : List ℕ) where
 
     -- a step with a fault
     pub steps_refused : (steps : List PlannedStep) (other : PlanSource) (fault : LiftFault) → plan_of plan ≡ Ok steps
-        → lifting.Fails fault (source_with_lifted other (activities actions 0 steps)) → Fails (of_lifting fault) (base_of (files domain plan))
+        → Fails lifting.is_memory fault (source_with_lifted other (activities actions 0 steps)) → Fails is_memory (of_lifting fault) (base_of (files domain plan))
     steps_refused steps other fault plan_is h = rw (lifted-Ok actions steps domain_is plan_is) (by fault (activities actions 0 steps) h)
       where
         refused : (fault : LiftFault) (found : Result (List Activity) LiftFault) → source_with_lifted other found ≡ Err fault
@@ -65,8 +66,8 @@ module _ (domain plan : List ℕ) where
         refused fault (Ok found) h = cc
         refused fault (Err given) h = cc
 
-        by : (fault : LiftFault) (found : Result (List Activity) LiftFault) → lifting.Fails fault (source_with_lifted other found)
-            → Fails (of_lifting fault) (source_with (files domain plan) (of_lift found))
+        by : (fault : LiftFault) (found : Result (List Activity) LiftFault) → Fails lifting.is_memory fault (source_with_lifted other found)
+            → Fails is_memory (of_lifting fault) (source_with (files domain plan) (of_lift found))
         by (UnknownAction step) found h = refused _ found h
         by (Arity step) found h = refused _ found h
         by (DurationDiffers step) found h = refused _ found h

@@ -8,11 +8,12 @@ use Rattle.stn_time.specs.Time.{horizon, IsWithinHorizon}
 use Rattle.stn_pddl.specs.Schemas.{ActionSchema}
 use Rattle.stn_time.proofs.Each.{each_pushed}
 use Rattle.stn_plan.specs.Steps.{PlannedStep}
+use Rattle.stn_text.specs.Faults.{◌>>=◌, Fails}
 use Rattle.stn_lift.specs.declared.fault.LiftFault.{LiftFault}
 use Rattle.stn_lift.specs.declared.fault.LiftFault.TheVariants.{UnknownAction, Arity, DurationDiffers, PastHorizon, Memory}
 use Rattle.stn_lift.specs.Footprints.{GroundAtom, Footprint, no_footprint}
 use Rattle.stn_lift.specs.Numbering.{Numbering, IsUnambiguous, Extends, IsNumbered}
-use Rattle.stn_lift.specs.Activities.{Activity, ◌>>=◌, activity_of, activities, Fails}
+use Rattle.stn_lift.specs.Activities.{Activity, activity_of, activities, is_memory}
 use Rattle.stn_lift.specs.BaseBounds.{times_behind, footprints_behind, event_footprints}
 use Rattle.stn_lift.specs.Timelines.{IsTimed, IsTimeline, IsLifted}
 use Rattle.stn_lift.proofs.NumberLists.{numbered_kept, zip_push}
@@ -135,8 +136,8 @@ module _ (actions : List ActionSchema) where
   unfolding activities
   refused_next before found step steps fault is = rw is refl
 
-  pub fails_next : (before : ℕ) (found : List Activity) (step : PlannedStep) (steps : List PlannedStep) (fault : LiftFault) → Fails fault (activity_of actions (before + 1) step)
-      → Fails fault (behind found (activities actions before (step ∷ steps)))
+  pub fails_next : (before : ℕ) (found : List Activity) (step : PlannedStep) (steps : List PlannedStep) (fault : LiftFault) → Fails is_memory fault (activity_of actions (before + 1) step)
+      → Fails is_memory fault (behind found (activities actions before (step ∷ steps)))
   fails_next before found step steps (UnknownAction number) is = refused_next before found step steps _ is
   fails_next before found step steps (Arity number) is = refused_next before found step steps _ is
   fails_next before found step steps (DurationDiffers number) is = refused_next before found step steps _ is
@@ -151,9 +152,9 @@ module _ (actions : List ActionSchema) where
         whole ∙ ap (λ l. behind found (activities actions place l)) front
 
     -- the step at a place is refused
-    pub fails_at : (number : ℕ) (fault : LiftFault) → number ≡ place + 1 → Fails fault (activity_of actions number step) → Fails fault (activities actions 0 all)
+    pub fails_at : (number : ℕ) (fault : LiftFault) → number ≡ place + 1 → Fails is_memory fault (activity_of actions number step) → Fails is_memory fault (activities actions 0 all)
     fails_at number fault is fails =
-        subst (Fails fault) (sym opened) (fails_next place found step (drop (place + 1) all) fault (subst (λ n. Fails fault (activity_of actions n step)) is fails))
+        subst (Fails is_memory fault) (sym opened) (fails_next place found step (drop (place + 1) all) fault (subst (λ n. Fails is_memory fault (activity_of actions n step)) is fails))
 
     -- the step at a place is taken up
     pub found_at : (number : ℕ) (one : Activity) → number ≡ place + 1 → activity_of actions number step ≡ Ok one

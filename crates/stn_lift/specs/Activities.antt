@@ -1,7 +1,8 @@
 -- What the steps of a plan do in a domain, or the first fault.
-use Rattle.std.specs.Prelude.{◌≡◌, ℕ, ◌+◌, ℤ, ◌+ℤ◌, int_lt, Bool, false, not, ◌==◌, if◌then◌else◌, List, [], ◌∷◌, ◌++◌, length, Option, Some, None, Result, Ok, Err, IsOk}
+use Rattle.std.specs.Prelude.{◌≡◌, ℕ, ◌+◌, ℤ, ◌+ℤ◌, int_lt, Bool, true, false, not, ◌==◌, if◌then◌else◌, List, [], ◌∷◌, ◌++◌, length, Option, Some, None, Result, Ok, Err, IsOk}
 use Rattle.std.specs.Ordering.{int_eq}
 use Rattle.stn_time.specs.Time.{horizon}
+use Rattle.stn_text.specs.Faults.{◌>>=◌}
 use Rattle.stn_pddl.specs.Schemas.{ActionSchema}
 use Rattle.stn_pddl.specs.Domains.{action_named}
 use Rattle.stn_plan.specs.Steps.{PlannedStep}
@@ -46,12 +47,6 @@ with_found number step (Some action) = with_action number step action
 unfoldable pub activity_of : List ActionSchema → ℕ → PlannedStep → Result Activity LiftFault
 activity_of actions number step = with_found number step (action_named step.action actions)
 
--- the first fault, or what comes of the value
-infixl 10 ◌>>=◌
-abbrev pub ◌>>=◌ : {A B : Type 0} → Result A LiftFault → (A → Result B LiftFault) → Result B LiftFault
-(Ok x) >>= f = f x
-(Err e) >>= f = Err e
-
 -- the steps behind so many others, or the fault of the first that has one; steps are counted from 1
 unfoldable pub activities : List ActionSchema → ℕ → List PlannedStep → Result (List Activity) LiftFault
 activities actions before [] = Ok []
@@ -74,12 +69,7 @@ abbrev pub IsCause : List ActionSchema → List PlannedStep → LiftFault → Ty
 IsCause actions steps Memory = Unit {0}
 IsCause actions steps fault = IsFirstRefused actions steps fault
 
--- The fault is the one that the meaning gives, unless memory ran out.
-abbrev pub Fails : {Y : Type 0} → LiftFault → Result Y LiftFault → Type 0
-Fails Memory meaning = Unit {0}
-Fails fault meaning = meaning ≡ Err fault
-
--- What a function returned, seen by view, is what the meaning gives, unless memory ran out.
-abbrev pub Gives : {X Y : Type 0} → (X → Y) → Result X LiftFault → Result Y LiftFault → Type 0
-Gives view (Ok x) meaning = meaning ≡ Ok (view x)
-Gives view (Err fault) meaning = Fails fault meaning
+-- memory ran out
+abbrev pub is_memory : LiftFault → Bool
+is_memory Memory = true
+is_memory fault = false

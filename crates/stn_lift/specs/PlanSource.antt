@@ -1,4 +1,4 @@
-use Rattle.std.specs.Prelude.{◌≡◌, ◌⊎◌, ℕ, ℤ, pos, ◌*◌, ◌≤◌, Bool, false, nat_lt, if◌then◌else◌, List, [], length, All, take, Result, Ok, Err, refl}
+use Rattle.std.specs.Prelude.{◌≡◌, ◌⊎◌, ℕ, ℤ, pos, ◌*◌, ◌≤◌, Bool, true, false, nat_lt, if◌then◌else◌, List, [], length, All, take, Result, Ok, Err, refl}
 use Rattle.std.proofs.Common.{inl, inr}
 use Rattle.std.specs.Coded.{Coded, code_by, coded_ℕ, coded_list, coded×, coded⊎}
 use Rattle.std.specs.Result.{result_unwrap_or}
@@ -87,15 +87,10 @@ abbrev pub base_of : PlanSource → Result PlanSource BaseFault
 base_of (bare steps) = if nat_lt most_steps steps then Err TooManySteps else Ok (bare steps)
 base_of (files domain plan) = source_with (files domain plan) (lifted domain plan)
 
--- The fault is the one that the meaning gives, unless memory ran out.
-abbrev pub Fails : {Y : Type 0} → BaseFault → Result Y BaseFault → Type 0
-Fails Memory meaning = Unit {0}
-Fails fault meaning = meaning ≡ Err fault
-
--- What a function returned, seen by view, is what the meaning gives, unless memory ran out.
-abbrev pub Gives : {X Y : Type 0} → (X → Y) → Result X BaseFault → Result Y BaseFault → Type 0
-Gives view (Ok x) meaning = meaning ≡ Ok (view x)
-Gives view (Err fault) meaning = Fails fault meaning
+-- memory ran out
+abbrev pub is_memory : BaseFault → Bool
+is_memory Memory = true
+is_memory fault = false
 
 -- a plan has at most so many bounds of its own: 512 horizon bounds, 256 durations, and one bound for each pair of events of
 -- different steps

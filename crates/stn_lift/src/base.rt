@@ -1,10 +1,11 @@
 ghost use Rattle.std.specs.Prelude.{◌≡◌, ◌*◌, ◌<◌, ◌≤◌, ◌↔◌, Ok, IsTrue, IfOk, IfErr, IsErrOf};
+ghost use Rattle.stn_text.specs.Faults.{Gives};
 ghost use Rattle.stn_net.specs.Event.{most_steps};
 ghost use Rattle.stn_net.specs.Schedule.{IsSchedule};
 ghost use Rattle.stn_lift.specs.Activities.{activities, IsCause};
 ghost use Rattle.stn_lift.specs.Activities as lifting;
 ghost use Rattle.stn_lift.specs.BaseBounds.{KeepsOrder};
-ghost use Rattle.stn_lift.specs.PlanSource.{bare, files, plan_source, steps_of, events_of, base_bounds, planned_of, interferes_in, activities_of, base_of, source_with_lifted, Gives, HasShortTexts, IsSoundSource};
+ghost use Rattle.stn_lift.specs.PlanSource.{bare, files, plan_source, steps_of, events_of, base_bounds, planned_of, interferes_in, activities_of, base_of, source_with_lifted, is_memory, HasShortTexts, IsSoundSource};
 
 use crate::bounds::horizon_bounds;
 use crate::fault::{BaseFault, LiftFault};
@@ -50,7 +51,7 @@ pub fn lift<'a, A: Allocator + Copy>(
     ensures made { IfOk result (λ base. base ≡ files domain.now.text plan.now.text) }
 
     // The base, or the first fault of the steps.
-    ensures given { lifting.Gives (λ base. base) result
+    ensures given { Gives lifting.is_memory (λ base. base) result
         (source_with_lifted (files domain.now.text plan.now.text) (activities domain.now.actions 0 plan.now.steps)) }
 
     // The first step that is refused has the fault, by the first cause against it.
@@ -84,7 +85,7 @@ impl<A: Allocator + Copy> Base<A> {
     pub fn bare(alloc: A, steps: u16) -> Result<Base<A>, BaseFault>
         ensures made { IfOk result (λ base. base ≡ bare steps) }
         ensures limit { IsErrOf result BaseFault.TooManySteps ↔ (most_steps < steps) }
-        ensures given { Gives (λ base. base) result (base_of (bare steps)) }
+        ensures given { Gives is_memory (λ base. base) result (base_of (bare steps)) }
         ensures sound { IfOk result IsSoundSource }
     {
         if steps > MOST_STEPS {
@@ -106,7 +107,7 @@ impl<A: Allocator + Copy> Base<A> {
         ensures limit { IsErrOf result BaseFault.TooManySteps ↔ (most_steps < steps_of (plan_source source.now)) }
 
         // The base, or the first fault of the source.
-        ensures given { Gives (λ base. base) result (base_of (plan_source source.now)) }
+        ensures given { Gives is_memory (λ base. base) result (base_of (plan_source source.now)) }
 
         // The planned times are a schedule of the base bounds.
         ensures possible { IfOk result (λ base. IsSchedule (base_bounds base) (planned_of base)) }
@@ -130,7 +131,7 @@ fn base_of_texts<A: Allocator + Copy>(
 ) -> Result<Base<A>, BaseFault>
     ensures made { IfOk result (λ base. base ≡ files domain.now plan.now) }
     ensures limit { ¬ IsErrOf result BaseFault.TooManySteps }
-    ensures given { Gives (λ base. base) result (base_of (files domain.now plan.now)) }
+    ensures given { Gives is_memory (λ base. base) result (base_of (files domain.now plan.now)) }
     ensures sound { IfOk result IsSoundSource }
 {
     let domain = Domain::read(alloc, domain)?;

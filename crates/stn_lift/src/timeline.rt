@@ -2,6 +2,7 @@
 
 ghost use Rattle.std.specs.Prelude.{◌≡◌, ◌+◌, ◌≤◌, ◌++◌, ◌∷◌, [], All, List, length, map, pos, ◌+ℤ◌, ◌≤ℤ◌, Ok, IfOk, IfErr, OnOk};
 ghost use Rattle.std.specs.List.{AllByRecursion};
+ghost use Rattle.stn_text.specs.Faults.{Fails, Gives};
 ghost use Rattle.stn_time.specs.Time.{horizon};
 ghost use Rattle.stn_net.specs.Event.{most_steps};
 ghost use Rattle.stn_pddl.specs.Sound.{IsSound, HasSoundAtoms, IsSoundAtom};
@@ -11,7 +12,7 @@ ghost use Rattle.stn_plan.specs.Views.{names_of, planned_step, word_of};
 ghost use Rattle.stn_lift.specs.Footprints.{start_of, end_of, Footprint as Atomic, GroundAtom, ground};
 ghost use Rattle.stn_lift.specs.Numbering.{Extends, IsNumbered, IsUnambiguous};
 ghost use Rattle.stn_lift.specs.Views.{numbers_of};
-ghost use Rattle.stn_lift.specs.Activities.{Activity, Fails, Gives, differs, activity, activity_of, activities};
+ghost use Rattle.stn_lift.specs.Activities.{Activity, is_memory, differs, activity, activity_of, activities};
 ghost use Rattle.stn_lift.specs.Timelines.{IsTimeline, IsLifted};
 
 use crate::atoms::Atoms;
@@ -48,7 +49,7 @@ fn action_of<'d, 'a, A: Allocator + Copy>(
     number: u16,
     step: &Step<'a, A>,
 ) -> Result<&'d Action<'a, A>, LiftFault>
-    ensures given { Gives (λ action. activity (planned_step step.now) (action_schema action.now)) result
+    ensures given { Gives is_memory (λ action. activity (planned_step step.now) (action_schema action.now)) result
         (activity_of domain.now.actions number (planned_step step.now)) }
     ensures arity { IfOk result (λ action. length step.now.args.items ≡ length (action_schema action.now).parameters) }
     ensures sound { IfOk result (λ action. IsSound (action_schema action.now)) }
@@ -228,7 +229,7 @@ impl<A: Allocator + Copy> Timeline<A> {
         ensures made { IfOk result (λ made. (found : List Activity)
             × (activities domain.now.actions 0 (map planned_step steps.now) ≡ Ok found)
             × IsLifted found made.durations.items made.times.items (map numbers_of made.footprints.items)) }
-        ensures fault { IfErr result (λ fault. Fails fault (activities domain.now.actions 0 (map planned_step steps.now))) }
+        ensures fault { IfErr result (λ fault. Fails is_memory fault (activities domain.now.actions 0 (map planned_step steps.now))) }
     {
         let mut atoms = Atoms::new(alloc);
         let mut timeline = Timeline::new(alloc)?;

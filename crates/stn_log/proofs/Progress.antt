@@ -17,7 +17,7 @@ use Rattle.stn_wire.specs.Front.{IsFront, faulty, unfinished}
 use Rattle.stn_wire.specs.declared.fault.WireFault.{WireFault}
 use Rattle.stn_wire.proofs.Fronts.{fault_more}
 use Rattle.stn_stream.specs.Stream.{IsNext, IsCounted}
-use Rattle.stn_stream.specs.declared.reader.FrameReader.{FrameReader}
+use Rattle.stn_stream.specs.Held.{Stream}
 use Rattle.stn_stream.specs.declared.fault.StreamFault.{StreamFault}
 use Rattle.stn_stream.specs.declared.fault.StreamFault.TheVariants as stream
 use Rattle.stn_log.specs.Faults.{of_stream}
@@ -238,7 +238,7 @@ module _ (before after : Option (List ℕ)) (log : Option Log) (rest : List ℕ)
       longer (Some input) (Some left) read = omega (arith, many, p.many, ap length read, length-append p.bytes left)
 
   -- nothing more comes of the stream
-  module _ {A : Type 0} (now : FrameReader A) where
+  module _ (A : Type 0) (now : Stream) where
     pub stream_fails : (fault : StreamFault) → IsNext {A = A} rest now (Err fault) → IsCounted {A = A} count now (Err fault) → IfSome (meaning_of (Err (of_stream fault))) (IsDecided before after)
     stream_fails stream.Read next counted = tt
     stream_fails stream.Bound next counted = beyond counted next.0 next.1 next.2 next.3

@@ -16,19 +16,15 @@ use Rattle.stn_records.specs.Maps.{differ, with_entries}
 use Rattle.stn_records.specs.Content.{most_known, Content, same_ids, known_ids, known_count, known_in_either, no_content, dispute_contents, joined_contents, IsSound}
 use Rattle.stn_records.proofs.Places.{nothing_sorted}
 use Rattle.stn_replica.specs.Bounds.{RecordsName}
+use Rattle.stn_replica.specs.Held.{holding_state}
 use Rattle.stn_replica.specs.Refusals.{take_refusal}
 use Rattle.stn_replica.specs.declared.faults.ReplicaFault.{ReplicaFault}
 use Rattle.stn_replica.specs.declared.faults.ReplicaFault.TheVariants.{Full}
 use Rattle.stn_replica.proofs.Refused.{agreed_take}
 use Rattle.stn_wire.specs.Spelling.{four}
-use Rattle.stn_wire.specs.Frame.{FrameContent, hello, records, body_of, spelling, most_body, IsFrame}
-use Rattle.stn_wire.proofs.States.{few_additions, few_tombstones, length-state_bytes}
-use Rattle.stn_log.specs.Log.{Log, log_text, holder, opened, joined, taken, all_taken, all_taken_by, IsAnswer, IsLog}
+use Rattle.stn_wire.specs.Frame.{FrameContent, hello, records, body_of, spelling, IsFrame}
+use Rattle.stn_log.specs.Log.{Log, log_text, opened, joined, taken, all_taken, all_taken_by, IsAnswer, IsLog}
 use Rattle.stn_log.specs.declared.fault.LoadFault.{LoadFault}
-
--- the body of a state's frame is never too long
-pub body_fits : (state : Content) → IsSound state → length (body_of (records state)) ≤ most_body
-body_fits state sound = omega (arith, length-state_bytes state, few_additions state sound, few_tombstones state sound)
 
 -- ---- a state is taken into one that holds nothing
 
@@ -56,11 +52,11 @@ known_alone state = ap (λ (ids : List SiteCounter). distinct_count same_ids (id
 not_more : (n most : ℕ) → n ≤ most → ltb most n ≡ false
 not_more n most le = grind (arith, nat_tests)
 
-pub nothing_against : (log : Log) (state : Content) → log.state ≡ no_content → RecordsName (events_of log.source) state → IsSound state → take_refusal (holder log) state ≡ None
+pub nothing_against : (log : Log) (state : Content) → log.state ≡ no_content → RecordsName (events_of log.source) state → IsSound state → take_refusal (holding_state log.source log.state) state ≡ None
 nothing_against log state empty named sound =
     let agreed : dispute_contents log.state state ≡ None = ap (λ (s : Content). dispute_contents s state) empty ∙ nothing_disputed state in
     let few : known_in_either log.state state ≡ known_count state = ap (λ (s : Content). known_in_either s state) empty ∙ known_alone state in
-    agreed_take (holder log) state named agreed
+    agreed_take (holding_state log.source log.state) state named agreed
     ∙ ap (λ (b : Bool). then_some b Full) (not_more (known_in_either log.state state) most_known (omega (arith, few, sound.limited)))
 
 -- ---- the two frames of a log

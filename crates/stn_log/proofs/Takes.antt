@@ -2,7 +2,8 @@
 use Rattle.std.proofs.Common.{◌≡◌, true, not, Option, Some, None, Ok, Err, IfSome, refl, sym, ap, subst, ◌∙◌}
 use Rattle.std.specs.Prelude.{unwrap_or, is_some}
 use Rattle.std.proofs.lemmas.Bool.{false≢true}
-use Rattle.stn_lift.specs.PlanSource.{PlanSource, base_of, Fails}
+use Rattle.stn_text.specs.Faults.{Fails}
+use Rattle.stn_lift.specs.PlanSource.{PlanSource, base_of, is_memory}
 use Rattle.stn_lift.specs.declared.fault.BaseFault.{BaseFault}
 use Rattle.stn_lift.specs.declared.fault.BaseFault.TheVariants as base
 use Rattle.stn_records.specs.Content.{Content, dispute_contents, join_contents, joined_contents}
@@ -17,7 +18,7 @@ use Rattle.stn_log.specs.Faults.{of_base, of_replica}
 use Rattle.stn_log.specs.Log.{Log, log_held, opened, joined, taken, meaning_of}
 
 -- a source without a base
-pub base_refused : (source : PlanSource) (fault : BaseFault) → Fails {Y = PlanSource} fault (base_of source) → IfSome (meaning_of (Err (of_base fault))) (λ meaning. taken None (hello source) ≡ meaning)
+pub base_refused : (source : PlanSource) (fault : BaseFault) → Fails {Y = PlanSource} is_memory fault (base_of source) → IfSome (meaning_of (Err (of_base fault))) (λ meaning. taken None (hello source) ≡ meaning)
 base_refused source (base.Domain fault) is = ap opened is
 base_refused source (base.Plan fault) is = ap opened is
 base_refused source (base.Lift fault) is = ap opened is

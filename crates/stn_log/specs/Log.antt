@@ -7,7 +7,7 @@ use Rattle.stn_lift.specs.PlanSource.{PlanSource, base_of}
 use Rattle.stn_lift.specs.declared.fault.BaseFault.{BaseFault}
 use Rattle.stn_records.specs.Content.{Content, no_content, joined_contents}
 use Rattle.stn_replica.specs.declared.faults.ReplicaFault.{ReplicaFault}
-use Rattle.stn_replica.specs.Held.{Held}
+use Rattle.stn_replica.specs.Held.{Held, holding_state}
 use Rattle.stn_replica.specs.Refusals.{take_refusal}
 use Rattle.stn_wire.specs.Frame.{FrameContent, hello, records, spelling, IsFrame}
 use Rattle.stn_wire.specs.Front.{IsFront, faulty, unfinished}
@@ -27,10 +27,6 @@ log_held held = record { source = held.source; state = held.state }
 abbrev pub log_text : Log → List ℕ
 log_text log = spelling (hello log.source) ++ spelling (records log.state)
 
--- a replica that holds what the log says: neither its site nor its work makes a difference to what it takes
-abbrev pub holder : Log → Held
-holder log = record { site = 1; source = log.source; state = log.state; steps = 0 }
-
 -- a source with a base opens a log that says nothing else yet
 abbrev pub opened : Result PlanSource BaseFault → Result Log LoadFault
 opened (Ok source) = Ok (record { source = source; state = no_content })
@@ -44,7 +40,7 @@ joined None log state = Ok (record { source = log.source; state = joined_content
 -- one more frame: first HELLO, and then RECORDS alone
 abbrev pub taken : Option Log → FrameContent → Result Log LoadFault
 taken None (hello source) = opened (base_of source)
-taken (Some log) (records state) = joined (take_refusal (holder log) state) log state
+taken (Some log) (records state) = joined (take_refusal (holding_state log.source log.state) state) log state
 taken log frame = Err LogForm
 
 -- frame by frame, up to the first that is refused

@@ -12,7 +12,7 @@ use Rattle.stn_tree.specs.declared.scan.TreeFault.{TreeFault}
 use Rattle.stn_tree.specs.declared.scan.TreeFault.TheVariants.{TooLong}
 use Rattle.stn_tree.specs.Names.{is_same_word}
 use Rattle.stn_tree.specs.Trees.{Trees, End, Word, Group, rows_from}
-use Rattle.stn_tree.specs.Scan.{most_text, tree_of, scanned, ◌>>=◌ as ◌>>=tree◌}
+use Rattle.stn_tree.specs.Scan.{most_text, tree_of, scanned}
 use Rattle.stn_pddl.specs.declared.fault.DomainFault.{DomainFault}
 use Rattle.stn_pddl.specs.declared.fault.DomainFault.TheVariants.{Syntax, Unsupported, Number, Twice}
 use Rattle.stn_pddl.specs.declared.action.Side.{Side}
@@ -20,7 +20,8 @@ use Rattle.stn_pddl.specs.declared.action.Side.TheVariants.{Condition, Effect}
 use Rattle.stn_pddl.specs.declared.action.Action.{Action}
 use Rattle.stn_pddl.specs.declared.word.Section.{Section}
 use Rattle.stn_pddl.specs.declared.word.Section.TheVariants as section
-use Rattle.stn_pddl.specs.Faults.{◌>>=◌, of_tree, Gives}
+use Rattle.stn_text.specs.Faults.{◌>>=◌, Gives}
+use Rattle.stn_pddl.specs.Faults.{of_tree, is_memory}
 use Rattle.stn_pddl.specs.Words.{section_of}
 use Rattle.stn_pddl.specs.Schemas.{ActionSchema, bare_action}
 use Rattle.stn_pddl.specs.Fields.{Listing, Values, no_values, parameters, duration, constant, not_negative, fields}
@@ -90,7 +91,7 @@ named-made line name rest b is =
     values-made line name step.0 step.0.parameters step.0.duration b step.2
 
 -- the name of an action that was read is new
-pub new-name : {A : Type 0} (result : Result (Action A) DomainFault) (line : ℕ) (name : List ℕ) (rest : Trees) (earlier : List ActionSchema) → Gives action_schema result (named_action line name rest)
+pub new-name : {A : Type 0} (result : Result (Action A) DomainFault) (line : ℕ) (name : List ℕ) (rest : Trees) (earlier : List ActionSchema) → Gives is_memory action_schema result (named_action line name rest)
     → is_taken name earlier ≡ false → IfOk result (λ action. is_taken (action_schema action).name earlier ≡ false)
 new-name (Ok found) line name rest earlier gives new =
     let made : IsMade name (action_schema found) = named-made line name rest (action_schema found) gives in
@@ -152,7 +153,7 @@ unfolding domain_of tree_of
 domain-short text actions is = by (nat_lt most_text (length text)) refl is
   where
     by : (long : Bool) → nat_lt most_text (length text) ≡ long
-        → domain_of_bytes (cond long (Err TooLong) (scanned false 1 Before text >>=tree λ end. Ok (rows_from false 1 text).row)) ≡ Ok actions → length text ≤ most_text
+        → domain_of_bytes (cond long (Err TooLong) (scanned false 1 Before text >>= λ end. Ok (rows_from false 1 text).row)) ≡ Ok actions → length text ≤ most_text
     by true e h = cc
     by false e h = grind (arith, nat_tests)
 

@@ -7,7 +7,7 @@ use Rattle.stn_pddl.specs.declared.fault.DomainFault.{DomainFault}
 use Rattle.stn_pddl.specs.declared.fault.DomainFault.TheVariants.{Syntax, Twice}
 use Rattle.stn_pddl.specs.declared.action.Side.{Side}
 use Rattle.stn_pddl.specs.declared.action.Side.TheVariants.{Condition, Effect}
-use Rattle.stn_pddl.specs.Faults.{◌>>=◌}
+use Rattle.stn_text.specs.Faults.{◌>>=◌}
 use Rattle.stn_pddl.specs.Words.{is_name}
 use Rattle.stn_pddl.specs.Schemas.{ActionSchema, bare_action}
 use Rattle.stn_pddl.specs.Fields.{Listing, Values, no_values, parameters, duration, fields}

@@ -5,7 +5,7 @@ use Rattle.stn_tree.specs.Trees.{Trees, End, Word, Group, how_many}
 use Rattle.stn_pddl.specs.declared.fault.DomainFault.{DomainFault}
 use Rattle.stn_pddl.specs.declared.fault.DomainFault.TheVariants.{Syntax, Unsupported, Variable}
 use Rattle.stn_pddl.specs.declared.action.Label.{Label}
-use Rattle.stn_pddl.specs.Faults.{◌>>=◌}
+use Rattle.stn_text.specs.Faults.{◌>>=◌}
 use Rattle.stn_pddl.specs.Words.{is_variable, is_key}
 use Rattle.stn_pddl.specs.Schemas.{TermSchema, ActionSchema, Parameter, Constant, with_literal}
 

@@ -9,7 +9,7 @@ use Rattle.stn_pddl.specs.declared.action.Label.TheVariants.{StartCondition, Ove
 use Rattle.stn_pddl.specs.declared.action.Side.{Side}
 use Rattle.stn_pddl.specs.declared.action.Side.TheVariants.{Condition, Effect}
 use Rattle.stn_pddl.specs.declared.word.Head.TheVariants as head
-use Rattle.stn_pddl.specs.Faults.{◌>>=◌}
+use Rattle.stn_text.specs.Faults.{◌>>=◌}
 use Rattle.stn_pddl.specs.Words.{head_of}
 use Rattle.stn_pddl.specs.Schemas.{ActionSchema}
 use Rattle.stn_pddl.specs.Atoms.{atom, equality}

@@ -7,7 +7,8 @@ use Rattle.stn_tree.specs.Scan.{tree_of}
 use Rattle.stn_pddl.specs.declared.fault.DomainFault.{DomainFault}
 use Rattle.stn_pddl.specs.declared.fault.DomainFault.TheVariants.{Syntax, Unsupported}
 use Rattle.stn_pddl.specs.declared.word.Section.TheVariants as section
-use Rattle.stn_pddl.specs.Faults.{◌>>=◌, of_tree}
+use Rattle.stn_text.specs.Faults.{◌>>=◌}
+use Rattle.stn_pddl.specs.Faults.{of_tree}
 use Rattle.stn_pddl.specs.Words.{is_name, section_of}
 use Rattle.stn_pddl.specs.Schemas.{ActionSchema}
 use Rattle.stn_pddl.specs.Actions.{action}

@@ -1,8 +1,9 @@
 //! Terms, atoms and equalities.
 
 ghost use Rattle.std.specs.Prelude.{◌≡◌, ◌≤◌, [], IfOk};
+ghost use Rattle.stn_text.specs.Faults.{Gives};
 ghost use Rattle.stn_tree.specs.Cursors.{row_at, rows_at, behind_at, left_at};
-ghost use Rattle.stn_pddl.specs.Faults.{Gives};
+ghost use Rattle.stn_pddl.specs.Faults.{is_memory};
 ghost use Rattle.stn_pddl.specs.Views.{term_schema, terms_schema, words_of, action_schema};
 ghost use Rattle.stn_pddl.specs.Atoms as spec;
 
@@ -19,7 +20,7 @@ fn read_term<'a, A: Allocator + Copy>(
     line: u32,
     word: &'a [u8],
 ) -> Result<Term<'a>, DomainFault>
-    ensures { Gives term_schema result (spec.term (words_of parameters.now.keys) line word.now) }
+    ensures { Gives is_memory term_schema result (spec.term (words_of parameters.now.keys) line word.now) }
 {
     let name = Name { bytes: word };
     if is_variable(word) {
@@ -41,7 +42,7 @@ fn read_terms<'a, A: Allocator + Copy>(
     parameters: &Names<'a, A>,
     children: Cursor<'a>,
 ) -> Result<(Vec<Term<'a>, A>, Cursor<'a>), DomainFault>
-    ensures given { Gives (λ found. terms_schema found.0.items) result
+    ensures given { Gives is_memory (λ found. terms_schema found.0.items) result
         (spec.terms (words_of parameters.now.keys) (row_at children.entry) []) }
     ensures behind { IfOk result (λ found. rows_at found.1 ≡ behind_at children.entry) }
     ensures shorter { IfOk result (λ found. left_at found.1 ≤ left_at children.entry) }
@@ -71,7 +72,7 @@ impl<'a, A: Allocator + Copy> Action<'a, A> {
         predicate: &'a [u8],
         children: Cursor<'a>,
     ) -> Result<Cursor<'a>, DomainFault>
-        ensures given { Gives (λ _. action_schema self.new) result
+        ensures given { Gives is_memory (λ _. action_schema self.new) result
             (spec.atom label negated predicate.now (row_at children.entry) (action_schema self.old)) }
         ensures behind { IfOk result (λ rest. rows_at rest ≡ behind_at children.entry) }
         ensures shorter { IfOk result (λ rest. left_at rest ≤ left_at children.entry) }
@@ -90,7 +91,7 @@ impl<'a, A: Allocator + Copy> Action<'a, A> {
         line: u32,
         children: Cursor<'a>,
     ) -> Result<Cursor<'a>, DomainFault>
-        ensures given { Gives (λ _. action_schema self.now) result
+        ensures given { Gives is_memory (λ _. action_schema self.now) result
             (spec.equality line (row_at children.entry) (action_schema self.now)) }
         ensures behind { IfOk result (λ rest. rows_at rest ≡ behind_at children.entry) }
         ensures shorter { IfOk result (λ rest. left_at rest ≤ left_at children.entry) }

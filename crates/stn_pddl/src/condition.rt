@@ -1,8 +1,9 @@
 //! Conditions and effects with their times.
 
 ghost use Rattle.std.specs.Prelude.{◌≡◌, ◌≤◌, IfOk};
+ghost use Rattle.stn_text.specs.Faults.{Gives};
 ghost use Rattle.stn_tree.specs.Cursors.{row_at, rows_at, behind_at, left_at};
-ghost use Rattle.stn_pddl.specs.Faults.{Gives};
+ghost use Rattle.stn_pddl.specs.Faults.{is_memory};
 ghost use Rattle.stn_pddl.specs.Views.{action_schema};
 ghost use Rattle.stn_pddl.specs.Conditions as spec;
 
@@ -49,7 +50,7 @@ impl<'a, A: Allocator + Copy> Action<'a, A> {
         line: u32,
         children: Cursor<'a>,
     ) -> Result<Cursor<'a>, DomainFault>
-        ensures given { Gives (λ _. action_schema self.new) result
+        ensures given { Gives is_memory (λ _. action_schema self.new) result
             (spec.labelled label line (row_at children.entry) (action_schema self.old)) }
         ensures behind { IfOk result (λ rest. rows_at rest ≡ behind_at children.entry) }
         ensures shorter { IfOk result (λ rest. left_at rest ≤ left_at children.entry) }
@@ -69,7 +70,7 @@ impl<'a, A: Allocator + Copy> Action<'a, A> {
         line: u32,
         children: Cursor<'a>,
     ) -> Result<Cursor<'a>, DomainFault>
-        ensures given { Gives (λ _. action_schema self.new) result
+        ensures given { Gives is_memory (λ _. action_schema self.new) result
             (spec.at_tree side line (row_at children.entry) (action_schema self.old)) }
         ensures behind { IfOk result (λ rest. rows_at rest ≡ behind_at children.entry) }
         ensures shorter { IfOk result (λ rest. left_at rest ≤ left_at children.entry) }
@@ -98,7 +99,7 @@ impl<'a, A: Allocator + Copy> Action<'a, A> {
         line: u32,
         children: Cursor<'a>,
     ) -> Result<Cursor<'a>, DomainFault>
-        ensures given { Gives (λ _. action_schema self.new) result
+        ensures given { Gives is_memory (λ _. action_schema self.new) result
             (spec.over_tree side line (row_at children.entry) (action_schema self.old)) }
         ensures behind { IfOk result (λ rest. rows_at rest ≡ behind_at children.entry) }
         ensures shorter { IfOk result (λ rest. left_at rest ≤ left_at children.entry) }
@@ -128,7 +129,7 @@ impl<'a, A: Allocator + Copy> Action<'a, A> {
         side: Side,
         children: Cursor<'a>,
     ) -> Result<Cursor<'a>, DomainFault>
-        ensures given { Gives (λ _. action_schema self.new) result
+        ensures given { Gives is_memory (λ _. action_schema self.new) result
             (spec.timed_row side (row_at children.entry) (action_schema self.old)) }
         ensures behind { IfOk result (λ rest. rows_at rest ≡ behind_at children.entry) }
         ensures shorter { IfOk result (λ rest. left_at rest ≤ left_at children.entry) }
@@ -155,7 +156,7 @@ impl<'a, A: Allocator + Copy> Action<'a, A> {
         line: u32,
         children: Cursor<'a>,
     ) -> Result<Cursor<'a>, DomainFault>
-        ensures given { Gives (λ _. action_schema self.new) result
+        ensures given { Gives is_memory (λ _. action_schema self.new) result
             (spec.timed_tree side line (row_at children.entry) (action_schema self.old)) }
         ensures behind { IfOk result (λ rest. rows_at rest ≡ behind_at children.entry) }
         ensures shorter { IfOk result (λ rest. left_at rest ≤ left_at children.entry) }

@@ -2,9 +2,10 @@
 
 ghost use Rattle.std.specs.Prelude.{◌≡◌, ◌≤◌, [], false, length, IfOk, IfSome, MatchOption, Some, None, Ok};
 ghost use Rattle.std.specs.Option.{option_map};
+ghost use Rattle.stn_text.specs.Faults.{Gives};
 ghost use Rattle.stn_tree.specs.Cursors.{row_at};
 ghost use Rattle.stn_tree.specs.Scan.{most_text};
-ghost use Rattle.stn_pddl.specs.Faults.{Gives};
+ghost use Rattle.stn_pddl.specs.Faults.{is_memory};
 ghost use Rattle.stn_pddl.specs.Actions as rule;
 ghost use Rattle.stn_pddl.specs.Domains.{part, parts, is_title, root, domain_of_tree, domain_of, action_named};
 ghost use Rattle.stn_pddl.specs.Sound.{IsSound};
@@ -47,7 +48,7 @@ fn read_timed_value<'a, A: Allocator + Copy>(
     value: Option<Listing<'a>>,
     action: &mut Action<'a, A>,
 ) -> Result<(), DomainFault>
-    ensures { Gives (λ _. action_schema action.new) result
+    ensures { Gives is_memory (λ _. action_schema action.new) result
         (rule.timed_value side (option_map listing_of value.entry) (action_schema action.old)) }
 {
     if let Some(listing) = value {
@@ -65,7 +66,7 @@ fn read_lists<'a, A: Allocator + Copy>(
     duration: Listing<'a>,
     values: Values<'a>,
 ) -> Result<Action<'a, A>, DomainFault>
-    ensures { Gives action_schema result
+    ensures { Gives is_memory action_schema result
         (rule.action_of_lists (word_of name.entry) (listing_of parameters.entry) (listing_of duration.entry) (values_of values.entry)) }
 {
     let names = read_parameters(alloc, parameters.inside)?;
@@ -84,7 +85,7 @@ fn read_named_action<'a, A: Allocator + Copy>(
     name: Name<'a>,
     children: Cursor<'a>,
 ) -> Result<Action<'a, A>, DomainFault>
-    ensures { Gives action_schema result (rule.named_action line (word_of name.entry) (row_at children.entry)) }
+    ensures { Gives is_memory action_schema result (rule.named_action line (word_of name.entry) (row_at children.entry)) }
 {
     let values = Values::read(children)?;
     let Some(parameters) = values.parameters else {
@@ -104,7 +105,7 @@ fn read_action<'a, A: Allocator + Copy>(
     children: Cursor<'a>,
     earlier: &Actions<'a, A>,
 ) -> Result<Action<'a, A>, DomainFault>
-    ensures given { Gives action_schema result (rule.action line (row_at children.entry) earlier.now) }
+    ensures given { Gives is_memory action_schema result (rule.action line (row_at children.entry) earlier.now) }
     ensures new { IfOk result (λ action. rule.is_taken (action_schema action).name earlier.now ≡ false) }
 {
     match children.next_child() {
@@ -131,7 +132,7 @@ fn read_part<'a, A: Allocator + Copy>(
     children: Cursor<'a>,
     actions: &mut Actions<'a, A>,
 ) -> Result<(), DomainFault>
-    ensures { Gives (λ _. actions.new) result (part line (row_at children.entry) actions.old) }
+    ensures { Gives is_memory (λ _. actions.new) result (part line (row_at children.entry) actions.old) }
 {
     match children.next_child() {
         Child::End(_) => Err(DomainFault::Syntax(line)),
@@ -155,7 +156,7 @@ fn read_parts<'a, A: Allocator + Copy>(
     alloc: A,
     children: Cursor<'a>,
 ) -> Result<Actions<'a, A>, DomainFault>
-    ensures { Gives (λ actions. actions) result (parts (row_at children.entry) []) }
+    ensures { Gives is_memory (λ actions. actions) result (parts (row_at children.entry) []) }
 {
     let mut actions = Actions::new(alloc);
     let mut cursor = children;
@@ -195,7 +196,7 @@ fn read_root<'a, A: Allocator + Copy>(
     line: u32,
     children: Cursor<'a>,
 ) -> Result<Actions<'a, A>, DomainFault>
-    ensures { Gives (λ actions. actions) result (root line (row_at children.entry)) }
+    ensures { Gives is_memory (λ actions. actions) result (root line (row_at children.entry)) }
 {
     let Child::Word(_, define, rest) = children.next_child() else {
         return Err(DomainFault::Syntax(line));
@@ -216,7 +217,7 @@ fn read_actions<'a, A: Allocator + Copy>(
     alloc: A,
     text: &'a [u8],
 ) -> Result<Actions<'a, A>, DomainFault>
-    ensures { Gives (λ actions. actions) result (domain_of text.now) }
+    ensures { Gives is_memory (λ actions. actions) result (domain_of text.now) }
 {
     match stn_tree::start(text)?.next_child() {
         Child::End(_) => Err(DomainFault::Syntax(1)),
@@ -230,7 +231,7 @@ impl<'a, A: Allocator + Copy> Domain<'a, A> {
     /// first of its forms, 11 or 13 to 16. `Memory` may come in place of any other answer.
     pub fn read(alloc: A, text: &'a [u8]) -> Result<Domain<'a, A>, DomainFault>
         // The domain that the text means, or its first fault.
-        ensures given { Gives (λ domain. domain.actions) result (domain_of text.now) }
+        ensures given { Gives is_memory (λ domain. domain.actions) result (domain_of text.now) }
         ensures text { IfOk result (λ domain. domain.text ≡ text.now) }
     {
         let actions = read_actions(alloc, text)?;

@@ -1,8 +1,9 @@
 //! The keys of an action with their values, its parameters and its duration.
 
 ghost use Rattle.std.specs.Prelude.{◌≡◌, []};
+ghost use Rattle.stn_text.specs.Faults.{Gives};
 ghost use Rattle.stn_tree.specs.Cursors.{row_at};
-ghost use Rattle.stn_pddl.specs.Faults.{Gives};
+ghost use Rattle.stn_pddl.specs.Faults.{is_memory};
 ghost use Rattle.stn_pddl.specs.Views.{words_of};
 ghost use Rattle.stn_pddl.specs.Fields as spec;
 
@@ -20,7 +21,7 @@ pub fn read_parameters<'a, A: Allocator + Copy>(
     alloc: A,
     children: Cursor<'a>,
 ) -> Result<Names<'a, A>, DomainFault>
-    ensures { Gives (λ names. words_of names.keys) result (spec.parameters (row_at children.entry) []) }
+    ensures { Gives is_memory (λ names. words_of names.keys) result (spec.parameters (row_at children.entry) []) }
 {
     let mut names = IndexSet::new(alloc);
     let mut cursor = children;
@@ -50,7 +51,7 @@ pub fn read_parameters<'a, A: Allocator + Copy>(
 /// A constant duration on a line.
 #[tactic(auto, unfolding(crate::specs::Fields::constant))]
 fn read_constant(line: u32, word: &[u8]) -> Result<Ms, DomainFault>
-    ensures { Gives (λ time. time) result (spec.constant line word.now) }
+    ensures { Gives is_memory (λ time. time) result (spec.constant line word.now) }
 {
     match Ms::read(word) {
         Ok(time) => {
@@ -67,7 +68,7 @@ fn read_constant(line: u32, word: &[u8]) -> Result<Ms, DomainFault>
 /// The duration that a list on a line says.
 #[tactic(auto, unfolding(crate::specs::Fields::duration))]
 pub fn read_duration(line: u32, children: Cursor<'_>) -> Result<Ms, DomainFault>
-    ensures { Gives (λ time. time) result (spec.duration line (row_at children.entry)) }
+    ensures { Gives is_memory (λ time. time) result (spec.duration line (row_at children.entry)) }
 {
     let Child::Word(_, equal, rest) = children.next_child() else {
         return Err(DomainFault::Unsupported(line));
@@ -106,8 +107,9 @@ pub struct Values<'a> {
 
 impl<'a> Values<'a> {
     ghost use Rattle.std.specs.Prelude.{◌≡◌, is_some};
+    ghost use Rattle.stn_text.specs.Faults.{Gives};
     ghost use Rattle.stn_tree.specs.Cursors.{row_at};
-    ghost use Rattle.stn_pddl.specs.Faults.{Gives};
+    ghost use Rattle.stn_pddl.specs.Faults.{is_memory};
     ghost use Rattle.stn_pddl.specs.Fields as spec;
     ghost use Rattle.stn_pddl.specs.FieldViews.{listing_of, values_of};
 
@@ -149,7 +151,7 @@ impl<'a> Values<'a> {
     /// The values of the keys of a row.
     #[tactic(auto, unfolding(crate::specs::Fields::fields, crate::specs::Fields::field_value))]
     pub fn read(children: Cursor<'a>) -> Result<Values<'a>, DomainFault>
-        ensures { Gives values_of result (spec.fields (row_at children.entry) spec.no_values) }
+        ensures { Gives is_memory values_of result (spec.fields (row_at children.entry) spec.no_values) }
     {
         let mut values = Values {
             parameters: None,

@@ -1,8 +1,9 @@
 //! Plain conditions and effects: conjunctions of literals.
 
 ghost use Rattle.std.specs.Prelude.{◌≡◌, ◌≤◌, IfOk, true};
+ghost use Rattle.stn_text.specs.Faults.{Gives};
 ghost use Rattle.stn_tree.specs.Cursors.{row_at, rows_at, behind_at, left_at};
-ghost use Rattle.stn_pddl.specs.Faults.{Gives};
+ghost use Rattle.stn_pddl.specs.Faults.{is_memory};
 ghost use Rattle.stn_pddl.specs.Views.{action_schema};
 ghost use Rattle.stn_pddl.specs.Conditions as spec;
 
@@ -30,7 +31,7 @@ impl<'a, A: Allocator + Copy> Action<'a, A> {
         line: u32,
         children: Cursor<'a>,
     ) -> Result<Cursor<'a>, DomainFault>
-        ensures given { Gives (λ _. action_schema self.now) result
+        ensures given { Gives is_memory (λ _. action_schema self.now) result
             (spec.equal_tree label line (row_at children.entry) (action_schema self.now)) }
         ensures behind { IfOk result (λ rest. rows_at rest ≡ behind_at children.entry) }
         ensures shorter { IfOk result (λ rest. left_at rest ≤ left_at children.entry) }
@@ -50,7 +51,7 @@ impl<'a, A: Allocator + Copy> Action<'a, A> {
         line: u32,
         children: Cursor<'a>,
     ) -> Result<Cursor<'a>, DomainFault>
-        ensures given { Gives (λ _. action_schema self.new) result
+        ensures given { Gives is_memory (λ _. action_schema self.new) result
             (spec.negated_tree label line (row_at children.entry) (action_schema self.old)) }
         ensures behind { IfOk result (λ rest. rows_at rest ≡ behind_at children.entry) }
         ensures shorter { IfOk result (λ rest. left_at rest ≤ left_at children.entry) }
@@ -78,7 +79,7 @@ impl<'a, A: Allocator + Copy> Action<'a, A> {
         line: u32,
         children: Cursor<'a>,
     ) -> Result<Cursor<'a>, DomainFault>
-        ensures given { Gives (λ _. action_schema self.new) result
+        ensures given { Gives is_memory (λ _. action_schema self.new) result
             (spec.negation label line (row_at children.entry) (action_schema self.old)) }
         ensures behind { IfOk result (λ rest. rows_at rest ≡ behind_at children.entry) }
         ensures shorter { IfOk result (λ rest. left_at rest ≤ left_at children.entry) }
@@ -105,7 +106,7 @@ impl<'a, A: Allocator + Copy> Action<'a, A> {
         label: Label,
         children: Cursor<'a>,
     ) -> Result<Cursor<'a>, DomainFault>
-        ensures given { Gives (λ _. action_schema self.new) result
+        ensures given { Gives is_memory (λ _. action_schema self.new) result
             (spec.plain_row label (row_at children.entry) (action_schema self.old)) }
         ensures behind { IfOk result (λ rest. rows_at rest ≡ behind_at children.entry) }
         ensures shorter { IfOk result (λ rest. left_at rest ≤ left_at children.entry) }
@@ -132,7 +133,7 @@ impl<'a, A: Allocator + Copy> Action<'a, A> {
         line: u32,
         children: Cursor<'a>,
     ) -> Result<Cursor<'a>, DomainFault>
-        ensures given { Gives (λ _. action_schema self.new) result
+        ensures given { Gives is_memory (λ _. action_schema self.new) result
             (spec.plain_tree label line (row_at children.entry) (action_schema self.old)) }
         ensures behind { IfOk result (λ rest. rows_at rest ≡ behind_at children.entry) }
         ensures shorter { IfOk result (λ rest. left_at rest ≤ left_at children.entry) }

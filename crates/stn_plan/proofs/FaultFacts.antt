@@ -5,12 +5,13 @@ use Rattle.std.specs.Option.{option_to_list, option_map_or}
 use Rattle.std.proofs.lemmas.List.Elements.{All-nil, All-cons}
 use Rattle.stn_time.specs.declared.reading.TimeFault.{TimeFault}
 use Rattle.stn_time.specs.TimeOf.{time_of}
+use Rattle.stn_text.specs.Faults.{◌>>=◌, Fails}
 use Rattle.stn_plan.specs.declared.bytes.Mark.TheVariants.{Colon, Open, Close, OpenSquare, CloseSquare}
 use Rattle.stn_plan.specs.declared.fault.PlanFault.{PlanFault}
 use Rattle.stn_plan.specs.declared.fault.PlanFault.TheVariants.{TooLong, Syntax, Number, Negative, TooManySteps, Memory}
 use Rattle.stn_plan.specs.Tokens.{Lexeme, Word, Sign, tokens_of}
 use Rattle.stn_plan.specs.Lines.{lines_of}
-use Rattle.stn_plan.specs.Steps.{PlannedStep, Form, ◌>>=◌, args_of, duration_form, form_of, or_number, time_at, duration_of, step_at, timed_step, step_of, line_step, steps_of, Fails}
+use Rattle.stn_plan.specs.Steps.{PlannedStep, Form, args_of, duration_form, form_of, or_number, time_at, duration_of, step_at, timed_step, step_of, line_step, steps_of, is_memory}
 use Rattle.stn_plan.specs.Faults.{IsFaultOf, IsFirstFault, IsCause}
 
 -- the fault that is given is the one that is found
@@ -129,7 +130,7 @@ steps_of-first [] fault e = cc
 steps_of-first (line ∷ lines) fault e = first_of_lines line lines fault (line_step line) refl e (steps_of-first lines fault)
 
 -- a fault of the lines has its cause
-pub lines_fault : (fault : PlanFault) (text : List ℕ) → Fails fault (steps_of (lines_of text)) → IsCause text fault
+pub lines_fault : (fault : PlanFault) (text : List ℕ) → Fails is_memory fault (steps_of (lines_of text)) → IsCause text fault
 lines_fault TooLong text e = absurd (steps_of-first (lines_of text) TooLong e).its_number
 lines_fault (Syntax line) text e = steps_of-first (lines_of text) (Syntax line) e
 lines_fault (Number line) text e = steps_of-first (lines_of text) (Number line) e

@@ -6,11 +6,12 @@ use Rattle.std.specs.Option.{option_to_list, option_map_or}
 use Rattle.std.proofs.lemmas.Bool.{or_parts, le-ltb}
 use Rattle.std.proofs.lemmas.Bool.Decides.{nat_tests}
 use Rattle.std.proofs.lemmas.List.Elements.{All-nil, All-cons, All-append}
+use Rattle.stn_text.specs.Faults.{◌>>=◌}
 use Rattle.stn_plan.specs.declared.fault.PlanFault.{PlanFault}
 use Rattle.stn_plan.specs.declared.fault.PlanFault.TheVariants.{TooLong, Negative, TooManySteps}
 use Rattle.stn_plan.specs.Tokens.{Lexeme, tokens_of}
 use Rattle.stn_plan.specs.Lines.{lines_of}
-use Rattle.stn_plan.specs.Steps.{most_text, most_steps, PlannedStep, Form, IsPlan, IsTimely, ◌>>=◌, form_of, time_at, duration_of, step_at, timed_step, step_of, line_step, steps_of, limited, plan_of}
+use Rattle.stn_plan.specs.Steps.{most_text, most_steps, PlannedStep, Form, IsPlan, IsTimely, form_of, time_at, duration_of, step_at, timed_step, step_of, line_step, steps_of, limited, plan_of}
 
 -- names that were read before those that are found
 abbrev pub behind_names : List (List ℕ) → Result (List (List ℕ) × List Lexeme) PlanFault → Result (List (List ℕ) × List Lexeme) PlanFault

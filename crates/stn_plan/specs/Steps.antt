@@ -1,22 +1,17 @@
 -- The steps of a plan text, or its first fault.
-use Rattle.std.specs.Prelude.{◌≡◌, ℕ, ℤ, pos, ◌≤ℤ◌, ◌≤◌, false, ◌||◌, nat_lt, if◌then◌else◌, List, [], ◌∷◌, ◌++◌, length, All, Option, Some, None, IfSome, Result, Ok, Err}
+use Rattle.std.specs.Prelude.{◌≡◌, ℕ, ℤ, pos, ◌≤ℤ◌, ◌≤◌, Bool, true, false, ◌||◌, nat_lt, if◌then◌else◌, List, [], ◌∷◌, ◌++◌, length, All, Option, Some, None, IfSome, Result, Ok, Err}
 use Rattle.std.specs.Int.{is_negative}
 use Rattle.std.specs.Option.{option_map_or, option_to_list}
 use Rattle.stn_time.specs.declared.reading.TimeFault.{TimeFault}
 use Rattle.stn_time.specs.TimeOf.{time_of}
 pub use Rattle.stn_text.specs.Bytes.{most_text}
+use Rattle.stn_text.specs.Faults.{◌>>=◌}
 pub use Rattle.stn_net.specs.Event.{most_steps}
 use Rattle.stn_plan.specs.declared.bytes.Mark.TheVariants.{Colon, Open, Close, OpenSquare, CloseSquare}
 use Rattle.stn_plan.specs.declared.fault.PlanFault.{PlanFault}
 use Rattle.stn_plan.specs.declared.fault.PlanFault.TheVariants.{TooLong, Syntax, Number, Negative, TooManySteps, Memory}
 use Rattle.stn_plan.specs.Tokens.{Lexeme, Word, Sign, tokens_of}
 use Rattle.stn_plan.specs.Lines.{lines_of}
-
--- the first fault, or what comes of the value
-infixl 10 ◌>>=◌
-abbrev pub ◌>>=◌ : {A B : Type 0} → Result A PlanFault → (A → Result B PlanFault) → Result B PlanFault
-(Ok x) >>= f = f x
-(Err e) >>= f = Err e
 
 -- a step without where it lies in memory
 pub record PlannedStep : Type 0 where
@@ -108,15 +103,10 @@ limited steps = if nat_lt most_steps (length steps) then Err TooManySteps else O
 unfoldable pub plan_of : List ℕ → Result (List PlannedStep) PlanFault
 plan_of text = if nat_lt most_text (length text) then Err TooLong else (steps_of (lines_of text) >>= limited)
 
--- The fault is the one that the meaning gives, unless memory ran out.
-abbrev pub Fails : {Y : Type 0} → PlanFault → Result Y PlanFault → Type 0
-Fails Memory meaning = Unit {0}
-Fails fault meaning = meaning ≡ Err fault
-
--- What a function returned, seen by view, is what the meaning gives, unless memory ran out.
-abbrev pub Gives : {X Y : Type 0} → (X → Y) → Result X PlanFault → Result Y PlanFault → Type 0
-Gives view (Ok x) meaning = meaning ≡ Ok (view x)
-Gives view (Err fault) meaning = Fails fault meaning
+-- memory ran out
+abbrev pub is_memory : PlanFault → Bool
+is_memory Memory = true
+is_memory fault = false
 
 -- the step's time is not below 0, nor is its duration
 pub record IsTimely (step : PlannedStep) : Type 0 where

@@ -1,7 +1,8 @@
 //! Plans, and how one is read from its text.
 
 ghost use Rattle.std.specs.Prelude.{◌≡◌, ◌≤◌, length, map, All, Ok, IfOk, IfErr};
-ghost use Rattle.stn_plan.specs.Steps.{Gives, IsTimely, most_steps, most_text, steps_of, plan_of};
+ghost use Rattle.stn_text.specs.Faults.{Gives};
+ghost use Rattle.stn_plan.specs.Steps.{is_memory, IsTimely, most_steps, most_text, steps_of, plan_of};
 ghost use Rattle.stn_plan.specs.Faults.{IsCause};
 ghost use Rattle.stn_plan.specs.Views.{planned_step};
 
@@ -39,7 +40,7 @@ fn read_steps<'a, A: Allocator + Copy>(
     alloc: A,
     mut lines: Lines<'a>,
 ) -> Result<Vec<Step<'a, A>, A>, PlanFault>
-    ensures { Gives (λ steps. map planned_step steps.items) result (steps_of lines.entry) }
+    ensures { Gives is_memory (λ steps. map planned_step steps.items) result (steps_of lines.entry) }
 {
     let mut steps = Vec::new(alloc);
     while let Some((number, line)) = lines.next_line() {
@@ -55,7 +56,7 @@ impl<'a, A: Allocator + Copy> Plan<'a, A> {
     /// has one, `Syntax`, `Number` or `Negative`; `TooManySteps`. `Memory` may come in place of any answer.
     #[tactic(auto, unfolding(crate::specs::Steps::plan_of, crate::specs::Steps::limited))]
     pub fn read(alloc: A, text: &'a [u8]) -> Result<Plan<'a, A>, PlanFault>
-        ensures given { Gives (λ plan. plan.steps) result (plan_of text.now) }
+        ensures given { Gives is_memory (λ plan. plan.steps) result (plan_of text.now) }
         ensures text { IfOk result (λ plan. plan.text ≡ text.now) }
 
         // The text is too long, or the first line with a fault has it, or there are too many steps.

@@ -10,8 +10,8 @@ use Rattle.std.specs.FinMap as fin
 use Rattle.std.specs.FinMap.{FinMap, is_sorted, get-entries}
 use Rattle.std.specs.FinMap.Entries.{below_all}
 use Rattle.stn_records.specs.Id.{SiteCounter, id_cmp}
-use Rattle.stn_records.specs.Record.{same_records}
-use Rattle.stn_records.specs.Sorted.{has_keys, has_entries, is_there}
+use Rattle.stn_records.specs.Record.{same_records, is_there}
+use Rattle.stn_records.specs.Sorted.{has_keys, has_entries}
 use Rattle.stn_records.specs.Join.{passing}
 use Rattle.stn_records.specs.JoinLaws.{first_step, join_is}
 use Rattle.stn_records.specs.Content.{Content, Item, addition, withdrawal, HasItem, most_known, is_within, known_count, dispute_contents, join_contents, taken}

@@ -1,23 +1,18 @@
 -- For proofs alone: no public clause cites these words.
 -- Lists of entries in the order of their ids.
-use Rattle.std.specs.Prelude.{◌≡◌, ℕ, ◌<◌, ◌≤◌, Bool, false, List, [], ◌∷◌, length, insert, slice_index_or, Option, Some, None, is_some, if◌then◌else◌}
+use Rattle.std.specs.Prelude.{◌≡◌, ℕ, ◌<◌, ◌≤◌, Bool, List, [], ◌∷◌, length, insert, slice_index_or, Option, Some, None, is_some, if◌then◌else◌}
 use Rattle.std.specs.List.{list_all}
 use Rattle.std.specs.declared.cmp.Ordering.{Ordering}
 use Rattle.std.specs.Ordering.{eq_by_cmp, is_lt}
 use Rattle.std.specs.FinMap.{find, put}
 use Rattle.std.specs.FinMap.Entries.{by_order}
 use Rattle.stn_records.specs.Id.{SiteCounter, id_cmp}
-use Rattle.stn_records.specs.Record.{same_records}
+use Rattle.stn_records.specs.Record.{is_there}
 use Rattle.stn_records.specs.declared.record.Record.{Record}
 
 -- each id of theirs is one of ours
 abbrev pub has_keys : {X : Type 0} → List (SiteCounter × X) → List (SiteCounter × X) → Bool
 has_keys ours theirs = list_all (λ entry. is_some (find id_cmp entry.0 ours)) theirs
-
--- the record is there
-abbrev pub is_there : Option Record → Record → Bool
-is_there None r = false
-is_there (Some there) r = same_records there r
 
 -- each entry of theirs is one of ours
 abbrev pub has_entries : List (SiteCounter × Record) → List (SiteCounter × Record) → Bool

@@ -15,6 +15,10 @@ pub record Held : Type 0 where
   pub state : Content
   pub steps : ℕ
 
+-- a replica of the plan with this state, whatever its site and its work
+abbrev pub holding_state : PlanSource → Content → Held
+holding_state source state = record { site = 0; source = source; state = state; steps = 0 }
+
 -- the id of the replica's next record
 abbrev pub next_id : Held → SiteCounter
 next_id held = record { site = held.site; counter = next_counter held.state held.site }

@@ -1,5 +1,5 @@
 -- Replies that come one after the other.
-use Rattle.std.proofs.Common.{◌≡◌, ℕ, ◌+◌, List, [], ◌∷◌, ◌++◌, length, ◌⊎◌, Option, Result, Ok, Err, refl, sym, ap, subst, ◌∙◌, inl, inr, ⊎_elim, arith, append_assoc, append-nil, length-append}
+use Rattle.std.proofs.Common.{◌≡◌, ℕ, ◌+◌, ◌≤◌, List, [], ◌∷◌, ◌++◌, length, ◌⊎◌, Option, Result, Ok, Err, refl, sym, ap, subst, ◌∙◌, inl, inr, ⊎_elim, arith, append_assoc, append-nil, length-append}
 use Rattle.std.specs.Prelude.{flat_map, IfOk, IfErr}
 use Rattle.std.specs.List.{AllByRecursion}
 use Rattle.std.specs.Io.KnownBytes.{Consumes}
@@ -11,9 +11,10 @@ use Rattle.stn_lift.specs.PlanSource.{PlanSource}
 use Rattle.stn_records.specs.Content.{Content}
 use Rattle.stn_wire.specs.Frame.{FrameContent, content, text, spelling, IsFrame}
 use Rattle.stn_wire.specs.declared.frame.Frame.{Frame}
-use Rattle.stn_stream.specs.Stream.{pending, read_count}
-use Rattle.stn_stream.specs.declared.reader.FrameReader.{FrameReader}
-use Rattle.stn_session.specs.Exchange.{Stage, greeting, telling, told, failed, Reception, at_stage, expecting, told_by, staged, replied, IsWaiting, IsLost, IsReceived, Finds, seen}
+use Rattle.stn_stream.specs.Held.{Stream}
+use Rattle.stn_stream.specs.Stream.{pending}
+use Rattle.stn_session.specs.Exchange.{Stage, greeting, telling, told, failed, Reception, at_stage, expecting, told_by, staged, replied, IsWaiting, IsLost, IsReceived, seen}
+use Rattle.stn_session.specs.Turns.{Finds}
 use Rattle.stn_session.specs.declared.exchange.ReplyFault.{ReplyFault}
 use Rattle.stn_session.specs.declared.exchange.ReplyFault.TheVariants.{Memory}
 
@@ -76,8 +77,8 @@ frame_came source first before after rest taken stage state p frame later is fro
 
 -- the text came
 pub text_came : (source : PlanSource) (first : Content) (before after : Option (List ℕ)) (rest : List ℕ) (taken : ℕ) (bytes : List ℕ) (state : Content)
-    → Came source first before after rest taken (told bytes) state → IsReceived source first before after state (Ok bytes)
-text_came source first before after rest taken bytes state p = record {
+    → Came source first before after rest taken (told bytes) state → taken ≤ 16777216 → IsReceived source first before after state (Ok bytes)
+text_came source first before after rest taken bytes state p few = record {
   bytes = p.bytes;
   frames = p.frames;
   rest = rest;
@@ -86,14 +87,14 @@ text_came source first before after rest taken bytes state p = record {
   each = p.each;
   cut = p.cut;
   came = p.came;
-  is = refl;
+  is = (omega (arith, few, p.many), refl);
   left = refl;
 }
 
 -- a frame was refused
 pub refusal_came : (source : PlanSource) (first : Content) (before after : Option (List ℕ)) (rest : List ℕ) (taken : ℕ) (fault : ReplyFault) (state : Content)
-    → Came source first before after rest taken (failed fault) state → IsReceived source first before after state (Err fault)
-refusal_came source first before after rest taken fault state p = record {
+    → Came source first before after rest taken (failed fault) state → taken ≤ 16777216 → IsReceived source first before after state (Err fault)
+refusal_came source first before after rest taken fault state p few = record {
   bytes = p.bytes;
   frames = p.frames;
   rest = rest;
@@ -102,7 +103,7 @@ refusal_came source first before after rest taken fault state p = record {
   each = p.each;
   cut = p.cut;
   came = p.came;
-  is = inl refl;
+  is = inl (omega (arith, few, p.many), refl);
   left = refl;
 }
 
@@ -123,25 +124,25 @@ lost source first before after rest taken stage state p waits fault is = record 
 }
 
 -- ---- one frame more of the reader
-module _ {A : Type 0} (source : PlanSource) (first : Content) (before mid after : Option (List ℕ)) (old new : FrameReader A) (stage : Stage) (state : Content)
-    (p : Came source first before mid (pending old) (read_count old) stage state) where
-  pub next_lost : IsWaiting stage → (fault : ReplyFault) → Finds old new mid after (Err fault) → IsReceived source first before after state (Err fault)
-  next_lost waits fault f = lost source first before after _ _ stage state (read_on source first before mid (pending old) (read_count old) stage state p after f.bytes f.consumed) waits fault f.found
+module _ (source : PlanSource) (first : Content) (before mid after : Option (List ℕ)) (old new : Stream) (stage : Stage) (state : Content)
+    (p : Came source first before mid (pending old) old.count stage state) where
+  pub next_lost : {A : Type 0} → IsWaiting stage → (fault : ReplyFault) → Finds {A = A} old new mid after (Err fault) → IsReceived source first before after state (Err fault)
+  next_lost waits fault f = lost source first before after _ _ stage state (read_on source first before mid (pending old) old.count stage state p after f.bytes f.consumed) waits fault f.found
 
-  module _ (frame : Frame A) (f : Finds old new mid after (Ok frame)) where
-    pub next_came : (next : Stage) (left : Content) → staged source stage state (content frame) ≡ at_stage next left → Came source first before after (pending new) (read_count new) next left
+  module _ {A : Type 0} (frame : Frame A) (f : Finds old new mid after (Ok frame)) where
+    pub next_came : (next : Stage) (left : Content) → staged source stage state (content frame) ≡ at_stage next left → Came source first before after (pending new) new.count next left
     next_came next left leads =
-        frame_came source first before after (pending old ++ f.bytes) (read_count old + length f.bytes) stage state (read_on source first before mid (pending old) (read_count old) stage state p after f.bytes f.consumed)
-        (content frame) (pending new) f.found.0 f.found.1 (read_count new) f.found.3 next left leads
+        frame_came source first before after (pending old ++ f.bytes) (old.count + length f.bytes) stage state (read_on source first before mid (pending old) old.count stage state p after f.bytes f.consumed)
+        (content frame) (pending new) f.found.0 f.found.1 new.count f.found.3 next left leads
 
     pub next_refused : (fault : ReplyFault) → staged source stage state (content frame) ≡ at_stage (failed fault) state → IsReceived source first before after state (Err fault)
-    next_refused fault leads = refusal_came source first before after (pending new) (read_count new) fault state (next_came (failed fault) state leads)
+    next_refused fault leads = refusal_came source first before after (pending new) new.count fault state (next_came (failed fault) state leads) (omega (arith, f.found.3, f.found.4))
 
     -- want of memory: the frame is not taken
     pub next_kept : IsWaiting stage → IsReceived source first before after state (Err Memory)
     next_kept waits =
-        lost source first before after _ _ stage state (read_on source first before mid (pending old) (read_count old) stage state p after f.bytes f.consumed) waits Memory
-        (omega (arith, f.found.3, f.found.2.few))
+        lost source first before after _ _ stage state (read_on source first before mid (pending old) old.count stage state p after f.bytes f.consumed) waits Memory
+        f.found.4
 
     pub next_taken : IsWaiting stage → (now : Content) → now ≡ state → (fault : ReplyFault) → (fault ≡ Memory) ⊎ (staged source stage state (content frame) ≡ at_stage (failed fault) state)
         → IsReceived source first before after now (Err fault)
@@ -149,11 +150,12 @@ module _ {A : Type 0} (source : PlanSource) (first : Content) (before mid after 
         subst (λ s. IsReceived source first before after s (Err fault)) (sym kept)
         (⊎_elim (λ is. subst (λ e. IsReceived source first before after state (Err e)) (sym is) (next_kept waits)) (next_refused fault) why)
 
-pub text_answered : {A T : Type 0} (source : PlanSource) (first : Content) (before mid after : Option (List ℕ)) (old new : FrameReader A) (state : Content)
-    → Came source first before mid (pending old) (read_count old) telling state → (frame : Frame A) → Finds old new mid after (Ok frame)
+pub text_answered : {A T : Type 0} (source : PlanSource) (first : Content) (before mid after : Option (List ℕ)) (old new : Stream) (state : Content)
+    → Came source first before mid (pending old) old.count telling state → (frame : Frame A) → Finds old new mid after (Ok frame)
     → (view : T → List ℕ) (answer : Result T ReplyFault) → IfOk answer (λ given. content frame ≡ text (view given))
     → IfErr answer (λ fault. (s : Content) → told_by s (content frame) ≡ at_stage (failed fault) s) → IsReceived source first before after state (seen view answer)
 text_answered source first before mid after old new state p frame f view (Ok given) is why =
-    text_came source first before after (pending new) (read_count new) (view given) state
+    text_came source first before after (pending new) new.count (view given) state
     (next_came source first before mid after old new telling state p frame f (told (view given)) state (ap (told_by state) is))
+    (omega (arith, f.found.3, f.found.4))
 text_answered source first before mid after old new state p frame f view (Err fault) is why = next_refused source first before mid after old new telling state p frame f fault (why state)

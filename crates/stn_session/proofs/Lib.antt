@@ -1,4 +1,3 @@
-pub mod Frames
 pub mod Sessions
 pub mod Exchanges
 pub mod Unique

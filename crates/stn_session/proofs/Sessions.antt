@@ -1,5 +1,5 @@
 -- A session that goes on, frame by frame.
-use Rattle.std.proofs.Common.{◌≡◌, ℕ, ◌+◌, ◌-◌, ◌<◌, ◌≤◌, cond, Bool, List, [], ◌∷◌, ◌++◌, length, Option, Some, None, Err, refl, sym, ap, subst, ◌∙◌, inl, inr, ⊎_elim, arith, append_assoc, append-nil, length-append}
+use Rattle.std.proofs.Common.{◌≡◌, ℕ, ◌+◌, ◌<◌, ◌≤◌, cond, Bool, List, [], ◌∷◌, ◌++◌, length, Option, Some, None, Err, refl, sym, ap, subst, ◌∙◌, inl, inr, ⊎_elim, arith, append_assoc, append-nil, length-append}
 use Rattle.std.specs.Prelude.{flat_map, is_some}
 use Rattle.std.specs.Io.KnownBytes.{Consumes, Appends}
 use Rattle.std.proofs.KnownBytes.{Consumes-nil, Consumes-trans, Appends-nil, Appends-trans}
@@ -13,13 +13,13 @@ use Rattle.stn_wire.specs.Frame.{FrameContent, spelling, refused, IsFrame}
 use Rattle.stn_wire.specs.Front.{IsFront, faulty, unfinished}
 use Rattle.stn_stream.specs.Stream.{wire_fault, frame_code, IsNext, IsCounted}
 use Rattle.stn_session.specs.Session.{Reply, said, Session, answer, opening, followed, advanced, broken_off}
-use Rattle.stn_session.specs.Serving.{IsReplyBytes, AreReplies, WritesReplies, Reaches, IsServed, GoesOn, IsBroken}
+use Rattle.stn_session.specs.Serving.{IsReplyBytes, AreReplies, WritesReplies, Reaches, IsServed, GoesOn, IsBroken, serve_fault}
 use Rattle.stn_stream.specs.declared.fault.FrameFault.{FrameFault}
 use Rattle.stn_session.specs.declared.session.End.TheVariants.{Closed, Cut, Refused}
-use Rattle.stn_session.specs.Turns.{Wrote, WroteRefused, serve_fault}
+use Rattle.stn_session.specs.Turns.{Wrote, WroteRefused}
 use Rattle.stn_session.specs.declared.session.ServeFault.{ServeFault}
 use Rattle.stn_session.specs.declared.session.ServeFault.TheVariants.{Read, Write, Bound, Memory}
-use Rattle.stn_stream.specs.declared.reader.FrameReader.{FrameReader}
+use Rattle.stn_stream.specs.Held.{Stream}
 use Rattle.stn_stream.specs.declared.fault.StreamFault.{StreamFault}
 use Rattle.stn_stream.specs.declared.fault.StreamFault.TheVariants as stream
 
@@ -165,11 +165,11 @@ module _ (first : Session) (before after old new : Option (List ℕ)) (rest : Li
     leaves = (omega (arith, few, many_all), p.written, inl p.state_is);
   }
 
-  pub stream_fails : {A : Type 0} (now : FrameReader A) (fault : StreamFault) → IsNext {A = A} (rest ++ more) now (Err fault) → IsCounted {A = A} (taken + length more) now (Err fault)
+  pub stream_fails : (A : Type 0) (now : Stream) (fault : StreamFault) → IsNext {A = A} (rest ++ more) now (Err fault) → IsCounted {A = A} (taken + length more) now (Err fault)
       → IsBroken first before last old new state (serve_fault fault)
-  stream_fails now stream.Read next counted = read_fails counted next
-  stream_fails now stream.Bound next counted = bound_passed counted next.0 next.1 next.2 next.3
-  stream_fails now stream.Memory next counted = stream_refused counted
+  stream_fails A now stream.Read next counted = read_fails counted next
+  stream_fails A now stream.Bound next counted = bound_passed counted next.0 next.1 next.2 next.3
+  stream_fails A now stream.Memory next counted = stream_refused counted
 
   -- a fault of the bytes is answered, or not
   module _ (few : taken + length more ≤ 16777216) (fault : FrameFault) (front : IsFront (rest ++ more) (faulty (wire_fault fault))) (then : Option (List ℕ)) where

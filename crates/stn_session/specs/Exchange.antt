@@ -7,12 +7,10 @@ use Rattle.stn_lift.specs.PlanSource.{PlanSource}
 use Rattle.stn_records.specs.Content.{Content, joined_contents}
 use Rattle.stn_replica.specs.Refusals.{take_refusal}
 use Rattle.stn_replica.specs.declared.faults.ReplicaFault.{ReplicaFault}
-use Rattle.stn_wire.specs.declared.frame.Frame as wire
-use Rattle.stn_wire.specs.Frame.{FrameContent, content, hello, records, ask, text, refused, same, spelling, IsFrame}
+use Rattle.stn_wire.specs.Frame.{FrameContent, hello, records, ask, text, refused, same, spelling, IsFrame}
 use Rattle.stn_wire.specs.Front.{IsFront, faulty, unfinished}
-use Rattle.stn_session.specs.Session.{holding_state}
-use Rattle.stn_stream.specs.Stream.{wire_fault, pending, read_count, IsReading}
-use Rattle.stn_stream.specs.declared.reader.FrameReader.{FrameReader}
+use Rattle.stn_replica.specs.Held.{holding_state}
+use Rattle.stn_stream.specs.Stream.{wire_fault}
 use Rattle.stn_stream.specs.declared.fault.StreamFault.{StreamFault}
 use Rattle.stn_stream.specs.declared.fault.StreamFault.TheVariants as stream
 use Rattle.stn_session.specs.declared.exchange.ReplyFault.{ReplyFault}
@@ -102,10 +100,11 @@ IsLost rest many after Memory = many ≤ most_bytes
 IsLost rest many after (Refused code) = ⊥
 IsLost rest many after (Replica fault) = ⊥
 
--- what was answered, by what the frames came to: the text; or what refused one of them, or why no further one came
+-- what was answered, of so many bytes that were read, by what the frames came to: the text; or what refused one of them, or why no
+-- further one came
 abbrev pub IsReception : Reception → List ℕ → ℕ → Option (List ℕ) → Result (List ℕ) ReplyFault → Type 0
-IsReception reception rest many after (Ok bytes) = reception.stage ≡ told bytes
-IsReception reception rest many after (Err fault) = (reception.stage ≡ failed fault) ⊎ (IsWaiting reception.stage × IsLost rest many after fault)
+IsReception reception rest many after (Ok bytes) = (many ≤ most_bytes) × (reception.stage ≡ told bytes)
+IsReception reception rest many after (Err fault) = ((many ≤ most_bytes) × (reception.stage ≡ failed fault)) ⊎ (IsWaiting reception.stage × IsLost rest many after fault)
 
 -- what a value is seen as, where there is one
 abbrev pub seen : {T U E : Type 0} → (T → U) → Result T E → Result U E
@@ -124,17 +123,6 @@ pub record IsReceived (source : PlanSource) (first : Content) (before after : Op
   pub came : reception ≡ replied source (expecting first) frames
   pub is : IsReception reception rest (length bytes) after answer
   pub left : state ≡ reception.state
-
--- the next frame of the bytes, behind which the rest is pending; or why there is none
-abbrev pub IsFound : {A : Type 0} → List ℕ → ℕ → FrameReader A → Option (List ℕ) → Result (wire.Frame A) ReplyFault → Type 0
-IsFound bytes many new after (Ok frame) = IsFrame (content frame) × (bytes ≡ spelling (content frame) ++ pending new) × IsReading new × (read_count new ≡ many)
-IsFound bytes many new after (Err fault) = IsLost bytes many after fault
-
--- the bytes that were read for it
-pub record Finds {A : Type 0} (old new : FrameReader A) (before after : Option (List ℕ)) (answer : Result (wire.Frame A) ReplyFault) : Type 0 where
-  pub bytes : List ℕ
-  pub consumed : Consumes before after bytes
-  pub found : IsFound (pending old ++ bytes) (read_count old + length bytes) new after answer
 
 -- a fault of the stream is one of the replies
 abbrev pub reply_fault : StreamFault → ReplyFault

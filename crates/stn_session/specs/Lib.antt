@@ -1,4 +1,4 @@
 pub mod Session
 pub mod Serving
-pub mod Turns
 pub mod Exchange
+pub mod Turns

@@ -1,7 +1,7 @@
 -- A session over a reader and a writer.
-use Rattle.std.specs.Prelude.{◌≡◌, ◌⊎◌, ℕ, ◌+◌, ◌<◌, ◌≤◌, List, [], ◌∷◌, ◌++◌, length, flat_map, Option, Some, None}
+use Rattle.std.specs.Prelude.{◌≡◌, ◌⊎◌, ℕ, ◌+◌, ◌<◌, ◌≤◌, List, [], ◌∷◌, ◌++◌, length, flat_map, Option, Some, None, ⊤}
 use Rattle.std.specs.List.{AllByRecursion}
-use Rattle.std.specs.Io.KnownBytes.{Consumes, Appends}
+use Rattle.std.specs.Io.KnownBytes.{Consumes, Appends, IsAtEnd}
 use Rattle.stn_device.specs.Bytes.{most_bytes}
 use Rattle.stn_records.specs.Content.{Content}
 use Rattle.stn_replica.specs.Report.{IsReport}
@@ -10,6 +10,8 @@ use Rattle.stn_wire.specs.Front.{IsFront, faulty, unfinished}
 use Rattle.stn_stream.specs.Stream.{wire_fault, frame_code}
 use Rattle.stn_session.specs.Session.{Reply, said, reported, Session, advanced, talked, broken_off}
 use Rattle.stn_stream.specs.declared.fault.FrameFault.{FrameFault}
+use Rattle.stn_stream.specs.declared.fault.StreamFault.{StreamFault}
+use Rattle.stn_stream.specs.declared.fault.StreamFault.TheVariants as stream
 use Rattle.stn_session.specs.declared.session.End.{End}
 use Rattle.stn_session.specs.declared.session.End.TheVariants.{Closed, Cut, Refused}
 use Rattle.stn_session.specs.declared.session.Served.{Served}
@@ -101,3 +103,15 @@ pub record IsBroken (first : Session) (before after old new : Option (List ℕ))
   pub reached : Reaches first bytes session rest
   pub on : session.ended ≡ None
   pub leaves : Leaves (length bytes) session rest old new state fault
+
+-- a fault of the stream is one of the session
+abbrev pub serve_fault : StreamFault → ServeFault
+serve_fault stream.Read = Read
+serve_fault stream.Bound = Bound
+serve_fault stream.Memory = Memory
+
+-- where the session ended with the input, no byte is left
+abbrev pub IsInputEnd : End → Option (List ℕ) → Type 0
+IsInputEnd Closed known = IsAtEnd known
+IsInputEnd Cut known = IsAtEnd known
+IsInputEnd (Refused code) known = ⊤

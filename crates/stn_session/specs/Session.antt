@@ -5,7 +5,7 @@ use Rattle.stn_lift.specs.PlanSource.{PlanSource, bare, files}
 use Rattle.stn_records.specs.Content.{Content, joined_contents}
 use Rattle.stn_replica.specs.declared.faults.ReplicaFault.{ReplicaFault}
 use Rattle.stn_replica.specs.declared.faults.ReplicaFault.TheVariants.{Bound, CounterSpent, Full, Unknown, Clash, Memory}
-use Rattle.stn_replica.specs.Held.{Held}
+use Rattle.stn_replica.specs.Held.{holding_state}
 use Rattle.stn_replica.specs.Refusals.{take_refusal}
 use Rattle.stn_wire.specs.Frame.{FrameContent, hello, records, ask, text, refused, same}
 
@@ -26,10 +26,6 @@ refusal_code Full = Some 41
 refusal_code Unknown = Some 42
 refusal_code CounterSpent = Some 43
 refusal_code Memory = None
-
--- a replica of the plan with this state, whatever its site and its work
-abbrev pub holding_state : PlanSource → Content → Held
-holding_state source state = record { site = 0; source = source; state = state; steps = 0 }
 
 -- the code of what refuses to take in what another site holds
 abbrev pub take_code : PlanSource → Content → Content → Option ℕ

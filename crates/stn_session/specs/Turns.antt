@@ -1,18 +1,20 @@
--- What one frame of a session brings, as the code has it.
-use Rattle.std.specs.Prelude.{◌≡◌, ◌⊎◌, ℕ, List, [], ◌++◌, Option, Result, Ok, Err, ⊤}
-use Rattle.std.specs.Io.KnownBytes.{Appends, IsAtEnd}
-use Rattle.stn_device.specs.Bytes.{AppendsPart}
+-- For proofs alone: no public clause cites these words.
+-- What one frame of a session or an exchange brings, as the code has it.
+use Rattle.std.specs.Prelude.{◌≡◌, ◌⊎◌, ℕ, ◌+◌, ◌≤◌, List, [], ◌++◌, length, Option, Result, Ok, Err}
+use Rattle.std.specs.Io.KnownBytes.{Consumes, Appends}
+use Rattle.stn_device.specs.Bytes.{most_bytes, AppendsPart}
 use Rattle.stn_records.specs.Content.{Content}
-use Rattle.stn_wire.specs.Frame.{spelling, refused}
+use Rattle.stn_wire.specs.Frame.{content, spelling, refused, IsFrame}
+use Rattle.stn_wire.specs.declared.frame.Frame.{Frame}
+use Rattle.stn_stream.specs.Held.{Stream}
+use Rattle.stn_stream.specs.Stream.{pending, IsReading}
 use Rattle.stn_session.specs.Session.{Answer}
 use Rattle.stn_session.specs.Serving.{IsReplyBytes}
+use Rattle.stn_session.specs.Exchange.{IsLost}
 use Rattle.stn_session.specs.declared.replies.Turn.{Turn}
-use Rattle.stn_session.specs.declared.session.End.{End}
-use Rattle.stn_session.specs.declared.session.End.TheVariants.{Closed, Cut, Refused}
 use Rattle.stn_session.specs.declared.session.ServeFault.{ServeFault}
 use Rattle.stn_session.specs.declared.session.ServeFault.TheVariants as serve
-use Rattle.stn_stream.specs.declared.fault.StreamFault.{StreamFault}
-use Rattle.stn_stream.specs.declared.fault.StreamFault.TheVariants as stream
+use Rattle.stn_session.specs.declared.exchange.ReplyFault.{ReplyFault}
 
 -- the answer's state is left, its reply's bytes were appended, and the turn says the rest
 pub record IsAnswered (answer : Answer) (state : Content) (old new : List ℕ) (turn : Turn) : Type 0 where
@@ -38,14 +40,13 @@ WroteRefused code old new (Err serve.Write) = AppendsPart old new (spelling (ref
 WroteRefused code old new (Err serve.Memory) = Appends old new []
 WroteRefused code old new (Err other) = ⊥
 
--- a fault of the stream is one of the session
-abbrev pub serve_fault : StreamFault → ServeFault
-serve_fault stream.Read = serve.Read
-serve_fault stream.Bound = serve.Bound
-serve_fault stream.Memory = serve.Memory
+-- the next frame of the bytes, behind which the rest is pending; or why there is none
+abbrev pub IsFound : {A : Type 0} → List ℕ → ℕ → Stream → Option (List ℕ) → Result (Frame A) ReplyFault → Type 0
+IsFound bytes many new after (Ok frame) = IsFrame (content frame) × (bytes ≡ spelling (content frame) ++ pending new) × IsReading new × (new.count ≡ many) × (many ≤ most_bytes)
+IsFound bytes many new after (Err fault) = IsLost bytes many after fault
 
--- where the session ended with the input, no byte is left
-abbrev pub IsInputEnd : End → Option (List ℕ) → Type 0
-IsInputEnd Closed known = IsAtEnd known
-IsInputEnd Cut known = IsAtEnd known
-IsInputEnd (Refused code) known = ⊤
+-- the bytes that were read for it
+pub record Finds {A : Type 0} (old new : Stream) (before after : Option (List ℕ)) (answer : Result (Frame A) ReplyFault) : Type 0 where
+  pub bytes : List ℕ
+  pub consumed : Consumes before after bytes
+  pub found : IsFound (pending old ++ bytes) (old.count + length bytes) new after answer

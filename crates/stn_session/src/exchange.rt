@@ -7,18 +7,19 @@ ghost use Rattle.stn_lift.specs.PlanSource.{PlanSource};
 ghost use Rattle.stn_records.specs.Content.{Content};
 ghost use Rattle.stn_wire.specs.Frame.{content, same, records, text};
 ghost use Rattle.stn_stream.specs.Stream.{IsReading};
-ghost use Rattle.stn_session.specs.Exchange.{request_bytes, at_stage, telling, failed, greeted_by, handed, told_by, reply_fault, Finds, IsReceived, seen};
+ghost use Rattle.stn_session.specs.Exchange.{request_bytes, at_stage, telling, failed, greeted_by, handed, told_by, reply_fault, IsReceived, seen};
+ghost use Rattle.stn_session.specs.Turns.{Finds};
 ghost use Rattle.stn_session.specs.declared.exchange.SendFault.TheVariants as send;
 ghost use Rattle.stn_session.specs.declared.exchange.ReplyFault.TheVariants.{Read, Memory};
 
-use crate::replies::{append_ask, append_hello, append_state};
+use crate::replies::append_state;
 use std::alloc::{AllocError, Allocator};
 use std::io::{Read, Write};
 use stn_device::{Counted, WriteFault, write_whole};
 use stn_records::Records;
 use stn_replica::{Replica, ReplicaFault};
 use stn_stream::{FrameFault, FrameReader, Next, StreamFault};
-use stn_wire::Frame;
+use stn_wire::{Frame, Said, say};
 use thiserror::Error;
 
 /// Why nothing was asked.
@@ -67,9 +68,9 @@ pub fn send_requests<W: Write, A: Allocator + Copy>(
     ensures kept { result ≢ Err send.Write → KeepsCount writer.old writer.new }
 {
     let mut out = Vec::new(alloc);
-    append_hello(alloc, replica.base().source(), &mut out)?;
+    say(&Said::Hello(replica.base().source()), &mut out)?;
     append_state(replica.records(), &mut out)?;
-    append_ask(&mut out)?;
+    say::<A, A>(&Said::Ask, &mut out)?;
     write_whole(writer, &out)?;
     Ok(())
 }

@@ -1,7 +1,7 @@
 // The reply to a frame.
-ghost use Rattle.std.specs.Prelude.{◌≡◌, ◌≤◌, ◌⊎◌, ◌++◌, length, true, Some, IfOk, OnOk, OnErr};
-ghost use Rattle.stn_lift.specs.PlanSource.{plan_source, HasShortTexts};
-ghost use Rattle.stn_wire.specs.Frame.{content, body_of, spelling, most_body, hello, records, ask, refused};
+ghost use Rattle.std.specs.Prelude.{◌≡◌, ◌⊎◌, ◌++◌, true, Some, IfOk, OnOk, OnErr};
+ghost use Rattle.stn_lift.specs.PlanSource.{plan_source};
+ghost use Rattle.stn_wire.specs.Frame.{content, spelling, hello, records, ask, refused};
 ghost use Rattle.stn_session.specs.Session.{refusal_code, answer};
 ghost use Rattle.stn_session.specs.Turns.{IsAnswered};
 
@@ -11,7 +11,7 @@ use stn_net::BoundFault;
 use stn_records::Records;
 use stn_replica::{Replica, ReplicaFault};
 use stn_time::Memory;
-use stn_wire::{Frame, encode};
+use stn_wire::{Frame, Said, say};
 
 /// What a frame brought, beside its reply.
 #[derive(Clone, Copy)]
@@ -53,7 +53,7 @@ fn greet<A: Allocator + Copy>(
     ensures { IfOk result (IsAnswered (answer replica.now.source replica.now.state greeted (hello (plan_source source.now))) replica.now.state out.old.items out.new.items) }
 {
     if source.same(replica.base().source()) {
-        append_frame::<A>(&Frame::Same, out)?;
+        say::<A, A>(&Said::Same, out)?;
         Ok(Turn {
             greeted: true,
             ended: None,
@@ -94,7 +94,7 @@ fn report<A: Allocator + Copy>(
 {
     let mut text = Vec::new(alloc);
     replica.report(&mut text)?;
-    append_frame(&Frame::Text(text), out)?;
+    say::<A, A>(&Said::Text(&text), out)?;
     Ok(Turn {
         greeted: true,
         ended: None,
@@ -135,7 +135,7 @@ pub(crate) fn append_refused<A: Allocator + Copy>(
 ) -> Result<(), Memory>
     ensures { OnOk result (out.new.items ≡ out.old.items ++ spelling (refused code)) }
 {
-    append_frame::<A>(&Frame::Refused(code), out)
+    say::<A, A>(&Said::Refused(code), out)
 }
 
 /// Appends a RECORDS frame with a whole state.
@@ -147,48 +147,5 @@ pub(crate) fn append_state<A: Allocator + Copy>(
 {
     // Whatever is held is short enough for a frame.
     let _held = state.state();
-    append_frame(&Frame::Records(state.copy()?), out)
-}
-
-/// Appends an ASK frame.
-pub(crate) fn append_ask<A: Allocator + Copy>(out: &mut Vec<u8, A>) -> Result<(), Memory>
-    ensures { OnOk result (out.new.items ≡ out.old.items ++ spelling ask) }
-{
-    append_frame::<A>(&Frame::Ask, out)
-}
-
-/// Appends a HELLO frame with what a plan is made from.
-pub(crate) fn append_hello<A: Allocator + Copy>(
-    alloc: A,
-    source: &Source<A>,
-    out: &mut Vec<u8, A>,
-) -> Result<(), Memory>
-    requires { HasShortTexts (plan_source source.now) }
-    ensures { OnOk result (out.new.items ≡ out.old.items ++ spelling (hello (plan_source source.now))) }
-{
-    append_frame(&Frame::Hello(copy_source(alloc, source)?), out)
-}
-
-fn copy_source<A: Allocator + Copy>(alloc: A, source: &Source<A>) -> Result<Source<A>, Memory>
-    ensures { IfOk result (λ copy. plan_source copy ≡ plan_source source.now) }
-{
-    match source {
-        Source::Bare(steps) => Ok(Source::Bare(*steps)),
-        Source::Files(domain, plan) => {
-            let domain = Vec::from_slice(alloc, domain)?;
-            let plan = Vec::from_slice(alloc, plan)?;
-            Ok(Source::Files(domain, plan))
-        }
-    }
-}
-
-// Appends a frame whose body is not too long.
-fn append_frame<A: Allocator + Copy>(frame: &Frame<A>, out: &mut Vec<u8, A>) -> Result<(), Memory>
-    requires { length (body_of (content frame.now)) ≤ most_body }
-    ensures { OnOk result (out.new.items ≡ out.old.items ++ spelling (content frame.now)) }
-{
-    match encode(frame, out) {
-        Ok(()) => Ok(()),
-        Err(_) => Err(AllocError),
-    }
+    say(&Said::Records(state), out)
 }

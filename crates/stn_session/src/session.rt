@@ -2,8 +2,8 @@ ghost use Rattle.std.specs.Prelude.{◌≡◌, ◌≢◌, ◌-◌, ◌^◌, ◌<
 ghost use Rattle.stn_device.specs.Counted.{counted_device, failure_count, CountsFailure, KeepsCount};
 ghost use Rattle.stn_wire.specs.Frame.{content};
 ghost use Rattle.stn_session.specs.Session.{opening, answer};
-ghost use Rattle.stn_session.specs.Serving.{IsServed, IsBroken};
-ghost use Rattle.stn_session.specs.Turns.{Wrote, WroteRefused, IsInputEnd, serve_fault};
+ghost use Rattle.stn_session.specs.Serving.{IsServed, IsBroken, IsInputEnd, serve_fault};
+ghost use Rattle.stn_session.specs.Turns.{Wrote, WroteRefused};
 ghost use Rattle.stn_session.specs.declared.session.ServeFault.TheVariants.{Read, Write, Memory};
 
 use crate::replies::{Turn, append_refused, reply_to};

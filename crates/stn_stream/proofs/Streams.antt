@@ -8,8 +8,9 @@ use Rattle.stn_wire.specs.Feeder.{FeederState, IsTaken}
 use Rattle.stn_wire.specs.Frame.{FrameContent, content, spelling}
 use Rattle.stn_wire.specs.Front.{IsFront, whole, unfinished}
 use Rattle.stn_wire.specs.declared.frame.Frame.{Frame}
-use Rattle.stn_stream.specs.Stream.{pending, behind, IsFed, IsFilled, Gives}
-use Rattle.stn_stream.specs.declared.reader.FrameReader.{FrameReader}
+use Rattle.stn_stream.specs.Held.{Stream}
+use Rattle.stn_stream.specs.Stream.{pending, Gives}
+use Rattle.stn_stream.specs.Pieces.{IsFed, IsFilled}
 use Rattle.stn_stream.specs.declared.fault.StreamFault.{StreamFault}
 use Rattle.stn_stream.specs.declared.fault.StreamFault.TheVariants.{Read, Bound, Memory}
 
@@ -19,29 +20,25 @@ frame_taken held rest used frame h =
     sym (take-append-drop (length held + used) (held ++ rest))
     ∙ (ap (λ l. l ++ drop (length held + used) (held ++ rest)) h.2 ∙ ap (λ l. spelling frame ++ l) (drop-append-add held rest used))
 
-left_behind : {A : Type 0} (old new : FrameReader A) (used : ℕ) (rest : List ℕ) → rest ≡ behind old → new.at ≡ old.at + used → new.piece.items ≡ old.piece.items → drop used rest ≡ behind new
-left_behind old new used rest is at same =
-    ap (drop used) is ∙ (drop-drop used old.at old.piece.items ∙ (λ i. drop (sym at i) (sym same i)))
-
-pub fed_is : {A : Type 0} (old new : FrameReader A) (used : ℕ) (frame : Option (Frame A)) (rest : List ℕ) → rest ≡ behind old → IsTaken old.feeder.held rest used frame new.feeder
-    → new.at ≡ old.at + used → new.piece.items ≡ old.piece.items → IsFed old new (Ok frame)
-fed_is old new used (Some frame) rest is h at same = (
+pub fed_is : {A : Type 0} (old new : Stream) (piece : List ℕ) (at used : ℕ) (frame : Option (Frame A)) (rest : List ℕ) (feeder : FeederState) → old.behind ≡ drop at piece → rest ≡ drop at piece
+    → IsTaken old.held rest used frame feeder → new.held ≡ feeder.held → new.behind ≡ drop (at + used) piece → IsFed old new (Ok frame)
+fed_is old new piece at used (Some frame) rest feeder behind is h held left = (
   h.0.0,
-  ap (λ l. old.feeder.held ++ l) (sym is)
-      ∙ (frame_taken old.feeder.held rest used (content frame) h.0
-      ∙ ap (λ l. spelling (content frame) ++ l) (left_behind old new used rest is at same ∙ sym (ap (λ (f : FeederState). f.held ++ behind new) h.1))),
+  ap (λ l. old.held ++ l) (behind ∙ sym is)
+      ∙ (frame_taken old.held rest used (content frame) h.0
+      ∙ ap (λ l. spelling (content frame) ++ l) ((ap (drop used) is ∙ drop-drop used at piece) ∙ sym left ∙ sym (ap (λ l. l ++ new.behind) (held ∙ ap (λ (f : FeederState). f.held) h.1)))),
 )
-fed_is old new used None rest is h at same =
-    let none : behind new ≡ [] = sym (left_behind old new used rest is at same) ∙ drop_all used rest (omega (arith, h.1)) in (
-      subst (λ l. IsFront (old.feeder.held ++ l) unfinished) is h.0,
-      ap (λ (f : FeederState). f.held ++ behind new) h.2 ∙ (ap (λ l. (old.feeder.held ++ rest) ++ l) none ∙ (append-nil (old.feeder.held ++ rest) ∙ ap (λ l. old.feeder.held ++ l) is)),
+fed_is old new piece at used None rest feeder behind is h held left =
+    let none : new.behind ≡ [] = left ∙ (sym (ap (drop used) is ∙ drop-drop used at piece) ∙ drop_all used rest (omega (arith, h.1))) in (
+      subst (λ l. IsFront (old.held ++ l) unfinished) (is ∙ sym behind) h.0,
+      ap (λ l. l ++ new.behind) (held ∙ ap (λ (f : FeederState). f.held) h.2) ∙ (ap (λ l. (old.held ++ rest) ++ l) none ∙ (append-nil (old.held ++ rest) ∙ ap (λ l. old.held ++ l) (is ∙ sym behind))),
       none,
     )
 
 -- more bytes are pending behind those that were read since the first
-module _ {A : Type 0} (first mid new : FrameReader A) (a b c : Option (List ℕ)) (bytes : List ℕ) (read : Consumes a b bytes) (held : pending mid ≡ pending first ++ bytes) (taken : mid.taken ≡ first.taken + length bytes) where
+module _ (first mid new : Stream) (a b c : Option (List ℕ)) (bytes : List ℕ) (read : Consumes a b bytes) (held : pending mid ≡ pending first ++ bytes) (taken : mid.count ≡ first.count + length bytes) where
   pub filled_more : (more : Bool) → more ≡ true → IsFilled mid new b c (Ok more)
-      → (all : List ℕ) × Consumes a c all × (pending new ≡ pending first ++ all) × (new.taken ≡ first.taken + length all)
+      → (all : List ℕ) × Consumes a c all × (pending new ≡ pending first ++ all) × (new.count ≡ first.count + length all)
   filled_more true is h = (
     bytes ++ h.0,
     Consumes-trans a b c bytes h.0 read h.1,
@@ -51,7 +48,7 @@ module _ {A : Type 0} (first mid new : FrameReader A) (a b c : Option (List ℕ)
   filled_more false is h = absurd (cc)
 
   -- nothing more comes
-  pub fill_fails : (fault : StreamFault) → IsFront (pending mid) unfinished → mid.taken ≤ 16777216 → IsFilled mid new b c (Err fault) → Gives first new a c (Err fault)
+  pub fill_fails : {A : Type 0} (fault : StreamFault) → IsFront (pending mid) unfinished → mid.count ≤ 16777216 → IsFilled mid new b c (Err fault) → Gives {A = A} first new a c (Err fault)
   fill_fails Read front few h = record {
     bytes = bytes ++ [];
     consumed = Consumes-trans a b c bytes [] read h;
@@ -83,5 +80,5 @@ module _ (rest more later : List ℕ) (frame : FrameContent) (front : rest ++ mo
   pub count_fits : (count : ℕ) → count + length rest ≤ taken → count + 1 + length later ≤ then
   count_fits count fits = omega (arith, fits, lengths, then_is, spelling_some frame)
 
-  pub measure_falls : then ≤ 16777216 → 16777216 + length later - then < 16777216 + length rest - taken
+  pub measure_falls : taken + length more ≤ 16777216 → 16777216 + length later - then < 16777216 + length rest - taken
   measure_falls few = omega (arith, few, lengths, then_is, spelling_some frame)

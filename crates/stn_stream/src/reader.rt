@@ -1,14 +1,17 @@
 // Frames read piece by piece: no more than one piece and one unfinished frame is kept.
-ghost use Rattle.std.specs.Prelude.{◌≡◌, ◌≢◌, ◌⊎◌, ◌<◌, length, [], false, Ok, Err, IfOk, IfErr, OnOk, OnErr, IsErrOf};
+ghost use Rattle.std.specs.Prelude.{◌≡◌, ◌≢◌, ◌⊎◌, ◌<◌, ◌≤◌, length, [], false, Ok, Err, IfOk, IfErr, OnOk, OnErr, IsErrOf};
 ghost use Rattle.std.specs.Io.KnownBytes.{Consumes, IsAtEnd};
+ghost use Rattle.stn_device.specs.Bytes.{most_bytes};
 ghost use Rattle.stn_device.specs.Counted.{counted_device, CountsFailure, KeepsCount};
-ghost use Rattle.stn_stream.specs.Stream.{pending, behind, read_count, IsReading, IsFed, IsFilled, IsBeyond, Gives};
+ghost use Rattle.stn_stream.specs.Stream.{unread, pending, IsReading, Gives};
+ghost use Rattle.stn_stream.specs.Pieces.{IsFed, IsFilled, IsBeyond};
 ghost use Rattle.stn_stream.specs.declared.reader.Next.TheVariants.{Closed, Cut};
 ghost use Rattle.stn_stream.specs.declared.fault.StreamFault.TheVariants.{Read};
 
 use crate::fault::{FrameFault, StreamFault};
 use std::alloc::Allocator;
 use std::io::Read;
+use std::marker::Model;
 use stn_device::{Counted, MOST_BYTES};
 use stn_wire::{Feeder, Frame, WireFault};
 
@@ -39,12 +42,22 @@ pub struct FrameReader<A: Allocator> {
     taken: usize,
 }
 
+impl<A: Allocator> Model for FrameReader<A> {
+    ghost use Rattle.std.specs.Prelude.{◌++◌, ◌≤◌, drop, length};
+    ghost use Rattle.stn_device.specs.Bytes.{most_bytes};
+    ghost use Rattle.stn_stream.specs.Held.{Stream};
+
+    ghost Value = { Stream };
+
+    ghost view = { λ f. record { held = f.feeder.held; behind = drop f.at f.piece.items; count = f.taken; broken = f.feeder.broken } };
+
+    ghost invariant = { λ f. (f.at ≤ length f.piece.items) × (length (f.feeder.held ++ drop f.at f.piece.items) ≤ f.taken) × (f.taken ≤ most_bytes) };
+}
+
 impl<A: Allocator + Copy> FrameReader<A> {
     /// Nothing is read yet.
     pub fn new(alloc: A) -> FrameReader<A>
-        ensures reading { IsReading result }
-        ensures pending { pending result ≡ [] }
-        ensures count { read_count result ≡ 0 }
+        ensures { result ≡ unread }
     {
         FrameReader {
             feeder: Feeder::new(alloc),
@@ -84,7 +97,8 @@ impl<A: Allocator + Copy> FrameReader<A> {
         requires { IsReading self.old }
         ensures fed { IsFed self.old self.new result }
         ensures reading { OnOk result (IsReading self.new) }
-        ensures taken { self.new.taken ≡ self.old.taken }
+        ensures count { self.new.count ≡ self.old.count }
+        ensures few { self.new.count ≤ most_bytes }
     {
         let fed = self.feeder.feed(&self.piece[self.at..])?;
         self.at += fed.used;
@@ -94,9 +108,10 @@ impl<A: Allocator + Copy> FrameReader<A> {
     // Reads the next piece, where all that was read is held. Whether there is one.
     fn fill<R: Read>(&mut self, reader: &mut Counted<R>) -> Result<bool, StreamFault>
         requires reading { IsReading self.old }
-        requires held { behind self.old ≡ [] }
+        requires held { self.old.behind ≡ [] }
         ensures filled { IsFilled self.old self.new (R.remaining (counted_device reader.old)) (R.remaining (counted_device reader.new)) result }
         ensures reading { OnOk result (IsReading self.new) }
+        ensures few { OnOk result (self.new.count ≤ most_bytes) }
         ensures read { IsErrOf result Read → CountsFailure reader.old reader.new }
         ensures kept { result ≢ Err Read → KeepsCount reader.old reader.new }
     {
@@ -120,7 +135,7 @@ impl<A: Allocator + Copy> FrameReader<A> {
 
     // The end, which came behind what is held.
     fn end(&self) -> Next<A>
-        requires { behind self.now ≡ [] }
+        requires { self.now.behind ≡ [] }
         ensures closed { result ≡ Closed → pending self.now ≡ [] }
         ensures cut { result ≡ Cut → 0 < length (pending self.now) }
         ensures end { (result ≡ Closed) ⊎ (result ≡ Cut) }

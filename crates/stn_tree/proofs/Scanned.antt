@@ -9,7 +9,8 @@ use Rattle.stn_tree.specs.declared.scan.Place.{Place}
 use Rattle.stn_tree.specs.declared.scan.Place.TheVariants.{Before, Inside, After}
 use Rattle.stn_tree.specs.Bytes.{kind_in, comment_after, line_after}
 use Rattle.stn_tree.specs.Trees.{Trees, Group, End, Rows, outer, before_byte, begins_word, rows_from}
-use Rattle.stn_tree.specs.Scan.{◌>>=◌, place_after, ends_at, scanned, IsOneList}
+use Rattle.stn_text.specs.Faults.{◌>>=◌}
+use Rattle.stn_tree.specs.Scan.{place_after, ends_at, scanned, IsOneList}
 
 -- one byte more
 pub scanned-at : (comment : Bool) (line : ℕ) (place next : Place) (i : ℕ) (text : List ℕ) → i < length text → place_after (kind_in comment (get_or text i 0)) line place ≡ Ok next

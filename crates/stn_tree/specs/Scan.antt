@@ -1,6 +1,7 @@
 -- The first fault of the bytes of a text, or its one tree.
 use Rattle.std.specs.Prelude.{◌≡◌, ℕ, ◌+◌, ◌-◌, Bool, false, List, [], ◌∷◌, length, Result, Ok, Err, nat_lt, if◌then◌else◌}
 pub use Rattle.stn_text.specs.Bytes.{most_text}
+use Rattle.stn_text.specs.Faults.{◌>>=◌}
 use Rattle.stn_tree.specs.declared.bytes.Kind.{Kind}
 use Rattle.stn_tree.specs.declared.bytes.Kind.TheVariants.{Blank, Open, Close, Letter, Stray}
 use Rattle.stn_tree.specs.declared.scan.TreeFault.{TreeFault}
@@ -13,11 +14,6 @@ use Rattle.stn_tree.specs.Trees.{Trees, End, Group, rows_from}
 -- a text has at most so many open brackets
 abbrev pub most_depth : ℕ
 most_depth = 32
-
-infixl 10 ◌>>=◌
-abbrev pub ◌>>=◌ : {A B : Type 0} → Result A TreeFault → (A → Result B TreeFault) → Result B TreeFault
-(Ok x) >>= f = f x
-(Err e) >>= f = Err e
 
 -- A list opens before the tree or inside it, and only so deep.
 abbrev pub place_after_open : ℕ → Place → Result Place TreeFault

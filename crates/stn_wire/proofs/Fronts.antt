@@ -1,12 +1,13 @@
 -- Bytes have one front, and more bytes don't change a whole frame or a fault.
-use Rattle.std.proofs.Common.{◌≡◌, ℕ, ◌+◌, ◌-◌, ◌<◌, ◌≤◌, List, [], ◌∷◌, ◌++◌, length, take, drop, get_or, refl, sym, ap, subst, ◌∙◌, ⊎_elim, arith, length-append, length-take, length-drop, take-append-drop}
+use Rattle.std.proofs.Common.{◌≡◌, ℕ, zero, suc, ◌+◌, ◌-◌, ◌<◌, ◌≤◌, List, [], ◌∷◌, ◌++◌, length, take, drop, get_or, ◌^◌, ◌⊎◌, inl, inr, refl, sym, ap, subst, ◌∙◌, ⊎_elim, arith, length-append, length-take, length-drop, take-append-drop}
 use Rattle.std.proofs.lemmas.List.{take_at, drop_at, take-append-le, drop-append-le, get_or_append_left, get_or-take, get_or_past, take-take, drop-take}
 use Rattle.std.proofs.lemmas.Nat.{from_be_bytes-to_be_bytes_4, be_bytes_4}
+use Rattle.std.specs.List.{AllByRecursion}
 use Rattle.stn_wire.specs.Spelling.{four}
-use Rattle.stn_wire.specs.Frame.{FrameContent, hello, records, ask, text, refused, same, kind_of, body_of, spelling, IsFrame, IsSaid}
-use Rattle.stn_wire.specs.Front.{Front, whole, faulty, unfinished, announced, IsLength, IsKind, IsFront}
+use Rattle.stn_wire.specs.Frame.{FrameContent, old_hello, old_records, hello, records, ask, text, refused, same, kind_of, body_of, spelling, IsFrame, IsSaid, most_body}
+use Rattle.stn_wire.specs.Front.{Front, whole, faulty, unfinished, announced, IsLength, IsKind, IsFront, BeginsFrame}
 use Rattle.stn_wire.specs.declared.fault.WireFault.{WireFault}
-use Rattle.stn_wire.specs.declared.fault.WireFault.TheVariants.{Length, Kind, Body, Memory}
+use Rattle.stn_wire.specs.declared.fault.WireFault.TheVariants.{Length, Kind, Body, OldFrame, Memory}
 use Rattle.std.proofs.lemmas.Bool.{cases_lt}
 use Rattle.stn_wire.specs.Reading.{IsWanted}
 use Rattle.stn_wire.proofs.Bodies.{body_apart}
@@ -23,6 +24,8 @@ announced_front xs ys e = first xs ∙ ap announced e ∙ sym (first ys)
     first (a ∷ b ∷ c ∷ d ∷ zs) = refl
 
 kinds_known : (frame : FrameContent) → IsKind (kind_of frame)
+kinds_known (old_hello source) = (omega arith, omega arith)
+kinds_known (old_records state) = (omega arith, omega arith)
 kinds_known (hello source) = (omega arith, omega arith)
 kinds_known (records state) = (omega arith, omega arith)
 kinds_known ask = (omega arith, omega arith)
@@ -95,6 +98,8 @@ one_front_lem bytes unfinished (faulty Length) p q = absurd (q.1 (unfinished_bod
 one_front_lem bytes unfinished (faulty Kind) p q = absurd (q.2 (unfinished_known bytes p q.0))
 one_front_lem bytes unfinished (faulty Body) p q = absurd (unfinished_short bytes p q.1 q.0)
 one_front_lem bytes unfinished unfinished p q = refl
+one_front_lem bytes (faulty OldFrame) b p q = absurd p
+one_front_lem bytes a (faulty OldFrame) p q = absurd q
 one_front_lem bytes (faulty Memory) b p q = absurd p
 one_front_lem bytes a (faulty Memory) p q = absurd q
 
@@ -131,6 +136,58 @@ whole_read bytes frame n small wanted enough said is =
       cut ∙ (λ i. (sym first ∙ ap four (sym body-is)) i ++ is i),
     )
 
+-- ---- bytes that begin with no whole frame
+
+small_bytes : (bytes : List ℕ) → AllByRecursion (λ byte. byte < 2 ^ 8) bytes → (i : ℕ) → get_or bytes i 0 < 256
+small_bytes [] small i = omega arith
+small_bytes (x ∷ xs) small zero = small.0
+small_bytes (x ∷ xs) small (suc i) = small_bytes xs small.1 i
+
+-- a whole body of a kind: none of a frame
+no_body : (bytes : List ℕ) → ((i : ℕ) → get_or bytes i 0 < 256) → ¬ BeginsFrame bytes → 4 + announced bytes ≤ length bytes → IsLength (announced bytes) → IsKind (get_or bytes 4 0)
+    → IsFront bytes (faulty Body)
+no_body bytes small none all lasting known = (
+  all,
+  lasting,
+  known,
+  λ frame is same.
+      let wanted : IsWanted bytes (4 + announced bytes) = record {
+        least = omega (arith, lasting.0);
+        lasting = λ _. lasting;
+        short = λ few. absurd (omega (arith, few, all, lasting.0));
+        known = λ _. known;
+        whole = λ _. refl;
+      } in
+      let behind : 4 + announced bytes - 4 ≡ announced bytes = omega arith in
+      none (frame, 4 + announced bytes, whole_read bytes frame (4 + announced bytes) small wanted all is.said (ap (λ n. take n (drop 4 bytes)) behind ∙ same)),
+)
+
+abbrev ShowsNone : List ℕ → Type 0
+ShowsNone bytes = IsFront bytes unfinished ⊎ ((fault : WireFault) × IsFront bytes (faulty fault))
+
+of_kind : (bytes : List ℕ) → ((i : ℕ) → get_or bytes i 0 < 256) → ¬ BeginsFrame bytes → 5 ≤ length bytes → IsLength (announced bytes) → IsKind (get_or bytes 4 0) → ShowsNone bytes
+of_kind bytes small none five lasting known =
+    ⊎_elim (λ less. inl (inr (lasting, inr (known, less)))) (λ all. inr (Body, no_body bytes small none all lasting known)) (cases_lt (length bytes) (4 + announced bytes))
+
+of_length : (bytes : List ℕ) → ((i : ℕ) → get_or bytes i 0 < 256) → ¬ BeginsFrame bytes → 4 ≤ length bytes → IsLength (announced bytes) → ShowsNone bytes
+of_length bytes small none four lasting =
+    ⊎_elim (λ less. inl (inr (lasting, inl (omega (arith, four, less)))))
+    (λ five.
+    ⊎_elim (λ low. inr (Kind, (five, lasting, λ known. omega (arith, low, known.0))))
+    (λ low. ⊎_elim (λ high. inr (Kind, (five, lasting, λ known. omega (arith, high, known.1)))) (λ high. of_kind bytes small none five lasting (low, high)) (cases_lt 8 (get_or bytes 4 0)))
+    (cases_lt (get_or bytes 4 0) 1))
+    (cases_lt (length bytes) 5)
+
+pub some_front_lem : (bytes : List ℕ) → AllByRecursion (λ byte. byte < 2 ^ 8) bytes → ¬ BeginsFrame bytes → ShowsNone bytes
+some_front_lem bytes small none =
+    ⊎_elim (λ few. inl (inl few))
+    (λ four.
+    ⊎_elim (λ low. inr (Length, (four, λ l. omega (arith, low, l.0))))
+    (λ low.
+    ⊎_elim (λ high. inr (Length, (four, λ l. omega (arith, high, l.1)))) (λ high. of_length bytes (small_bytes bytes small) none four (low, high)) (cases_lt most_body (announced bytes)))
+    (cases_lt (announced bytes) 1))
+    (cases_lt (length bytes) 4)
+
 -- ---- more bytes
 
 pub announced_more : (xs ys : List ℕ) → 4 ≤ length xs → announced (xs ++ ys) ≡ announced xs
@@ -156,4 +213,5 @@ fault_more xs ys Body h =
       subst IsKind (sym (kind_more xs ys (omega (arith, h.0, h.1.0)))) h.2,
       λ frame said is. h.3 frame said (sym body ∙ is),
     )
+fault_more xs ys OldFrame h = absurd h
 fault_more xs ys Memory h = absurd h

@@ -1,9 +1,10 @@
 // Bodies of frames: a table by kinds.
 ghost use Rattle.std.specs.Prelude.{◌≡◌, ◌∷◌, ◌≤◌, ◌++◌, length, IfOk, OnOk, option_map};
-ghost use Rattle.stn_wire.specs.Frame.{most_body, content, body_of, IsSaid};
+ghost use Rattle.stn_wire.specs.Frame.{most_body, content, said_content, body_of, IsSaid};
 ghost use Rattle.stn_wire.specs.Reading.{IsBodyReading};
 
-use crate::frame::Frame;
+use crate::frame::{Frame, Said};
+use crate::layout::Layout;
 use crate::source::{append_source, read_source};
 use crate::state::{append_state, read_state};
 use std::alloc::Allocator;
@@ -16,18 +17,38 @@ pub(crate) fn read_body<A: Allocator + Copy>(
     ensures { IfOk result (λ r. IsBodyReading body.now (option_map content r)) }
 {
     match body.split_first() {
-        Some((1, rest)) => read_hello(alloc, rest),
-        Some((2, rest)) => read_records(alloc, rest),
+        Some((1, rest)) => read_old_hello(alloc, rest),
+        Some((2, rest)) => read_old_records(alloc, rest),
         Some((3, rest)) => Ok(read_ask(rest)),
         Some((4, rest)) => read_text(alloc, rest),
         Some((5, rest)) => Ok(read_refused(rest)),
         Some((6, rest)) => Ok(read_same(rest)),
+        Some((7, rest)) => read_hello(alloc, rest),
+        Some((8, rest)) => read_records(alloc, rest),
         _ => Ok(None),
     }
 }
 
-fn read_hello<A: Allocator + Copy>(alloc: A, rest: &[u8]) -> Result<Option<Frame<A>>, Memory>
+fn read_old_hello<A: Allocator + Copy>(alloc: A, rest: &[u8]) -> Result<Option<Frame<A>>, Memory>
     ensures { IfOk result (λ r. IsBodyReading (1 ∷ rest.now) (option_map content r)) }
+{
+    match read_source(alloc, rest)? {
+        Some(source) => Ok(Some(Frame::OldHello(source))),
+        None => Ok(None),
+    }
+}
+
+fn read_old_records<A: Allocator + Copy>(alloc: A, rest: &[u8]) -> Result<Option<Frame<A>>, Memory>
+    ensures { IfOk result (λ r. IsBodyReading (2 ∷ rest.now) (option_map content r)) }
+{
+    match read_state(alloc, Layout::Old, rest)? {
+        Some(state) => Ok(Some(Frame::OldRecords(state))),
+        None => Ok(None),
+    }
+}
+
+fn read_hello<A: Allocator + Copy>(alloc: A, rest: &[u8]) -> Result<Option<Frame<A>>, Memory>
+    ensures { IfOk result (λ r. IsBodyReading (7 ∷ rest.now) (option_map content r)) }
 {
     match read_source(alloc, rest)? {
         Some(source) => Ok(Some(Frame::Hello(source))),
@@ -36,9 +57,9 @@ fn read_hello<A: Allocator + Copy>(alloc: A, rest: &[u8]) -> Result<Option<Frame
 }
 
 fn read_records<A: Allocator + Copy>(alloc: A, rest: &[u8]) -> Result<Option<Frame<A>>, Memory>
-    ensures { IfOk result (λ r. IsBodyReading (2 ∷ rest.now) (option_map content r)) }
+    ensures { IfOk result (λ r. IsBodyReading (8 ∷ rest.now) (option_map content r)) }
 {
-    match read_state(alloc, rest)? {
+    match read_state(alloc, Layout::New, rest)? {
         Some(state) => Ok(Some(Frame::Records(state))),
         None => Ok(None),
     }
@@ -83,27 +104,27 @@ fn read_same<A: Allocator>(rest: &[u8]) -> Option<Frame<A>>
 
 pub(crate) fn append_body<A: Allocator + Copy, B: Allocator>(
     out: &mut Vec<u8, B>,
-    frame: &Frame<A>,
+    said: &Said<A>,
 ) -> Result<(), Memory>
-    requires { length (body_of (content frame.now)) ≤ most_body }
-    ensures appended { OnOk result (out.new.items ≡ out.old.items ++ body_of (content frame.now)) }
-    ensures said { OnOk result (IsSaid (content frame.now)) }
+    requires { length (body_of (said_content said.now)) ≤ most_body }
+    ensures appended { OnOk result (out.new.items ≡ out.old.items ++ body_of (said_content said.now)) }
+    ensures said { OnOk result (IsSaid (said_content said.now)) }
 {
-    match frame {
-        Frame::Hello(source) => {
-            out.push(1)?;
+    match said {
+        Said::Hello(source) => {
+            out.push(7)?;
             append_source(out, source)
         }
-        Frame::Records(state) => {
-            out.push(2)?;
+        Said::Records(state) => {
+            out.push(8)?;
             append_state(out, state)
         }
-        Frame::Ask => Ok(out.push(3)?),
-        Frame::Text(bytes) => {
+        Said::Ask => Ok(out.push(3)?),
+        Said::Text(bytes) => {
             out.push(4)?;
             out.extend_from_slice(bytes)
         }
-        Frame::Refused(code) => out.extend_from_slice(&[5, *code]),
-        Frame::Same => Ok(out.push(6)?),
+        Said::Refused(code) => out.extend_from_slice(&[5, *code]),
+        Said::Same => Ok(out.push(6)?),
     }
 }

@@ -1,10 +1,18 @@
-ghost use Rattle.std.specs.Prelude.{◌≡◌, ℕ, List, ◌++◌};
+ghost use Rattle.std.specs.Prelude.{◌≡◌, ◌<◌, ◌^◌, ◌⊎◌, ℕ, List, ◌++◌};
+ghost use Rattle.std.specs.List.{AllByRecursion};
 ghost use Rattle.stn_wire.specs.Frame.{FrameContent, spelling, IsFrame};
-ghost use Rattle.stn_wire.specs.Front.{Front, IsFront};
+ghost use Rattle.stn_wire.specs.Front.{Front, faulty, unfinished, IsFront, BeginsFrame};
+ghost use Rattle.stn_wire.specs.declared.fault.WireFault.{WireFault};
 
 /// Some bytes begin with one whole frame, or show one fault, or are unfinished: never two of these.
 pub fn one_front()
     ensures { (bytes : List ℕ) (a b : Front) → IsFront bytes a → IsFront bytes b → a ≡ b }
+{}
+
+/// Some bytes that begin with no whole frame show a fault, or are unfinished.
+pub fn some_front()
+    ensures { (bytes : List ℕ) → AllByRecursion (λ byte. byte < 2 ^ 8) bytes → ¬ BeginsFrame bytes
+        → IsFront bytes unfinished ⊎ ((fault : WireFault) × IsFront bytes (faulty fault)) }
 {}
 
 /// Frames with the same bytes are one, and no spelling is the front of another's.

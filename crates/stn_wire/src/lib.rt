@@ -2,12 +2,12 @@
 //! frames that comes in pieces.
 #![tactic(auto)]
 
-pub use encoding::encode;
+pub use encoding::{encode, say};
 pub use fault::WireFault;
 pub use feeder::{Fed, Feeder};
-pub use frame::Frame;
+pub use frame::{Frame, Said};
 pub use front::decode;
-pub use laws::{one_front, one_spelling};
+pub use laws::{one_front, one_spelling, some_front};
 
 mod body;
 mod encoding;
@@ -18,6 +18,7 @@ mod frame;
 mod front;
 mod item;
 mod laws;
+mod layout;
 mod lists;
 mod source;
 mod state;

@@ -9,11 +9,12 @@ use Rattle.std.proofs.lemmas.Bool.{false≢true}
 use Rattle.std.proofs.lemmas.Bool.Decides.{Decides-by_and, Decides-and, Decides-like}
 use Rattle.stn_records.specs.Id.{SiteCounter, id_cmp}
 use Rattle.stn_records.specs.declared.record.Record.{Record}
+use Rattle.stn_records.specs.Record.{is_there}
 use Rattle.stn_records.specs.Content.{Content, addition, withdrawal, AllHeld, part_of, same_ids}
 use Rattle.stn_records.specs.ContentLaws.{ids_total, ids_exact, records_decide}
 use Rattle.stn_records.proofs.Proper.{retained_value}
 use Rattle.stn_replica.proofs.Entries.{entries_from_get, get_from_entries}
-use Rattle.stn_world.specs.Parts.{IsPart, is_there, is_part, holds_all}
+use Rattle.stn_world.specs.Parts.{IsPart, is_part, holds_all}
 
 there_decides : (o : Option Record) (one : Record) → Decides (is_there o one) (o ≡ Some one)
 there_decides None one = (λ e. absurd (false≢true e), λ e. absurd (false≢true (ap is_some e)))

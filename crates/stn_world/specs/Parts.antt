@@ -4,17 +4,12 @@ use Rattle.std.specs.List.{list_all}
 use Rattle.std.specs.FinMap as map
 use Rattle.stn_records.specs.declared.record.Record.{Record}
 use Rattle.stn_records.specs.Id.{SiteCounter}
-use Rattle.stn_records.specs.Record.{same_records}
+use Rattle.stn_records.specs.Record.{is_there}
 use Rattle.stn_records.specs.Content.{Content, Item, HasItem}
 
 -- the whole has each item of the part
 abbrev pub IsPart : Content → Content → Type 0
 IsPart part whole = (item : Item) → HasItem part item → HasItem whole item
-
--- the record is there
-abbrev pub is_there : Option Record → Record → Bool
-is_there None one = false
-is_there (Some there) one = same_records there one
 
 -- the test of a part: each of its records is the whole's under that id, and each of its withdrawn ids is withdrawn in the whole
 abbrev pub is_part : Content → Content → Bool

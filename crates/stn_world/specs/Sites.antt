@@ -1,5 +1,5 @@
 -- The replicas of a world.
-use Rattle.std.specs.Prelude.{◌≡◌, ℕ, ◌≤◌, List, length, map, replicate, slice_index_or, slice_set}
+use Rattle.std.specs.Prelude.{◌≡◌, ℕ, ◌≤◌, List, length, map, replicate, slice_index_or}
 use Rattle.std.specs.List.{range_with_len}
 use Rattle.stn_lift.specs.PlanSource.{PlanSource, bare}
 use Rattle.stn_records.specs.Content.{Content, no_content}
@@ -25,9 +25,3 @@ pub record IsSites (source : PlanSource) (replicas : List Held) : Type 0 where
 -- the replica at a place
 abbrev pub held_in : List Held → ℕ → Held
 held_in replicas place = slice_index_or replicas place (record { site = 0; source = bare 0; state = no_content; steps = 0 })
-
--- the replica at a place has become another of the same site and plan
-pub record IsChanged (old : List Held) (place : ℕ) (one : Held) (new : List Held) : Type 0 where
-  pub list : new ≡ slice_set old place one
-  pub site : one.site ≡ (held_in old place).site
-  pub source : one.source ≡ (held_in old place).source

@@ -1,11 +1,12 @@
 use Rattle.std.proofs.Common.{◌≡◌, ◌≤◌, ◌∙◌, length, map, Ok, sym, ap, arith}
 use Rattle.std.proofs.lemmas.List.{length-map}
 use Rattle.std.proofs.lemmas.Result.{err_from_is_err_and}
+use Rattle.stn_text.specs.Faults.{Fails}
 use Rattle.stn_net.specs.Event.{most_steps}
 use Rattle.stn_tree.specs.Scan.{most_text}
 use Rattle.stn_pddl.specs.Domains.{domain_of}
 use Rattle.stn_plan.specs.Steps.{plan_of}
-use Rattle.stn_lift.specs.Activities.{activities, Fails}
+use Rattle.stn_lift.specs.Activities.{activities, is_memory}
 use Rattle.stn_lift.specs.Views.{numbers_of}
 use Rattle.stn_lift.proofs.LiftedBase.{few_found, is_whole, texts_lifted, base_lifted}
 use Rattle.stn_lift.proofs.Steps.{cause_of}
@@ -14,7 +15,7 @@ use Rattle.stn_lift.proofs.base.lift.Goals as goal
 pub returns-in_err-timeline-clause-cause : goal.returns-in_err-timeline-clause-cause
 returns-in_err-timeline-clause-cause g c =
     let returned = err_from_is_err_and c.from_residual.result c.from_residual.ensures.1 in
-    let fails : Fails c.in_err-timeline.field-0.0 (activities c.args.domain.now.actions 0 c.args.plan.now.steps) = rw (← c.steps.ensures.steps) c.in_err-timeline.ensures.fault in
+    let fails : Fails is_memory c.in_err-timeline.field-0.0 (activities c.args.domain.now.actions 0 c.args.plan.now.steps) = rw (← c.steps.ensures.steps) c.in_err-timeline.ensures.fault in
     rw (returned.1, returned.2) (cause_of c.args.domain.now.actions c.args.plan.now.steps c.in_err-timeline.field-0.0 fails)
 
 pub bounds-requires : goal.bounds-requires

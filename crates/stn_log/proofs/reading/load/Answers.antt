@@ -1,15 +1,16 @@
 use Rattle.std.proofs.Common.{refl, ap, Ok, arith, ◌∙◌}
 use Rattle.std.proofs.lemmas.Result.{err_from_is_err_and}
 use Rattle.stn_wire.specs.Frame.{content}
-use Rattle.stn_stream.specs.Stream.{pending, read_count, wire_fault}
+use Rattle.stn_stream.specs.Held.{Stream}
+use Rattle.stn_stream.specs.Stream.{pending, wire_fault}
 use Rattle.stn_stream.proofs.Streams.{measure_falls}
 use Rattle.stn_log.proofs.Progress.{begun, read_on, used, next_taken, refuses, shows_fault, closes, cuts, stream_fails, stream_open, stream_used, stream_bound}
 use Rattle.stn_log.proofs.reading.load.Goals as goal
 
 pub frames-init : goal.frames-init
 frames-init g c = record {
-  reading = c.new-frames.ensures.reading;
-  progress = begun _ (pending c.new-frames.result) (read_count c.new-frames.result) c.new-frames.ensures.pending c.new-frames.ensures.count;
+  reading = ap (λ (s : Stream). s.broken) c.new-frames.ensures;
+  progress = begun _ (pending c.new-frames.result) c.new-frames.result.count (ap pending c.new-frames.ensures) (ap (λ (s : Stream). s.count) c.new-frames.ensures);
   site = tt;
   kept = refl;
 }
@@ -19,26 +20,26 @@ returns-in_err-frame-clause-meaning g c =
     let p = err_from_is_err_and c.from_residual.result c.from_residual.ensures.1 in
     let gave = c.in_err-frame.ensures.gives in
     let i = c.frames.invariant.progress in
-    rw (p.1, p.2) (stream_fails _ _ _ _ _ (read_on _ _ _ _ _ i _ gave.bytes gave.consumed) c.next.new.self c.in_err-frame.field-0.0 gave.next gave.counted)
+    rw (p.1, p.2) (stream_fails _ _ _ _ _ (read_on _ _ _ _ _ i _ gave.bytes gave.consumed) g.row.A.Denot c.next.new.self c.in_err-frame.field-0.0 gave.next gave.counted)
 
 pub returns-in_err-frame-clause-bound : goal.returns-in_err-frame-clause-bound
 returns-in_err-frame-clause-bound g c =
     let p = err_from_is_err_and c.from_residual.result c.from_residual.ensures.1 in
     let gave = c.in_err-frame.ensures.gives in
     let q = read_on _ _ _ _ _ c.frames.invariant.progress _ gave.bytes gave.consumed in
-    rw (p.1, p.2) (λ e. stream_bound _ _ _ _ _ q c.next.new.self c.in_err-frame.field-0.0 (cc) gave.counted)
+    rw (p.1, p.2) (λ e. stream_bound _ _ _ _ _ q g.row.A.Denot c.next.new.self c.in_err-frame.field-0.0 (cc) gave.counted)
 
 pub returns-in_err-frame-clause-open : goal.returns-in_err-frame-clause-open
 returns-in_err-frame-clause-open g c =
     let p = err_from_is_err_and c.from_residual.result c.from_residual.ensures.1 in
     let gave = c.in_err-frame.ensures.gives in
     let q = read_on _ _ _ _ _ c.frames.invariant.progress _ gave.bytes gave.consumed in
-    rw (p.1, p.2) (λ e. stream_open _ _ _ _ _ q c.next.new.self c.in_err-frame.field-0.0 (cc) gave.next)
+    rw (p.1, p.2) (λ e. stream_open _ _ _ _ _ q g.row.A.Denot c.next.new.self c.in_err-frame.field-0.0 (cc) gave.next)
 
 pub returns-in_err-frame-clause-used : goal.returns-in_err-frame-clause-used
 returns-in_err-frame-clause-used g c =
     let gave = c.in_err-frame.ensures.gives in
-    stream_used _ _ _ _ _ (read_on _ _ _ _ _ c.frames.invariant.progress _ gave.bytes gave.consumed) c.next.new.self c.in_err-frame.field-0.0 gave.counted
+    stream_used _ _ _ _ _ (read_on _ _ _ _ _ c.frames.invariant.progress _ gave.bytes gave.consumed) g.row.A.Denot c.next.new.self c.in_err-frame.field-0.0 gave.counted
 
 pub returns-in_err-take-in-Frame-clause-meaning : goal.returns-in_err-take-in-Frame-clause-meaning
 returns-in_err-take-in-Frame-clause-meaning g c =
@@ -55,7 +56,7 @@ returns-in_err-take-in-Frame-clause-used g c =
 pub frames-smaller : goal.frames-smaller
 frames-smaller g c =
     let gave = rw c.in-Frame.is at c.in_ok-frame.ensures.gives in
-    measure_falls (pending c.frames.frames) gave.bytes (pending c.next.new.self) (content c.in-Frame.frame) gave.next.1 (read_count c.frames.frames) (read_count c.next.new.self) gave.counted.0 gave.next.2.few
+    measure_falls (pending c.frames.frames) gave.bytes (pending c.next.new.self) (content c.in-Frame.frame) gave.next.1 c.frames.frames.count c.next.new.self.count gave.counted.0 gave.counted.1
 
 pub frames-preserved : goal.frames-preserved
 frames-preserved g c =
@@ -63,7 +64,7 @@ frames-preserved g c =
     let q = read_on _ _ _ _ _ c.frames.invariant.progress _ gave.bytes gave.consumed in
     record {
       reading = gave.next.2;
-      progress = next_taken _ _ _ _ _ q (content c.in-Frame.frame) (pending c.next.new.self) gave.next.0 gave.next.1 (read_count c.next.new.self) gave.counted.0 _ c.in_ok-take-in-Frame.ensures.meaning;
+      progress = next_taken _ _ _ _ _ q (content c.in-Frame.frame) (pending c.next.new.self) gave.next.0 gave.next.1 c.next.new.self.count gave.counted.0 _ c.in_ok-take-in-Frame.ensures.meaning;
       site = c.in_ok-take-in-Frame.ensures.site;
       kept = c.in_ok-frame.ensures.kept (λ e. cc) ∙ c.frames.invariant.kept;
     }
@@ -71,7 +72,7 @@ frames-preserved g c =
 pub frames-smaller-in_ok-take-in-Frame : goal.frames-smaller-in_ok-take-in-Frame
 frames-smaller-in_ok-take-in-Frame g c =
     let gave = rw c.in-Frame.is at c.in_ok-frame.ensures.gives in
-    measure_falls (pending c.frames.frames) gave.bytes (pending c.next.new.self) (content c.in-Frame.frame) gave.next.1 (read_count c.frames.frames) (read_count c.next.new.self) gave.counted.0 gave.next.2.few
+    measure_falls (pending c.frames.frames) gave.bytes (pending c.next.new.self) (content c.in-Frame.frame) gave.next.1 c.frames.frames.count c.next.new.self.count gave.counted.0 gave.counted.1
 
 pub frames-preserved-in_ok-take-in-Frame : goal.frames-preserved-in_ok-take-in-Frame
 frames-preserved-in_ok-take-in-Frame g c =
@@ -79,7 +80,7 @@ frames-preserved-in_ok-take-in-Frame g c =
     let q = read_on _ _ _ _ _ c.frames.invariant.progress _ gave.bytes gave.consumed in
     record {
       reading = gave.next.2;
-      progress = next_taken _ _ _ _ _ q (content c.in-Frame.frame) (pending c.next.new.self) gave.next.0 gave.next.1 (read_count c.next.new.self) gave.counted.0 _ c.in_ok-take-in-Frame.ensures.meaning;
+      progress = next_taken _ _ _ _ _ q (content c.in-Frame.frame) (pending c.next.new.self) gave.next.0 gave.next.1 c.next.new.self.count gave.counted.0 _ c.in_ok-take-in-Frame.ensures.meaning;
       site = c.in_ok-take-in-Frame.ensures.site;
       kept = c.in_ok-frame.ensures.kept (λ e. cc) ∙ c.frames.invariant.kept;
     }
@@ -87,7 +88,7 @@ frames-preserved-in_ok-take-in-Frame g c =
 pub frames-smaller-in_ok-take-in-Frame-2 : goal.frames-smaller-in_ok-take-in-Frame-2
 frames-smaller-in_ok-take-in-Frame-2 g c =
     let gave = rw c.in-Frame.is at c.in_ok-frame.ensures.gives in
-    measure_falls (pending c.frames.frames) gave.bytes (pending c.next.new.self) (content c.in-Frame.frame) gave.next.1 (read_count c.frames.frames) (read_count c.next.new.self) gave.counted.0 gave.next.2.few
+    measure_falls (pending c.frames.frames) gave.bytes (pending c.next.new.self) (content c.in-Frame.frame) gave.next.1 c.frames.frames.count c.next.new.self.count gave.counted.0 gave.counted.1
 
 pub frames-preserved-in_ok-take-in-Frame-2 : goal.frames-preserved-in_ok-take-in-Frame-2
 frames-preserved-in_ok-take-in-Frame-2 g c =
@@ -95,7 +96,7 @@ frames-preserved-in_ok-take-in-Frame-2 g c =
     let q = read_on _ _ _ _ _ c.frames.invariant.progress _ gave.bytes gave.consumed in
     record {
       reading = gave.next.2;
-      progress = next_taken _ _ _ _ _ q (content c.in-Frame.frame) (pending c.next.new.self) gave.next.0 gave.next.1 (read_count c.next.new.self) gave.counted.0 _ c.in_ok-take-in-Frame.ensures.meaning;
+      progress = next_taken _ _ _ _ _ q (content c.in-Frame.frame) (pending c.next.new.self) gave.next.0 gave.next.1 c.next.new.self.count gave.counted.0 _ c.in_ok-take-in-Frame.ensures.meaning;
       site = c.in_ok-take-in-Frame.ensures.site;
       kept = c.in_ok-frame.ensures.kept (λ e. cc) ∙ c.frames.invariant.kept;
     }
@@ -103,7 +104,7 @@ frames-preserved-in_ok-take-in-Frame-2 g c =
 pub frames-smaller-in_ok-take-in-Frame-3 : goal.frames-smaller-in_ok-take-in-Frame-3
 frames-smaller-in_ok-take-in-Frame-3 g c =
     let gave = rw c.in-Frame.is at c.in_ok-frame.ensures.gives in
-    measure_falls (pending c.frames.frames) gave.bytes (pending c.next.new.self) (content c.in-Frame.frame) gave.next.1 (read_count c.frames.frames) (read_count c.next.new.self) gave.counted.0 gave.next.2.few
+    measure_falls (pending c.frames.frames) gave.bytes (pending c.next.new.self) (content c.in-Frame.frame) gave.next.1 c.frames.frames.count c.next.new.self.count gave.counted.0 gave.counted.1
 
 pub frames-preserved-in_ok-take-in-Frame-3 : goal.frames-preserved-in_ok-take-in-Frame-3
 frames-preserved-in_ok-take-in-Frame-3 g c =
@@ -111,7 +112,7 @@ frames-preserved-in_ok-take-in-Frame-3 g c =
     let q = read_on _ _ _ _ _ c.frames.invariant.progress _ gave.bytes gave.consumed in
     record {
       reading = gave.next.2;
-      progress = next_taken _ _ _ _ _ q (content c.in-Frame.frame) (pending c.next.new.self) gave.next.0 gave.next.1 (read_count c.next.new.self) gave.counted.0 _ c.in_ok-take-in-Frame.ensures.meaning;
+      progress = next_taken _ _ _ _ _ q (content c.in-Frame.frame) (pending c.next.new.self) gave.next.0 gave.next.1 c.next.new.self.count gave.counted.0 _ c.in_ok-take-in-Frame.ensures.meaning;
       site = c.in_ok-take-in-Frame.ensures.site;
       kept = c.in_ok-frame.ensures.kept (λ e. cc) ∙ c.frames.invariant.kept;
     }

@@ -1,7 +1,7 @@
 use Rattle.std.proofs.Common.{◌≡◌, ◌+◌, ◌-◌, length, IfSome}
 use Rattle.std.specs.Prelude.{option_map}
 use Rattle.stn_device.specs.Counted.{counted_device, KeepsCount}
-use Rattle.stn_stream.specs.Stream.{pending, read_count, IsReading}
+use Rattle.stn_stream.specs.Stream.{pending, IsReading}
 use Rattle.stn_log.specs.Log.{log_held}
 use Rattle.stn_log.proofs.Progress.{Progress}
 use Rattle.stn_log.proofs.reading.load.Given as goal
@@ -10,10 +10,10 @@ abbrev pub invariant-frames : goal.invariant-frames
 invariant-frames g l = record {
   reading : IsReading l.frames;
   progress : Progress (g.R.Read.remaining (counted_device l.fn.reader)) (g.R.Read.remaining (counted_device l.reader))
-      (option_map log_held l.replica) (pending l.frames) (read_count l.frames);
+      (option_map log_held l.replica) (pending l.frames) l.frames.count;
   site : IfSome l.replica (λ replica. replica.site ≡ l.site);
   kept : KeepsCount l.fn.reader l.reader;
 }
 
 abbrev pub decreases-frames : goal.decreases-frames
-decreases-frames g l = 16777216 + length (pending l.frames) - read_count l.frames
+decreases-frames g l = 16777216 + length (pending l.frames) - l.frames.count

@@ -1,5 +1,5 @@
 use Rattle.std.proofs.Common.{refl, sym, ◌∙◌, inl, inr, true, false, arith}
-use Rattle.stn_records.specs.Sorted.{is_there}
+use Rattle.stn_records.specs.Record.{is_there}
 use Rattle.stn_records.proofs.Holding.{step_less, both_read, stop_greater, ended, answered}
 use Rattle.stn_records.proofs.sorted.has_records.Goals as goal
 use Rattle.stn_records.proofs.sorted.has_records.Goals.{then-loop-i-test+else-j-theirs, else-loop-i-test}

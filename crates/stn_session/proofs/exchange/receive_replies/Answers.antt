@@ -1,7 +1,8 @@
 use Rattle.std.proofs.Common.{ap, ◌∙◌, ⊎_elim, inl, inr}
 use Rattle.std.proofs.lemmas.Result.{err_from_is_err_and}
 use Rattle.stn_session.specs.Exchange.{handing, telling, greeted_by, handed}
-use Rattle.stn_stream.specs.Stream.{pending, read_count}
+use Rattle.stn_stream.specs.Held.{Stream}
+use Rattle.stn_stream.specs.Stream.{pending}
 use Rattle.stn_session.proofs.Exchanges.{nothing_came, next_came, next_lost, next_refused, next_taken, text_answered}
 use Rattle.stn_session.proofs.exchange.receive_replies.Goals as goal
 
@@ -9,14 +10,14 @@ pub returns-in_err-first-clause-received : goal.returns-in_err-first-clause-rece
 returns-in_err-first-clause-received g c =
     let p = err_from_is_err_and c.from_residual.result c.from_residual.ensures.1 in
     let start = c.new-frames in
-    let none = nothing_came c.args.replica.now.source c.args.replica.now.state _ (pending start.result) (read_count start.result) start.ensures.pending start.ensures.count in
+    let none = nothing_came c.args.replica.now.source c.args.replica.now.state _ (pending start.result) start.result.count (ap pending start.ensures) (ap (λ (s : Stream). s.count) start.ensures) in
     rw (p.1, p.2) (next_lost _ _ _ _ _ start.result c.next_reply.new.frames _ _ none tt c.in_err-first.field-0.0 c.in_err-first.ensures.finds)
 
 pub returns-in_err-same_of-clause-received : goal.returns-in_err-same_of-clause-received
 returns-in_err-same_of-clause-received g c =
     let p = err_from_is_err_and c.from_residual-in_err-same_of.result c.from_residual-in_err-same_of.ensures.1 in
     let start = c.new-frames in
-    let none = nothing_came c.args.replica.now.source c.args.replica.now.state _ (pending start.result) (read_count start.result) start.ensures.pending start.ensures.count in
+    let none = nothing_came c.args.replica.now.source c.args.replica.now.state _ (pending start.result) start.result.count (ap pending start.ensures) (ap (λ (s : Stream). s.count) start.ensures) in
     rw (p.1, p.2)
     (next_refused _ _ _ _ _ start.result c.next_reply.new.frames _ _ none c.in_ok-first.first c.in_ok-first.ensures.finds c.in_err-same_of.field-0.0 (c.in_err-same_of.ensures.refused c.args.replica.now.state))
 
@@ -25,7 +26,7 @@ returns-in_err-second-clause-received g c =
     let p = err_from_is_err_and c.from_residual-in_err-second.result c.from_residual-in_err-second.ensures.1 in
     let start = c.new-frames in
     let state = c.args.replica.now.state in
-    let none = nothing_came c.args.replica.now.source state _ (pending start.result) (read_count start.result) start.ensures.pending start.ensures.count in
+    let none = nothing_came c.args.replica.now.source state _ (pending start.result) start.result.count (ap pending start.ensures) (ap (λ (s : Stream). s.count) start.ensures) in
     let one = next_came _ _ _ _ _ start.result c.next_reply.new.frames _ _ none c.in_ok-first.first c.in_ok-first.ensures.finds handing state (ap (greeted_by state) c.in_ok-same_of.ensures.same) in
     rw (p.1, p.2) (next_lost _ _ _ _ _ c.next_reply.new.frames c.next_reply-2.new.frames _ _ one tt c.in_err-second.field-0.0 c.in_err-second.ensures.finds)
 
@@ -34,7 +35,7 @@ returns-in_err-theirs-clause-received g c =
     let p = err_from_is_err_and c.from_residual-in_err-theirs.result c.from_residual-in_err-theirs.ensures.1 in
     let start = c.new-frames in
     let state = c.args.replica.now.state in
-    let none = nothing_came c.args.replica.now.source state _ (pending start.result) (read_count start.result) start.ensures.pending start.ensures.count in
+    let none = nothing_came c.args.replica.now.source state _ (pending start.result) start.result.count (ap pending start.ensures) (ap (λ (s : Stream). s.count) start.ensures) in
     let one = next_came _ _ _ _ _ start.result c.next_reply.new.frames _ _ none c.in_ok-first.first c.in_ok-first.ensures.finds handing state (ap (greeted_by state) c.in_ok-same_of.ensures.same) in
     rw (p.1, p.2)
     (next_refused _ _ _ _ _ c.next_reply.new.frames c.next_reply-2.new.frames _ _ one c.in_ok-second.second c.in_ok-second.ensures.finds c.in_err-theirs.field-0.0
@@ -46,7 +47,7 @@ returns-in_err-take_in-clause-received g c =
     let start = c.new-frames in
     let source = c.args.replica.now.source in
     let state = c.args.replica.now.state in
-    let none = nothing_came source state _ (pending start.result) (read_count start.result) start.ensures.pending start.ensures.count in
+    let none = nothing_came source state _ (pending start.result) start.result.count (ap pending start.ensures) (ap (λ (s : Stream). s.count) start.ensures) in
     let one = next_came _ _ _ _ _ start.result c.next_reply.new.frames _ _ none c.in_ok-first.first c.in_ok-first.ensures.finds handing state (ap (greeted_by state) c.in_ok-same_of.ensures.same) in
     rw (p.1, p.2)
     (next_taken _ _ _ _ _ c.next_reply.new.frames c.next_reply-2.new.frames _ _ one c.in_ok-second.second c.in_ok-second.ensures.finds tt c.take_in.new.replica.state c.in_err-take_in.ensures.kept
@@ -58,7 +59,7 @@ returns-in_err-third-clause-received g c =
     let start = c.new-frames in
     let source = c.args.replica.now.source in
     let state = c.args.replica.now.state in
-    let none = nothing_came source state _ (pending start.result) (read_count start.result) start.ensures.pending start.ensures.count in
+    let none = nothing_came source state _ (pending start.result) start.result.count (ap pending start.ensures) (ap (λ (s : Stream). s.count) start.ensures) in
     let one = next_came _ _ _ _ _ start.result c.next_reply.new.frames _ _ none c.in_ok-first.first c.in_ok-first.ensures.finds handing state (ap (greeted_by state) c.in_ok-same_of.ensures.same) in
     let two = next_came _ _ _ _ _ c.next_reply.new.frames c.next_reply-2.new.frames _ _ one c.in_ok-second.second c.in_ok-second.ensures.finds telling c.take_in.new.replica.state
     (ap (handed source state) c.in_ok-theirs.ensures.records ∙ c.in_ok-take_in.ensures.taken) in
@@ -69,7 +70,7 @@ returns-clause-received g c =
     let start = c.new-frames in
     let source = c.args.replica.now.source in
     let state = c.args.replica.now.state in
-    let none = nothing_came source state _ (pending start.result) (read_count start.result) start.ensures.pending start.ensures.count in
+    let none = nothing_came source state _ (pending start.result) start.result.count (ap pending start.ensures) (ap (λ (s : Stream). s.count) start.ensures) in
     let one = next_came _ _ _ _ _ start.result c.next_reply.new.frames _ _ none c.in_ok-first.first c.in_ok-first.ensures.finds handing state (ap (greeted_by state) c.in_ok-same_of.ensures.same) in
     let two = next_came _ _ _ _ _ c.next_reply.new.frames c.next_reply-2.new.frames _ _ one c.in_ok-second.second c.in_ok-second.ensures.finds telling c.take_in.new.replica.state
     (ap (handed source state) c.in_ok-theirs.ensures.records ∙ c.in_ok-take_in.ensures.taken) in

@@ -1,5 +1,5 @@
-use Rattle.stn_session.proofs.Frames.{state_fits}
+use Rattle.stn_wire.proofs.States.{state_fits}
 use Rattle.stn_session.proofs.replies.append_state.Goals as goal
 
-pub append_frame-requires : goal.append_frame-requires
-append_frame-requires g c = state_fits c.args.state.now c.in_ok-copy.field-0 c.state-held.ensures.sound c.in_ok-copy.ensures
+pub say-requires : goal.say-requires
+say-requires g c = state_fits c.args.state.now c.state-held.ensures.sound

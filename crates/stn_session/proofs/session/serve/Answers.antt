@@ -1,17 +1,18 @@
-use Rattle.std.proofs.Common.{refl, sym, ◌∙◌, arith}
+use Rattle.std.proofs.Common.{◌+◌, ◌≤◌, length, refl, sym, ap, subst, ◌∙◌, arith}
 use Rattle.std.proofs.lemmas.Result.{err_from_is_err_and}
 use Rattle.stn_wire.specs.Frame.{content}
-use Rattle.stn_stream.specs.Stream.{pending, read_count}
+use Rattle.stn_stream.specs.Held.{Stream}
+use Rattle.stn_stream.specs.Stream.{pending}
 use Rattle.stn_session.proofs.Sessions.{begun, closes, cuts, stream_fails, refuses, refusal_fails, frame_fails, frame_answered, frame_ends}
 use Rattle.stn_stream.proofs.Streams.{count_fits, measure_falls}
 use Rattle.stn_session.proofs.session.serve.Goals as goal
 
 pub frames-init : goal.frames-init
 frames-init g c = record {
-  reading = c.new-frames.ensures.reading;
-  progress = begun c.args.replica.now.source c.args.replica.now.state _ _ (pending c.new-frames.result) (read_count c.new-frames.result) c.new-frames.ensures.pending c.new-frames.ensures.count;
+  reading = ap (λ (s : Stream). s.broken) c.new-frames.ensures;
+  progress = begun c.args.replica.now.source c.args.replica.now.state _ _ (pending c.new-frames.result) c.new-frames.result.count (ap pending c.new-frames.ensures) (ap (λ (s : Stream). s.count) c.new-frames.ensures);
   source = refl;
-  few = omega (arith, c.new-frames.ensures.reading.counted);
+  few = subst (λ (s : Stream). 0 + length (pending s) ≤ s.count) (sym c.new-frames.ensures) (omega arith);
   reader_kept = refl;
   writer_kept = refl;
 }
@@ -20,7 +21,7 @@ pub returns-in_err-frame-clause-broken : goal.returns-in_err-frame-clause-broken
 returns-in_err-frame-clause-broken g c =
     let p = err_from_is_err_and c.from_residual.result c.from_residual.ensures.1 in
     let gave = c.in_err-frame.ensures.gives in
-    rw (p.1, p.2) (stream_fails _ _ _ _ _ _ _ _ _ _ _ c.frames.invariant.progress _ gave.bytes gave.consumed c.next.new.self c.in_err-frame.field-0.0 gave.next gave.counted)
+    rw (p.1, p.2) (stream_fails _ _ _ _ _ _ _ _ _ _ _ c.frames.invariant.progress _ gave.bytes gave.consumed g.row.A.Denot c.next.new.self c.in_err-frame.field-0.0 gave.next gave.counted)
 
 pub returns-in_err-turn-in-Frame-clause-broken : goal.returns-in_err-turn-in-Frame-clause-broken
 returns-in_err-turn-in-Frame-clause-broken g c =
@@ -33,7 +34,7 @@ returns-in_err-turn-in-Frame-clause-broken g c =
 pub frames-smaller : goal.frames-smaller
 frames-smaller g c =
     let gave = rw c.in-Frame.is at c.in_ok-frame.ensures.gives in
-    measure_falls (pending c.frames.frames) gave.bytes (pending c.next.new.self) (content c.in-Frame.frame) gave.next.1 (read_count c.frames.frames) (read_count c.next.new.self) gave.counted.0 gave.next.2.few
+    measure_falls (pending c.frames.frames) gave.bytes (pending c.next.new.self) (content c.in-Frame.frame) gave.next.1 c.frames.frames.count c.next.new.self.count gave.counted.0 gave.counted.1
 
 pub frames-preserved : goal.frames-preserved
 frames-preserved g c =
@@ -44,9 +45,9 @@ frames-preserved g c =
       reading = gave.next.2;
       progress = frame_answered _ _ _ _ _ _ _ _ _ _ _ i.progress _ gave.bytes gave.consumed gave.counted.1 (content c.in-Frame.frame) (pending c.next.new.self) gave.next.0 gave.next.1 _
           c.answer_frame.new.replica.state wrote.0 wrote.1 wrote.3 wrote.2 c.in_ok-turn-in-Frame.turn.greeted wrote.4 (sym wrote.5 ∙ c.in-None.is)
-          (read_count c.next.new.self) gave.counted.0 c.answer_frame.new.replica.source c.in_ok-turn-in-Frame.ensures.source;
+          c.next.new.self.count gave.counted.0 c.answer_frame.new.replica.source c.in_ok-turn-in-Frame.ensures.source;
       source = c.in_ok-turn-in-Frame.ensures.source ∙ i.source;
-      few = count_fits (pending c.frames.frames) gave.bytes (pending c.next.new.self) (content c.in-Frame.frame) gave.next.1 (read_count c.frames.frames) (read_count c.next.new.self) gave.counted.0 c.frames.count i.few;
+      few = count_fits (pending c.frames.frames) gave.bytes (pending c.next.new.self) (content c.in-Frame.frame) gave.next.1 c.frames.frames.count c.next.new.self.count gave.counted.0 c.frames.count i.few;
       reader_kept = c.in_ok-frame.ensures.kept (λ e. cc) ∙ i.reader_kept;
       writer_kept = c.in_ok-turn-in-Frame.ensures.kept (λ e. cc) ∙ i.writer_kept;
     }

@@ -1,12 +1,16 @@
-use Rattle.std.proofs.Common.{◌+◌, ◌-◌, length, take, drop, refl, ap, ◌∙◌}
+use Rattle.std.proofs.Common.{◌≡◌, ◌+◌, ◌-◌, None, length, take, drop, refl, sym, ap, subst, ◌∙◌}
 use Rattle.std.proofs.lemmas.List.{take_rest}
+use Rattle.stn_wire.specs.Feeder.{IsTaken}
+use Rattle.stn_stream.specs.Held.{Stream}
 use Rattle.stn_stream.proofs.Streams.{fed_is}
 use Rattle.stn_stream.proofs.reader.FrameReader.feed.Goals as goal
 
 pub returns-clause-fed : goal.returns-clause-fed
 returns-clause-fed g c =
-    let old = c.args.self.now in
+    let old = c.self.inside in
     let fed = c.in_ok-fed.fed in
-    let piece = c.deref.result.now in
-    fed_is old (record old { feeder = c.feed.new.self; at = old.at + fed.used }) fed.used fed.frame (take (length piece - old.at) (drop old.at piece))
-    (take_rest piece old.at ∙ ap (drop old.at) c.deref.ensures.value) (c.in_ok-fed.ensures.fed c.requires.whole) refl refl
+    let rest = take (length c.deref.result.now - old.at) (drop old.at c.deref.result.now) in
+    let whole : old.feeder.broken ≡ None = ap (λ (s : Stream). s.broken) c.self.view_is ∙ c.requires in
+    fed_is c.args.self.now (record { held = c.feed.new.self.held; behind = drop (old.at + fed.used) old.piece.items; count = old.taken; broken = c.feed.new.self.broken }) old.piece.items old.at fed.used fed.frame rest c.feed.new.self (ap (λ (s : Stream). s.behind) (sym c.self.view_is))
+    (take_rest c.deref.result.now old.at ∙ ap (drop old.at) c.deref.ensures.value)
+    (subst (λ (s : Stream). IsTaken s.held rest fed.used fed.frame c.feed.new.self) c.self.view_is (c.in_ok-fed.ensures.fed whole)) refl refl

@@ -8,9 +8,9 @@ abbrev pub invariant-pieces : goal.invariant-pieces
 invariant-pieces g l = record {
   reading : IsReading l.self;
   bytes : (bytes : List ℕ) × Consumes (g.R.Read.remaining (counted_device l.fn.reader)) (g.R.Read.remaining (counted_device l.reader)) bytes
-      × (pending l.self ≡ pending l.fn.self ++ bytes) × (l.self.taken ≡ l.fn.self.taken + length bytes);
+      × (pending l.self ≡ pending l.fn.self ++ bytes) × (l.self.count ≡ l.fn.self.count + length bytes);
   kept : KeepsCount l.fn.reader l.reader;
 }
 
 abbrev pub decreases-pieces : goal.decreases-pieces
-decreases-pieces g l = 16777216 - l.self.taken
+decreases-pieces g l = 16777216 - l.self.count
