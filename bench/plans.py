@@ -139,8 +139,7 @@ def domain_of(data):
     """The actions of a domain, by name."""
     root = tree_of(data)
     first, title = (root.trees + [Tree(0), Tree(0)])[:2]
-    right = first.is_word("define") and len(title.trees) == 2 and title.trees[0].is_word("domain") and title.trees[1].is_name()
-    if not right:
+    if not (first.is_word("define") and len(title.trees) == 2 and title.trees[0].is_word("domain") and title.trees[1].is_name()):
         raise Refused(11, root.line)
     actions = {}
     for part in root.trees[2:]:
@@ -431,7 +430,10 @@ def text_answer(row):
     kind, text = row.split(b" ", 1)
     text = text.replace(b"~", b"\n") + b" " * spaces
     try:
-        return (0, len(plan_of(text))) if kind == b"plan" else (0, 0 * len(domain_of(text)))
+        if kind == b"plan":
+            return 0, len(plan_of(text))
+        domain_of(text)
+        return 0, 0
     except Refused as refused:
         return refused.code, refused.argument or 0
 
