@@ -15,9 +15,10 @@ use Rattle.stn_conflict.specs.declared.links.Side.TheVariants.{Upper, Lower}
 use Rattle.stn_conflict.specs.Arcs.{arc, arc_of, bound_at, IsChain, weight_of, IsNegativeCycle}
 use Rattle.stn_conflict.specs.Culprit.{IsRefusedSide, IsCulprit}
 use Rattle.stn_conflict.specs.Named.{IsWay, IsNamedCycle}
-use Rattle.stn_conflict.specs.Search.{IsCycleOf}
+use Rattle.stn_conflict.specs.Search.{IsCycleOf, IsWayOf}
 use Rattle.stn_conflict.proofs.Distances.{tightest_self, link_kept}
 use Rattle.stn_conflict.proofs.Between.{refused_lower}
+use Rattle.stn_conflict.proofs.OneCycle.{way_unique}
 use Rattle.stn_conflict.proofs.Chains.{way_is_tight, weight_of_tight, chain_before}
 
 -- a refused side and the way back from its end to its beginning have a negative sum
@@ -58,6 +59,11 @@ named_negative bounds link links self far ordered here there named =
       negative = omega (arith, ints);
     }
 
+-- the links of a chain are links of the bounds
+places_of_chain : (bounds : List Difference) (links : List Link) (x y : ℕ) → IsChain bounds links x y → AllByRecursion (λ (l : Link). l.place < length bounds) links
+places_of_chain bounds [] x y chain = tt
+places_of_chain bounds (link ∷ links) x y chain = (chain.0, places_of_chain bounds links _ y chain.2)
+
 -- the culprit's link and the way back over the bounds before it are a named cycle, with all that is told of it
 pub cycle_of_way : (bounds : List Difference) (events : ℕ) (link : Link) (links : List Link) (self far sum : ℤ) → IsCulprit bounds link → (bound_at bounds link.place).lo ≤ℤ (bound_at bounds link.place).hi → IsTightest (take link.place bounds) (arc_of bounds link).to (arc_of bounds link).to self → IsTightest (take link.place bounds) (arc_of bounds link).to (arc_of bounds link).from far → IsWithinHorizon (arc_of bounds link).weight → IsWithinHorizon far → IsWay (take link.place bounds) (arc_of bounds link).to (arc_of bounds link).from links → length links ≤ events → sum ≡ (arc_of bounds link).weight +ℤ far → IsCycleOf bounds events (link ∷ links) sum
 cycle_of_way bounds events link links self far sum culprit ordered here there (wl, wh) (fl, fh) way short total =
@@ -71,10 +77,6 @@ cycle_of_way bounds events link links self far sum culprit ordered here there (w
       places = All-from_recursion (λ l. l.place < length bounds) (link ∷ links) (places_of_chain bounds (link ∷ links) _ _ negative.closed.1);
       short = omega arith;
     }
-  where
-    places_of_chain : (bounds : List Difference) (links : List Link) (x y : ℕ) → IsChain bounds links x y → AllByRecursion (λ (l : Link). l.place < length bounds) links
-    places_of_chain bounds [] x y chain = tt
-    places_of_chain bounds (link ∷ links) x y chain = (chain.0, places_of_chain bounds links _ y chain.2)
 
 -- over a chain a schedule grows by its weight at most
 chain_kept : (bounds : List Difference) (links : List Link) (x y : ℕ) (time : ℕ → ℤ) → IsSchedule bounds time → IsChain bounds links x y → (time y -ℤ time x) ≤ℤ weight_of bounds links
@@ -88,3 +90,15 @@ pub negative_no_schedule : (bounds : List Difference) (links : List Link) → Is
 negative_no_schedule bounds links cycle (time, is) =
     let (x, chain) = cycle.closed in
     omega (arith, ints, cycle.negative, chain_kept bounds links x x time is chain)
+
+-- a way, with all that is told of it
+pub told_of_way : (bounds : List Difference) (start x count : ℕ) (links : List Link) (self far sum : ℤ) → sum ≡ far → IsTightest bounds start start self
+    → IsTightest bounds start x far → IsWay bounds start x links → length links < count → IsWayOf bounds start x count links sum
+told_of_way bounds start x count links self far sum is here there way short = record {
+  way = way;
+  sum_is = is ∙ sym (weight_of_way bounds start x links self far here there way);
+  tightest = rw is there;
+  places = All-from_recursion (λ l. l.place < length bounds) links (places_of_chain bounds links _ _ way.chain);
+  short = short;
+  empty = λ same. ap length (way_unique bounds start x links [] way (record { chain = same; first = tt }));
+}

@@ -2,10 +2,11 @@
 use Rattle.std.specs.Prelude.{◌≡◌, ◌≢◌, ℕ, ℤ, pos, neg_ℤ, ◌*ℤ◌, ◌≤ℤ◌, suc, ◌+◌, ◌<◌, ◌≤◌, ◌↔◌, List, length, All, Option, Some, None, slice_index_or}
 use Rattle.stn_time.specs.Time.{horizon}
 use Rattle.stn_net.specs.Difference.{Difference}
+use Rattle.stn_matrix.specs.Tightest.{IsTightest}
 use Rattle.stn_conflict.specs.declared.links.Link.{Link}
 use Rattle.stn_conflict.specs.declared.links.Side.TheVariants.{Upper}
 use Rattle.stn_conflict.specs.Arcs.{arc_of, rank, weight_of, IsNegativeCycle}
-use Rattle.stn_conflict.specs.Named.{IsTight, IsLevel, IsNamedCycle}
+use Rattle.stn_conflict.specs.Named.{IsTight, IsLevel, IsWay, IsNamedCycle}
 
 -- the level that a table has of an event, if it has one yet
 abbrev pub level_at : List (Option ℕ) → ℕ → Option ℕ
@@ -50,3 +51,12 @@ pub record IsCycleOf (bounds : List Difference) (events : ℕ) (links : List Lin
   pub least : neg_ℤ (pos 2 *ℤ horizon) ≤ℤ sum
   pub places : All (λ link. link.place < length bounds) links
   pub short : length links ≤ events + 1
+
+-- the way from `start` to x, with its sum, where there are so many events with the origin
+pub record IsWayOf (bounds : List Difference) (start x count : ℕ) (links : List Link) (sum : ℤ) : Type 0 where
+  pub way : IsWay bounds start x links
+  pub sum_is : sum ≡ weight_of bounds links
+  pub tightest : IsTightest bounds start x sum
+  pub places : All (λ link. link.place < length bounds) links
+  pub short : length links < count
+  pub empty : start ≡ x → length links ≡ 0

@@ -1,8 +1,10 @@
-//! One cycle of bounds that contradict each other: the same wherever the bounds are the same.
+//! One cycle of bounds that contradict each other, and one way of bounds from event to event: the same wherever the
+//! bounds are the same.
 #![tactic(auto)]
 
-pub use links::{Cycle, Link, Side, negative_cycle_is_conflict, one_named_cycle};
+pub use links::{Cycle, Link, Side, Way, negative_cycle_is_conflict, one_named_cycle, one_way};
 pub use search::cycle;
+pub use ways::way;
 
 mod levels;
 mod links;
@@ -11,4 +13,4 @@ mod relaxation;
 mod search;
 #[cfg(test)]
 mod tests;
-mod way;
+mod ways;

@@ -1,8 +1,8 @@
-ghost use Rattle.std.specs.Prelude.{◌≡◌, List};
+ghost use Rattle.std.specs.Prelude.{◌≡◌, ℕ, List};
 ghost use Rattle.stn_net.specs.Difference.{Difference};
 ghost use Rattle.stn_net.specs.Schedule.{HasSchedule};
 ghost use Rattle.stn_conflict.specs.Arcs.{IsNegativeCycle};
-ghost use Rattle.stn_conflict.specs.Named.{IsNamedCycle};
+ghost use Rattle.stn_conflict.specs.Named.{IsNamedCycle, IsWay};
 
 use std::alloc::Allocator;
 
@@ -33,6 +33,23 @@ pub struct Cycle<A: Allocator> {
     /// The sum of what they allow, in milliseconds: `hi` of an upper side, `-lo` of a lower.
     pub sum: i64,
 }
+
+/// Sides of bounds that let one event come at most so long after another: the first begins at that other event, each
+/// begins where the one before it ends, and the last ends at the one.
+#[derive(Debug, Drop)]
+pub struct Way<A: Allocator> {
+    /// The links, that from the other event first.
+    pub links: Vec<Link, A>,
+    /// The sum of what they allow, in milliseconds: `hi` of an upper side, `-lo` of a lower.
+    pub sum: i64,
+}
+
+/// The law that bounds have one way at most from an event to another, so that all who hold the same bounds are told the
+/// same; it does nothing.
+pub fn one_way()
+    ensures { (bounds : List Difference) → (from to : ℕ) → (one other : List Link)
+        → IsWay bounds from to one → IsWay bounds from to other → one ≡ other }
+{}
 
 /// The law that bounds have one named cycle at most, so that all who hold the same bounds name the
 /// same; it does nothing.

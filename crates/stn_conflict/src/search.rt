@@ -13,7 +13,7 @@ ghost use Rattle.stn_conflict.specs.Search.{IsCycleOf};
 use crate::links::{Cycle, Link, Side};
 use crate::listed::Listed;
 use crate::relaxation::{Search, outgoing_links};
-use crate::way::way_back;
+use crate::ways::way_back;
 use std::alloc::Allocator;
 use stn_net::{Bound, Event};
 use stn_time::Memory;

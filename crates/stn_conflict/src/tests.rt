@@ -4,7 +4,7 @@ ghost use Rattle.stn_net.specs.Difference.{NamesEvents};
 ghost use Rattle.stn_net.specs.Horizon.{horizon_bounds};
 ghost use Rattle.stn_time.specs.Time.{horizon};
 
-use crate::{Cycle, Link, Side, cycle, negative_cycle_is_conflict, one_named_cycle};
+use crate::{Cycle, Link, Side, cycle, negative_cycle_is_conflict, one_named_cycle, one_way, way};
 use std::alloc::Allocator;
 use std::process::Abort;
 use std::test::Fail;
@@ -102,6 +102,53 @@ fn named_cycle(rt: HostRuntime) -> Result<(), Fail> {
     let parts = [(1, 2, 5_000, 5_000), (1, 2, 5_000, H), (0, 2, -H, 4_000)];
     let found = find(rt.alloc(), 2, &parts)?;
     expect(&rt, &found, &[upper(4), lower(2), lower(0)], -1_000);
+    Ok(())
+}
+
+// Fails the test unless these are the links of the way from an event to another, and their sum.
+fn expect_way<A: Allocator + Copy>(
+    rt: &impl Abort,
+    alloc: A,
+    extra: &[(u16, u16, i64, i64)],
+    ends: (u16, u16),
+    links: &[Link],
+    sum: i64,
+) -> Result<(), Fail> {
+    let base = horizons(alloc, 2)?;
+    let extra = bounds(alloc, 2, extra)?;
+    let from = Event::new(ends.0).ok_or("no event")?;
+    let to = Event::new(ends.1).ok_or("no event")?;
+    if from.number() > 2 || to.number() > 2 {
+        return Err("no such event".into());
+    }
+    let found = way(alloc, 2, &base, &extra, from, to)?.ok_or("no schedule")?;
+    assert_eq!(rt; found.links.as_slice(), links);
+    assert_eq!(rt; found.sum, sum);
+    Ok(())
+}
+
+// The end comes exactly 5 s after the start, which comes from 2 to 10 s.
+#[test]
+fn ways_of_a_window(rt: HostRuntime) -> Result<(), Fail> {
+    let parts = [(1, 2, 5_000, 5_000), (0, 1, 2_000, 10_000)];
+    expect_way(
+        &rt,
+        rt.alloc(),
+        &parts,
+        (0, 2),
+        &[upper(3), upper(2)],
+        15_000,
+    )?;
+    expect_way(
+        &rt,
+        rt.alloc(),
+        &parts,
+        (2, 0),
+        &[lower(2), lower(3)],
+        -7_000,
+    )?;
+    expect_way(&rt, rt.alloc(), &parts, (2, 2), &[], 0)?;
+    one_way();
     Ok(())
 }
 

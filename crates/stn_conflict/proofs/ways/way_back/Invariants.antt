@@ -4,7 +4,7 @@ use Rattle.std.specs.List.{AllByRecursion}
 use Rattle.stn_conflict.specs.Arcs.{IsChain}
 use Rattle.stn_conflict.specs.Named.{IsFirstStep}
 use Rattle.stn_conflict.specs.Search.{level_at}
-use Rattle.stn_conflict.proofs.way.way_back.Given as goal
+use Rattle.stn_conflict.proofs.ways.way_back.Given as goal
 
 abbrev pub invariant-loop-start : goal.invariant-loop-start
 invariant-loop-start g l = record {

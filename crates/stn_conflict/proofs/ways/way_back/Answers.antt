@@ -10,8 +10,8 @@ use Rattle.stn_conflict.proofs.Distances.{link_among}
 use Rattle.stn_conflict.proofs.OneCycle.{level_of_start}
 use Rattle.stn_conflict.proofs.LevelTable.{some_same}
 use Rattle.stn_conflict.proofs.Steps.{IsStepBack, first_step_back, chain_before_way}
-use Rattle.stn_conflict.proofs.way.way_back.Given.{Over}
-use Rattle.stn_conflict.proofs.way.way_back.Goals as goal
+use Rattle.stn_conflict.proofs.ways.way_back.Given.{Over}
+use Rattle.stn_conflict.proofs.ways.way_back.Goals as goal
 
 -- the link that is taken is the one beside the event's level, and its first step
 taken : (g : Over) (c : goal.In_ok-push g) → (c.index-link.result.now ≡ link_of c.in_ok-table.table.back.items c.loop-start.here)
