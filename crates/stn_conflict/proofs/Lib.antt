@@ -8,3 +8,4 @@ pub mod Rounds
 pub mod Steps
 pub mod Known
 pub mod Relaxing
+pub mod Searches

@@ -1,11 +1,12 @@
 -- For proofs alone: no public clause cites these words.
-use Rattle.std.specs.Prelude.{◌≡◌, ℕ, ℤ, pos, neg_ℤ, ◌+ℤ◌, ◌-ℤ◌, ◌≤ℤ◌, ◌<◌, List, length, All, sum_by, unsigned_abs}
+use Rattle.std.specs.Prelude.{◌≡◌, ℕ, ℤ, pos, neg_ℤ, ◌+ℤ◌, ◌-ℤ◌, ◌≤ℤ◌, ◌<◌, ◌≤◌, ◌+◌, List, length, All, sum_by, unsigned_abs}
 use Rattle.stn_time.specs.Time.{horizon, IsWithinHorizon}
+use Rattle.stn_net.specs.Event.{most_events}
 use Rattle.stn_net.specs.Difference.{Difference}
 use Rattle.stn_net.specs.Schedule.{IsSchedule, times_of}
 use Rattle.stn_matrix.specs.Tightest.{IsTightest}
 use Rattle.stn_conflict.specs.declared.links.Link.{Link}
-use Rattle.stn_conflict.specs.declared.relaxation.Tables.{Tables}
+use Rattle.stn_conflict.specs.declared.relaxation.Search.{Search}
 use Rattle.stn_conflict.specs.Arcs.{arc_of}
 
 -- both events of the bound are among the first so many
@@ -37,8 +38,20 @@ IsRelaxed bounds far link = times_of far (arc_of bounds link).to ≤ℤ (times_o
 abbrev pub room : List ℤ → ℕ
 room far = sum_by (λ z. unsigned_abs (z +ℤ horizon)) far
 
--- each table has one entry for each of so many events
-pub record HasTables {A : Type 0} (count : ℕ) (tables : Tables A) : Type 0 where
-  pub outgoing : length tables.outgoing.items ≡ count
-  pub by : length tables.by.items ≡ count
-  pub fresh : length tables.fresh.items ≡ count
+-- each table of a search has one entry for each of so many events
+pub record HasTables {A : Type 0} (count : ℕ) (search : Search A) : Type 0 where
+  pub few : count ≤ most_events + 1
+  pub far : length search.far.items ≡ count
+  pub outgoing : length search.outgoing.now ≡ count
+  pub by : length search.by.items ≡ count
+  pub fresh : length search.fresh.items ≡ count
+
+-- the search has estimates of the distances of so many events from `start`
+pub record IsSearch {A : Type 0} (bounds : List Difference) (start count : ℕ) (search : Search A) : Type 0 where
+  pub tables : HasTables count search
+  pub from : search.start ≡ start
+  pub estimates : AreEstimates bounds start search.far.items
+
+-- some link of the bounds leads from the one event to the other, and has this weight
+abbrev pub IsArcTo : List Difference → ℕ → ℕ → ℤ → Type 0
+IsArcTo bounds to from weight = (link : Link) × (link.place < length bounds) × (arc_of bounds link ≡ record { from = from; to = to; weight = weight })

@@ -1,12 +1,22 @@
-ghost use Rattle.std.specs.Prelude.{◌≡◌, ◌+◌, ◌<◌, ◌≤◌, ◌↔◌, false, length, take, All, IsTrue, IsErr, IsOk, IfOk, IfSome, OnOk, List};
+// Distances of all events from one of them. Links are relaxed until each is met (Bellman, 1958): first all of them
+// once, then those from events whose estimates fell, back and forth through the events (Yen, 1970), and so on. Where
+// the links that lowered the estimates last lead round with a negative sum, there are no distances (Cherkassky and
+// Goldberg, 1999).
+//
+// What a search over other bounds left in `by` and `fresh` does no harm: a link counts only if it is one of these
+// bounds, and ends at the event; a fresh event costs no more than a look at its links; and the distances are found only
+// after a pass over all links that lowered none.
+
+ghost use Rattle.std.specs.Prelude.{◌≡◌, ◌+◌, ◌<◌, ◌≤◌, ◌↔◌, ℕ, false, length, take, All, IsTrue, IsErr, IsOk, IfOk, IfSome, OnOk, List};
 ghost use Rattle.stn_net.specs.Event.{most_events};
 ghost use Rattle.stn_net.specs.Difference.{Difference, NamesEvents};
 ghost use Rattle.stn_net.specs.Schedule.{HasSchedule};
 ghost use Rattle.stn_net.specs.Horizon.{horizon_bounds};
-ghost use Rattle.stn_conflict.specs.Distances.{NamesAmong, AreEstimates, AreDistances, IsRelaxed, HasTables, room};
+ghost use Rattle.stn_conflict.specs.Distances.{NamesAmong, AreEstimates, AreDistances, IsRelaxed, IsSearch, HasTables, IsArcTo, room};
+ghost use Rattle.stn_time.specs.Time.{IsWithinHorizon};
 
-use crate::links::{Link, Side};
-use crate::listed::{Listed, link_at};
+use crate::links::Link;
+use crate::listed::{Arc, Listed, link_at};
 use std::alloc::Allocator;
 use stn_net::Event;
 use stn_time::{HORIZON, Memory};
@@ -15,331 +25,276 @@ use stn_time::{HORIZON, Memory};
 #[derive(Clone, Copy)]
 struct NoSchedule;
 
-// What a search for distances keeps beside them.
+// The links of the bounds by the event at which they begin, in their order.
+pub(crate) fn outgoing_links<A: Allocator + Copy>(
+    alloc: A,
+    events: u16,
+    bounds: &Listed<'_>,
+) -> Result<Vec<Vec<Link, A>, A>, Memory>
+    requires { All (NamesEvents events) bounds.now }
+    ensures { IfOk result (λ outgoing. length outgoing.items ≡ events + 1) }
+{
+    let mut outgoing = Vec::new(alloc);
+    for _ in 0..usize::from(events) + 1 {
+        outgoing.push(Vec::new(alloc))?;
+    }
+    for index in 0..bounds.links() {
+        let link = link_at(index);
+        let from = usize::from(bounds.arc(link).from.number());
+        outgoing[from].push(link)?;
+    }
+    Ok(outgoing)
+}
+
+// A search for the distances from an event.
 #[derive(Drop)]
-pub(crate) struct Tables<A: Allocator> {
-    // The links by the event at which they begin, in their order.
-    outgoing: Vec<Vec<Link, A>, A>,
+pub(crate) struct Search<'a, A: Allocator> {
+    outgoing: &'a [Vec<Link, A>],
+    // The event from which the distances are sought.
+    start: Event,
+    // For each event an estimate of its distance, which is never too small.
+    pub far: Vec<i64, A>,
     // For each event the link that lowered its estimate last.
-    by: Vec<Link, A>,
+    by: Vec<Option<Link>, A>,
     // The events whose estimates were lowered since their links were looked at.
     fresh: Vec<bool, A>,
 }
 
-impl<A: Allocator + Copy> Tables<A> {
-    // The tables for bounds about so many events.
-    pub fn new(alloc: A, events: u16, bounds: &Listed<'_>) -> Result<Tables<A>, Memory>
-        requires { All (NamesEvents events) bounds.now }
-        ensures { IfOk result (λ tables. HasTables (events + 1) tables) }
+impl<'a, A: Allocator + Copy> Search<'a, A> {
+    // A search among as many events as have rows of links.
+    pub fn new(alloc: A, outgoing: &'a [Vec<Link, A>]) -> Result<Search<'a, A>, Memory>
+        requires { length outgoing.now ≤ most_events + 1 }
+        ensures { IfOk result (λ search. HasTables (length outgoing.now) search) }
     {
-        let first = Link {
-            place: 0,
-            side: Side::Upper,
-        };
-        let count = usize::from(events) + 1;
-        let mut outgoing = Vec::new(alloc);
-        for _ in 0..count {
-            outgoing.push(Vec::new(alloc))?;
-        }
-        for index in 0..bounds.links() {
-            let link = link_at(index);
-            let from = usize::from(bounds.arc(link).from.number());
-            outgoing[from].push(link)?;
-        }
-        Ok(Tables {
+        let count = outgoing.len();
+        Ok(Search {
             outgoing,
-            by: vec![in alloc; first; count]?,
+            start: Event::origin(),
+            far: vec![in alloc; HORIZON; count]?,
+            by: vec![in alloc; None; count]?,
             fresh: vec![in alloc; false; count]?,
         })
     }
-}
 
-// The tightest differences from an event, where the bounds, the first of those that the tables are
-// for, have a schedule.
-pub(crate) fn distances<A: Allocator + Copy>(
-    alloc: A,
-    events: u16,
-    bounds: &Listed<'_>,
-    tables: &mut Tables<A>,
-    start: Event,
-) -> Result<Vec<i64, A>, Memory>
-    requires few { events ≤ most_events }
-    requires begins { take events bounds.now ≡ horizon_bounds events }
-    requires named { All (NamesEvents events) bounds.now }
-    requires tables { HasTables (events + 1) tables.old }
-    requires start { start ≤ events }
-    requires possible { HasSchedule bounds.now }
-    ensures long { IfOk result (λ far. length far.items ≡ events + 1) }
-    ensures distances { IfOk result (λ far. AreDistances bounds.now start far.items) }
-    ensures tables { HasTables (events + 1) tables.new }
-{
-    let mut far = estimates(alloc, events, start)?;
-    settle(bounds, tables, start, &mut far);
-    Ok(far)
-}
-
-// Estimates of the tightest differences from an event that the horizon bounds alone allow.
-pub(crate) fn estimates<A: Allocator + Copy>(
-    alloc: A,
-    events: u16,
-    start: Event,
-) -> Result<Vec<i64, A>, Memory>
-    requires { start ≤ events }
-    ensures long { IfOk result (λ far. length far.items ≡ events + 1) }
-    ensures estimates { IfOk result (λ far. (bounds : List Difference) → take events bounds ≡ horizon_bounds events
-        → All (NamesEvents events) bounds → AreEstimates bounds start far.items) }
-{
-    let mut far = vec![in alloc; HORIZON; usize::from(events) + 1]?;
-    far[usize::from(start.number())] = 0;
-    Ok(far)
-}
-
-// Lowers the estimates until they are the tightest differences, and answers true; false exactly where
-// the bounds, which are the first of those that the tables are for, have no schedule.
-pub(crate) fn settle<A: Allocator + Copy>(
-    bounds: &Listed<'_>,
-    tables: &mut Tables<A>,
-    start: Event,
-    far: &mut [i64],
-) -> bool
-    requires estimates { AreEstimates bounds.now start far.old }
-    requires tables { HasTables (length far.old) tables.old }
-    requires few { length far.old ≤ most_events + 1 }
-    ensures possible { IsTrue result ↔ HasSchedule bounds.now }
-    ensures estimates { AreEstimates bounds.now start far.new }
-    ensures distances { IsTrue result → AreDistances bounds.now start far.new }
-    ensures tables { HasTables (length far.old) tables.new }
-{
-    relax_until_met(
-        bounds,
-        &tables.outgoing,
-        start,
-        far,
-        &mut tables.by,
-        &mut tables.fresh,
-    )
-    .is_ok()
-}
-
-// Relaxes links until each is met.
-fn relax_until_met<A: Allocator + Copy>(
-    bounds: &Listed<'_>,
-    outgoing: &[Vec<Link, A>],
-    start: Event,
-    far: &mut [i64],
-    by: &mut [Link],
-    fresh: &mut [bool],
-) -> Result<(), NoSchedule>
-    requires estimates { AreEstimates bounds.now start far.old }
-    requires outgoing { length outgoing.now ≡ length far.old }
-    requires by { length by.old ≡ length far.old }
-    requires fresh { length fresh.old ≡ length far.old }
-    requires few { length far.old ≤ most_events + 1 }
-    ensures possible { IsOk result ↔ HasSchedule bounds.now }
-    ensures estimates { AreEstimates bounds.now start far.new }
-    ensures distances { OnOk result (AreDistances bounds.now start far.new) }
-{
-    while relax_all(bounds, start, far, by, fresh)? {
-        correct(bounds, outgoing, start, far, by, fresh)?;
+    // Finds the distances from an event, where the bounds have a schedule.
+    pub fn distances(&mut self, events: u16, bounds: &Listed<'_>, start: Event)
+        requires tables { HasTables (events + 1) self.old }
+        requires begins { take events bounds.now ≡ horizon_bounds events }
+        requires named { All (NamesEvents events) bounds.now }
+        requires start { start ≤ events }
+        requires possible { HasSchedule bounds.now }
+        ensures tables { HasTables (events + 1) self.new }
+        ensures distances { AreDistances bounds.now start self.new.far.items }
+    {
+        self.begin(start);
+        self.settle(bounds);
     }
-    Ok(())
-}
 
-// Relaxes each link once, in their order; whether one lowered an estimate.
-fn relax_all(
-    bounds: &Listed<'_>,
-    start: Event,
-    far: &mut [i64],
-    by: &mut [Link],
-    fresh: &mut [bool],
-) -> Result<bool, NoSchedule>
-    requires estimates { AreEstimates bounds.now start far.old }
-    requires by { length by.old ≡ length far.old }
-    requires fresh { length fresh.old ≡ length far.old }
-    ensures refused { IsErr result → ¬ HasSchedule bounds.now }
-    ensures estimates { AreEstimates bounds.now start far.new }
-    ensures less { IfOk result (λ lower. IsTrue lower → room far.new < room far.old) }
-    ensures relaxed { IfOk result (λ lower. lower ≡ false
-        → (link : Link) → link.place < length bounds.now → IsRelaxed bounds.now far.new link) }
-{
-    let mut lower = false;
-    for index in 0..bounds.links() {
-        if relax(bounds, start, far, by, fresh, link_at(index))? {
-            lower = true;
+    // Begins anew from an event, with the estimates that the horizon bounds alone allow.
+    pub fn begin(&mut self, start: Event)
+        requires tables { HasTables (length self.old.far.items) self.old }
+        requires start { start < length self.old.far.items }
+        ensures start { self.new.start ≡ start }
+        ensures tables { HasTables (length self.old.far.items) self.new }
+        ensures estimates { (bounds : List Difference) (events : ℕ) → length self.old.far.items ≡ events + 1
+            → take events bounds ≡ horizon_bounds events → All (NamesEvents events) bounds
+            → AreEstimates bounds start self.new.far.items }
+    {
+        self.start = start;
+        self.far.fill(HORIZON);
+        self.far[usize::from(start.number())] = 0;
+    }
+
+    // Lowers the estimates until they are the distances, and answers true; false exactly where the bounds, of which the
+    // rows have all links, have no schedule.
+    pub fn settle(&mut self, bounds: &Listed<'_>) -> bool
+        requires { IsSearch bounds.now self.old.start (length self.old.far.items) self.old }
+        ensures search { IsSearch bounds.now self.old.start (length self.old.far.items) self.new }
+        ensures possible { IsTrue result ↔ HasSchedule bounds.now }
+        ensures distances { IsTrue result → AreDistances bounds.now self.old.start self.new.far.items }
+    {
+        self.relax_until_met(bounds).is_ok()
+    }
+
+    // Relaxes links until each is met.
+    fn relax_until_met(&mut self, bounds: &Listed<'_>) -> Result<(), NoSchedule>
+        requires { IsSearch bounds.now self.old.start (length self.old.far.items) self.old }
+        ensures search { IsSearch bounds.now self.old.start (length self.old.far.items) self.new }
+        ensures possible { IsOk result ↔ HasSchedule bounds.now }
+        ensures distances { OnOk result (AreDistances bounds.now self.old.start self.new.far.items) }
+    {
+        while self.relax_all(bounds)? {
+            self.correct(bounds)?;
         }
+        Ok(())
     }
-    Ok(lower)
-}
 
-// Relaxes the links from events with fresh estimates, back and forth through the events, until there
-// is none; where links that lowered estimates lead round, this would never end.
-fn correct<A: Allocator + Copy>(
-    bounds: &Listed<'_>,
-    outgoing: &[Vec<Link, A>],
-    start: Event,
-    far: &mut [i64],
-    by: &mut [Link],
-    fresh: &mut [bool],
-) -> Result<(), NoSchedule>
-    requires estimates { AreEstimates bounds.now start far.old }
-    requires outgoing { length outgoing.now ≡ length far.old }
-    requires by { length by.old ≡ length far.old }
-    requires fresh { length fresh.old ≡ length far.old }
-    requires few { length far.old ≤ most_events + 1 }
-    ensures refused { IsErr result → ¬ HasSchedule bounds.now }
-    ensures estimates { AreEstimates bounds.now start far.new }
-    ensures most { room far.new ≤ room far.old }
-{
-    let mut onward = true;
-    while let Some(link) = sweep(bounds, outgoing, start, far, by, fresh, onward)? {
-        if goes_round(bounds, by, bounds.arc(link).to) {
+    // Relaxes each link once, in their order; whether one lowered an estimate.
+    fn relax_all(&mut self, bounds: &Listed<'_>) -> Result<bool, NoSchedule>
+        requires { IsSearch bounds.now self.old.start (length self.old.far.items) self.old }
+        ensures search { IsSearch bounds.now self.old.start (length self.old.far.items) self.new }
+        ensures refused { IsErr result → ¬ HasSchedule bounds.now }
+        ensures less { IfOk result (λ lower. IsTrue lower → room self.new.far.items < room self.old.far.items) }
+        ensures relaxed { IfOk result (λ lower. lower ≡ false
+            → (link : Link) → link.place < length bounds.now → IsRelaxed bounds.now self.new.far.items link) }
+    {
+        let mut lower = false;
+        for index in 0..bounds.links() {
+            if self.relax(bounds, link_at(index))? {
+                lower = true;
+            }
+        }
+        Ok(lower)
+    }
+
+    // Relaxes the links from events with fresh estimates, back and forth through the events, until there is none; where
+    // links that lowered estimates lead round, this would never end.
+    fn correct(&mut self, bounds: &Listed<'_>) -> Result<(), NoSchedule>
+        requires { IsSearch bounds.now self.old.start (length self.old.far.items) self.old }
+        ensures search { IsSearch bounds.now self.old.start (length self.old.far.items) self.new }
+        ensures refused { IsErr result → ¬ HasSchedule bounds.now }
+        ensures most { room self.new.far.items ≤ room self.old.far.items }
+    {
+        let mut onward = true;
+        while let Some(event) = self.sweep(bounds, onward)? {
+            if self.goes_round(bounds, event) {
+                return Err(NoSchedule);
+            }
+            onward = !onward;
+        }
+        Ok(())
+    }
+
+    // Relaxes the links from each event with a fresh estimate, in the events' order or against it; the last event whose
+    // estimate was lowered.
+    fn sweep(&mut self, bounds: &Listed<'_>, onward: bool) -> Result<Option<Event>, NoSchedule>
+        requires { IsSearch bounds.now self.old.start (length self.old.far.items) self.old }
+        ensures search { IsSearch bounds.now self.old.start (length self.old.far.items) self.new }
+        ensures refused { IsErr result → ¬ HasSchedule bounds.now }
+        ensures there { IfOk result (λ last. IfSome last (λ event. event < length self.old.far.items)) }
+        ensures most { room self.new.far.items ≤ room self.old.far.items }
+        ensures less { IfOk result (λ last. IfSome last (λ event. room self.new.far.items < room self.old.far.items)) }
+    {
+        let outgoing = self.outgoing;
+        let mut last = None;
+        for index in 0..outgoing.len() {
+            let event = if onward {
+                index
+            } else {
+                outgoing.len() - 1 - index
+            };
+            if self.fresh[event] {
+                self.fresh[event] = false;
+                let found = self.relax_from(bounds, &outgoing[event])?;
+                last = found.or(last);
+            }
+        }
+        Ok(last)
+    }
+
+    // Relaxes these links, as far as they are links of the bounds; the last event whose estimate was lowered.
+    fn relax_from(
+        &mut self,
+        bounds: &Listed<'_>,
+        links: &[Link],
+    ) -> Result<Option<Event>, NoSchedule>
+        requires { IsSearch bounds.now self.old.start (length self.old.far.items) self.old }
+        ensures search { IsSearch bounds.now self.old.start (length self.old.far.items) self.new }
+        ensures refused { IsErr result → ¬ HasSchedule bounds.now }
+        ensures there { IfOk result (λ last. IfSome last (λ event. event < length self.old.far.items)) }
+        ensures most { room self.new.far.items ≤ room self.old.far.items }
+        ensures less { IfOk result (λ last. IfSome last (λ event. room self.new.far.items < room self.old.far.items)) }
+    {
+        let mut last = None;
+        for link in links {
+            if link.place >= bounds.len() {
+                break;
+            }
+            if self.relax(bounds, *link)? {
+                last = Some(bounds.arc(*link).to);
+            }
+        }
+        Ok(last)
+    }
+
+    // Lowers the estimate at the link's end to what the link allows, where that is less; whether it was.
+    fn relax(&mut self, bounds: &Listed<'_>, link: Link) -> Result<bool, NoSchedule>
+        requires search { IsSearch bounds.now self.old.start (length self.old.far.items) self.old }
+        requires there { link.place < length bounds.now }
+        ensures search { IsSearch bounds.now self.old.start (length self.old.far.items) self.new }
+        ensures refused { IsErr result → ¬ HasSchedule bounds.now }
+        ensures less { IfOk result (λ lower. IsTrue lower → room self.new.far.items < room self.old.far.items) }
+        ensures same { IfOk result (λ lower. lower ≡ false → self.new.far.items ≡ self.old.far.items) }
+        ensures relaxed { IfOk result (λ lower. lower ≡ false → IsRelaxed bounds.now self.old.far.items link) }
+        ensures err { IsErr result → self.new.far.items ≡ self.old.far.items }
+    {
+        let arc = bounds.arc(link);
+        let end = usize::from(arc.to.number());
+        let way = self.far[usize::from(arc.from.number())] + arc.weight;
+        if self.far[end] <= way {
+            return Ok(false);
+        }
+        if arc.to == self.start || way < -HORIZON {
             return Err(NoSchedule);
         }
-        onward = !onward;
+        self.far[end] = way;
+        self.by[end] = Some(link);
+        self.fresh[end] = true;
+        Ok(true)
     }
-    Ok(())
-}
 
-// Relaxes the links from each event with a fresh estimate, in the events' order or against it; the
-// last link that lowered an estimate.
-fn sweep<A: Allocator + Copy>(
-    bounds: &Listed<'_>,
-    outgoing: &[Vec<Link, A>],
-    start: Event,
-    far: &mut [i64],
-    by: &mut [Link],
-    fresh: &mut [bool],
-    onward: bool,
-) -> Result<Option<Link>, NoSchedule>
-    requires estimates { AreEstimates bounds.now start far.old }
-    requires outgoing { length outgoing.now ≡ length far.old }
-    requires by { length by.old ≡ length far.old }
-    requires fresh { length fresh.old ≡ length far.old }
-    ensures refused { IsErr result → ¬ HasSchedule bounds.now }
-    ensures estimates { AreEstimates bounds.now start far.new }
-    ensures there { IfOk result (λ last. IfSome last (λ link. link.place < length bounds.now)) }
-    ensures most { room far.new ≤ room far.old }
-    ensures less { IfOk result (λ last. IfSome last (λ link. room far.new < room far.old)) }
-{
-    let mut last = None;
-    for index in 0..fresh.len() {
-        let event = if onward {
-            index
-        } else {
-            fresh.len() - 1 - index
-        };
-        if fresh[event] {
-            fresh[event] = false;
-            let found = relax_from(bounds, &outgoing[event], start, far, by, fresh)?;
-            last = found.or(last);
+    // Whether the links that lowered the estimates last lead back from an event to a cycle with a negative sum: no
+    // schedule meets its bounds.
+    fn goes_round(&self, bounds: &Listed<'_>, from: Event) -> bool
+        requires tables { HasTables (length self.now.far.items) self.now }
+        requires named { All (NamesAmong (length self.now.far.items)) bounds.now }
+        requires from { from < length self.now.far.items }
+        ensures { IsTrue result → ¬ HasSchedule bounds.now }
+    {
+        let start = self.far_back(bounds, from);
+        let mut here = start;
+        let mut sum = 0;
+        for _ in 0..self.by.len() {
+            let Some(arc) = self.lowered_by(bounds, here) else {
+                return false;
+            };
+            sum += arc.weight;
+            here = arc.from;
+            if here == start {
+                return sum < 0;
+            }
         }
+        false
     }
-    Ok(last)
-}
 
-// Relaxes these links, as far as they are links of the bounds; the last that lowered an estimate.
-fn relax_from(
-    bounds: &Listed<'_>,
-    links: &[Link],
-    start: Event,
-    far: &mut [i64],
-    by: &mut [Link],
-    fresh: &mut [bool],
-) -> Result<Option<Link>, NoSchedule>
-    requires estimates { AreEstimates bounds.now start far.old }
-    requires by { length by.old ≡ length far.old }
-    requires fresh { length fresh.old ≡ length far.old }
-    ensures refused { IsErr result → ¬ HasSchedule bounds.now }
-    ensures estimates { AreEstimates bounds.now start far.new }
-    ensures there { IfOk result (λ last. IfSome last (λ link. link.place < length bounds.now)) }
-    ensures most { room far.new ≤ room far.old }
-    ensures less { IfOk result (λ last. IfSome last (λ link. room far.new < room far.old)) }
-{
-    let mut last = None;
-    for link in links {
+    // The event from which the last links lead, after so many of them as there are events.
+    fn far_back(&self, bounds: &Listed<'_>, from: Event) -> Event
+        requires tables { HasTables (length self.now.far.items) self.now }
+        requires named { All (NamesAmong (length self.now.far.items)) bounds.now }
+        requires from { from < length self.now.far.items }
+        ensures { result < length self.now.far.items }
+    {
+        let mut here = from;
+        for _ in 0..self.by.len() {
+            if let Some(arc) = self.lowered_by(bounds, here) {
+                here = arc.from;
+            }
+        }
+        here
+    }
+
+    // What the link says that lowered the event's estimate last, where it is a link of the bounds to the event.
+    fn lowered_by(&self, bounds: &Listed<'_>, event: Event) -> Option<Arc>
+        requires tables { HasTables (length self.now.far.items) self.now }
+        requires event { event < length self.now.far.items }
+        ensures arc { IfSome result (λ arc. IsArcTo bounds.now event arc.from arc.weight) }
+        ensures within { IfSome result (λ arc. IsWithinHorizon arc.weight) }
+    {
+        let link = self.by[usize::from(event.number())]?;
         if link.place >= bounds.len() {
-            break;
-        }
-        if relax(bounds, start, far, by, fresh, *link)? {
-            last = Some(*link);
-        }
-    }
-    Ok(last)
-}
-
-// Lowers the estimate at the link's end to what the link allows, where that is less; whether it was.
-fn relax(
-    bounds: &Listed<'_>,
-    start: Event,
-    far: &mut [i64],
-    by: &mut [Link],
-    fresh: &mut [bool],
-    link: Link,
-) -> Result<bool, NoSchedule>
-    requires there { link.place < length bounds.now }
-    requires estimates { AreEstimates bounds.now start far.old }
-    requires by { length by.old ≡ length far.old }
-    requires fresh { length fresh.old ≡ length far.old }
-    ensures refused { IsErr result → ¬ HasSchedule bounds.now }
-    ensures estimates { AreEstimates bounds.now start far.new }
-    ensures less { IfOk result (λ lower. IsTrue lower → room far.new < room far.old) }
-    ensures same { IfOk result (λ lower. lower ≡ false → far.new ≡ far.old) }
-    ensures relaxed { IfOk result (λ lower. lower ≡ false → IsRelaxed bounds.now far.old link) }
-    ensures err { IsErr result → far.new ≡ far.old }
-{
-    let arc = bounds.arc(link);
-    let end = usize::from(arc.to.number());
-    let way = far[usize::from(arc.from.number())] + arc.weight;
-    if far[end] <= way {
-        return Ok(false);
-    }
-    if arc.to == start || way < -HORIZON {
-        return Err(NoSchedule);
-    }
-    far[end] = way;
-    by[end] = link;
-    fresh[end] = true;
-    Ok(true)
-}
-
-// Whether the links that lowered the estimates last lead back from an event to a cycle with a negative
-// sum: no schedule meets its bounds.
-fn goes_round(bounds: &Listed<'_>, by: &[Link], from: Event) -> bool
-    requires named { All (NamesAmong (length by.now)) bounds.now }
-    requires few { length by.now ≤ most_events + 1 }
-    requires from { from < length by.now }
-    ensures { IsTrue result → ¬ HasSchedule bounds.now }
-{
-    let start = far_back(bounds, by, from);
-    let mut here = start;
-    let mut sum = 0;
-    for _ in 0..by.len() {
-        let link = by[usize::from(here.number())];
-        if link.place >= bounds.len() || bounds.arc(link).to != here {
-            return false;
+            return None;
         }
         let arc = bounds.arc(link);
-        sum += arc.weight;
-        here = arc.from;
-        if here == start {
-            return sum < 0;
-        }
+        (arc.to == event).then_some(arc)
     }
-    false
-}
-
-// The event from which the last links lead, after so many of them as there are events.
-fn far_back(bounds: &Listed<'_>, by: &[Link], from: Event) -> Event
-    requires named { All (NamesAmong (length by.now)) bounds.now }
-    requires from { from < length by.now }
-    ensures { result < length by.now }
-{
-    let mut here = from;
-    for _ in 0..by.len() {
-        let link = by[usize::from(here.number())];
-        if link.place < bounds.len() {
-            here = bounds.arc(link).from;
-        }
-    }
-    here
 }

@@ -4,7 +4,7 @@ ghost use Rattle.stn_net.specs.Event.{most_events};
 ghost use Rattle.stn_net.specs.Difference.{Difference, NamesEvents};
 ghost use Rattle.stn_net.specs.Schedule.{HasSchedule, times_of};
 ghost use Rattle.stn_net.specs.Horizon.{horizon_bounds};
-ghost use Rattle.stn_conflict.specs.Arcs.{weight_of, IsNegativeCycle};
+ghost use Rattle.stn_conflict.specs.Arcs.{arc, weight_of, IsNegativeCycle};
 ghost use Rattle.stn_conflict.specs.Culprit.{IsRefusedSide};
 ghost use Rattle.stn_conflict.specs.Distances.{AreDistances, HasTables};
 ghost use Rattle.stn_conflict.specs.Named.{IsNamedCycle};
@@ -12,7 +12,7 @@ ghost use Rattle.stn_conflict.specs.Search.{IsCycleOf};
 
 use crate::links::{Cycle, Link, Side};
 use crate::listed::Listed;
-use crate::relaxation::{Tables, distances, estimates, settle};
+use crate::relaxation::{Search, outgoing_links};
 use crate::way::way_back;
 use std::alloc::Allocator;
 use stn_net::{Bound, Event};
@@ -47,9 +47,10 @@ pub fn cycle<A: Allocator + Copy>(
         (λ cycle. length cycle.links.items ≤ events + 1)) }
 {
     let bounds = Listed::new(base, extra);
-    let mut tables = Tables::new(alloc, events, &bounds)?;
-    match first_refused(alloc, events, &bounds, &mut tables)? {
-        Some(place) => Ok(Some(named(alloc, events, &bounds, &mut tables, place)?)),
+    let outgoing = outgoing_links(alloc, events, &bounds)?;
+    let mut search = Search::new(alloc, &outgoing)?;
+    match first_refused(alloc, events, &bounds, &mut search)? {
+        Some(place) => Ok(Some(named(alloc, events, &bounds, &mut search, place)?)),
         None => Ok(None),
     }
 }
@@ -60,33 +61,31 @@ fn first_refused<A: Allocator + Copy>(
     alloc: A,
     events: u16,
     bounds: &Listed<'_>,
-    tables: &mut Tables<A>,
+    search: &mut Search<'_, A>,
 ) -> Result<Option<usize>, Memory>
-    requires few { events ≤ most_events }
     requires begins { take events bounds.now ≡ horizon_bounds events }
     requires named { All (NamesEvents events) bounds.now }
-    requires tables { HasTables (events + 1) tables.old }
+    requires tables { HasTables (events + 1) search.old }
     ensures none { IfOk result (λ found. IfNone found (HasSchedule bounds.now)) }
     ensures there { IfOk result (λ found. IfSome found (λ place. place < length bounds.now)) }
     ensures past { IfOk result (λ found. IfSome found (λ place. events ≤ place)) }
     ensures before { IfOk result (λ found. IfSome found (λ place. HasSchedule (take place bounds.now))) }
     ensures refused { IfOk result (λ found. IfSome found
         (λ place. ¬ HasSchedule (take (place + 1) bounds.now))) }
-    ensures tables { HasTables (events + 1) tables.new }
+    ensures tables { HasTables (events + 1) search.new }
 {
-    let origin = Event::origin();
-    let mut known = estimates(alloc, events, origin)?;
-    let mut far = estimates(alloc, events, origin)?;
-    if settle(bounds, tables, origin, &mut far) {
+    search.begin(Event::origin());
+    let mut known = Vec::from_slice(alloc, &search.far)?;
+    if search.settle(bounds) {
         return Ok(None);
     }
     let mut low = usize::from(events);
     let mut high = bounds.len();
     while high - low > 1 {
         let middle = low + (high - low) / 2;
-        far.copy_from_slice(&known);
-        if settle(&bounds.before(middle), tables, origin, &mut far) {
-            known.copy_from_slice(&far);
+        search.far.copy_from_slice(&known);
+        if search.settle(&bounds.before(middle)) {
+            known.copy_from_slice(&search.far);
             low = middle;
         } else {
             high = middle;
@@ -95,19 +94,30 @@ fn first_refused<A: Allocator + Copy>(
     Ok(Some(low))
 }
 
-// The side of a bound that other bounds refuse, by the distances from its end over these.
-fn refused_side(far: &[i64], bound: &Bound) -> Side
-    requires from { bound.now.from < length far.now }
-    requires within { (x : ℕ) → x < length far.now → IsWithinHorizon (times_of far.now x) }
-    ensures side { (bounds : List Difference) → AreDistances bounds bound.now.to far.now
-        → IsRefusedSide bounds bound.now result }
+// The side of a bound that other bounds refuse; the search then has the distances over these from the
+// event at which the side's link ends.
+fn refused_side<A: Allocator + Copy>(
+    events: u16,
+    bounds: &Listed<'_>,
+    search: &mut Search<'_, A>,
+    bound: &Bound,
+) -> Side
+    requires begins { take events bounds.now ≡ horizon_bounds events }
+    requires named { All (NamesEvents events) bounds.now }
+    requires tables { HasTables (events + 1) search.old }
+    requires possible { HasSchedule bounds.now }
+    requires bound { NamesEvents events bound.now }
+    ensures side { IsRefusedSide bounds.now bound.now result }
     ensures ordered { bound.now.lo ≤ℤ bound.now.hi }
+    ensures tables { HasTables (events + 1) search.new }
+    ensures distances { AreDistances bounds.now (arc bound.now result).to search.new.far.items }
 {
-    if far[usize::from(bound.from().number())] + bound.hi().get() < 0 {
-        Side::Upper
-    } else {
-        Side::Lower
+    search.distances(events, bounds, bound.to());
+    if search.far[usize::from(bound.from().number())] + bound.hi().get() < 0 {
+        return Side::Upper;
     }
+    search.distances(events, bounds, bound.from());
+    Side::Lower
 }
 
 // The named cycle, where the bound at the place is the first with which the bounds have no schedule.
@@ -115,13 +125,12 @@ fn named<A: Allocator + Copy>(
     alloc: A,
     events: u16,
     bounds: &Listed<'_>,
-    tables: &mut Tables<A>,
+    search: &mut Search<'_, A>,
     place: usize,
 ) -> Result<Cycle<A>, Memory>
-    requires few { events ≤ most_events }
     requires begins { take events bounds.now ≡ horizon_bounds events }
     requires named { All (NamesEvents events) bounds.now }
-    requires tables { HasTables (events + 1) tables.old }
+    requires tables { HasTables (events + 1) search.old }
     requires there { place < length bounds.now }
     requires past { events ≤ place }
     requires before { HasSchedule (take place bounds.now) }
@@ -130,18 +139,16 @@ fn named<A: Allocator + Copy>(
 {
     let before = bounds.before(place);
     let bound = bounds.bound(place);
-    let ahead = distances(alloc, events, &before, tables, bound.to())?;
     let link = Link {
         place,
-        side: refused_side(&ahead, &bound),
+        side: refused_side(events, &before, search, &bound),
     };
     let arc = bounds.arc(link);
-    let far = distances(alloc, events, &before, tables, arc.to)?;
-    let mut links = way_back(alloc, &before, &far, arc.to, arc.from)?;
+    let mut links = way_back(alloc, &before, &search.far, arc.to, arc.from)?;
     links.push(link)?;
     links.reverse();
     Ok(Cycle {
         links,
-        sum: arc.weight + far[usize::from(arc.from.number())],
+        sum: arc.weight + search.far[usize::from(arc.from.number())],
     })
 }

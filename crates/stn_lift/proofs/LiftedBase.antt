@@ -16,7 +16,7 @@ use Rattle.stn_pddl.specs.Domains.{domain_of}
 use Rattle.stn_plan.specs.Steps.{PlannedStep, plan_of}
 use Rattle.stn_lift.specs.Footprints.{Footprint}
 use Rattle.stn_lift.specs.Activities.{Activity, activities}
-use Rattle.stn_lift.specs.BaseBounds.{times_behind, event_times, do_interfere, duration_of, lifted_bounds, KeepsOrder}
+use Rattle.stn_lift.specs.BaseBounds.{times_behind, event_times, events_interfere, duration_of, lifted_bounds, KeepsOrder}
 use Rattle.stn_lift.specs.Timelines.{IsTimed, IsLifted, IsWhole, numbered_bounds}
 use Rattle.stn_lift.specs.PlanSource.{files, of_lift, base_of, source_with, activities_of, most_base_bounds, IsSoundSource, IsBase}
 use Rattle.stn_lift.proofs.SoundBounds.{bounds, first_horizons, all_named, planned_possible, order_keeps}
@@ -73,15 +73,15 @@ module _ (steps : List Activity) (timed : AllByRecursion IsTimed steps) (small :
         based = based;
         small = subst (λ (found : List Activity). length found ≤ most_steps) (sym is) small;
         horizon = subst (λ (found : List Activity). take (2 * length found) (lifted_bounds found) ≡ horizon_bounds (2 * length found)) (sym is)
-            (first_horizons (do_interfere steps) (planned steps) (duration_of steps) (length steps));
+            (first_horizons (events_interfere steps) (planned steps) (duration_of steps) (length steps));
         named = subst (λ (found : List Activity). All (NamesEvents (2 * length found)) (lifted_bounds found)) (sym is)
-            (all_named (do_interfere steps) (planned steps) (duration_of steps) (length steps));
+            (all_named (events_interfere steps) (planned steps) (duration_of steps) (length steps));
         few = subst (λ (found : List Activity). length (lifted_bounds found) ≤ most_base_bounds) (sym is)
-            (few_bounds (do_interfere steps) (planned steps) (duration_of steps) (length steps) small);
+            (few_bounds (events_interfere steps) (planned steps) (duration_of steps) (length steps) small);
         possible = subst (λ (found : List Activity). IsSchedule (lifted_bounds found) (planned found)) (sym is)
-            (planned_possible (do_interfere steps) (planned steps) (duration_of steps) (length steps) refl times_are_within lasting);
-        ordered = subst (λ (found : List Activity). KeepsOrder (2 * length found) (do_interfere found) (planned found) (lifted_bounds found)) (sym is)
-            (order_keeps (do_interfere steps) (planned steps) (duration_of steps) (length steps));
+            (planned_possible (events_interfere steps) (planned steps) (duration_of steps) (length steps) refl times_are_within lasting);
+        ordered = subst (λ (found : List Activity). KeepsOrder (2 * length found) (events_interfere found) (planned found) (lifted_bounds found)) (sym is)
+            (order_keeps (events_interfere steps) (planned steps) (duration_of steps) (length steps));
         texts = (short_domain, short_plan);
       }
 
@@ -90,9 +90,9 @@ module _ (steps : List Activity) (durations times : List ℤ) (footprints : List
   same_bounds : numbered_bounds durations times footprints ≡ lifted_bounds steps
   same_bounds =
       ap (λ f. bounds f (times_of times) (λ b. slice_index_or durations b (pos 0)) (length durations)) (λ i one other. made.interfering one other i)
-      ∙ ap (λ ts. bounds (do_interfere steps) (times_of ts) (λ b. slice_index_or durations b (pos 0)) (length durations)) made.timed
-      ∙ ap (λ ds. bounds (do_interfere steps) (times_of (event_times steps)) (λ b. slice_index_or ds b (pos 0)) (length ds)) made.lasting
-      ∙ ap (bounds (do_interfere steps) (times_of (event_times steps)) (duration_of steps)) (rw length-map refl)
+      ∙ ap (λ ts. bounds (events_interfere steps) (times_of ts) (λ b. slice_index_or durations b (pos 0)) (length durations)) made.timed
+      ∙ ap (λ ds. bounds (events_interfere steps) (times_of (event_times steps)) (λ b. slice_index_or ds b (pos 0)) (length ds)) made.lasting
+      ∙ ap (bounds (events_interfere steps) (times_of (event_times steps)) (duration_of steps)) (rw length-map refl)
 
   counted : length durations ≡ length steps
   counted = ap length made.lasting ∙ rw length-map refl

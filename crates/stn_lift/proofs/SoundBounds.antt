@@ -13,7 +13,7 @@ use Rattle.stn_net.specs.Difference.{Difference, NamesEvents}
 use Rattle.stn_net.specs.Horizon.{horizon_bound, horizon_bounds}
 use Rattle.stn_net.specs.Schedule.{Meets, IsSchedule}
 use Rattle.stn_net.proofs.Horizons.{length-horizon_bounds}
-use Rattle.stn_lift.specs.BaseBounds.{step_of, duration_bound, order_bound, pair_order, event_orders, orders, duration_bounds, Interfere, KeepsOrder}
+use Rattle.stn_lift.specs.BaseBounds.{step_of, duration_bound, order_bound, pair_order, event_orders, orders, duration_bounds, IsOrderedPair, KeepsOrder}
 
 -- by which events interfere, and when each is planned
 module _ (interferes : ℕ → ℕ → Bool) (planned duration : ℕ → ℤ) (steps : ℕ) where
@@ -141,7 +141,7 @@ module _ (interferes : ℕ → ℕ → Bool) (planned duration : ℕ → ℤ) (s
         by false e here rest = let before : one ≤ count = grind (arith, nat_tests) in rest before
 
     -- what holds of all bounds holds of the order of two events that interfere
-    pair_holds : Interfere (2 * steps) interferes one other → All P bounds → P (order_bound one other (int_cmp (planned one) (planned other)))
+    pair_holds : IsOrderedPair (2 * steps) interferes one other → All P bounds → P (order_bound one other (int_cmp (planned one) (planned other)))
     pair_holds pair all =
         let parts = each_parted P (horizon_bounds (2 * steps) ++ duration_bounds duration steps) (orders interferes planned (2 * steps) (2 * steps)) (recursion_from_All P bounds all) in
         let events = event_in_orders (2 * steps) (2 * steps) pair.first (omega (arith, pair.later, pair.last)) parts.1 in
@@ -166,7 +166,7 @@ module _ (interferes : ℕ → ℕ → Bool) (planned duration : ℕ → ℤ) (s
   -- in every schedule events that interfere keep the plan's order
   pub order_keeps : KeepsOrder (2 * steps) interferes planned bounds
   order_keeps =
-      let kept = λ (time : ℕ → ℤ) (one other : ℕ) (schedule : IsSchedule bounds time) (pair : Interfere (2 * steps) interferes one other).
+      let kept = λ (time : ℕ → ℤ) (one other : ℕ) (schedule : IsSchedule bounds time) (pair : IsOrderedPair (2 * steps) interferes one other).
       order_kept one other (int_cmp (planned one) (planned other)) time (int_ranks (planned one) (planned other)) (pair_holds (Meets time) one other pair schedule.met) in
       record {
         before = λ time one other schedule pair. (kept time one other schedule pair).0;

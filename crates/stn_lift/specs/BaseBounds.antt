@@ -80,8 +80,8 @@ abbrev pub footprint_of : List Activity → ℕ → Footprint GroundAtom
 footprint_of steps event = slice_index_or (event_footprints steps) event no_footprint
 
 -- the two events of these numbers interfere
-abbrev pub do_interfere : List Activity → ℕ → ℕ → Bool
-do_interfere steps one other = interfere is_same_atom (footprint_of steps one) (footprint_of steps other)
+abbrev pub events_interfere : List Activity → ℕ → ℕ → Bool
+events_interfere steps one other = interfere is_same_atom (footprint_of steps one) (footprint_of steps other)
 
 -- the bounds in their order: the horizon of each event, the duration of each step, and the order of each pair of events of
 -- different steps that interfere
@@ -89,10 +89,10 @@ abbrev pub lifted_bounds : List Activity → List Difference
 lifted_bounds steps =
     let events = 2 * length steps in
     (horizon_bounds events ++ duration_bounds (duration_of steps) (length steps))
-    ++ orders (do_interfere steps) (times_of (event_times steps)) events events
+    ++ orders (events_interfere steps) (times_of (event_times steps)) events events
 
 -- one and other are events of different steps that interfere, the first with the smaller number
-pub record Interfere (events : ℕ) (interferes : ℕ → ℕ → Bool) (one other : ℕ) : Type 0 where
+pub record IsOrderedPair (events : ℕ) (interferes : ℕ → ℕ → Bool) (one other : ℕ) : Type 0 where
   pub first : 0 < one
   pub later : one < other
   pub last : other ≤ events
@@ -101,9 +101,9 @@ pub record Interfere (events : ℕ) (interferes : ℕ → ℕ → Bool) (one oth
 
 -- in every schedule of the bounds two such events keep the order of their planned times, and stay together where these are equal
 pub record KeepsOrder (events : ℕ) (interferes : ℕ → ℕ → Bool) (planned : ℕ → ℤ) (bounds : List Difference) : Type 0 where
-  pub before : (time : ℕ → ℤ) (one other : ℕ) → IsSchedule bounds time → Interfere events interferes one other
+  pub before : (time : ℕ → ℤ) (one other : ℕ) → IsSchedule bounds time → IsOrderedPair events interferes one other
       → planned one <ℤ planned other → time one <ℤ time other
-  pub after : (time : ℕ → ℤ) (one other : ℕ) → IsSchedule bounds time → Interfere events interferes one other
+  pub after : (time : ℕ → ℤ) (one other : ℕ) → IsSchedule bounds time → IsOrderedPair events interferes one other
       → planned other <ℤ planned one → time other <ℤ time one
-  pub together : (time : ℕ → ℤ) (one other : ℕ) → IsSchedule bounds time → Interfere events interferes one other
+  pub together : (time : ℕ → ℤ) (one other : ℕ) → IsSchedule bounds time → IsOrderedPair events interferes one other
       → planned one ≡ planned other → time one ≡ time other

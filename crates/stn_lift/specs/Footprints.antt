@@ -64,8 +64,8 @@ touches same one other = share same one.needs other.adds || (share same one.need
 abbrev pub DoesTouch : {A : Type 0} → Footprint A → Footprint A → Type 0
 DoesTouch one other = IsInBoth one.needs other.adds ⊎ (IsInBoth one.needs other.deletes ⊎ IsInBoth one.adds other.deletes)
 
-abbrev pub DoInterfere : {A : Type 0} → Footprint A → Footprint A → Type 0
-DoInterfere one other = DoesTouch one other ⊎ DoesTouch other one
+abbrev pub EitherTouches : {A : Type 0} → Footprint A → Footprint A → Type 0
+EitherTouches one other = DoesTouch one other ⊎ DoesTouch other one
 
 -- two events interfere where either touches the other
 abbrev pub interfere : {A : Type 0} → (A → A → Bool) → Footprint A → Footprint A → Bool

@@ -18,7 +18,7 @@ use Rattle.stn_lift.specs.declared.fault.BaseFault.TheVariants.{Domain, Plan, Li
 use Rattle.stn_lift.specs.declared.source.Source.{Source}
 use Rattle.stn_lift.specs.declared.source.Source.TheVariants.{Bare, Files}
 use Rattle.stn_lift.specs.Activities.{Activity, activities}
-use Rattle.stn_lift.specs.BaseBounds.{lifted_bounds, event_times, do_interfere, KeepsOrder}
+use Rattle.stn_lift.specs.BaseBounds.{lifted_bounds, event_times, events_interfere, KeepsOrder}
 
 -- what a plan is made from, as a value: a number of steps alone, or the texts of a domain and of a plan
 pub data PlanSource : Type 0 where
@@ -69,9 +69,9 @@ planned_of (bare steps) event = pos 0
 planned_of (files domain plan) event = times_of (event_times (activities_of domain plan)) event
 
 -- two events of the plan interfere; those of a bare plan never do
-abbrev pub interferes_in : PlanSource → ℕ → ℕ → Bool
-interferes_in (bare steps) one other = false
-interferes_in (files domain plan) one other = do_interfere (activities_of domain plan) one other
+abbrev pub interfere_in_plan : PlanSource → ℕ → ℕ → Bool
+interfere_in_plan (bare steps) one other = false
+interfere_in_plan (files domain plan) one other = events_interfere (activities_of domain plan) one other
 
 abbrev pub source_with : {X : Type 0} → PlanSource → Result X BaseFault → Result PlanSource BaseFault
 source_with source (Ok x) = Ok source
@@ -112,7 +112,7 @@ pub record IsSoundSource (source : PlanSource) : Type 0 where
   pub named : All (NamesEvents (events_of source)) (base_bounds source)
   pub few : length (base_bounds source) ≤ most_base_bounds
   pub possible : IsSchedule (base_bounds source) (planned_of source)
-  pub ordered : KeepsOrder (events_of source) (interferes_in source) (planned_of source) (base_bounds source)
+  pub ordered : KeepsOrder (events_of source) (interfere_in_plan source) (planned_of source) (base_bounds source)
   pub texts : HasShortTexts source
 
 -- what a base keeps: its source has a base, and these are its steps, its bounds and the planned times of its events

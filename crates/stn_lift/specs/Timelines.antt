@@ -10,7 +10,7 @@ use Rattle.stn_net.specs.Schedule.{times_of}
 use Rattle.stn_lift.specs.Footprints.{Footprint, no_footprint, interfere}
 use Rattle.stn_lift.specs.Numbering.{Numbering, IsUnambiguous, IsNumbered}
 use Rattle.stn_lift.specs.Activities.{Activity}
-use Rattle.stn_lift.specs.BaseBounds.{event_times, event_footprints, do_interfere, duration_bounds, orders}
+use Rattle.stn_lift.specs.BaseBounds.{event_times, event_footprints, events_interfere, duration_bounds, orders}
 
 -- a step lies within the horizon
 pub record IsTimed (step : Activity) : Type 0 where
@@ -31,8 +31,8 @@ abbrev pub numbers_at : List (Footprint ℕ) → ℕ → Footprint ℕ
 numbers_at footprints event = slice_index_or footprints event no_footprint
 
 -- two events interfere, by their numbers
-abbrev pub numbers_interfere : List (Footprint ℕ) → ℕ → ℕ → Bool
-numbers_interfere footprints one other = interfere nat_eq (numbers_at footprints one) (numbers_at footprints other)
+abbrev pub interfere_by_number : List (Footprint ℕ) → ℕ → ℕ → Bool
+interfere_by_number footprints one other = interfere nat_eq (numbers_at footprints one) (numbers_at footprints other)
 
 -- the same once all steps are taken up: events interfere as their atoms do
 pub record IsLifted (steps : List Activity) (durations times : List ℤ) (footprints : List (Footprint ℕ)) : Type 0 where
@@ -40,7 +40,7 @@ pub record IsLifted (steps : List Activity) (durations times : List ℤ) (footpr
   pub timed : times ≡ event_times steps
   pub many_times : length times ≡ 2 * length durations + 1
   pub many_footprints : length footprints ≡ 2 * length durations + 1
-  pub interfering : (one other : ℕ) → numbers_interfere footprints one other ≡ do_interfere steps one other
+  pub interfering : (one other : ℕ) → interfere_by_number footprints one other ≡ events_interfere steps one other
   pub within : AllByRecursion IsTimed steps
 
 -- there are at most so many steps as a plan may have, and a time and a footprint for the origin and for each of their events
@@ -54,4 +54,4 @@ abbrev pub numbered_bounds : List ℤ → List ℤ → List (Footprint ℕ) → 
 numbered_bounds durations times footprints =
     let events = 2 * length durations in
     (horizon_bounds events ++ duration_bounds (λ before. slice_index_or durations before (pos 0)) (length durations))
-    ++ orders (numbers_interfere footprints) (times_of times) events events
+    ++ orders (interfere_by_number footprints) (times_of times) events events

@@ -1,11 +1,11 @@
 ghost use Rattle.std.specs.Prelude.{◌≡◌, ◌*◌, ◌<◌, ◌≤◌, ◌↔◌, Ok, IsTrue, IfOk, IfErr, IsErrOf};
 ghost use Rattle.stn_text.specs.Faults.{Gives};
-ghost use Rattle.stn_net.specs.Event.{most_steps};
+ghost use Rattle.stn_net.specs.Event.{most_events, most_steps};
 ghost use Rattle.stn_net.specs.Schedule.{IsSchedule};
 ghost use Rattle.stn_lift.specs.Activities.{activities, IsCause};
 ghost use Rattle.stn_lift.specs.Activities as lifting;
 ghost use Rattle.stn_lift.specs.BaseBounds.{KeepsOrder};
-ghost use Rattle.stn_lift.specs.PlanSource.{bare, files, plan_source, steps_of, events_of, base_bounds, planned_of, interferes_in, activities_of, base_of, source_with_lifted, is_memory, HasShortTexts, IsSoundSource};
+ghost use Rattle.stn_lift.specs.PlanSource.{bare, files, plan_source, steps_of, events_of, base_bounds, planned_of, interfere_in_plan, activities_of, base_of, source_with_lifted, is_memory, HasShortTexts, IsSoundSource};
 
 use crate::bounds::horizon_bounds;
 use crate::fault::{BaseFault, LiftFault};
@@ -62,7 +62,7 @@ pub fn lift<'a, A: Allocator + Copy>(
     ensures possible { IfOk result (λ base. IsSchedule (base_bounds base) (planned_of base)) }
 
     // In every schedule events that interfere keep the plan's order.
-    ensures ordered { IfOk result (λ base. KeepsOrder (events_of base) (interferes_in base) (planned_of base) (base_bounds base)) }
+    ensures ordered { IfOk result (λ base. KeepsOrder (events_of base) (interfere_in_plan base) (planned_of base) (base_bounds base)) }
     ensures sound { IfOk result IsSoundSource }
 {
     let timeline = Timeline::read(alloc, domain, plan.steps())?;
@@ -113,7 +113,7 @@ impl<A: Allocator + Copy> Base<A> {
         ensures possible { IfOk result (λ base. IsSchedule (base_bounds base) (planned_of base)) }
 
         // In every schedule events that interfere keep the plan's order.
-        ensures ordered { IfOk result (λ base. KeepsOrder (events_of base) (interferes_in base) (planned_of base) (base_bounds base)) }
+        ensures ordered { IfOk result (λ base. KeepsOrder (events_of base) (interfere_in_plan base) (planned_of base) (base_bounds base)) }
         ensures sound { IfOk result IsSoundSource }
     {
         match source {
@@ -152,7 +152,7 @@ impl<A: Allocator> Base<A> {
     /// How many events the plan has beside the origin.
     pub fn events(&self) -> u16
         ensures value { result ≡ events_of self.now }
-        ensures small { result ≤ 512 }
+        ensures small { result ≤ most_events }
     {
         2 * self.steps()
     }

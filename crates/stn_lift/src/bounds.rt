@@ -2,11 +2,11 @@
 
 ghost use Rattle.std.specs.Prelude.{◌≡◌, ◌≢◌, ◌+◌, ◌*◌, ◌<◌, ◌≤◌, ◌++◌, ◌&&◌, ◌==◌, not, nat_lt, length, map, pos, slice_index_or, IfOk, OnOk};
 ghost use Rattle.std.specs.Ordering.{int_cmp};
-ghost use Rattle.stn_net.specs.Event.{most_steps};
+ghost use Rattle.stn_net.specs.Event.{most_events, most_steps};
 ghost use Rattle.stn_net.specs.Horizon.{horizon_bounds};
 ghost use Rattle.stn_net.specs.Schedule.{times_of};
 ghost use Rattle.stn_lift.specs.BaseBounds.{step_of, duration_bound, before, together, order_bound, pair_order, event_orders, orders, duration_bounds};
-ghost use Rattle.stn_lift.specs.Timelines.{numbers_interfere, numbered_bounds, IsWhole};
+ghost use Rattle.stn_lift.specs.Timelines.{interfere_by_number, numbered_bounds, IsWhole};
 ghost use Rattle.stn_lift.specs.Views.{numbers_of};
 
 use crate::timeline::Timeline;
@@ -18,7 +18,7 @@ use stn_time::{HORIZON, Ms};
 /// The horizon bound of each event but the origin, in order of number.
 #[tactic(auto, unfolding(stn_net::specs::Horizon::horizon_bounds))]
 pub fn horizon_bounds<A: Allocator>(alloc: A, events: u16) -> Result<Vec<Bound, A>, AllocError>
-    requires { events ≤ 512 }
+    requires { events ≤ most_events }
     ensures { IfOk result (λ bounds. bounds.items ≡ horizon_bounds events) }
 {
     let mut bounds = Vec::with_capacity(alloc, usize::from(events))?;
@@ -41,8 +41,8 @@ fn duration_bound(before: u16, duration: Ms) -> Bound
 
 // By which the one event comes before the other.
 fn before(one: u16, other: u16) -> Bound
-    requires one { one ≤ 512 }
-    requires other { other ≤ 512 }
+    requires one { one ≤ most_events }
+    requires other { other ≤ most_events }
     requires apart { one ≢ other }
     ensures { result ≡ before one other }
 {
@@ -55,8 +55,8 @@ fn before(one: u16, other: u16) -> Bound
 
 // By which two events come at one time.
 fn together(one: u16, other: u16) -> Bound
-    requires one { one ≤ 512 }
-    requires other { other ≤ 512 }
+    requires one { one ≤ most_events }
+    requires other { other ≤ most_events }
     requires apart { one ≢ other }
     ensures { result ≡ together one other }
 {
@@ -68,8 +68,8 @@ fn together(one: u16, other: u16) -> Bound
 
 // By which two events that are planned at these times keep their order.
 fn order_bound(one: u16, other: u16, first: Ms, second: Ms) -> Bound
-    requires one { one ≤ 512 }
-    requires other { other ≤ 512 }
+    requires one { one ≤ most_events }
+    requires other { other ≤ most_events }
     requires apart { one ≢ other }
     ensures { result ≡ order_bound one other (int_cmp first second) }
 {
@@ -103,7 +103,7 @@ impl<A: Allocator + Copy> Timeline<A> {
         requires one { one ≤ 2 * length self.now.durations.items }
         requires other { other ≤ 2 * length self.now.durations.items }
         ensures { result ≡ (nat_lt one other
-            && (not (step_of one == step_of other) && numbers_interfere (map numbers_of self.now.footprints.items) one other)) }
+            && (not (step_of one == step_of other) && interfere_by_number (map numbers_of self.now.footprints.items) one other)) }
     {
         one < other
             && one.div_ceil(2) != other.div_ceil(2)
@@ -121,7 +121,7 @@ impl<A: Allocator + Copy> Timeline<A> {
         requires one { one ≤ 2 * length self.now.durations.items }
         requires other { other ≤ 2 * length self.now.durations.items }
         ensures { OnOk result (bounds.new.items ≡ bounds.old.items
-            ++ pair_order (numbers_interfere (map numbers_of self.now.footprints.items)) (times_of self.now.times.items) one other) }
+            ++ pair_order (interfere_by_number (map numbers_of self.now.footprints.items)) (times_of self.now.times.items) one other) }
     {
         if !self.are_ordered(one, other) {
             return Ok(());
@@ -138,7 +138,7 @@ impl<A: Allocator + Copy> Timeline<A> {
         requires whole { IsWhole self.now.durations.items self.now.times.items (map numbers_of self.now.footprints.items) }
         requires one { one ≤ 2 * length self.now.durations.items }
         ensures { OnOk result (bounds.new.items ≡ bounds.old.items
-            ++ event_orders (numbers_interfere (map numbers_of self.now.footprints.items)) (times_of self.now.times.items) one (2 * length self.now.durations.items)) }
+            ++ event_orders (interfere_by_number (map numbers_of self.now.footprints.items)) (times_of self.now.times.items) one (2 * length self.now.durations.items)) }
     {
         for before in 0..2 * self.durations.len() as u16 {
             self.append_pair_order(one, before + 1, bounds)?;
@@ -151,7 +151,7 @@ impl<A: Allocator + Copy> Timeline<A> {
     fn append_orders(&self, bounds: &mut Vec<Bound, A>) -> Result<(), AllocError>
         requires { IsWhole self.now.durations.items self.now.times.items (map numbers_of self.now.footprints.items) }
         ensures { OnOk result (bounds.new.items ≡ bounds.old.items
-            ++ orders (numbers_interfere (map numbers_of self.now.footprints.items)) (times_of self.now.times.items)
+            ++ orders (interfere_by_number (map numbers_of self.now.footprints.items)) (times_of self.now.times.items)
             (2 * length self.now.durations.items) (2 * length self.now.durations.items)) }
     {
         for before in 0..2 * self.durations.len() as u16 {

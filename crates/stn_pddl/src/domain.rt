@@ -227,8 +227,8 @@ fn read_actions<'a, A: Allocator + Copy>(
 }
 
 impl<'a, A: Allocator + Copy> Domain<'a, A> {
-    /// Reads a text. The first fault is the answer: 10 where the text is too long, else the first of its bytes, 11 or 12, else the
-    /// first of its forms, 11 or 13 to 16. `Memory` may come in place of any other answer.
+    /// Reads a text. The first fault is the answer: `TooLong`; else the first of its bytes, `Syntax` or `TooDeep`; else the first of
+    /// its forms, `Syntax`, `Unsupported`, `Number`, `Twice` or `Variable`. `Memory` may come in place of any other answer.
     pub fn read(alloc: A, text: &'a [u8]) -> Result<Domain<'a, A>, DomainFault>
         // The domain that the text means, or its first fault.
         ensures given { Gives is_memory (λ domain. domain.actions) result (domain_of text.now) }

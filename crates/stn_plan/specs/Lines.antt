@@ -1,16 +1,12 @@
--- The lines of a text.
+-- The lines of a text with their numbers.
 use Rattle.std.specs.Prelude.{ℕ, List}
-use Rattle.std.specs.List.{slice_split, enumerate_from}
-use Rattle.stn_text.specs.Lines.{is_line_end}
+use Rattle.std.specs.List.{enumerate_from}
+use Rattle.stn_text.specs.Lines as text
 
--- the parts of a text between its line feeds
-abbrev pub parts_of : List ℕ → List (List ℕ)
-parts_of text = slice_split is_line_end text
-
--- the parts, numbered from a number on
+-- numbered from a number on
 unfoldable pub lines_from : ℕ → List ℕ → List (ℕ × List ℕ)
-lines_from number text = enumerate_from number (parts_of text)
+lines_from number bytes = enumerate_from number (text.lines_of bytes)
 
--- the lines of a text with their numbers: line 1 is the first
+-- line 1 is the first
 abbrev pub lines_of : List ℕ → List (ℕ × List ℕ)
-lines_of text = lines_from 1 text
+lines_of bytes = lines_from 1 bytes

@@ -1,49 +1,27 @@
-//! The lines of a text.
+//! The lines of a text, with their numbers.
 
-ghost use Rattle.std.specs.Prelude.{◌≡◌, ◌-◌, ◌^◌, ◌<◌, ◌∷◌, [], length, MatchOption, IfSome};
-ghost use Rattle.std.specs.List.{position};
-ghost use Rattle.std.specs.Option.{option_map_or};
-ghost use Rattle.stn_plan.specs.Lines.{lines_of, parts_of};
-ghost use Rattle.stn_text.specs.Lines.{is_line_end};
+ghost use Rattle.std.specs.Prelude.{◌≡◌, ◌-◌, ◌^◌, ◌<◌, ◌∷◌, [], length, MatchOption};
+ghost use Rattle.stn_plan.specs.Lines.{lines_of};
 
 use std::marker::Model;
-use stn_text::LINE_FEED;
+use stn_text::first_line;
 
 /// The lines of a text that are still to come, with their numbers.
 #[derive(Drop)]
 pub struct Lines<'a> {
-    rest: Option<&'a [u8]>,
+    rest: &'a [u8],
     number: u32,
 }
 
 impl<'a> Model for Lines<'a> {
-    ghost use Rattle.std.specs.Prelude.{ℕ, List, [], ◌+◌, ◌^◌, ◌<◌, length};
-    ghost use Rattle.std.specs.Option.{option_map_or, ForSome};
+    ghost use Rattle.std.specs.Prelude.{ℕ, List, ◌+◌, ◌^◌, ◌<◌, length};
     ghost use Rattle.stn_plan.specs.Lines.{lines_from};
 
     ghost Value = { List (ℕ × List ℕ) };
 
-    ghost view = { λ l. option_map_or (λ text. lines_from l.number text.now) l.rest [] };
+    ghost view = { λ l. lines_from l.number l.rest.now };
 
-    ghost invariant = { λ l. ForSome l.rest (λ text. l.number + length text.now + 1 < 2 ^ 32) };
-}
-
-/// Where the first line feed stands.
-fn find_line_feed(text: &[u8]) -> Option<usize>
-    ensures { result ≡ position is_line_end text.now }
-{
-    text.iter().position(|byte| *byte == LINE_FEED)
-}
-
-/// The first line of a text, and the text behind its line feed.
-fn first_line(text: &[u8]) -> (&[u8], Option<&[u8]>)
-    ensures line { parts_of text.now ≡ result.0.now ∷ option_map_or (λ behind. parts_of behind.now) result.1 [] }
-    ensures shorter { IfSome result.1 (λ behind. length behind.now < length text.now) }
-{
-    match find_line_feed(text) {
-        Some(end) => (&text[..end], Some(&text[end + 1..])),
-        None => (text, None),
-    }
+    ghost invariant = { λ l. l.number + length l.rest.now + 1 < 2 ^ 32 };
 }
 
 impl<'a> Lines<'a> {
@@ -53,7 +31,7 @@ impl<'a> Lines<'a> {
         ensures { result ≡ lines_of text.now }
     {
         Lines {
-            rest: Some(text),
+            rest: text,
             number: 1,
         }
     }
@@ -62,7 +40,10 @@ impl<'a> Lines<'a> {
     pub fn next_line(&mut self) -> Option<(u32, &'a [u8])>
         ensures { MatchOption result (self.old ≡ []) (λ line. self.old ≡ (line.0, line.1.now) ∷ self.new) }
     {
-        let (line, behind) = first_line(self.rest?);
+        if self.rest.is_empty() {
+            return None;
+        }
+        let (line, behind) = first_line(self.rest);
         let number = self.number;
         self.rest = behind;
         self.number += 1;

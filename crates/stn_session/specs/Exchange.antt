@@ -7,7 +7,7 @@ use Rattle.stn_lift.specs.PlanSource.{PlanSource}
 use Rattle.stn_records.specs.Content.{Content, joined_contents}
 use Rattle.stn_replica.specs.Refusals.{take_refusal}
 use Rattle.stn_replica.specs.declared.faults.ReplicaFault.{ReplicaFault}
-use Rattle.stn_wire.specs.Frame.{FrameContent, hello, records, ask, text, refused, same, spelling, IsFrame}
+use Rattle.stn_wire.specs.Frame.{FrameContent, old_hello, old_records, hello, records, ask, text, refused, same, spelling, IsFrame}
 use Rattle.stn_wire.specs.Front.{IsFront, faulty, unfinished}
 use Rattle.stn_replica.specs.Held.{holding_state}
 use Rattle.stn_stream.specs.Stream.{wire_fault}
@@ -42,6 +42,8 @@ expecting state = at_stage greeting state
 
 -- why a frame that is not waited for is refused
 abbrev pub unexpected : FrameContent → ReplyFault
+unexpected (old_hello source) = Reply
+unexpected (old_records state) = Reply
 unexpected (hello source) = Reply
 unexpected (records state) = Reply
 unexpected ask = Reply

@@ -7,7 +7,7 @@ use Rattle.stn_replica.specs.declared.faults.ReplicaFault.{ReplicaFault}
 use Rattle.stn_replica.specs.declared.faults.ReplicaFault.TheVariants.{Bound, CounterSpent, Full, Unknown, Clash, Memory}
 use Rattle.stn_replica.specs.Held.{holding_state}
 use Rattle.stn_replica.specs.Refusals.{take_refusal}
-use Rattle.stn_wire.specs.Frame.{FrameContent, hello, records, ask, text, refused, same}
+use Rattle.stn_wire.specs.Frame.{FrameContent, old_hello, old_records, hello, records, ask, text, refused, same}
 
 -- two plans are made from the same, byte for byte
 abbrev pub same_source : PlanSource → PlanSource → Bool
@@ -59,6 +59,8 @@ taking state other (Some code) = replying (said (refused code)) state true
 
 -- the answer to a frame, in a plan, by the state and by whether a HELLO was accepted before
 abbrev pub answer : PlanSource → Content → Bool → FrameContent → Answer
+answer source state greeted (old_hello theirs) = ending 65 state greeted
+answer source state greeted (old_records other) = ending 65 state greeted
 answer source state greeted (hello theirs) = if same_source theirs source then replying (said same) state true else ending 60 state greeted
 answer source state true (records other) = taking state other (take_code source state other)
 answer source state false (records other) = ending 61 state false

@@ -39,6 +39,7 @@ pub(crate) fn reply_to<A: Allocator + Copy>(
         Frame::Hello(source) => greet(source, greeted, replica, out),
         Frame::Records(records) if greeted => take(records, replica, out),
         Frame::Ask if greeted => report(alloc, replica, out),
+        Frame::OldHello(_) | Frame::OldRecords(_) => end(65, greeted, out),
         _ => end(61, greeted, out),
     }
 }

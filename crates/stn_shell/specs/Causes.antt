@@ -89,6 +89,7 @@ abbrev pub of_wire : WireFault → Failure
 of_wire wire.Length = refused 50
 of_wire wire.Kind = refused 51
 of_wire wire.Body = refused 52
+of_wire wire.OldFrame = refused 53
 of_wire wire.Memory = Failed Memory
 
 abbrev pub of_load : LoadFault → Failure

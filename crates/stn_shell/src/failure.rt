@@ -284,6 +284,7 @@ impl From<WireFault> for Failure {
             WireFault::Length => Failure::refused(50),
             WireFault::Kind => Failure::refused(51),
             WireFault::Body => Failure::refused(52),
+            WireFault::OldFrame => Failure::refused(53),
             WireFault::Memory => Failure::Failed(Fault::Memory),
         }
     }

@@ -83,7 +83,8 @@ impl<A: Allocator + Copy> FrameReader<A> {
                 Err(WireFault::Length) => return Ok(Next::Faulty(FrameFault::Length)),
                 Err(WireFault::Kind) => return Ok(Next::Faulty(FrameFault::Kind)),
                 Err(WireFault::Body) => return Ok(Next::Faulty(FrameFault::Body)),
-                Err(WireFault::Memory) => return Err(StreamFault::Memory),
+                // The fault of an old frame is none of bytes.
+                Err(WireFault::Memory | WireFault::OldFrame) => return Err(StreamFault::Memory),
             }
             let more = self.fill(reader)?;
             if !more {

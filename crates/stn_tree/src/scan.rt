@@ -92,8 +92,8 @@ fn scan(text: &[u8]) -> Result<Place, TreeFault>
     }
 }
 
-/// The place before the one tree of a text, or the first fault of its bytes: 10 where it has more than 65,536 bytes, else 11 or 12 from
-/// left to right.
+/// The place before the one tree of a text, or the first fault of its bytes: `TooLong` if it has more than 65,536 bytes, else the first
+/// `Syntax` or `TooDeep` from left to right.
 #[tactic(auto, unfolding(crate::specs::Scan::tree_of))]
 pub fn start(text: &[u8]) -> Result<Cursor<'_>, TreeFault>
     ensures tree { MatchResult result (λ cursor. tree_of text.now ≡ Ok (row_at cursor)) (λ fault. tree_of text.now ≡ Err fault) }

@@ -4,3 +4,4 @@ pub mod Coming
 pub mod OneAnswer
 pub mod Rehearsals
 pub mod UnderWay
+pub mod ReadyTimes

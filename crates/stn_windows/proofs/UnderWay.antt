@@ -1,4 +1,4 @@
-use Rattle.std.proofs.Common.{◌≡◌, ◌≢◌, ℕ, ℤ, true, Bool, List, [], ◌∷◌, ◌++◌, refl, subst, append_assoc, append-nil}
+use Rattle.std.proofs.Common.{◌≢◌, ℕ, ℤ, true, Bool, List, [], ◌∷◌, ◌++◌, refl, subst, append_assoc, append-nil}
 use Rattle.std.specs.Prelude.{slice_set}
 use Rattle.stn_net.specs.Difference.{Difference}
 use Rattle.stn_net.specs.Schedule.{HasSchedule}

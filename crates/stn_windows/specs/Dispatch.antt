@@ -1,5 +1,5 @@
 -- Which event of a plan may run next, and when. A list of tests says which events are done, the origin's first.
-use Rattle.std.specs.Prelude.{◌≡◌, ℕ, ℤ, ◌<◌, ◌≤◌, ◌≤ℤ◌, Bool, true, false, List, slice_index_or}
+use Rattle.std.specs.Prelude.{◌≡◌, ℕ, ℤ, ◌<◌, ◌≤◌, ◌≤ℤ◌, ◌↔◌, Bool, true, false, List, Option, Some, None, slice_index_or}
 use Rattle.stn_net.specs.Difference.{Difference}
 use Rattle.stn_net.specs.Schedule.{IsSchedule}
 use Rattle.stn_windows.specs.Window.{IsInWindow}
@@ -18,6 +18,13 @@ LeavesNoneBefore done times time = (event : ℕ) → IsLeft done event → time 
 pub record IsReady (bounds : List Difference) (done : List Bool) (event : ℕ) (time : ℤ) : Type 0 where
   pub left : IsLeft done event
   pub possible : (times : ℕ → ℤ) × IsSchedule bounds times × (times event ≡ time) × LeavesNoneBefore done times time
+
+-- the times from now on at which the event may run are those from the first of the two to the last, both included; none, where there is
+-- no such time
+abbrev pub AreReadyTimes : List Difference → List Bool → ℤ → ℕ → Option (ℤ × ℤ) → Type 0
+AreReadyTimes bounds done now event None = (time : ℤ) → now ≤ℤ time → ¬ IsReady bounds done event time
+AreReadyTimes bounds done now event (Some ends) =
+    (ends.0 ≤ℤ ends.1) × ((time : ℤ) → (((now ≤ℤ time) × IsReady bounds done event time) ↔ ((ends.0 ≤ℤ time) × (time ≤ℤ ends.1))))
 
 -- the time is no later than the other, and where both are equal, the event's number is no greater than the other's
 abbrev pub ComesFirst : ℤ → ℕ → ℤ → ℕ → Type 0

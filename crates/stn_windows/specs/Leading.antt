@@ -21,6 +21,11 @@ pub record CanLead (far : ℕ → ℕ → ℤ) (done : List Bool) (now : ℤ) (e
   pub come : earliest far event ≤ℤ now
   pub leads : Leads far done event
 
+-- the time is the least of the latest times of the events that are left
+pub record IsLeastLatest (far : ℕ → ℕ → ℤ) (done : List Bool) (time : ℤ) : Type 0 where
+  pub at : (event : ℕ) × IsLeft done event × (far 0 event ≡ time)
+  pub least : NonePast far done time
+
 -- the event is the least of those that are left and whose latest time comes before now
 pub record IsFirstPast (far : ℕ → ℕ → ℤ) (done : List Bool) (now : ℤ) (event : ℕ) : Type 0 where
   pub left : IsLeft done event

@@ -2,8 +2,8 @@ ghost use Rattle.std.specs.Prelude.{◌≡◌, ◌≢◌, ◌+◌, ◌<◌, ◌�
 ghost use Rattle.stn_net.specs.Difference.{Difference};
 ghost use Rattle.stn_matrix.specs.Table.{far_of};
 ghost use Rattle.stn_matrix.specs.Tightest.{IsExact};
-ghost use Rattle.stn_windows.specs.Dispatch.{IsLeft, IsReady, IsNext, NamesLeft};
-ghost use Rattle.stn_windows.specs.Leading.{earliest, Leads, NonePast, CanLead, IsFirstPast, IsFirstRun, earlier_of};
+ghost use Rattle.stn_windows.specs.Dispatch.{IsLeft, IsReady, AreReadyTimes, IsNext, NamesLeft};
+ghost use Rattle.stn_windows.specs.Leading.{earliest, Leads, NonePast, CanLead, IsFirstPast, IsFirstRun, IsLeastLatest, earlier_of};
 
 use crate::answers::Next;
 use std::alloc::Allocator;
@@ -20,6 +20,50 @@ pub fn ready<A: Allocator>(matrix: &Matrix<A>, done: &[bool], event: Event, time
     ensures { (bounds : List Difference) → IsExact bounds matrix.now → (IsTrue result ↔ IsReady bounds done.now event time) }
 {
     first_past(matrix, done, time).is_none() && can_lead(matrix, done, event, time)
+}
+
+/// The first and the last time from now on at which an event may run, by the rule of `ready`: it may run at each whole
+/// millisecond between, too. None exactly where it may run at no time from now on.
+///
+/// It reads two rows of the matrix, as far as events are left.
+pub fn ready_times<A: Allocator>(
+    matrix: &Matrix<A>,
+    done: &[bool],
+    event: Event,
+    now: Ms,
+) -> Option<(Ms, Ms)>
+    requires one_each { length done.now ≡ matrix.now.events + 1 }
+    requires within { event ≤ matrix.now.events }
+    ensures { (bounds : List Difference) → IsExact bounds matrix.now → AreReadyTimes bounds done.now now event result }
+{
+    if !is_left(done, event) || !leads(matrix, done, event) {
+        return None;
+    }
+    let earliest = -matrix.far(event, Event::origin());
+    let first = earliest.max(now);
+    let last = least_latest(matrix, done, event);
+    if first <= last {
+        Some((first, last))
+    } else {
+        None
+    }
+}
+
+// The least of the latest times of the events that are left, of which the event is one.
+fn least_latest<A: Allocator>(matrix: &Matrix<A>, done: &[bool], event: Event) -> Ms
+    requires one_each { length done.now ≡ matrix.now.events + 1 }
+    requires within { event ≤ matrix.now.events }
+    requires left { IsLeft done.now event }
+    ensures { IsLeastLatest (far_of matrix.now) done.now result }
+{
+    let mut least = matrix.far(Event::origin(), event);
+    for number in 1..matrix.events() + 1 {
+        let other = Event::new(number).unwrap();
+        if is_left(done, other) {
+            least = least.min(matrix.far(Event::origin(), other));
+        }
+    }
+    least
 }
 
 /// What comes next from now on: of the events that may run at some time from now on the first, by

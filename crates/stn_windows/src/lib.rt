@@ -6,7 +6,7 @@
 #![tactic(auto)]
 
 pub use answers::{Next, RehearseFault};
-pub use dispatch::{next, ready};
+pub use dispatch::{next, ready, ready_times};
 pub use ends::window;
 pub use laws::{next_unique, rehearsal_unique};
 pub use rehearsal::rehearse;

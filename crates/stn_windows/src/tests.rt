@@ -1,4 +1,4 @@
-use crate::{RehearseFault, ready, rehearse};
+use crate::{RehearseFault, ready, ready_times, rehearse};
 use std::alloc::Allocator;
 use std::test::Fail;
 use stn_matrix::Matrix;
@@ -84,6 +84,37 @@ fn ready_in_the_cellar(rt: HostRuntime) -> Result<(), Fail> {
         return Err("another event".into());
     }
     assert!(rt; ready(&matrix, &left, start, time));
+    Ok(())
+}
+
+// The first and the last time from so many milliseconds on at which an event may run.
+fn times_from<A: Allocator>(
+    matrix: &Matrix<A>,
+    done: &[bool],
+    event: u16,
+    now: i64,
+) -> Result<Option<(i64, i64)>, Fail> {
+    let now = Ms::new(now).ok_or("beyond the horizon")?;
+    let event = Event::new(event).ok_or("no event")?;
+    if done.len() != usize::from(matrix.events()) + 1 || event.number() > matrix.events() {
+        return Err("not one test for each event".into());
+    }
+    Ok(ready_times(matrix, done, event, now).map(|(first, last)| (first.get(), last.get())))
+}
+
+// Mending starts in time for its end to come before the match goes out.
+#[test]
+fn ready_times_in_the_cellar(rt: HostRuntime) -> Result<(), Fail> {
+    let mut matrix = cellar(rt.alloc())?;
+    assert!(rt; tighten(&mut matrix, 0, 1, 0, 0)?);
+    let lit = [false, true, false, false, false];
+    assert_eq!(rt; times_from(&matrix, &lit, 3, 0)?, Some((1, 2_999)));
+    assert_eq!(rt; times_from(&matrix, &lit, 3, 2_000)?, Some((2_000, 2_999)));
+    assert_eq!(rt; times_from(&matrix, &lit, 3, 3_000)?, None);
+    assert_eq!(rt; times_from(&matrix, &lit, 2, 0)?, None);
+    assert_eq!(rt; times_from(&matrix, &lit, 1, 0)?, None);
+    let mended = [false, true, false, true, false];
+    assert_eq!(rt; times_from(&matrix, &mended, 4, 0)?, Some((5_001, 7_999)));
     Ok(())
 }
 

@@ -3,9 +3,11 @@ use Rattle.std.proofs.Common.{◌≡◌, ℕ, [], drop, get_or, refl, sym, ap, �
 use Rattle.std.specs.FinMap.{entries, same_entries_map}
 use Rattle.stn_lift.specs.PlanSource.{PlanSource, bare, files}
 use Rattle.stn_records.specs.Content.{Content}
-use Rattle.stn_wire.specs.Spelling.{entry_bytes, IsEntry, tomb_bytes, IsTomb, counted, measured}
-use Rattle.stn_wire.specs.Apart.{two_apart, entry_apart, tomb_apart}
-use Rattle.stn_wire.specs.Frame.{FrameContent, hello, records, ask, text, refused, same, source_bytes, IsSaidSource, state_bytes, IsState, IsSaid, kind_of, body_of}
+use Rattle.stn_wire.specs.Spelling.{entry_bytes, IsEntry, entry_width, tomb_bytes, IsTomb, counted, measured}
+use Rattle.stn_wire.specs.Apart.{two_apart, entry_apart, entry_sized, tomb_apart}
+use Rattle.stn_wire.specs.Frame.{FrameContent, old_hello, old_records, hello, records, ask, text, refused, same, source_bytes, IsSaidSource, state_bytes, IsState, IsSaid, kind_of, body_of}
+use Rattle.stn_wire.specs.declared.layout.Layout.{Layout}
+use Rattle.stn_wire.specs.declared.layout.Layout.TheVariants.{Old, New}
 use Rattle.stn_wire.proofs.Chunks.{counted_cut, measured_cut}
 
 pub source_apart : (a b : PlanSource) → IsSaidSource a → IsSaidSource b → source_bytes a ≡ source_bytes b → a ≡ b
@@ -17,9 +19,9 @@ source_apart (files a b) (files c d) p q e =
     let second = measured_cut b d [] [] p.1 q.1 (append-nil _ ∙ first.1 ∙ sym (append-nil _)) in
     λ i. files (first.0 i) (second.0 i)
 
-pub state_apart : (a b : Content) → IsState a → IsState b → state_bytes a ≡ state_bytes b → a ≡ b
-state_apart a b p q e =
-    let first = counted_cut IsEntry entry_bytes 17 (λ _. refl) entry_apart (entries a.additions) (entries b.additions) (counted tomb_bytes (entries a.tombstones)) (counted tomb_bytes (entries b.tombstones)) p.additions q.additions e in
+pub state_apart : (layout : Layout) (a b : Content) → IsState layout a → IsState layout b → state_bytes layout a ≡ state_bytes layout b → a ≡ b
+state_apart layout a b p q e =
+    let first = counted_cut (IsEntry layout) (entry_bytes layout) (entry_width layout) (entry_sized layout) (entry_apart layout) (entries a.additions) (entries b.additions) (counted tomb_bytes (entries a.tombstones)) (counted tomb_bytes (entries b.tombstones)) p.additions q.additions e in
     let second = counted_cut IsTomb tomb_bytes 4 (λ _. refl) tomb_apart (entries a.tombstones) (entries b.tombstones) [] [] p.tombstones q.tombstones (append-nil _ ∙ first.1 ∙ sym (append-nil _)) in
     let additions = same_entries_map a.additions b.additions first.0 in
     let tombstones = same_entries_map a.tombstones b.tombstones second.0 in
@@ -29,8 +31,10 @@ kinds_apart : (f g : FrameContent) → body_of f ≡ body_of g → kind_of f ≡
 kinds_apart f g e = ap (λ l. get_or l 0 0) e
 
 pub body_apart : (f g : FrameContent) → IsSaid f → IsSaid g → body_of f ≡ body_of g → f ≡ g
+body_apart (old_hello a) (old_hello b) p q e = ap (λ s. old_hello s) (source_apart a b p q (ap (drop 1) e))
+body_apart (old_records a) (old_records b) p q e = ap (λ s. old_records s) (state_apart Old a b p q (ap (drop 1) e))
 body_apart (hello a) (hello b) p q e = ap (λ s. hello s) (source_apart a b p q (ap (drop 1) e))
-body_apart (records a) (records b) p q e = ap (λ s. records s) (state_apart a b p q (ap (drop 1) e))
+body_apart (records a) (records b) p q e = ap (λ s. records s) (state_apart New a b p q (ap (drop 1) e))
 body_apart ask ask p q e = refl
 body_apart (text a) (text b) p q e = ap (λ l. text l) (ap (drop 1) e)
 body_apart (refused m) (refused n) p q e = ap (λ n. refused n) (ap (λ l. get_or l 1 0) e)

@@ -3,18 +3,7 @@ use Rattle.std.proofs.Common.{◌≡◌, ℕ, ◌*◌, ◌<◌, ◌≤◌, ◌^�
 use Rattle.std.proofs.lemmas.List.{take_at}
 use Rattle.std.specs.List.{flat_map, AllByRecursion}
 use Rattle.stn_wire.specs.Spelling.{measured, counted, AreCounted}
-use Rattle.stn_wire.specs.Apart.{two_apart, four_apart}
-
--- equal texts are cut alike behind fronts of one length
-pub cut : (a b x y : List ℕ) → length a ≡ length b → a ++ x ≡ b ++ y → (a ≡ b) × (x ≡ y)
-cut [] [] x y l e = (refl, e)
-cut [] (b ∷ bs) x y l e = absurd (omega arith)
-cut (a ∷ xs) [] x y l e = absurd (omega arith)
-cut (a ∷ xs) (b ∷ bs) x y l e =
-    let heads : a ≡ b = cc in
-    let tails : xs ++ x ≡ bs ++ y = cc in
-    let rest = cut xs bs x y (omega arith) tails in
-    (λ i. heads i ∷ rest.0 i, rest.1)
+use Rattle.stn_wire.specs.Apart.{two_apart, four_apart, cut}
 
 -- texts behind their lengths with the same bytes are the same
 pub measured_cut : (s t x y : List ℕ) → length s < 2 ^ 32 → length t < 2 ^ 32 → measured s ++ x ≡ measured t ++ y → (s ≡ t) × (x ≡ y)

@@ -4,10 +4,9 @@ use Rattle.std.proofs.lemmas.Bool.{cases_lt}
 use Rattle.std.proofs.lemmas.List.{take_at, take_rest, drop_all, append-nil}
 use Rattle.stn_wire.specs.Frame.{FrameContent}
 use Rattle.stn_wire.specs.Front.{whole, faulty, unfinished, announced, IsFront, answered}
-use Rattle.stn_wire.specs.Feeder.{IsFrameTaken}
-use Rattle.stn_wire.specs.Reading.{IsWanted, IsJudged}
+use Rattle.stn_wire.specs.Reading.{IsWanted, IsJudged, IsFrameTaken}
 use Rattle.stn_wire.specs.declared.fault.WireFault.{WireFault}
-use Rattle.stn_wire.specs.declared.fault.WireFault.TheVariants.{Length, Kind, Body, Memory}
+use Rattle.stn_wire.specs.declared.fault.WireFault.TheVariants.{Length, Kind, Body, OldFrame, Memory}
 use Rattle.stn_wire.proofs.Fronts.{shown, fault_more, whole_more, announced_more}
 
 -- unfinished bytes are fewer than their frame has
@@ -26,6 +25,7 @@ module _ (held piece : List ℕ) (before : IsFront held unfinished) (opening : �
   opening_err A Length left h = opening_fault Length h
   opening_err A Kind left h = opening_fault Kind h
   opening_err A Body left h = absurd h
+  opening_err A OldFrame left h = absurd h
   opening_err A Memory left h = absurd h
 
   opened_length : length opened ≡ length held + opening
@@ -57,6 +57,7 @@ module _ (held piece : List ℕ) (before : IsFront held unfinished) (opening : �
     filled_err A Length h = filled_fault Length h
     filled_err A Kind h = filled_fault Kind h
     filled_err A Body h = filled_fault Body h
+    filled_err A OldFrame h = absurd h
     filled_err A Memory h = filled_kept
 
     same_announced : 4 ≤ length opened → announced filled ≡ announced opened

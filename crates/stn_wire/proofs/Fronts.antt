@@ -4,10 +4,10 @@ use Rattle.std.proofs.lemmas.List.{take_at, drop_at, take-append-le, drop-append
 use Rattle.std.proofs.lemmas.Nat.{from_be_bytes-to_be_bytes_4, be_bytes_4}
 use Rattle.std.specs.List.{AllByRecursion}
 use Rattle.stn_wire.specs.Spelling.{four}
-use Rattle.stn_wire.specs.Frame.{FrameContent, hello, records, ask, text, refused, same, kind_of, body_of, spelling, IsFrame, IsSaid, most_body}
+use Rattle.stn_wire.specs.Frame.{FrameContent, old_hello, old_records, hello, records, ask, text, refused, same, kind_of, body_of, spelling, IsFrame, IsSaid, most_body}
 use Rattle.stn_wire.specs.Front.{Front, whole, faulty, unfinished, announced, IsLength, IsKind, IsFront, BeginsFrame}
 use Rattle.stn_wire.specs.declared.fault.WireFault.{WireFault}
-use Rattle.stn_wire.specs.declared.fault.WireFault.TheVariants.{Length, Kind, Body, Memory}
+use Rattle.stn_wire.specs.declared.fault.WireFault.TheVariants.{Length, Kind, Body, OldFrame, Memory}
 use Rattle.std.proofs.lemmas.Bool.{cases_lt}
 use Rattle.stn_wire.specs.Reading.{IsWanted}
 use Rattle.stn_wire.proofs.Bodies.{body_apart}
@@ -24,6 +24,8 @@ announced_front xs ys e = first xs ∙ ap announced e ∙ sym (first ys)
     first (a ∷ b ∷ c ∷ d ∷ zs) = refl
 
 kinds_known : (frame : FrameContent) → IsKind (kind_of frame)
+kinds_known (old_hello source) = (omega arith, omega arith)
+kinds_known (old_records state) = (omega arith, omega arith)
 kinds_known (hello source) = (omega arith, omega arith)
 kinds_known (records state) = (omega arith, omega arith)
 kinds_known ask = (omega arith, omega arith)
@@ -96,6 +98,8 @@ one_front_lem bytes unfinished (faulty Length) p q = absurd (q.1 (unfinished_bod
 one_front_lem bytes unfinished (faulty Kind) p q = absurd (q.2 (unfinished_known bytes p q.0))
 one_front_lem bytes unfinished (faulty Body) p q = absurd (unfinished_short bytes p q.1 q.0)
 one_front_lem bytes unfinished unfinished p q = refl
+one_front_lem bytes (faulty OldFrame) b p q = absurd p
+one_front_lem bytes a (faulty OldFrame) p q = absurd q
 one_front_lem bytes (faulty Memory) b p q = absurd p
 one_front_lem bytes a (faulty Memory) p q = absurd q
 
@@ -170,7 +174,7 @@ of_length bytes small none four lasting =
     ⊎_elim (λ less. inl (inr (lasting, inl (omega (arith, four, less)))))
     (λ five.
     ⊎_elim (λ low. inr (Kind, (five, lasting, λ known. omega (arith, low, known.0))))
-    (λ low. ⊎_elim (λ high. inr (Kind, (five, lasting, λ known. omega (arith, high, known.1)))) (λ high. of_kind bytes small none five lasting (low, high)) (cases_lt 6 (get_or bytes 4 0)))
+    (λ low. ⊎_elim (λ high. inr (Kind, (five, lasting, λ known. omega (arith, high, known.1)))) (λ high. of_kind bytes small none five lasting (low, high)) (cases_lt 8 (get_or bytes 4 0)))
     (cases_lt (get_or bytes 4 0) 1))
     (cases_lt (length bytes) 5)
 
@@ -209,4 +213,5 @@ fault_more xs ys Body h =
       subst IsKind (sym (kind_more xs ys (omega (arith, h.0, h.1.0)))) h.2,
       λ frame said is. h.3 frame said (sym body ∙ is),
     )
+fault_more xs ys OldFrame h = absurd h
 fault_more xs ys Memory h = absurd h

@@ -1,4 +1,5 @@
 pub mod Parts
+pub mod Sides
 pub mod Chunks
 pub mod Bodies
 pub mod Fronts

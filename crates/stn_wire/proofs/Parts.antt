@@ -1,15 +1,16 @@
 -- Fields that are read and written one behind the other.
 use Rattle.std.proofs.Common.{◌≡◌, ℕ, ℤ, ◌+◌, ◌≤◌, List, ◌++◌, length, take, drop, Option, Some, None, Result, Ok, Err, OnOk, IfOk, IfErr, sym, ap, subst, ◌∙◌, ⊎_elim, append_assoc, arith, length-drop, take-append-drop}
-use Rattle.std.proofs.lemmas.List.{take_all, drop-drop}
+use Rattle.std.proofs.lemmas.List.{take_all}
 use Rattle.std.proofs.lemmas.Int.{ints}
 use Rattle.std.specs.Result.{result_ok}
-use Rattle.stn_time.specs.Time.{IsWithinHorizon}
 use Rattle.stn_net.specs.Event.{most_events}
 use Rattle.stn_net.specs.Difference.{Difference, IsBoundWithin, IsFaultOf}
 use Rattle.stn_net.specs.declared.bound.BoundFault.{BoundFault}
 use Rattle.stn_net.specs.declared.bound.BoundFault.TheVariants.{NoEvent, SameEvent, Crossed}
-use Rattle.stn_wire.specs.Spelling.{two, side_bytes, bound_bytes, IsBound}
-use Rattle.stn_wire.specs.Apart.{two_apart, side_apart}
+use Rattle.stn_records.specs.declared.record.Mark.{Mark}
+use Rattle.stn_wire.specs.declared.layout.Layout.{Layout}
+use Rattle.stn_wire.specs.Spelling.{two, side_bytes, IsLow, IsHigh, bound_bytes, IsBound}
+use Rattle.stn_wire.specs.Apart.{IsSpelledBound, spelled_bound, fields_apart}
 use Rattle.stn_wire.specs.Reading.{IsReading}
 
 -- what is appended behind a first part
@@ -23,36 +24,35 @@ in_two n m bytes long =
     let last : take m (drop n bytes) ≡ drop n bytes = take_all m (drop n bytes) (omega (arith, length-drop n bytes)) in
     sym (take-append-drop n bytes) ∙ ap (λ l. take n bytes ++ l) (sym last)
 
+-- a text that is split
+pub split : (n : ℕ) (bytes front back : List ℕ) → front ≡ take n bytes → back ≡ drop n bytes → bytes ≡ front ++ back
+split n bytes front back p q = sym (take-append-drop n bytes) ∙ (λ i. sym p i ++ sym q i)
+
 no_fault : (events : ℕ) (bound : Difference) (fault : BoundFault) → IsBoundWithin events bound → ¬ IsFaultOf events bound fault
 no_fault events bound NoEvent sound h = ⊎_elim (λ from. omega (arith, sound.named.from, from)) (λ to. omega (arith, sound.named.to, to)) h
 no_fault events bound SameEvent sound h = sound.differs h.1
 no_fault events bound Crossed sound h = omega (arith, ints, sound.ordered, h.2)
 
--- four fields, one behind the other
-in_four : (bytes : List ℕ) → length bytes ≡ 12 → bytes ≡ take 2 bytes ++ (take 2 (drop 2 bytes) ++ (take 4 (drop 4 bytes) ++ take 4 (drop 8 bytes)))
-in_four bytes long =
-    let last : take 4 (drop 8 bytes) ≡ drop 8 bytes = take_all 4 (drop 8 bytes) (omega (arith, length-drop 8 bytes)) in
-    let third : drop 4 bytes ≡ take 4 (drop 4 bytes) ++ take 4 (drop 8 bytes) = sym (take-append-drop 4 (drop 4 bytes)) ∙ ap (λ l. take 4 (drop 4 bytes) ++ l) (drop-drop 4 4 bytes ∙ sym last) in
-    let second : drop 2 bytes ≡ take 2 (drop 2 bytes) ++ (take 4 (drop 4 bytes) ++ take 4 (drop 8 bytes)) = sym (take-append-drop 2 (drop 2 bytes)) ∙ ap (λ l. take 2 (drop 2 bytes) ++ l) (drop-drop 2 2 bytes ∙ third) in
-    sym (take-append-drop 2 bytes) ∙ ap (λ l. take 2 bytes ++ l) second
-
-module _ (bytes : List ℕ) (long : length bytes ≡ 12) (from to : ℕ) (lo hi : ℤ) (from_known : from ≤ most_events) (to_known : to ≤ most_events) (lo_known : IsWithinHorizon lo) (hi_known : IsWithinHorizon hi)
-    (from_is : take 2 bytes ≡ two from) (to_is : take 2 (drop 2 bytes) ≡ two to) (lo_is : take 4 (drop 4 bytes) ≡ side_bytes lo) (hi_is : take 4 (drop 8 bytes) ≡ side_bytes hi) where
+module _ (layout : Layout) (mark : Mark) (bytes first second third fourth : List ℕ) (cut : bytes ≡ first ++ (second ++ (third ++ fourth)))
+    (from to : ℕ) (lo hi : ℤ) (from_known : from ≤ most_events) (to_known : to ≤ most_events) (lo_known : IsLow layout mark lo) (hi_known : IsHigh layout mark hi)
+    (from_is : first ≡ two from) (to_is : second ≡ two to) (lo_is : third ≡ side_bytes layout lo) (hi_is : fourth ≡ side_bytes layout hi) where
   abbrev pub made : Difference
   made = record { from = from; to = to; lo = lo; hi = hi }
 
+  spelled : bytes ≡ bound_bytes layout made
+  spelled = cut ∙ (λ i. from_is i ++ (to_is i ++ (lo_is i ++ hi_is i)))
+
   -- a bound is read from its four fields
-  pub bound_read : (r : Result Difference BoundFault) (o : Option Difference) → IfOk r (λ bound. bound ≡ made) → IfOk r (λ bound. IsBoundWithin most_events bound) → IfErr r (λ fault. IsFaultOf most_events made fault) → o ≡ result_ok r → IsReading IsBound bound_bytes bytes o
+  pub bound_read : (r : Result Difference BoundFault) (o : Option Difference) → IfOk r (λ bound. bound ≡ made) → IfOk r (λ bound. IsBoundWithin most_events bound) → IfErr r (λ fault. IsFaultOf most_events made fault) → o ≡ result_ok r
+      → IsReading (IsBound layout mark) (bound_bytes layout) bytes o
   bound_read (Ok bound) None is sound fault e = absurd cc
   bound_read (Ok bound) (Some read) is sound fault e =
       let same : read ≡ made = cc in
-      let known : IsBound made = record { sound = subst (IsBoundWithin most_events) is sound; lo = lo_known; hi = hi_known } in
-      (subst IsBound (sym same) known, in_four bytes long ∙ (λ i. from_is i ++ (to_is i ++ (lo_is i ++ hi_is i))) ∙ ap bound_bytes (sym same))
+      let known : IsBound layout mark made = record { sound = subst (IsBoundWithin most_events) is sound; lo = lo_known; hi = hi_known } in
+      (subst (IsBound layout mark) (sym same) known, spelled ∙ ap (bound_bytes layout) (sym same))
   bound_read (Err cause) (Some read) is sound fault e = absurd cc
-  bound_read (Err cause) None is sound fault e = λ bound known spelled.
-      let same_from = two_apart from bound.from (omega arith) (omega (arith, known.sound.named.from)) (sym from_is ∙ ap (take 2) spelled) in
-      let same_to = two_apart to bound.to (omega arith) (omega (arith, known.sound.named.to)) (sym to_is ∙ ap (λ l. take 2 (drop 2 l)) spelled) in
-      let same_lo = side_apart lo bound.lo lo_known known.lo (sym lo_is ∙ ap (λ l. take 4 (drop 4 l)) spelled) in
-      let same_hi = side_apart hi bound.hi hi_known known.hi (sym hi_is ∙ ap (λ l. take 4 (drop 8 l)) spelled) in
-      let same : bound ≡ made = λ i. record { from = sym same_from i; to = sym same_to i; lo = sym same_lo i; hi = sym same_hi i } in
+  bound_read (Err cause) None is sound fault e = λ bound known is.
+      let ours : IsSpelledBound layout mark made = record { from = omega (arith, from_known); to = omega (arith, to_known); lo = lo_known; hi = hi_known } in
+      let fields = fields_apart layout mark bound made (spelled_bound layout mark bound known) ours (sym is ∙ spelled) in
+      let same : bound ≡ made = λ i. record { from = fields.from i; to = fields.to i; lo = fields.lo i; hi = fields.hi i } in
       no_fault most_events made cause (subst (IsBoundWithin most_events) same known.sound) fault

@@ -1,9 +1,9 @@
 -- A stream of frames that comes in pieces.
-use Rattle.std.specs.Prelude.{◌≡◌, ◌≢◌, ℕ, ◌+◌, ◌≤◌, List, [], ◌++◌, take, length, Option, Some, None, Result, Ok, Err}
+use Rattle.std.specs.Prelude.{◌≡◌, ◌≢◌, ℕ, ◌+◌, ◌≤◌, List, [], ◌++◌, length, Option, Some, None, Result, Ok, Err}
 use Rattle.stn_wire.specs.Frame.{content}
 use Rattle.stn_wire.specs.Front.{whole, faulty, unfinished, announced, IsFront}
 use Rattle.stn_wire.specs.declared.fault.WireFault.{WireFault}
-use Rattle.stn_wire.specs.declared.fault.WireFault.TheVariants.{Length, Kind, Body, Memory}
+use Rattle.stn_wire.specs.declared.fault.WireFault.TheVariants.{Length, Kind, Body, OldFrame, Memory}
 use Rattle.stn_wire.specs.declared.feeder.Fed.{Fed}
 use Rattle.stn_wire.specs.declared.frame.Frame.{Frame}
 
@@ -31,20 +31,13 @@ IsFed held piece (Err Memory) new = new ≡ holding held
 IsFed held piece (Err Length) new = IsFront (held ++ piece) (faulty Length) × (new ≡ broken_by Length)
 IsFed held piece (Err Kind) new = IsFront (held ++ piece) (faulty Kind) × (new ≡ broken_by Kind)
 IsFed held piece (Err Body) new = IsFront (held ++ piece) (faulty Body) × (new ≡ broken_by Body)
+IsFed held piece (Err OldFrame) new = ⊥
 
 -- what is held is unfinished, and nothing is behind a fault
 abbrev pub IsFeeder : List ℕ → Option WireFault → Type 0
 IsFeeder held None = IsFront held unfinished
-IsFeeder held (Some fault) = (held ≡ []) × (fault ≢ Memory)
+IsFeeder held (Some fault) = (held ≡ []) × (fault ≢ Memory) × (fault ≢ OldFrame)
 
 -- once the length and the kind of an unfinished frame are held: how many bytes it lacks
 abbrev pub IsMissing : List ℕ → ℕ → Type 0
 IsMissing held missing = 5 ≤ length held → length held + missing ≡ 4 + announced held
-
--- what taking bytes of a piece answers, and what is held then; for want of memory more may be held behind the bytes of before
-abbrev pub IsFrameTaken : {A : Type 0} → List ℕ → List ℕ → Result (Fed A) WireFault → List ℕ → Type 0
-IsFrameTaken held piece (Ok fed) left = IsTaken held piece fed.used fed.frame (holding left)
-IsFrameTaken held piece (Err Memory) left = take (length held) left ≡ held
-IsFrameTaken held piece (Err Length) left = IsFront (held ++ piece) (faulty Length)
-IsFrameTaken held piece (Err Kind) left = IsFront (held ++ piece) (faulty Kind)
-IsFrameTaken held piece (Err Body) left = IsFront (held ++ piece) (faulty Body)

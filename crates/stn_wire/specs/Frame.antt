@@ -1,11 +1,13 @@
 -- What a frame says, and its one spelling: a table by kinds.
-use Rattle.std.specs.Prelude.{ℕ, ◌<◌, ◌≤◌, ◌^◌, List, [], ◌∷◌, ◌++◌, length}
+use Rattle.std.specs.Prelude.{ℕ, ◌<◌, ◌≤◌, ◌^◌, List, [], ◌∷◌, ◌++◌, length, ⊤}
 use Rattle.std.specs.FinMap.{entries}
 use Rattle.stn_lift.specs.PlanSource.{PlanSource, bare, files, plan_source}
 use Rattle.stn_records.specs.Content.{Content, IsSound}
 use Rattle.stn_wire.specs.Spelling.{two, measured, counted, AreCounted, entry_bytes, IsEntry, tomb_bytes, IsTomb}
+use Rattle.stn_wire.specs.declared.layout.Layout.{Layout}
+use Rattle.stn_wire.specs.declared.layout.Layout.TheVariants.{Old, New}
 use Rattle.stn_wire.specs.declared.frame.Frame.{Frame}
-use Rattle.stn_wire.specs.declared.frame.Frame.TheVariants.{Hello, Records, Ask, Text, Refused, Same}
+use Rattle.stn_wire.specs.declared.frame.Frame.TheVariants.{OldHello, OldRecords, Hello, Records, Ask, Text, Refused, Same}
 use Rattle.stn_wire.specs.declared.frame.Said.{Said}
 use Rattle.stn_wire.specs.declared.frame.Said.TheVariants as said
 
@@ -13,8 +15,10 @@ use Rattle.stn_wire.specs.declared.frame.Said.TheVariants as said
 abbrev pub most_body : ℕ
 most_body = 262144
 
--- what a frame says
+-- what a frame says; the first two kinds are those of the first version
 pub data FrameContent : Type 0 where
+  old_hello : PlanSource → FrameContent
+  old_records : Content → FrameContent
   hello : PlanSource → FrameContent
   records : Content → FrameContent
   ask : FrameContent
@@ -24,6 +28,8 @@ pub data FrameContent : Type 0 where
 
 -- what a frame of the program says
 abbrev pub content : {A : Type 0} → Frame A → FrameContent
+content (OldHello source) = old_hello (plan_source source)
+content (OldRecords state) = old_records state
 content (Hello source) = hello (plan_source source)
 content (Records state) = records state
 content Ask = ask
@@ -49,40 +55,46 @@ IsSaidSource (bare steps) = steps < 2 ^ 16
 IsSaidSource (files domain plan) = (length domain < 2 ^ 32) × (length plan < 2 ^ 32)
 
 -- a state: its additions and its withdrawals, each in order of id
-abbrev pub state_bytes : Content → List ℕ
-state_bytes state = counted entry_bytes (entries state.additions) ++ counted tomb_bytes (entries state.tombstones)
+abbrev pub state_bytes : Layout → Content → List ℕ
+state_bytes layout state = counted (entry_bytes layout) (entries state.additions) ++ counted tomb_bytes (entries state.tombstones)
 
-pub record IsState (state : Content) : Type 0 where
+pub record IsState (layout : Layout) (state : Content) : Type 0 where
   pub sound : IsSound state
-  pub additions : AreCounted IsEntry (entries state.additions)
+  pub additions : AreCounted (IsEntry layout) (entries state.additions)
   pub tombstones : AreCounted IsTomb (entries state.tombstones)
 
 -- the kind of a frame, the first byte of its body
 abbrev pub kind_of : FrameContent → ℕ
-kind_of (hello source) = 1
-kind_of (records state) = 2
+kind_of (old_hello source) = 1
+kind_of (old_records state) = 2
 kind_of ask = 3
 kind_of (text bytes) = 4
 kind_of (refused code) = 5
 kind_of same = 6
+kind_of (hello source) = 7
+kind_of (records state) = 8
 
 -- what stands behind the kind
 abbrev pub rest_of : FrameContent → List ℕ
-rest_of (hello source) = source_bytes source
-rest_of (records state) = state_bytes state
+rest_of (old_hello source) = source_bytes source
+rest_of (old_records state) = state_bytes Old state
 rest_of ask = []
 rest_of (text bytes) = bytes
 rest_of (refused code) = code ∷ []
 rest_of same = []
+rest_of (hello source) = source_bytes source
+rest_of (records state) = state_bytes New state
 
 -- what has a spelling
 abbrev pub IsSaid : FrameContent → Type 0
-IsSaid (hello source) = IsSaidSource source
-IsSaid (records state) = IsState state
+IsSaid (old_hello source) = IsSaidSource source
+IsSaid (old_records state) = IsState Old state
 IsSaid ask = Unit {0}
 IsSaid (text bytes) = Unit {0}
 IsSaid (refused code) = code < 256
 IsSaid same = Unit {0}
+IsSaid (hello source) = IsSaidSource source
+IsSaid (records state) = IsState New state
 
 abbrev pub body_of : FrameContent → List ℕ
 body_of frame = kind_of frame ∷ rest_of frame
@@ -90,6 +102,12 @@ body_of frame = kind_of frame ∷ rest_of frame
 -- how long the body is, in four bytes, and the body
 abbrev pub spelling : FrameContent → List ℕ
 spelling frame = measured (body_of frame)
+
+-- a frame of the first version, which no site sends any more
+abbrev pub IsOld : FrameContent → Type 0
+IsOld (old_hello source) = ⊤
+IsOld (old_records state) = ⊤
+IsOld frame = ⊥
 
 -- a frame: it has a spelling, and its body is not too long
 pub record IsFrame (frame : FrameContent) : Type 0 where

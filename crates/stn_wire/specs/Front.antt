@@ -3,7 +3,7 @@ use Rattle.std.specs.Prelude.{◌≡◌, ◌≢◌, ℕ, ◌+◌, ◌<◌, ◌�
 use Rattle.std.specs.Int.{w32, from_be_bytes}
 use Rattle.stn_wire.specs.Frame.{FrameContent, content, body_of, spelling, IsFrame, most_body}
 use Rattle.stn_wire.specs.declared.fault.WireFault.{WireFault}
-use Rattle.stn_wire.specs.declared.fault.WireFault.TheVariants.{Length, Kind, Body, Memory}
+use Rattle.stn_wire.specs.declared.fault.WireFault.TheVariants.{Length, Kind, Body, OldFrame, Memory}
 use Rattle.stn_wire.specs.declared.frame.Frame.{Frame}
 
 -- the number that the first four bytes spell
@@ -15,7 +15,7 @@ abbrev pub IsLength : ℕ → Type 0
 IsLength n = (1 ≤ n) × (n ≤ most_body)
 
 abbrev pub IsKind : ℕ → Type 0
-IsKind kind = (1 ≤ kind) × (kind ≤ 6)
+IsKind kind = (1 ≤ kind) × (kind ≤ 8)
 
 -- a whole frame and how many bytes it has; a fault; less than a frame
 pub data Front : Type 0 where
@@ -32,6 +32,7 @@ IsFront bytes (faulty Length) = (4 ≤ length bytes) × ¬ IsLength (announced b
 IsFront bytes (faulty Kind) = (5 ≤ length bytes) × IsLength (announced bytes) × ¬ IsKind (slice_index bytes 4)
 IsFront bytes (faulty Body) = (4 + announced bytes ≤ length bytes) × IsLength (announced bytes) × IsKind (slice_index bytes 4)
     × ((frame : FrameContent) → IsFrame frame → take (announced bytes) (drop 4 bytes) ≢ body_of frame)
+IsFront bytes (faulty OldFrame) = ⊥
 IsFront bytes (faulty Memory) = ⊥
 IsFront bytes unfinished = (length bytes < 4) ⊎ (IsLength (announced bytes)
     × ((length bytes ≡ 4) ⊎ (IsKind (slice_index bytes 4) × (length bytes < 4 + announced bytes))))
@@ -47,4 +48,5 @@ answered (Ok (Some found)) = Some (whole (content found.0) found.1)
 answered (Err Length) = Some (faulty Length)
 answered (Err Kind) = Some (faulty Kind)
 answered (Err Body) = Some (faulty Body)
+answered (Err OldFrame) = Some (faulty OldFrame)
 answered (Err Memory) = None

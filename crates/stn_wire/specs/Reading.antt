@@ -1,12 +1,14 @@
 -- For proofs alone: no public clause cites these words.
 -- What a reader answers: the value that the bytes spell, or that they spell none.
-use Rattle.std.specs.Prelude.{◌≡◌, ◌≢◌, ℕ, ◌+◌, ◌<◌, ◌≤◌, List, ◌++◌, length, slice_index, Option, Some, None, Result, Ok, Err}
+use Rattle.std.specs.Prelude.{◌≡◌, ◌≢◌, ℕ, ◌+◌, ◌<◌, ◌≤◌, List, ◌++◌, take, length, slice_index, Option, Some, None, Result, Ok, Err}
 use Rattle.std.specs.List.{flat_map, AllByRecursion}
 use Rattle.stn_wire.specs.Spelling.{measured, counted}
 use Rattle.stn_wire.specs.Frame.{FrameContent, IsSaid, body_of}
 use Rattle.stn_wire.specs.Front.{announced, IsLength, IsKind, IsFront, faulty}
+use Rattle.stn_wire.specs.Feeder.{holding, IsTaken}
 use Rattle.stn_wire.specs.declared.fault.WireFault.{WireFault}
-use Rattle.stn_wire.specs.declared.fault.WireFault.TheVariants.{Length, Kind, Body, Memory}
+use Rattle.stn_wire.specs.declared.feeder.Fed.{Fed}
+use Rattle.stn_wire.specs.declared.fault.WireFault.TheVariants.{Length, Kind, Body, OldFrame, Memory}
 
 -- the bytes spell the value that was read; where none was read, they spell none
 abbrev pub IsReading : {V : Type 0} → (V → Type 0) → (V → List ℕ) → List ℕ → Option V → Type 0
@@ -44,4 +46,14 @@ IsJudged bytes (Ok wanted) = IsWanted bytes wanted
 IsJudged bytes (Err Length) = IsFront bytes (faulty Length)
 IsJudged bytes (Err Kind) = IsFront bytes (faulty Kind)
 IsJudged bytes (Err Body) = ⊥
+IsJudged bytes (Err OldFrame) = ⊥
 IsJudged bytes (Err Memory) = ⊥
+
+-- what taking bytes of a piece answers, and what is held then; for want of memory more may be held behind the bytes of before
+abbrev pub IsFrameTaken : {A : Type 0} → List ℕ → List ℕ → Result (Fed A) WireFault → List ℕ → Type 0
+IsFrameTaken held piece (Ok fed) left = IsTaken held piece fed.used fed.frame (holding left)
+IsFrameTaken held piece (Err Memory) left = take (length held) left ≡ held
+IsFrameTaken held piece (Err Length) left = IsFront (held ++ piece) (faulty Length)
+IsFrameTaken held piece (Err Kind) left = IsFront (held ++ piece) (faulty Kind)
+IsFrameTaken held piece (Err Body) left = IsFront (held ++ piece) (faulty Body)
+IsFrameTaken held piece (Err OldFrame) left = ⊥

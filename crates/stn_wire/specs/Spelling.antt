@@ -1,14 +1,16 @@
 -- How a value is spelled in bytes. All numbers are unsigned, and their highest byte comes first.
-use Rattle.std.specs.Prelude.{ℕ, ℤ, neg_ℤ, ◌<◌, ◌^◌, List, ◌∷◌, ◌++◌, length}
-use Rattle.std.specs.Int.{w16, w32, to_be_bytes, int_gap}
+use Rattle.std.specs.Prelude.{◌≡◌, ◌⊎◌, ℕ, ℤ, pos, neg_ℤ, ◌<ℤ◌, ◌≤ℤ◌, ◌+◌, ◌*◌, ◌<◌, ◌^◌, min, List, ◌∷◌, ◌++◌, length}
+use Rattle.std.specs.Int.{Width, w16, w32, w64, to_be_bytes, int_gap}
 use Rattle.std.specs.List.{flat_map, AllByRecursion}
-use Rattle.stn_time.specs.Time.{horizon, IsWithinHorizon}
+use Rattle.stn_time.specs.Time.{horizon}
 use Rattle.stn_net.specs.Event.{most_events}
 use Rattle.stn_net.specs.Difference.{Difference, IsBoundWithin}
 use Rattle.stn_records.specs.Id.{SiteCounter, IsId}
 use Rattle.stn_records.specs.declared.record.Mark.{Mark}
 use Rattle.stn_records.specs.declared.record.Mark.TheVariants.{Plain, Done}
 use Rattle.stn_records.specs.declared.record.Record.{Record}
+use Rattle.stn_wire.specs.declared.layout.Layout.{Layout}
+use Rattle.stn_wire.specs.declared.layout.Layout.TheVariants.{Old, New}
 
 -- a number in two bytes, and in four
 abbrev pub two : ℕ → List ℕ
@@ -34,39 +36,77 @@ pub record AreCounted {X : Type 0} (Valid : X → Type 0) (values : List X) : Ty
 abbrev pub id_bytes : SiteCounter → List ℕ
 id_bytes id = two id.site ++ two id.counter
 
--- a side of a bound: how far it lies above the least difference
-abbrev pub side_bytes : ℤ → List ℕ
-side_bytes side = four (int_gap (neg_ℤ horizon) side)
+-- the greatest time of the first version's frames
+abbrev pub old_horizon : ℤ
+old_horizon = pos 1000000000
+
+-- the greatest difference of a layout, and how wide its sides are
+abbrev pub furthest : Layout → ℤ
+furthest Old = old_horizon
+furthest New = horizon
+
+abbrev pub width_of : Layout → Width
+width_of Old = w32
+width_of New = w64
+
+abbrev pub side_width : Layout → ℕ
+side_width Old = 4
+side_width New = 8
+
+-- how far a difference lies above the least of a layout, and how far the greatest does
+abbrev pub gap_of : Layout → ℤ → ℕ
+gap_of layout side = int_gap (neg_ℤ (furthest layout)) side
+
+abbrev pub most_gap : Layout → ℕ
+most_gap layout = gap_of layout (furthest layout)
+
+-- a side of a bound: how far it lies above the least difference; an open side that lies beyond the layout's ends, as the end
+abbrev pub side_bytes : Layout → ℤ → List ℕ
+side_bytes layout side = to_be_bytes (width_of layout) (min (gap_of layout side) (most_gap layout))
 
 -- a bound: its events and its sides
-abbrev pub bound_bytes : Difference → List ℕ
-bound_bytes bound = two bound.from ++ (two bound.to ++ (side_bytes bound.lo ++ side_bytes bound.hi))
+abbrev pub bound_bytes : Layout → Difference → List ℕ
+bound_bytes layout bound = two bound.from ++ (two bound.to ++ (side_bytes layout bound.lo ++ side_bytes layout bound.hi))
 
--- a bound of some plan, with sides within the horizon
-pub record IsBound (bound : Difference) : Type 0 where
+-- the sides that a record has in a layout: those of an execution lie within its ends; else these stand for open sides, which are
+-- the ends of all times
+abbrev pub IsLow : Layout → Mark → ℤ → Type 0
+IsLow layout Plain side = (side ≡ neg_ℤ horizon) ⊎ ((neg_ℤ (furthest layout) <ℤ side) × (side ≤ℤ furthest layout))
+IsLow layout Done side = (neg_ℤ (furthest layout) ≤ℤ side) × (side ≤ℤ furthest layout)
+
+abbrev pub IsHigh : Layout → Mark → ℤ → Type 0
+IsHigh layout Plain side = (side ≡ horizon) ⊎ ((neg_ℤ (furthest layout) ≤ℤ side) × (side <ℤ furthest layout))
+IsHigh layout Done side = (neg_ℤ (furthest layout) ≤ℤ side) × (side ≤ℤ furthest layout)
+
+-- a bound of some plan, with sides that the layout spells
+pub record IsBound (layout : Layout) (mark : Mark) (bound : Difference) : Type 0 where
   pub sound : IsBoundWithin most_events bound
-  pub lo : IsWithinHorizon bound.lo
-  pub hi : IsWithinHorizon bound.hi
+  pub lo : IsLow layout mark bound.lo
+  pub hi : IsHigh layout mark bound.hi
 
 abbrev pub mark_byte : Mark → ℕ
 mark_byte Plain = 0
 mark_byte Done = 1
 
 -- a record: its mark and its bound
-abbrev pub record_bytes : Record → List ℕ
-record_bytes r = mark_byte r.mark ∷ bound_bytes r.bound
+abbrev pub record_bytes : Layout → Record → List ℕ
+record_bytes layout r = mark_byte r.mark ∷ bound_bytes layout r.bound
 
 -- the record is of a bound of some plan
-abbrev pub IsRecord : Record → Type 0
-IsRecord r = IsBound r.bound
+abbrev pub IsRecord : Layout → Record → Type 0
+IsRecord layout r = IsBound layout r.mark r.bound
 
 -- an addition: the id and the record
-abbrev pub entry_bytes : SiteCounter × Record → List ℕ
-entry_bytes entry = id_bytes entry.0 ++ record_bytes entry.1
+abbrev pub entry_bytes : Layout → SiteCounter × Record → List ℕ
+entry_bytes layout entry = id_bytes entry.0 ++ record_bytes layout entry.1
 
-pub record IsEntry (entry : SiteCounter × Record) : Type 0 where
+pub record IsEntry (layout : Layout) (entry : SiteCounter × Record) : Type 0 where
   pub id : IsId entry.0
-  pub said : IsRecord entry.1
+  pub said : IsRecord layout entry.1
+
+-- how many bytes it has
+abbrev pub entry_width : Layout → ℕ
+entry_width layout = 9 + 2 * side_width layout
 
 -- a withdrawal: the id alone
 abbrev pub tomb_bytes : SiteCounter × Unit {0} → List ℕ

@@ -4,6 +4,7 @@ ghost use Rattle.stn_wire.specs.Frame.{most_body, content, said_content, body_of
 ghost use Rattle.stn_wire.specs.Reading.{IsBodyReading};
 
 use crate::frame::{Frame, Said};
+use crate::layout::Layout;
 use crate::source::{append_source, read_source};
 use crate::state::{append_state, read_state};
 use std::alloc::Allocator;
@@ -16,18 +17,38 @@ pub(crate) fn read_body<A: Allocator + Copy>(
     ensures { IfOk result (λ r. IsBodyReading body.now (option_map content r)) }
 {
     match body.split_first() {
-        Some((1, rest)) => read_hello(alloc, rest),
-        Some((2, rest)) => read_records(alloc, rest),
+        Some((1, rest)) => read_old_hello(alloc, rest),
+        Some((2, rest)) => read_old_records(alloc, rest),
         Some((3, rest)) => Ok(read_ask(rest)),
         Some((4, rest)) => read_text(alloc, rest),
         Some((5, rest)) => Ok(read_refused(rest)),
         Some((6, rest)) => Ok(read_same(rest)),
+        Some((7, rest)) => read_hello(alloc, rest),
+        Some((8, rest)) => read_records(alloc, rest),
         _ => Ok(None),
     }
 }
 
-fn read_hello<A: Allocator + Copy>(alloc: A, rest: &[u8]) -> Result<Option<Frame<A>>, Memory>
+fn read_old_hello<A: Allocator + Copy>(alloc: A, rest: &[u8]) -> Result<Option<Frame<A>>, Memory>
     ensures { IfOk result (λ r. IsBodyReading (1 ∷ rest.now) (option_map content r)) }
+{
+    match read_source(alloc, rest)? {
+        Some(source) => Ok(Some(Frame::OldHello(source))),
+        None => Ok(None),
+    }
+}
+
+fn read_old_records<A: Allocator + Copy>(alloc: A, rest: &[u8]) -> Result<Option<Frame<A>>, Memory>
+    ensures { IfOk result (λ r. IsBodyReading (2 ∷ rest.now) (option_map content r)) }
+{
+    match read_state(alloc, Layout::Old, rest)? {
+        Some(state) => Ok(Some(Frame::OldRecords(state))),
+        None => Ok(None),
+    }
+}
+
+fn read_hello<A: Allocator + Copy>(alloc: A, rest: &[u8]) -> Result<Option<Frame<A>>, Memory>
+    ensures { IfOk result (λ r. IsBodyReading (7 ∷ rest.now) (option_map content r)) }
 {
     match read_source(alloc, rest)? {
         Some(source) => Ok(Some(Frame::Hello(source))),
@@ -36,9 +57,9 @@ fn read_hello<A: Allocator + Copy>(alloc: A, rest: &[u8]) -> Result<Option<Frame
 }
 
 fn read_records<A: Allocator + Copy>(alloc: A, rest: &[u8]) -> Result<Option<Frame<A>>, Memory>
-    ensures { IfOk result (λ r. IsBodyReading (2 ∷ rest.now) (option_map content r)) }
+    ensures { IfOk result (λ r. IsBodyReading (8 ∷ rest.now) (option_map content r)) }
 {
-    match read_state(alloc, rest)? {
+    match read_state(alloc, Layout::New, rest)? {
         Some(state) => Ok(Some(Frame::Records(state))),
         None => Ok(None),
     }
@@ -91,11 +112,11 @@ pub(crate) fn append_body<A: Allocator + Copy, B: Allocator>(
 {
     match said {
         Said::Hello(source) => {
-            out.push(1)?;
+            out.push(7)?;
             append_source(out, source)
         }
         Said::Records(state) => {
-            out.push(2)?;
+            out.push(8)?;
             append_state(out, state)
         }
         Said::Ask => Ok(out.push(3)?),

@@ -1,5 +1,5 @@
 ghost use Rattle.std.specs.Prelude.{◌≡◌, ◌-◌, ◌^◌, ◌<◌, ◌≤◌, ◌⊎◌, ◌++◌, ◌↔◌, length, min, IsErrOf, IfErr, OnOk, OnErr};
-ghost use Rattle.stn_wire.specs.Frame.{content, said_content, body_of, spelling, IsFrame, most_body};
+ghost use Rattle.stn_wire.specs.Frame.{content, said_content, body_of, spelling, IsOld, IsFrame, most_body};
 
 use crate::MOST_BODY;
 use crate::body::append_body;
@@ -13,19 +13,22 @@ use stn_time::Memory;
 
 /// Appends the spelling of a frame.
 ///
-/// Faults: `Length`, where the body would pass 262,144 bytes; `Memory`. After a fault nothing is
-/// appended.
+/// Faults: `OldFrame`, where it is a frame of the first version; `Length`, where the body would pass
+/// 262,144 bytes; `Memory`. After a fault nothing is appended.
 pub fn encode<A: Allocator + Copy, B: Allocator + Copy>(
     frame: &Frame<A>,
     out: &mut Vec<u8, B>,
 ) -> Result<(), WireFault>
     ensures appended { OnOk result (out.new.items ≡ out.old.items ++ spelling (content frame.now)) }
     ensures sound { OnOk result (IsFrame (content frame.now)) }
-    ensures length { IsErrOf result WireFault.Length ↔ (most_body < length (body_of (content frame.now))) }
-    ensures fault { IfErr result (λ fault. (fault ≡ WireFault.Length) ⊎ (fault ≡ WireFault.Memory)) }
+    ensures old { IsErrOf result WireFault.OldFrame ↔ IsOld (content frame.now) }
+    ensures length { IsErrOf result WireFault.Length ↔ (¬ IsOld (content frame.now)) × (most_body < length (body_of (content frame.now))) }
+    ensures fault { IfErr result (λ fault. (fault ≡ WireFault.OldFrame) ⊎ ((fault ≡ WireFault.Length) ⊎ (fault ≡ WireFault.Memory))) }
     ensures kept { OnErr result (out.new.items ≡ out.old.items) }
 {
-    let said = frame.said();
+    let Some(said) = frame.said() else {
+        return Err(WireFault::OldFrame);
+    };
     if body_length(&said) > MOST_BODY {
         return Err(WireFault::Length);
     }

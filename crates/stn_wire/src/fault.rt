@@ -16,6 +16,9 @@ pub enum WireFault {
     /// The body breaks a rule of its kind.
     #[error("a frame whose body breaks a rule")]
     Body,
+    /// A frame of the first version is not spelled any more.
+    #[error("a frame of an old version")]
+    OldFrame,
     /// Memory ran out.
     #[error("out of memory")]
     Memory,

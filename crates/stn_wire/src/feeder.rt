@@ -1,5 +1,6 @@
 ghost use Rattle.std.specs.Prelude.{◌≡◌, ◌-◌, ◌<◌, ◌↔◌, [], ◌++◌, take, length, min, Option, Some, None, Err, IsTrue, IfOk, IfErr, OnOk, OnErr};
-ghost use Rattle.stn_wire.specs.Feeder.{holding, IsFed, IsFrameTaken, IsMissing};
+ghost use Rattle.stn_wire.specs.Feeder.{holding, IsFed, IsMissing};
+ghost use Rattle.stn_wire.specs.Reading.{IsFrameTaken};
 ghost use Rattle.stn_wire.specs.Front.{IsFront, unfinished};
 ghost use Rattle.stn_wire.specs.declared.fault.WireFault.{WireFault as Fault};
 

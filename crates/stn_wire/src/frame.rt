@@ -1,5 +1,5 @@
-ghost use Rattle.std.specs.Prelude.{◌≡◌};
-ghost use Rattle.stn_wire.specs.Frame.{content, said_content};
+ghost use Rattle.std.specs.Prelude.{◌≡◌, MatchOption};
+ghost use Rattle.stn_wire.specs.Frame.{content, said_content, IsOld};
 
 use std::alloc::Allocator;
 use stn_lift::Source;
@@ -8,6 +8,10 @@ use stn_records::Records;
 /// What one site says to another.
 #[derive(Debug, Drop)]
 pub enum Frame<A: Allocator> {
+    /// The plan of the site, as the first version said it.
+    OldHello(Source<A>),
+    /// Records and withdrawn ids, as the first version said them: a side that was open then is open now.
+    OldRecords(Records<A>),
     /// The plan of the site, by what its base is made from.
     Hello(Source<A>),
     /// Records and withdrawn ids.
@@ -23,17 +27,20 @@ pub enum Frame<A: Allocator> {
 }
 
 impl<A: Allocator> Frame<A> {
-    /// The frame, by what it is about.
-    pub fn said(&self) -> Said<'_, A>
-        ensures { said_content result ≡ content self.now }
+    /// The frame, by what it is about; none where it is one of the first version.
+    pub fn said(&self) -> Option<Said<'_, A>>
+        ensures { MatchOption result (IsOld (content self.now))
+            (λ said. (said_content said ≡ content self.now) × ¬ IsOld (content self.now)) }
     {
         match self {
-            Frame::Hello(source) => Said::Hello(source),
-            Frame::Records(state) => Said::Records(state),
-            Frame::Ask => Said::Ask,
-            Frame::Text(bytes) => Said::Text(bytes),
-            Frame::Refused(code) => Said::Refused(*code),
-            Frame::Same => Said::Same,
+            Frame::OldHello(_) => None,
+            Frame::OldRecords(_) => None,
+            Frame::Hello(source) => Some(Said::Hello(source)),
+            Frame::Records(state) => Some(Said::Records(state)),
+            Frame::Ask => Some(Said::Ask),
+            Frame::Text(bytes) => Some(Said::Text(bytes)),
+            Frame::Refused(code) => Some(Said::Refused(*code)),
+            Frame::Same => Some(Said::Same),
         }
     }
 }

@@ -1,60 +1,62 @@
 ghost use Rattle.std.specs.Prelude.{◌≡◌, ℕ, ◌<◌, List, ◌++◌, length, OnOk};
 ghost use Rattle.stn_wire.specs.Reading.{IsReading};
+ghost use Rattle.stn_wire.specs.declared.layout.Layout.{Layout as LayoutOf};
+ghost use Rattle.stn_wire.specs.declared.layout.Layout.TheVariants.{New};
 
 use crate::fields::{append_id, append_record, read_id, read_record};
+use crate::layout::Layout;
 use std::alloc::Allocator;
 use stn_records::{Id, Record};
 use stn_time::Memory;
 
 /// What stands in a list of a frame, each in the same number of bytes.
 pub(crate) trait Item: Copy {
-    /// How many bytes.
-    ghost wide: { ℕ };
+    /// How many bytes in a layout.
+    ghost wide: { LayoutOf → ℕ };
 
     /// Which items have a spelling, and what it is.
-    ghost IsSpelled: { Self → Type 0 };
+    ghost IsSpelled: { LayoutOf → Self → Type 0 };
 
-    ghost bytes_of: { Self → List ℕ };
+    ghost bytes_of: { LayoutOf → Self → List ℕ };
 
-    fn size() -> usize
-        ensures { result ≡ wide };
+    fn size(layout: Layout) -> usize
+        ensures { result ≡ wide layout };
 
-    fn read(bytes: &[u8]) -> Option<Self>
-        requires { length bytes.now ≡ wide }
-        ensures { IsReading IsSpelled bytes_of bytes.now result };
+    fn read(layout: Layout, bytes: &[u8]) -> Option<Self>
+        requires { length bytes.now ≡ wide layout }
+        ensures { IsReading (IsSpelled layout) (bytes_of layout) bytes.now result };
 
     fn append<A: Allocator>(&self, out: &mut Vec<u8, A>) -> Result<(), Memory>
-        ensures appended { OnOk result (out.new.items ≡ out.old.items ++ bytes_of self.now) }
-        ensures spelled { OnOk result (IsSpelled self.now) };
+        ensures appended { OnOk result (out.new.items ≡ out.old.items ++ bytes_of New self.now) }
+        ensures spelled { OnOk result (IsSpelled New self.now) };
 
     /// An item has some bytes.
-    ghost some: { 0 < wide };
+    ghost some: { (layout : LayoutOf) → 0 < wide layout };
 
-    ghost sized: { (item : Self) → length (bytes_of item) ≡ wide };
+    ghost sized: { (layout : LayoutOf) (item : Self) → length (bytes_of layout item) ≡ wide layout };
 
     /// Items with the same bytes are one.
-    ghost apart: { (a b : Self) → IsSpelled a → IsSpelled b → bytes_of a ≡ bytes_of b → a ≡ b };
+    ghost apart: { (layout : LayoutOf) (a b : Self) → IsSpelled layout a → IsSpelled layout b → bytes_of layout a ≡ bytes_of layout b → a ≡ b };
 }
 
 impl Item for (Id, Record) {
-    ghost use Rattle.std.specs.Prelude.{refl};
-    ghost use Rattle.std.proofs.Common.{lit<};
-    ghost use Rattle.stn_wire.specs.Spelling.{IsEntry, entry_bytes};
-    ghost use Rattle.stn_wire.specs.Apart.{entry_apart};
+    ghost use Rattle.stn_wire.specs.Spelling.{IsEntry, entry_bytes, entry_width};
+    ghost use Rattle.stn_wire.specs.Apart.{entry_some, entry_sized, entry_apart};
 
-    ghost wide = { 17 };
+    ghost wide = { entry_width };
 
     ghost IsSpelled = { IsEntry };
 
     ghost bytes_of = { entry_bytes };
 
-    fn size() -> usize {
-        17
+    fn size(layout: Layout) -> usize {
+        layout.entry_width()
     }
 
-    fn read(bytes: &[u8]) -> Option<(Id, Record)> {
-        let id = read_id(&bytes[..4])?;
-        let record = read_record(&bytes[4..17])?;
+    fn read(layout: Layout, bytes: &[u8]) -> Option<(Id, Record)> {
+        let (id, said) = bytes.split_at(4);
+        let id = read_id(id)?;
+        let record = read_record(layout, said)?;
         Some((id, record))
     }
 
@@ -64,9 +66,9 @@ impl Item for (Id, Record) {
         append_record(out, record)
     }
 
-    ghost some = { lit< tt };
+    ghost some = { entry_some };
 
-    ghost sized = { λ item. refl };
+    ghost sized = { entry_sized };
 
     ghost apart = { entry_apart };
 }
@@ -77,17 +79,17 @@ impl Item for (Id, ()) {
     ghost use Rattle.stn_wire.specs.Spelling.{IsTomb, tomb_bytes};
     ghost use Rattle.stn_wire.specs.Apart.{tomb_apart};
 
-    ghost wide = { 4 };
+    ghost wide = { λ layout. 4 };
 
-    ghost IsSpelled = { IsTomb };
+    ghost IsSpelled = { λ layout. IsTomb };
 
-    ghost bytes_of = { tomb_bytes };
+    ghost bytes_of = { λ layout. tomb_bytes };
 
-    fn size() -> usize {
+    fn size(_layout: Layout) -> usize {
         4
     }
 
-    fn read(bytes: &[u8]) -> Option<(Id, ())> {
+    fn read(_layout: Layout, bytes: &[u8]) -> Option<(Id, ())> {
         let id = read_id(bytes)?;
         Some((id, ()))
     }
@@ -96,9 +98,9 @@ impl Item for (Id, ()) {
         append_id(out, self.0)
     }
 
-    ghost some = { lit< tt };
+    ghost some = { λ layout. lit< tt };
 
-    ghost sized = { λ item. refl };
+    ghost sized = { λ layout item. refl };
 
-    ghost apart = { tomb_apart };
+    ghost apart = { λ layout. tomb_apart };
 }

@@ -18,6 +18,7 @@ mod frame;
 mod front;
 mod item;
 mod laws;
+mod layout;
 mod lists;
 mod source;
 mod state;

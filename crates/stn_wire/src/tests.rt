@@ -2,6 +2,7 @@ use super::*;
 use std::alloc::Global;
 use std::test::Fail;
 use stn_lift::Source;
+use stn_time::HORIZON;
 
 // The bytes are one frame, and its spelling is these bytes.
 fn is_spelled(alloc: Global, bytes: &[u8]) -> Result<bool, WireFault> {
@@ -19,7 +20,7 @@ fn is_spelled(alloc: Global, bytes: &[u8]) -> Result<bool, WireFault> {
 fn frames_there_and_back(rt: HostRuntime) -> Result<(), Fail> {
     let alloc = rt.alloc();
     assert_eq!(rt;
-        is_spelled(alloc, b"\x00\x00\x00\x04\x01\x00\x00\x01"),
+        is_spelled(alloc, b"\x00\x00\x00\x04\x07\x00\x00\x01"),
         Ok(true)
     );
     assert_eq!(rt; is_spelled(alloc, b"\x00\x00\x00\x01\x03"), Ok(true));
@@ -33,10 +34,10 @@ fn frames_there_and_back(rt: HostRuntime) -> Result<(), Fail> {
 #[test]
 fn states_there_and_back(rt: HostRuntime) -> Result<(), Fail> {
     let alloc = rt.alloc();
-    let withdrawal = b"\x00\x00\x00\x09\x02\x00\x00\x00\x01\x00\x02\x00\x01";
+    let withdrawal = b"\x00\x00\x00\x09\x08\x00\x00\x00\x01\x00\x02\x00\x01";
     assert_eq!(rt; is_spelled(alloc, withdrawal), Ok(true));
     let addition =
-        b"\x00\x00\x00\x16\x02\x00\x01\x00\x02\x00\x01\x00\x00\x00\x00\x01\x3b\x9a\xd1\xd0\x3b\x9a\xf1\x10\x00\x00";
+        b"\x00\x00\x00\x1e\x08\x00\x01\x00\x02\x00\x01\x00\x00\x00\x00\x01\x00\x00\x00\x07\x57\xb1\x33\xd0\x00\x00\x00\x07\x57\xb1\x53\x10\x00\x00";
     assert_eq!(rt; is_spelled(alloc, addition), Ok(true));
     Ok(())
 }
@@ -44,13 +45,75 @@ fn states_there_and_back(rt: HostRuntime) -> Result<(), Fail> {
 #[test]
 fn sources_of_two_texts(rt: HostRuntime) -> Result<(), Fail> {
     let alloc = rt.alloc();
-    let hello = b"\x00\x00\x00\x0d\x01\x01\x00\x00\x00\x01d\x00\x00\x00\x02pl";
+    let hello = b"\x00\x00\x00\x0d\x07\x01\x00\x00\x00\x01d\x00\x00\x00\x02pl";
     assert_eq!(rt; is_spelled(alloc, hello), Ok(true));
     let domain = Vec::from_slice(alloc, b"d")?;
     let plan = Vec::from_slice(alloc, b"pl")?;
     let mut out = Vec::new(alloc);
     encode(&Frame::Hello(Source::Files(domain, plan)), &mut out)?;
     assert_eq!(rt; out.as_slice(), hello.as_slice());
+    Ok(())
+}
+
+#[test]
+fn old_frames_are_not_spelled(rt: HostRuntime) -> Result<(), Fail> {
+    let alloc = rt.alloc();
+    let mut out = Vec::new(alloc);
+    let frame: Frame<Global> = Frame::OldHello(Source::Bare(1));
+    assert_eq!(rt; encode(&frame, &mut out), Err(WireFault::OldFrame));
+    let long = vec![in alloc; b'x'; 262_144]?;
+    let frame = Frame::OldHello(Source::Files(long, Vec::new(alloc)));
+    assert_eq!(rt; encode(&frame, &mut out), Err(WireFault::OldFrame));
+    assert!(rt; out.is_empty());
+    let hello = decode(alloc, b"\x00\x00\x00\x04\x01\x00\x00\x01")?;
+    assert!(rt; matches!(hello, Some((Frame::OldHello(Source::Bare(1)), 8))));
+    Ok(())
+}
+
+// The sides of the only record of an old frame that ends in these two numbers.
+fn old_sides(alloc: Global, mark: u8, lo: &[u8; 4], hi: &[u8; 4]) -> Result<(i64, i64), WireFault> {
+    let mut bytes = Vec::new(alloc);
+    bytes.extend_from_slice(b"\x00\x00\x00\x16\x02\x00\x01\x00\x02\x00\x01")?;
+    bytes.extend_from_slice(&[mark, 0, 0, 0, 1])?;
+    bytes.extend_from_slice(lo)?;
+    bytes.extend_from_slice(hi)?;
+    bytes.extend_from_slice(&[0, 0])?;
+    match decode(alloc, &bytes)? {
+        Some((Frame::OldRecords(records), 26)) => match records.record_at(0) {
+            Some((_, _, bound)) => Ok((bound.lo().get(), bound.hi().get())),
+            None => Err(WireFault::Memory),
+        },
+        _ => Err(WireFault::Memory),
+    }
+}
+
+// Sides at the old horizon are open, but not those of an execution.
+#[test]
+fn old_sides_are_widened(rt: HostRuntime) -> Result<(), Fail> {
+    let alloc = rt.alloc();
+    let (least, greatest) = (b"\x00\x00\x00\x00", b"\x77\x35\x94\x00");
+    let (two, ten) = (b"\x3b\x9a\xd1\xd0", b"\x3b\x9a\xf1\x10");
+    assert_eq!(rt; old_sides(alloc, 0, two, ten), Ok((2_000, 10_000)));
+    assert_eq!(rt;
+        old_sides(alloc, 0, least, greatest),
+        Ok((-HORIZON, HORIZON))
+    );
+    assert_eq!(rt;
+        old_sides(alloc, 0, greatest, greatest),
+        Ok((1_000_000_000, HORIZON))
+    );
+    assert_eq!(rt;
+        old_sides(alloc, 0, least, least),
+        Ok((-HORIZON, -1_000_000_000))
+    );
+    assert_eq!(rt;
+        old_sides(alloc, 1, greatest, greatest),
+        Ok((1_000_000_000, 1_000_000_000))
+    );
+    assert_eq!(rt;
+        old_sides(alloc, 0, two, b"\x77\x35\x94\x01"),
+        Err(WireFault::Body)
+    );
     Ok(())
 }
 

@@ -1,9 +1,8 @@
-use Rattle.std.proofs.Common.{◌≡◌, ◌+◌, ◌-◌, ◌/◌, ◌∙◌, length, drop, take, ap, subst, rules, arith}
-use Rattle.std.proofs.lemmas.List.{take_at}
+use Rattle.std.proofs.Common.{◌≡◌, ◌+◌, ◌-◌, ◌/◌, ◌∙◌, length, take, ap, refl, subst, arith}
 use Rattle.std.proofs.lemmas.List.Elements.{All-take}
 use Rattle.stn_net.specs.Difference.{NamesEvents}
 use Rattle.stn_net.specs.Schedule.{HasSchedule}
-use Rattle.stn_conflict.specs.Distances.{AreEstimates, HasTables}
+use Rattle.stn_conflict.specs.Distances.{HasTables}
 use Rattle.stn_conflict.proofs.Known.{more_than_known, begins_before}
 use Rattle.stn_conflict.proofs.Relaxing.{estimates_of_more}
 use Rattle.stn_conflict.proofs.search.first_refused.Goals as goal
@@ -15,16 +14,14 @@ loop-high-init g c =
     let (more, first, last) = more_than_known c.args.events bounds c.requires.begins none in
     let low = c.from-low.ensures in
     let high = c.len-high.ensures in
-    let new = c.settle.new.far in
-    let as_long : length new ≡ c.in_ok-far.far.len = search rules in
-    let known = c.in_ok-known.ensures.long in
-    let far = c.in_ok-far.ensures.long in
-    let e = take_at new (drop (length new) c.in_ok-far.far.items) c.in_ok-far.far.len as_long in
-    rw (low, high, e) (record {
-      known = c.in_ok-known.ensures.estimates (take c.args.events bounds) (begins_before c.args.events bounds c.requires.begins) (All-take (NamesEvents c.args.events) c.args.events bounds c.requires.named);
-      long = known;
-      as_long = search rules;
-      tables = subst (λ n. HasTables n c.settle.new.tables) (ap length c.deref_mut.ensures.value ∙ far) c.settle.ensures.tables;
+    let long : length c.begin.new.self.far.items ≡ c.args.events + 1 = c.begin.ensures.tables.far ∙ c.requires.tables.far in
+    let copied : c.in_ok-known.known.items ≡ c.begin.new.self.far.items = c.in_ok-known.ensures.items ∙ c.deref.ensures.value in
+    let start = c.settle.ensures.search.from ∙ c.begin.ensures.start in
+    rw (low, high) (record {
+      known = rw (copied, start) (c.begin.ensures.estimates (take c.args.events bounds) c.args.events c.requires.tables.far (begins_before c.args.events bounds c.requires.begins)
+          (All-take (NamesEvents c.args.events) c.args.events bounds c.requires.named));
+      long = rw copied long;
+      tables = subst (λ n. HasTables n c.settle.new.self) long c.settle.ensures.search.tables;
       past = omega arith;
       apart = more;
       within = omega arith;
@@ -32,44 +29,17 @@ loop-high-init g c =
       none = last;
     })
 
-pub settle-requires-in-loop-high-clause-estimates : goal.settle-requires-in-loop-high-clause-estimates
-settle-requires-in-loop-high-clause-estimates g c =
+pub settle-requires-in-loop-high : goal.settle-requires-in-loop-high
+settle-requires-in-loop-high g c =
     let bounds = c.args.bounds.now in
     let low = c.loop-high.low in
     let middle = c.loop-high.low + (c.loop-high.high - c.loop-high.low) / 2 in
     let h = c.loop-high.invariant in
-    rw (c.before-in-loop-high.ensures, c.deref_mut-in-loop-high.ensures.value, c.copy_from_slice.ensures.items, c.deref.ensures.value)
-    (estimates_of_more bounds c.args.events low middle c.origin-origin.result c.loop-high.known.items (omega arith) h.long c.requires.named h.known)
-
-pub loop-high-preserved-then-settle-2 : goal.loop-high-preserved-then-settle-2
-loop-high-preserved-then-settle-2 g c =
-    let bounds = c.args.bounds.now in
-    let low = c.loop-high.low in
-    let middle = c.loop-high.low + (c.loop-high.high - c.loop-high.low) / 2 in
-    let h = c.loop-high.invariant in
-    let new = c.settle-in-loop-high.new.far in
-    let copied : c.deref_mut-in-loop-high.result.now ≡ c.loop-high.known.items = c.deref_mut-in-loop-high.ensures.value ∙ c.copy_from_slice.ensures.items ∙ c.deref.ensures.value in
-    let whole : length c.deref_mut-in-loop-high.result.now ≡ c.args.events + 1 = ap length copied ∙ h.long in
-    let long : length new ≡ c.args.events + 1 = omega arith in
-    let as_long : length new ≡ c.copy_from_slice.new.self.len = search rules in
-    let e = take_at new (drop (length new) c.copy_from_slice.new.self.items) c.copy_from_slice.new.self.len as_long in
-    let items : c.copy_from_slice-then-settle-2.new.self.items ≡ new = c.copy_from_slice-then-settle-2.ensures.items ∙ c.deref-then-settle-2.ensures.value ∙ e in
-    let estimates : AreEstimates (take middle bounds) c.origin-origin.result new = rw c.before-in-loop-high.ensures at c.settle-in-loop-high.ensures.estimates in
-    let has : HasSchedule (take middle bounds) = rw c.before-in-loop-high.ensures at (c.settle-in-loop-high.ensures.possible.0 c.if-settle-2.true) in
-    rw (items, e) (record {
-      known = estimates;
-      long = long;
-      as_long = long;
-      tables = subst (λ n. HasTables n c.settle-in-loop-high.new.tables) whole c.settle-in-loop-high.ensures.tables;
-      past = omega (arith, h.past);
-      apart = omega arith;
-      within = h.within;
-      has = has;
-      none = h.none;
+    let items : c.copy_from_slice.new.self.items ≡ c.loop-high.known.items = c.copy_from_slice.ensures.items ∙ c.deref-in-loop-high.ensures.value in
+    let long : length c.copy_from_slice.new.self.items ≡ c.args.events + 1 = ap length items ∙ h.long in
+    rw long (record {
+      tables = record { few = h.tables.few; far = long; outgoing = h.tables.outgoing; by = h.tables.by; fresh = h.tables.fresh };
+      from = refl;
+      estimates = rw (c.before-in-loop-high.ensures, items)
+          (estimates_of_more bounds c.args.events low middle c.loop-high.search.start c.loop-high.known.items (omega arith) h.long c.requires.named h.known);
     })
-
-pub returns-clause-refused : goal.returns-clause-refused
-returns-clause-refused g c =
-    let h = c.loop-high.invariant in
-    let next : c.loop-high.high ≡ c.loop-high.low + 1 = omega arith in
-    subst (λ n. ¬ HasSchedule (take n c.args.bounds.now)) next h.none

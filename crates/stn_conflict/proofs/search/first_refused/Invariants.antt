@@ -5,10 +5,9 @@ use Rattle.stn_conflict.proofs.search.first_refused.Given as goal
 
 abbrev pub invariant-loop-high : goal.invariant-loop-high
 invariant-loop-high g l = record {
-  known : AreEstimates (take l.low l.bounds) l.origin l.known.items;
+  known : AreEstimates (take l.low l.bounds) l.search.start l.known.items;
   long : length l.known.items ≡ l.events + 1;
-  as_long : length l.far.items ≡ l.events + 1;
-  tables : HasTables (l.events + 1) l.tables;
+  tables : HasTables (l.events + 1) l.search;
   past : l.events ≤ l.low;
   apart : l.low < l.high;
   within : l.high ≤ length l.bounds;

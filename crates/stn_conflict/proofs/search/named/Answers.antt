@@ -1,4 +1,4 @@
-use Rattle.std.proofs.Common.{◌≡◌, ◌<◌, ◌+◌, ◌∷◌, [], subst, refl, arith, ap, length, ◌∙◌, take}
+use Rattle.std.proofs.Common.{◌≡◌, ◌<◌, ◌∷◌, [], subst, refl, arith, ap, length, ◌∙◌, take}
 use Rattle.std.specs.Prelude.{pos, reverse, ◌≤ℤ◌}
 use Rattle.std.proofs.lemmas.Int.{ints}
 use Rattle.std.proofs.lemmas.List.{reverse-append, length-reverse, get_or_read}
@@ -17,21 +17,18 @@ use Rattle.stn_conflict.proofs.search.named.Goals as goal
 
 -- the number that is read is the distance from the link's end to its beginning
 read : (g : Over) (c : goal.After-struct_told-1 g) → (link : Link) → link ≡ record { place = c.args.place; side = c.refused_side.result }
-    → AreDistances (take c.args.place c.args.bounds.now) (arc_of c.args.bounds.now link).to c.in_ok-far.far.items
-    × ((arc_of c.args.bounds.now link).from < length c.in_ok-far.far.items)
-    × (c.index.result.now ≡ times_of c.in_ok-far.far.items (arc_of c.args.bounds.now link).from)
+    → AreDistances (take c.args.place c.args.bounds.now) (arc_of c.args.bounds.now link).to c.refused_side.new.search.far.items
+    × ((arc_of c.args.bounds.now link).from < length c.refused_side.new.search.far.items)
+    × (c.index.result.now ≡ times_of c.refused_side.new.search.far.items (arc_of c.args.bounds.now link).from)
 read g c link is =
     let bounds = c.args.bounds.now in
-    let far = c.in_ok-far.far.items in
-    let arc = c.arc-arc.ensures in
+    let far = c.refused_side.new.search.far.items in
     let there : link.place < length bounds = rw is c.requires.there in
-    let exact : AreDistances c.before-before.result c.arc-arc.result.to far = c.in_ok-far.ensures.distances in
-    let long : length far ≡ c.args.events + 1 = c.in_ok-far.ensures.long in
-    let among = among_events bounds c.args.events (length far) long c.requires.named in
+    let among = among_events bounds c.args.events (length far) c.refused_side.ensures.tables.far c.requires.named in
     let below = (link_among bounds (length far) link among there).0 in
-    let place : c.from.result ≡ (arc_of bounds link).from = c.from.ensures ∙ c.number.ensures.value ∙ rw is arc.from in
+    let place : c.from.result ≡ (arc_of bounds link).from = c.from.ensures ∙ c.number.ensures.value ∙ rw is c.arc-arc.ensures.from in
     let within : c.from.result < length far = rw place below in (
-      rw is (rw (c.before-before.ensures, arc.to) at exact),
+      rw is (rw (c.before-before.ensures, c.bound-bound.ensures) at c.refused_side.ensures.distances),
       below,
       get_or_read far _ _ within c.index.ensures (pos 0) ∙ ap (times_of far) place,
     )
@@ -51,14 +48,12 @@ returns g c =
     let link : Link = record { place = c.args.place; side = c.refused_side.result } in
     let links = c.in_ok-links.links.items in
     let arc = c.arc-arc.ensures in
-    let (exact, below, value) = read g c.before.before link refl in
-    let far = times_of c.in_ok-far.far.items (arc_of bounds link).from in
+    let (exact, below, value) = read g c link refl in
+    let far = times_of c.refused_side.new.search.far.items (arc_of bounds link).from in
     let reach = exact.within (arc_of bounds link).from below in
-    let long : length c.in_ok-far.far.items ≡ c.args.events + 1 = c.in_ok-far.ensures.long in
+    let long = c.refused_side.ensures.tables.far in
     let reversed = c.reverse.ensures.items ∙ ap reverse c.in_ok-push.ensures.items ∙ reverse-append links (link ∷ []) in
-    let ahead : AreDistances c.before-before.result c.to.result c.in_ok-ahead.ahead.items = c.in_ok-ahead.ensures.distances in
-    let side : IsRefusedSide before c.bound-bound.result c.refused_side.result =
-    c.refused_side.ensures.side before (rw c.deref.ensures.value (rw (c.before-before.ensures, c.to.ensures.value) at ahead)) in
+    let side : IsRefusedSide before c.bound-bound.result c.refused_side.result = rw c.before-before.ensures at c.refused_side.ensures.side in
     let culprit : IsCulprit bounds link = record {
       there = c.requires.there;
       before = c.requires.before;
@@ -72,5 +67,5 @@ returns g c =
     (subst IsWithinHorizon arc.weight arc.within)
     reach
     (rw (c.before-before.ensures, arc.to, arc.from) at c.in_ok-links.ensures.way)
-    (omega (arith, length-reverse links, c.in_ok-links.ensures.short, ap length c.deref-2.ensures.value))
+    (omega (arith, length-reverse links, c.in_ok-links.ensures.short, ap length c.deref.ensures.value))
     (let weight = arc.weight in let heavy = arc.within in omega (arith, ints)))

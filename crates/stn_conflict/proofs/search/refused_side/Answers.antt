@@ -1,29 +1,39 @@
-use Rattle.std.proofs.Common.{◌≡◌, ◌∙◌, arith}
+use Rattle.std.proofs.Common.{◌≡◌, ◌<◌, ◌∙◌, ap, length, arith}
 use Rattle.std.specs.Prelude.{pos, ◌+ℤ◌, ◌≤ℤ◌, ◌<ℤ◌}
 use Rattle.std.proofs.lemmas.Int.{ints}
+use Rattle.std.proofs.lemmas.List.{get_or_read}
 use Rattle.stn_net.specs.Schedule.{times_of}
+use Rattle.stn_conflict.specs.Distances.{AreDistances}
 use Rattle.stn_conflict.proofs.search.refused_side.Goals as goal
 
-pub returns-then-far-from-lt0-clause-side : goal.returns-then-far-from-lt0-clause-side
-returns-then-far-from-lt0-clause-side c = λ bounds far.
+pub returns-then-index-get-lt0-clause-side : goal.returns-then-index-get-lt0-clause-side
+returns-then-index-get-lt0-clause-side g c =
     let bound = c.args.bound.now in
+    let far = c.distances.new.self.far.items in
+    let exact : AreDistances c.args.bounds.now bound.to far = rw c.to.ensures.value at c.distances.ensures.distances in
     let place : c.from-2.result ≡ bound.from = c.from-2.ensures ∙ c.number.ensures.value ∙ c.from.ensures.value in
+    let below : bound.from < length far = omega (arith, c.distances.ensures.tables.far, c.requires.bound.from) in
+    let read : c.index.result.now ≡ times_of far bound.from = get_or_read far _ _ (rw place below) c.index.ensures (pos 0) ∙ ap (times_of far) place in
+    let reach = exact.within bound.from below in
     let hi = c.hi.ensures.value in
     let within = c.get.ensures.within in
     let value = c.get.ensures.value in
-    let reach = c.requires.within c.from-2.result (rw place c.requires.from) in
-    let test = c.if-far-from-lt0.true in
-    let below : (times_of c.args.far.now c.from-2.result +ℤ bound.hi) <ℤ pos 0 = omega (arith, ints) in
-    (times_of c.args.far.now bound.from, far.tightest bound.from c.requires.from, rw place at below)
+    let test = c.if-index-get-lt0.true in
+    let less : (times_of far bound.from +ℤ bound.hi) <ℤ pos 0 = omega (arith, ints) in
+    (times_of far bound.from, exact.tightest bound.from below, less)
 
-pub returns-else-far-from-lt0-clause-side : goal.returns-else-far-from-lt0-clause-side
-returns-else-far-from-lt0-clause-side c = λ bounds far.
+pub returns-clause-side : goal.returns-clause-side
+returns-clause-side g c =
     let bound = c.args.bound.now in
+    let far = c.distances.new.self.far.items in
+    let exact : AreDistances c.args.bounds.now bound.to far = rw c.to.ensures.value at c.distances.ensures.distances in
     let place : c.from-2.result ≡ bound.from = c.from-2.ensures ∙ c.number.ensures.value ∙ c.from.ensures.value in
+    let below : bound.from < length far = omega (arith, c.distances.ensures.tables.far, c.requires.bound.from) in
+    let read : c.index.result.now ≡ times_of far bound.from = get_or_read far _ _ (rw place below) c.index.ensures (pos 0) ∙ ap (times_of far) place in
+    let reach = exact.within bound.from below in
     let hi = c.hi.ensures.value in
     let within = c.get.ensures.within in
     let value = c.get.ensures.value in
-    let reach = c.requires.within c.from-2.result (rw place c.requires.from) in
-    let test = c.if-far-from-lt0.false in
-    let above : pos 0 ≤ℤ (times_of c.args.far.now c.from-2.result +ℤ bound.hi) = omega (arith, ints) in
-    (times_of c.args.far.now bound.from, far.tightest bound.from c.requires.from, rw place at above)
+    let test = c.if-index-get-lt0.false in
+    let more : pos 0 ≤ℤ (times_of far bound.from +ℤ bound.hi) = omega (arith, ints) in
+    (times_of far bound.from, exact.tightest bound.from below, more)

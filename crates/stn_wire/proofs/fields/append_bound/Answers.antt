@@ -1,5 +1,6 @@
 use Rattle.std.proofs.Common.{◌++◌, ap, ◌∙◌, rules}
 use Rattle.stn_wire.specs.Spelling.{two, side_bytes}
+use Rattle.stn_wire.specs.declared.layout.Layout.TheVariants.{New}
 use Rattle.stn_wire.proofs.Parts.{append_then}
 use Rattle.stn_wire.proofs.fields.append_bound.Goals as goal
 
@@ -12,6 +13,6 @@ returns-clause-appended g c =
     let third = c.append_side.new.out.items in
     let all = c.append_side-2.new.out.items in
     let r = c.append_side-2.result in
-    append_then r old first all (two bound.from) (two bound.to ++ (side_bytes bound.lo ++ side_bytes bound.hi)) (c.in_ok-append_two.ensures ∙ ap (λ n. old ++ two n) (c.number.ensures.value ∙ c.from.ensures.value))
-    (append_then r first second all (two bound.to) (side_bytes bound.lo ++ side_bytes bound.hi) (c.in_ok-append_two-2.ensures ∙ ap (λ n. first ++ two n) (c.number-2.ensures.value ∙ c.to.ensures.value))
-    (append_then r second third all (side_bytes bound.lo) (side_bytes bound.hi) (c.in_ok-append_side.ensures.appended ∙ ap (λ n. second ++ side_bytes n) c.lo.ensures.value) (search rules)))
+    append_then r old first all (two bound.from) (two bound.to ++ (side_bytes New bound.lo ++ side_bytes New bound.hi)) (c.in_ok-append_two.ensures ∙ ap (λ n. old ++ two n) (c.number.ensures.value ∙ c.from.ensures.value))
+    (append_then r first second all (two bound.to) (side_bytes New bound.lo ++ side_bytes New bound.hi) (c.in_ok-append_two-2.ensures ∙ ap (λ n. first ++ two n) (c.number-2.ensures.value ∙ c.to.ensures.value))
+    (append_then r second third all (side_bytes New bound.lo) (side_bytes New bound.hi) (c.in_ok-append_side.ensures.appended ∙ ap (λ n. second ++ side_bytes New n) c.lo.ensures.value) (search rules)))

@@ -6,17 +6,17 @@ use Rattle.stn_wire.proofs.lists.read_items.Goals as goal
 pub returns-then-rest-size : goal.returns-then-rest-size
 returns-then-rest-size g c value are is =
     let fewer : length c.items.items.items < length value.0 = omega (arith, c.items.invariant.many, are.many) in
-    let next = next_item g.T.Item.IsSpelled g.T.Item.bytes_of g.T.Item.wide g.met.T.Item.sized c.items.items.items value.0 c.args.bytes.now c.items.rest.now value.1 fewer are.each c.items.invariant.text is in
+    let next = next_item (g.T.Item.IsSpelled c.args.layout) (g.T.Item.bytes_of c.args.layout) (g.T.Item.wide c.args.layout) (g.met.T.Item.sized c.args.layout) c.items.items.items value.0 c.args.bytes.now c.items.rest.now value.1 fewer are.each c.items.invariant.text is in
     omega (arith, next.long, c.size.ensures)
 
 pub returns-in-None : goal.returns-in-None
 returns-in-None g c value are is =
     let fewer : length c.items.items.items < length value.0 = omega (arith, c.items.invariant.many, are.many) in
-    let next = next_item g.T.Item.IsSpelled g.T.Item.bytes_of g.T.Item.wide g.met.T.Item.sized c.items.items.items value.0 c.args.bytes.now c.items.rest.now value.1 fewer are.each c.items.invariant.text is in
+    let next = next_item (g.T.Item.IsSpelled c.args.layout) (g.T.Item.bytes_of c.args.layout) (g.T.Item.wide c.args.layout) (g.met.T.Item.sized c.args.layout) c.items.items.items value.0 c.args.bytes.now c.items.rest.now value.1 fewer are.each c.items.invariant.text is in
     c.in-None.ensures next.item next.valid (c.split_at.ensures.front ∙ ap (λ n. take n c.items.rest.now) c.size-in-items.ensures ∙ next.front)
 
 pub returns : goal.returns
 returns g c = (
-  record { many = omega (arith, c.items.invariant.many); each = recursion_from_All g.T.Item.IsSpelled c.items.items.items c.items.invariant.each },
+  record { many = omega (arith, c.items.invariant.many); each = recursion_from_All (g.T.Item.IsSpelled c.args.layout) c.items.items.items c.items.invariant.each },
   c.items.invariant.text,
 )

@@ -1,10 +1,10 @@
 use Rattle.std.proofs.Common.{◌≡◌, ◌++◌, map}
 use Rattle.stn_net.specs.Schedule.{times_of}
 use Rattle.stn_lift.specs.BaseBounds.{event_orders}
-use Rattle.stn_lift.specs.Timelines.{numbers_interfere}
+use Rattle.stn_lift.specs.Timelines.{interfere_by_number}
 use Rattle.stn_lift.specs.Views.{numbers_of}
 use Rattle.stn_lift.proofs.timeline.Timeline.append_event_orders.Given as goal
 
 abbrev pub invariant-loop-before : goal.invariant-loop-before
 invariant-loop-before g l =
-    l.bounds.items ≡ l.fn.bounds.items ++ event_orders (numbers_interfere (map numbers_of l.self.footprints.items)) (times_of l.self.times.items) l.one l.before
+    l.bounds.items ≡ l.fn.bounds.items ++ event_orders (interfere_by_number (map numbers_of l.self.footprints.items)) (times_of l.self.times.items) l.one l.before

@@ -1,5 +1,10 @@
-use Rattle.stn_plan.proofs.LineFacts.{lines_cut}
+use Rattle.std.proofs.Common.{arith}
+use Rattle.std.proofs.lemmas.Bool.Decides.{nat_tests}
+use Rattle.stn_plan.proofs.LineFacts.{no_lines, lines_cut}
 use Rattle.stn_plan.proofs.lines.Lines.next_line.Goals as goal
 
+pub returns-then-is_empty : goal.returns-then-is_empty
+returns-then-is_empty c = rw (← c.self.view_is) (no_lines c.self.inside.number c.self.inside.rest.now (grind (arith, nat_tests)))
+
 pub returns : goal.returns
-returns c = rw (← c.self.view_is, c.in_ok-self.was) (lines_cut c.self.inside.number c.in_ok-self.field-0.now _ _ c.first_line.ensures.line)
+returns c = rw (← c.self.view_is) (lines_cut c.self.inside.number c.self.inside.rest.now _ _ c.first_line.ensures.lines)

@@ -1,0 +1,16 @@
+-- How a search goes on.
+use Rattle.std.proofs.Common.{ℕ, List, length, sym, subst}
+use Rattle.stn_net.specs.Difference.{Difference}
+use Rattle.stn_conflict.specs.declared.relaxation.Search.{Search}
+use Rattle.stn_conflict.specs.Distances.{HasTables, IsSearch}
+
+module _ {A : Type 0} where
+  -- of as many events as it has estimates
+  pub tables_of : (count : ℕ) (search : Search A) → HasTables count search → HasTables (length search.far.items) search
+  tables_of count search h = subst (λ n. HasTables n search) (sym h.far) h
+
+  -- what goes on from a search has its start and its events
+  pub goes_on : (bounds : List Difference) (start count : ℕ) (old new : Search A) → IsSearch bounds start count old
+      → IsSearch bounds old.start (length old.far.items) new → IsSearch bounds start count new
+  goes_on bounds start count old new h n =
+      subst (λ s. IsSearch bounds s count new) h.from (subst (λ k. IsSearch bounds old.start k new) h.tables.far n)

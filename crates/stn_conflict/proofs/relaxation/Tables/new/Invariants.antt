@@ -1,8 +1,0 @@
-use Rattle.std.proofs.Common.{◌≡◌, length}
-use Rattle.stn_conflict.proofs.relaxation.Tables.new.Given as goal
-
-abbrev pub invariant-loop : goal.invariant-loop
-invariant-loop g l = length l.outgoing.items ≡ l.counter
-
-abbrev pub invariant-loop-index : goal.invariant-loop-index
-invariant-loop-index g l = length l.outgoing.items ≡ l.count
