@@ -54,8 +54,8 @@ fn append_answer<B: Allocator>(out: &mut Vec<u8, B>, answer: Next) -> Result<(),
     }
 }
 
-/// Appends the rest of a replica's plan from now on, or the refusal where an event is overdue. Whether it
-/// is refused.
+/// Appends the rest of a replica's plan from now on, or the refusal if an event is overdue. Whether it is
+/// refused. After an error a part of it may stand there.
 pub fn append_rehearsal<A: Allocator + Copy, B: Allocator>(
     replica: &Replica<A>,
     now: Ms,

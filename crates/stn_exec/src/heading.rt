@@ -101,15 +101,15 @@ pub fn open<A: Allocator + Copy>(
         number: sites.found.number + 1,
         text: sites.found.behind,
     };
-    match World::new(alloc, Rc::new(alloc, base)?, sites_of(sites.value)) {
+    match World::new(alloc, Rc::new(alloc, base)?, saturated(sites.value)) {
         Ok(world) => Ok((world, rest)),
         Err(SitesFault::NoSite) => Err(HeadingFault::Refused(Refusal::NoSite)),
         Err(SitesFault::Memory) => Err(HeadingFault::Memory),
     }
 }
 
-// The number of sites as a byte; one too large for it is given as the greatest, which no world has either.
-fn sites_of(number: u32) -> u8
+// The number as a byte, or the greatest byte if it is too large for one.
+fn saturated(number: u32) -> u8
     ensures { result ≡ min number u8.MAX }
 {
     u8::try_from(number).unwrap_or(u8::MAX)

@@ -183,8 +183,8 @@ impl<A: Allocator + Copy> Replica<A> {
         Ok(())
     }
 
-    /// Takes in all that another site holds; where all of it is held already, that changes nothing and
-    /// asks for no memory.
+    /// Takes in all that another site holds. If all of it is held already, that changes nothing and asks
+    /// for no memory.
     ///
     /// Refused in this order: `NoEvent` of a bound, where a record names an event that the plan has
     /// not; `Clash`, with the least id that has two different records; `Full`, where both know more

@@ -151,9 +151,9 @@ impl<A: Allocator + Copy> World<A> {
         Ok(())
     }
 
-    /// Takes in at a site all that another holds. Where the site holds all of it already, as where it
-    /// merges itself, that changes nothing and asks for no memory. Any two sites agree on every id, so no
-    /// merge is refused for an id or an event.
+    /// Takes in at a site all that another holds. If the site holds all of it already, as when it merges
+    /// itself, that changes nothing and asks for no memory. Any two sites agree on every id, so no merge
+    /// is refused for an id or an event.
     ///
     /// Refused in this order: `NoSite`, for either site; `Full` and `Memory` of `Replica::take`. After
     /// a fault all is as before.
@@ -204,7 +204,7 @@ impl<A: Allocator + Copy> World<A> {
         Ok(number)
     }
 
-    /// Takes in at a site all that a packet holds; where the site holds all of it already, that changes
+    /// Takes in at a site all that a packet holds. If the site holds all of it already, that changes
     /// nothing and asks for no memory. Any site agrees with any packet on every id, so no delivery is
     /// refused for an id or an event.
     ///

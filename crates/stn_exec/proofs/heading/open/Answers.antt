@@ -15,13 +15,13 @@ returns-in_err-sites-clause-refused g c =
 pub returns-in-Ok-clause-opened : goal.returns-in-Ok-clause-opened
 returns-in-Ok-clause-opened g c =
     let sites = c.in_ok-sites.sites in
-    let least : 1 ≤ sites.value = omega (arith, c.in-Ok.ensures.accepted.least, c.sites_of.ensures) in
-    let most : sites.value ≤ 64 = omega (arith, c.in-Ok.ensures.accepted.most, c.sites_of.ensures) in
-    let same : c.sites_of.result ≡ sites.value = omega (arith, most, c.sites_of.ensures) in
+    let least : 1 ≤ sites.value = omega (arith, c.in-Ok.ensures.accepted.least, c.saturated.ensures) in
+    let most : sites.value ≤ 64 = omega (arith, c.in-Ok.ensures.accepted.most, c.saturated.ensures) in
+    let same : c.saturated.result ≡ sites.value = omega (arith, most, c.saturated.ensures) in
     record {
       start = record { source = c.in_ok-base.base; sites = sites.value; number = sites.found.number + 1; lines = lines_of sites.found.behind.now };
       read = heading-made c.args.last (lines_of c.args.script.now) (seen_base c.in_ok-base.base c.in_ok-base.behind) (seen_part sites) c.in_ok-base.ensures.base (sym c.in_ok-sites.ensures.part) (sites_of-some sites.value least most);
-      opening = c.in-Ok.ensures.opening ∙ (ap (λ (s : PlanSource). opening_world s c.sites_of.result) c.in_ok-new.ensures.ok ∙ ap (opening_world c.in_ok-base.base) same);
+      opening = c.in-Ok.ensures.opening ∙ (ap (λ (s : PlanSource). opening_world s c.saturated.result) c.in_ok-new.ensures.ok ∙ ap (opening_world c.in_ok-base.base) same);
       number = refl;
       lines = refl;
     }
@@ -30,4 +30,4 @@ pub returns-in-Err-NoSite-clause-refused : goal.returns-in-Err-NoSite-clause-ref
 returns-in-Err-NoSite-clause-refused g c =
     let sites = c.in_ok-sites.sites in
     heading-none c.args.last (lines_of c.args.script.now) (seen_base c.in_ok-base.base c.in_ok-base.behind) (seen_part sites) c.in_ok-base.ensures.base (sym c.in_ok-sites.ensures.part)
-    (sites_of-none sites.value (λ least most. (rw c.in-Err-NoSite.field-0-is at c.in-Err-NoSite.ensures.fault) (record { least = omega (arith, least, c.sites_of.ensures); most = omega (arith, most, c.sites_of.ensures) })))
+    (sites_of-none sites.value (λ least most. (rw c.in-Err-NoSite.field-0-is at c.in-Err-NoSite.ensures.fault) (record { least = omega (arith, least, c.saturated.ensures); most = omega (arith, most, c.saturated.ensures) })))
