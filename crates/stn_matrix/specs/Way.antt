@@ -42,6 +42,29 @@ pub record AreNearer (events : ℕ) (far : ℕ → ℕ → ℤ) (u v : ℕ) (w :
   pub within : All (λ y. y ≤ events) columns
   pub left_out : (y : ℕ) → y < column → Contains columns y ⊎ (far u y ≤ℤ (w +ℤ far v y))
 
+-- z lies on a tightest way from v to y
+abbrev pub IsOnWay : (ℕ → ℕ → ℤ) → ℕ → ℕ → ℕ → Type 0
+IsOnWay far v z y = (far v z +ℤ far z y) ≤ℤ far v y
+
+-- each column's run ends after it, and its event lies on a tightest way from v to each of its run
+pub record AreRuns (far : ℕ → ℕ → ℤ) (v : ℕ) (columns ends : List ℕ) : Type 0 where
+  pub alike : length ends ≡ length columns
+  pub after : (i : ℕ) → i < length columns → i < slice_index_or ends i 0
+  pub within : (i : ℕ) → i < length columns → slice_index_or ends i 0 ≤ length columns
+  pub beyond : (i j : ℕ) → i < j → j < length columns → j < slice_index_or ends i 0
+    → IsOnWay far v (slice_index_or columns i 0) (slice_index_or columns j 0)
+
+-- these columns are about the events, each one's run ends after it, and where its entry of the row is no longer than the
+-- way by an event that lies at most `through` after the row's own, neither is any of its run
+pub record AreRunsOf (events : ℕ) (far : ℕ → ℕ → ℤ) (row by : ℕ) (through : ℤ) (columns ends : List ℕ) : Type 0 where
+  pub named : All (λ y. y ≤ events) columns
+  pub alike : length ends ≡ length columns
+  pub after : (i : ℕ) → i < length columns → i < slice_index_or ends i 0
+  pub within : (i : ℕ) → i < length columns → slice_index_or ends i 0 ≤ length columns
+  pub passed : (i j : ℕ) → i < j → j < length columns → j < slice_index_or ends i 0
+    → far row (slice_index_or columns i 0) ≤ℤ (through +ℤ far by (slice_index_or columns i 0))
+    → far row (slice_index_or columns j 0) ≤ℤ (through +ℤ far by (slice_index_or columns j 0))
+
 -- one entry is this value, and the others are as they were
 pub record IsWritten (events : ℕ) (old new : ℕ → ℕ → ℤ) (row column : ℕ) (value : ℤ) : Type 0 where
   pub here : new row column ≡ value
