@@ -1,8 +1,7 @@
-use Rattle.std.proofs.Common.{◌≡◌, ◌≢◌, ℕ, ℤ, ◌+◌, ◌<◌, ◌≤◌, ◌+ℤ◌, ◌≤ℤ◌, ◌<ℤ◌, pos, ◌⊎◌, inl, inr, List, length, set, refl, sym, ◌∙◌, arith, get_or-set_same, get_or-set_other}
-use Rattle.std.specs.Prelude.{All, Contains, slice_index_or}
-use Rattle.std.specs.Int.{int_min}
+use Rattle.std.proofs.Common.{◌≡◌, ◌≢◌, ℕ, ℤ, ◌+◌, ◌<◌, ◌≤◌, ◌+ℤ◌, ◌≤ℤ◌, pos, inl, inr, List, length, set, arith, get_or-set_same, get_or-set_other}
+use Rattle.std.specs.Prelude.{All, slice_index_or}
 use Rattle.std.specs.List.Sorted.{IsPermutation}
-use Rattle.std.proofs.lemmas.Int.{ints, clamps}
+use Rattle.std.proofs.lemmas.Int.{ints}
 use Rattle.std.proofs.lemmas.Bool.{cases_eq, cases_lt}
 use Rattle.std.proofs.lemmas.List.{length-set}
 use Rattle.std.proofs.lemmas.List.Sorted.{All-permutation, Contains-permutation}

@@ -2,7 +2,8 @@ ghost use Rattle.std.specs.Prelude.{◌≡◌, ◌+◌, ◌<◌, ◌≤◌, ℕ,
 ghost use Rattle.std.specs.List.Sorted.{IsPermutation};
 ghost use Rattle.stn_net.specs.Event.{most_events};
 ghost use Rattle.stn_matrix.specs.Closed.{IsClosed};
-ghost use Rattle.stn_matrix.specs.Way.{IsWhole, entry, AreNearer, AreRuns, IsOnWay};
+ghost use Rattle.stn_matrix.specs.Table.{entry};
+ghost use Rattle.stn_matrix.specs.Way.{IsWhole, AreNearer, AreRuns, IsOnWay};
 
 use crate::square::{Arc, entry_of};
 

@@ -4,7 +4,8 @@ ghost use Rattle.stn_net.specs.Difference.{NamesEvents};
 ghost use Rattle.stn_net.specs.Event.{most_events};
 ghost use Rattle.stn_time.specs.Time.{horizon};
 ghost use Rattle.stn_matrix.specs.Closed.{IsClosed, IsWidest};
-ghost use Rattle.stn_matrix.specs.Way.{IsWhole, entry, shorter, narrower, IsImplied, HasRoom, IsInReach, AreNearer, AreRunsOf, IsRowShortened, IsWritten};
+ghost use Rattle.stn_matrix.specs.Table.{entry};
+ghost use Rattle.stn_matrix.specs.Way.{IsWhole, shorter, narrower, IsImplied, HasRoom, IsInReach, AreNearer, AreRunsOf, IsRowShortened, IsWritten};
 
 use crate::runs::{Runs, arrange};
 use stn_net::{Bound, Event, MOST_EVENTS};
@@ -248,9 +249,7 @@ pub(crate) fn entry_of(entries: &[i64], events: usize, row: usize, column: usize
     requires whole { IsWhole events entries.now }
     requires row { row ≤ events }
     requires column { column ≤ events }
-    ensures value { result ≡ entry entries.now events row column }
-    ensures least { i64.MIN ≤ℤ result }
-    ensures most { result ≤ℤ i64.MAX }
+    ensures { result ≡ entry entries.now events row column }
 {
     entries[place(events, row, column)]
 }

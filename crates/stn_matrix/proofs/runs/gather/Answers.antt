@@ -1,9 +1,9 @@
-use Rattle.std.proofs.Common.{◌≡◌, ℕ, ◌<◌, ◌≤◌, ◌+ℤ◌, ◌≤ℤ◌, length, sym, ◌∙◌, arith, inl, inr}
-use Rattle.std.specs.Prelude.{All, slice_index_or}
+use Rattle.std.proofs.Common.{◌≡◌, ℕ, ◌<◌, ◌≤◌, ◌+ℤ◌, ◌≤ℤ◌, sym, ◌∙◌, arith, inl, inr}
+use Rattle.std.specs.Prelude.{slice_index_or}
 use Rattle.std.proofs.lemmas.Int.{ints}
 use Rattle.std.proofs.lemmas.Bool.{cases_eq}
 use Rattle.std.proofs.lemmas.List.Sorted.{All-permutation, IsPermutation-trans}
-use Rattle.stn_matrix.specs.Way.{entry}
+use Rattle.stn_matrix.specs.Table.{entry}
 use Rattle.stn_matrix.proofs.Closure.{closed_within}
 use Rattle.stn_matrix.proofs.runs.gather.Goals as goal
 use Rattle.stn_matrix.proofs.runs.gather.Goals.{then-far-entry_of, else-far-entry_of}
@@ -52,8 +52,8 @@ loop-place-preserved c =
           let firsts : first ≤ c.args.events = rw (← so_far.first) (within c.args.begin 0 (omega arith)) in
           let to_first = closed_within c.args.events table c.requires.closed c.args.arc.now.to first c.requires.to firsts in
           let onward = closed_within c.args.events table c.requires.closed first c.from-column.result firsts column in
-          let far_is : c.entry_of-far.result ≡ table c.args.arc.now.to first = rw to_is at c.entry_of-far.ensures.value in
-          let whole_is : c.entry_of-in-loop-place.result ≡ table c.args.arc.now.to c.from-column.result = rw to_is at c.entry_of-in-loop-place.ensures.value in
+          let far_is : c.entry_of-far.result ≡ table c.args.arc.now.to first = rw to_is at c.entry_of-far.ensures in
+          let whole_is : c.entry_of-in-loop-place.result ≡ table c.args.arc.now.to c.from-column.result = rw to_is at c.entry_of-in-loop-place.ensures in
           let test = w.if-far-entry_of.true in
           let way : (table c.args.arc.now.to first +ℤ table first c.from-column.result) ≤ℤ table c.args.arc.now.to c.from-column.result = omega (arith, ints) in
           rw (w.columns-is, w.end-is) (record {
@@ -68,11 +68,11 @@ loop-place-preserved c =
             ];
           }))
       | else-far-entry_of w ↦ rw (w.columns-is, w.end-is) (record {
-          permutation = so_far.permutation;
-          kept = so_far.kept;
-          first = so_far.first;
-          begins = so_far.begins;
-          ends = (let h = so_far.ends in omega arith);
-          beyond = so_far.beyond;
-        })
+        permutation = so_far.permutation;
+        kept = so_far.kept;
+        first = so_far.first;
+        begins = so_far.begins;
+        ends = (let h = so_far.ends in omega arith);
+        beyond = so_far.beyond;
+      })
     ]

@@ -1,7 +1,8 @@
-use Rattle.std.proofs.Common.{◌≡◌, ◌<◌, ◌≤◌, ℕ, length}
+use Rattle.std.proofs.Common.{◌≡◌, ◌<◌, ◌≤◌, ℕ}
 use Rattle.std.specs.Prelude.{slice_index_or}
 use Rattle.std.specs.List.Sorted.{IsPermutation}
-use Rattle.stn_matrix.specs.Way.{entry, IsOnWay}
+use Rattle.stn_matrix.specs.Table.{entry}
+use Rattle.stn_matrix.specs.Way.{IsOnWay}
 use Rattle.stn_matrix.proofs.runs.gather.Given as goal
 
 abbrev pub invariant-loop-place : goal.invariant-loop-place

@@ -1,6 +1,6 @@
-use Rattle.std.proofs.Common.{◌≡◌, ◌<◌, ◌≤◌, length, set, arith}
-use Rattle.stn_matrix.specs.Way.{entry}
-use Rattle.stn_matrix.proofs.Passing.{AreRunsTo, nearer_moved, runs_more, runs_all}
+use Rattle.std.proofs.Common.{◌≡◌, length, arith}
+use Rattle.stn_matrix.specs.Table.{entry}
+use Rattle.stn_matrix.proofs.Passing.{nearer_moved, runs_more, runs_all}
 use Rattle.stn_matrix.proofs.runs.group.Goals as goal
 use Rattle.stn_matrix.proofs.runs.group.Goals.{then-begin-columns, else-begin-columns}
 
@@ -15,7 +15,7 @@ loop-hub-preserved c =
           let end = w.gather-end.result in
           let same : length moved ≡ length c.loop-hub.columns = omega arith in
           let runs = runs_more far arc.to c.loop-hub.columns moved c.loop-hub.ends c.loop-hub.begin end so_far.runs same
-            w.gather-end.ensures.begins w.gather-end.ensures.ends w.gather-end.ensures.kept w.gather-end.ensures.beyond in
+          w.gather-end.ensures.begins w.gather-end.ensures.ends w.gather-end.ensures.kept w.gather-end.ensures.beyond in
           let nearer = nearer_moved c.args.events far arc.from arc.to arc.weight c.loop-hub.columns moved _ so_far.nearer w.gather-end.ensures.permutation in
           rw (w.columns-is, w.ends-is, w.begin-is) (record { nearer = nearer; runs = runs }))
       | else-begin-columns w ↦ rw (w.columns-is, w.ends-is, w.begin-is) so_far

@@ -1,6 +1,6 @@
 use Rattle.std.proofs.Common.{◌≤◌, arith}
 use Rattle.std.proofs.lemmas.Int.{ints}
-use Rattle.stn_matrix.specs.Way.{entry}
+use Rattle.stn_matrix.specs.Table.{entry}
 use Rattle.stn_matrix.proofs.Closure.{closed_within}
 use Rattle.stn_matrix.proofs.runs.hubs_of.Goals as goal
 

@@ -1,6 +1,6 @@
 use Rattle.std.proofs.Common.{◌≡◌, ◌∙◌, arith, sym, to_z, of_z, w64, ◌+ℤ◌, ◌≤ℤ◌, ◌<ℤ◌, ◌+◌, ◌≤◌}
 use Rattle.std.proofs.lemmas.Int.{ints}
-use Rattle.stn_matrix.specs.Way.{entry}
+use Rattle.stn_matrix.specs.Table.{entry}
 use Rattle.stn_matrix.proofs.Closure.{closed_within, shorter-kept_row}
 use Rattle.stn_matrix.proofs.Entries.{IsShortenedTo, IsNearerRow, nearer_row, row_left_out, shortened_skip, shortened_turn}
 use Rattle.stn_matrix.proofs.Passing.{runs_of_row}
@@ -28,8 +28,8 @@ nearer c =
     let arc = c.args.arc in
     let from_is = c.from-from.ensures ∙ c.number.ensures.value in
     let to_is = c.from-to.ensures ∙ c.number-2.ensures.value in
-    let start : c.entry_of-in-loop-row.result ≡ new row arc.from = rw from_is at c.entry_of-in-loop-row.ensures.value in
-    let end : c.entry_of-in-loop-row-2.result ≡ new row arc.to = rw to_is at c.entry_of-in-loop-row-2.ensures.value in
+    let start : c.entry_of-in-loop-row.result ≡ new row arc.from = rw from_is at c.entry_of-in-loop-row.ensures in
+    let end : c.entry_of-in-loop-row-2.result ≡ new row arc.to = rw to_is at c.entry_of-in-loop-row-2.ensures in
     let weight = c.get-weight.ensures.value in
     let within = c.get-weight.ensures.within in
     let start_is = c.loop-row.invariant.left row arc.from (omega arith) c.loop-row-test.true c.requires.from in
@@ -55,7 +55,7 @@ shorten_row-requires-clause-left_out c =
     let arc = c.args.arc in
     let from_is = c.from-from.ensures ∙ c.number.ensures.value in
     let to_is = c.from-to.ensures ∙ c.number-2.ensures.value in
-    let start : c.entry_of-in-loop-row.result ≡ new row arc.from = rw from_is at c.entry_of-in-loop-row.ensures.value in
+    let start : c.entry_of-in-loop-row.result ≡ new row arc.from = rw from_is at c.entry_of-in-loop-row.ensures in
     let weight = c.get-weight.ensures.value in
     let within = c.get-weight.ensures.within in
     let start_is = c.loop-row.invariant.left row arc.from (omega arith) c.loop-row-test.true c.requires.from in
@@ -74,7 +74,7 @@ shorten_row-requires-clause-runs c =
     let to_is = c.from-to.ensures ∙ c.number-2.ensures.value in
     let nearer = c.arrange-pruned.ensures.nearer in
     let from_is = c.from-from.ensures ∙ c.number.ensures.value in
-    let start : c.entry_of-in-loop-row.result ≡ new c.loop-row.row arc.from = rw from_is at c.entry_of-in-loop-row.ensures.value in
+    let start : c.entry_of-in-loop-row.result ≡ new c.loop-row.row arc.from = rw from_is at c.entry_of-in-loop-row.ensures in
     let weight = c.get-weight.ensures.value in
     let within = c.get-weight.ensures.within in
     let start_is = c.loop-row.invariant.left c.loop-row.row arc.from (omega arith) c.loop-row-test.true c.requires.from in
@@ -93,8 +93,8 @@ loop-row-preserved c =
     let arc = c.args.arc in
     let from_is = c.from-from.ensures ∙ c.number.ensures.value in
     let to_is = c.from-to.ensures ∙ c.number-2.ensures.value in
-    let start : c.entry_of-in-loop-row.result ≡ new row arc.from = rw from_is at c.entry_of-in-loop-row.ensures.value in
-    let end : c.entry_of-in-loop-row-2.result ≡ new row arc.to = rw to_is at c.entry_of-in-loop-row-2.ensures.value in
+    let start : c.entry_of-in-loop-row.result ≡ new row arc.from = rw from_is at c.entry_of-in-loop-row.ensures in
+    let end : c.entry_of-in-loop-row-2.result ≡ new row arc.to = rw to_is at c.entry_of-in-loop-row-2.ensures in
     let weight = c.get-weight.ensures.value in
     let within = c.get-weight.ensures.within in
     let start_is = c.loop-row.invariant.left row arc.from (omega arith) c.loop-row-test.true c.requires.from in
@@ -118,8 +118,8 @@ returns-after-through-entry_of c =
     let arc = c.args.arc in
     let from_is = c.from-from.ensures ∙ c.number.ensures.value in
     let to_is = c.from-to.ensures ∙ c.number-2.ensures.value in
-    let start : c.entry_of-in-loop-row.result ≡ new row arc.from = rw from_is at c.entry_of-in-loop-row.ensures.value in
-    let end : c.entry_of-in-loop-row-2.result ≡ new row arc.to = rw to_is at c.entry_of-in-loop-row-2.ensures.value in
+    let start : c.entry_of-in-loop-row.result ≡ new row arc.from = rw from_is at c.entry_of-in-loop-row.ensures in
+    let end : c.entry_of-in-loop-row-2.result ≡ new row arc.to = rw to_is at c.entry_of-in-loop-row-2.ensures in
     let weight = c.get-weight.ensures.value in
     let within = c.get-weight.ensures.within in
     let start_is = c.loop-row.invariant.left row arc.from (omega arith) c.loop-row-test.true c.requires.from in
@@ -142,7 +142,7 @@ returns-then-entry_of-weight c = λ x y xs ys.
     let arc = c.args.arc in
     let from_is = c.from-from.ensures ∙ c.number.ensures.value in
     let to_is = c.from-to.ensures ∙ c.number-2.ensures.value in
-    let known : c.entry_of.result ≡ far arc.from arc.to = rw (from_is, to_is) at c.entry_of.ensures.value in
+    let known : c.entry_of.result ≡ far arc.from arc.to = rw (from_is, to_is) at c.entry_of.ensures in
     let weight = c.get-weight.ensures.value in
     let within = c.get-weight.ensures.within in
     let longer : far arc.from arc.to ≤ℤ arc.weight = (let h = c.if-entry_of-weight.true in omega (arith, ints)) in

@@ -1,4 +1,4 @@
-use Rattle.stn_matrix.specs.Way.{entry}
+use Rattle.stn_matrix.specs.Table.{entry}
 use Rattle.stn_matrix.proofs.Entries.{IsShortenedTo}
 use Rattle.stn_matrix.proofs.square.shorten.Given as goal
 
