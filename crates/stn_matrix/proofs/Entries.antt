@@ -1,14 +1,15 @@
-use Rattle.std.proofs.Common.{◌≡◌, ◌≢◌, ℕ, ℤ, pos, w64, to_z, of_z, ◌+◌, ◌*◌, ◌<◌, ◌≤◌, ◌+ℤ◌, ◌≤ℤ◌, ◌<ℤ◌, ◌⊎◌, neg_ℤ, inl, inr, List, [], ◌∷◌, ◌++◌, length, set, refl, ap, sym, ◌∙◌, arith, get_or-set_same, get_or-set_other}
-use Rattle.std.specs.Prelude.{IsTrue, ◌↔◌, Bool, false, Contains}
+use Rattle.std.proofs.Common.{◌≡◌, ◌≢◌, ℕ, ℤ, pos, ◌+◌, ◌*◌, ◌<◌, ◌≤◌, ◌+ℤ◌, ◌≤ℤ◌, ◌<ℤ◌, ◌⊎◌, neg_ℤ, inl, inr, List, [], ◌∷◌, ◌++◌, length, set, refl, ap, sym, ◌∙◌, arith, get_or-set_same, get_or-set_other}
+use Rattle.std.specs.Prelude.{All, Contains, slice_index_or}
 use Rattle.std.specs.Int.{int_min}
 use Rattle.std.proofs.lemmas.Int.{ints, clamps}
-use Rattle.std.proofs.lemmas.List.Elements.{All-push, Contains-push, Contains-push_cases, Contains-append_left}
+use Rattle.std.proofs.lemmas.List.Elements.{All-push, Contains-push, Contains-append_left}
 use Rattle.std.proofs.lemmas.Bool.{cases_eq, cases_lt}
 use Rattle.std.proofs.lemmas.Nat.{mul-add-lt, same_from_place}
+use Rattle.std.proofs.lemmas.List.{get_or_default}
 use Rattle.stn_time.specs.Time.{horizon}
 use Rattle.stn_matrix.specs.Closed.{IsClosed}
-use Rattle.stn_net.specs.Difference.{Difference}
-use Rattle.stn_matrix.specs.Way.{IsWhole, entry, shorter, IsInReach, AreNearer, IsWritten, IsRowShortened, IsImplied, HasRoom}
+use Rattle.stn_matrix.specs.Table.{entry}
+use Rattle.stn_matrix.specs.Way.{IsWhole, shorter, IsInReach, AreNearer, AreRunsOf, IsWritten, IsRowShortened}
 use Rattle.stn_matrix.proofs.Closure.{shorter-own_row, shorter-kept_row}
 
 -- the place of an entry lies in the square
@@ -60,30 +61,32 @@ row_shortened_more events old new next row by through column so_far rs bs cs wri
       others = λ x y xs ys ne. written.others x y xs ys (inl ne) ∙ so_far.others x y xs ys ne;
     }
 
--- a row's entries in these columns are shorter already, and the others are as they were, or shorter too
-pub record AreShortened (events : ℕ) (old new : ℕ → ℕ → ℤ) (row by : ℕ) (through : ℤ) (columns : List ℕ) : Type 0 where
-  pub here : (y : ℕ) → y ≤ events → Contains columns y → new row y ≡ int_min (old row y) (through +ℤ old by y)
+-- a row's entries in the columns before a place are shorter already, and the others are as they were, or shorter too
+pub record AreShortened (events : ℕ) (old new : ℕ → ℕ → ℤ) (row by : ℕ) (through : ℤ) (columns : List ℕ) (place : ℕ) : Type 0 where
+  pub here : (k : ℕ) → k < place → k < length columns
+      → new row (slice_index_or columns k 0) ≡ int_min (old row (slice_index_or columns k 0)) (through +ℤ old by (slice_index_or columns k 0))
   pub either : (y : ℕ) → y ≤ events → (new row y ≡ old row y) ⊎ (new row y ≡ int_min (old row y) (through +ℤ old by y))
   pub others : (x y : ℕ) → x ≤ events → y ≤ events → x ≢ row → new x y ≡ old x y
 
 -- one more column, which may be among them already
-pub shortened_column : (events : ℕ) (old new next : ℕ → ℕ → ℤ) (row by : ℕ) (through : ℤ) (columns : List ℕ) (column : ℕ)
-    → AreShortened events old new row by through columns → row ≤ events → by ≤ events → column ≤ events → row ≢ by
-    → IsWritten events new next row column (int_min (new row column) (through +ℤ new by column))
-    → AreShortened events old next row by through (columns ++ column ∷ [])
-shortened_column events old new next row by through columns column so_far rs bs cs apart written =
+pub shortened_column : (events : ℕ) (old new next : ℕ → ℕ → ℤ) (row by : ℕ) (through : ℤ) (columns : List ℕ) (place : ℕ)
+    → AreShortened events old new row by through columns place → All (λ y. y ≤ events) columns → row ≤ events → by ≤ events → row ≢ by → place < length columns
+    → IsWritten events new next row (slice_index_or columns place 0)
+    (int_min (new row (slice_index_or columns place 0)) (through +ℤ new by (slice_index_or columns place 0)))
+    → AreShortened events old next row by through columns (place + 1)
+shortened_column events old new next row by through columns place so_far within rs bs apart there written =
+    let column = slice_index_or columns place 0 in
+    let cs : column ≤ events = within place 0 there in
     let way : new by column ≡ old by column = so_far.others by column bs cs (λ e. apart (sym e)) in
     let least : next row column ≡ int_min (old row column) (through +ℤ old by column) = elim (so_far.either column cs) [
       | inl own ↦ (written.here ∙ rw (own, way) refl)
       | inr own ↦ (let here = written.here in omega (arith, ints, clamps))
     ] in
     record {
-      here = λ y ys there. elim (cases_eq y column) [
+      here = λ k before below. elim (cases_eq (slice_index_or columns k 0) column) [
         | inl e ↦ rw e least
-        | inr ne ↦ elim (Contains-push_cases columns column y there) [
-          | inl before ↦ (written.others row y rs ys (inr ne) ∙ so_far.here y ys before)
-          | inr e ↦ absurd (ne (sym e))
-        ]
+        | inr ne ↦ (written.others row (slice_index_or columns k 0) rs (within k 0 below) (inr ne)
+            ∙ so_far.here k (let differs : k ≢ place = λ same. ne (ap (λ k. slice_index_or columns k 0) same) in omega arith) below)
       ];
       either = λ y ys. elim (cases_eq y column) [
         | inl e ↦ inr (rw e least)
@@ -95,14 +98,41 @@ shortened_column events old new next row by through columns column so_far rs bs 
       others = λ x y xs ys ne. written.others x y xs ys (inl ne) ∙ so_far.others x y xs ys ne;
     }
 
+-- the run of a column that comes no nearer
+pub shortened_run : (events : ℕ) (old new : ℕ → ℕ → ℤ) (row by : ℕ) (through : ℤ) (columns ends : List ℕ) (place : ℕ)
+    → AreShortened events old new row by through columns place → AreRunsOf events old row by through columns ends → by ≤ events → row ≢ by
+    → place < length columns → new row (slice_index_or columns place 0) <ℤ (through +ℤ new by (slice_index_or columns place 0))
+    → AreShortened events old new row by through columns (slice_index_or ends place 0)
+shortened_run events old new row by through columns ends place so_far runs bs apart there longer =
+    let column = slice_index_or columns place 0 in
+    let cs : column ≤ events = runs.named place 0 there in
+    let way : new by column ≡ old by column = so_far.others by column bs cs (λ e. apart (sym e)) in
+    let either_here = so_far.either column cs in
+    let own : old row column ≤ℤ (through +ℤ old by column) = omega (arith, ints, clamps) in
+    let kept : (y : ℕ) → y ≤ events → old row y ≤ℤ (through +ℤ old by y) → new row y ≡ int_min (old row y) (through +ℤ old by y) =
+    λ y ys far. elim (so_far.either y ys) [ inl same ↦ omega (arith, ints, clamps) | inr same ↦ same ] in
+    record {
+      here = λ k before below. elim (cases_lt k place) [
+        | inl done ↦ so_far.here k done below
+        | inr not_done ↦ elim (cases_eq k place) [
+          | inl e ↦ rw e (kept column cs own)
+          | inr ne ↦ kept (slice_index_or columns k 0) (runs.named k 0 below) (runs.passed place k (omega arith) below before own)
+        ]
+      ];
+      either = so_far.either;
+      others = so_far.others;
+    }
+
 -- the columns that are left out do not change
-pub shortened_columns : (events : ℕ) (old new : ℕ → ℕ → ℤ) (row by : ℕ) (through : ℤ) (columns : List ℕ)
-    → AreShortened events old new row by through columns
+pub shortened_columns : (events : ℕ) (old new : ℕ → ℕ → ℤ) (row by : ℕ) (through : ℤ) (columns : List ℕ) (place : ℕ)
+    → AreShortened events old new row by through columns place → length columns ≤ place
     → ((y : ℕ) → y ≤ events → Contains columns y ⊎ (old row y ≤ℤ (through +ℤ old by y)))
     → IsRowShortened events old new row by through
-shortened_columns events old new row by through columns so_far left_out = record {
+shortened_columns events old new row by through columns place so_far all left_out = record {
   here = λ y ys. elim (left_out y ys) [
-    | inl there ↦ so_far.here y ys there
+    | inl there ↦ (
+        let e : slice_index_or columns there.0 0 ≡ y = get_or_default columns there.0 0 y there.1 ∙ there.2 in
+        rw e at (so_far.here there.0 (let h = there.1 in omega arith) there.1))
     | inr longer ↦ elim (so_far.either y ys) [
       | inl own ↦ omega (arith, ints, clamps)
       | inr own ↦ own
@@ -198,7 +228,6 @@ least_way events far u v w closed us vs round x y xs ys =
 -- a row from which v comes nearer by way of the arc is not v's own, and no sum of its differences goes beyond reach
 pub record IsNearerRow (events : ℕ) (far : ℕ → ℕ → ℤ) (row v : ℕ) (through : ℤ) : Type 0 where
   pub apart : row ≢ v
-  pub reach : IsInReach through
   pub ways : (y : ℕ) → y ≤ events → IsInReach (through +ℤ far v y)
 
 pub nearer_row : (events : ℕ) (old new : ℕ → ℕ → ℤ) (u v : ℕ) (w : ℤ) (row : ℕ) (through : ℤ) → IsShortenedTo events old new u v w row
@@ -215,7 +244,6 @@ nearer_row events old new u v w row through so_far closed us vs round rs is near
           let own : old row v ≡ old v v = ap (λ x. old x v) e in
           let way : old row u ≡ old v u = ap (λ x. old x u) e in
           omega (arith, ints);
-      reach = (omega (arith, ints), omega (arith, ints));
       ways = λ y ys.
           let onward = shortened-own_row events old new u v w row so_far us vs round y ys in
           let far = closed.most v y vs ys in
@@ -244,41 +272,7 @@ pub record IsWidenedTo (events : ℕ) (far : ℕ → ℕ → ℤ) (row : ℕ) : 
   pub others : (x y : ℕ) → x ≤ events → y ≤ events → y ≢ 0 → x ≢ y → far x y ≡ horizon
   pub left : (x y : ℕ) → row ≤ x → x ≤ events → y ≤ events → far x y ≡ horizon
 
--- both sides of a bound are implied, or leave room, as two comparisons say
-pub implied_by : (far : ℕ → ℕ → ℤ) (bound : Difference) (from to : ℕ) (forth back upper lower : ℤ) (answer : Bool)
-    → from ≡ bound.from → to ≡ bound.to → forth ≡ far from to → back ≡ far to from → upper ≡ bound.hi → lower ≡ neg_ℤ bound.lo
-    → forth ≤ℤ upper → (IsTrue answer ↔ (back ≤ℤ lower)) → (IsTrue answer ↔ IsImplied far bound)
-implied_by far bound from to forth back upper lower answer is_from is_to is_forth is_back is_upper is_lower first second =
-    let forth_is : forth ≡ far bound.from bound.to = rw (← is_from, ← is_to) is_forth in
-    let back_is : back ≡ far bound.to bound.from = rw (← is_from, ← is_to) is_back in (
-      (λ t. let h = second.0 t in record { upper = omega (arith, ints); lower = omega (arith, ints) }),
-      (λ implied. let h = implied.lower in second.1 (omega (arith, ints))),
-    )
-
-pub room_by : (far : ℕ → ℕ → ℤ) (bound : Difference) (from to : ℕ) (forth back upper lower : ℤ) (answer : Bool)
-    → from ≡ bound.from → to ≡ bound.to → forth ≡ far from to → back ≡ far to from → upper ≡ neg_ℤ bound.hi → lower ≡ bound.lo
-    → upper ≤ℤ back → (IsTrue answer ↔ (lower ≤ℤ forth)) → (IsTrue answer ↔ HasRoom far bound)
-room_by far bound from to forth back upper lower answer is_from is_to is_forth is_back is_upper is_lower first second =
-    let forth_is : forth ≡ far bound.from bound.to = rw (← is_from, ← is_to) is_forth in
-    let back_is : back ≡ far bound.to bound.from = rw (← is_from, ← is_to) is_back in (
-      (λ t. let h = second.0 t in record { upper = omega (arith, ints); lower = omega (arith, ints) }),
-      (λ room. let h = room.lower in second.1 (omega (arith, ints))),
-    )
-
-pub no_room_by : (far : ℕ → ℕ → ℤ) (bound : Difference) (from to : ℕ) (back upper : ℤ) (answer : Bool)
-    → from ≡ bound.from → to ≡ bound.to → back ≡ far to from → upper ≡ neg_ℤ bound.hi
-    → (IsTrue answer ↔ (upper ≤ℤ back)) → answer ≡ false → (IsTrue answer ↔ HasRoom far bound)
-no_room_by far bound from to back upper answer is_from is_to is_back is_upper first fails =
-    let back_is : back ≡ far bound.to bound.from = rw (← is_from, ← is_to) is_back in (
-      (λ t. let clash : ⊥ = cc in absurd clash),
-      (λ room. let h = room.upper in first.1 (omega (arith, ints))),
-    )
-
 -- an equal value is written alike
 pub written_same : (events : ℕ) (old new : ℕ → ℕ → ℤ) (row column : ℕ) (value other : ℤ) → value ≡ other
     → IsWritten events old new row column value → IsWritten events old new row column other
 written_same events old new row column value other e written = rw (← e) written
-
--- a value that fits is itself, passed as bits
-pub passed : (z : ℤ) → neg_ℤ (pos 9223372036854775808) ≤ℤ z → z ≤ℤ pos 9223372036854775807 → to_z w64 (of_z w64 z) ≡ z
-passed z least most = omega (arith, ints)

@@ -2,3 +2,4 @@ pub mod Tightest
 pub mod Closure
 pub mod Widest
 pub mod Entries
+pub mod Passing

@@ -8,5 +8,8 @@ pub record Table : Type 0 where
   pub steps : ℕ
 
 -- the entry in the row of x and the column of y
+abbrev pub entry : List ℤ → ℕ → ℕ → ℕ → ℤ
+entry entries events x y = slice_index_or entries (x * (events + 1) + y) (pos 0)
+
 abbrev pub far_of : Table → ℕ → ℕ → ℤ
-far_of table x y = slice_index_or table.entries (x * (table.events + 1) + y) (pos 0)
+far_of table = entry table.entries table.events

@@ -1,5 +1,5 @@
 -- For proofs alone: no public clause cites these words.
-use Rattle.std.specs.Prelude.{◌≡◌, ◌≢◌, ◌⊎◌, ℕ, ℤ, pos, ◌+◌, ◌*◌, ◌≤◌, ◌<◌, ◌+ℤ◌, ◌≤ℤ◌, neg_ℤ, List, length, slice_index_or, All, Contains}
+use Rattle.std.specs.Prelude.{◌≡◌, ◌≢◌, ◌⊎◌, ℕ, ℤ, ◌+◌, ◌*◌, ◌≤◌, ◌<◌, ◌+ℤ◌, ◌≤ℤ◌, neg_ℤ, List, length, slice_index_or, All, Contains}
 use Rattle.std.specs.Int.{int_min}
 use Rattle.stn_time.specs.Time.{horizon}
 use Rattle.stn_net.specs.Difference.{Difference}
@@ -9,10 +9,6 @@ use Rattle.stn_net.specs.Event.{most_events}
 pub record IsWhole (events : ℕ) (entries : List ℤ) : Type 0 where
   pub few : events ≤ most_events
   pub square : length entries ≡ (events + 1) * (events + 1)
-
--- the entry in the row of x and the column of y
-abbrev pub entry : List ℤ → ℕ → ℕ → ℕ → ℤ
-entry entries events x y = slice_index_or entries (x * (events + 1) + y) (pos 0)
 
 -- the lesser of the difference of x and y and of that by way of v, which lies at most w after u
 abbrev pub shorter : (ℕ → ℕ → ℤ) → ℕ → ℕ → ℤ → ℕ → ℕ → ℤ
@@ -41,6 +37,29 @@ IsInReach millis = (neg_ℤ (horizon +ℤ horizon) ≤ℤ millis) × (millis ≤
 pub record AreNearer (events : ℕ) (far : ℕ → ℕ → ℤ) (u v : ℕ) (w : ℤ) (columns : List ℕ) (column : ℕ) : Type 0 where
   pub within : All (λ y. y ≤ events) columns
   pub left_out : (y : ℕ) → y < column → Contains columns y ⊎ (far u y ≤ℤ (w +ℤ far v y))
+
+-- z lies on a tightest way from v to y
+abbrev pub IsOnWay : (ℕ → ℕ → ℤ) → ℕ → ℕ → ℕ → Type 0
+IsOnWay far v z y = (far v z +ℤ far z y) ≤ℤ far v y
+
+-- each column's run ends after it, and its event lies on a tightest way from v to each of its run
+pub record AreRuns (far : ℕ → ℕ → ℤ) (v : ℕ) (columns ends : List ℕ) : Type 0 where
+  pub alike : length ends ≡ length columns
+  pub after : (i : ℕ) → i < length columns → i < slice_index_or ends i 0
+  pub within : (i : ℕ) → i < length columns → slice_index_or ends i 0 ≤ length columns
+  pub beyond : (i j : ℕ) → i < j → j < length columns → j < slice_index_or ends i 0
+      → IsOnWay far v (slice_index_or columns i 0) (slice_index_or columns j 0)
+
+-- these columns are about the events, each one's run ends after it, and where its entry of the row is no longer than the
+-- way by an event that lies at most `through` after the row's own, neither is any of its run
+pub record AreRunsOf (events : ℕ) (far : ℕ → ℕ → ℤ) (row by : ℕ) (through : ℤ) (columns ends : List ℕ) : Type 0 where
+  pub named : All (λ y. y ≤ events) columns
+  pub alike : length ends ≡ length columns
+  pub after : (i : ℕ) → i < length columns → i < slice_index_or ends i 0
+  pub within : (i : ℕ) → i < length columns → slice_index_or ends i 0 ≤ length columns
+  pub passed : (i j : ℕ) → i < j → j < length columns → j < slice_index_or ends i 0
+      → far row (slice_index_or columns i 0) ≤ℤ (through +ℤ far by (slice_index_or columns i 0))
+      → far row (slice_index_or columns j 0) ≤ℤ (through +ℤ far by (slice_index_or columns j 0))
 
 -- one entry is this value, and the others are as they were
 pub record IsWritten (events : ℕ) (old new : ℕ → ℕ → ℤ) (row column : ℕ) (value : ℤ) : Type 0 where

@@ -4,6 +4,7 @@
 pub use matrix::Matrix;
 
 mod matrix;
+mod runs;
 mod square;
 #[cfg(test)]
 mod tests;

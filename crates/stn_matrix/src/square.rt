@@ -4,20 +4,26 @@ ghost use Rattle.stn_net.specs.Difference.{NamesEvents};
 ghost use Rattle.stn_net.specs.Event.{most_events};
 ghost use Rattle.stn_time.specs.Time.{horizon};
 ghost use Rattle.stn_matrix.specs.Closed.{IsClosed, IsWidest};
-ghost use Rattle.stn_matrix.specs.Way.{IsWhole, entry, shorter, narrower, IsImplied, HasRoom, IsInReach, AreNearer, IsRowShortened, IsWritten};
+ghost use Rattle.stn_matrix.specs.Table.{entry};
+ghost use Rattle.stn_matrix.specs.Way.{IsWhole, shorter, narrower, IsImplied, HasRoom, IsInReach, AreNearer, AreRunsOf, IsRowShortened, IsWritten};
 
-use stn_net::{Bound, Event};
+use crate::runs::{Runs, arrange};
+use stn_net::{Bound, Event, MOST_EVENTS};
 use stn_time::Ms;
 
 // The most columns: the origin's, and one for each event.
-const COLUMNS: usize = 513;
+const MOST_COLUMNS: usize = MOST_EVENTS as usize + 1;
+
+// The least part of the columns with which a row is written whole: by vectors, an entry takes four
+// instructions in place of nine. The benchmarks take least from a fifth to a half of the columns on.
+const WHOLE_PART: usize = 5;
 
 // One event comes at most so long after another.
 #[derive(Clone, Copy)]
-struct Arc {
-    from: Event,
-    to: Event,
-    weight: Ms,
+pub(crate) struct Arc {
+    pub from: Event,
+    pub to: Event,
+    pub weight: Ms,
 }
 
 // Writes the differences of events that lie anywhere from the origin to the horizon into a square
@@ -40,8 +46,8 @@ pub(crate) fn is_implied(entries: &[i64], events: usize, bound: Bound) -> bool
     ensures { IsTrue result ↔ IsImplied (entry entries.now events) bound }
 {
     let (from, to) = ends(bound);
-    at_least(bound.hi(), entry_of(entries, events, from, to))
-        && at_least(-bound.lo(), entry_of(entries, events, to, from))
+    entry_of(entries, events, from, to) <= bound.hi().get()
+        && entry_of(entries, events, to, from) <= -bound.lo().get()
 }
 
 // Whether some time between the entries of its events meets the bound.
@@ -51,8 +57,8 @@ pub(crate) fn has_room(entries: &[i64], events: usize, bound: Bound) -> bool
     ensures { IsTrue result ↔ HasRoom (entry entries.now events) bound }
 {
     let (from, to) = ends(bound);
-    at_most(-bound.hi(), entry_of(entries, events, to, from))
-        && at_most(bound.lo(), entry_of(entries, events, from, to))
+    -bound.hi().get() <= entry_of(entries, events, to, from)
+        && bound.lo().get() <= entry_of(entries, events, from, to)
 }
 
 // Shortens each entry by way of both sides of the bound.
@@ -79,7 +85,8 @@ pub(crate) fn narrow(entries: &mut [i64], events: usize, bound: Bound)
     shorten(entries, events, lower);
 }
 
-// Shortens each entry by way of the arc; none can change where what is known is no longer than the arc.
+// Shortens each entry by way of the arc; only a row from which the arc's end comes nearer can
+// change, and only in a column that comes nearer to the arc's beginning.
 fn shorten(entries: &mut [i64], events: usize, arc: Arc)
     requires whole { IsWhole events entries.old }
     requires closed { IsClosed events (entry entries.old events) }
@@ -91,31 +98,25 @@ fn shorten(entries: &mut [i64], events: usize, arc: Arc)
 {
     let from = usize::from(arc.from.number());
     let to = usize::from(arc.to.number());
-    if arc.weight.get() < entry_of(entries, events, from, to) {
-        shorten_rows(entries, events, arc);
-    }
-}
-
-// Shortens each entry by way of the arc; only a row from which the arc's end comes nearer can
-// change, and only in a column that comes nearer to the arc's beginning.
-fn shorten_rows(entries: &mut [i64], events: usize, arc: Arc)
-    requires whole { IsWhole events entries.old }
-    requires closed { IsClosed events (entry entries.old events) }
-    requires from { arc.from ≤ events }
-    requires to { arc.to ≤ events }
-    requires round { pos 0 ≤ℤ (entry entries.old events arc.to arc.from +ℤ arc.weight) }
-    ensures { (x y : ℕ) → x ≤ events → y ≤ events
-        → entry entries.new events x y ≡ shorter (entry entries.old events) arc.from arc.to arc.weight x y }
-{
-    let from = usize::from(arc.from.number());
-    let to = usize::from(arc.to.number());
     let weight = arc.weight.get();
-    let mut columns = [0; COLUMNS];
+    if entry_of(entries, events, from, to) <= weight {
+        return;
+    }
+    let mut columns = [0; MOST_COLUMNS];
+    let mut ends = [0; MOST_COLUMNS];
     let count = nearer_columns(entries, events, arc, &mut columns);
+    let columns = &mut columns[..count];
+    let ends = &mut ends[..count];
+    let pruned = arrange(entries, events, &arc, columns, ends);
+    let runs = Runs {
+        columns: &*columns,
+        ends: &*ends,
+        pruned,
+    };
     for row in 0..=events {
         let through = entry_of(entries, events, row, from) + weight;
         if through < entry_of(entries, events, row, to) {
-            shorten_row(entries, events, row, to, through, &columns[..count]);
+            shorten_row(entries, events, row, to, through, runs);
         }
     }
 }
@@ -146,54 +147,61 @@ fn nearer_columns(entries: &[i64], events: usize, arc: Arc, columns: &mut [u16])
 }
 
 // Shortens each entry of a row by way of an event that lies at most so long after the row's own; only
-// these columns can change. Where they are many, all of them take less time.
+// the columns of the runs can change.
 fn shorten_row(
     entries: &mut [i64],
     events: usize,
     row: usize,
     by: usize,
     through: i64,
-    columns: &[u16],
+    runs: Runs<'_>,
 )
     requires whole { IsWhole events entries.old }
     requires row { row ≤ events }
     requires by { by ≤ events }
     requires apart { row ≢ by }
-    requires reach { IsInReach through }
     requires ways { (y : ℕ) → y ≤ events → IsInReach (through +ℤ entry entries.old events by y) }
-    requires within { All (λ y. y ≤ events) columns.now }
-    requires left_out { (y : ℕ) → y ≤ events → Contains columns.now y
+    requires runs { AreRunsOf events (entry entries.old events) row by through runs.columns.now runs.ends.now }
+    requires left_out { (y : ℕ) → y ≤ events → Contains runs.columns.now y
         ⊎ (entry entries.old events row y ≤ℤ (through +ℤ entry entries.old events by y)) }
     ensures { IsRowShortened events (entry entries.old events) (entry entries.new events) row by through }
 {
-    if columns.len() < events / 6 {
-        shorten_columns(entries, events, row, by, through, columns);
+    if runs.pruned || runs.columns.len() < events / WHOLE_PART {
+        shorten_runs(entries, events, row, by, through, runs);
     } else {
         shorten_all(entries, events, row, by, through);
     }
 }
 
-// Shortens each entry of a row, of which only these columns can change.
-fn shorten_columns(
+// Shortens each entry of a row, of which only the columns of the runs can change.
+fn shorten_runs(
     entries: &mut [i64],
     events: usize,
     row: usize,
     by: usize,
     through: i64,
-    columns: &[u16],
+    runs: Runs<'_>,
 )
     requires whole { IsWhole events entries.old }
     requires row { row ≤ events }
     requires by { by ≤ events }
     requires apart { row ≢ by }
     requires ways { (y : ℕ) → y ≤ events → IsInReach (through +ℤ entry entries.old events by y) }
-    requires within { All (λ y. y ≤ events) columns.now }
-    requires left_out { (y : ℕ) → y ≤ events → Contains columns.now y
+    requires runs { AreRunsOf events (entry entries.old events) row by through runs.columns.now runs.ends.now }
+    requires left_out { (y : ℕ) → y ≤ events → Contains runs.columns.now y
         ⊎ (entry entries.old events row y ≤ℤ (through +ℤ entry entries.old events by y)) }
     ensures { IsRowShortened events (entry entries.old events) (entry entries.new events) row by through }
 {
-    for column in columns {
-        shorten_entry(entries, events, row, by, through, usize::from(*column));
+    let mut place = 0;
+    while place < runs.columns.len() {
+        let column = usize::from(runs.columns[place]);
+        let way = through + entry_of(entries, events, by, column);
+        if way <= entry_of(entries, events, row, column) {
+            set_entry(entries, events, row, column, way);
+            place += 1;
+        } else {
+            place = usize::from(runs.ends[place]);
+        }
     }
 }
 
@@ -241,9 +249,7 @@ pub(crate) fn entry_of(entries: &[i64], events: usize, row: usize, column: usize
     requires whole { IsWhole events entries.now }
     requires row { row ≤ events }
     requires column { column ≤ events }
-    ensures value { result ≡ entry entries.now events row column }
-    ensures least { i64.MIN ≤ℤ result }
-    ensures most { result ≤ℤ i64.MAX }
+    ensures { result ≡ entry entries.now events row column }
 {
     entries[place(events, row, column)]
 }
@@ -280,18 +286,4 @@ fn ends(bound: Bound) -> (usize, usize)
         usize::from(bound.from().number()),
         usize::from(bound.to().number()),
     )
-}
-
-// Whether the time is at most the difference.
-fn at_most(time: Ms, millis: i64) -> bool
-    ensures { IsTrue result ↔ (time ≤ℤ millis) }
-{
-    time.get() <= millis
-}
-
-// Whether the time is at least the difference.
-fn at_least(time: Ms, millis: i64) -> bool
-    ensures { IsTrue result ↔ (millis ≤ℤ time) }
-{
-    time.get() >= millis
 }

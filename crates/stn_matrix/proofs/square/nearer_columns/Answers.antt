@@ -1,7 +1,7 @@
 use Rattle.std.proofs.Common.{◌≡◌, ◌≤◌, ◌<◌, ◌∙◌, ◌+ℤ◌, ◌≤ℤ◌, length, take, arith}
 use Rattle.std.proofs.lemmas.Int.{ints}
 use Rattle.std.proofs.lemmas.List.{take_more_set}
-use Rattle.stn_matrix.specs.Way.{entry}
+use Rattle.stn_matrix.specs.Table.{entry}
 use Rattle.stn_matrix.proofs.Closure.{closed_within}
 use Rattle.stn_matrix.proofs.Entries.{nearer_skip, nearer_more}
 use Rattle.stn_matrix.proofs.square.nearer_columns.Goals as goal
@@ -31,8 +31,8 @@ loop-column-preserved c =
       | else-through-entry_of w ↦
           (let from_is = c.from-from.ensures ∙ c.number.ensures.value in
           let to_is = c.from-to.ensures ∙ c.number-2.ensures.value in
-          let onward : c.entry_of.result ≡ far arc.to column = rw to_is at c.entry_of.ensures.value in
-          let own : c.entry_of-in-loop-column.result ≡ far arc.from column = rw from_is at c.entry_of-in-loop-column.ensures.value in
+          let onward : c.entry_of.result ≡ far arc.to column = rw to_is at c.entry_of.ensures in
+          let own : c.entry_of-in-loop-column.result ≡ far arc.from column = rw from_is at c.entry_of-in-loop-column.ensures in
           let weight = c.get-weight.ensures.value in
           let within = c.get-weight.ensures.within in
           let test = w.if-through-entry_of.false in

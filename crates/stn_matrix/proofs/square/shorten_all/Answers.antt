@@ -1,5 +1,5 @@
 use Rattle.std.proofs.Common.{arith}
-use Rattle.stn_matrix.specs.Way.{entry}
+use Rattle.stn_matrix.specs.Table.{entry}
 use Rattle.stn_matrix.proofs.Entries.{row_shortened_more}
 use Rattle.stn_matrix.proofs.square.shorten_all.Goals as goal
 

@@ -1,6 +1,6 @@
 use Rattle.std.proofs.Common.{arith}
 use Rattle.std.proofs.lemmas.Int.{ints, clamps}
-use Rattle.stn_matrix.specs.Way.{entry}
+use Rattle.stn_matrix.specs.Table.{entry}
 use Rattle.stn_matrix.proofs.Entries.{written_same}
 use Rattle.stn_matrix.proofs.square.shorten_entry.Goals as goal
 

@@ -1,4 +1,4 @@
-use Rattle.stn_matrix.specs.Way.{entry}
+use Rattle.stn_matrix.specs.Table.{entry}
 use Rattle.stn_matrix.proofs.Entries.{IsWidenedTo}
 use Rattle.stn_matrix.proofs.square.widen.Given as goal
 

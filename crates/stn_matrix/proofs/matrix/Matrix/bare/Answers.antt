@@ -1,9 +1,8 @@
 use Rattle.std.proofs.Common.{◌≡◌, List, ℤ, sym, subst, arith}
 use Rattle.std.specs.Vec.{with_items}
 use Rattle.std.proofs.lemmas.List.{with_items_is}
-use Rattle.stn_matrix.specs.Table.{Table, far_of}
+use Rattle.stn_matrix.specs.Table.{Table, far_of, entry}
 use Rattle.stn_matrix.specs.Closed.{IsWidest}
-use Rattle.stn_matrix.specs.Way.{entry}
 use Rattle.stn_matrix.proofs.Widest.{exact_widest}
 use Rattle.stn_matrix.proofs.matrix.Matrix.bare.Goals as goal
 

@@ -2,10 +2,10 @@ use Rattle.std.proofs.Common.{◌≡◌, ℕ, ◌≤◌, List, ℤ, length, refl
 use Rattle.std.specs.Vec.{with_items}
 use Rattle.std.proofs.lemmas.List.{with_items_is}
 use Rattle.stn_net.specs.Difference.{NamesEvents}
-use Rattle.stn_matrix.specs.Table.{Table, far_of}
+use Rattle.stn_matrix.specs.Table.{Table, far_of, entry}
 use Rattle.stn_matrix.specs.Tightest.{IsExact}
 use Rattle.stn_matrix.specs.Closed.{IsClosed}
-use Rattle.stn_matrix.specs.Way.{entry, narrower, IsImplied, HasRoom}
+use Rattle.stn_matrix.specs.Way.{narrower, IsImplied, HasRoom}
 use Rattle.stn_matrix.proofs.Closure.{IsTightened, tightened_implied, tightened_narrower, no_room}
 use Rattle.stn_matrix.proofs.matrix.Matrix.tighten.Given.{Over}
 use Rattle.stn_matrix.proofs.matrix.Matrix.tighten.Goals as goal

@@ -1,0 +1,204 @@
+ghost use Rattle.std.specs.Prelude.{◌≡◌, ◌+◌, ◌<◌, ◌≤◌, ℕ, length, slice_index_or, All};
+ghost use Rattle.std.specs.List.Sorted.{IsPermutation};
+ghost use Rattle.stn_net.specs.Event.{most_events};
+ghost use Rattle.stn_matrix.specs.Closed.{IsClosed};
+ghost use Rattle.stn_matrix.specs.Table.{entry};
+ghost use Rattle.stn_matrix.specs.Way.{IsWhole, AreNearer, AreRuns, IsOnWay};
+
+use crate::square::{Arc, entry_of};
+
+// How many columns begin a run: with twelve the benchmark `conflict` takes least.
+const HUBS: usize = 12;
+
+// Each so-manyth row is asked whether it changes.
+const SAMPLED: usize = 8;
+
+// If so many of those asked change, the columns are put into runs: fewer rows gain less than that takes.
+const MANY: usize = 8;
+
+// Columns, and for each the place at which its run ends: the columns after it, up to there, are those
+// of events to which a tightest way from the arc's end leads by its own. So where its entry does not
+// change, none of its run does.
+#[derive(Clone, Copy)]
+pub(crate) struct Runs<'a> {
+    pub columns: &'a [u16],
+    pub ends: &'a [u16],
+    pub pruned: bool,
+}
+
+// A column, and by how much it comes nearer.
+#[derive(Clone, Copy)]
+struct Hub {
+    column: u16,
+    gain: i64,
+}
+
+// Puts the columns into runs, where many rows change; else each is a run of its own. Answers which.
+pub(crate) fn arrange(
+    entries: &[i64],
+    events: usize,
+    arc: &Arc,
+    columns: &mut [u16],
+    ends: &mut [u16],
+) -> bool
+    requires whole { IsWhole events entries.now }
+    requires closed { IsClosed events (entry entries.now events) }
+    requires from { arc.now.from ≤ events }
+    requires to { arc.now.to ≤ events }
+    requires alike { length ends.old ≡ length columns.old }
+    requires few { length columns.old ≤ most_events + 1 }
+    requires nearer { AreNearer events (entry entries.now events) arc.now.from arc.now.to arc.now.weight columns.old (events + 1) }
+    ensures nearer { AreNearer events (entry entries.now events) arc.now.from arc.now.to arc.now.weight columns.new (events + 1) }
+    ensures runs { AreRuns (entry entries.now events) arc.now.to columns.new ends.new }
+{
+    count_up(ends);
+    let many = changes_many_rows(entries, events, arc);
+    if many {
+        group(entries, events, arc, columns, ends);
+    }
+    many
+}
+
+// Writes the number of the next place to each place.
+fn count_up(ends: &mut [u16])
+    requires { length ends.old ≤ most_events + 1 }
+    ensures long { length ends.new ≡ length ends.old }
+    ensures next { (i : ℕ) → i < length ends.old → slice_index_or ends.new i 0 ≡ i + 1 }
+{
+    for place in 0..ends.len() {
+        ends[place] = place as u16 + 1;
+    }
+}
+
+// Whether the arc's end comes nearer to many rows, by those that are asked.
+fn changes_many_rows(entries: &[i64], events: usize, arc: &Arc) -> bool
+    requires whole { IsWhole events entries.now }
+    requires closed { IsClosed events (entry entries.now events) }
+    requires from { arc.now.from ≤ events }
+    requires to { arc.now.to ≤ events }
+{
+    let from = usize::from(arc.from.number());
+    let to = usize::from(arc.to.number());
+    let weight = arc.weight.get();
+    let mut many = 0;
+    for sample in 0..=events / SAMPLED {
+        let row = SAMPLED * sample;
+        if entry_of(entries, events, row, from) + weight < entry_of(entries, events, row, to) {
+            many += 1;
+        }
+    }
+    many >= MANY
+}
+
+// Puts columns into runs: those that come nearer by most each get what is left of the columns beyond
+// them, the one that comes nearer by least first.
+fn group(entries: &[i64], events: usize, arc: &Arc, columns: &mut [u16], ends: &mut [u16])
+    requires whole { IsWhole events entries.now }
+    requires closed { IsClosed events (entry entries.now events) }
+    requires from { arc.now.from ≤ events }
+    requires to { arc.now.to ≤ events }
+    requires alike { length ends.old ≡ length columns.old }
+    requires few { length columns.old ≤ most_events + 1 }
+    requires nearer { AreNearer events (entry entries.now events) arc.now.from arc.now.to arc.now.weight columns.old (events + 1) }
+    requires alone { (i : ℕ) → i < length ends.old → slice_index_or ends.old i 0 ≡ i + 1 }
+    ensures nearer { AreNearer events (entry entries.now events) arc.now.from arc.now.to arc.now.weight columns.new (events + 1) }
+    ensures runs { AreRuns (entry entries.now events) arc.now.to columns.new ends.new }
+{
+    let hubs = hubs_of(entries, events, arc, columns);
+    let mut begin = 0;
+    for hub in &hubs {
+        if begin < columns.len() {
+            let end = gather(entries, events, arc, columns, begin, hub.column);
+            ends[begin] = end as u16;
+            begin = end;
+        }
+    }
+}
+
+// The columns that come nearer by most, the one that does so by least first.
+fn hubs_of(entries: &[i64], events: usize, arc: &Arc, columns: &[u16]) -> [Hub; HUBS]
+    requires whole { IsWhole events entries.now }
+    requires closed { IsClosed events (entry entries.now events) }
+    requires from { arc.now.from ≤ events }
+    requires to { arc.now.to ≤ events }
+    requires within { All (λ y. y ≤ events) columns.now }
+{
+    let from = usize::from(arc.from.number());
+    let to = usize::from(arc.to.number());
+    let mut hubs = [Hub {
+        column: 0,
+        gain: i64::MIN,
+    }; HUBS];
+    for column in columns {
+        let place = usize::from(*column);
+        let gain = entry_of(entries, events, from, place) - entry_of(entries, events, to, place);
+        if hubs[0].gain < gain {
+            let column = *column;
+            rise(&mut hubs, Hub { column, gain });
+        }
+    }
+    hubs
+}
+
+// Puts a hub in the place of the first, and moves it up to where it belongs.
+fn rise(hubs: &mut [Hub; HUBS], hub: Hub) {
+    hubs[0] = hub;
+    for place in 1..HUBS {
+        if hub.gain <= hubs[place].gain {
+            return;
+        }
+        hubs.swap(place - 1, place);
+    }
+}
+
+// Puts the hub, or some column where it is not left, at `begin`, and after it those of the columns
+// from there on that lie beyond it; answers where these end.
+fn gather(
+    entries: &[i64],
+    events: usize,
+    arc: &Arc,
+    columns: &mut [u16],
+    begin: usize,
+    hub: u16,
+) -> usize
+    requires whole { IsWhole events entries.now }
+    requires closed { IsClosed events (entry entries.now events) }
+    requires to { arc.now.to ≤ events }
+    requires begin { begin < length columns.old }
+    requires within { All (λ y. y ≤ events) columns.old }
+    ensures permutation { IsPermutation columns.old columns.new }
+    ensures kept { (i : ℕ) → i < begin → slice_index_or columns.new i 0 ≡ slice_index_or columns.old i 0 }
+    ensures begins { begin < result }
+    ensures ends { result ≤ length columns.old }
+    ensures beyond { (i : ℕ) → begin < i → i < result
+        → IsOnWay (entry entries.now events) arc.now.to (slice_index_or columns.new begin 0) (slice_index_or columns.new i 0) }
+{
+    let to = usize::from(arc.to.number());
+    let there = place_of(columns, begin, hub);
+    columns.swap(begin, there);
+    let first = usize::from(columns[begin]);
+    let far = entry_of(entries, events, to, first);
+    let mut end = begin + 1;
+    for place in begin + 1..columns.len() {
+        let column = usize::from(columns[place]);
+        if far + entry_of(entries, events, first, column) <= entry_of(entries, events, to, column) {
+            columns.swap(end, place);
+            end += 1;
+        }
+    }
+    end
+}
+
+// The first place of the column from `begin` on, or else `begin`.
+fn place_of(columns: &[u16], begin: usize, column: u16) -> usize
+    requires { begin < length columns.now }
+    ensures least { begin ≤ result }
+    ensures within { result < length columns.now }
+{
+    for place in begin..columns.len() {
+        if columns[place] == column {
+            return place;
+        }
+    }
+    begin
+}
