@@ -18,7 +18,9 @@ from pathlib import Path
 
 TOP = Path(__file__).resolve().parent.parent
 PROGRAM = TOP / "crates" / "stn" / "out" / "launcher" / "stn"
-HORIZON = 1_000_000_000
+HORIZON = 31_536_000_000
+# Over how many milliseconds the events of a hidden schedule are spread: the same at every horizon, so that figures compare.
+SPREAD = 1_000_000_000
 COUNTED = ["valgrind", "--tool=callgrind", f"--callgrind-out-file={os.devnull}"]
 
 
@@ -32,12 +34,12 @@ def event(number):
 
 def bounds(rng, events, count):
     """Random bounds that a hidden schedule meets."""
-    schedule = [0] + [rng.randrange(HORIZON) for _ in range(events)]
+    schedule = [0] + [rng.randrange(SPREAD) for _ in range(events)]
     for _ in range(count):
         first, second = rng.sample(range(events + 1), 2)
         gap = schedule[second] - schedule[first]
-        low = max(-HORIZON, gap - rng.randrange(1_000_000))
-        high = min(HORIZON, gap + rng.randrange(1_000_000))
+        low = max(-SPREAD, gap - rng.randrange(1_000_000))
+        high = min(SPREAD, gap + rng.randrange(1_000_000))
         yield f"{event(first)} {event(second)} {text(low)} {text(high)}"
 
 
@@ -147,8 +149,8 @@ def frame(body):
 
 def log_of(records):
     """A log of a bare plan of 256 steps and so many records that bound nothing."""
-    listed = b"".join(struct.pack(">HHBHHII", 1, number + 1, 0, 0, 1, 0, 2 * HORIZON) for number in range(records))
-    return frame(struct.pack(">BBH", 1, 0, 256)) + frame(struct.pack(">BH", 2, records) + listed + struct.pack(">H", 0))
+    listed = b"".join(struct.pack(">HHBHHQQ", 1, number + 1, 0, 0, 1, 0, 2 * HORIZON) for number in range(records))
+    return frame(struct.pack(">BBH", 7, 0, 256)) + frame(struct.pack(">BH", 8, records) + listed + struct.pack(">H", 0))
 
 
 def frames(folder):
@@ -182,7 +184,7 @@ def send_pieces(port, data, piece):
 
 def feed(folder):
     """Sessions of HELLO frames, in pieces of one byte (1 MiB of them), of 1,460 bytes and whole (16 MiB)."""
-    hello = frame(struct.pack(">BBH", 1, 0, 1))
+    hello = frame(struct.pack(">BBH", 7, 0, 1))
     for piece, size in ((1, 1 << 20), (1460, 1 << 24), (1 << 24, 1 << 24)):
         subprocess.run([str(PROGRAM), "bare", f"feed{piece}.log", "1", "1"], cwd=folder, stdout=subprocess.DEVNULL, check=False)
         with socket.socket() as probe:

@@ -3,14 +3,16 @@
 
 usage: bench/changed.py < crates/changed_bytes/stdin > crates/changed_bytes/stdout
 
-A frame is read, is less than a frame, or has a fault: 50, 51 or 52. A log is read or refused.
+A frame is read, is old, is less than a frame, or has a fault: 50, 51 or 52. A log of either version is read or refused.
 """
 import sys
 
-HORIZON = 1_000_000_000
+HORIZON, OLD_HORIZON = 31_536_000_000, 1_000_000_000
 MOST_BODY = 262_144
 MOST_IDS = 4096
-HELLO, RECORDS, TEXT, REFUSED = 1, 2, 4, 5
+OLD_HELLO, OLD_RECORDS, TEXT, REFUSED, HELLO, RECORDS = 1, 2, 4, 5, 7, 8
+KINDS = range(1, 9)
+OLD = (OLD_HELLO, OLD_RECORDS)
 
 
 class Fault(Exception):
@@ -55,19 +57,33 @@ def an_id(reader):
 
 
 def a_record(reader):
-    mark, start, to, lo, hi = (reader.number(count) for count in (1, 2, 2, 4, 4))
+    mark, start, to, low, high = (reader.number(count) for count in (1, 2, 2, 8, 8))
     rule(mark <= 1 and start <= 512 and to <= 512 and start != to)
-    rule(lo <= hi <= 2 * HORIZON)
-    rule(mark == 0 or (start == 0 and lo == hi))
-    return mark, start, to, lo, hi
+    rule(low <= high <= 2 * HORIZON)
+    rule(mark == 0 or (start == 0 and low == high))
+    return mark, start, to, low - HORIZON, high - HORIZON
 
 
-def records_of(reader):
+def an_old_record(reader):
+    """The record of the old layout; a plain one's side that is open within the old horizon is open within the new."""
+    mark, start, to, low, high = (reader.number(count) for count in (1, 2, 2, 4, 4))
+    rule(mark <= 1 and start <= 512 and to <= 512 and start != to)
+    rule(low <= high <= 2 * OLD_HORIZON)
+    rule(mark == 0 or (start == 0 and low == high))
+    low, high = low - OLD_HORIZON, high - OLD_HORIZON
+    if mark == 0 and low == -OLD_HORIZON:
+        low = -HORIZON
+    if mark == 0 and high == OLD_HORIZON:
+        high = HORIZON
+    return mark, start, to, low, high
+
+
+def records_of(reader, record_of):
     added, last = {}, (0, 0)
     for _ in range(reader.number(2)):
         one = an_id(reader)
         rule(last < one)
-        added[one] = a_record(reader)
+        added[one] = record_of(reader)
         last = one
     withdrawn, last = set(), (0, 0)
     for _ in range(reader.number(2)):
@@ -91,10 +107,12 @@ def source_of(reader):
 def content_of(body):
     reader = Reader(body)
     kind = reader.number(1)
-    if kind == HELLO:
+    if kind in (HELLO, OLD_HELLO):
         content = source_of(reader)
     elif kind == RECORDS:
-        content = records_of(reader)
+        content = records_of(reader, a_record)
+    elif kind == OLD_RECORDS:
+        content = records_of(reader, an_old_record)
     elif kind == TEXT:
         content = reader.take(len(body) - 1)
     elif kind == REFUSED:
@@ -114,7 +132,7 @@ def frame_of(data):
         raise Fault(50)
     if len(data) < 5:
         return None
-    if not 1 <= data[4] <= 6:
+    if data[4] not in KINDS:
         raise Fault(51)
     if len(data) < 4 + length:
         return None
@@ -147,23 +165,26 @@ class Replica:
 
 def frame_case(data):
     try:
-        return "unfinished" if frame_of(data) is None else "read"
+        frame = frame_of(data)
+        if frame is None:
+            return "unfinished"
+        return "old" if frame[0] in OLD else "read"
     except Fault as fault:
         return str(fault.code)
 
 
 def load(data):
-    """The replica of a log."""
-    replica = None
+    """The replica of a log, whose frames are all of one version."""
+    replica, wanted = None, {HELLO: RECORDS, OLD_HELLO: OLD_RECORDS}
     while data or replica is None:
         frame = frame_of(data)
         if frame is None:
             raise Fault(62)
         kind, content, length = frame
-        if kind != (HELLO if replica is None else RECORDS):
+        if kind not in wanted:
             raise Fault(62)
         if replica is None:
-            replica = Replica(content)
+            replica, wanted = Replica(content), (wanted[kind],)
         else:
             replica.take(*content)
         data = data[length:]

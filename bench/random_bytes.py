@@ -11,7 +11,7 @@ import sys
 
 sys.dont_write_bytecode = True
 
-from changed import HELLO, RECORDS, Fault, Replica, frame_of, load, log_case
+from changed import HELLO, HORIZON, OLD, RECORDS, Fault, Replica, frame_of, load, log_case
 
 ASK = 3
 
@@ -19,8 +19,9 @@ ASK = 3
 def log_of(replica):
     """The log of a replica: all that it holds."""
     body = bytes([RECORDS]) + len(replica.added).to_bytes(2, "big")
-    for one, record in sorted(replica.added.items()):
-        body += b"".join(number.to_bytes(count, "big") for number, count in zip(one + record, (2, 2, 1, 2, 2, 4, 4)))
+    for one, (mark, start, to, low, high) in sorted(replica.added.items()):
+        numbers = (*one, mark, start, to, low + HORIZON, high + HORIZON)
+        body += b"".join(number.to_bytes(count, "big") for number, count in zip(numbers, (2, 2, 1, 2, 2, 8, 8)))
     body += len(replica.withdrawn).to_bytes(2, "big")
     body += b"".join(number.to_bytes(2, "big") for one in sorted(replica.withdrawn) for number in one)
     hello = bytes([HELLO, 0]) + replica.steps.to_bytes(2, "big")
@@ -39,6 +40,8 @@ def serve(data):
             return "unfinished", frames, replica
         kind, content, length = frame
         frames += 1
+        if kind in OLD:
+            return "65", frames, replica
         if kind == HELLO and content != 1:
             return "60", frames, replica
         if kind == HELLO:
@@ -115,14 +118,14 @@ def print_random_sessions(count, frames):
     print(f"{count} random sessions: {tally_text(cases)}, {answered} frames, left {left.hexdigest()}")
 
 
-def print_random_logs(count, frames):
+def print_random_logs(count, name, frames):
     random, cases, left = Pcg32(43, 54), [], hashlib.md5()
     for _ in range(count):
         data = hostile(random, frames)
         cases.append(log_case(data))
         if cases[-1] == "read":
             left.update(log_of(load(data)))
-    print(f"{count} random logs: {tally_text(cases)}, left {left.hexdigest()}")
+    print(f"{count} {name}: {tally_text(cases)}, left {left.hexdigest()}")
 
 
 def main():
@@ -130,7 +133,8 @@ def main():
     count = int(sys.argv[1])
     frames = [bytes.fromhex(line.split()[1]) for line in sys.stdin]
     print_random_sessions(count, frames)
-    print_random_logs(count, [frame for frame in frames if frame[4] in (HELLO, RECORDS)])
+    print_random_logs(count, "random logs", [frame for frame in frames if frame[4] in (HELLO, RECORDS, *OLD)])
+    print_random_logs(count, "random old logs", [frame for frame in frames if frame[4] in OLD])
 
 
 main()

@@ -12,7 +12,8 @@ each, in any order and some of them twice. At the end each site reports, and all
 import random
 import sys
 
-HORIZON = 1_000_000_000
+# Over how many milliseconds the events of the hidden schedule are spread.
+SPREAD = 1_000_000_000
 MOST_PACKETS = 256
 
 
@@ -29,7 +30,7 @@ class Simulation:
 
     def __init__(self, seed, sites, steps):
         self.rng = random.Random(seed)
-        self.schedule = [0] + [self.rng.randrange(HORIZON) for _ in range(2 * steps)]
+        self.schedule = [0] + [self.rng.randrange(SPREAD) for _ in range(2 * steps)]
         self.sites = [(set(), set()) for _ in range(sites)]
         self.packets = []
         self.lines = [f"steps {steps}", f"sites {sites}"]
@@ -45,8 +46,8 @@ class Simulation:
         records, withdrawn = self.sites[site]
         first, second = self.rng.sample(range(len(self.schedule)), 2)
         gap = self.schedule[second] - self.schedule[first]
-        low = max(-HORIZON, gap - self.rng.randrange(100_000_000))
-        high = min(HORIZON, gap + self.rng.randrange(100_000_000))
+        low = max(-SPREAD, gap - self.rng.randrange(100_000_000))
+        high = min(SPREAD, gap + self.rng.randrange(100_000_000))
         counter = 1 + max((own for maker, own in records | withdrawn if maker == site), default=0)
         records.add((site, counter))
         self.say(site, f"add {event(first)} {event(second)} {text(low)} {text(high)}")

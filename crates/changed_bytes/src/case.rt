@@ -14,6 +14,8 @@ use stn_wire::{Fed, Feeder, Frame, WireFault, decode, encode};
 pub enum Case {
     /// They are read, and what was read is written back.
     Read,
+    /// They are a frame of the old version, which is read and never written.
+    Old,
     /// They are refused with this code.
     Refused(u8),
     /// They are less than a frame.
@@ -26,6 +28,7 @@ impl fmt::Display for Case {
     fn fmt<W: fmt::Write>(&self, f: &mut fmt::Formatter<W>) -> fmt::Result {
         match self {
             Case::Read => write!(f, "read"),
+            Case::Old => write!(f, "old"),
             Case::Refused(code) => write!(f, "{code}"),
             Case::Unfinished => write!(f, "unfinished"),
             Case::Broken => write!(f, "broken"),
@@ -38,26 +41,28 @@ fn of_wire(fault: WireFault) -> Case {
         WireFault::Length => Case::Refused(50),
         WireFault::Kind => Case::Refused(51),
         WireFault::Body => Case::Refused(52),
-        WireFault::Memory => Case::Broken,
+        WireFault::OldFrame | WireFault::Memory => Case::Broken,
     }
 }
 
-// Whether the spelling of a frame is these bytes.
-fn is_spelled(alloc: Global, frame: &Frame<Global>, bytes: Option<&[u8]>) -> bool {
+fn is_old(frame: &Frame<Global>) -> bool {
+    matches!(frame, Frame::OldHello(_) | Frame::OldRecords(_))
+}
+
+// What a frame is that was read from these bytes, which have to be its spelling; an old one has none.
+fn of_spelling(alloc: Global, frame: &Frame<Global>, bytes: Option<&[u8]>) -> Case {
     let mut out = Vec::new(alloc);
-    encode(frame, &mut out).is_ok() && Some(out.as_slice()) == bytes
+    match encode(frame, &mut out) {
+        Ok(()) if Some(out.as_slice()) == bytes => Case::Read,
+        Err(WireFault::OldFrame) if is_old(frame) => Case::Old,
+        _ => Case::Broken,
+    }
 }
 
 // The frame in front of the bytes.
 fn whole_frame(alloc: Global, bytes: &[u8]) -> Case {
     match decode(alloc, bytes) {
-        Ok(Some((frame, length))) => {
-            if is_spelled(alloc, &frame, bytes.get(..length)) {
-                Case::Read
-            } else {
-                Case::Broken
-            }
-        }
+        Ok(Some((frame, length))) => of_spelling(alloc, &frame, bytes.get(..length)),
         Ok(None) => Case::Unfinished,
         Err(fault) => of_wire(fault),
     }
@@ -71,8 +76,7 @@ fn fed_frame(alloc: Global, bytes: &[u8]) -> Case {
             Ok(fed) => {
                 let Fed { used: _, frame } = fed;
                 if let Some(frame) = frame {
-                    let spelled = is_spelled(alloc, &frame, bytes.get(..at + 1));
-                    return if spelled { Case::Read } else { Case::Broken };
+                    return of_spelling(alloc, &frame, bytes.get(..at + 1));
                 }
             }
             Err(fault) => return of_wire(fault),

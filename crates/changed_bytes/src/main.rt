@@ -1,7 +1,8 @@
 //! For tests: what becomes of a frame and of a log that is cut or changed. A line of standard input has a name, the word `frame` or
 //! `log`, and bytes in hex. Of each it prints what becomes of the bytes cut to each length from 0 on, and where each byte is each
 //! value from 0 to 255: `read`, where they are read, and what was read is written back as these bytes or, of a log, is saved and
-//! loaded again with the same report; `unfinished`; or the code of the refusal. A frame is read whole, and byte by byte as well.
+//! loaded again with the same report; `old`, of a frame of the old version, which is read and never written; `unfinished`; or the
+//! code of the refusal. A frame is read whole, and byte by byte as well.
 #![tactic(auto)]
 
 mod case;

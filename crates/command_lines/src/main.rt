@@ -89,7 +89,7 @@ fn withdrawn(alloc: Global, site: u16, many: u16) -> io::Result<Vec<u8>> {
     let mut frame = Vec::new(alloc);
     let length = 5 + 4 * u32::from(many);
     frame.extend_from_slice(&length.to_be_bytes())?;
-    frame.extend_from_slice(&[2, 0, 0])?;
+    frame.extend_from_slice(&[8, 0, 0])?;
     frame.extend_from_slice(&many.to_be_bytes())?;
     for counter in 1..=many {
         frame.extend_from_slice(&site.to_be_bytes())?;

@@ -18,12 +18,16 @@ use stn_shell::{FileStore, execute, send_on, serve_on};
 const REQUESTS_LENGTH: u64 = 22;
 
 // What a site with the records 1.1 and 1.2 replies to them: SAME, RECORDS, and TEXT, of which the report follows.
-const REPLIES: [u8; 53] = [
+const REPLIES: [u8; 69] = [
     0, 0, 0, 1, 6, // SAME
-    0, 0, 0, 0x27, 2, // RECORDS
+    0, 0, 0, 0x37, 8, // RECORDS
     0, 2, // two records
-    0, 1, 0, 1, 0, 0, 1, 0, 2, 0x3b, 0x9a, 0xdd, 0x88, 0x3b, 0x9a, 0xdd, 0x88, // 1.1
-    0, 1, 0, 2, 0, 0, 0, 0, 1, 0x3b, 0x9a, 0xd1, 0xd0, 0x3b, 0x9a, 0xf1, 0x10, // 1.2
+    0, 1, 0, 1, 0, 0, 1, 0, 2, // 1.1 from s1 to e1
+    0, 0, 0, 7, 0x57, 0xb1, 0x3f, 0x88, // 5.000
+    0, 0, 0, 7, 0x57, 0xb1, 0x3f, 0x88, // 5.000
+    0, 1, 0, 2, 0, 0, 0, 0, 1, // 1.2 from z to s1
+    0, 0, 0, 7, 0x57, 0xb1, 0x33, 0xd0, // 2.000
+    0, 0, 0, 7, 0x57, 0xb1, 0x53, 0x10, // 10.000
     0, 0, // no tombstone
     0, 0, 0, 0x55, 4, // TEXT
 ];
@@ -123,7 +127,7 @@ fn serve_refused(rt: &HostRuntime, listener: &TcpListener) -> Result<(), Error> 
 // A connection that ends within a frame, and one that says nothing.
 fn serve_broken(rt: &HostRuntime, listener: &TcpListener) -> Result<(), Error> {
     let stream = TcpStream::connect(rt, listener.local_addr()?)?;
-    (&stream).write_all(&[0, 0, 0, 4, 1])?;
+    (&stream).write_all(&[0, 0, 0, 4, 7])?;
     drop(stream);
     drop(TcpStream::connect(rt, listener.local_addr()?)?);
     serve_waiting(rt, listener, 2)
@@ -138,13 +142,16 @@ fn send(rt: &HostRuntime, listener: &TcpListener) -> Result<(), Error> {
 }
 
 // Requests that site 1 answers, each over a connection of its own whose other end says nothing more: a HELLO of another plan, ASK
-// before any HELLO, an unknown kind, a HELLO and a body that breaks a rule; a HELLO, a record 1.1 that clashes, and ASK.
-const REQUESTS: [&str; 5] = [
-    "0000000401000002",
+// before any HELLO, an unknown kind, a HELLO and a body that breaks a rule; a HELLO, a record 1.1 that clashes, and ASK; an old
+// HELLO; a HELLO and old RECORDS.
+const REQUESTS: [&str; 7] = [
+    "0000000407000002",
     "0000000103",
     "0000000109",
-    "00000004010000010000000102",
-    "0000000401000001000000160200010001000100000000013b9aca003b9aca0000000000000103",
+    "00000004070000010000000108",
+    "00000004070000010000001e0800010001000100000000010000000757b12c000000000757b12c0000000000000103",
+    "0000000401000001",
+    "0000000407000001000000050200000000",
 ];
 
 // Sends requests, and says that nothing more comes.
@@ -174,10 +181,12 @@ fn print_replies(rt: &HostRuntime, other: &TcpStream) -> Result<(), Error> {
 }
 
 // A HELLO, and the record 3.1 from z to s1 at 3.000.
-const BEFORE_ASKING: [u8; 34] = [
-    0, 0, 0, 4, 1, 0, 0, 1, // HELLO
-    0, 0, 0, 0x16, 2, 0, 1, // RECORDS, one record
-    0, 3, 0, 1, 0, 0, 0, 0, 1, 0x3b, 0x9a, 0xd5, 0xb8, 0x3b, 0x9a, 0xd5, 0xb8, // 3.1
+const BEFORE_ASKING: [u8; 42] = [
+    0, 0, 0, 4, 7, 0, 0, 1, // HELLO
+    0, 0, 0, 0x1e, 8, 0, 1, // RECORDS, one record
+    0, 3, 0, 1, 0, 0, 0, 0, 1, // 3.1 from z to s1
+    0, 0, 0, 7, 0x57, 0xb1, 0x37, 0xb8, // 3.000
+    0, 0, 0, 7, 0x57, 0xb1, 0x37, 0xb8, // 3.000
     0, 0, // no tombstone
 ];
 
@@ -206,16 +215,17 @@ fn serve_unsaved(rt: &HostRuntime, listener: &TcpListener) -> Result<(), Error> 
 }
 
 // Replies that are refused: REFUSED 52, SAME and the end, a length of 0, an unknown kind, a body that breaks a rule, ASK; SAME, a
-// record 1.3 and ASK; SAME and a record 1.1 that clashes.
-const REFUSED_REPLIES: [&str; 8] = [
+// record 1.3 and ASK; SAME and a record 1.1 that clashes; SAME and old RECORDS.
+const REFUSED_REPLIES: [&str; 9] = [
     "000000020534",
     "0000000106",
     "00000000",
     "0000000109",
-    "0000000102",
+    "0000000108",
     "0000000103",
-    "0000000106000000160200010001000300000000013b9aca003b9aca0000000000000103",
-    "0000000106000000160200010001000100000000013b9aca003b9aca000000",
+    "00000001060000001e0800010001000300000000010000000757b12c000000000757b12c0000000000000103",
+    "00000001060000001e0800010001000100000000010000000757b12c000000000757b12c000000",
+    "0000000106000000050200000000",
 ];
 
 // Sends over a connection on which these replies wait.

@@ -28,7 +28,7 @@ fn of_wire(fault: WireFault) -> Case {
         WireFault::Length => Case::Refused(50),
         WireFault::Kind => Case::Refused(51),
         WireFault::Body => Case::Refused(52),
-        WireFault::Memory => Case::Broken,
+        WireFault::OldFrame | WireFault::Memory => Case::Broken,
     }
 }
 

@@ -1,7 +1,8 @@
 //! For tests: sessions and logs of random bytes, and of random changes to the frames of the input, as many of each as the argument
-//! says. Each comes whole and byte by byte, with the same answer, replies and state, and what the replica then holds is saved and
-//! loaded again with the same report. It prints how often each answer came, and the digest of what the replicas then saved. A line
-//! of standard input has a name and the bytes of a frame in hex; the first is HELLO of a bare plan of one step.
+//! says, and as many logs again that have frames of the old version alone. Each comes whole and byte by byte, with the same answer,
+//! replies and state, and what the replica then holds is saved and loaded again with the same report. It prints how often each answer
+//! came, and the digest of what the replicas then saved. A line of standard input has a name and the bytes of a frame in hex; the
+//! first is HELLO of a bare plan of one step.
 #![tactic(auto)]
 
 mod case;
@@ -24,11 +25,20 @@ fn read_frames(rt: &HostRuntime) -> Result<Vec<Vec<u8>>, Error> {
     Ok(frames)
 }
 
-// The frames that a log may have: HELLO and RECORDS.
-fn of_logs(rt: &HostRuntime, frames: &[Vec<u8>]) -> Result<Vec<Vec<u8>>, Error> {
+// The frames that a log may have, HELLO and RECORDS: of the old version alone, or of either.
+fn of_logs(
+    rt: &HostRuntime,
+    frames: &[Vec<u8>],
+    old_alone: bool,
+) -> Result<Vec<Vec<u8>>, Error> {
     let mut some = Vec::new(rt.alloc());
     for frame in frames {
-        if matches!(frame.get(4), Some(1 | 2)) {
+        let wanted = match frame.get(4) {
+            Some(1 | 2) => true,
+            Some(7 | 8) => !old_alone,
+            _ => false,
+        };
+        if wanted {
             some.push(Vec::from_slice(rt.alloc(), frame)?)?;
         }
     }
@@ -45,6 +55,8 @@ fn main(rt: HostRuntime) -> Result<(), Error> {
     let count = wanted(&rt)?;
     let frames = read_frames(&rt)?;
     print_sessions(&rt, count, &frames)?;
-    let frames = of_logs(&rt, &frames)?;
-    print_logs(&rt, count, &frames)
+    let of_either = of_logs(&rt, &frames, false)?;
+    print_logs(&rt, count, "random logs", &of_either)?;
+    let old = of_logs(&rt, &frames, true)?;
+    print_logs(&rt, count, "random old logs", &old)
 }

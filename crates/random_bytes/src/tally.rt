@@ -105,14 +105,19 @@ pub fn print_sessions(rt: &HostRuntime, count: u32, frames: &[Vec<u8>]) -> Resul
 }
 
 /// What became of so many logs, and the digest of what was read.
-pub fn print_logs(rt: &HostRuntime, count: u32, frames: &[Vec<u8>]) -> Result<(), Error> {
+pub fn print_logs(
+    rt: &HostRuntime,
+    count: u32,
+    name: &str,
+    frames: &[Vec<u8>],
+) -> Result<(), Error> {
     let mut random = Pcg32::new(43, 54);
     let mut tally = NONE;
     let mut left = Md5::new();
     for _ in 0..count {
         count_log(rt.alloc(), &mut random, frames, &mut tally, &mut left)?;
     }
-    print!(rt; "{count} random logs: ")?;
+    print!(rt; "{count} {name}: ")?;
     print_tally(rt, &tally)?;
     print_digest(rt, left)
 }

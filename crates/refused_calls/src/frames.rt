@@ -68,10 +68,26 @@ fn is_spelled<A: Allocator + Copy>(
     Ok(out.as_slice() == bytes)
 }
 
-// Whether the bytes are one frame, whose spelling is the bytes; or want of memory.
-fn is_read<A: Allocator + Copy>(alloc: Global, heap: A, bytes: &[u8]) -> Result<bool, WireFault> {
+// What an old frame holds, as a frame that can be written; any other frame itself.
+fn renewed<A: Allocator + Copy>(frame: Frame<A>) -> Frame<A> {
+    match frame {
+        Frame::OldHello(source) => Frame::Hello(source),
+        Frame::OldRecords(records) => Frame::Records(records),
+        other => other,
+    }
+}
+
+// Whether the bytes are one frame, which is renewed as the wanted bytes; or want of memory.
+fn is_read<A: Allocator + Copy>(
+    alloc: Global,
+    heap: A,
+    bytes: &[u8],
+    wanted: &[u8],
+) -> Result<bool, WireFault> {
     match decode(heap, bytes)? {
-        Some((frame, length)) => Ok(length == bytes.len() && is_spelled(alloc, &frame, bytes)?),
+        Some((frame, length)) => {
+            Ok(length == bytes.len() && is_spelled(alloc, &renewed(frame), wanted)?)
+        }
         None => Ok(false),
     }
 }
@@ -80,27 +96,28 @@ fn decode_refused(
     alloc: Global,
     heap: &Refusing<Global>,
     bytes: &[u8],
+    wanted: &[u8],
     failing: Failing,
 ) -> Outcome {
     begin_refusing(heap, failing);
-    let answer = is_read(alloc, heap, bytes);
+    let answer = is_read(alloc, heap, bytes, wanted);
     let refused = end_refusing(heap, failing);
     let right = match answer {
         Ok(read) => read,
-        Err(WireFault::Memory) => refused && is_read(alloc, heap, bytes) == Ok(true),
+        Err(WireFault::Memory) => refused && is_read(alloc, heap, bytes, wanted) == Ok(true),
         Err(_) => false,
     };
     outcome_of(refused, right)
 }
 
-/// Whether `decode` of the frame with these bytes answers each refused request.
-pub fn decodes(alloc: Global, bytes: &[u8]) -> Result<bool, Error> {
+/// Whether `decode` of the frame with these bytes reads what is written as the wanted bytes, and answers each refused request.
+pub fn decodes(alloc: Global, bytes: &[u8], wanted: &[u8]) -> Result<bool, Error> {
     each_is_answered(alloc, Kind::Memory, |heap, failing| {
-        Ok(decode_refused(alloc, heap, bytes, failing))
+        Ok(decode_refused(alloc, heap, bytes, wanted, failing))
     })
 }
 
-// Feeds a piece, and appends the spelling of the frame that it completes. It gives how many bytes were taken.
+// Feeds a piece, and appends what is written of the frame that it completes. It gives how many bytes were taken.
 fn feed_piece<A: Allocator + Copy>(
     feeder: &mut Feeder<A>,
     piece: &[u8],
@@ -108,7 +125,7 @@ fn feed_piece<A: Allocator + Copy>(
 ) -> Result<usize, WireFault> {
     let Fed { used, frame } = feeder.feed(piece)?;
     if let Some(frame) = frame {
-        encode(&frame, spelled)?;
+        encode(&renewed(frame), spelled)?;
     }
     Ok(used)
 }
@@ -133,7 +150,13 @@ fn stream<A: Allocator + Copy>(
     Ok(again)
 }
 
-fn feed_refused(alloc: Global, heap: &Refusing<Global>, bytes: &[u8], failing: Failing) -> Outcome {
+fn feed_refused(
+    alloc: Global,
+    heap: &Refusing<Global>,
+    bytes: &[u8],
+    wanted: &[u8],
+    failing: Failing,
+) -> Outcome {
     let mut feeder = Feeder::new(heap);
     let mut spelled = Vec::new(alloc);
     begin_refusing(heap, failing);
@@ -142,14 +165,14 @@ fn feed_refused(alloc: Global, heap: &Refusing<Global>, bytes: &[u8], failing: F
     let told = again == Ok(0) || refused && again == Ok(1);
     outcome_of(
         refused,
-        told && spelled.as_slice() == bytes && !feeder.middle(),
+        told && spelled.as_slice() == wanted && !feeder.middle(),
     )
 }
 
-/// Whether `Feeder::feed` of the frames with these bytes, in pieces, answers each refused request: after want of memory no
-/// byte was taken, and the same piece goes on.
-pub fn feeds(alloc: Global, bytes: &[u8]) -> Result<bool, Error> {
+/// Whether `Feeder::feed` of the frames with these bytes, in pieces, reads what is written as the wanted bytes, and answers each
+/// refused request: after want of memory no byte was taken, and the same piece goes on.
+pub fn feeds(alloc: Global, bytes: &[u8], wanted: &[u8]) -> Result<bool, Error> {
     each_is_answered(alloc, Kind::Memory, |heap, failing| {
-        Ok(feed_refused(alloc, heap, bytes, failing))
+        Ok(feed_refused(alloc, heap, bytes, wanted, failing))
     })
 }

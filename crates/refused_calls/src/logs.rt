@@ -133,6 +133,7 @@ fn load_refused(
     alloc: Global,
     heap: &Refusing<Global>,
     log: &[u8],
+    wanted: &[u8],
     failing: Failing,
 ) -> Result<Outcome, Error> {
     let site = Site::new(1).context("no site")?;
@@ -142,7 +143,7 @@ fn load_refused(
     let refused = end_refusing(heap, failing) || input.failures() > 0;
     Ok(outcome_of(
         refused,
-        (refused || answer.is_ok()) && is_loaded(alloc, heap, &answer, log, failing.kind),
+        (refused || answer.is_ok()) && is_loaded(alloc, heap, &answer, wanted, failing.kind),
     ))
 }
 
@@ -151,25 +152,27 @@ fn load_twice(
     alloc: Global,
     heap: &Refusing<Global>,
     log: &[u8],
+    wanted: &[u8],
     failing: Failing,
 ) -> Result<Outcome, Error> {
-    let outcome = load_refused(alloc, heap, log, failing)?;
-    if load_refused(alloc, heap, log, NOTHING)? == Outcome::Right {
+    let outcome = load_refused(alloc, heap, log, wanted, failing)?;
+    if load_refused(alloc, heap, log, wanted, NOTHING)? == Outcome::Right {
         Ok(outcome)
     } else {
         Ok(Outcome::Wrong)
     }
 }
 
-fn each_load(alloc: Global, log: &[u8], kind: Kind) -> Result<bool, Error> {
-    each_is_answered(
-        alloc,
-        kind,
-        |heap, failing| load_twice(alloc, heap, log, failing),
-    )
+fn each_load(alloc: Global, log: &[u8], wanted: &[u8], kind: Kind) -> Result<bool, Error> {
+    each_is_answered(alloc, kind, |heap, failing| {
+        load_twice(alloc, heap, log, wanted, failing)
+    })
 }
 
-/// Whether `load` of this log opens a replica whose log it is, and answers each refused call.
-pub fn loads(alloc: Global, log: &[u8]) -> Result<bool, Error> {
-    Ok(each_load(alloc, log, Kind::Memory)? && each_load(alloc, log, Kind::Read)?)
+/// Whether `load` of this log opens a replica that saves the wanted log, and answers each refused call.
+pub fn loads(alloc: Global, log: &[u8], wanted: &[u8]) -> Result<bool, Error> {
+    Ok(
+        each_load(alloc, log, wanted, Kind::Memory)?
+            && each_load(alloc, log, wanted, Kind::Read)?,
+    )
 }

@@ -7,6 +7,8 @@
 //!   words are the logs of before and after.
 //! - `save`, `load`: a log.
 //!
+//! What `decode`, `feed` and `load` read is written again as these bytes, or as those after a word `=`, as of old frames.
+//!
 //! It prints the name, of a session how many frames it answered and how it ended, and whether each call was answered as it must be.
 #![tactic(auto)]
 
@@ -72,13 +74,15 @@ fn bytes_of_all(alloc: Global, words: &str) -> Result<Vec<u8>, Error> {
 
 // Whether a call answers each refused call.
 fn is_answered(rt: &HostRuntime, call: &str, words: &str) -> Result<bool, Error> {
+    let (words, wanted) = words.split_once(" = ").unwrap_or((words, words));
     let bytes = bytes_of_all(rt.alloc(), words)?;
+    let wanted = bytes_of_all(rt.alloc(), wanted)?;
     match call {
         "encode" => encodes(rt.alloc(), &bytes),
-        "decode" => decodes(rt.alloc(), &bytes),
-        "feed" => feeds(rt.alloc(), &bytes),
+        "decode" => decodes(rt.alloc(), &bytes, &wanted),
+        "feed" => feeds(rt.alloc(), &bytes, &wanted),
         "save" => saves(rt.alloc(), &bytes),
-        "load" => loads(rt.alloc(), &bytes),
+        "load" => loads(rt.alloc(), &bytes, &wanted),
         _ => is_exchanged(rt, call, words),
     }
 }

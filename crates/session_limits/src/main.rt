@@ -14,7 +14,7 @@ use stn_replica::Replica;
 use stn_session::{ServeFault, Served, serve};
 
 // HELLO of a bare plan of one step, and SAME.
-const HELLO: [u8; 8] = [0, 0, 0, 4, 1, 0, 0, 1];
+const HELLO: [u8; 8] = [0, 0, 0, 4, 7, 0, 0, 1];
 
 const SAME: [u8; 5] = [0, 0, 0, 1, 6];
 
@@ -95,7 +95,9 @@ fn append_records(bytes: &mut Vec<u8>, count: u16) -> Result<(), Error> {
         let counter = number.wrapping_add(1);
         bytes.extend_from_slice(&[0, 1])?;
         bytes.extend_from_slice(&counter.to_be_bytes())?;
-        bytes.extend_from_slice(&[0, 0, 0, 0, 1, 0, 0, 0, 0, 0x77, 0x35, 0x94, 0])?;
+        bytes.extend_from_slice(&[0, 0, 0, 0, 1])?;
+        bytes.extend_from_slice(&[0, 0, 0, 0, 0, 0, 0, 0])?;
+        bytes.extend_from_slice(&[0, 0, 0, 0x0e, 0xaf, 0x62, 0x58, 0])?;
     }
     Ok(())
 }
@@ -145,7 +147,7 @@ fn told(alloc: Global, first: &[u8], rest: &[Held]) -> Result<Vec<u8>, Error> {
         let mut lists = Vec::new(alloc);
         append_records(&mut lists, held.records)?;
         append_withdrawn(&mut lists, held.site, held.withdrawn)?;
-        append_frame(&mut bytes, 2, &lists)?;
+        append_frame(&mut bytes, 8, &lists)?;
     }
     Ok(bytes)
 }

@@ -26,8 +26,9 @@ A refusal is printed as `refused` and a number, and nothing is changed:
   40  an id has two records    41  too many ids               42  no such record
   43  a site's ids are spent
   50  frame: length            51  frame: kind                52  frame: body
+  53  frame: old version
   60  logs of different plans  61  unexpected frame           62  no log
-  63  unexpected reply         64  LOG is there already
+  63  unexpected reply         64  LOG is there already       65  a site of an old version
   70  not of this form         71  no such site               72  no such packet
   73  too many packets
 

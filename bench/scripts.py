@@ -1,0 +1,468 @@
+#!/usr/bin/env python3
+"""Prints what the program script_outputs is to print, by the formats alone (docs/FORMATS.md).
+
+usage: cd crates/script_outputs; ../../bench/scripts.py $(cat args) < stdin > stdout
+       bench/scripts.py - < SCRIPT        the output of one script
+
+The greatest differences of all pairs of events are kept as a table, which each bound shortens; a conflict is found bound by bound.
+"""
+import re
+import sys
+from dataclasses import dataclass, field
+from pathlib import Path
+
+sys.dont_write_bytecode = True
+
+from plans import EVENTS, HORIZON, MOST_STEPS, Refused, event_text, horizon_bounds, is_digits, lifted, read_time, time_text
+
+MOST_SITES = 64
+MOST_COUNTER = 65_535
+MOST_IDS = 4096
+MOST_PACKETS = 256
+MOST_SWEPT = 1024
+
+
+@dataclass(frozen=True)
+class Bound:
+    """A bound with its name; an upper link goes from `start` to `to`, a lower one back."""
+
+    name: str
+    start: int
+    to: int
+    low: int
+    high: int
+
+    def links(self):
+        return Link(self, "upper", self.start, self.to, self.high), Link(self, "lower", self.to, self.start, -self.low)
+
+    def is_met(self, times):
+        return self.low <= times[self.to] - times[self.start] <= self.high
+
+
+@dataclass(frozen=True)
+class Link:
+    bound: Bound
+    side: str
+    begins: int
+    ends: int
+    weight: int
+
+    def text(self):
+        bound, value = self.bound, self.weight if self.side == "upper" else -self.weight
+        return f"{bound.name} {self.side} {event_text(bound.start)} {event_text(bound.to)} {time_text(value)}"
+
+
+class Table:
+    """The greatest difference of each event from each other over all schedules."""
+
+    def __init__(self, events):
+        self.rows = [[0] + [HORIZON] * events for _ in range(events + 1)]
+        for event in range(events + 1):
+            self.rows[event][event] = 0
+
+    def copy(self):
+        other = Table(0)
+        other.rows = [row[:] for row in self.rows]
+        return other
+
+    def earliest(self, event):
+        return -self.rows[event][0]
+
+    def latest(self, event):
+        return self.rows[0][event]
+
+    def refused_link(self, bound):
+        """The link of a bound that no schedule meets, the upper one first."""
+        return next((link for link in bound.links() if self.rows[link.ends][link.begins] + link.weight < 0), None)
+
+    def add(self, bound):
+        for link in bound.links():
+            if link.weight < self.rows[link.begins][link.ends]:
+                onward = self.rows[link.ends]
+                self.rows = [self.row_by(row, link, onward) for row in self.rows]
+
+    @staticmethod
+    def row_by(row, link, onward):
+        way = row[link.begins] + link.weight
+        return row if way >= row[link.ends] else [min(far, way + more) for far, more in zip(row, onward)]
+
+
+def levels_of(start, tight):
+    """How many tight links lead from an event to each other, at least."""
+    levels, ring = {start: 0}, [start]
+    for event in ring:
+        for link in tight:
+            if link.begins == event and link.ends not in levels:
+                levels[link.ends] = levels[event] + 1
+                ring.append(link.ends)
+    return levels
+
+
+def named_cycle(table, bounds, culprit):
+    """The links of the cycle that a report names, over the table of the bounds before the culprit."""
+    first = table.refused_link(culprit)
+    far = table.rows[first.ends]
+    links = [link for bound in bounds[:bounds.index(culprit)] for link in bound.links()]
+    tight = [link for link in links if far[link.begins] + link.weight == far[link.ends]]
+    levels = levels_of(first.ends, tight)
+    way, here = [], first.begins
+    while here != first.ends:
+        way.append(next(link for link in tight if link.ends == here and levels.get(link.begins) == levels[here] - 1))
+        here = way[-1].begins
+    return [first, *reversed(way)]
+
+
+def id_text(one):
+    return f"{one[0]}.{one[1]}"
+
+
+def read_part(text, most):
+    right = is_digits(text) and len(text) <= 5 and text[0] != "0" and int(text) <= most
+    return int(text) if right else None
+
+
+def read_id(text):
+    site, _, counter = text.partition(".")
+    one = read_part(site, MOST_SITES), read_part(counter, MOST_COUNTER)
+    return one if None not in one else None
+
+
+class Plan:
+    """What all sites share."""
+
+    def __init__(self, steps, bounds):
+        self.steps = steps
+        self.events = 2 * steps
+        self.bounds = [Bound(f"plan.{number}", *bound) for number, bound in enumerate(bounds, 1)]
+        self.table = Table(self.events)
+        for bound in self.bounds:
+            self.table.add(bound)
+
+
+def bare_plan(steps):
+    if steps > MOST_STEPS:
+        raise Refused(34)
+    return Plan(steps, horizon_bounds(2 * steps))
+
+
+class Site:
+    """A site: its records, by id a mark and a bound, and the withdrawn ids."""
+
+    def __init__(self, number, plan):
+        self.number = number
+        self.plan = plan
+        self.added = {}
+        self.withdrawn = set()
+
+    def put(self, *record):
+        known = self.added.keys() | self.withdrawn
+        counter = 1 + max((counter for site, counter in known if site == self.number), default=0)
+        if counter > MOST_COUNTER:
+            raise Refused(43)
+        if len(known) >= MOST_IDS:
+            raise Refused(41)
+        self.added[self.number, counter] = record
+        return id_text((self.number, counter))
+
+    def add(self, start, to, low, high):
+        if max(start, to) > self.plan.events:
+            raise Refused(4)
+        if start == to:
+            raise Refused(5)
+        if low > high:
+            raise Refused(6)
+        return self.put("plain", start, to, low, high)
+
+    def done(self, event, time):
+        if not 1 <= event <= self.plan.events:
+            raise Refused(4)
+        return self.put("done", 0, event, time, time)
+
+    def withdraw(self, one):
+        if one not in self.added and one not in self.withdrawn:
+            raise Refused(42)
+        self.withdrawn.add(one)
+        return id_text(one)
+
+    def take(self, packet):
+        """Takes a packet; on sites of one script no id has two records."""
+        added, withdrawn = packet
+        if len(self.added.keys() | self.withdrawn | added.keys() | withdrawn) > MOST_IDS:
+            raise Refused(41)
+        self.added.update(added)
+        self.withdrawn.update(withdrawn)
+
+    def packet(self, items):
+        """What these items are, or all that the site holds."""
+        if not items:
+            return dict(self.added), set(self.withdrawn)
+        if any(one not in (self.withdrawn if mark else self.added) for mark, one in items):
+            raise Refused(42)
+        return {one: self.added[one] for mark, one in items if not mark}, {one for mark, one in items if mark}
+
+    def live(self):
+        return [(id_text(one), *record) for one, record in sorted(self.added.items()) if one not in self.withdrawn]
+
+    def bounds(self):
+        return self.plan.bounds + [Bound(name, *bound) for name, _, *bound in self.live()]
+
+    def done_events(self):
+        return {to for _, mark, _, to, *_ in self.live() if mark == "done"}
+
+    def judged(self):
+        """The table of all bounds, and None; or that of the bounds before the culprit, and the culprit."""
+        table = self.plan.table.copy()
+        for bound in self.bounds()[len(self.plan.bounds):]:
+            if table.refused_link(bound):
+                return table, bound
+            table.add(bound)
+        return table, None
+
+    def report(self):
+        table, culprit = self.judged()
+        lines = [f"plan {self.plan.steps} steps {self.plan.events} events"]
+        lines.append(f"records {len(self.live())} live {len(self.withdrawn)} withdrawn")
+        if culprit:
+            cycle = named_cycle(table, self.bounds(), culprit)
+            lines.append(f"conflict {time_text(sum(link.weight for link in cycle))}")
+            return lines + [link.text() for link in cycle]
+        lines.append("ok")
+        done = self.done_events()
+        for event in range(1, self.plan.events + 1):
+            mark = " done" if event in done else ""
+            lines.append(f"{event_text(event)} {time_text(table.earliest(event))} {time_text(table.latest(event))}{mark}")
+        return lines
+
+    def coming(self, now):
+        """What is left from a time on, by time and event; or the word that says why not, and the overdue event."""
+        table, culprit = self.judged()
+        if culprit:
+            return "conflict", None
+        left = [event for event in range(1, self.plan.events + 1) if event not in self.done_events()]
+        overdue = next((event for event in left if table.latest(event) < now), None)
+        if overdue:
+            return "overdue", event_text(overdue)
+        times = {event: max([table.earliest(event)] + [now - table.rows[event][other] for other in left]) for event in left}
+        return "run", sorted((time, event) for event, time in times.items())
+
+    def next(self, now):
+        word, found = self.coming(now)
+        if word != "run":
+            return [word if found is None else f"{word} {found}"]
+        return run_lines(found[:1]) or ["all done"]
+
+    def rehearse(self, now):
+        word, found = self.coming(now)
+        if word == "overdue":
+            raise Refused(7, found)
+        return run_lines(found) + ["all done"] if word == "run" else [word]
+
+    def check(self, times):
+        broken = next((bound for bound in self.bounds() if not bound.is_met([0, *times])), None)
+        return [f"broken {broken.name}" if broken else "schedule"]
+
+
+def run_lines(runs):
+    return [f"run {time_text(time)} {event_text(event)}" for time, event in runs]
+
+
+def read_number(word):
+    return int(word) if is_digits(word) and len(word) <= 5 else None
+
+
+def read_item(word):
+    return word.startswith("-"), read_id(word.removeprefix("-"))
+
+
+def read_side(word, opened):
+    return opened if word == "*" else read_time(word)
+
+
+def words_of(line):
+    return [word for word in re.split("[ \t\r]", line.decode("latin-1")) if word]
+
+
+# How many words follow the name of a command; after `send` and `check` there may be any number.
+WORDS = {"add": 4, "withdraw": 1, "done": 2, "merge": 1, "send": None, "deliver": 1, "report": 0, "next": 1, "rehearse": 1, "check": None}
+
+
+@dataclass
+class Script:
+    """A run of a script: its lines, the place of the next, and what was printed."""
+
+    text: bytes
+    at: int = 0
+    printed: list = field(default_factory=list)
+    commands: int = 0
+    refused: int = 0
+    packets: list = field(default_factory=list)
+
+    def __post_init__(self):
+        self.lines = self.text.removesuffix(b"\n").split(b"\n") if self.text else []
+
+    def next_words(self):
+        """The words of the next line that is not skipped; none at the end."""
+        while self.at < len(self.lines):
+            words = words_of(self.lines[self.at])
+            self.at += 1
+            if words and not words[0].startswith("#"):
+                return words
+        return None
+
+    def heading_words(self):
+        words = self.next_words()
+        if words is None:
+            raise self.ended()
+        return words
+
+    def ended(self):
+        return Refused(70, 1 + self.text.count(b"\n"))
+
+    def block(self):
+        """The lines up to `end`."""
+        begins = self.at
+        while self.at < len(self.lines):
+            self.at += 1
+            if words_of(self.lines[self.at - 1]) == ["end"]:
+                return b"".join(line + b"\n" for line in self.lines[begins:self.at - 1])
+        raise self.ended()
+
+    def named_number(self, words, name):
+        number = read_number(words[1]) if len(words) == 2 and words[0] == name else None
+        if number is None:
+            raise Refused(70, self.at)
+        return number
+
+    def plan(self):
+        words = self.heading_words()
+        if words != ["domain"]:
+            return bare_plan(self.named_number(words, "steps"))
+        domain = self.block()
+        if self.heading_words() != ["plan"]:
+            raise Refused(70, self.at)
+        bounds, planned = lifted(domain, self.block())
+        return Plan(len(planned) // 2, bounds)
+
+    def heading(self):
+        plan = self.plan()
+        count = self.named_number(self.heading_words(), "sites")
+        if not 1 <= count <= MOST_SITES:
+            raise Refused(71)
+        return [Site(number, plan) for number in range(1, count + 1)]
+
+    def refuse(self, refused):
+        self.printed.append(str(refused))
+        self.refused += 1
+
+    def run(self):
+        try:
+            self.sites = self.heading()
+        except Refused as refused:
+            self.refuse(refused)
+            return
+        while (words := self.next_words()) is not None:
+            self.commands += 1
+            try:
+                self.printed += self.command(words)
+            except Refused as refused:
+                self.refuse(refused)
+
+    def command(self, words):
+        number, name, rest = read_number(words[0]), "".join(words[1:2]), words[2:]
+        known = number is not None and name in WORDS and WORDS[name] in (None, len(rest))
+        do = getattr(self, f"read_{name}")(*rest) if known else None
+        if do is None:
+            raise Refused(70, self.at)
+        return do(self.site(number))
+
+    def site(self, number):
+        if not 1 <= number <= len(self.sites):
+            raise Refused(71)
+        return self.sites[number - 1]
+
+    # Each of these reads the words of a command; it gives what is done at the site, or none of words of another form.
+
+    def read_add(self, start, to, low, high):
+        start, to = EVENTS.get(start), EVENTS.get(to)
+        if None in (start, to):
+            return None
+        return lambda site: [f"added {site.add(start, to, read_side(low, -HORIZON), read_side(high, HORIZON))}"]
+
+    def read_withdraw(self, one):
+        one = read_id(one)
+        return None if one is None else lambda site: [f"withdrawn {site.withdraw(one)}"]
+
+    def read_done(self, event, time):
+        event = EVENTS.get(event)
+        return None if event is None else lambda site: [f"added {site.done(event, read_time(time))}"]
+
+    def read_merge(self, other):
+        other = read_number(other)
+        return None if other is None else lambda site: self.merge(site, other)
+
+    def merge(self, site, other):
+        site.take(self.site(other).packet([]))
+        return ["merged"]
+
+    def read_send(self, *items):
+        items = [read_item(word) for word in items]
+        return None if any(one is None for _, one in items) else lambda site: self.send(site, items)
+
+    def send(self, site, items):
+        if len(self.packets) == MOST_PACKETS:
+            raise Refused(73)
+        self.packets.append(site.packet(items))
+        return [f"packet {len(self.packets)}"]
+
+    def read_deliver(self, number):
+        number = read_number(number)
+        return None if number is None else lambda site: self.deliver(site, number)
+
+    def deliver(self, site, number):
+        if not 1 <= number <= len(self.packets):
+            raise Refused(72)
+        site.take(self.packets[number - 1])
+        return ["delivered"]
+
+    def read_report(self):
+        return Site.report
+
+    def read_next(self, time):
+        return lambda site: site.next(read_time(time))
+
+    def read_rehearse(self, time):
+        return lambda site: site.rehearse(read_time(time))
+
+    def read_check(self, *times):
+        if len(times) != self.sites[0].plan.events:
+            return None
+        return lambda site: site.check([read_time(time) for time in times])
+
+
+def print_run(text, is_swept):
+    """Prints what a script prints and counts, and, of a short one, that each of its faults is answered."""
+    script = Script(text)
+    script.run()
+    output = "".join(line + "\n" for line in script.printed)
+    print(f"{output}ran {script.commands} refused {script.refused}")
+    if is_swept and max(len(text), len(output)) <= MOST_SWEPT:
+        print("each fault is answered")
+
+
+def main():
+    if sys.argv[1:] == ["-"]:
+        script = Script(sys.stdin.buffer.read())
+        script.run()
+        print("\n".join(script.printed))
+        return
+    for row in (b"\n" + sys.stdin.buffer.read()).split(b"\n= ")[1:]:
+        name, _, text = row.partition(b"\n")
+        print(f"= {name.decode()}")
+        print_run(text.removesuffix(b"\n") + b"\n", True)
+    for name in sys.argv[1:]:
+        print(f"= {name}")
+        print_run(Path("data", name).read_bytes(), False)
+
+
+if __name__ == "__main__":
+    main()
