@@ -1,12 +1,13 @@
 -- Bytes have one meaning as a log.
 use Rattle.std.proofs.Common.{◌≡◌, ℕ, Bool, List, [], ◌∷◌, ◌++◌, length, Option, Some, None, Result, Ok, Err, inl, refl, sym, ap, subst, ◌∙◌, ⊎_elim, arith, append_assoc}
+use Rattle.std.specs.Prelude.{option_map}
 use Rattle.std.proofs.lemmas.Bool.{false≢true}
 use Rattle.std.specs.List.{flat_map, AllByRecursion}
 use Rattle.stn_wire.specs.Frame.{FrameContent, spelling, IsFrame}
 use Rattle.stn_wire.specs.Front.{Front, whole, faulty, unfinished, IsFront}
 use Rattle.stn_wire.specs.declared.fault.WireFault.{WireFault}
 use Rattle.stn_wire.proofs.Fronts.{whole_spelled}
-use Rattle.stn_log.specs.Log.{Log, taken, all_taken, all_taken_by, IsEnding, IsAnswer, IsRest}
+use Rattle.stn_log.specs.Log.{Log, LogSoFar, taken, all_taken, all_taken_by, IsEnding, IsAnswer, IsRest}
 use Rattle.stn_log.specs.declared.fault.LoadFault.{LoadFault}
 use Rattle.stn_log.specs.declared.fault.LoadFault.TheVariants.{Read, Bound, Frame, LogForm, Base, Take, Memory}
 
@@ -34,7 +35,7 @@ module _ (fronts : (bytes : List ℕ) (a b : Front) → IsFront bytes a → IsFr
   nothing bytes e = subst (λ (l : List ℕ). IsFront l unfinished) (sym e) (inl (omega arith))
 
   -- an ending is behind all whole frames
-  no_frame : (more : Bool) (log : Option Log) (frame : FrameContent) (tail : List ℕ) (meaning : Result Log LoadFault) → IsFrame frame → IsEnding more (spelling frame ++ tail) log meaning → ⊥
+  no_frame : (more : Bool) (log : Option LogSoFar) (frame : FrameContent) (tail : List ℕ) (meaning : Result Log LoadFault) → IsFrame frame → IsEnding more (spelling frame ++ tail) log meaning → ⊥
   no_frame more log frame tail (Ok log') h e =
       not_unfinished frame _ (fronts (spelling frame ++ tail) (whole frame (length (spelling frame))) unfinished (whole_spelled frame tail h) (nothing (spelling frame ++ tail) e.1))
   no_frame more log frame tail (Err (Frame fault)) h e =
@@ -49,17 +50,17 @@ module _ (fronts : (bytes : List ℕ) (a b : Front) → IsFront bytes a → IsFr
   no_frame more log frame tail (Err Memory) h e = e
 
   -- a whole log is no other answer
-  whole_alone : (more : Bool) (log : Option Log) (behind : List ℕ) (one : Log) (meaning : Result Log LoadFault) → IsEnding more behind log (Ok one) → IsEnding more behind log meaning → Ok one ≡ meaning
+  whole_alone : (more : Bool) (log : Option LogSoFar) (behind : List ℕ) (one : Log) (meaning : Result Log LoadFault) → IsEnding more behind log (Ok one) → IsEnding more behind log meaning → Ok one ≡ meaning
   whole_alone more log behind one (Ok other) p q = ap Ok (one_some one other (sym p.2 ∙ q.2))
   whole_alone more log behind one (Err (Frame fault)) p q = absurd (apart fault (fronts behind (faulty fault) unfinished q (nothing behind p.1)))
-  whole_alone more log behind one (Err LogForm) p q = absurd (⊎_elim (λ none. not_none one (sym p.2 ∙ none)) (λ some. omega (arith, some, ap length p.1)) q.2)
+  whole_alone more log behind one (Err LogForm) p q = absurd (⊎_elim (λ none. not_none one (sym p.2 ∙ ap (option_map (λ (begun : LogSoFar). begun.log)) none)) (λ some. omega (arith, some, ap length p.1)) q.2)
   whole_alone more log behind one (Err Bound) p q = absurd (false≢true (sym p.0 ∙ q.0))
   whole_alone more log behind one (Err Read) p q = absurd q
   whole_alone more log behind one (Err (Base fault)) p q = absurd q
   whole_alone more log behind one (Err (Take fault)) p q = absurd q
   whole_alone more log behind one (Err Memory) p q = absurd q
 
-  one_ending : (more : Bool) (log : Option Log) (behind : List ℕ) (a b : Result Log LoadFault) → IsEnding more behind log a → IsEnding more behind log b → a ≡ b
+  one_ending : (more : Bool) (log : Option LogSoFar) (behind : List ℕ) (a b : Result Log LoadFault) → IsEnding more behind log a → IsEnding more behind log b → a ≡ b
   one_ending more log behind (Ok one) b p q = whole_alone more log behind one b p q
   one_ending more log behind a (Ok one) p q = sym (whole_alone more log behind one a q p)
   one_ending more log behind (Err (Frame f)) (Err (Frame g)) p q = ap (λ (fault : WireFault). Err (Frame fault)) (one_fault f g (fronts behind (faulty f) (faulty g) p q))
@@ -80,13 +81,13 @@ module _ (fronts : (bytes : List ℕ) (a b : Front) → IsFront bytes a → IsFr
   one_ending more log behind a (Err (Take fault)) p q = absurd q
   one_ending more log behind a (Err Memory) p q = absurd q
 
-  by_first : (more : Bool) (fs gs : List FrameContent) (behind left : List ℕ) (a b : Result Log LoadFault) (first : Result Log LoadFault)
-      → ((next : Log) → IsAnswer more behind (all_taken (Some next) fs) a → IsAnswer more left (all_taken (Some next) gs) b → a ≡ b)
+  by_first : (more : Bool) (fs gs : List FrameContent) (behind left : List ℕ) (a b : Result Log LoadFault) (first : Result LogSoFar LoadFault)
+      → ((next : LogSoFar) → IsAnswer more behind (all_taken (Some next) fs) a → IsAnswer more left (all_taken (Some next) gs) b → a ≡ b)
       → IsAnswer more behind (all_taken_by (λ log. all_taken log fs) first) a → IsAnswer more left (all_taken_by (λ log. all_taken log gs) first) b → a ≡ b
   by_first more fs gs behind left a b (Ok next) later x y = later next x y
   by_first more fs gs behind left a b (Err fault) later x y = x ∙ sym y
 
-  one_rest : (more : Bool) (fs gs : List FrameContent) (log : Option Log) (behind left : List ℕ) (a b : Result Log LoadFault) → AllByRecursion IsFrame fs → AllByRecursion IsFrame gs
+  one_rest : (more : Bool) (fs gs : List FrameContent) (log : Option LogSoFar) (behind left : List ℕ) (a b : Result Log LoadFault) → AllByRecursion IsFrame fs → AllByRecursion IsFrame gs
       → flat_map spelling fs ++ behind ≡ flat_map spelling gs ++ left → IsAnswer more behind (all_taken log fs) a → IsAnswer more left (all_taken log gs) b → a ≡ b
   one_rest more [] [] log behind left a b p q e x y = one_ending more log behind a b x (subst (λ (l : List ℕ). IsEnding more l log b) (sym e) y)
   one_rest more [] (g ∷ gs) log behind left a b p q e x y =
@@ -99,5 +100,5 @@ module _ (fronts : (bytes : List ℕ) (a b : Front) → IsFront bytes a → IsFr
       by_first more fs gs behind left a b (taken log f) (λ next. one_rest more fs gs (Some next) behind left a b p.1 q.1 parts.1) x
       (subst (λ (h : FrameContent). IsAnswer more left (all_taken_by (λ log. all_taken log gs) (taken log h)) b) (sym parts.0) y)
 
-  pub one_meaning : (more : Bool) (log : Option Log) (bytes : List ℕ) (a b : Result Log LoadFault) → IsRest more log bytes a → IsRest more log bytes b → a ≡ b
+  pub one_meaning : (more : Bool) (log : Option LogSoFar) (bytes : List ℕ) (a b : Result Log LoadFault) → IsRest more log bytes a → IsRest more log bytes b → a ≡ b
   one_meaning more log bytes a b x y = one_rest more x.frames y.frames log x.behind y.behind a b x.each y.each (sym x.cut ∙ y.cut) x.answer y.answer

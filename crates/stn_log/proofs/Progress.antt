@@ -1,7 +1,6 @@
 -- A log that is read frame by frame.
 use Rattle.std.proofs.Common.{◌≡◌, ℕ, ◌+◌, ◌-◌, ◌<◌, ◌≤◌, Bool, true, false, ltb, List, [], ◌∷◌, ◌++◌, length, take, Option, Some, None, Result, Ok, Err, IfSome, inl, inr, refl, sym, ap, subst, ◌∙◌, arith, append_assoc, append-nil, length-append}
 use Rattle.std.specs.Prelude.{nat_lt, option_map}
-use Rattle.std.specs.Option.{ok_or}
 use Rattle.std.specs.Io.KnownBytes.{Consumes, IsAtEnd}
 use Rattle.std.specs.List.{flat_map, AllByRecursion}
 use Rattle.std.proofs.KnownBytes.{Consumes-nil, Consumes-trans}
@@ -11,7 +10,6 @@ use Rattle.std.proofs.lemmas.Bool.Decides.{nat_tests}
 use Rattle.std.proofs.lemmas.Grind.{flat_map-append}
 use Rattle.stn_device.specs.Bytes.{most_bytes, ConsumesAtMost}
 use Rattle.stn_time.proofs.Each.{each_pushed}
-use Rattle.stn_replica.specs.Held.{Held}
 use Rattle.stn_wire.specs.Frame.{FrameContent, spelling, IsFrame}
 use Rattle.stn_wire.specs.Front.{IsFront, faulty, unfinished}
 use Rattle.stn_wire.specs.declared.fault.WireFault.{WireFault}
@@ -21,7 +19,9 @@ use Rattle.stn_stream.specs.Held.{Stream}
 use Rattle.stn_stream.specs.declared.fault.StreamFault.{StreamFault}
 use Rattle.stn_stream.specs.declared.fault.StreamFault.TheVariants as stream
 use Rattle.stn_log.specs.Faults.{of_stream}
-use Rattle.stn_log.specs.Log.{Log, log_held, taken, all_taken, all_taken_by, meaning_of, IsEnding, IsAnswer, IsRest, IsDecided, IsOpen}
+use Rattle.stn_log.specs.Opening.{opened_so_far, IsRefused}
+use Rattle.stn_log.specs.declared.reading.Opened.{Opened}
+use Rattle.stn_log.specs.Log.{Log, LogSoFar, log_held, taken, all_taken, all_taken_by, meaning_of, IsEnding, IsAnswer, IsRest, IsDecided, IsOpen}
 use Rattle.stn_log.specs.declared.fault.LoadFault.{LoadFault}
 use Rattle.stn_log.specs.declared.fault.LoadFault.TheVariants.{Read, Bound, Frame, LogForm, Base, Take, Memory}
 
@@ -34,56 +34,56 @@ not_more most n le = grind (arith, nat_tests)
 -- ---- one frame
 
 -- no frame is taken any more
-bytes_end : (more : Bool) (log : Option Log) (bytes : List ℕ) (meaning : Result Log LoadFault) → IsEnding more bytes log meaning → IsRest more log bytes meaning
+bytes_end : (more : Bool) (log : Option LogSoFar) (bytes : List ℕ) (meaning : Result Log LoadFault) → IsEnding more bytes log meaning → IsRest more log bytes meaning
 bytes_end more log bytes meaning ending = record { frames = []; behind = bytes; each = tt; cut = refl; answer = ending }
 
 -- the frame in front is taken
-frame_taken : (more : Bool) (log : Option Log) (next : Log) (frame : FrameContent) (tail : List ℕ) → IsFrame frame → taken log frame ≡ Ok next
+frame_taken : (more : Bool) (log : Option LogSoFar) (next : LogSoFar) (frame : FrameContent) (tail : List ℕ) → IsFrame frame → taken log frame ≡ Ok next
     → (meaning : Result Log LoadFault) → IsRest more (Some next) tail meaning → IsRest more log (spelling frame ++ tail) meaning
 frame_taken more log next frame tail valid is meaning rest = record {
   frames = frame ∷ rest.frames;
   behind = rest.behind;
   each = (valid, rest.each);
   cut = ap (λ l. spelling frame ++ l) rest.cut ∙ sym (append_assoc (spelling frame) (flat_map spelling rest.frames) rest.behind);
-  answer = subst (λ (r : Result Log LoadFault). IsAnswer more rest.behind (all_taken_by (λ log. all_taken log rest.frames) r) meaning) (sym is) rest.answer;
+  answer = subst (λ (r : Result LogSoFar LoadFault). IsAnswer more rest.behind (all_taken_by (λ log. all_taken log rest.frames) r) meaning) (sym is) rest.answer;
 }
 
 -- the frame in front is refused
-frame_refused : (more : Bool) (log : Option Log) (frame : FrameContent) (tail : List ℕ) (fault : LoadFault) → IsFrame frame → taken log frame ≡ Err fault
+frame_refused : (more : Bool) (log : Option LogSoFar) (frame : FrameContent) (tail : List ℕ) (fault : LoadFault) → IsFrame frame → taken log frame ≡ Err fault
     → IsRest more log (spelling frame ++ tail) (Err fault)
 frame_refused more log frame tail fault valid is = record {
   frames = frame ∷ [];
   behind = tail;
   each = (valid, tt);
   cut = ap (λ l. l ++ tail) (sym (append-nil (spelling frame)));
-  answer = subst (λ (r : Result Log LoadFault). IsAnswer more tail (all_taken_by (λ log. all_taken log []) r) (Err fault)) (sym is) refl;
+  answer = subst (λ (r : Result LogSoFar LoadFault). IsAnswer more tail (all_taken_by (λ log. all_taken log []) r) (Err fault)) (sym is) refl;
 }
 
 -- ---- frames, one after the other
-same_ok : (log last : Option Log) → all_taken log [] ≡ Ok last → log ≡ last
+same_ok : (log last : Option LogSoFar) → all_taken log [] ≡ Ok last → log ≡ last
 same_ok log last e = cc
 
 -- more frames are taken by what the first one left
-later_taken : (first : Result Log LoadFault) (frames more : List FrameContent) (last : Option Log) (end : Result (Option Log) LoadFault)
-    → ((next : Log) → all_taken (Some next) frames ≡ Ok last → all_taken (Some next) (frames ++ more) ≡ end)
+later_taken : (first : Result LogSoFar LoadFault) (frames more : List FrameContent) (last : Option LogSoFar) (end : Result (Option LogSoFar) LoadFault)
+    → ((next : LogSoFar) → all_taken (Some next) frames ≡ Ok last → all_taken (Some next) (frames ++ more) ≡ end)
     → all_taken_by (λ next. all_taken next frames) first ≡ Ok last → all_taken_by (λ next. all_taken next (frames ++ more)) first ≡ end
 later_taken (Ok next) frames more last end later came = later next came
 later_taken (Err fault) frames more last end later came = absurd cc
 
-one_more : (frames : List FrameContent) (log last : Option Log) (frame : FrameContent) (next : Log) → all_taken log frames ≡ Ok last → taken last frame ≡ Ok next → all_taken log (frames ++ frame ∷ []) ≡ Ok (Some next)
+one_more : (frames : List FrameContent) (log last : Option LogSoFar) (frame : FrameContent) (next : LogSoFar) → all_taken log frames ≡ Ok last → taken last frame ≡ Ok next → all_taken log (frames ++ frame ∷ []) ≡ Ok (Some next)
 one_more [] log last frame next came is = ap (all_taken_by (λ log. all_taken log [])) (ap (λ log. taken log frame) (same_ok log last came) ∙ is)
 one_more (f ∷ frames) log last frame next came is =
     later_taken (taken log f) frames (frame ∷ []) last (Ok (Some next)) (λ log came. one_more frames (Some log) last frame next came is) came
 
 -- what stands behind the first frame
-later_rest : (first : Result Log LoadFault) (more : Bool) (log : Option Log) (frame : FrameContent) (frames : List FrameContent) (last : Option Log) (tail : List ℕ) (meaning : Result Log LoadFault)
-    → IsFrame frame → taken log frame ≡ first → ((next : Log) → all_taken (Some next) frames ≡ Ok last → IsRest more (Some next) tail meaning)
+later_rest : (first : Result LogSoFar LoadFault) (more : Bool) (log : Option LogSoFar) (frame : FrameContent) (frames : List FrameContent) (last : Option LogSoFar) (tail : List ℕ) (meaning : Result Log LoadFault)
+    → IsFrame frame → taken log frame ≡ first → ((next : LogSoFar) → all_taken (Some next) frames ≡ Ok last → IsRest more (Some next) tail meaning)
     → all_taken_by (λ next. all_taken next frames) first ≡ Ok last → IsRest more log (spelling frame ++ tail) meaning
 later_rest (Ok next) more log frame frames last tail meaning valid is later came = frame_taken more log next frame tail valid is meaning (later next came)
 later_rest (Err fault) more log frame frames last tail meaning valid is later came = absurd cc
 
 -- what bytes behind frames that are all taken make of a log
-behind_frames : (frames : List FrameContent) (log last : Option Log) → AllByRecursion IsFrame frames → all_taken log frames ≡ Ok last
+behind_frames : (frames : List FrameContent) (log last : Option LogSoFar) → AllByRecursion IsFrame frames → all_taken log frames ≡ Ok last
     → (more : Bool) (tail : List ℕ) (meaning : Result Log LoadFault) → IsRest more last tail meaning → IsRest more log (flat_map spelling frames ++ tail) meaning
 behind_frames [] log last each came more tail meaning rest = subst (λ log. IsRest more log tail meaning) (sym (same_ok log last came)) rest
 behind_frames (frame ∷ frames) log last each came more tail meaning rest =
@@ -91,7 +91,7 @@ behind_frames (frame ∷ frames) log last each came more tail meaning rest =
     (later_rest (taken log frame) more log frame frames last (flat_map spelling frames ++ tail) meaning each.0 refl (λ next came. behind_frames frames (Some next) last each.1 came more tail meaning rest) came)
 
 -- ---- how far a log was read: frames that were all taken, and what stands behind them
-pub record Progress (before after : Option (List ℕ)) (log : Option Log) (rest : List ℕ) (count : ℕ) : Type 0 where
+pub record Progress (before after : Option (List ℕ)) (log : Option LogSoFar) (rest : List ℕ) (count : ℕ) : Type 0 where
   pub bytes : List ℕ
   pub frames : List FrameContent
   pub consumed : Consumes before after bytes
@@ -111,7 +111,7 @@ begun before rest count none zero = record {
   came = refl;
 }
 
-module _ (before after : Option (List ℕ)) (log : Option Log) (rest : List ℕ) (count : ℕ) (p : Progress before after log rest count) where
+module _ (before after : Option (List ℕ)) (log : Option LogSoFar) (rest : List ℕ) (count : ℕ) (p : Progress before after log rest count) where
   abbrev given : List ℕ
   given = flat_map spelling p.frames
 
@@ -134,7 +134,7 @@ module _ (before after : Option (List ℕ)) (log : Option Log) (rest : List ℕ)
   used few = (p.bytes, p.consumed, omega (arith, few, p.many))
 
   -- the frame in front is taken
-  pub next_taken : (frame : FrameContent) (later : List ℕ) → IsFrame frame → rest ≡ spelling frame ++ later → (now : ℕ) → now ≡ count → (next : Log) → taken log frame ≡ Ok next
+  pub next_taken : (frame : FrameContent) (later : List ℕ) → IsFrame frame → rest ≡ spelling frame ++ later → (now : ℕ) → now ≡ count → (next : LogSoFar) → taken log frame ≡ Ok next
       → Progress before after (Some next) later now
   next_taken frame later valid front now same next is = record {
     bytes = p.bytes;
@@ -189,7 +189,7 @@ module _ (before after : Option (List ℕ)) (log : Option Log) (rest : List ℕ)
       (frame_refused more log frame (later ++ extra) fault valid is))
 
   pub refuses : count ≤ 16777216 → (frame : FrameContent) (later : List ℕ) → IsFrame frame → rest ≡ spelling frame ++ later → (fault : LoadFault)
-      → IfSome (meaning_of (Err fault)) (λ meaning. taken log frame ≡ meaning) → IfSome (meaning_of (Err fault)) (IsDecided before after)
+      → IsRefused (taken log frame) fault → IfSome (meaning_of (Err fault)) (IsDecided before after)
   refuses few frame later valid front Read is = tt
   refuses few frame later valid front Memory is = tt
   refuses few frame later valid front Bound is = next_refused few frame later valid front _ is
@@ -204,9 +204,11 @@ module _ (before after : Option (List ℕ)) (log : Option Log) (rest : List ℕ)
       decides few (Err (Frame fault)) (λ more extra. bytes_end more log (rest ++ extra) (Err (Frame fault)) (fault_more rest extra fault front))
 
   -- the input ends between two frames, or within one
-  pub closes : count ≤ 16777216 → IsAtEnd after → rest ≡ [] → (replica : Option Held) → log ≡ option_map log_held replica → IfSome (meaning_of (ok_or replica LogForm)) (IsDecided before after)
-  closes few end none (Some held) is = ends few end (Ok (log_held held)) (refl, none, is)
-  closes few end none None is = ends few end (Err LogForm) (refl, subst (λ l. IsFront l unfinished) (sym none) (inl (omega arith)), inl is)
+  pub closes : {A : Type 0} → count ≤ 16777216 → IsAtEnd after → rest ≡ [] → (opened : Opened A) → log ≡ Some (opened_so_far opened) → IsDecided before after (Ok (log_held opened.replica))
+  closes few end none opened is = ends few end (Ok (log_held opened.replica)) (refl, none, ap (option_map (λ (begun : LogSoFar). begun.log)) is)
+
+  pub closes_empty : count ≤ 16777216 → IsAtEnd after → rest ≡ [] → log ≡ None → IsDecided before after (Err LogForm)
+  closes_empty few end none is = ends few end (Err LogForm) (refl, subst (λ l. IsFront l unfinished) (sym none) (inl (omega arith)), inl is)
 
   pub cuts : count ≤ 16777216 → IsAtEnd after → IsFront rest unfinished → 0 < length rest → IsDecided before after (Err LogForm)
   cuts few end front some = ends few end (Err LogForm) (refl, front, inr some)

@@ -23,7 +23,8 @@ use Rattle.stn_replica.specs.declared.faults.ReplicaFault.TheVariants.{Full}
 use Rattle.stn_replica.proofs.Refused.{agreed_take}
 use Rattle.stn_wire.specs.Spelling.{four}
 use Rattle.stn_wire.specs.Frame.{FrameContent, hello, records, body_of, spelling, IsFrame}
-use Rattle.stn_log.specs.Log.{Log, log_text, opened, joined, taken, all_taken, all_taken_by, IsAnswer, IsLog}
+use Rattle.stn_log.specs.Log.{Log, LogSoFar, so_far, log_text, opened, joined, taken, all_taken, all_taken_by, IsAnswer, IsLog}
+use Rattle.stn_log.specs.declared.version.Version.TheVariants.{New}
 use Rattle.stn_log.specs.declared.fault.LoadFault.{LoadFault}
 
 -- ---- a state is taken into one that holds nothing
@@ -76,10 +77,10 @@ saved_log log first second based named sound =
     let text = spelling h ++ spelling r in
     let long : length text ≤ most_bytes = omega (arith, length-append (spelling h) (spelling r), spelled_length h, spelled_length r, first.fits, second.fits) in
     let begun : Log = record { source = log.source; state = no_content } in
-    let opens : taken None h ≡ Ok begun = ap opened based in
-    let takes : taken (Some begun) r ≡ Ok log =
-    ap (λ (o : Option ReplicaFault). joined o begun log.state) (nothing_against begun log.state refl named sound) ∙ (λ i. Ok (record { source = log.source; state = joined_alone log.state i })) in
-    let all : all_taken None (h ∷ r ∷ []) ≡ Ok (Some log) =
+    let opens : taken None h ≡ Ok (so_far New begun) = ap (opened New) based in
+    let takes : taken (Some (so_far New begun)) r ≡ Ok (so_far New log) =
+    ap (λ (o : Option ReplicaFault). joined New o begun log.state) (nothing_against begun log.state refl named sound) ∙ (λ i. Ok (so_far New (record { source = log.source; state = joined_alone log.state i }))) in
+    let all : all_taken None (h ∷ r ∷ []) ≡ Ok (Some (so_far New log)) =
     ap (all_taken_by (λ next. all_taken next (r ∷ []))) opens ∙ ap (all_taken_by (λ next. all_taken next [])) takes in
     let more : nat_lt most_bytes (length text) ≡ false = not_more (length text) most_bytes long in
     record {
@@ -88,6 +89,6 @@ saved_log log first second based named sound =
         behind = [];
         each = (first, (second, tt));
         cut = take_all most_bytes text long ∙ (ap (λ (l : List ℕ). spelling h ++ l) (sym (append-nil (spelling r))) ∙ sym (append-nil (spelling h ++ (spelling r ++ []))));
-        answer = subst (λ (o : Result (Option Log) LoadFault). IsAnswer (nat_lt most_bytes (length text)) [] o (Ok log)) (sym all) (more, refl, refl);
+        answer = subst (λ (o : Result (Option LogSoFar) LoadFault). IsAnswer (nat_lt most_bytes (length text)) [] o (Ok log)) (sym all) (more, refl, refl);
       };
     }

@@ -1,5 +1,5 @@
 -- What a log makes of a frame, from what a base and a replica answer.
-use Rattle.std.proofs.Common.{◌≡◌, true, not, Option, Some, None, Ok, Err, IfSome, refl, sym, ap, subst, ◌∙◌}
+use Rattle.std.proofs.Common.{◌≡◌, true, not, Option, Some, None, Result, Ok, Err, IfSome, refl, sym, ap, subst, ◌∙◌}
 use Rattle.std.specs.Prelude.{unwrap_or, is_some}
 use Rattle.std.proofs.lemmas.Bool.{false≢true}
 use Rattle.stn_text.specs.Faults.{Fails}
@@ -13,36 +13,37 @@ use Rattle.stn_replica.specs.Held.{Held}
 use Rattle.stn_replica.specs.Refusals.{take_refusal}
 use Rattle.stn_replica.specs.declared.faults.ReplicaFault.{ReplicaFault}
 use Rattle.stn_replica.specs.declared.faults.ReplicaFault.TheVariants as replica
-use Rattle.stn_wire.specs.Frame.{hello, records}
 use Rattle.stn_log.specs.Faults.{of_base, of_replica}
-use Rattle.stn_log.specs.Log.{Log, log_held, opened, joined, taken, meaning_of}
+use Rattle.stn_log.specs.Log.{Log, log_held, so_far, opened, joined, taken_in}
+use Rattle.stn_log.specs.Opening.{IsRefused}
+use Rattle.stn_log.specs.declared.version.Version.{Version}
+use Rattle.stn_log.specs.declared.fault.LoadFault.{LoadFault}
 
 -- a source without a base
-pub base_refused : (source : PlanSource) (fault : BaseFault) → Fails {Y = PlanSource} is_memory fault (base_of source) → IfSome (meaning_of (Err (of_base fault))) (λ meaning. taken None (hello source) ≡ meaning)
-base_refused source (base.Domain fault) is = ap opened is
-base_refused source (base.Plan fault) is = ap opened is
-base_refused source (base.Lift fault) is = ap opened is
-base_refused source base.TooManySteps is = ap opened is
-base_refused source base.Memory is = tt
+pub base_refused : (version : Version) (source : PlanSource) (fault : BaseFault) → Fails {Y = PlanSource} is_memory fault (base_of source) → IsRefused (opened version (base_of source)) (of_base fault)
+base_refused version source (base.Domain fault) is = ap (opened version) is
+base_refused version source (base.Plan fault) is = ap (opened version) is
+base_refused version source (base.Lift fault) is = ap (opened version) is
+base_refused version source base.TooManySteps is = ap (opened version) is
+base_refused version source base.Memory is = tt
 
 -- a state that is not taken
-named : (log : Log) (state : Content) (fault : ReplicaFault) → IfSome (meaning_of (Err (of_replica fault))) (λ meaning. joined (Some fault) log state ≡ meaning)
-named log state (replica.Bound fault) = refl
-named log state replica.CounterSpent = refl
-named log state replica.Full = refl
-named log state replica.Unknown = refl
-named log state (replica.Clash id) = refl
-named log state replica.Memory = tt
+named : (version : Version) (log : Log) (state : Content) (fault : ReplicaFault) → IsRefused (joined version (Some fault) log state) (of_replica fault)
+named version log state (replica.Bound fault) = refl
+named version log state replica.CounterSpent = refl
+named version log state replica.Full = refl
+named version log state replica.Unknown = refl
+named version log state (replica.Clash id) = refl
+named version log state replica.Memory = tt
 
-by_refusal : (refusal : Option ReplicaFault) (log : Log) (state : Content) → IfSome (meaning_of (Err (of_replica (unwrap_or refusal replica.Memory)))) (λ meaning. joined refusal log state ≡ meaning)
-by_refusal None log state = tt
-by_refusal (Some fault) log state = named log state fault
+by_refusal : (version : Version) (refusal : Option ReplicaFault) (log : Log) (state : Content) → IsRefused (joined version refusal log state) (of_replica (unwrap_or refusal replica.Memory))
+by_refusal version None log state = tt
+by_refusal version (Some fault) log state = named version log state fault
 
-pub take_refused : (old : Held) (state : Content) (fault : ReplicaFault) → fault ≡ unwrap_or (take_refusal old state) replica.Memory
-    → IfSome (meaning_of (Err (of_replica fault))) (λ meaning. taken (Some (log_held old)) (records state) ≡ meaning)
-take_refused old state fault is =
-    subst (λ (f : ReplicaFault). IfSome (meaning_of (Err (of_replica f))) (λ meaning. taken (Some (log_held old)) (records state) ≡ meaning)) (sym is)
-    (by_refusal (take_refusal old state) (log_held old) state)
+pub take_refused : (version : Version) (old : Held) (state : Content) (fault : ReplicaFault) → fault ≡ unwrap_or (take_refusal old state) replica.Memory
+    → IsRefused (taken_in version (log_held old) state) (of_replica fault)
+take_refused version old state fault is =
+    subst (λ (f : ReplicaFault). IsRefused (taken_in version (log_held old) state) (of_replica f)) (sym is) (by_refusal version (take_refusal old state) (log_held old) state)
 
 -- a state that is taken
 none_there : {X : Type 0} (o : Option X) → not (is_some o) ≡ true → o ≡ None
@@ -52,9 +53,9 @@ none_there (Some x) e = absurd (false≢true e)
 same_some : {X : Type 0} (x y : X) → Some x ≡ Some y → x ≡ y
 same_some x y e = cc
 
-pub state_taken : (old new : Held) (state : Content) → take_refusal old state ≡ None → Leaves old (took state) new → taken (Some (log_held old)) (records state) ≡ Ok (log_held new)
-state_taken old new state none leaves =
+pub state_taken : (version : Version) (old new : Held) (state : Content) → take_refusal old state ≡ None → Leaves old (took state) new → taken_in version (log_held old) state ≡ Ok (so_far version (log_held new))
+state_taken version old new state none leaves =
     let there : is_some (join_contents old.state state) ≡ true = ap is_some leaves.state in
     let agreed = none_there (dispute_contents old.state state) (sym (contents_dispute old.state state) ∙ there) in
     let same = same_some new.state (joined_contents old.state state) (sym leaves.state ∙ contents_undisputed old.state state agreed) in
-    ap (λ (r : Option ReplicaFault). joined r (log_held old) state) none ∙ (λ i. Ok (record { source = sym leaves.source i; state = sym same i }))
+    ap (λ (r : Option ReplicaFault). joined version r (log_held old) state) none ∙ (λ i. Ok (so_far version (record { source = sym leaves.source i; state = sym same i })))

@@ -1,2 +1,3 @@
 pub mod Faults
 pub mod Log
+pub mod Opening

@@ -1,5 +1,5 @@
 -- What the bytes of a log say, and the bytes that say it.
-use Rattle.std.specs.Prelude.{◌≡◌, ℕ, ◌<◌, ◌⊎◌, Bool, true, false, nat_lt, List, [], ◌∷◌, ◌++◌, length, take, Option, Some, None, Result, Ok, Err}
+use Rattle.std.specs.Prelude.{◌≡◌, ℕ, ◌<◌, ◌⊎◌, Bool, true, false, nat_lt, List, [], ◌∷◌, ◌++◌, length, take, Option, Some, None, Result, Ok, Err, option_map}
 use Rattle.std.specs.Io.KnownBytes.{Consumes, IsAtEnd}
 use Rattle.std.specs.List.{flat_map, AllByRecursion}
 use Rattle.stn_device.specs.Bytes.{most_bytes}
@@ -9,8 +9,10 @@ use Rattle.stn_records.specs.Content.{Content, no_content, joined_contents}
 use Rattle.stn_replica.specs.declared.faults.ReplicaFault.{ReplicaFault}
 use Rattle.stn_replica.specs.Held.{Held, holding_state}
 use Rattle.stn_replica.specs.Refusals.{take_refusal}
-use Rattle.stn_wire.specs.Frame.{FrameContent, hello, records, spelling, IsFrame}
+use Rattle.stn_wire.specs.Frame.{FrameContent, old_hello, old_records, hello, records, spelling, IsFrame}
 use Rattle.stn_wire.specs.Front.{IsFront, faulty, unfinished}
+use Rattle.stn_log.specs.declared.version.Version.{Version}
+use Rattle.stn_log.specs.declared.version.Version.TheVariants.{Old, New}
 use Rattle.stn_log.specs.declared.fault.LoadFault.{LoadFault}
 use Rattle.stn_log.specs.declared.fault.LoadFault.TheVariants.{Read, Bound, Frame, LogForm, Base, Take, Memory}
 
@@ -27,46 +29,65 @@ log_held held = record { source = held.source; state = held.state }
 abbrev pub log_text : Log → List ℕ
 log_text log = spelling (hello log.source) ++ spelling (records log.state)
 
+-- how far a log was read: the version of its frames, and what they say
+pub record LogSoFar : Type 0 where
+  pub version : Version
+  pub log : Log
+
+abbrev pub so_far : Version → Log → LogSoFar
+so_far version log = record { version = version; log = log }
+
 -- a source with a base opens a log that says nothing else yet
-abbrev pub opened : Result PlanSource BaseFault → Result Log LoadFault
-opened (Ok source) = Ok (record { source = source; state = no_content })
-opened (Err fault) = Err (Base fault)
+abbrev pub opened : Version → Result PlanSource BaseFault → Result LogSoFar LoadFault
+opened version (Ok source) = Ok (so_far version (record { source = source; state = no_content }))
+opened version (Err fault) = Err (Base fault)
 
 -- a state is joined to that of a log, where nothing is against it
-abbrev pub joined : Option ReplicaFault → Log → Content → Result Log LoadFault
-joined (Some fault) log state = Err (Take fault)
-joined None log state = Ok (record { source = log.source; state = joined_contents log.state state })
+abbrev pub joined : Version → Option ReplicaFault → Log → Content → Result LogSoFar LoadFault
+joined version (Some fault) log state = Err (Take fault)
+joined version None log state = Ok (so_far version (record { source = log.source; state = joined_contents log.state state }))
 
--- one more frame: first HELLO, and then RECORDS alone
-abbrev pub taken : Option Log → FrameContent → Result Log LoadFault
-taken None (hello source) = opened (base_of source)
-taken (Some log) (records state) = joined (take_refusal (holding_state log.source log.state) state) log state
-taken log frame = Err LogForm
+-- records are taken
+abbrev pub taken_in : Version → Log → Content → Result LogSoFar LoadFault
+taken_in version log state = joined version (take_refusal (holding_state log.source log.state) state) log state
+
+-- a frame behind the first: RECORDS alone, of the version of the first
+abbrev pub taken_later : Version → Log → FrameContent → Result LogSoFar LoadFault
+taken_later Old log (old_records state) = taken_in Old log state
+taken_later New log (records state) = taken_in New log state
+taken_later version log frame = Err LogForm
+
+-- one more frame: first HELLO
+abbrev pub taken : Option LogSoFar → FrameContent → Result LogSoFar LoadFault
+taken None (old_hello source) = opened Old (base_of source)
+taken None (hello source) = opened New (base_of source)
+taken None frame = Err LogForm
+taken (Some begun) frame = taken_later begun.version begun.log frame
 
 -- frame by frame, up to the first that is refused
-abbrev pub all_taken_by : (Option Log → Result (Option Log) LoadFault) → Result Log LoadFault → Result (Option Log) LoadFault
+abbrev pub all_taken_by : (Option LogSoFar → Result (Option LogSoFar) LoadFault) → Result LogSoFar LoadFault → Result (Option LogSoFar) LoadFault
 all_taken_by later (Ok log) = later (Some log)
 all_taken_by later (Err fault) = Err fault
 
-abbrev pub all_taken : Option Log → List FrameContent → Result (Option Log) LoadFault
+abbrev pub all_taken : Option LogSoFar → List FrameContent → Result (Option LogSoFar) LoadFault
 all_taken log [] = Ok log
 all_taken log (frame ∷ frames) = all_taken_by (λ next. all_taken next frames) (taken log frame)
 
 -- what is answered for bytes of which all frames were taken, and behind which more bytes follow or none
-abbrev pub IsEnding : Bool → List ℕ → Option Log → Result Log LoadFault → Type 0
-IsEnding more behind log (Ok whole) = (more ≡ false) × (behind ≡ []) × (log ≡ Some whole)
+abbrev pub IsEnding : Bool → List ℕ → Option LogSoFar → Result Log LoadFault → Type 0
+IsEnding more behind log (Ok whole) = (more ≡ false) × (behind ≡ []) × (option_map (λ begun. begun.log) log ≡ Some whole)
 IsEnding more behind log (Err (Frame fault)) = IsFront behind (faulty fault)
 IsEnding more behind log (Err LogForm) = (more ≡ false) × IsFront behind unfinished × ((log ≡ None) ⊎ (0 < length behind))
 IsEnding more behind log (Err Bound) = (more ≡ true) × IsFront behind unfinished
 IsEnding more behind log (Err other) = ⊥
 
 -- the first frame that is refused decides; where none is, what stands behind the last whole one
-abbrev pub IsAnswer : Bool → List ℕ → Result (Option Log) LoadFault → Result Log LoadFault → Type 0
+abbrev pub IsAnswer : Bool → List ℕ → Result (Option LogSoFar) LoadFault → Result Log LoadFault → Type 0
 IsAnswer more behind (Err fault) meaning = meaning ≡ Err fault
 IsAnswer more behind (Ok log) meaning = IsEnding more behind log meaning
 
 -- what these bytes, behind the frames of a log, make of it
-pub record IsRest (more : Bool) (log : Option Log) (bytes : List ℕ) (meaning : Result Log LoadFault) : Type 0 where
+pub record IsRest (more : Bool) (log : Option LogSoFar) (bytes : List ℕ) (meaning : Result Log LoadFault) : Type 0 where
   pub frames : List FrameContent
   pub behind : List ℕ
   pub each : AllByRecursion IsFrame frames
@@ -86,19 +107,23 @@ IsDecided old new meaning =
 pub record IsOpen (old new : Option (List ℕ)) : Type 0 where
   pub frames : List FrameContent
   pub behind : List ℕ
-  pub log : Option Log
+  pub log : Option LogSoFar
   pub each : AllByRecursion IsFrame frames
   pub read : Consumes old new (flat_map spelling frames ++ behind)
   pub taken : all_taken None frames ≡ Ok log
   pub unfinished : IsFront behind unfinished
 
--- what an answer says of a log; nothing where a read failed or memory ran out
+-- what a fault says of a log; nothing where a read failed or memory ran out
+abbrev pub told_by : LoadFault → Option LoadFault
+told_by Read = None
+told_by Memory = None
+told_by fault = Some fault
+
+-- what an answer says
+abbrev pub meaning_by : {X Y : Type 0} → (X → Y) → Result X LoadFault → Option (Result Y LoadFault)
+meaning_by seen (Ok value) = Some (Ok (seen value))
+meaning_by seen (Err fault) = option_map Err (told_by fault)
+
+-- what it says of a log
 abbrev pub meaning_of : Result Held LoadFault → Option (Result Log LoadFault)
-meaning_of (Ok held) = Some (Ok (log_held held))
-meaning_of (Err Read) = None
-meaning_of (Err Memory) = None
-meaning_of (Err Bound) = Some (Err Bound)
-meaning_of (Err (Frame fault)) = Some (Err (Frame fault))
-meaning_of (Err LogForm) = Some (Err LogForm)
-meaning_of (Err (Base fault)) = Some (Err (Base fault))
-meaning_of (Err (Take fault)) = Some (Err (Take fault))
+meaning_of = meaning_by log_held

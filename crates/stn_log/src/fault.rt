@@ -50,7 +50,7 @@ pub enum LoadFault {
     /// The bytes of a frame have a fault.
     #[error("{0}")]
     Frame(WireFault),
-    /// The first frame is no HELLO, a later one no RECORDS, or the log ends before the first or within one.
+    /// The first frame is no HELLO, a later one no RECORDS of the same version, or the log ends before the first or within one.
     #[error("no log")]
     LogForm,
     /// The source has no base.

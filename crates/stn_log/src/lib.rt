@@ -11,4 +11,5 @@ mod laws;
 mod reading;
 #[cfg(test)]
 mod tests;
+mod version;
 mod writing;

@@ -1,17 +1,20 @@
-ghost use Rattle.std.specs.Prelude.{◌≡◌, ◌≢◌, ◌+◌, ◌-◌, ◌^◌, ◌<◌, ◌≤◌, option_map, Some, None, Ok, Err, length, IfOk, IfErr, IfSome, OnOk, IsErrOf};
+ghost use Rattle.std.specs.Prelude.{◌≡◌, ◌≢◌, ◌+◌, ◌-◌, ◌^◌, ◌<◌, ◌≤◌, option_map, Some, None, Ok, Err, length, IfOk, IfErr, IfSome, OnOk, IsErrOf, MatchOption};
 ghost use Rattle.std.specs.Io.KnownBytes.{IsAtEnd};
 ghost use Rattle.stn_device.specs.Counted.{counted_device, failure_count, KeepsCount};
 ghost use Rattle.stn_device.specs.Bytes.{most_bytes, ConsumesAtMost};
 ghost use Rattle.stn_wire.specs.Frame.{content};
-ghost use Rattle.stn_log.specs.Log.{log_held, taken, meaning_of, IsDecided, IsOpen};
+ghost use Rattle.stn_lift.specs.PlanSource.{plan_source, base_of};
+ghost use Rattle.stn_log.specs.Log.{Log, log_held, so_far, opened, taken, taken_in, taken_later, meaning_by, meaning_of, IsDecided, IsOpen};
+ghost use Rattle.stn_log.specs.Opening.{opened_so_far, IsRefused};
 
 use crate::fault::LoadFault;
+use crate::version::Version;
 use std::alloc::Allocator;
 use std::io::Read;
 use std::rc::Rc;
 use stn_device::Counted;
-use stn_lift::Base;
-use stn_records::Site;
+use stn_lift::{Base, Source};
+use stn_records::{Records, Site};
 use stn_replica::Replica;
 use stn_stream::{FrameReader, Next};
 use stn_wire::Frame;
@@ -46,76 +49,116 @@ pub fn load<R: Read, A: Allocator + Copy>(
         (R.remaining (counted_device reader.new)) (most_bytes + 1) }
 {
     let mut frames = FrameReader::new(alloc);
-    let mut replica = None;
+    let mut opened = None;
     'frames: loop {
         match frames.next(reader)? {
-            Next::Frame(frame) => replica = Some(take(alloc, site, replica, &frame)?),
+            Next::Frame(frame) => opened = Some(take(alloc, site, opened, frame)?),
             Next::Faulty(fault) => return Err(LoadFault::from(fault)),
             Next::Cut => return Err(LoadFault::LogForm),
-            Next::Closed => return replica.ok_or(LoadFault::LogForm),
+            Next::Closed => {
+                let Some(opened) = opened else {
+                    return Err(LoadFault::LogForm);
+                };
+                return Ok(opened.replica);
+            }
         }
     }
 }
 
-// The replica of a site when one more frame of its log is taken.
+// A log that is being read: the version of its frames, and the replica that they make.
+#[derive(Drop)]
+struct Opened<A: Allocator> {
+    version: Version,
+    replica: Replica<A>,
+}
+
+// The log when one more frame is taken.
 fn take<A: Allocator + Copy>(
     alloc: A,
     site: Site,
-    replica: Option<Replica<A>>,
-    frame: &Frame<A>,
-) -> Result<Replica<A>, LoadFault>
-    requires { IfSome replica (λ replica. replica.site ≡ site) }
-    ensures meaning { IfSome (meaning_of result) (λ meaning. taken (option_map log_held replica) (content frame.now) ≡ meaning) }
+    opened: Option<Opened<A>>,
+    frame: Frame<A>,
+) -> Result<Opened<A>, LoadFault>
+    requires { IfSome opened (λ opened. opened.replica.site ≡ site) }
+    ensures meaning { IfSome (meaning_by opened_so_far result) (λ meaning. taken (option_map opened_so_far opened) (content frame) ≡ meaning) }
     ensures bound { result ≢ Err LoadFault.Bound }
     ensures unread { result ≢ Err LoadFault.Read }
-    ensures site { IfOk result (λ replica. replica.site ≡ site) }
+    ensures site { IfOk result (λ opened. opened.replica.site ≡ site) }
 {
-    match replica {
-        None => open(alloc, site, frame),
-        Some(mut replica) => {
-            take_records(&mut replica, frame)?;
-            Ok(replica)
+    match opened {
+        None => open(alloc, site, &frame),
+        Some(
+            Opened {
+                version,
+                mut replica,
+            },
+        ) => {
+            take_records(version, &mut replica, &frame)?;
+            Ok(Opened { version, replica })
         }
     }
 }
 
-// The replica of a site by the first frame of its log.
-fn open<A: Allocator + Copy>(
-    alloc: A,
-    site: Site,
-    frame: &Frame<A>,
-) -> Result<Replica<A>, LoadFault>
-    ensures meaning { IfSome (meaning_of result) (λ meaning. taken None (content frame.now) ≡ meaning) }
+// The log by its first frame.
+fn open<A: Allocator + Copy>(alloc: A, site: Site, frame: &Frame<A>) -> Result<Opened<A>, LoadFault>
+    ensures meaning { IfSome (meaning_by opened_so_far result) (λ meaning. taken None (content frame.now) ≡ meaning) }
     ensures bound { result ≢ Err LoadFault.Bound }
     ensures unread { result ≢ Err LoadFault.Read }
-    ensures site { IfOk result (λ replica. replica.site ≡ site) }
+    ensures site { IfOk result (λ opened. opened.replica.site ≡ site) }
 {
     match frame {
-        Frame::Hello(source) => {
-            let base = Base::from_source(alloc, source)?;
-            Ok(Replica::new(alloc, site, Rc::new(alloc, base)?)?)
-        }
+        Frame::OldHello(source) => open_by(alloc, site, Version::Old, source),
+        Frame::Hello(source) => open_by(alloc, site, Version::New, source),
         _ => Err(LoadFault::LogForm),
     }
+}
+
+// The log by its source.
+fn open_by<A: Allocator + Copy>(
+    alloc: A,
+    site: Site,
+    version: Version,
+    source: &Source<A>,
+) -> Result<Opened<A>, LoadFault>
+    ensures meaning { IfSome (meaning_by opened_so_far result) (λ meaning. opened version (base_of (plan_source source.now)) ≡ meaning) }
+    ensures bound { result ≢ Err LoadFault.Bound }
+    ensures unread { result ≢ Err LoadFault.Read }
+    ensures site { IfOk result (λ opened. opened.replica.site ≡ site) }
+{
+    let base = Base::from_source(alloc, source)?;
+    let replica = Replica::new(alloc, site, Rc::new(alloc, base)?)?;
+    Ok(Opened { version, replica })
 }
 
 // Takes a frame behind the first.
 fn take_records<A: Allocator + Copy>(
+    version: Version,
     replica: &mut Replica<A>,
     frame: &Frame<A>,
 ) -> Result<(), LoadFault>
-    ensures taken { OnOk result (taken (Some (log_held replica.old)) (content frame.now) ≡ Ok (log_held replica.new)) }
-    ensures refused { IfErr result (λ fault. IfSome (meaning_of (Err fault))
-        (λ meaning. taken (Some (log_held replica.old)) (content frame.now) ≡ meaning)) }
+    ensures taken { OnOk result (taken_later version (log_held replica.old) (content frame.now) ≡ Ok (so_far version (log_held replica.new))) }
+    ensures refused { IfErr result (IsRefused (taken_later version (log_held replica.old) (content frame.now))) }
     ensures bound { result ≢ Err LoadFault.Bound }
     ensures unread { result ≢ Err LoadFault.Read }
     ensures site { OnOk result (replica.new.site ≡ replica.old.site) }
 {
-    match frame {
-        Frame::Records(records) => {
+    match records_of(version, frame) {
+        Some(records) => {
             replica.take(records)?;
             Ok(())
         }
-        _ => Err(LoadFault::LogForm),
+        None => Err(LoadFault::LogForm),
+    }
+}
+
+// The records of a frame behind the first, where it is RECORDS of the log's version.
+fn records_of<A: Allocator>(version: Version, frame: &Frame<A>) -> Option<&Records<A>>
+    ensures { MatchOption result ((log : Log) → taken_later version log (content frame.now) ≡ Err LoadFault.LogForm)
+        (λ records. (log : Log) → taken_later version log (content frame.now) ≡ taken_in version log records.now) }
+{
+    match (version, frame) {
+        (Version::Old, Frame::OldRecords(records)) => Some(records),
+        (Version::New, Frame::Records(records)) => Some(records),
+        _ => None,
     }
 }

@@ -1,10 +1,12 @@
 use Rattle.std.proofs.Common.{refl, ap, Ok, arith, ◌∙◌}
+use Rattle.std.specs.Prelude.{option_map}
 use Rattle.std.proofs.lemmas.Result.{err_from_is_err_and}
 use Rattle.stn_wire.specs.Frame.{content}
 use Rattle.stn_stream.specs.Held.{Stream}
 use Rattle.stn_stream.specs.Stream.{pending, wire_fault}
 use Rattle.stn_stream.proofs.Streams.{measure_falls}
-use Rattle.stn_log.proofs.Progress.{begun, read_on, used, next_taken, refuses, shows_fault, closes, cuts, stream_fails, stream_open, stream_used, stream_bound}
+use Rattle.stn_log.specs.Opening.{opened_so_far}
+use Rattle.stn_log.proofs.Progress.{begun, read_on, used, next_taken, refuses, shows_fault, closes, closes_empty, cuts, stream_fails, stream_open, stream_used, stream_bound}
 use Rattle.stn_log.proofs.reading.load.Goals as goal
 
 pub frames-init : goal.frames-init
@@ -69,54 +71,6 @@ frames-preserved g c =
       kept = c.in_ok-frame.ensures.kept (λ e. cc) ∙ c.frames.invariant.kept;
     }
 
-pub frames-smaller-in_ok-take-in-Frame : goal.frames-smaller-in_ok-take-in-Frame
-frames-smaller-in_ok-take-in-Frame g c =
-    let gave = rw c.in-Frame.is at c.in_ok-frame.ensures.gives in
-    measure_falls (pending c.frames.frames) gave.bytes (pending c.next.new.self) (content c.in-Frame.frame) gave.next.1 c.frames.frames.count c.next.new.self.count gave.counted.0 gave.counted.1
-
-pub frames-preserved-in_ok-take-in-Frame : goal.frames-preserved-in_ok-take-in-Frame
-frames-preserved-in_ok-take-in-Frame g c =
-    let gave = rw c.in-Frame.is at c.in_ok-frame.ensures.gives in
-    let q = read_on _ _ _ _ _ c.frames.invariant.progress _ gave.bytes gave.consumed in
-    record {
-      reading = gave.next.2;
-      progress = next_taken _ _ _ _ _ q (content c.in-Frame.frame) (pending c.next.new.self) gave.next.0 gave.next.1 c.next.new.self.count gave.counted.0 _ c.in_ok-take-in-Frame.ensures.meaning;
-      site = c.in_ok-take-in-Frame.ensures.site;
-      kept = c.in_ok-frame.ensures.kept (λ e. cc) ∙ c.frames.invariant.kept;
-    }
-
-pub frames-smaller-in_ok-take-in-Frame-2 : goal.frames-smaller-in_ok-take-in-Frame-2
-frames-smaller-in_ok-take-in-Frame-2 g c =
-    let gave = rw c.in-Frame.is at c.in_ok-frame.ensures.gives in
-    measure_falls (pending c.frames.frames) gave.bytes (pending c.next.new.self) (content c.in-Frame.frame) gave.next.1 c.frames.frames.count c.next.new.self.count gave.counted.0 gave.counted.1
-
-pub frames-preserved-in_ok-take-in-Frame-2 : goal.frames-preserved-in_ok-take-in-Frame-2
-frames-preserved-in_ok-take-in-Frame-2 g c =
-    let gave = rw c.in-Frame.is at c.in_ok-frame.ensures.gives in
-    let q = read_on _ _ _ _ _ c.frames.invariant.progress _ gave.bytes gave.consumed in
-    record {
-      reading = gave.next.2;
-      progress = next_taken _ _ _ _ _ q (content c.in-Frame.frame) (pending c.next.new.self) gave.next.0 gave.next.1 c.next.new.self.count gave.counted.0 _ c.in_ok-take-in-Frame.ensures.meaning;
-      site = c.in_ok-take-in-Frame.ensures.site;
-      kept = c.in_ok-frame.ensures.kept (λ e. cc) ∙ c.frames.invariant.kept;
-    }
-
-pub frames-smaller-in_ok-take-in-Frame-3 : goal.frames-smaller-in_ok-take-in-Frame-3
-frames-smaller-in_ok-take-in-Frame-3 g c =
-    let gave = rw c.in-Frame.is at c.in_ok-frame.ensures.gives in
-    measure_falls (pending c.frames.frames) gave.bytes (pending c.next.new.self) (content c.in-Frame.frame) gave.next.1 c.frames.frames.count c.next.new.self.count gave.counted.0 gave.counted.1
-
-pub frames-preserved-in_ok-take-in-Frame-3 : goal.frames-preserved-in_ok-take-in-Frame-3
-frames-preserved-in_ok-take-in-Frame-3 g c =
-    let gave = rw c.in-Frame.is at c.in_ok-frame.ensures.gives in
-    let q = read_on _ _ _ _ _ c.frames.invariant.progress _ gave.bytes gave.consumed in
-    record {
-      reading = gave.next.2;
-      progress = next_taken _ _ _ _ _ q (content c.in-Frame.frame) (pending c.next.new.self) gave.next.0 gave.next.1 c.next.new.self.count gave.counted.0 _ c.in_ok-take-in-Frame.ensures.meaning;
-      site = c.in_ok-take-in-Frame.ensures.site;
-      kept = c.in_ok-frame.ensures.kept (λ e. cc) ∙ c.frames.invariant.kept;
-    }
-
 pub returns-in-Faulty-clause-meaning : goal.returns-in-Faulty-clause-meaning
 returns-in-Faulty-clause-meaning g c =
     let gave = rw c.in-Faulty.is at c.in_ok-frame.ensures.gives in
@@ -143,9 +97,20 @@ pub returns-in-Closed-clause-meaning : goal.returns-in-Closed-clause-meaning
 returns-in-Closed-clause-meaning g c =
     let gave = rw c.in-Closed.is at c.in_ok-frame.ensures.gives in
     let q = read_on _ _ _ _ _ c.frames.invariant.progress _ gave.bytes gave.consumed in
-    rw c.ok_or.ensures.value (closes _ _ _ _ _ q gave.counted.1 (c.in_ok-frame.ensures.closed (ap Ok c.in-Closed.is)) gave.next _ refl)
+    closes _ _ _ _ _ q gave.counted.1 (c.in_ok-frame.ensures.closed (ap Ok c.in-Closed.is)) gave.next c.in-Some.opened (ap (option_map opened_so_far) c.in-Some.is)
 
 pub returns-in-Closed-clause-used : goal.returns-in-Closed-clause-used
 returns-in-Closed-clause-used g c =
+    let gave = rw c.in-Closed.is at c.in_ok-frame.ensures.gives in
+    used _ _ _ _ _ (read_on _ _ _ _ _ c.frames.invariant.progress _ gave.bytes gave.consumed) (omega (arith, gave.counted.1))
+
+pub returns-in_default-clause-meaning : goal.returns-in_default-clause-meaning
+returns-in_default-clause-meaning g c =
+    let gave = rw c.in-Closed.is at c.in_ok-frame.ensures.gives in
+    let q = read_on _ _ _ _ _ c.frames.invariant.progress _ gave.bytes gave.consumed in
+    closes_empty _ _ _ _ _ q gave.counted.1 (c.in_ok-frame.ensures.closed (ap Ok c.in-Closed.is)) gave.next (ap (option_map opened_so_far) c.in_default.is)
+
+pub returns-in_default-clause-used : goal.returns-in_default-clause-used
+returns-in_default-clause-used g c =
     let gave = rw c.in-Closed.is at c.in_ok-frame.ensures.gives in
     used _ _ _ _ _ (read_on _ _ _ _ _ c.frames.invariant.progress _ gave.bytes gave.consumed) (omega (arith, gave.counted.1))

@@ -1,0 +1,14 @@
+-- For proofs alone: no public clause cites these words.
+-- A log that is being read, as the code has it.
+use Rattle.std.specs.Prelude.{◌≡◌, Result, Err, IfSome, option_map}
+use Rattle.stn_log.specs.Log.{LogSoFar, log_held, so_far, told_by}
+use Rattle.stn_log.specs.declared.reading.Opened.{Opened}
+use Rattle.stn_log.specs.declared.fault.LoadFault.{LoadFault}
+
+-- what an opened log says
+abbrev pub opened_so_far : {A : Type 0} → Opened A → LogSoFar
+opened_so_far opened = so_far opened.version (log_held opened.replica)
+
+-- where a fault is told, this is what the log comes to
+abbrev pub IsRefused : Result LogSoFar LoadFault → LoadFault → Type 0
+IsRefused log fault = IfSome (option_map Err (told_by fault)) (λ meaning. log ≡ meaning)
