@@ -7,13 +7,15 @@ ghost use Rattle.stn_matrix.specs.Way.{IsWhole, AreNearer, AreRuns, IsOnWay};
 
 use crate::square::{Arc, entry_of};
 
-// How many columns begin a run: with twelve the benchmark `conflict` takes least.
+// How many columns begin a run: with eight `conflict` takes seven in a hundred more instructions; with
+// sixteen it takes two less, but `merges` and `dense` take more.
 const HUBS: usize = 12;
 
-// Each so-manyth row is asked whether it changes.
+// Every eighth row is asked whether it changes: to ask them all takes longer than runs save in `dense`.
 const SAMPLED: usize = 8;
 
-// If so many of those asked change, the columns are put into runs: fewer rows gain less than that takes.
+// If so many of those asked change, the columns are put into runs; half as many or twice as many take
+// one or two in a hundred more instructions.
 const MANY: usize = 8;
 
 // Columns, and for each the place at which its run ends: the columns after it, up to there, are those

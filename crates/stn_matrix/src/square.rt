@@ -14,8 +14,8 @@ use stn_time::Ms;
 // The most columns: the origin's, and one for each event.
 const MOST_COLUMNS: usize = MOST_EVENTS as usize + 1;
 
-// The least part of the columns with which a row is written whole: by vectors, an entry takes four
-// instructions in place of nine. The benchmarks take least from a fifth to a half of the columns on.
+// Where a fifth of the columns can change, a row is written whole, by vectors; a third or a half in its
+// place changes the instructions of the benchmarks by one in a hundred.
 const WHOLE_PART: usize = 5;
 
 // One event comes at most so long after another.
