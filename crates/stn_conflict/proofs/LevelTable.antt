@@ -35,12 +35,12 @@ pub record IsClosed (bounds : List Difference) (start : ℕ) (levels : ℕ → O
       → (k : ℕ) × (levels (arc_of bounds link).to ≡ Some k) × (k ≤ suc i)
 
 -- a round that gave no level ends the search
-pub closed_at_end : (bounds : List Difference) (start level : ℕ) (levels : ℕ → Option ℕ) (back : ℕ → Link) → HasLevelsUpTo bounds start level levels → HasLevelsUpTo bounds start (suc level) levels
+pub closed_at_end : (bounds : List Difference) (start level : ℕ) (levels : ℕ → Option ℕ) (back : ℕ → Option Link) → HasLevelsUpTo bounds start level levels → HasLevelsUpTo bounds start (suc level) levels
     → AreStepsBack bounds start levels back → IsClosed bounds start levels
 closed_at_end bounds start level levels back now more steps = record {
   zero_at_start = now.zero_at_start;
   only = now.only;
-  back = λ x i at. let (tight, ends, from) = steps.step x i at in (back x, tight, ends, from);
+  back = λ x i at. let (link, is, tight, ends, from) = steps.step x i at in (link, tight, ends, from);
   on = λ link tight i from. more.on link tight i from (omega (arith, now.under _ i from));
 }
 

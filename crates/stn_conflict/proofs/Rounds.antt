@@ -1,11 +1,10 @@
 use Rattle.std.proofs.Common.{◌≡◌, ◌≢◌, inl, inr, ℕ, suc, ◌+◌, ◌<◌, ◌≤◌, cond, Option, Some, None, List, length, set, replicate, sym, subst, ap, ◌∙◌, arith}
-use Rattle.std.specs.Prelude.{ℤ, is_some, count_by}
+use Rattle.std.specs.Prelude.{ℤ, is_some, count_by, slice_index_or}
 use Rattle.std.proofs.lemmas.Bool.{cases_eq, cases_lt}
 use Rattle.std.proofs.lemmas.List.{get_or-set_same, get_or-set_other, get_or-replicate, get_or_past, length-replicate}
 use Rattle.std.proofs.lemmas.List.Sums.{sum_by-set, count_by-le-length}
 use Rattle.stn_net.specs.Difference.{Difference}
 use Rattle.stn_conflict.specs.declared.links.Link.{Link}
-use Rattle.stn_conflict.specs.declared.links.Side.TheVariants.{Upper}
 use Rattle.stn_conflict.specs.Arcs.{arc_of, rank}
 use Rattle.stn_conflict.specs.Distances.{AreDistances}
 use Rattle.stn_conflict.specs.Named.{IsTight}
@@ -87,9 +86,9 @@ marking_marks bounds start level seen levels marked link at leads here others h 
     }
 
 -- the link that gives its end the next level is the first step to it, since no link before it gave one
-pub steps_marked : (bounds : List Difference) (start level seen : ℕ) (levels marked : ℕ → Option ℕ) (back beside : ℕ → Link) (link : Link) → rank link ≡ seen → LeadsOn bounds start level levels link
+pub steps_marked : (bounds : List Difference) (start level seen : ℕ) (levels marked : ℕ → Option ℕ) (back beside : ℕ → Option Link) (link : Link) → rank link ≡ seen → LeadsOn bounds start level levels link
     → marked (arc_of bounds link).to ≡ Some (suc level) → ((x : ℕ) → x ≢ (arc_of bounds link).to → marked x ≡ levels x)
-    → beside (arc_of bounds link).to ≡ link → ((x : ℕ) → x ≢ (arc_of bounds link).to → beside x ≡ back x)
+    → beside (arc_of bounds link).to ≡ Some link → ((x : ℕ) → x ≢ (arc_of bounds link).to → beside x ≡ back x)
     → AreMarking bounds start level seen levels → AreStepsBack bounds start levels back → AreStepsBack bounds start marked beside
 steps_marked bounds start level seen levels marked back beside link at leads here others here_back others_back h steps =
     let end = (arc_of bounds link).to in
@@ -97,27 +96,28 @@ steps_marked bounds start level seen levels marked back beside link at leads her
     let was = had_level levels marked end level here others in
     let lower : (x i : ℕ) → x ≡ end → marked x ≡ Some (suc i) → level ≡ i = λ x i same e. omega (arith, some_same (marked x) (suc i) (suc level) e (ap marked same ∙ here)) in
     record {
+      none =
+          let apart : start ≢ end = λ same. (let none = ap levels same ∙ leads.to in let zero = h.zero_at_start in cc) in
+          others_back start apart ∙ steps.none;
       step = λ x i e.
-          let P : Link → Type 0 = λ l. IsTight bounds start l × ((arc_of bounds l).to ≡ x) × (marked (arc_of bounds l).from ≡ Some i) in
           elim (cases_eq x end) [
-            | inl same ↦
-                let one : beside x ≡ link = ap beside same ∙ here_back in
-                subst P (sym one) (leads.tight, sym same, kept _ level leads.from ∙ ap Some (lower x i same e))
+            | inl same ↦ (link, ap beside same ∙ here_back, leads.tight, sym same, kept _ level leads.from ∙ ap Some (lower x i same e))
             | inr differs ↦
-                let (tight, ends, from) = steps.step x i (sym (others x differs) ∙ e) in
-                subst P (sym (others_back x differs)) (tight, ends, kept _ i from)
+                let (old, is, tight, ends, from) = steps.step x i (sym (others x differs) ∙ e) in
+                (old, others_back x differs ∙ is, tight, ends, kept _ i from)
           ];
-      first = λ x i e other below tight ends from.
+      first = λ x i e one is other below tight ends from.
           elim (cases_eq x end) [
             | inl same ↦
-                let one : beside x ≡ link = ap beside same ∙ here_back in
-                let before : rank other < seen = omega (arith, at, ap rank one) in
+                let now = ap beside same ∙ here_back in
+                let is_link : one ≡ link = cc in
+                let before : rank other < seen = omega (arith, at, ap rank is_link) in
                 let (k, k_at, k_le) = h.looked_at other before tight (was _ level (from ∙ ap Some (sym (lower x i same e))) (omega arith)) in
                 let none : levels (arc_of bounds other).to ≡ None = ap levels (ends ∙ same) ∙ leads.to in
                 cc
             | inr differs ↦
                 let x_at = sym (others x differs) ∙ e in
-                steps.first x i x_at other (omega (arith, ap rank (others_back x differs))) tight ends (was _ i from (omega (arith, h.under x (suc i) x_at)))
+                steps.first x i x_at one (sym (others_back x differs) ∙ is) other below tight ends (was _ i from (omega (arith, h.under x (suc i) x_at)))
           ];
     }
 
@@ -154,8 +154,10 @@ levels_none bounds start levels there none = record {
         ]
 
 -- and no event has a step back
-pub steps_none : (bounds : List Difference) (start : ℕ) (levels : ℕ → Option ℕ) (back : ℕ → Link) → HasLevelsUpTo bounds start 0 levels → AreStepsBack bounds start levels back
-steps_none bounds start levels back h = record {
+pub steps_none : (bounds : List Difference) (start : ℕ) (levels : ℕ → Option ℕ) (back : ℕ → Option Link) → back start ≡ None → HasLevelsUpTo bounds start 0 levels
+    → AreStepsBack bounds start levels back
+steps_none bounds start levels back none h = record {
+  none = none;
   step = λ x i at. absurd (omega (arith, h.under x (suc i) at));
   first = λ x i at. absurd (omega (arith, h.under x (suc i) at));
 }
@@ -169,7 +171,7 @@ pub level_most : (levels : List (Option ℕ)) (level : ℕ) → level + 1 ≤ co
 level_most levels level count = omega (arith, count_by-le-length is_some levels)
 
 -- after a round that gave no level the table is whole
-pub levels_all : (bounds : List Difference) (far : List ℤ) (start level : ℕ) (levels : List (Option ℕ)) (back : ℕ → Link) → AreDistances bounds start far → length levels ≡ length far → level + 1 ≤ count_by is_some levels
+pub levels_all : (bounds : List Difference) (far : List ℤ) (start level : ℕ) (levels : List (Option ℕ)) (back : ℕ → Option Link) → AreDistances bounds start far → length levels ≡ length far → level + 1 ≤ count_by is_some levels
     → HasLevelsUpTo bounds start level (level_at levels) → HasLevelsUpTo bounds start (suc level) (level_at levels) → AreStepsBack bounds start (level_at levels) back → HasLevels bounds start (length far) (level_at levels)
 levels_all bounds far start level levels back exact whole count now more steps =
     let closed = closed_at_end bounds start level (level_at levels) back now more steps in
@@ -180,27 +182,26 @@ levels_all bounds far start level levels back exact whole count now more steps =
     }
 
 -- a round's step at a link that leads on
-pub marking_at : (bounds : List Difference) (start level seen : ℕ) (levels : List (Option ℕ)) (back : List Link) (link : Link) (x : ℕ) → x ≡ (arc_of bounds link).to → x < length levels → x < length back → rank link ≡ seen
+pub marking_at : (bounds : List Difference) (start level seen : ℕ) (levels : List (Option ℕ)) (back : List (Option Link)) (link : Link) (x : ℕ) → x ≡ (arc_of bounds link).to → x < length levels → x < length back → rank link ≡ seen
     → LeadsOn bounds start level (level_at levels) link → AreMarking bounds start level seen (level_at levels) → AreStepsBack bounds start (level_at levels) (link_of back)
     → AreMarking bounds start level (seen + 1) (level_at (set levels x (Some (level + 1)))) × (count_by is_some (set levels x (Some (level + 1))) ≡ count_by is_some levels + 1)
-    × AreStepsBack bounds start (level_at (set levels x (Some (level + 1)))) (link_of (set back x link))
+    × AreStepsBack bounds start (level_at (set levels x (Some (level + 1)))) (link_of (set back x (Some link)))
 marking_at bounds start level seen levels back link x to there beside at leads h steps =
     let next : level + 1 ≡ suc level = omega arith in
-    let first : Link = record { place = 0; side = Upper } in
     let here = sym (ap (level_at (set levels x (Some (level + 1)))) to) ∙ get_or-set_same levels x (Some (level + 1)) None there ∙ ap Some next in
     let others : (y : ℕ) → y ≢ (arc_of bounds link).to → level_at (set levels x (Some (level + 1))) y ≡ level_at levels y = λ y differs. get_or-set_other levels x y (Some (level + 1)) None (λ same. differs (same ∙ to)) in (
       marking_marks bounds start level seen (level_at levels) (level_at (set levels x (Some (level + 1)))) link at leads here others h,
       count_marked levels x (level + 1) there (ap (level_at levels) to ∙ leads.to),
-      steps_marked bounds start level seen (level_at levels) (level_at (set levels x (Some (level + 1)))) (link_of back) (link_of (set back x link)) link at leads here others
-          (sym (ap (link_of (set back x link)) to) ∙ get_or-set_same back x link first beside)
-          (λ y differs. get_or-set_other back x y link first (λ same. differs (same ∙ to)))
+      steps_marked bounds start level seen (level_at levels) (level_at (set levels x (Some (level + 1)))) (link_of back) (link_of (set back x (Some link))) link at leads here others
+          (sym (ap (link_of (set back x (Some link))) to) ∙ get_or-set_same back x (Some link) None beside)
+          (λ y differs. get_or-set_other back x y (Some link) None (λ same. differs (same ∙ to)))
           h steps,
     )
 
--- a table made of no levels has none
-pub none_in_replicate : (levels : List (Option ℕ)) (n : ℕ) → levels ≡ replicate n None → (x : ℕ) → level_at levels x ≡ None
-none_in_replicate levels n e x =
+-- a table that is made of nothing has nothing
+pub none_in_replicate : {X : Type 0} (table : List (Option X)) (n : ℕ) → table ≡ replicate n None → (x : ℕ) → slice_index_or table x None ≡ None
+none_in_replicate {X} table n e x =
     elim (cases_lt x n) [
-      | inl below ↦ ap (λ l. level_at l x) e ∙ get_or-replicate n x None None below
-      | inr above ↦ ap (λ l. level_at l x) e ∙ get_or_past (replicate n None) x None (omega (arith, length-replicate {A = Option ℕ} n None))
+      | inl below ↦ ap (λ l. slice_index_or l x None) e ∙ get_or-replicate n x None None below
+      | inr above ↦ ap (λ l. slice_index_or l x None) e ∙ get_or_past (replicate n None) x None (omega (arith, length-replicate {A = Option X} n None))
     ]

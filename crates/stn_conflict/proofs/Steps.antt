@@ -1,4 +1,4 @@
-use Rattle.std.proofs.Common.{◌≡◌, ◌≢◌, ℕ, zero, suc, ◌<◌, Option, Some, List, [], ◌∷◌, ◌++◌, length, eqb, eqb-true, eq-eqb, sym, subst, ap, refl, ◌∙◌, arith, to_z, of_z, w64}
+use Rattle.std.proofs.Common.{◌≡◌, ℕ, zero, suc, ◌<◌, Option, Some, None, List, [], ◌∷◌, ◌++◌, length, eqb, eqb-true, eq-eqb, sym, subst, ap, refl, ◌∙◌, arith, to_z, of_z, w64}
 use Rattle.std.specs.Prelude.{ℤ, ◌+ℤ◌, IsTrue, reverse}
 use Rattle.std.specs.List.{AllByRecursion}
 use Rattle.std.proofs.lemmas.List.{reverse-append}
@@ -61,28 +61,43 @@ pub record IsStepBack (bounds : List Difference) (start : ℕ) (levels : ℕ →
   pub lower : (level : ℕ) × (levels (arc_of bounds link).from ≡ Some level) × (levels x ≡ Some (suc level))
 
 -- the link beside an event's level is the first step to it
-pub first_step_back : (bounds : List Difference) (start count : ℕ) (levels : ℕ → Option ℕ) (back : ℕ → Link) (x : ℕ) → HasLevels bounds start count levels → AreStepsBack bounds start levels back
-    → x < count → x ≢ start → IsStepBack bounds start levels x (back x)
-first_step_back bounds start count levels back x has steps within differs =
+pub first_step_back : (bounds : List Difference) (start count : ℕ) (levels : ℕ → Option ℕ) (back : ℕ → Option Link) (x : ℕ) (link : Link) → HasLevels bounds start count levels
+    → AreStepsBack bounds start levels back → x < count → back x ≡ Some link → IsStepBack bounds start levels x link
+first_step_back bounds start count levels back x link has steps within is =
     let (level, at) = has.every x within in
     by_level level at
   where
-    by_level : (level : ℕ) → levels x ≡ Some level → IsStepBack bounds start levels x (back x)
-    by_level zero at = absurd (differs (level_zero bounds start x ((has.level x 0).0 at)))
+    by_level : (level : ℕ) → levels x ≡ Some level → IsStepBack bounds start levels x link
+    by_level zero at = (let none = ap back (level_zero bounds start x ((has.level x 0).0 at)) ∙ steps.none in absurd (cc))
     by_level (suc level) at =
-        let (tight, ends, from) = steps.step x level at in
-        let end_at : levels (arc_of bounds (back x)).to ≡ Some (suc level) = ap levels ends ∙ at in
+        let (kept, kept_is, kept_tight, kept_ends, kept_from) = steps.step x level at in
+        let same : kept ≡ link = cc in
+        let tight : IsTight bounds start link = subst (IsTight bounds start) same kept_tight in
+        let ends : (arc_of bounds link).to ≡ x = ap (λ l. (arc_of bounds l).to) (sym same) ∙ kept_ends in
+        let from : levels (arc_of bounds link).from ≡ Some level = ap (λ l. levels (arc_of bounds l).from) (sym same) ∙ kept_from in
+        let end_at : levels (arc_of bounds link).to ≡ Some (suc level) = ap levels ends ∙ at in
         record {
           first = record {
-            step = step_from_entries bounds start count levels (back x) _ _ has refl refl tight (level, from, end_at);
+            step = step_from_entries bounds start count levels link _ _ has refl refl tight (level, from, end_at);
             first = λ other below same step.
                 let (k, low, high) = entries_from_step bounds start count levels other _ _ has refl refl step in
                 let k_is : k ≡ level = omega (arith, some_same (levels x) (suc k) (suc level) (sym (ap levels (same ∙ ends)) ∙ high) at) in
-                steps.first x level at other below step.tight (same ∙ ends) (low ∙ ap Some k_is);
+                steps.first x level at link is other below step.tight (same ∙ ends) (low ∙ ap Some k_is);
           };
           ends = ends;
           lower = (level, from, at);
         }
+
+-- the start alone has no link beside its level
+pub at_start : (bounds : List Difference) (start count : ℕ) (levels : ℕ → Option ℕ) (back : ℕ → Option Link) (x : ℕ) → HasLevels bounds start count levels
+    → AreStepsBack bounds start levels back → x < count → back x ≡ None → x ≡ start
+at_start bounds start count levels back x has steps within is =
+    let (level, at) = has.every x within in
+    by_level level at
+  where
+    by_level : (level : ℕ) → levels x ≡ Some level → x ≡ start
+    by_level zero at = level_zero bounds start x ((has.level x 0).0 at)
+    by_level (suc level) at = (let (link, some, tight, ends, from) = steps.step x level at in absurd (cc))
 
 -- a first step added before a way to its end
 pub chain_before_way : (bounds : List Difference) (start here x : ℕ) (links : List Link) (link : Link) → IsFirstStep bounds start link → (arc_of bounds link).to ≡ here → IsChain bounds (reverse links) here x → AllByRecursion (IsFirstStep bounds start) (reverse links) → IsChain bounds (reverse (links ++ link ∷ [])) (arc_of bounds link).from x × AllByRecursion (IsFirstStep bounds start) (reverse (links ++ link ∷ []))

@@ -4,7 +4,6 @@ use Rattle.stn_time.specs.Time.{horizon}
 use Rattle.stn_net.specs.Difference.{Difference}
 use Rattle.stn_matrix.specs.Tightest.{IsTightest}
 use Rattle.stn_conflict.specs.declared.links.Link.{Link}
-use Rattle.stn_conflict.specs.declared.links.Side.TheVariants.{Upper}
 use Rattle.stn_conflict.specs.Arcs.{arc_of, rank, weight_of, IsNegativeCycle}
 use Rattle.stn_conflict.specs.Named.{IsTight, IsLevel, IsWay, IsNamedCycle}
 
@@ -20,16 +19,18 @@ pub record HasLevelsUpTo (bounds : List Difference) (start level : ℕ) (levels 
   pub on : (link : Link) → IsTight bounds start link → (i : ℕ) → levels (arc_of bounds link).from ≡ Some i → i < level
       → (k : ℕ) × (levels (arc_of bounds link).to ≡ Some k) × (k ≤ suc i)
 
--- the link that a table keeps beside the level of an event
-abbrev pub link_of : List Link → ℕ → Link
-link_of back event = slice_index_or back event (record { place = 0; side = Upper })
+-- the link that a table keeps beside the level of an event, if there is one
+abbrev pub link_of : List (Option Link) → ℕ → Option Link
+link_of back event = slice_index_or back event None
 
--- the link beside each level above 0 is tight, ends there and begins one level lower, and no link before it does so too
-pub record AreStepsBack (bounds : List Difference) (start : ℕ) (levels : ℕ → Option ℕ) (back : ℕ → Link) : Type 0 where
+-- beside the start's level there is no link; the link beside each level above 0 is tight, ends there and begins one level lower, and
+-- no link before it does so too
+pub record AreStepsBack (bounds : List Difference) (start : ℕ) (levels : ℕ → Option ℕ) (back : ℕ → Option Link) : Type 0 where
+  pub none : back start ≡ None
   pub step : (x i : ℕ) → levels x ≡ Some (suc i)
-      → IsTight bounds start (back x) × ((arc_of bounds (back x)).to ≡ x) × (levels (arc_of bounds (back x)).from ≡ Some i)
-  pub first : (x i : ℕ) → levels x ≡ Some (suc i) → (other : Link) → rank other < rank (back x) → IsTight bounds start other
-      → (arc_of bounds other).to ≡ x → levels (arc_of bounds other).from ≢ Some i
+      → (link : Link) × (back x ≡ Some link) × IsTight bounds start link × ((arc_of bounds link).to ≡ x) × (levels (arc_of bounds link).from ≡ Some i)
+  pub first : (x i : ℕ) → levels x ≡ Some (suc i) → (link : Link) → back x ≡ Some link → (other : Link) → rank other < rank link
+      → IsTight bounds start other → (arc_of bounds other).to ≡ x → levels (arc_of bounds other).from ≢ Some i
 
 -- a tight link from an event of this level to an event without one
 pub record LeadsOn (bounds : List Difference) (start level : ℕ) (levels : ℕ → Option ℕ) (link : Link) : Type 0 where

@@ -4,17 +4,17 @@ ghost use Rattle.stn_conflict.specs.Distances.{AreDistances};
 ghost use Rattle.stn_conflict.specs.Named.{IsTight};
 ghost use Rattle.stn_conflict.specs.Search.{level_at, link_of, LeadsOn, HasLevelsUpTo, HasLevels, AreStepsBack};
 
-use crate::links::{Link, Side};
+use crate::links::Link;
 use crate::listed::{Listed, link_at};
 use std::alloc::Allocator;
 use stn_net::Event;
 use stn_time::Memory;
 
-// The levels of events, and beside the level of each the link that marked it.
+// The levels of events, and beside the level of each the link that marked it; none beside that of the start.
 #[derive(Drop)]
 pub(crate) struct Levels<A: Allocator> {
     pub levels: Vec<Option<u16>, A>,
-    pub back: Vec<Link, A>,
+    pub back: Vec<Option<Link>, A>,
 }
 
 // Whether the link's end can be as far after `start` as the link allows when its beginning is as far
@@ -57,7 +57,7 @@ fn mark_level(
     far: &[i64],
     start: Event,
     levels: &mut [Option<u16>],
-    back: &mut [Link],
+    back: &mut [Option<Link>],
     level: u16,
 ) -> bool
     requires far { AreDistances bounds.now start far.now }
@@ -77,7 +77,7 @@ fn mark_level(
         if leads_on(bounds, far, start, levels, level, link) {
             let end = usize::from(bounds.arc(link).to.number());
             levels[end] = Some(level + 1);
-            back[end] = link;
+            back[end] = Some(link);
             found = true;
         }
     }
@@ -100,12 +100,8 @@ pub(crate) fn levels_from<A: Allocator + Copy>(
     ensures steps { IfOk result
         (λ table. AreStepsBack bounds.now start (level_at table.levels.items) (link_of table.back.items)) }
 {
-    let first = Link {
-        place: 0,
-        side: Side::Upper,
-    };
     let mut levels = vec![in alloc; None; far.len()]?;
-    let mut back = vec![in alloc; first; far.len()]?;
+    let mut back = vec![in alloc; None; far.len()]?;
     levels[usize::from(start.number())] = Some(0);
     let mut level = 0;
     while mark_level(bounds, far, start, &mut levels, &mut back, level) {

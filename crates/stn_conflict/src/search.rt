@@ -1,8 +1,8 @@
-ghost use Rattle.std.specs.Prelude.{◌≡◌, ℕ, ◌+◌, ◌<◌, ◌≤◌, ◌↔◌, ◌≤ℤ◌, neg_ℤ, pos, ◌*ℤ◌, ◌++◌, length, take, All, IsNone, IfOk, IfNone, IfSome, List};
-ghost use Rattle.stn_time.specs.Time.{horizon, IsWithinHorizon};
+ghost use Rattle.std.specs.Prelude.{◌≡◌, ◌+◌, ◌<◌, ◌≤◌, ◌↔◌, ◌≤ℤ◌, neg_ℤ, pos, ◌*ℤ◌, ◌++◌, length, take, All, IsNone, IfOk, IfNone, IfSome};
+ghost use Rattle.stn_time.specs.Time.{horizon};
 ghost use Rattle.stn_net.specs.Event.{most_events};
-ghost use Rattle.stn_net.specs.Difference.{Difference, NamesEvents};
-ghost use Rattle.stn_net.specs.Schedule.{HasSchedule, times_of};
+ghost use Rattle.stn_net.specs.Difference.{NamesEvents};
+ghost use Rattle.stn_net.specs.Schedule.{HasSchedule};
 ghost use Rattle.stn_net.specs.Horizon.{horizon_bounds};
 ghost use Rattle.stn_conflict.specs.Arcs.{arc, weight_of, IsNegativeCycle};
 ghost use Rattle.stn_conflict.specs.Culprit.{IsRefusedSide};

@@ -95,8 +95,7 @@ pub(crate) fn way_back<A: Allocator + Copy>(
     let table = levels_from(alloc, bounds, far, start)?;
     let mut links = Vec::new(alloc);
     let mut here = end;
-    while here != start {
-        let link = table.back[usize::from(here.number())];
+    while let Some(link) = table.back[usize::from(here.number())] {
         links.push(link)?;
         here = bounds.arc(link).from;
     }

@@ -8,6 +8,7 @@ use Rattle.stn_conflict.proofs.levels.levels_from.Goals as goal
 pub loop-start-init : goal.loop-start-init
 loop-start-init g c =
     let items = c.in_ok-levels.ensures.items_if_clones_equal (search rules) in
+    let kept = c.in_ok-back.ensures.items_if_clones_equal (search rules) in
     let place : c.from.result ≡ c.args.start = c.from.ensures ∙ c.number.ensures.value in
     let long : length c.in_ok-levels.levels.items ≡ length c.args.far.now = search rules in
     let beside : length c.in_ok-back.back.items ≡ length c.args.far.now = search rules in
@@ -18,7 +19,7 @@ loop-start-init g c =
       whole = length-set c.in_ok-levels.levels.items c.args.start (Some 0) ∙ long;
       beside = beside;
       marked = marked;
-      steps = steps_none c.args.bounds.now c.args.start _ (link_of c.in_ok-back.back.items) marked;
+      steps = steps_none c.args.bounds.now c.args.start _ (link_of c.in_ok-back.back.items) (none_in_replicate c.in_ok-back.back.items (length c.args.far.now) kept c.args.start) marked;
       count = count_start c.in_ok-levels.levels.items c.args.start there none;
     })
 

@@ -6,13 +6,13 @@ use Rattle.stn_conflict.specs.Named.{IsFirstStep}
 use Rattle.stn_conflict.specs.Search.{level_at}
 use Rattle.stn_conflict.proofs.ways.way_back.Given as goal
 
-abbrev pub invariant-loop-start : goal.invariant-loop-start
-invariant-loop-start g l = record {
+abbrev pub invariant-loop-link : goal.invariant-loop-link
+invariant-loop-link g l = record {
   within : l.here < length l.far;
   chain : IsChain l.bounds (reverse l.links.items) l.here l.fn.end;
-  first : AllByRecursion (IsFirstStep l.bounds l.start) (reverse l.links.items);
+  first : AllByRecursion (IsFirstStep l.bounds l.fn.start) (reverse l.links.items);
   short : (level : ℕ) → level_at l.table.levels.items l.here ≡ Some level → length l.links.items + level < length l.far;
 }
 
-abbrev pub decreases-loop-start : goal.decreases-loop-start
-decreases-loop-start g l = unwrap_or (level_at l.table.levels.items l.here) 0
+abbrev pub decreases-loop-link : goal.decreases-loop-link
+decreases-loop-link g l = unwrap_or (level_at l.table.levels.items l.here) 0
