@@ -17,6 +17,8 @@ use Rattle.stn_replica.specs.declared.faults.ReplicaFault.{ReplicaFault}
 use Rattle.stn_replica.specs.declared.faults.ReplicaFault.TheVariants as replica
 use Rattle.stn_wire.specs.declared.fault.WireFault.{WireFault}
 use Rattle.stn_wire.specs.declared.fault.WireFault.TheVariants as wire
+use Rattle.stn_exec.specs.declared.script.RunFault.{RunFault}
+use Rattle.stn_exec.specs.declared.script.RunFault.TheVariants as run
 use Rattle.stn_log.specs.declared.fault.LoadFault.{LoadFault}
 use Rattle.stn_log.specs.declared.fault.LoadFault.TheVariants as load
 use Rattle.stn_log.specs.declared.fault.SaveFault.{SaveFault}
@@ -90,6 +92,12 @@ of_wire wire.Length = refused 50
 of_wire wire.Kind = refused 51
 of_wire wire.Body = refused 52
 of_wire wire.Memory = Failed Memory
+
+abbrev pub of_run : RunFault → Failure
+of_run run.Read = Failed Read
+of_run run.Write = Failed Write
+of_run run.Bound = Failed Bound
+of_run run.Memory = Failed Memory
 
 abbrev pub of_load : LoadFault → Failure
 of_load load.Read = Failed Read

@@ -13,8 +13,9 @@ use Rattle.stn_replica.specs.Held.{difference, plain, executed}
 use Rattle.stn_replica.specs.Report.{IsReport}
 use Rattle.stn_log.specs.Log.{Log}
 use Rattle.stn_exec.specs.Dispatch.{IsNextText}
-use Rattle.stn_line.specs.declared.words.Line.{Line}
-use Rattle.stn_line.specs.declared.words.Line.TheVariants as line
+use Rattle.stn_shell.specs.declared.command.LogCommand.{LogCommand}
+use Rattle.stn_shell.specs.declared.command.LogCommand.TheVariants.{Bare, Init, Add, Withdraw, Done, Merge, Report, Next}
+use Rattle.stn_shell.specs.declared.command.SiteLog.{SiteLog}
 use Rattle.stn_shell.specs.Store.{Saved, saved_too, Changes}
 
 -- the side of a bound that a word spells; the given one, where there is no word
@@ -87,17 +88,16 @@ pub record IsNextSaid (Says : List ℕ → Log → Type 0) (old new : Option (Li
   pub answer : IsNextText ours.source ours.state time text
   pub unsaved : new ≡ old
 
--- what a command does, and the text that it answers; scripts, sessions and exchanges are none of these
+-- what a command does over the log of a site, and the text that it answers
 abbrev pub IsAnswered : (List ℕ → Log → Type 0) → (List ℕ → List ℕ → Type 0) → Option (List Saved) → Option (List Saved)
-    → Line → List ℕ → Type 0
-IsAnswered Says Spells old new (line.Bare log site steps) text = IsMade old new log.now (bare steps) text
-IsAnswered Says Spells old new (line.Init log site domain plan) text =
+    → SiteLog → LogCommand → List ℕ → Type 0
+IsAnswered Says Spells old new log (Bare steps) text = IsMade old new log.name.now (bare steps) text
+IsAnswered Says Spells old new log (Init domain plan) text =
     (actions : List ℕ) × (steps : List ℕ) × Spells domain.now actions × Spells plan.now steps
-    × IsMade old new log.now (files actions steps) text
-IsAnswered Says Spells old new (line.Add log site from to lo hi) text = IsAdded Says old new log.now site from.now to.now lo hi text
-IsAnswered Says Spells old new (line.Withdraw log site id) text = IsWithdrawn Says old new log.now site id.now text
-IsAnswered Says Spells old new (line.Done log site event time) text = IsDone Says old new log.now site event.now time.now text
-IsAnswered Says Spells old new (line.Merge log site other) text = IsMerged Says old new log.now site other.now text
-IsAnswered Says Spells old new (line.Report log site) text = IsReported Says old new log.now text
-IsAnswered Says Spells old new (line.Next log site now) text = IsNextSaid Says old new log.now now.now text
-IsAnswered Says Spells old new other text = ⊥
+    × IsMade old new log.name.now (files actions steps) text
+IsAnswered Says Spells old new log (Add from to lo hi) text = IsAdded Says old new log.name.now log.site from.now to.now lo hi text
+IsAnswered Says Spells old new log (Withdraw id) text = IsWithdrawn Says old new log.name.now log.site id.now text
+IsAnswered Says Spells old new log (Done event time) text = IsDone Says old new log.name.now log.site event.now time.now text
+IsAnswered Says Spells old new log (Merge other) text = IsMerged Says old new log.name.now log.site other.now text
+IsAnswered Says Spells old new log Report text = IsReported Says old new log.name.now text
+IsAnswered Says Spells old new log (Next now) text = IsNextSaid Says old new log.name.now now.now text

@@ -1,6 +1,6 @@
 //! Sessions and exchanges over connections.
 
-ghost use Rattle.std.specs.Prelude.{◌≡◌, ◌⊎◌, ◌++◌, List, ℕ, Result, IfOk, OnOk, OnErr};
+ghost use Rattle.std.specs.Prelude.{◌≡◌, ◌⊎◌, ◌++◌, List, ℕ, Result, IfOk, OnOk};
 ghost use Rattle.std.specs.Io.KnownBytes.{Appends, Keeps};
 ghost use Rattle.stn_device.specs.Counted.{counted_device};
 ghost use Rattle.stn_log.specs.Log.{log_held};
@@ -10,7 +10,7 @@ ghost use Rattle.stn_session.specs.declared.session.Served.{Served as ServedView
 ghost use Rattle.stn_session.specs.declared.session.ServeFault.{ServeFault as ServeFaultView};
 
 use crate::failure::{Failure, Fault};
-use crate::printing::{print_now, tell_answer, tell_failure};
+use crate::printing::{print, print_now, tell_failure};
 use crate::store::Store;
 use itoa::Buffer;
 use std::alloc::{Allocator, Global};
@@ -43,13 +43,31 @@ pub fn serve_on<S: Store, W: Write, E: Write>(
     ensures silent { result ≡ 0 → Keeps (E.contents (counted_device err.old)) (E.contents (counted_device err.new)) }
     ensures source { replica.new.source ≡ replica.old.source }
 {
-    'connections: for _ in 0..count {
-        match serve_next(alloc, store, listener, log, replica, out) {
-            Ok(()) => {}
-            Err(failure) => return tell_failure(alloc, failure, out, err),
-        }
+    match serve_each(alloc, store, listener, count, log, replica, out) {
+        Ok(()) => 0,
+        Err(failure) => tell_failure(alloc, failure, out, err),
     }
-    0
+}
+
+/// Serves `count` connections, one after another.
+pub fn serve_each<S: Store, W: Write>(
+    alloc: Global,
+    store: &mut S,
+    listener: &TcpListener,
+    count: u16,
+    log: &str,
+    replica: &mut Replica<Global>,
+    out: &mut Counted<W>,
+) -> Result<(), Failure>
+    ensures served { OnOk result (Serves count replica.old.source log.now replica.old.state replica.new.state
+        (S.saves store.old) (S.saves store.new)
+        (W.contents (counted_device out.old)) (W.contents (counted_device out.new))) }
+    ensures source { replica.new.source ≡ replica.old.source }
+{
+    'connections: for _ in 0..count {
+        serve_next(alloc, store, listener, log, replica, out)?;
+    }
+    Ok(())
 }
 
 // Serves the next connection, saves the log, and prints how the session ended.
@@ -172,29 +190,39 @@ pub fn send_on<S: Store, W: Write, E: Write>(
     ensures silent { result ≡ 0 → Keeps (E.contents (counted_device err.old)) (E.contents (counted_device err.new)) }
     ensures source { replica.new.source ≡ replica.old.source }
 {
-    match exchange(alloc, store, stream, log, replica) {
-        Ok(text) => tell_answer(&text, out, err),
+    match exchange(alloc, store, stream, log, replica, out) {
+        Ok(()) => 0,
         Err(failure) => tell_failure(alloc, failure, out, err),
     }
 }
 
-// Sends, takes in, and saves the log: the text that came.
-fn exchange<S: Store>(
+/// Sends over a connection what a replica holds, takes in what the other site replies, saves the log, and prints the text that
+/// came.
+pub fn exchange<S: Store, W: Write>(
     alloc: Global,
     store: &mut S,
     stream: &TcpStream,
     log: &str,
     replica: &mut Replica<Global>,
-) -> Result<Vec<u8>, Failure>
+    out: &mut Counted<W>,
+) -> Result<(), Failure>
+    ensures told { OnOk result ((text : List ℕ) × Exchanges replica.old.source replica.old.state replica.new.state text
+        × Appends (W.contents (counted_device out.old)) (W.contents (counted_device out.new)) text) }
     ensures saved { OnOk result (S.saves store.new ≡ saved_too (S.saves store.old) log.now (log_held replica.new)) }
-    ensures unsaved { OnErr result (S.saves store.new ≡ S.saves store.old) }
+    ensures source { replica.new.source ≡ replica.old.source }
+{
+    let text = ask(alloc, stream, replica)?;
+    store.save(log, replica)?;
+    print(&text, out)
+}
+
+// Sends what a replica holds, and takes in the replies: the text that came.
+fn ask(alloc: Global, stream: &TcpStream, replica: &mut Replica<Global>) -> Result<Vec<u8>, Failure>
     ensures exchanged { IfOk result (λ text. Exchanges replica.old.source replica.old.state replica.new.state text.items) }
     ensures source { replica.new.source ≡ replica.old.source }
 {
     let mut writer = Counted::new(stream);
     let mut reader = Counted::new(stream);
     send_requests(alloc, replica, &mut writer)?;
-    let text = receive_replies(alloc, &mut reader, replica)?;
-    store.save(log, replica)?;
-    Ok(text)
+    Ok(receive_replies(alloc, &mut reader, replica)?)
 }

@@ -10,9 +10,10 @@ use stn_device::{Counted, ReadFault, read_whole};
 use stn_log::{load, save};
 use stn_records::Site;
 use stn_replica::Replica;
+use stn_text::MOST_TEXT;
 
 /// How many bytes of a domain or a plan are read at most: one more than a text may have.
-const MOST_TEXT_READ: usize = 65_537;
+const MOST_TEXT_READ: usize = MOST_TEXT + 1;
 
 /// Files, each under its path.
 #[derive(Drop)]

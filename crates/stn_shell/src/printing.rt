@@ -27,6 +27,16 @@ pub fn tell_answer<W: Write, E: Write>(
     }
 }
 
+/// Prints an answer.
+pub fn print<W: Write>(text: &[u8], out: &mut Counted<W>) -> Result<(), Failure>
+    ensures { OnOk result (Appends (W.contents (counted_device out.old)) (W.contents (counted_device out.new)) text.now) }
+{
+    match write_whole(out, text) {
+        Ok(()) => Ok(()),
+        Err(_) => Err(Failure::Failed(Fault::Write)),
+    }
+}
+
 /// Prints a line that is to be seen before the program goes on.
 pub fn print_now<W: Write>(text: &[u8], out: &mut Counted<W>) -> Result<(), Failure>
     ensures { OnOk result (Appends (W.contents (counted_device out.old)) (W.contents (counted_device out.new)) text.now) }

@@ -1,13 +1,14 @@
+use Rattle.std.proofs.lemmas.Result.{on_ok_weaker}
 use Rattle.stn_device.specs.Counted.{counted_device}
 use Rattle.stn_log.specs.Log.{log_held}
-use Rattle.stn_shell.proofs.commands.serve_at.Goals as goal
+use Rattle.stn_shell.proofs.execution.serve_at.Goals as goal
 
-pub returns-in-Ok-listen-clause-done : goal.returns-in-Ok-listen-clause-done
-returns-in-Ok-listen-clause-done g c = λ ended. record {
-  found = log_held c.in-Ok.replica;
-  said = c.in-Ok.ensures.said;
-  left = c.serve_on.new.replica.state;
+pub returns : goal.returns
+returns g c = on_ok_weaker c.serve_each.result (λ served. record {
+  found = log_held c.in_ok-replica.replica;
+  said = c.in_ok-replica.ensures.said;
+  left = c.serve_each.new.replica.state;
   bound = g.W.Write.contents (counted_device c.listen.new.out);
-  listening = c.in-Ok-listen.ensures;
-  served = c.serve_on.ensures.served ended;
-}
+  listening = c.in_ok-listener.ensures;
+  served = served;
+}) c.serve_each.ensures.served
