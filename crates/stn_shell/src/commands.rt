@@ -1,62 +1,69 @@
 //! The commands of a log.
 
-ghost use Rattle.std.specs.Prelude.{◌≡◌, ◌++◌, List, ℕ, OnOk, OnErr};
-ghost use Rattle.stn_lift.specs.PlanSource.{plan_source, bare, files};
-ghost use Rattle.stn_shell.specs.Commands.{IsAnswered, IsMade, IsAdded, IsWithdrawn, IsDone, IsMerged, IsReported, IsNextSaid};
+ghost use Rattle.std.specs.Prelude.{◌≡◌, ◌⊎◌, false, Some, None, OnOk, OnErr, IfOk, IfErr};
+ghost use Rattle.stn_lift.specs.PlanSource.{plan_source};
+ghost use Rattle.stn_shell.specs.Commands.{IsAnswered, IsMade};
+ghost use Rattle.stn_shell.specs.Refusals.{IsRefusalOf, IsBaseRefusal};
+ghost use Rattle.stn_shell.specs.Store.{IsThere, IsLack};
+ghost use Rattle.stn_shell.specs.declared.command.LogCommand.TheVariants as of;
 
-use crate::changes::{
-    add, done, merge, next, open_sides, read_event, read_id, read_side, read_time, report, withdraw,
-};
+use crate::changes::{AskedBound, add, done, merge, next, report, withdraw};
 use crate::command::{LogCommand, SiteLog};
 use crate::failure::Failure;
 use crate::store::Store;
+use crate::words::{open_sides, read_event, read_id, read_side, read_time};
 use std::alloc::Global;
 use std::rc::Rc;
 use stn_lift::{Base, Source};
 use stn_replica::Replica;
 
-/// Does a command of a log, and appends its answer. Where it is refused or a device fails, nothing was saved.
+/// Does a command of a log: the answer. A refused command changes nothing; nor does one for which memory is wanting or a device of
+/// the store fails.
 pub fn answer<S: Store>(
     alloc: Global,
     store: &mut S,
     log: &SiteLog<'_>,
     command: &LogCommand<'_>,
-    out: &mut Vec<u8>,
-) -> Result<(), Failure>
-    ensures done { OnOk result ((text : List ℕ)
-        × IsAnswered (S.says store.old) (S.spells store.old) (S.saves store.old) (S.saves store.new) log.now command.now text
-        × (out.new.items ≡ out.old.items ++ text)) }
-    ensures unsaved { OnErr result (S.saves store.new ≡ S.saves store.old) }
+) -> Result<Vec<u8>, Failure>
+    ensures done { IfOk result (λ text. IsAnswered (S.entries store.old) (S.entries store.new) log.now command.now text.items) }
+    ensures accepted { OnOk result (IsRefusalOf (S.entries store.old) log.now command.now None) }
+    ensures refused { IfErr result (λ failure. IsRefusalOf (S.entries store.old) log.now command.now (Some failure)
+        ⊎ IsLack S.fails failure) }
+    ensures unsaved { OnErr result (S.entries store.new ≡ S.entries store.old) }
 {
     match command {
-        LogCommand::Bare { steps } => make_bare(alloc, store, log, *steps, out),
-        LogCommand::Init { domain, plan } => make_of_files(alloc, store, log, *domain, *plan, out),
-        LogCommand::Add { from, to, lo, hi } => add_to(store, log, *from, *to, *lo, *hi, out),
-        LogCommand::Withdraw { id } => withdraw_from(store, log, *id, out),
-        LogCommand::Done { event, time } => done_at(store, log, *event, *time, out),
-        LogCommand::Merge { other } => merge_with(store, log, *other, out),
-        LogCommand::Report => report_of(store, log, out),
-        LogCommand::Next { now } => next_of(store, log, *now, out),
+        LogCommand::Bare { steps } => make_bare(alloc, store, log, *steps),
+        LogCommand::Init { domain, plan } => make_of_texts(alloc, store, log, *domain, *plan),
+        LogCommand::Add { from, to, lo, hi } => add_to(alloc, store, log, *from, *to, *lo, *hi),
+        LogCommand::Withdraw { id } => withdraw_from(alloc, store, log, *id),
+        LogCommand::Done { event, time } => done_at(alloc, store, log, *event, *time),
+        LogCommand::Merge { other } => merge_with(alloc, store, log, *other),
+        LogCommand::Report => report_of(alloc, store, log),
+        LogCommand::Next { now } => next_of(alloc, store, log, *now),
     }
 }
 
-// Makes the log of a source, where none is there.
+// Makes the log of a source, under a name that is free.
 fn make<S: Store>(
     alloc: Global,
     store: &mut S,
     log: &SiteLog<'_>,
     source: &Source<Global>,
-    out: &mut Vec<u8>,
-) -> Result<(), Failure>
-    ensures done { OnOk result ((text : List ℕ) × IsMade (S.saves store.old) (S.saves store.new) log.now.name.now (plan_source source.now) text
-        × (out.new.items ≡ out.old.items ++ text)) }
-    ensures unsaved { OnErr result (S.saves store.new ≡ S.saves store.old) }
+) -> Result<Vec<u8>, Failure>
+    requires { IsThere (S.entries store.old) log.now.name.now false }
+    ensures done { IfOk result (λ text. IsMade (S.entries store.old) (S.entries store.new) log.now.name.now
+        (plan_source source.now) text.items) }
+    ensures accepted { OnOk result (IsBaseRefusal (plan_source source.now) None) }
+    ensures refused { IfErr result (λ failure. IsBaseRefusal (plan_source source.now) (Some failure) ⊎ IsLack S.fails failure) }
+    ensures unsaved { OnErr result (S.entries store.new ≡ S.entries store.old) }
 {
     let base = Base::from_source(alloc, source)?;
     let base = Rc::new(alloc, base)?;
     let replica = Replica::new(alloc, log.site, base)?;
-    out.extend_from_slice(b"made\n")?;
-    store.save(log.name, &replica)
+    let mut text = Vec::new(alloc);
+    text.extend_from_slice(b"made\n")?;
+    store.save(log.name, &replica)?;
+    Ok(text)
 }
 
 fn make_bare<S: Store>(
@@ -64,53 +71,54 @@ fn make_bare<S: Store>(
     store: &mut S,
     log: &SiteLog<'_>,
     steps: u16,
-    out: &mut Vec<u8>,
-) -> Result<(), Failure>
-    ensures done { OnOk result ((text : List ℕ) × IsMade (S.saves store.old) (S.saves store.new) log.now.name.now (bare steps) text
-        × (out.new.items ≡ out.old.items ++ text)) }
-    ensures unsaved { OnErr result (S.saves store.new ≡ S.saves store.old) }
+) -> Result<Vec<u8>, Failure>
+    ensures done { IfOk result (λ text. IsAnswered (S.entries store.old) (S.entries store.new) log.now (of.Bare steps) text.items) }
+    ensures accepted { OnOk result (IsRefusalOf (S.entries store.old) log.now (of.Bare steps) None) }
+    ensures refused { IfErr result (λ failure. IsRefusalOf (S.entries store.old) log.now (of.Bare steps) (Some failure)
+        ⊎ IsLack S.fails failure) }
+    ensures unsaved { OnErr result (S.entries store.new ≡ S.entries store.old) }
 {
     if store.is_there(log.name)? {
         return Err(Failure::log_there());
     }
-    make(alloc, store, log, &Source::Bare(steps), out)
+    make(alloc, store, log, &Source::Bare(steps))
 }
 
-fn make_of_files<S: Store>(
+fn make_of_texts<S: Store>(
     alloc: Global,
     store: &mut S,
     log: &SiteLog<'_>,
     domain: &str,
     plan: &str,
-    out: &mut Vec<u8>,
-) -> Result<(), Failure>
-    ensures done { OnOk result ((text : List ℕ) × (actions : List ℕ) × (steps : List ℕ)
-        × S.spells store.old domain.now actions × S.spells store.old plan.now steps
-        × IsMade (S.saves store.old) (S.saves store.new) log.now.name.now (files actions steps) text
-        × (out.new.items ≡ out.old.items ++ text)) }
-    ensures unsaved { OnErr result (S.saves store.new ≡ S.saves store.old) }
+) -> Result<Vec<u8>, Failure>
+    ensures done { IfOk result (λ text. IsAnswered (S.entries store.old) (S.entries store.new) log.now (of.Init domain.entry plan.entry) text.items) }
+    ensures accepted { OnOk result (IsRefusalOf (S.entries store.old) log.now (of.Init domain.entry plan.entry) None) }
+    ensures refused { IfErr result (λ failure. IsRefusalOf (S.entries store.old) log.now (of.Init domain.entry plan.entry) (Some failure)
+        ⊎ IsLack S.fails failure) }
+    ensures unsaved { OnErr result (S.entries store.new ≡ S.entries store.old) }
 {
     if store.is_there(log.name)? {
         return Err(Failure::log_there());
     }
     let domain = store.text(domain)?;
     let plan = store.text(plan)?;
-    make(alloc, store, log, &Source::Files(domain, plan), out)
+    make(alloc, store, log, &Source::Files(domain, plan))
 }
 
 fn add_to<S: Store>(
+    alloc: Global,
     store: &mut S,
     log: &SiteLog<'_>,
     from: &str,
     to: &str,
     lo: Option<&str>,
     hi: Option<&str>,
-    out: &mut Vec<u8>,
-) -> Result<(), Failure>
-    ensures done { OnOk result ((text : List ℕ)
-        × IsAdded (S.says store.old) (S.saves store.old) (S.saves store.new) log.now.name.now log.now.site from.now to.now lo.entry hi.entry text
-        × (out.new.items ≡ out.old.items ++ text)) }
-    ensures unsaved { OnErr result (S.saves store.new ≡ S.saves store.old) }
+) -> Result<Vec<u8>, Failure>
+    ensures done { IfOk result (λ text. IsAnswered (S.entries store.old) (S.entries store.new) log.now (of.Add from.entry to.entry lo.entry hi.entry) text.items) }
+    ensures accepted { OnOk result (IsRefusalOf (S.entries store.old) log.now (of.Add from.entry to.entry lo.entry hi.entry) None) }
+    ensures refused { IfErr result (λ failure. IsRefusalOf (S.entries store.old) log.now (of.Add from.entry to.entry lo.entry hi.entry) (Some failure)
+        ⊎ IsLack S.fails failure) }
+    ensures unsaved { OnErr result (S.entries store.new ≡ S.entries store.old) }
 {
     let from = read_event(from)?;
     let to = read_event(to)?;
@@ -118,85 +126,94 @@ fn add_to<S: Store>(
     let lo = read_side(lo, least)?;
     let hi = read_side(hi, greatest)?;
     let mut replica = store.load(log.name, log.site)?;
-    add(&mut replica, from, to, lo, hi, out)?;
-    store.save(log.name, &replica)
+    let text = add(alloc, &mut replica, AskedBound { from, to, lo, hi })?;
+    store.save(log.name, &replica)?;
+    Ok(text)
 }
 
 fn withdraw_from<S: Store>(
+    alloc: Global,
     store: &mut S,
     log: &SiteLog<'_>,
     id: &str,
-    out: &mut Vec<u8>,
-) -> Result<(), Failure>
-    ensures done { OnOk result ((text : List ℕ)
-        × IsWithdrawn (S.says store.old) (S.saves store.old) (S.saves store.new) log.now.name.now log.now.site id.now text
-        × (out.new.items ≡ out.old.items ++ text)) }
-    ensures unsaved { OnErr result (S.saves store.new ≡ S.saves store.old) }
+) -> Result<Vec<u8>, Failure>
+    ensures done { IfOk result (λ text. IsAnswered (S.entries store.old) (S.entries store.new) log.now (of.Withdraw id.entry) text.items) }
+    ensures accepted { OnOk result (IsRefusalOf (S.entries store.old) log.now (of.Withdraw id.entry) None) }
+    ensures refused { IfErr result (λ failure. IsRefusalOf (S.entries store.old) log.now (of.Withdraw id.entry) (Some failure)
+        ⊎ IsLack S.fails failure) }
+    ensures unsaved { OnErr result (S.entries store.new ≡ S.entries store.old) }
 {
     let id = read_id(id)?;
     let mut replica = store.load(log.name, log.site)?;
-    withdraw(&mut replica, id, out)?;
-    store.save(log.name, &replica)
+    let text = withdraw(alloc, &mut replica, id)?;
+    store.save(log.name, &replica)?;
+    Ok(text)
 }
 
 fn done_at<S: Store>(
+    alloc: Global,
     store: &mut S,
     log: &SiteLog<'_>,
     event: &str,
     time: &str,
-    out: &mut Vec<u8>,
-) -> Result<(), Failure>
-    ensures done { OnOk result ((text : List ℕ)
-        × IsDone (S.says store.old) (S.saves store.old) (S.saves store.new) log.now.name.now log.now.site event.now time.now text
-        × (out.new.items ≡ out.old.items ++ text)) }
-    ensures unsaved { OnErr result (S.saves store.new ≡ S.saves store.old) }
+) -> Result<Vec<u8>, Failure>
+    ensures done { IfOk result (λ text. IsAnswered (S.entries store.old) (S.entries store.new) log.now (of.Done event.entry time.entry) text.items) }
+    ensures accepted { OnOk result (IsRefusalOf (S.entries store.old) log.now (of.Done event.entry time.entry) None) }
+    ensures refused { IfErr result (λ failure. IsRefusalOf (S.entries store.old) log.now (of.Done event.entry time.entry) (Some failure)
+        ⊎ IsLack S.fails failure) }
+    ensures unsaved { OnErr result (S.entries store.new ≡ S.entries store.old) }
 {
     let event = read_event(event)?;
     let time = read_time(time)?;
     let mut replica = store.load(log.name, log.site)?;
-    done(&mut replica, event, time, out)?;
-    store.save(log.name, &replica)
+    let text = done(alloc, &mut replica, event, time)?;
+    store.save(log.name, &replica)?;
+    Ok(text)
 }
 
 fn merge_with<S: Store>(
+    alloc: Global,
     store: &mut S,
     log: &SiteLog<'_>,
     other: &str,
-    out: &mut Vec<u8>,
-) -> Result<(), Failure>
-    ensures done { OnOk result ((text : List ℕ)
-        × IsMerged (S.says store.old) (S.saves store.old) (S.saves store.new) log.now.name.now log.now.site other.now text
-        × (out.new.items ≡ out.old.items ++ text)) }
-    ensures unsaved { OnErr result (S.saves store.new ≡ S.saves store.old) }
+) -> Result<Vec<u8>, Failure>
+    ensures done { IfOk result (λ text. IsAnswered (S.entries store.old) (S.entries store.new) log.now (of.Merge other.entry) text.items) }
+    ensures accepted { OnOk result (IsRefusalOf (S.entries store.old) log.now (of.Merge other.entry) None) }
+    ensures refused { IfErr result (λ failure. IsRefusalOf (S.entries store.old) log.now (of.Merge other.entry) (Some failure)
+        ⊎ IsLack S.fails failure) }
+    ensures unsaved { OnErr result (S.entries store.new ≡ S.entries store.old) }
 {
     let mut replica = store.load(log.name, log.site)?;
     let other = store.load(other, log.site)?;
-    merge(&mut replica, &other, out)?;
-    store.save(log.name, &replica)
+    let text = merge(alloc, &mut replica, &other)?;
+    store.save(log.name, &replica)?;
+    Ok(text)
 }
 
-fn report_of<S: Store>(store: &mut S, log: &SiteLog<'_>, out: &mut Vec<u8>) -> Result<(), Failure>
-    ensures done { OnOk result ((text : List ℕ)
-        × IsReported (S.says store.old) (S.saves store.old) (S.saves store.new) log.now.name.now text
-        × (out.new.items ≡ out.old.items ++ text)) }
-    ensures unsaved { OnErr result (S.saves store.new ≡ S.saves store.old) }
+fn report_of<S: Store>(alloc: Global, store: &mut S, log: &SiteLog<'_>) -> Result<Vec<u8>, Failure>
+    ensures done { IfOk result (λ text. IsAnswered (S.entries store.old) (S.entries store.new) log.now of.Report text.items) }
+    ensures accepted { OnOk result (IsRefusalOf (S.entries store.old) log.now of.Report None) }
+    ensures refused { IfErr result (λ failure. IsRefusalOf (S.entries store.old) log.now of.Report (Some failure)
+        ⊎ IsLack S.fails failure) }
+    ensures unsaved { OnErr result (S.entries store.new ≡ S.entries store.old) }
 {
     let replica = store.load(log.name, log.site)?;
-    report(&replica, out)
+    report(alloc, &replica)
 }
 
 fn next_of<S: Store>(
+    alloc: Global,
     store: &mut S,
     log: &SiteLog<'_>,
     now: &str,
-    out: &mut Vec<u8>,
-) -> Result<(), Failure>
-    ensures done { OnOk result ((text : List ℕ)
-        × IsNextSaid (S.says store.old) (S.saves store.old) (S.saves store.new) log.now.name.now now.now text
-        × (out.new.items ≡ out.old.items ++ text)) }
-    ensures unsaved { OnErr result (S.saves store.new ≡ S.saves store.old) }
+) -> Result<Vec<u8>, Failure>
+    ensures done { IfOk result (λ text. IsAnswered (S.entries store.old) (S.entries store.new) log.now (of.Next now.entry) text.items) }
+    ensures accepted { OnOk result (IsRefusalOf (S.entries store.old) log.now (of.Next now.entry) None) }
+    ensures refused { IfErr result (λ failure. IsRefusalOf (S.entries store.old) log.now (of.Next now.entry) (Some failure)
+        ⊎ IsLack S.fails failure) }
+    ensures unsaved { OnErr result (S.entries store.new ≡ S.entries store.old) }
 {
     let now = read_time(now)?;
     let replica = store.load(log.name, log.site)?;
-    next(&replica, now, out)
+    next(alloc, &replica, now)
 }

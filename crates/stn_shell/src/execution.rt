@@ -1,22 +1,18 @@
 //! A task, from its words to its status.
 
-ghost use Rattle.std.specs.Prelude.{◌≡◌, ◌≢◌, ◌<◌, ◌≤◌, ◌-◌, ◌^◌, ◌⊎◌, ◌++◌, [], ◌∷◌, ⊤, None, map, codes, IfOk, OnOk, IsSomeAnd};
-ghost use Rattle.std.specs.Io.KnownBytes.{Appends};
-ghost use Rattle.clap.specs.Words.{fault_of, subcommand_of};
-ghost use Rattle.stn_device.specs.Counted.{counted_device, failure_count};
-ghost use Rattle.stn_line.specs.Commands.{stn as program};
-ghost use Rattle.stn_line.specs.Lines.{IsLineOf};
-ghost use Rattle.stn_line.specs.declared.words.Line.{Line as LineView};
-ghost use Rattle.stn_shell.specs.Carried.{RunsScript, IsCarriedOut};
-ghost use Rattle.stn_shell.specs.Connections.{ServesAt, SendsFrom};
-ghost use Rattle.stn_shell.specs.Tasks.{task_of};
+ghost use Rattle.std.specs.Prelude.{◌≡◌, ◌<◌, ◌≤◌, ◌-◌, ◌^◌, ◌++◌, [], ◌∷◌, map, codes, IfOk, IfErr, OnOk};
+ghost use Rattle.clap.specs.Words.{kind_of};
+ghost use Rattle.stn_device.specs.Counted.{failure_count};
+ghost use Rattle.stn_shell.specs.Carried.{RunsScript, StopsScript, ServesAt, StopsAt, SendsFrom, StopsFrom, Answers, StopsCommand, IsCarriedOut, Stops, StopsListening};
+ghost use Rattle.stn_shell.specs.Executed.{IsSaid, IsExecuted};
+ghost use Rattle.stn_shell.specs.Printing.{device_of, Prints};
 
-use crate::command::{SiteLog, Task};
+use crate::command::{LogCommand, SiteLog, Task};
 use crate::commands::answer;
 use crate::connections::{exchange, serve_each};
 use crate::failure::{Failure, Fault};
 use crate::files::FileStore;
-use crate::printing::{print, print_now, tell_answer, tell_failure, tell_fault};
+use crate::printing::{print, print_now, tell_failure, tell_fault};
 use crate::store::Store;
 use std::alloc::Global;
 use std::io::{Read, Write};
@@ -37,49 +33,58 @@ pub fn execute<
 >(rt: &T, words: &[&str], reader: &mut Counted<R>, out: &mut Counted<W>, err: &mut Counted<E>) -> u8
     requires reader_counts { failure_count reader.old < 2 ^ 64 - 1 }
     requires out_counts { failure_count out.old < 2 ^ 64 - 1 }
-
     ensures status { result ≤ 2 }
 
-    // Status 2 comes of words that are no command's, and of nothing else.
-    ensures words { result ≡ 2 → fault_of program (map (λ word. word.now) words.entry.now) ≢ [] }
-
-    // Status 0 comes of a command that was done, and of words that ask for help or the version. What files hold is not known.
-    ensures done { result ≡ 0 → fault_of program (map (λ word. word.now) words.entry.now) ≡ [] → (line : LineView)
-        × IsSomeAnd (subcommand_of program (map (λ word. word.now) words.entry.now)) (λ command. IsLineOf line command.0 command.1)
-        × IsCarriedOut (λ _ _. ⊤) (λ _ _. ⊤) None None (task_of line)
-        (R.remaining (counted_device reader.old)) (R.remaining (counted_device reader.new))
-        (W.contents (counted_device out.old)) (W.contents (counted_device out.new)) }
+    // A task was done or stopped, the words are refused or ask for help, or memory was wanting. What files hold is not known.
+    ensures executed { IsExecuted (map (λ word. word.now) words.entry.now)
+        (device_of R.remaining reader.old) (device_of R.remaining reader.new)
+        (device_of W.contents out.old) (device_of W.contents out.new)
+        (device_of E.contents err.old) (device_of E.contents err.new) result }
 {
     let alloc = rt.alloc();
     match line(alloc, words) {
         Ok(line) => match do_task(rt, &mut FileStore::new(rt), &Task::of(&line), reader, out) {
             Ok(status) => status,
-            Err(failure) => tell_failure(alloc, failure, out, err),
+            Err(failure) => {
+                tell_failure(alloc, failure, out, err);
+                1
+            }
         },
         Err(LineFault::Words(error)) => tell_words(alloc, &error, out, err),
-        Err(LineFault::Memory) => tell_fault(Fault::Memory, err),
+        Err(LineFault::Memory) => {
+            tell_fault(Fault::Memory, err);
+            1
+        }
     }
 }
 
-// Prints what clap says of words that are no command's. Status 0 for help and the version, else 2.
+// Prints what clap says of words that are no command's. Status 0 for help and the version, 2 for a mistake.
 fn tell_words<W: Write, E: Write>(
     alloc: Global,
     error: &clap::Error,
     out: &mut Counted<W>,
     err: &mut Counted<E>,
 ) -> u8
-    ensures { result ≤ 2 }
+    ensures status { result ≤ 2 }
+    ensures said { IsSaid (kind_of error.now) (device_of W.contents out.old) (device_of W.contents out.new)
+        (device_of E.contents err.old) (device_of E.contents err.new) result }
 {
     match format!(in alloc; "{error}") {
         Ok(text) => {
             if error.use_stderr() {
                 let _ = write_whole(err, text.as_bytes());
                 2
+            } else if write_whole(out, text.as_bytes()).is_ok() {
+                0
             } else {
-                tell_answer(text.as_bytes(), out, err)
+                tell_fault(Fault::Write, err);
+                1
             }
         }
-        Err(_) => tell_fault(Fault::Memory, err),
+        Err(_) => {
+            tell_fault(Fault::Memory, err);
+            1
+        }
     }
 }
 
@@ -98,28 +103,33 @@ fn do_task<
 ) -> Result<u8, Failure>
     requires reader_counts { failure_count reader.old < 2 ^ 64 - 1 }
     requires out_counts { failure_count out.old < 2 ^ 64 - 1 }
-    ensures status { IfOk result (λ status. (status ≡ 0) ⊎ (status ≡ 1)) }
-    ensures done { IfOk result (λ status. status ≡ 0
-        → IsCarriedOut (S.says store.old) (S.spells store.old) (S.saves store.old) (S.saves store.new) task.now
-        (R.remaining (counted_device reader.old)) (R.remaining (counted_device reader.new))
-        (W.contents (counted_device out.old)) (W.contents (counted_device out.new))) }
+    ensures status { IfOk result (λ status. status ≤ 1) }
+    ensures done { IfOk result (IsCarriedOut (S.entries store.old) (S.entries store.new) task.now
+        (device_of R.remaining reader.old) (device_of R.remaining reader.new)
+        (device_of W.contents out.old) (device_of W.contents out.new)) }
+    ensures stopped { IfErr result (Stops S.fails (S.entries store.old) (S.entries store.new) task.now
+        (device_of R.remaining reader.old) (device_of R.remaining reader.new)
+        (device_of W.contents out.old) (device_of W.contents out.new)) }
 {
-    let alloc = rt.alloc();
     match task {
-        Task::Run => return run_script(alloc, reader, out),
+        Task::Run => run_script(rt.alloc(), reader, out),
         Task::Serve {
             log,
             address,
             count,
-        } => serve_at(rt, store, log, *address, *count, out)?,
-        Task::Send { log, address } => send_to(rt, store, log, *address, out)?,
+        } => {
+            serve_at(rt, store, log, *address, *count, out)?;
+            Ok(0)
+        }
+        Task::Send { log, address } => {
+            send_to(rt, store, log, *address, out)?;
+            Ok(0)
+        }
         Task::Command { log, command } => {
-            let mut text = Vec::new(alloc);
-            answer(alloc, store, log, command, &mut text)?;
-            print(&text, out)?;
+            do_command(rt.alloc(), store, log, command, out)?;
+            Ok(0)
         }
     }
-    Ok(0)
 }
 
 // Runs a script. Status 0 where no line was refused, else 1.
@@ -130,13 +140,31 @@ fn run_script<R: Read, W: Write>(
 ) -> Result<u8, Failure>
     requires reader_counts { failure_count reader.old < 2 ^ 64 - 1 }
     requires out_counts { failure_count out.old < 2 ^ 64 - 1 }
-    ensures status { IfOk result (λ status. (status ≡ 0) ⊎ (status ≡ 1)) }
-    ensures done { IfOk result (λ status. status ≡ 0
-        → RunsScript (R.remaining (counted_device reader.old)) (R.remaining (counted_device reader.new))
-        (W.contents (counted_device out.old)) (W.contents (counted_device out.new))) }
+    ensures status { IfOk result (λ status. status ≤ 1) }
+    ensures done { IfOk result (RunsScript (device_of R.remaining reader.old) (device_of R.remaining reader.new)
+        (device_of W.contents out.old) (device_of W.contents out.new)) }
+    ensures stopped { IfErr result (StopsScript (device_of R.remaining reader.old) (device_of R.remaining reader.new)
+        (device_of W.contents out.old) (device_of W.contents out.new)) }
 {
     let ran = run(alloc, reader, out)?;
     Ok(if ran.refused == 0 { 0 } else { 1 })
+}
+
+// Does a command of a log, and prints its answer.
+fn do_command<S: Store, W: Write>(
+    alloc: Global,
+    store: &mut S,
+    log: &SiteLog<'_>,
+    command: &LogCommand<'_>,
+    out: &mut Counted<W>,
+) -> Result<(), Failure>
+    ensures done { OnOk result (Answers (S.entries store.old) (S.entries store.new) log.now command.now
+        (device_of W.contents out.old) (device_of W.contents out.new)) }
+    ensures stopped { IfErr result (StopsCommand S.fails (S.entries store.old) (S.entries store.new) log.now command.now
+        (device_of W.contents out.old) (device_of W.contents out.new)) }
+{
+    let text = answer(alloc, store, log, command)?;
+    print(&text, out)
 }
 
 // Serves a log at an address.
@@ -148,8 +176,10 @@ fn serve_at<S: Store, T: AllocGlobal + Net<Listener = TcpListener, Stream = TcpS
     count: u16,
     out: &mut Counted<W>,
 ) -> Result<(), Failure>
-    ensures { OnOk result (ServesAt (S.says store.old) log.now.name.now count (S.saves store.old) (S.saves store.new)
-        (W.contents (counted_device out.old)) (W.contents (counted_device out.new))) }
+    ensures done { OnOk result (ServesAt (S.entries store.old) (S.entries store.new) log.now count
+        (device_of W.contents out.old) (device_of W.contents out.new)) }
+    ensures stopped { IfErr result (StopsAt S.fails (S.entries store.old) (S.entries store.new) log.now count
+        (device_of W.contents out.old) (device_of W.contents out.new)) }
 {
     let mut replica = store.load(log.name, log.site)?;
     let listener = listen(rt, address, out)?;
@@ -170,8 +200,9 @@ fn listen<T: Net<Listener = TcpListener, Stream = TcpStream>, W: Write>(
     address: &str,
     out: &mut Counted<W>,
 ) -> Result<TcpListener, Failure>
-    ensures { OnOk result (Appends (W.contents (counted_device out.old)) (W.contents (counted_device out.new))
+    ensures said { OnOk result (Prints (device_of W.contents out.old) (device_of W.contents out.new)
         (codes "listening" ++ 10 ∷ [])) }
+    ensures failed { IfErr result (StopsListening (device_of W.contents out.old) (device_of W.contents out.new)) }
 {
     match TcpListener::bind(rt, address) {
         Ok(listener) => {
@@ -190,8 +221,10 @@ fn send_to<S: Store, T: AllocGlobal + Net<Listener = TcpListener, Stream = TcpSt
     address: &str,
     out: &mut Counted<W>,
 ) -> Result<(), Failure>
-    ensures { OnOk result (SendsFrom (S.says store.old) log.now.name.now (S.saves store.old) (S.saves store.new)
-        (W.contents (counted_device out.old)) (W.contents (counted_device out.new))) }
+    ensures done { OnOk result (SendsFrom (S.entries store.old) (S.entries store.new) log.now
+        (device_of W.contents out.old) (device_of W.contents out.new)) }
+    ensures stopped { IfErr result (StopsFrom S.fails (S.entries store.old) (S.entries store.new) log.now
+        (device_of W.contents out.old) (device_of W.contents out.new)) }
 {
     let mut replica = store.load(log.name, log.site)?;
     match TcpStream::connect(rt, address) {

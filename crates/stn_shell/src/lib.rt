@@ -7,6 +7,7 @@ pub use connections::{send_on, serve_on};
 pub use execution::execute;
 pub use failure::{Argument, Failure, Fault, Refusal};
 pub use files::FileStore;
+pub use memory::MemoryStore;
 pub use store::Store;
 
 mod changes;
@@ -16,5 +17,8 @@ mod connections;
 mod execution;
 mod failure;
 mod files;
+mod memory;
 mod printing;
+mod reading;
 mod store;
+mod words;

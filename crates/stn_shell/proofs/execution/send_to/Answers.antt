@@ -1,21 +1,19 @@
-use Rattle.std.proofs.Common.{ap, ◌∙◌, Result, Ok, Err}
-use Rattle.std.specs.Prelude.{OnOk}
-use Rattle.stn_log.specs.Log.{log_held}
-use Rattle.stn_shell.specs.Store.{saved_too}
+use Rattle.std.proofs.Common.{refl, inl, inr}
+use Rattle.std.proofs.lemmas.Result.{on_ok_weaker, IfErr-weaker}
 use Rattle.stn_shell.proofs.execution.send_to.Goals as goal
 
-on_ok_by_two : {T E P Q C : Type 0} (r : Result T E) → (P → Q → C) → OnOk r P → OnOk r Q → OnOk r C
-on_ok_by_two (Ok x) f p q = f p q
-on_ok_by_two (Err e) f p q = tt
-
-pub returns-in-Ok : goal.returns-in-Ok
-returns-in-Ok g c = on_ok_by_two c.exchange.result (λ told saved. record {
-  found = log_held c.in_ok-replica.replica;
-  said = c.in_ok-replica.ensures.said;
+pub returns-in-Ok-clause-done : goal.returns-in-Ok-clause-done
+returns-in-Ok-clause-done g c = on_ok_weaker c.exchange.result (λ sent. record {
+  found = c.in_ok-replica.replica;
   left = c.exchange.new.replica.state;
-  text = told.0;
-  exchanged = told.1;
-  saved = saved
-      ∙ ap (λ source. saved_too (g.S.Store.saves c.args.store.now) c.args.log.now.name.now (record { source = source; state = c.exchange.new.replica.state })) c.exchange.ensures.source;
-  printed = told.2;
-}) c.exchange.ensures.told c.exchange.ensures.saved
+  opened = c.in_ok-replica.ensures.opened;
+  sent = sent;
+}) c.exchange.ensures.sent
+
+pub returns-in-Ok-clause-stopped : goal.returns-in-Ok-clause-stopped
+returns-in-Ok-clause-stopped g c = IfErr-weaker c.exchange.result _ _
+    (λ failure stopped. inr (inr (c.in_ok-replica.replica, c.exchange.new.replica.state, c.in_ok-replica.ensures.opened, stopped)))
+    c.exchange.ensures.stopped
+
+pub returns-clause-stopped : goal.returns-clause-stopped
+returns-clause-stopped g c = inr (inl (c.in_ok-replica.replica, c.in_ok-replica.ensures.opened, refl, refl, refl))
