@@ -26,11 +26,7 @@ fn read_frames(rt: &HostRuntime) -> Result<Vec<Vec<u8>>, Error> {
 }
 
 // The frames that a log may have, HELLO and RECORDS: of the old version alone, or of either.
-fn of_logs(
-    rt: &HostRuntime,
-    frames: &[Vec<u8>],
-    old_alone: bool,
-) -> Result<Vec<Vec<u8>>, Error> {
+fn of_logs(rt: &HostRuntime, frames: &[Vec<u8>], old_alone: bool) -> Result<Vec<Vec<u8>>, Error> {
     let mut some = Vec::new(rt.alloc());
     for frame in frames {
         let wanted = match frame.get(4) {

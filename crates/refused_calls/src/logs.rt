@@ -171,8 +171,5 @@ fn each_load(alloc: Global, log: &[u8], wanted: &[u8], kind: Kind) -> Result<boo
 
 /// Whether `load` of this log opens a replica that saves the wanted log, and answers each refused call.
 pub fn loads(alloc: Global, log: &[u8], wanted: &[u8]) -> Result<bool, Error> {
-    Ok(
-        each_load(alloc, log, wanted, Kind::Memory)?
-            && each_load(alloc, log, wanted, Kind::Read)?,
-    )
+    Ok(each_load(alloc, log, wanted, Kind::Memory)? && each_load(alloc, log, wanted, Kind::Read)?)
 }

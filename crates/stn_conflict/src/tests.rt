@@ -166,7 +166,12 @@ fn cycle_by_id_order(rt: HostRuntime) -> Result<(), Fail> {
 #[test]
 fn widest_cycle(rt: HostRuntime) -> Result<(), Fail> {
     let found = find(rt.alloc(), 2, &[(1, 2, H, H), (0, 2, -H, -H)])?;
-    expect(&rt, &found, &[upper(3), lower(2), lower(0)], -63_072_000_000);
+    expect(
+        &rt,
+        &found,
+        &[upper(3), lower(2), lower(0)],
+        -63_072_000_000,
+    );
     Ok(())
 }
 

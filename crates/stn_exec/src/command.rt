@@ -288,13 +288,15 @@ fn count_words(line: &[u8]) -> usize
     count
 }
 
-fn read_event(word: &[u8]) -> Option<Event>
+/// The event that a word names.
+pub fn read_event(word: &[u8]) -> Option<Event>
     ensures { result ≡ event_of word.now }
 {
     Event::read(word)
 }
 
-fn read_id(word: &[u8]) -> Option<Id>
+/// The id that a word names.
+pub fn read_id(word: &[u8]) -> Option<Id>
     ensures { result ≡ id_of word.now }
 {
     Id::read(word)

@@ -1,6 +1,7 @@
 //! Scripts: a text of commands, run from a reader to a writer.
 #![tactic(auto)]
 
+pub use command::{read_event, read_id};
 pub use dispatch::append_next;
 pub use laws::{one_script, scripts_are_runs};
 pub use script::{Ran, RunFault, run};

@@ -1,5 +1,5 @@
 -- What a log makes of a frame, from what a base and a replica answer.
-use Rattle.std.proofs.Common.{◌≡◌, true, not, Option, Some, None, Result, Ok, Err, IfSome, refl, sym, ap, subst, ◌∙◌}
+use Rattle.std.proofs.Common.{◌≡◌, true, not, Option, Some, None, Ok, refl, sym, ap, subst, ◌∙◌}
 use Rattle.std.specs.Prelude.{unwrap_or, is_some}
 use Rattle.std.proofs.lemmas.Bool.{false≢true}
 use Rattle.stn_text.specs.Faults.{Fails}
@@ -17,7 +17,6 @@ use Rattle.stn_log.specs.Faults.{of_base, of_replica}
 use Rattle.stn_log.specs.Log.{Log, log_held, so_far, opened, joined, taken_in}
 use Rattle.stn_log.specs.Opening.{IsRefused}
 use Rattle.stn_log.specs.declared.version.Version.{Version}
-use Rattle.stn_log.specs.declared.fault.LoadFault.{LoadFault}
 
 -- a source without a base
 pub base_refused : (version : Version) (source : PlanSource) (fault : BaseFault) → Fails {Y = PlanSource} is_memory fault (base_of source) → IsRefused (opened version (base_of source)) (of_base fault)

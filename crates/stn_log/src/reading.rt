@@ -1,4 +1,4 @@
-ghost use Rattle.std.specs.Prelude.{◌≡◌, ◌≢◌, ◌+◌, ◌-◌, ◌^◌, ◌<◌, ◌≤◌, option_map, Some, None, Ok, Err, length, IfOk, IfErr, IfSome, OnOk, IsErrOf, MatchOption};
+ghost use Rattle.std.specs.Prelude.{◌≡◌, ◌≢◌, ◌+◌, ◌-◌, ◌^◌, ◌<◌, option_map, Some, None, Ok, Err, length, IfOk, IfErr, IfSome, OnOk, IsErrOf, MatchOption};
 ghost use Rattle.std.specs.Io.KnownBytes.{IsAtEnd};
 ghost use Rattle.stn_device.specs.Counted.{counted_device, failure_count, KeepsCount};
 ghost use Rattle.stn_device.specs.Bytes.{most_bytes, ConsumesAtMost};

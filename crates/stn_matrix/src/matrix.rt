@@ -5,7 +5,6 @@ ghost use Rattle.stn_net.specs.Schedule.{HasSchedule};
 ghost use Rattle.stn_net.specs.Event.{most_events};
 ghost use Rattle.stn_matrix.specs.Table.{far_of};
 ghost use Rattle.stn_matrix.specs.Tightest.{IsTightest, IsExact};
-ghost use Rattle.stn_time.specs.Time.{horizon};
 
 use crate::square::{entry_of, has_room, is_implied, narrow, widen};
 use std::alloc::Allocator;

@@ -129,6 +129,7 @@ pub fn receive_replies<R: Read, A: Allocator + Copy>(
     ensures received { IsReceived replica.old.source replica.old.state (R.remaining (counted_device reader.old))
         (R.remaining (counted_device reader.new)) replica.new.state (seen (λ bytes. bytes.items) result) }
     ensures source { replica.new.source ≡ replica.old.source }
+    ensures site { replica.new.site ≡ replica.old.site }
     ensures read { IsErrOf result Read → failure_count reader.old < failure_count reader.new }
     ensures kept { result ≢ Err Read → KeepsCount reader.old reader.new }
 {
@@ -205,6 +206,7 @@ fn take_in<A: Allocator + Copy>(
     theirs: &Records<A>,
 ) -> Result<(), ReplyFault>
     ensures source { replica.new.source ≡ replica.old.source }
+    ensures site { replica.new.site ≡ replica.old.site }
     ensures taken { OnOk result (handed replica.old.source replica.old.state (records theirs.now) ≡ at_stage telling replica.new.state) }
     ensures refused { IfErr result (λ fault. (fault ≡ Memory)
         ⊎ (handed replica.old.source replica.old.state (records theirs.now) ≡ at_stage (failed fault) replica.old.state)) }

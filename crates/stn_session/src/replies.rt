@@ -31,6 +31,7 @@ pub(crate) fn reply_to<A: Allocator + Copy>(
     out: &mut Vec<u8, A>,
 ) -> Result<Turn, Memory>
     ensures source { replica.new.source ≡ replica.old.source }
+    ensures site { replica.new.site ≡ replica.old.site }
     ensures answered { IfOk result (IsAnswered (answer replica.old.source replica.old.state greeted (content frame.now)) replica.new.state out.old.items out.new.items) }
     ensures left { OnErr result ((replica.new.state ≡ replica.old.state)
         ⊎ (replica.new.state ≡ (answer replica.old.source replica.old.state greeted (content frame.now)).state)) }
@@ -71,6 +72,7 @@ fn take<A: Allocator + Copy>(
     out: &mut Vec<u8, A>,
 ) -> Result<Turn, Memory>
     ensures source { replica.new.source ≡ replica.old.source }
+    ensures site { replica.new.site ≡ replica.old.site }
     ensures answered { IfOk result (IsAnswered (answer replica.old.source replica.old.state true (records theirs.now)) replica.new.state out.old.items out.new.items) }
     ensures left { OnErr result ((replica.new.state ≡ replica.old.state)
         ⊎ (replica.new.state ≡ (answer replica.old.source replica.old.state true (records theirs.now)).state)) }

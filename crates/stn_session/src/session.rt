@@ -87,6 +87,7 @@ fn answer_frame<W: Write, A: Allocator + Copy>(
     writer: &mut Counted<W>,
 ) -> Result<Turn, ServeFault>
     ensures source { replica.new.source ≡ replica.old.source }
+    ensures site { replica.new.site ≡ replica.old.site }
     ensures wrote { Wrote (answer replica.old.source replica.old.state greeted (content frame))
         (W.contents (counted_device writer.old)) (W.contents (counted_device writer.new)) replica.old.state replica.new.state result }
     ensures write { IsErrOf result Write → CountsFailure writer.old writer.new }
@@ -141,6 +142,7 @@ pub fn serve<R: Read, W: Write, A: Allocator + Copy>(
         (R.remaining (counted_device reader.old)) (R.remaining (counted_device reader.new))
         (W.contents (counted_device writer.old)) (W.contents (counted_device writer.new)) replica.new.state) }
     ensures source { replica.new.source ≡ replica.old.source }
+    ensures site { replica.new.site ≡ replica.old.site }
 
     // Each fault has its cause.
     ensures read { IsErrOf result Read → failure_count reader.old < failure_count reader.new }

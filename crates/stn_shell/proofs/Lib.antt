@@ -1,1 +1,5 @@
 pub mod Served
+pub mod Lacks
+pub mod Chains
+pub mod Decided
+pub mod Lookups

@@ -17,6 +17,10 @@ use Rattle.stn_replica.specs.declared.faults.ReplicaFault.{ReplicaFault}
 use Rattle.stn_replica.specs.declared.faults.ReplicaFault.TheVariants as replica
 use Rattle.stn_wire.specs.declared.fault.WireFault.{WireFault}
 use Rattle.stn_wire.specs.declared.fault.WireFault.TheVariants as wire
+use Rattle.stn_device.specs.declared.whole.ReadFault.{ReadFault}
+use Rattle.stn_device.specs.declared.whole.ReadFault.TheVariants as read
+use Rattle.stn_exec.specs.declared.script.RunFault.{RunFault}
+use Rattle.stn_exec.specs.declared.script.RunFault.TheVariants as run
 use Rattle.stn_log.specs.declared.fault.LoadFault.{LoadFault}
 use Rattle.stn_log.specs.declared.fault.LoadFault.TheVariants as load
 use Rattle.stn_log.specs.declared.fault.SaveFault.{SaveFault}
@@ -91,6 +95,17 @@ of_wire wire.Kind = refused 51
 of_wire wire.Body = refused 52
 of_wire wire.OldFrame = refused 53
 of_wire wire.Memory = Failed Memory
+
+abbrev pub of_run : RunFault → Failure
+of_run run.Read = Failed Read
+of_run run.Write = Failed Write
+of_run run.Bound = Failed Bound
+of_run run.Memory = Failed Memory
+
+abbrev pub of_read : ReadFault → Failure
+of_read read.Read = Failed Read
+of_read read.Bound = Failed Bound
+of_read read.Memory = Failed Memory
 
 abbrev pub of_load : LoadFault → Failure
 of_load load.Read = Failed Read

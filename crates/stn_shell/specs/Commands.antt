@@ -1,103 +1,90 @@
--- What each command of a log does, and the text that it answers. Logs and texts are found under names: `Says` tells what the log of a
--- name says, `Spells` how the text of a name begins.
-use Rattle.std.specs.Prelude.{◌≡◌, ℕ, ℤ, List, [], ◌∷◌, ◌++◌, codes, Option, Some, None, Ok, neg_ℤ}
+-- What each command of a log does, and the text that it answers.
+use Rattle.std.specs.Prelude.{◌≡◌, ℕ, ℤ, false, List, [], ◌∷◌, ◌++◌, codes, Option, Ok}
 use Rattle.std.specs.Borrow.{Bor}
-use Rattle.stn_time.specs.Time.{horizon}
-use Rattle.stn_time.specs.TimeOf.{time_of}
-use Rattle.stn_net.specs.Event.{event_text}
+use Rattle.stn_net.specs.Difference.{Difference}
 use Rattle.stn_lift.specs.PlanSource.{PlanSource, bare, files, base_of}
 use Rattle.stn_records.specs.Content.{no_content}
 use Rattle.stn_records.specs.Id.{SiteCounter, id_text}
 use Rattle.stn_replica.specs.Calls.{added, withdrew, took}
-use Rattle.stn_replica.specs.Held.{difference, plain, executed}
+use Rattle.stn_replica.specs.Held.{Held, plain, executed}
 use Rattle.stn_replica.specs.Report.{IsReport}
-use Rattle.stn_log.specs.Log.{Log}
 use Rattle.stn_exec.specs.Dispatch.{IsNextText}
-use Rattle.stn_line.specs.declared.words.Line.{Line}
-use Rattle.stn_line.specs.declared.words.Line.TheVariants as line
-use Rattle.stn_shell.specs.Store.{Saved, saved_too, Changes}
+use Rattle.stn_shell.specs.Store.{Entry, IsThere, Spells, Opens, saved_too, Changes}
+use Rattle.stn_shell.specs.Words.{bound_read, execution_read, id_read, time_read}
+use Rattle.stn_shell.specs.declared.command.SiteLog.{SiteLog}
+use Rattle.stn_shell.specs.declared.command.LogCommand.{LogCommand}
+use Rattle.stn_shell.specs.declared.command.LogCommand.TheVariants.{Bare, Init, Add, Withdraw, Done, Merge, Report, Next}
 
--- the side of a bound that a word spells; the given one, where there is no word
-abbrev pub IsSide : Option (Bor (List ℕ)) → ℤ → ℤ → Type 0
-IsSide None otherwise side = side ≡ otherwise
-IsSide (Some word) otherwise side = time_of word.now ≡ Ok side
-
--- a log of a source that has a base, which says nothing else
-pub record IsMade (old new : Option (List Saved)) (log : List ℕ) (source : PlanSource) (text : List ℕ) : Type 0 where
+-- the log of a source that has a base, where none was; it says nothing else
+pub record IsMade (old new : Option (List Entry)) (log : List ℕ) (source : PlanSource) (text : List ℕ) : Type 0 where
+  pub free : IsThere old log false
   pub base : base_of source ≡ Ok source
   pub saved : new ≡ saved_too old log (record { source = source; state = no_content })
   pub line : text ≡ codes "made" ++ 10 ∷ []
 
+-- the same, by the texts of a domain and of a plan
+pub record IsMadeOfTexts (old new : Option (List Entry)) (log domain plan text : List ℕ) : Type 0 where
+  pub actions : List ℕ
+  pub steps : List ℕ
+  pub first : Spells old domain actions
+  pub second : Spells old plan steps
+  pub made : IsMade old new log (files actions steps) text
+
 -- a bound between two events, with the sides that are given
-pub record IsAdded (Says : List ℕ → Log → Type 0) (old new : Option (List Saved)) (log : List ℕ) (site : ℕ) (from to : List ℕ)
-    (lo hi : Option (Bor (List ℕ))) (text : List ℕ) : Type 0 where
-  pub first : ℕ
-  pub second : ℕ
-  pub least : ℤ
-  pub greatest : ℤ
+pub record IsAdded (old new : Option (List Entry)) (log : SiteLog) (from to : List ℕ) (lo hi : Option (Bor (List ℕ)))
+    (text : List ℕ) : Type 0 where
+  pub bound : Difference
   pub id : SiteCounter
-  pub begins : from ≡ event_text first
-  pub ends : to ≡ event_text second
-  pub low : IsSide lo (neg_ℤ horizon) least
-  pub high : IsSide hi horizon greatest
-  pub change : Changes Says old new log site (added id (plain (difference first second least greatest)))
+  pub read : bound_read from to lo hi ≡ Ok bound
+  pub change : Changes old new log.name.now log.site (added id (plain bound))
   pub line : text ≡ codes "added " ++ (id_text id ++ 10 ∷ [])
 
 -- a record by its id
-pub record IsWithdrawn (Says : List ℕ → Log → Type 0) (old new : Option (List Saved)) (log : List ℕ) (site : ℕ)
-    (word text : List ℕ) : Type 0 where
+pub record IsWithdrawn (old new : Option (List Entry)) (log : SiteLog) (word text : List ℕ) : Type 0 where
   pub id : SiteCounter
-  pub named : word ≡ id_text id
-  pub change : Changes Says old new log site (withdrew id)
+  pub read : id_read word ≡ Ok id
+  pub change : Changes old new log.name.now log.site (withdrew id)
   pub line : text ≡ codes "withdrawn " ++ (id_text id ++ 10 ∷ [])
 
 -- an event, and when it took place
-pub record IsDone (Says : List ℕ → Log → Type 0) (old new : Option (List Saved)) (log : List ℕ) (site : ℕ)
-    (word spelled text : List ℕ) : Type 0 where
-  pub event : ℕ
-  pub time : ℤ
+pub record IsDone (old new : Option (List Entry)) (log : SiteLog) (event time text : List ℕ) : Type 0 where
+  pub done : ℕ × ℤ
   pub id : SiteCounter
-  pub named : word ≡ event_text event
-  pub when : time_of spelled ≡ Ok time
-  pub change : Changes Says old new log site (added id (executed time event))
+  pub read : execution_read event time ≡ Ok done
+  pub change : Changes old new log.name.now log.site (added id (executed done.1 done.0))
   pub line : text ≡ codes "added " ++ (id_text id ++ 10 ∷ [])
 
--- all that another log holds
-pub record IsMerged (Says : List ℕ → Log → Type 0) (old new : Option (List Saved)) (log : List ℕ) (site : ℕ)
-    (other text : List ℕ) : Type 0 where
-  pub theirs : Log
-  pub said : Says other theirs
-  pub change : Changes Says old new log site (took theirs.state)
+-- all that another log of the same plan holds
+pub record IsMerged (old new : Option (List Entry)) (log : SiteLog) (other text : List ℕ) : Type 0 where
+  pub theirs : Held
+  pub opened : Opens old other log.site theirs
+  pub change : Changes old new log.name.now log.site (took theirs.state)
   pub same : change.before.source ≡ theirs.source
   pub line : text ≡ codes "merged" ++ 10 ∷ []
 
 -- the report of what the log says
-pub record IsReported (Says : List ℕ → Log → Type 0) (old new : Option (List Saved)) (log text : List ℕ) : Type 0 where
-  pub ours : Log
-  pub said : Says log ours
+pub record IsReported (old new : Option (List Entry)) (log : SiteLog) (text : List ℕ) : Type 0 where
+  pub ours : Held
+  pub opened : Opens old log.name.now log.site ours
   pub report : IsReport ours.source ours.state text
   pub unsaved : new ≡ old
 
 -- what comes next from a time on
-pub record IsNextSaid (Says : List ℕ → Log → Type 0) (old new : Option (List Saved)) (log spelled text : List ℕ) : Type 0 where
-  pub ours : Log
+pub record IsNextSaid (old new : Option (List Entry)) (log : SiteLog) (word text : List ℕ) : Type 0 where
+  pub ours : Held
   pub time : ℤ
-  pub said : Says log ours
-  pub when : time_of spelled ≡ Ok time
+  pub opened : Opens old log.name.now log.site ours
+  pub read : time_read word ≡ Ok time
   pub answer : IsNextText ours.source ours.state time text
   pub unsaved : new ≡ old
 
--- what a command does, and the text that it answers; scripts, sessions and exchanges are none of these
-abbrev pub IsAnswered : (List ℕ → Log → Type 0) → (List ℕ → List ℕ → Type 0) → Option (List Saved) → Option (List Saved)
-    → Line → List ℕ → Type 0
-IsAnswered Says Spells old new (line.Bare log site steps) text = IsMade old new log.now (bare steps) text
-IsAnswered Says Spells old new (line.Init log site domain plan) text =
-    (actions : List ℕ) × (steps : List ℕ) × Spells domain.now actions × Spells plan.now steps
-    × IsMade old new log.now (files actions steps) text
-IsAnswered Says Spells old new (line.Add log site from to lo hi) text = IsAdded Says old new log.now site from.now to.now lo hi text
-IsAnswered Says Spells old new (line.Withdraw log site id) text = IsWithdrawn Says old new log.now site id.now text
-IsAnswered Says Spells old new (line.Done log site event time) text = IsDone Says old new log.now site event.now time.now text
-IsAnswered Says Spells old new (line.Merge log site other) text = IsMerged Says old new log.now site other.now text
-IsAnswered Says Spells old new (line.Report log site) text = IsReported Says old new log.now text
-IsAnswered Says Spells old new (line.Next log site now) text = IsNextSaid Says old new log.now now.now text
-IsAnswered Says Spells old new other text = ⊥
+-- what a command does over the log of a site, and the text that it answers
+abbrev pub IsAnswered : Option (List Entry) → Option (List Entry) → SiteLog → LogCommand → List ℕ → Type 0
+IsAnswered old new log (Bare steps) text = IsMade old new log.name.now (bare steps) text
+IsAnswered old new log (Init domain plan) text = IsMadeOfTexts old new log.name.now domain.now plan.now text
+IsAnswered old new log (Add from to lo hi) text = IsAdded old new log from.now to.now lo hi text
+IsAnswered old new log (Withdraw id) text = IsWithdrawn old new log id.now text
+IsAnswered old new log (Done event time) text = IsDone old new log event.now time.now text
+IsAnswered old new log (Merge other) text = IsMerged old new log other.now text
+IsAnswered old new log Report text = IsReported old new log text
+IsAnswered old new log (Next now) text = IsNextSaid old new log now.now text

@@ -1,13 +1,18 @@
 -- What sessions and exchanges over connections do to a replica, and what is printed of them.
-use Rattle.std.specs.Prelude.{◌≡◌, ℕ, List, [], ◌∷◌, ◌++◌, length, flat_map, codes, decimal, Option, Result, Ok, Err, IfOk, IfErr}
-use Rattle.std.specs.Io.KnownBytes.{Appends}
+use Rattle.std.specs.Prelude.{◌≡◌, ◌⊎◌, ℕ, ◌<◌, List, [], ◌∷◌, ◌++◌, length, flat_map, codes, decimal, Option, Result, Ok, Err, IfOk, IfErr}
 use Rattle.stn_lift.specs.PlanSource.{PlanSource}
 use Rattle.stn_records.specs.Content.{Content}
-use Rattle.stn_log.specs.Log.{Log}
-use Rattle.stn_shell.specs.Store.{Saved, saved_too}
+use Rattle.stn_shell.specs.Causes.{of_reply}
+use Rattle.stn_shell.specs.Printing.{Device, Prints, IsUnprinted}
+use Rattle.stn_shell.specs.Store.{Entry, saved_too, IsLack}
+use Rattle.stn_shell.specs.declared.failure.Failure.{Failure}
+use Rattle.stn_shell.specs.declared.failure.Failure.TheVariants.{Failed}
+use Rattle.stn_shell.specs.declared.failure.Fault.{Fault}
+use Rattle.stn_shell.specs.declared.failure.Fault.TheVariants as fault
 use Rattle.stn_session.specs.Session.{opening}
 use Rattle.stn_session.specs.Serving.{IsServed, IsBroken}
 use Rattle.stn_session.specs.Exchange.{IsReceived}
+use Rattle.stn_session.specs.declared.exchange.ReplyFault.{ReplyFault}
 use Rattle.stn_session.specs.declared.session.End.{End}
 use Rattle.stn_session.specs.declared.session.End.TheVariants.{Closed, Cut, Refused}
 use Rattle.stn_session.specs.declared.session.Served.{Served}
@@ -41,51 +46,73 @@ pub record IsSessionBetween (source : PlanSource) (first : Content) (answer : Re
   pub served : IfOk answer (IsServed (opening source first) before after old new last)
   pub broken : IfErr answer (IsBroken (opening source first) before after old new last)
 
--- such a session, behind which the log was saved with the state that it left
-pub record IsSavedSession (source : PlanSource) (log : List ℕ) (first : Content) (old : Option (List Saved))
-    (answer : Result Served ServeFault) (last : Content) (new : Option (List Saved)) : Type 0 where
+-- such a session, after which the log was saved with the state that it left
+pub record IsSavedSession (source : PlanSource) (log : List ℕ) (first : Content) (old : Option (List Entry))
+    (answer : Result Served ServeFault) (last : Content) (new : Option (List Entry)) : Type 0 where
   pub session : IsSessionBetween source first answer last
   pub saved : new ≡ saved_too old log (record { source = source; state = last })
 
 -- sessions, each of which found what the one before it left
-abbrev pub AreSessionsBetween : PlanSource → List ℕ → Content → Option (List Saved) → List (Result Served ServeFault)
-    → Content → Option (List Saved) → Type 0
+abbrev pub AreSessionsBetween : PlanSource → List ℕ → Content → Option (List Entry) → List (Result Served ServeFault)
+    → Content → Option (List Entry) → Type 0
 AreSessionsBetween source log first old [] last new = (last ≡ first) × (new ≡ old)
 AreSessionsBetween source log first old (answer ∷ answers) last new =
-    (next : Content) × (saves : Option (List Saved)) × IsSavedSession source log first old answer next saves
+    (next : Content) × (saves : Option (List Entry)) × IsSavedSession source log first old answer next saves
     × AreSessionsBetween source log next saves answers last new
 
--- so many sessions, the log saved behind each, and their lines
-pub record Serves (count : ℕ) (source : PlanSource) (log : List ℕ) (first last : Content) (before after : Option (List Saved))
-    (old new : Option (List ℕ)) : Type 0 where
+-- so many sessions, the log saved after each, and their lines
+pub record Serves (count : ℕ) (source : PlanSource) (log : List ℕ) (first last : Content) (before after : Option (List Entry))
+    (old new : Device) : Type 0 where
   pub answers : List (Result Served ServeFault)
   pub many : length answers ≡ count
   pub sessions : AreSessionsBetween source log first before answers last after
-  pub printed : Appends old new (flat_map session_text answers)
+  pub printed : Prints old new (flat_map session_text answers)
 
--- an exchange of a plan, over what some reader gave, that found one state, left another and was told a text
-pub record Exchanges (source : PlanSource) (first last : Content) (text : List ℕ) : Type 0 where
+-- why no further session was served, saved and printed: no connection came; the log could not be saved, and nothing was printed; or its
+-- line could not be printed, after the log was saved
+abbrev pub StopsAtSession : (Fault → Type 0) → PlanSource → List ℕ → Content → Content → Option (List Entry) → Option (List Entry)
+    → Device → Device → Failure → Type 0
+StopsAtSession Fails source log first last before after old new failure =
+    ((failure ≡ Failed fault.Net) × (last ≡ first) × (after ≡ before) × (new ≡ old))
+    ⊎ ((answer : Result Served ServeFault) × IsSessionBetween source first answer last × (after ≡ before) × (new ≡ old) × IsLack Fails failure)
+    ⊎ ((answer : Result Served ServeFault) × IsSavedSession source log first before answer last after × IsUnprinted old new (session_text answer) failure)
+
+-- fewer sessions than were asked for, and why it was no more
+pub record StopsServing (Fails : Fault → Type 0) (count : ℕ) (source : PlanSource) (log : List ℕ) (first last : Content)
+    (before after : Option (List Entry)) (old new : Device) (failure : Failure) : Type 0 where
+  pub served : ℕ
+  pub fewer : served < count
+  pub middle : Content
+  pub saves : Option (List Entry)
+  pub between : Device
+  pub sessions : Serves served source log first middle before saves old between
+  pub stop : StopsAtSession Fails source log middle last saves after between new failure
+
+-- an exchange of a plan, over what some reader gave, that found one state, left another and had this answer
+pub record Exchanges (source : PlanSource) (first last : Content) (answer : Result (List ℕ) ReplyFault) : Type 0 where
   pub before : Option (List ℕ)
   pub after : Option (List ℕ)
-  pub received : IsReceived source first before after last (Ok text)
+  pub received : IsReceived source first before after last answer
 
--- a log was served: `listening` was printed, and then so many sessions were served
-pub record ServesAt (Says : List ℕ → Log → Type 0) (log : List ℕ) (count : ℕ) (before after : Option (List Saved))
-    (old new : Option (List ℕ)) : Type 0 where
-  pub found : Log
-  pub said : Says log found
-  pub left : Content
-  pub bound : Option (List ℕ)
-  pub listening : Appends old bound (codes "listening" ++ 10 ∷ [])
-  pub served : Serves count found.source log found.state left before after bound new
-
--- an exchange over a log: what the replies brought was saved, and their text printed
-pub record SendsFrom (Says : List ℕ → Log → Type 0) (log : List ℕ) (before after : Option (List Saved))
-    (old new : Option (List ℕ)) : Type 0 where
-  pub found : Log
-  pub said : Says log found
-  pub left : Content
+-- an exchange, after which the log was saved, and then the text of the replies printed
+pub record Sends (source : PlanSource) (log : List ℕ) (first last : Content) (before after : Option (List Entry)) (old new : Device) : Type 0 where
   pub text : List ℕ
-  pub exchanged : Exchanges found.source found.state left text
-  pub saved : after ≡ saved_too before log (record { source = found.source; state = left })
-  pub printed : Appends old new text
+  pub exchanged : Exchanges source first last (Ok text)
+  pub saved : after ≡ saved_too before log (record { source = source; state = last })
+  pub printed : Prints old new text
+
+-- why nothing came of an exchange: the requests could not be sent, and nothing changed; or the replies were refused, or no further one came
+abbrev pub StopsAsking : PlanSource → Content → Content → Failure → Type 0
+StopsAsking source first last failure =
+    (((failure ≡ Failed fault.Write) ⊎ (failure ≡ Failed fault.Memory)) × (last ≡ first))
+    ⊎ ((cause : ReplyFault) × Exchanges source first last (Err cause) × (failure ≡ of_reply cause))
+
+-- why a text was not told: nothing came of the exchange, or the log could not be saved, and nothing was printed; or the text could not
+-- be printed, after the log was saved
+abbrev pub StopsSending : (Fault → Type 0) → PlanSource → List ℕ → Content → Content → Option (List Entry) → Option (List Entry)
+    → Device → Device → Failure → Type 0
+StopsSending Fails source log first last before after old new failure =
+    (StopsAsking source first last failure × (after ≡ before) × (new ≡ old))
+    ⊎ ((text : List ℕ) × Exchanges source first last (Ok text) × IsLack Fails failure × (after ≡ before) × (new ≡ old))
+    ⊎ ((text : List ℕ) × Exchanges source first last (Ok text) × (after ≡ saved_too before log (record { source = source; state = last }))
+    × IsUnprinted old new text failure)

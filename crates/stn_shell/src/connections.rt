@@ -1,16 +1,14 @@
 //! Sessions and exchanges over connections.
 
-ghost use Rattle.std.specs.Prelude.{◌≡◌, ◌⊎◌, ◌++◌, List, ℕ, Result, IfOk, OnOk, OnErr};
-ghost use Rattle.std.specs.Io.KnownBytes.{Appends, Keeps};
-ghost use Rattle.stn_device.specs.Counted.{counted_device};
-ghost use Rattle.stn_log.specs.Log.{log_held};
-ghost use Rattle.stn_shell.specs.Store.{saved_too};
-ghost use Rattle.stn_shell.specs.Connections.{end_text, fault_word, session_text, IsSessionBetween, IsSavedSession, Serves, Exchanges};
+ghost use Rattle.std.specs.Prelude.{◌≡◌, ◌⊎◌, ◌++◌, Result, Ok, IfOk, IfErr, OnOk};
+ghost use Rattle.stn_shell.specs.Connections.{end_text, fault_word, session_text, IsSessionBetween, IsSavedSession, Serves, StopsAtSession, StopsServing, Exchanges, Sends, StopsAsking, StopsSending};
+ghost use Rattle.stn_shell.specs.Printing.{Device, device_of, Prints, IsUnprinted, Tells};
+ghost use Rattle.stn_shell.specs.declared.failure.Failure.{Failure as FailureView};
 ghost use Rattle.stn_session.specs.declared.session.Served.{Served as ServedView};
 ghost use Rattle.stn_session.specs.declared.session.ServeFault.{ServeFault as ServeFaultView};
 
 use crate::failure::{Failure, Fault};
-use crate::printing::{print_now, tell_answer, tell_failure};
+use crate::printing::{print, print_now, tell_failure};
 use crate::store::Store;
 use itoa::Buffer;
 use std::alloc::{Allocator, Global};
@@ -22,8 +20,8 @@ use stn_session::{End, ServeFault, Served, receive_replies, send_requests, serve
 use stn_time::Memory;
 
 /// Serves `count` connections, one after another: each session ends by itself alone, however it ends, and then the log is saved
-/// and a line is printed. Status 0. Where no connection comes any more, the log can't be saved or the line can't be printed, the
-/// fault is printed and the status is 1.
+/// and a line is printed. Status 0. When no connection can be accepted, the log can't be saved or the line can't be printed, that is
+/// told and the status is 1.
 pub fn serve_on<S: Store, W: Write, E: Write>(
     alloc: Global,
     store: &mut S,
@@ -36,20 +34,49 @@ pub fn serve_on<S: Store, W: Write, E: Write>(
 ) -> u8
     ensures status { (result ≡ 0) ⊎ (result ≡ 1) }
 
-    // A line for each of `count` sessions, which led the replica one after the other to what it is, the log saved behind each.
+    // `count` sessions, which led the replica one after the other to what it is, the log saved after each, and then its line printed.
     ensures served { result ≡ 0 → Serves count replica.old.source log.now replica.old.state replica.new.state
-        (S.saves store.old) (S.saves store.new)
-        (W.contents (counted_device out.old)) (W.contents (counted_device out.new)) }
-    ensures silent { result ≡ 0 → Keeps (E.contents (counted_device err.old)) (E.contents (counted_device err.new)) }
+        (S.entries store.old) (S.entries store.new) (device_of W.contents out.old) (device_of W.contents out.new)
+        × (device_of E.contents err.new ≡ device_of E.contents err.old) }
+
+    // Fewer of them, and why.
+    ensures stopped { result ≡ 1 → (failure : FailureView) × (between : Device)
+        × StopsServing S.fails count replica.old.source log.now replica.old.state replica.new.state
+        (S.entries store.old) (S.entries store.new) (device_of W.contents out.old) between failure
+        × Tells failure between (device_of W.contents out.new) (device_of E.contents err.old) (device_of E.contents err.new) }
     ensures source { replica.new.source ≡ replica.old.source }
+    ensures site { replica.new.site ≡ replica.old.site }
 {
-    'connections: for _ in 0..count {
-        match serve_next(alloc, store, listener, log, replica, out) {
-            Ok(()) => {}
-            Err(failure) => return tell_failure(alloc, failure, out, err),
+    match serve_each(alloc, store, listener, count, log, replica, out) {
+        Ok(()) => 0,
+        Err(failure) => {
+            tell_failure(alloc, failure, out, err);
+            1
         }
     }
-    0
+}
+
+/// Serves `count` connections, one after another.
+pub fn serve_each<S: Store, W: Write>(
+    alloc: Global,
+    store: &mut S,
+    listener: &TcpListener,
+    count: u16,
+    log: &str,
+    replica: &mut Replica<Global>,
+    out: &mut Counted<W>,
+) -> Result<(), Failure>
+    ensures served { OnOk result (Serves count replica.old.source log.now replica.old.state replica.new.state
+        (S.entries store.old) (S.entries store.new) (device_of W.contents out.old) (device_of W.contents out.new)) }
+    ensures stopped { IfErr result (StopsServing S.fails count replica.old.source log.now replica.old.state replica.new.state
+        (S.entries store.old) (S.entries store.new) (device_of W.contents out.old) (device_of W.contents out.new)) }
+    ensures source { replica.new.source ≡ replica.old.source }
+    ensures site { replica.new.site ≡ replica.old.site }
+{
+    'connections: for _ in 0..count {
+        serve_next(alloc, store, listener, log, replica, out)?;
+    }
+    Ok(())
 }
 
 // Serves the next connection, saves the log, and prints how the session ended.
@@ -62,9 +89,12 @@ fn serve_next<S: Store, W: Write>(
     out: &mut Counted<W>,
 ) -> Result<(), Failure>
     ensures served { OnOk result ((answer : Result ServedView ServeFaultView)
-        × IsSavedSession replica.old.source log.now replica.old.state (S.saves store.old) answer replica.new.state (S.saves store.new)
-        × Appends (W.contents (counted_device out.old)) (W.contents (counted_device out.new)) (session_text answer)) }
+        × IsSavedSession replica.old.source log.now replica.old.state (S.entries store.old) answer replica.new.state (S.entries store.new)
+        × Prints (device_of W.contents out.old) (device_of W.contents out.new) (session_text answer)) }
+    ensures stopped { IfErr result (StopsAtSession S.fails replica.old.source log.now replica.old.state replica.new.state
+        (S.entries store.old) (S.entries store.new) (device_of W.contents out.old) (device_of W.contents out.new)) }
     ensures source { replica.new.source ≡ replica.old.source }
+    ensures site { replica.new.site ≡ replica.old.site }
 {
     match listener.accept() {
         Ok((stream, _)) => {
@@ -84,6 +114,7 @@ fn serve_stream(
 ) -> Result<Served, ServeFault>
     ensures session { IsSessionBetween replica.old.source replica.old.state result replica.new.state }
     ensures source { replica.new.source ≡ replica.old.source }
+    ensures site { replica.new.site ≡ replica.old.site }
 {
     let mut reader = Counted::new(stream);
     let mut writer = Counted::new(stream);
@@ -96,7 +127,8 @@ fn print_session<W: Write>(
     session: Result<Served, ServeFault>,
     out: &mut Counted<W>,
 ) -> Result<(), Failure>
-    ensures { OnOk result (Appends (W.contents (counted_device out.old)) (W.contents (counted_device out.new)) (session_text session)) }
+    ensures printed { OnOk result (Prints (device_of W.contents out.old) (device_of W.contents out.new) (session_text session)) }
+    ensures failed { IfErr result (IsUnprinted (device_of W.contents out.old) (device_of W.contents out.new) (session_text session)) }
 {
     let mut text = Vec::new(alloc);
     append_session(&mut text, session)?;
@@ -153,7 +185,7 @@ fn word_of(fault: ServeFault) -> &'static [u8]
 }
 
 /// Sends over a connection what a replica holds, takes in what the other site replies, saves the log, and prints the text that
-/// came. Status 0. A refusal or a fault is printed, the status is 1, and nothing is saved.
+/// came. Status 0. What keeps it from doing so is told, and the status is 1.
 pub fn send_on<S: Store, W: Write, E: Write>(
     alloc: Global,
     store: &mut S,
@@ -165,36 +197,57 @@ pub fn send_on<S: Store, W: Write, E: Write>(
 ) -> u8
     ensures status { (result ≡ 0) ⊎ (result ≡ 1) }
 
-    // The text of the replies, whose records led the replica to what it is.
-    ensures told { result ≡ 0 → (text : List ℕ) × Exchanges replica.old.source replica.old.state replica.new.state text
-        × Appends (W.contents (counted_device out.old)) (W.contents (counted_device out.new)) text }
-    ensures saved { result ≡ 0 → S.saves store.new ≡ saved_too (S.saves store.old) log.now (log_held replica.new) }
-    ensures silent { result ≡ 0 → Keeps (E.contents (counted_device err.old)) (E.contents (counted_device err.new)) }
+    // The text of the replies, whose records led the replica to what it is, the log saved before it was printed.
+    ensures sent { result ≡ 0 → Sends replica.old.source log.now replica.old.state replica.new.state
+        (S.entries store.old) (S.entries store.new) (device_of W.contents out.old) (device_of W.contents out.new)
+        × (device_of E.contents err.new ≡ device_of E.contents err.old) }
+    ensures stopped { result ≡ 1 → (failure : FailureView) × (between : Device)
+        × StopsSending S.fails replica.old.source log.now replica.old.state replica.new.state
+        (S.entries store.old) (S.entries store.new) (device_of W.contents out.old) between failure
+        × Tells failure between (device_of W.contents out.new) (device_of E.contents err.old) (device_of E.contents err.new) }
     ensures source { replica.new.source ≡ replica.old.source }
+    ensures site { replica.new.site ≡ replica.old.site }
 {
-    match exchange(alloc, store, stream, log, replica) {
-        Ok(text) => tell_answer(&text, out, err),
-        Err(failure) => tell_failure(alloc, failure, out, err),
+    match exchange(alloc, store, stream, log, replica, out) {
+        Ok(()) => 0,
+        Err(failure) => {
+            tell_failure(alloc, failure, out, err);
+            1
+        }
     }
 }
 
-// Sends, takes in, and saves the log: the text that came.
-fn exchange<S: Store>(
+/// Sends over a connection what a replica holds, takes in what the other site replies, saves the log, and prints the text that
+/// came.
+pub fn exchange<S: Store, W: Write>(
     alloc: Global,
     store: &mut S,
     stream: &TcpStream,
     log: &str,
     replica: &mut Replica<Global>,
-) -> Result<Vec<u8>, Failure>
-    ensures saved { OnOk result (S.saves store.new ≡ saved_too (S.saves store.old) log.now (log_held replica.new)) }
-    ensures unsaved { OnErr result (S.saves store.new ≡ S.saves store.old) }
-    ensures exchanged { IfOk result (λ text. Exchanges replica.old.source replica.old.state replica.new.state text.items) }
+    out: &mut Counted<W>,
+) -> Result<(), Failure>
+    ensures sent { OnOk result (Sends replica.old.source log.now replica.old.state replica.new.state
+        (S.entries store.old) (S.entries store.new) (device_of W.contents out.old) (device_of W.contents out.new)) }
+    ensures stopped { IfErr result (StopsSending S.fails replica.old.source log.now replica.old.state replica.new.state
+        (S.entries store.old) (S.entries store.new) (device_of W.contents out.old) (device_of W.contents out.new)) }
     ensures source { replica.new.source ≡ replica.old.source }
+    ensures site { replica.new.site ≡ replica.old.site }
+{
+    let text = ask(alloc, stream, replica)?;
+    store.save(log, replica)?;
+    print(&text, out)
+}
+
+// Sends what a replica holds, and takes in the replies: the text that came.
+fn ask(alloc: Global, stream: &TcpStream, replica: &mut Replica<Global>) -> Result<Vec<u8>, Failure>
+    ensures exchanged { IfOk result (λ text. Exchanges replica.old.source replica.old.state replica.new.state (Ok text.items)) }
+    ensures refused { IfErr result (StopsAsking replica.old.source replica.old.state replica.new.state) }
+    ensures source { replica.new.source ≡ replica.old.source }
+    ensures site { replica.new.site ≡ replica.old.site }
 {
     let mut writer = Counted::new(stream);
     let mut reader = Counted::new(stream);
     send_requests(alloc, replica, &mut writer)?;
-    let text = receive_replies(alloc, &mut reader, replica)?;
-    store.save(log, replica)?;
-    Ok(text)
+    Ok(receive_replies(alloc, &mut reader, replica)?)
 }

@@ -1,7 +1,7 @@
 //! Why a command ends without its answer.
 
 ghost use Rattle.std.specs.Prelude.{◌≡◌, ◌++◌, OnOk};
-ghost use Rattle.stn_shell.specs.Causes.{of_time, of_bound, of_domain, of_plan, of_lifting, of_base, of_replica, of_wire, of_load, of_save, of_send, of_reply, other_plan, log_there, no_such_word};
+ghost use Rattle.stn_shell.specs.Causes.{of_time, of_bound, of_domain, of_plan, of_lifting, of_base, of_replica, of_wire, of_run, of_read, of_load, of_save, of_send, of_reply, other_plan, log_there, no_such_word};
 ghost use Rattle.stn_shell.specs.Causes as causes;
 ghost use Rattle.stn_shell.specs.Endings.{argument_text, refusal_text, fault_text};
 ghost use Rattle.stn_shell.specs.declared.failure.Failure.TheVariants as failure;
@@ -9,6 +9,8 @@ ghost use Rattle.stn_shell.specs.declared.failure.Fault.TheVariants as fault;
 
 use itoa::Buffer;
 use std::alloc::{AllocError, AllocFailed, Allocator};
+use stn_device::ReadFault;
+use stn_exec::RunFault;
 use stn_lift::{BaseFault, LiftFault};
 use stn_log::{LoadFault, SaveFault};
 use stn_net::BoundFault;
@@ -286,6 +288,31 @@ impl From<WireFault> for Failure {
             WireFault::Body => Failure::refused(52),
             WireFault::OldFrame => Failure::refused(53),
             WireFault::Memory => Failure::Failed(Fault::Memory),
+        }
+    }
+}
+
+impl From<RunFault> for Failure {
+    ghost from_gives = { λ fault given. given ≡ of_run fault };
+
+    fn from(fault: RunFault) -> Failure {
+        match fault {
+            RunFault::Read => Failure::Failed(Fault::Read),
+            RunFault::Write => Failure::Failed(Fault::Write),
+            RunFault::Bound => Failure::Failed(Fault::Bound),
+            RunFault::Memory => Failure::Failed(Fault::Memory),
+        }
+    }
+}
+
+impl From<ReadFault> for Failure {
+    ghost from_gives = { λ fault given. given ≡ of_read fault };
+
+    fn from(fault: ReadFault) -> Failure {
+        match fault {
+            ReadFault::Read => Failure::Failed(Fault::Read),
+            ReadFault::Bound => Failure::Failed(Fault::Bound),
+            ReadFault::Memory => Failure::Failed(Fault::Memory),
         }
     }
 }

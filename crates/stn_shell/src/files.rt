@@ -1,18 +1,19 @@
 //! Logs and texts as files.
 
+ghost use Rattle.std.specs.Prelude.{◌≡◌, IfErr, ⊤};
+ghost use Rattle.stn_shell.specs.Store.{IsLack};
+
 use crate::failure::{Failure, Fault};
+use crate::reading::{read_log, read_text};
 use crate::store::Store;
 use std::alloc::Global;
 use std::fs::{self, OpenFile};
-use std::io::{ErrorKind, Read};
+use std::io::ErrorKind;
 use std::rt::Files;
-use stn_device::{Counted, ReadFault, read_whole};
-use stn_log::{load, save};
+use stn_device::Counted;
+use stn_log::save;
 use stn_records::Site;
 use stn_replica::Replica;
-
-/// How many bytes of a domain or a plan are read at most: one more than a text may have.
-const MOST_TEXT_READ: usize = 65_537;
 
 /// Files, each under its path.
 #[derive(Drop)]
@@ -27,15 +28,13 @@ impl<'a, T> FileStore<'a, T> {
     }
 }
 
-// What files hold is known to no clause.
+// What files hold, and how they fail, is known to no clause.
 impl<T: Files + AllocGlobal> Store for FileStore<'_, T> {
     ghost use Rattle.std.specs.Prelude.{None, ⊤};
 
-    ghost saves = { λ _. None };
+    ghost entries = { λ _. None };
 
-    ghost says = { λ _ _ _. ⊤ };
-
-    ghost spells = { λ _ _ _. ⊤ };
+    ghost fails = { λ _. ⊤ };
 
     // What is there and can't be opened is not taken for a free name.
     fn is_there(&self, path: &str) -> Result<bool, Failure> {
@@ -49,18 +48,11 @@ impl<T: Files + AllocGlobal> Store for FileStore<'_, T> {
     }
 
     fn load(&self, path: &str, site: Site) -> Result<Replica<Global>, Failure> {
-        let mut reader = Counted::new(open(self.rt, path)?);
-        Ok(load(self.rt.alloc(), &mut reader, site)?)
+        read_log(self.rt.alloc(), open(self.rt, path)?, site)
     }
 
     fn text(&self, path: &str) -> Result<Vec<u8>, Failure> {
-        let mut reader = Counted::new(open(self.rt, path)?.take(MOST_TEXT_READ as u64));
-        match read_whole(self.rt.alloc(), &mut reader, MOST_TEXT_READ) {
-            Ok(text) => Ok(text),
-            Err(ReadFault::Read) => Err(Failure::Failed(Fault::Read)),
-            Err(ReadFault::Bound) => Err(Failure::Failed(Fault::Bound)),
-            Err(ReadFault::Memory) => Err(Failure::Failed(Fault::Memory)),
-        }
+        read_text(self.rt.alloc(), open(self.rt, path)?)
     }
 
     // The log is written beside the old one, and renamed over it.
@@ -80,7 +72,9 @@ impl<T: Files + AllocGlobal> Store for FileStore<'_, T> {
     }
 }
 
-fn open<T: Files>(rt: &T, path: &str) -> Result<T::File, Failure> {
+fn open<T: Files>(rt: &T, path: &str) -> Result<T::File, Failure>
+    ensures { IfErr result (IsLack (λ _. ⊤)) }
+{
     match fs::open(rt, path) {
         Ok(file) => Ok(file),
         Err(_) => Err(Failure::Failed(Fault::File)),
@@ -88,7 +82,9 @@ fn open<T: Files>(rt: &T, path: &str) -> Result<T::File, Failure> {
 }
 
 // The name of the file that a log is written to first.
-fn beside(alloc: Global, path: &str) -> Result<String, Failure> {
+fn beside(alloc: Global, path: &str) -> Result<String, Failure>
+    ensures { IfErr result (IsLack (λ _. ⊤)) }
+{
     let mut name = String::from_str(alloc, path)?;
     name.push_str(".new")?;
     Ok(name)
@@ -99,7 +95,9 @@ fn write_log<T: Files + AllocGlobal>(
     rt: &T,
     path: &str,
     replica: &Replica<Global>,
-) -> Result<(), Failure> {
+) -> Result<(), Failure>
+    ensures { IfErr result (IsLack (λ _. ⊤)) }
+{
     match fs::create(rt, path) {
         Ok(file) => {
             let mut writer = Counted::new(file);

@@ -1,8 +1,9 @@
 //! Where commands find logs and texts, and leave logs.
 
-ghost use Rattle.std.specs.Prelude.{◌≡◌, ℕ, List, Option, OnOk, OnErr, IfOk};
-ghost use Rattle.stn_log.specs.Log.{Log, log_held};
-ghost use Rattle.stn_shell.specs.Store.{Saved, saved_too};
+ghost use Rattle.std.specs.Prelude.{◌≡◌, ◌⊎◌, List, Option, OnOk, OnErr, IfOk, IfErr};
+ghost use Rattle.stn_log.specs.Log.{log_held};
+ghost use Rattle.stn_shell.specs.Store.{Entry, IsThere, Opens, IsUnopened, Spells, IsMissing, IsLack, saved_too};
+ghost use Rattle.stn_shell.specs.declared.failure.Fault.{Fault};
 
 use crate::failure::Failure;
 use std::alloc::Global;
@@ -11,29 +12,30 @@ use stn_replica::Replica;
 
 /// A store of logs and texts, each under a name.
 pub trait Store {
-    /// The logs that were saved, one after the other, where that is known.
-    ghost saves: { Self → Option (List Saved) };
+    /// What was put under names, one after the other, where that is known.
+    ghost entries: { Self → Option (List Entry) };
 
-    /// The log of a name says this.
-    ghost says: { Self → List ℕ → Log → Type 0 };
-
-    /// The text of a name is this, or begins with it.
-    ghost spells: { Self → List ℕ → List ℕ → Type 0 };
+    /// A device of such a store may fail so.
+    ghost fails: { Fault → Type 0 };
 
     /// Whether something of the name is there.
-    fn is_there(&self, name: &str) -> Result<bool, Failure>;
+    fn is_there(&self, name: &str) -> Result<bool, Failure>
+        ensures found { IfOk result (λ there. IsThere (entries self.now) name.now there) }
+        ensures failed { IfErr result (IsLack fails) };
 
     /// The replica of a site by its log.
     fn load(&self, name: &str, site: Site) -> Result<Replica<Global>, Failure>
-        ensures said { IfOk result (λ replica. says self.now name.now (log_held replica)) }
-        ensures site { IfOk result (λ replica. replica.site ≡ site) };
+        ensures opened { IfOk result (λ replica. Opens (entries self.now) name.now site replica) }
+        ensures failed { IfErr result (λ failure. IsUnopened (entries self.now) name.now failure ⊎ IsLack fails failure) };
 
     /// The text of a domain or a plan; of a longer one so much that it shows.
     fn text(&self, name: &str) -> Result<Vec<u8>, Failure>
-        ensures { IfOk result (λ text. spells self.now name.now text.items) };
+        ensures spelled { IfOk result (λ text. Spells (entries self.now) name.now text.items) }
+        ensures failed { IfErr result (λ failure. IsMissing (entries self.now) name.now failure ⊎ IsLack fails failure) };
 
     /// Saves a replica as the log of a name. Where it can't be, the old one stays.
     fn save(&mut self, name: &str, replica: &Replica<Global>) -> Result<(), Failure>
-        ensures saved { OnOk result (saves self.new ≡ saved_too (saves self.old) name.now (log_held replica.now)) }
-        ensures kept { OnErr result (saves self.new ≡ saves self.old) };
+        ensures saved { OnOk result (entries self.new ≡ saved_too (entries self.old) name.now (log_held replica.now)) }
+        ensures kept { OnErr result (entries self.new ≡ entries self.old) }
+        ensures failed { IfErr result (IsLack fails) };
 }

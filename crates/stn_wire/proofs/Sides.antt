@@ -1,5 +1,5 @@
 -- Reading the sides of a bound.
-use Rattle.std.proofs.Common.{◌≡◌, ◌≢◌, ℕ, ◌<◌, ◌≤◌, List, sym, ◌∙◌, arith}
+use Rattle.std.proofs.Common.{◌≡◌, ◌≢◌, ℕ, ◌<◌, ◌≤◌, List, ◌∙◌, arith}
 use Rattle.std.specs.Int.{to_be_bytes}
 use Rattle.stn_wire.specs.declared.layout.Layout.{Layout}
 use Rattle.stn_wire.specs.Spelling.{width_of, most_gap}

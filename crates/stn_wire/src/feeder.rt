@@ -1,4 +1,4 @@
-ghost use Rattle.std.specs.Prelude.{◌≡◌, ◌-◌, ◌<◌, ◌↔◌, [], ◌++◌, take, length, min, Option, Some, None, Err, IsTrue, IfOk, IfErr, OnOk, OnErr};
+ghost use Rattle.std.specs.Prelude.{◌≡◌, ◌-◌, ◌<◌, ◌↔◌, [], ◌++◌, take, length, min, Option, Some, None, Err, IsTrue, IfOk, OnErr};
 ghost use Rattle.stn_wire.specs.Feeder.{holding, IsFed, IsMissing};
 ghost use Rattle.stn_wire.specs.Reading.{IsFrameTaken};
 ghost use Rattle.stn_wire.specs.Front.{IsFront, unfinished};

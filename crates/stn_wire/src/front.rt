@@ -1,4 +1,4 @@
-ghost use Rattle.std.specs.Prelude.{◌≡◌, ◌≤◌, length, IfSome};
+ghost use Rattle.std.specs.Prelude.{length, IfSome};
 ghost use Rattle.stn_wire.specs.Front.{IsFront, answered};
 ghost use Rattle.stn_wire.specs.Reading.{IsJudged};
 

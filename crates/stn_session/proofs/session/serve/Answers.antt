@@ -12,6 +12,7 @@ frames-init g c = record {
   reading = ap (λ (s : Stream). s.broken) c.new-frames.ensures;
   progress = begun c.args.replica.now.source c.args.replica.now.state _ _ (pending c.new-frames.result) c.new-frames.result.count (ap pending c.new-frames.ensures) (ap (λ (s : Stream). s.count) c.new-frames.ensures);
   source = refl;
+  site = refl;
   few = subst (λ (s : Stream). 0 + length (pending s) ≤ s.count) (sym c.new-frames.ensures) (omega arith);
   reader_kept = refl;
   writer_kept = refl;
@@ -47,6 +48,7 @@ frames-preserved g c =
           c.answer_frame.new.replica.state wrote.0 wrote.1 wrote.3 wrote.2 c.in_ok-turn-in-Frame.turn.greeted wrote.4 (sym wrote.5 ∙ c.in-None.is)
           c.next.new.self.count gave.counted.0 c.answer_frame.new.replica.source c.in_ok-turn-in-Frame.ensures.source;
       source = c.in_ok-turn-in-Frame.ensures.source ∙ i.source;
+      site = c.in_ok-turn-in-Frame.ensures.site ∙ i.site;
       few = count_fits (pending c.frames.frames) gave.bytes (pending c.next.new.self) (content c.in-Frame.frame) gave.next.1 c.frames.frames.count c.next.new.self.count gave.counted.0 c.frames.count i.few;
       reader_kept = c.in_ok-frame.ensures.kept (λ e. cc) ∙ i.reader_kept;
       writer_kept = c.in_ok-turn-in-Frame.ensures.kept (λ e. cc) ∙ i.writer_kept;

@@ -13,6 +13,7 @@ invariant-frames g l = record {
       (g.W.Write.contents (counted_device l.fn.writer)) (g.W.Write.contents (counted_device l.writer))
       (pending l.frames) l.frames.count l.replica.source l.replica.state l.greeted l.count;
   source : l.replica.source ≡ l.fn.replica.source;
+  site : l.replica.site ≡ l.fn.replica.site;
   few : l.count + length (pending l.frames) ≤ l.frames.count;
   reader_kept : KeepsCount l.fn.reader l.reader;
   writer_kept : KeepsCount l.fn.writer l.writer;

@@ -1,11 +1,22 @@
-use Rattle.std.proofs.Common.{refl}
-use Rattle.std.proofs.lemmas.Result.{on_ok_weaker}
-use Rattle.stn_log.specs.Log.{log_held}
+use Rattle.std.proofs.Common.{refl, inl, inr, ⊎_elim}
+use Rattle.std.proofs.lemmas.Result.{err_from_is_err_and}
+use Rattle.std.proofs.lemmas.Result.{IfOk-weaker}
 use Rattle.stn_shell.proofs.commands.report_of.Goals as goal
 
+pub returns-in_err-replica-clause-refused : goal.returns-in_err-replica-clause-refused
+returns-in_err-replica-clause-refused g c =
+    let p = err_from_is_err_and c.from_residual.result c.from_residual.ensures.1 in
+    rw (p.1, p.2)
+    (⊎_elim (λ u. inl (inl (_, u, refl))) inr c.in_err-replica.ensures.failed)
+
 pub returns-clause-done : goal.returns-clause-done
-returns-clause-done g c = on_ok_weaker c.report.result (λ told. (
-  told.0,
-  record { ours = log_held c.in_ok-replica.replica; said = c.in_ok-replica.ensures.said; report = told.1; unsaved = refl },
-  told.2,
-)) c.report.ensures.reported
+returns-clause-done g c = IfOk-weaker c.report.result _ _ (λ text told. record {
+  ours = c.in_ok-replica.replica;
+  opened = c.in_ok-replica.ensures.opened;
+  report = told;
+  unsaved = refl;
+}) c.report.ensures.reported
+
+pub returns-clause-accepted : goal.returns-clause-accepted
+returns-clause-accepted g c = IfOk-weaker c.report.result _ _
+    (λ text told. inr (c.in_ok-replica.replica, c.in_ok-replica.ensures.opened, refl)) c.report.ensures.reported

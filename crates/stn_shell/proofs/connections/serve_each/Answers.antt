@@ -1,0 +1,41 @@
+use Rattle.std.proofs.Common.{◌≡◌, ◌<◌, refl, ◌∙◌, arith}
+use Rattle.std.proofs.lemmas.Result.{err_from_is_err_and}
+use Rattle.stn_shell.proofs.Served.{serves_none, serves_more, stops_serving}
+use Rattle.stn_shell.proofs.connections.serve_each.Goals as goal
+
+pub connections-init : goal.connections-init
+connections-init g c = record { served = serves_none _ _ _ _ _; source = refl; site = refl }
+
+pub returns-in_err-serve_next-clause-stopped : goal.returns-in_err-serve_next-clause-stopped
+returns-in_err-serve_next-clause-stopped g c =
+    let p = err_from_is_err_and c.from_residual.result c.from_residual.ensures.1 in
+    let i = c.connections.invariant in
+    let few : c.connections.counter < c.args.count = omega (arith, c.connections-test.true) in
+    rw (p.1, p.2) (stops_serving _ _ _ _ _ _ _ _ _ _ _ _ _ _ _ _ i.served i.source few c.in_err-serve_next.ensures.stopped)
+
+pub returns-in_err-serve_next-clause-source : goal.returns-in_err-serve_next-clause-source
+returns-in_err-serve_next-clause-source g c = c.in_err-serve_next.ensures.source ∙ c.connections.invariant.source
+
+pub returns-in_err-serve_next-clause-site : goal.returns-in_err-serve_next-clause-site
+returns-in_err-serve_next-clause-site g c = c.in_err-serve_next.ensures.site ∙ c.connections.invariant.site
+
+pub connections-preserved : goal.connections-preserved
+connections-preserved g c =
+    let i = c.connections.invariant in
+    let one = c.in_ok-serve_next.ensures.served in
+    record {
+      served = serves_more _ _ _ _ _ _ _ _ _ _ _ _ _ one.0 i.served i.source one.1 one.2;
+      source = c.in_ok-serve_next.ensures.source ∙ i.source;
+      site = c.in_ok-serve_next.ensures.site ∙ i.site;
+    }
+
+pub returns-clause-served : goal.returns-clause-served
+returns-clause-served g c =
+    let all : c.connections.counter ≡ c.args.count = omega (arith, c.connections.auto.counter-end, c.connections-test.false) in
+    rw all at c.connections.invariant.served
+
+pub returns-clause-source : goal.returns-clause-source
+returns-clause-source g c = c.connections.invariant.source
+
+pub returns-clause-site : goal.returns-clause-site
+returns-clause-site g c = c.connections.invariant.site

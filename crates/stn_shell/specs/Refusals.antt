@@ -1,0 +1,74 @@
+-- Why a command of a log is refused: the first cause that stands, or none.
+use Rattle.std.specs.Prelude.{◌≡◌, ◌≢◌, ◌⊎◌, ℕ, true, false, List, Option, Some, None, option_map, Result, Ok, Err}
+use Rattle.stn_lift.specs.PlanSource.{PlanSource, bare, files, base_of}
+use Rattle.stn_lift.specs.declared.fault.BaseFault.{BaseFault}
+use Rattle.stn_replica.specs.Held.{Held}
+use Rattle.stn_replica.specs.declared.faults.ReplicaFault.{ReplicaFault}
+use Rattle.stn_replica.specs.Refusals.{add_refusal, done_refusal, withdraw_refusal, take_refusal}
+use Rattle.stn_shell.specs.Causes.{of_base, of_replica, other_plan, log_there}
+use Rattle.stn_shell.specs.Store.{Entry, IsThere, Spells, Opens, IsMissing, IsUnopened}
+use Rattle.stn_shell.specs.Words.{bound_read, execution_read, id_read, time_read}
+use Rattle.stn_shell.specs.declared.command.SiteLog.{SiteLog}
+use Rattle.stn_shell.specs.declared.command.LogCommand.{LogCommand}
+use Rattle.stn_shell.specs.declared.command.LogCommand.TheVariants.{Bare, Init, Add, Withdraw, Done, Merge, Report, Next}
+use Rattle.stn_shell.specs.declared.failure.Failure.{Failure}
+use Rattle.stn_shell.specs.declared.failure.Failure.TheVariants.{Failed}
+use Rattle.stn_shell.specs.declared.failure.Fault.TheVariants.{Memory}
+
+-- words that can't be read refuse the command; else it goes on with what they say
+abbrev pub WithWords : {X : Type 0} → Result X Failure → (X → Option Failure → Type 0) → Option Failure → Type 0
+WithWords (Err failure) Goes cause = cause ≡ Some failure
+WithWords (Ok said) Goes cause = Goes said cause
+
+-- a log that is there refuses the command
+abbrev pub WhereFree : Option (List Entry) → List ℕ → (Option Failure → Type 0) → Option Failure → Type 0
+WhereFree entries name Goes cause = (IsThere entries name true × (cause ≡ Some log_there)) ⊎ (IsThere entries name false × Goes cause)
+
+-- a text that is missing does
+abbrev pub WithText : Option (List Entry) → List ℕ → (List ℕ → Option Failure → Type 0) → Option Failure → Type 0
+WithText entries name Goes cause = ((failure : Failure) × IsMissing entries name failure × (cause ≡ Some failure))
+    ⊎ ((text : List ℕ) × Spells entries name text × Goes text cause)
+
+-- a log that can't be opened does
+abbrev pub WithLog : Option (List Entry) → List ℕ → ℕ → (Held → Option Failure → Type 0) → Option Failure → Type 0
+WithLog entries name site Goes cause = ((failure : Failure) × IsUnopened entries name failure × (cause ≡ Some failure))
+    ⊎ ((held : Held) × Opens entries name site held × Goes held cause)
+
+-- a source without a base does
+abbrev pub base_refusal_of : Result PlanSource BaseFault → Option Failure
+base_refusal_of (Ok source) = None
+base_refusal_of (Err fault) = Some (of_base fault)
+
+abbrev pub IsBaseRefusal : PlanSource → Option Failure → Type 0
+IsBaseRefusal source cause = cause ≡ base_refusal_of (base_of source)
+
+-- why a replica takes in nothing of another's: its plan is another one, or its own call refuses it
+abbrev pub IsMergeRefusal : Held → Held → Option Failure → Type 0
+IsMergeRefusal ours theirs cause = ((ours.source ≢ theirs.source) × (cause ≡ Some other_plan))
+    ⊎ ((ours.source ≡ theirs.source) × (cause ≡ option_map of_replica (take_refusal ours theirs.state)))
+
+-- the first cause: words that can't be read; a log that is there; the texts and the base; the log; the other log; another plan; what the
+-- replica refuses
+abbrev pub IsRefusalOf : Option (List Entry) → SiteLog → LogCommand → Option Failure → Type 0
+IsRefusalOf entries log (Bare steps) = WhereFree entries log.name.now (IsBaseRefusal (bare steps))
+IsRefusalOf entries log (Init domain plan) = WhereFree entries log.name.now
+    (WithText entries domain.now (λ actions. WithText entries plan.now (λ steps. IsBaseRefusal (files actions steps))))
+IsRefusalOf entries log (Add from to lo hi) = WithWords (bound_read from.now to.now lo hi)
+    (λ bound. WithLog entries log.name.now log.site (λ held cause. cause ≡ option_map of_replica (add_refusal held bound)))
+IsRefusalOf entries log (Withdraw id) = WithWords (id_read id.now)
+    (λ which. WithLog entries log.name.now log.site (λ held cause. cause ≡ option_map of_replica (withdraw_refusal held which)))
+IsRefusalOf entries log (Done event time) = WithWords (execution_read event.now time.now)
+    (λ said. WithLog entries log.name.now log.site (λ held cause. cause ≡ option_map of_replica (done_refusal held said.0)))
+IsRefusalOf entries log (Merge other) = WithLog entries log.name.now log.site
+    (λ ours. WithLog entries other.now log.site (IsMergeRefusal ours))
+IsRefusalOf entries log Report = WithLog entries log.name.now log.site (λ held cause. cause ≡ None)
+IsRefusalOf entries log (Next now) = WithWords (time_read now.now)
+    (λ time. WithLog entries log.name.now log.site (λ held cause. cause ≡ None))
+
+-- why a call of a replica failed: memory was wanting, or the first cause that refuses it
+abbrev pub IsCallFailure : Option ReplicaFault → Failure → Type 0
+IsCallFailure refusal failure = (failure ≡ Failed Memory) ⊎ (Some failure ≡ option_map of_replica refusal)
+
+-- why a merge did
+abbrev pub IsMergeFailure : Held → Held → Failure → Type 0
+IsMergeFailure ours theirs failure = (failure ≡ Failed Memory) ⊎ IsMergeRefusal ours theirs (Some failure)

@@ -1,0 +1,53 @@
+-- What the words of a command say, or why they can't be read: the first word that can't decides, in the order of the words.
+use Rattle.std.specs.Prelude.{ℕ, ℤ, neg_ℤ, List, Option, Some, None, Result, Ok, Err}
+use Rattle.std.specs.Borrow.{Bor}
+use Rattle.stn_time.specs.Time.{horizon}
+use Rattle.stn_time.specs.TimeOf.{time_of}
+use Rattle.stn_time.specs.declared.reading.TimeFault.{TimeFault}
+use Rattle.stn_net.specs.Difference.{Difference}
+use Rattle.stn_records.specs.Id.{SiteCounter}
+use Rattle.stn_replica.specs.Held.{difference}
+use Rattle.stn_exec.specs.Command.{event_of, id_of}
+use Rattle.stn_exec.specs.Effect.{and_then}
+use Rattle.stn_shell.specs.Causes.{of_time, no_such_word}
+use Rattle.stn_shell.specs.declared.failure.Failure.{Failure}
+
+-- what a word names
+abbrev pub named : {X : Type 0} → Option X → Result X Failure
+named (Some value) = Ok value
+named None = Err no_such_word
+
+-- what a word spells
+abbrev pub spelled : Result ℤ TimeFault → Result ℤ Failure
+spelled (Ok time) = Ok time
+spelled (Err fault) = Err (of_time fault)
+
+abbrev pub event_read : List ℕ → Result ℕ Failure
+event_read word = named (event_of word)
+
+abbrev pub id_read : List ℕ → Result SiteCounter Failure
+id_read word = named (id_of word)
+
+abbrev pub time_read : List ℕ → Result ℤ Failure
+time_read word = spelled (time_of word)
+
+-- the side of a bound; the open one, where there is no word
+abbrev pub side_read : ℤ → Option (Bor (List ℕ)) → Result ℤ Failure
+side_read open_side None = Ok open_side
+side_read open_side (Some word) = time_read word.now
+
+-- the bound of two events and two sides, which are open where they are not given
+unfoldable pub bound_read : List ℕ → List ℕ → Option (Bor (List ℕ)) → Option (Bor (List ℕ)) → Result Difference Failure
+bound_read from to lo hi =
+    and_then (event_read from) (λ first.
+    and_then (event_read to) (λ second.
+    and_then (side_read (neg_ℤ horizon) lo) (λ least.
+    and_then (side_read horizon hi) (λ greatest.
+    Ok (difference first second least greatest)))))
+
+-- an event, and when it took place
+unfoldable pub execution_read : List ℕ → List ℕ → Result (ℕ × ℤ) Failure
+execution_read event time =
+    and_then (event_read event) (λ which.
+    and_then (time_read time) (λ when.
+    Ok (which, when)))

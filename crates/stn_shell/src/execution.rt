@@ -1,0 +1,234 @@
+//! A task, from its words to its status.
+
+ghost use Rattle.std.specs.Prelude.{◌≡◌, ◌<◌, ◌≤◌, ◌-◌, ◌^◌, ◌++◌, [], ◌∷◌, map, codes, IfOk, IfErr, OnOk};
+ghost use Rattle.clap.specs.Words.{kind_of};
+ghost use Rattle.stn_device.specs.Counted.{failure_count};
+ghost use Rattle.stn_shell.specs.Carried.{RunsScript, StopsScript, ServesAt, StopsAt, SendsFrom, StopsFrom, Answers, StopsCommand, IsCarriedOut, Stops, StopsListening};
+ghost use Rattle.stn_shell.specs.Executed.{IsSaid, IsExecuted};
+ghost use Rattle.stn_shell.specs.Printing.{device_of, Prints};
+
+use crate::command::{LogCommand, SiteLog, Task};
+use crate::commands::answer;
+use crate::connections::{exchange, serve_each};
+use crate::failure::{Failure, Fault};
+use crate::files::FileStore;
+use crate::printing::{print, print_now, tell_failure, tell_fault};
+use crate::store::Store;
+use std::alloc::Global;
+use std::io::{Read, Write};
+use std::net::{Net, TcpListener, TcpStream};
+use std::rt::Files;
+use stn_device::{Counted, write_whole};
+use stn_exec::run;
+use stn_line::{LineFault, line};
+
+/// Does the command of the words, of which the first is the program's name, and says its status: 0 where nothing was refused
+/// and no device failed, 1 where something was, 2 where the words are no command's. An answer or a refusal is printed to `out`,
+/// a device's fault to `err`.
+pub fn execute<
+    T: Files + AllocGlobal + Net<Listener = TcpListener, Stream = TcpStream>,
+    R: Read,
+    W: Write,
+    E: Write,
+>(rt: &T, words: &[&str], reader: &mut Counted<R>, out: &mut Counted<W>, err: &mut Counted<E>) -> u8
+    requires reader_counts { failure_count reader.old < 2 ^ 64 - 1 }
+    requires out_counts { failure_count out.old < 2 ^ 64 - 1 }
+    ensures status { result ≤ 2 }
+
+    // A task was done or stopped, the words are refused or ask for help, or memory was wanting. What files hold is not known.
+    ensures executed { IsExecuted (map (λ word. word.now) words.entry.now)
+        (device_of R.remaining reader.old) (device_of R.remaining reader.new)
+        (device_of W.contents out.old) (device_of W.contents out.new)
+        (device_of E.contents err.old) (device_of E.contents err.new) result }
+{
+    let alloc = rt.alloc();
+    match line(alloc, words) {
+        Ok(line) => match do_task(rt, &mut FileStore::new(rt), &Task::of(&line), reader, out) {
+            Ok(status) => status,
+            Err(failure) => {
+                tell_failure(alloc, failure, out, err);
+                1
+            }
+        },
+        Err(LineFault::Words(error)) => tell_words(alloc, &error, out, err),
+        Err(LineFault::Memory) => {
+            tell_fault(Fault::Memory, err);
+            1
+        }
+    }
+}
+
+// Prints what clap says of words that are no command's. Status 0 for help and the version, 2 for a mistake.
+fn tell_words<W: Write, E: Write>(
+    alloc: Global,
+    error: &clap::Error,
+    out: &mut Counted<W>,
+    err: &mut Counted<E>,
+) -> u8
+    ensures status { result ≤ 2 }
+    ensures said { IsSaid (kind_of error.now) (device_of W.contents out.old) (device_of W.contents out.new)
+        (device_of E.contents err.old) (device_of E.contents err.new) result }
+{
+    match format!(in alloc; "{error}") {
+        Ok(text) => {
+            if error.use_stderr() {
+                let _ = write_whole(err, text.as_bytes());
+                2
+            } else if write_whole(out, text.as_bytes()).is_ok() {
+                0
+            } else {
+                tell_fault(Fault::Write, err);
+                1
+            }
+        }
+        Err(_) => {
+            tell_fault(Fault::Memory, err);
+            1
+        }
+    }
+}
+
+// Does a task, and prints its answer: the status, or why there is none.
+fn do_task<
+    S: Store,
+    T: AllocGlobal + Net<Listener = TcpListener, Stream = TcpStream>,
+    R: Read,
+    W: Write,
+>(
+    rt: &T,
+    store: &mut S,
+    task: &Task<'_>,
+    reader: &mut Counted<R>,
+    out: &mut Counted<W>,
+) -> Result<u8, Failure>
+    requires reader_counts { failure_count reader.old < 2 ^ 64 - 1 }
+    requires out_counts { failure_count out.old < 2 ^ 64 - 1 }
+    ensures status { IfOk result (λ status. status ≤ 1) }
+    ensures done { IfOk result (IsCarriedOut (S.entries store.old) (S.entries store.new) task.now
+        (device_of R.remaining reader.old) (device_of R.remaining reader.new)
+        (device_of W.contents out.old) (device_of W.contents out.new)) }
+    ensures stopped { IfErr result (Stops S.fails (S.entries store.old) (S.entries store.new) task.now
+        (device_of R.remaining reader.old) (device_of R.remaining reader.new)
+        (device_of W.contents out.old) (device_of W.contents out.new)) }
+{
+    match task {
+        Task::Run => run_script(rt.alloc(), reader, out),
+        Task::Serve {
+            log,
+            address,
+            count,
+        } => {
+            serve_at(rt, store, log, *address, *count, out)?;
+            Ok(0)
+        }
+        Task::Send { log, address } => {
+            send_to(rt, store, log, *address, out)?;
+            Ok(0)
+        }
+        Task::Command { log, command } => {
+            do_command(rt.alloc(), store, log, command, out)?;
+            Ok(0)
+        }
+    }
+}
+
+// Runs a script. Status 0 where no line was refused, else 1.
+fn run_script<R: Read, W: Write>(
+    alloc: Global,
+    reader: &mut Counted<R>,
+    out: &mut Counted<W>,
+) -> Result<u8, Failure>
+    requires reader_counts { failure_count reader.old < 2 ^ 64 - 1 }
+    requires out_counts { failure_count out.old < 2 ^ 64 - 1 }
+    ensures status { IfOk result (λ status. status ≤ 1) }
+    ensures done { IfOk result (RunsScript (device_of R.remaining reader.old) (device_of R.remaining reader.new)
+        (device_of W.contents out.old) (device_of W.contents out.new)) }
+    ensures stopped { IfErr result (StopsScript (device_of R.remaining reader.old) (device_of R.remaining reader.new)
+        (device_of W.contents out.old) (device_of W.contents out.new)) }
+{
+    let ran = run(alloc, reader, out)?;
+    Ok(if ran.refused == 0 { 0 } else { 1 })
+}
+
+// Does a command of a log, and prints its answer.
+fn do_command<S: Store, W: Write>(
+    alloc: Global,
+    store: &mut S,
+    log: &SiteLog<'_>,
+    command: &LogCommand<'_>,
+    out: &mut Counted<W>,
+) -> Result<(), Failure>
+    ensures done { OnOk result (Answers (S.entries store.old) (S.entries store.new) log.now command.now
+        (device_of W.contents out.old) (device_of W.contents out.new)) }
+    ensures stopped { IfErr result (StopsCommand S.fails (S.entries store.old) (S.entries store.new) log.now command.now
+        (device_of W.contents out.old) (device_of W.contents out.new)) }
+{
+    let text = answer(alloc, store, log, command)?;
+    print(&text, out)
+}
+
+// Serves a log at an address.
+fn serve_at<S: Store, T: AllocGlobal + Net<Listener = TcpListener, Stream = TcpStream>, W: Write>(
+    rt: &T,
+    store: &mut S,
+    log: &SiteLog<'_>,
+    address: &str,
+    count: u16,
+    out: &mut Counted<W>,
+) -> Result<(), Failure>
+    ensures done { OnOk result (ServesAt (S.entries store.old) (S.entries store.new) log.now count
+        (device_of W.contents out.old) (device_of W.contents out.new)) }
+    ensures stopped { IfErr result (StopsAt S.fails (S.entries store.old) (S.entries store.new) log.now count
+        (device_of W.contents out.old) (device_of W.contents out.new)) }
+{
+    let mut replica = store.load(log.name, log.site)?;
+    let listener = listen(rt, address, out)?;
+    serve_each(
+        rt.alloc(),
+        store,
+        &listener,
+        count,
+        log.name,
+        &mut replica,
+        out,
+    )
+}
+
+// Binds an address, and says so.
+fn listen<T: Net<Listener = TcpListener, Stream = TcpStream>, W: Write>(
+    rt: &T,
+    address: &str,
+    out: &mut Counted<W>,
+) -> Result<TcpListener, Failure>
+    ensures said { OnOk result (Prints (device_of W.contents out.old) (device_of W.contents out.new)
+        (codes "listening" ++ 10 ∷ [])) }
+    ensures failed { IfErr result (StopsListening (device_of W.contents out.old) (device_of W.contents out.new)) }
+{
+    match TcpListener::bind(rt, address) {
+        Ok(listener) => {
+            print_now(b"listening\n", out)?;
+            Ok(listener)
+        }
+        Err(_) => Err(Failure::Failed(Fault::Net)),
+    }
+}
+
+// Exchanges with the site that serves at an address.
+fn send_to<S: Store, T: AllocGlobal + Net<Listener = TcpListener, Stream = TcpStream>, W: Write>(
+    rt: &T,
+    store: &mut S,
+    log: &SiteLog<'_>,
+    address: &str,
+    out: &mut Counted<W>,
+) -> Result<(), Failure>
+    ensures done { OnOk result (SendsFrom (S.entries store.old) (S.entries store.new) log.now
+        (device_of W.contents out.old) (device_of W.contents out.new)) }
+    ensures stopped { IfErr result (StopsFrom S.fails (S.entries store.old) (S.entries store.new) log.now
+        (device_of W.contents out.old) (device_of W.contents out.new)) }
+{
+    let mut replica = store.load(log.name, log.site)?;
+    match TcpStream::connect(rt, address) {
+        Ok(stream) => exchange(rt.alloc(), store, &stream, log.name, &mut replica, out),
+        Err(_) => Err(Failure::Failed(Fault::Net)),
+    }
+}
