@@ -8,6 +8,7 @@ pub use execution::execute;
 pub use failure::{Argument, Failure, Fault, Refusal};
 pub use files::FileStore;
 pub use memory::MemoryStore;
+pub use process::program;
 pub use store::Store;
 
 mod changes;
@@ -19,6 +20,7 @@ mod failure;
 mod files;
 mod memory;
 mod printing;
+mod process;
 mod reading;
 mod store;
 mod words;
