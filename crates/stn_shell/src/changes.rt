@@ -1,6 +1,6 @@
 //! What a command does to a replica, or asks of it.
 
-ghost use Rattle.std.specs.Prelude.{◌≡◌, ◌≢◌, ◌++◌, codes, [], ◌∷◌, None, OnOk, IfOk, IfErr};
+ghost use Rattle.std.specs.Prelude.{◌≡◌, ◌++◌, codes, [], ◌∷◌, None, OnOk, IfOk, IfErr};
 ghost use Rattle.stn_records.specs.Id.{id_text, SiteCounter};
 ghost use Rattle.stn_replica.specs.Calls.{added, withdrew, took, Leaves};
 ghost use Rattle.stn_replica.specs.Held.{difference, plain, executed};

@@ -1,6 +1,6 @@
 //! Logs and texts as files.
 
-ghost use Rattle.std.specs.Prelude.{◌≡◌, IfErr, ⊤};
+ghost use Rattle.std.specs.Prelude.{IfErr, ⊤};
 ghost use Rattle.stn_shell.specs.Store.{IsLack};
 
 use crate::failure::{Failure, Fault};
