@@ -1,0 +1,11 @@
+pub mod Lists
+pub mod Bounds
+pub mod Kept
+pub mod Lasting
+pub mod ThreeParts
+pub mod Planned
+pub mod Implied
+pub mod Looser
+pub mod Orders
+pub mod Made
+pub mod Whole

@@ -1,0 +1,29 @@
+-- The planned times of all events as a list.
+use Rattle.std.proofs.Common.{◌≡◌, ℕ, ℤ, pos, ◌+◌, ◌*◌, ◌<◌, Bool, true, false, nat_lt, List, [], ◌∷◌, length, refl, sym, ◌∙◌, arith}
+use Rattle.std.proofs.lemmas.Bool.Decides.{nat_tests}
+use Rattle.std.proofs.lemmas.List.{get_or_past}
+use Rattle.stn_net.specs.Schedule.{times_of}
+use Rattle.stn_lift.specs.Activities.{Activity}
+use Rattle.stn_lift.specs.BaseBounds.{times_behind, event_times}
+use Rattle.stn_lift.specs.PlanSource.{PlanSource, bare, files, events_of, planned_of, activities_of}
+
+length-times_behind : (steps : List Activity) → length (times_behind steps) ≡ 2 * length steps
+unfolding times_behind
+length-times_behind [] = refl
+length-times_behind (step ∷ steps) = omega (arith, length-times_behind steps)
+
+-- an event that the plan has not is planned at 0
+past : (source : PlanSource) (event : ℕ) → events_of source < event → planned_of source event ≡ pos 0
+past (bare steps) event after = refl
+past (files domain plan) event after =
+    let steps = activities_of domain plan in
+    get_or_past (event_times steps) event (pos 0) (omega (arith, length-times_behind steps))
+
+-- the list of the planned times of all events gives those of each number
+pub same_times : (source : PlanSource) (times : List ℤ) → length times ≡ events_of source + 1 → ((event : ℕ) → event < events_of source + 1 → times_of times event ≡ planned_of source event)
+    → times_of times ≡ planned_of source
+same_times source times many timed = λ i event. by event (nat_lt (events_of source) event) refl i
+  where
+    by : (event : ℕ) (after : Bool) → nat_lt (events_of source) event ≡ after → times_of times event ≡ planned_of source event
+    by event true e = let here : events_of source < event = grind (arith, nat_tests) in get_or_past times event (pos 0) (omega arith) ∙ sym (past source event here)
+    by event false e = let here : event < events_of source + 1 = grind (arith, nat_tests) in timed event here

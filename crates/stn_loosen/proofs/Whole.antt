@@ -1,0 +1,60 @@
+-- The records of a whole plan.
+use Rattle.std.proofs.Common.{◌≡◌, ℕ, ◌≤◌, List, [], ◌++◌, length, ap, subst, ◌∙◌, arith, append-nil, All}
+use Rattle.std.specs.List.Sorted.{IsPermutation}
+use Rattle.std.proofs.lemmas.List.Sorted.{All-permutation}
+use Rattle.stn_net.specs.Difference.{Difference, NamesEvents}
+use Rattle.stn_net.specs.Schedule.{Meets, HasSchedule}
+use Rattle.stn_lift.specs.PlanSource.{PlanSource, events_of, planned_of, IsSoundSource}
+use Rattle.stn_records.specs.Content.{most_known}
+use Rattle.stn_loosen.specs.declared.fault.LoosenFault.{LoosenFault}
+use Rattle.stn_loosen.specs.declared.fault.LoosenFault.TheVariants.{Full, Memory}
+use Rattle.stn_loosen.specs.Slack.{Slack, IsSlack}
+use Rattle.stn_loosen.specs.Loosened.{durations_of, orders_of, AreNearestFirst, AreKept, bounds_with, loose_durations, AreMadeOf}
+use Rattle.stn_loosen.specs.Faults.{IsCause}
+use Rattle.stn_loosen.specs.Making.{all_bounds, IsCauseWith}
+use Rattle.stn_loosen.proofs.Looser.{loose_schedule, orders_met, orders_named}
+use Rattle.stn_loosen.proofs.ThreeParts.{few_durations}
+
+module _ (source : PlanSource) (sound : IsSoundSource source) (slack : Slack) (is : IsSlack slack) where
+  -- there is room for all durations, and they have a schedule
+  pub durations_fit : length (durations_of source) ≤ most_known
+  durations_fit = omega (arith, few_durations source, sound.small)
+
+  pub durations_possible : HasSchedule (bounds_with source (loose_durations slack source))
+  durations_possible =
+      subst (λ l. HasSchedule (bounds_with source l)) (append-nil (loose_durations slack source))
+      (planned_of source, loose_schedule source sound (planned_of source) sound.possible slack is [] (λ k d below. absurd (omega arith)))
+
+  module _ (orders : List Difference) (same : IsPermutation (orders_of source) orders) where
+    pub orders_possible : HasSchedule (bounds_with source (loose_durations slack source ++ orders))
+    orders_possible = (
+      planned_of source,
+      loose_schedule source sound (planned_of source) sound.possible slack is orders
+          (All-permutation (Meets (planned_of source)) (orders_of source) orders same (orders_met source sound (planned_of source) sound.possible)),
+    )
+
+    pub all_named : All (NamesEvents (events_of source)) orders
+    all_named = All-permutation (NamesEvents (events_of source)) (orders_of source) orders same (orders_named source sound)
+
+module _ (source : PlanSource) (slack : Slack) (orders : List Difference) (events : ℕ) (before : List Difference) (many : events ≡ events_of source) (durations : before ≡ loose_durations slack source) where
+  -- the bounds before the orders are those of the bare plan and the durations
+  front : all_bounds events before ≡ bounds_with source (loose_durations slack source)
+  front = ap (λ n. all_bounds n before) many ∙ ap (all_bounds (events_of source)) durations
+
+  pub made_of : (records : List Difference) → (kept : List Difference) × (records ≡ before ++ kept) × AreKept (all_bounds events before) orders kept → AreMadeOf source slack orders records
+  made_of records made = record {
+    kept = made.0;
+    whole = made.1 ∙ ap (λ l. l ++ made.0) durations;
+    chosen = subst (λ l. AreKept l orders made.0) front made.2;
+  }
+
+  pub cause_of : AreNearestFirst (planned_of source) (orders_of source) orders → (fault : LoosenFault) → IsCauseWith events before orders fault → IsCause source slack fault
+  cause_of sorted Full p = record {
+    first = p.first;
+    others = p.others;
+    sorted = subst (AreNearestFirst (planned_of source) (orders_of source)) p.parts sorted;
+    records = before ++ p.kept;
+    made = record { kept = p.kept; whole = ap (λ l. l ++ p.kept) durations; chosen = subst (λ l. AreKept l p.first p.kept) front p.chosen };
+    many = p.many;
+  }
+  cause_of sorted Memory p = tt

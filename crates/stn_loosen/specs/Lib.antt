@@ -1,0 +1,4 @@
+pub mod Slack
+pub mod Loosened
+pub mod Faults
+pub mod Making

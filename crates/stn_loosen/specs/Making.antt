@@ -1,0 +1,46 @@
+-- For proofs alone: no public clause cites these words.
+use Rattle.std.specs.Prelude.{◌≡◌, ℕ, ◌<◌, ◌⊎◌, List, [], ◌∷◌, ◌++◌, length}
+use Rattle.stn_net.specs.Difference.{Difference}
+use Rattle.stn_net.specs.Horizon.{horizon_bounds}
+use Rattle.stn_matrix.specs.Table.{Table}
+use Rattle.stn_matrix.specs.Tightest.{IsExact}
+use Rattle.stn_records.specs.Content.{most_known}
+use Rattle.stn_loosen.specs.declared.fault.LoosenFault.{LoosenFault}
+use Rattle.stn_loosen.specs.declared.fault.LoosenFault.TheVariants.{Full, Memory}
+use Rattle.stn_loosen.specs.Loosened.{Imply, AreKept}
+
+-- the horizon bounds of so many events, and then the bounds of records
+abbrev pub all_bounds : ℕ → List Difference → List Difference
+all_bounds events records = horizon_bounds events ++ records
+
+-- the table is exact for the horizon bounds of its events and the records
+abbrev pub AreTaken : List Difference → Table → Type 0
+AreTaken records table = IsExact (all_bounds table.events records) table
+
+-- why no more is made than so many records
+abbrev pub IsCauseAt : ℕ → LoosenFault → Type 0
+IsCauseAt made Full = made ≡ most_known
+IsCauseAt made Memory = Unit {0}
+
+-- what becomes of records at one more order: it is implied, and nothing is made, or it is made
+abbrev pub IsNext : ℕ → List Difference → Difference → List Difference → Type 0
+IsNext events old order new =
+    (Imply (all_bounds events old) order × (new ≡ old)) ⊎ (¬ Imply (all_bounds events old) order × (new ≡ old ++ order ∷ []))
+
+-- why it can't be made: it is needed, and there are as many records as may be
+abbrev pub IsCauseOf : ℕ → List Difference → Difference → LoosenFault → Type 0
+IsCauseOf events old order Full = ¬ Imply (all_bounds events old) order × (length old ≡ most_known)
+IsCauseOf events old order Memory = Unit {0}
+
+-- the orders kept of the first ones, and what was made before, are too many
+pub record AreTooManyWith (events : ℕ) (before orders : List Difference) : Type 0 where
+  pub first : List Difference
+  pub others : List Difference
+  pub parts : orders ≡ first ++ others
+  pub kept : List Difference
+  pub chosen : AreKept (all_bounds events before) first kept
+  pub many : most_known < length (before ++ kept)
+
+abbrev pub IsCauseWith : ℕ → List Difference → List Difference → LoosenFault → Type 0
+IsCauseWith events before orders Full = AreTooManyWith events before orders
+IsCauseWith events before orders Memory = Unit {0}

@@ -1,0 +1,13 @@
+//! Plans for real clocks: a planner's plan with durations that give, over a bare plan with as many steps.
+#![tactic(auto)]
+
+pub use fault::LoosenFault;
+pub use plan::loosened;
+pub use tolerance::Tolerance;
+
+mod fault;
+mod making;
+mod nearest;
+mod parts;
+mod plan;
+mod tolerance;
