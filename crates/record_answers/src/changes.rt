@@ -1,12 +1,14 @@
 ghost use Rattle.std.specs.Prelude.{IfSome};
 ghost use Rattle.stn_records.specs.Record.{IsProper};
 
-use crate::print::{append_said, clash_of, word_of};
+use crate::print::{append_said, clash_of, clash_of_amendment, word_of, word_of_amendment};
 use anyhow::Error;
 use std::alloc::Global;
 use std::str::SplitWhitespace;
 use stn_net::{Bound, Event};
-use stn_records::{BuryFault, Id, Mark, Records, RecordsFault, Site, WithdrawFault};
+use stn_records::{
+    AmendFault, BuryFault, Id, Mark, Records, RecordsFault, ReplaceFault, Site, WithdrawFault,
+};
 use stn_time::Ms;
 
 fn next_id(words: &mut SplitWhitespace<'_>) -> Option<Id> {
@@ -78,6 +80,54 @@ fn bury(ours: &mut Records<Global>, words: &mut SplitWhitespace<'_>) -> &'static
     }
 }
 
+// The id of an amendment, the id that it replaces, and its bound.
+fn next_amendment(words: &mut SplitWhitespace<'_>) -> Option<(Id, Id, Bound)> {
+    let id = next_id(words)?;
+    let old = next_id(words)?;
+    Some((id, old, next_bound(words)?))
+}
+
+fn amend(ours: &mut Records<Global>, words: &mut SplitWhitespace<'_>) -> Result<(), AmendFault> {
+    match next_amendment(words) {
+        Some((id, old, bound)) => ours.amend(id, old, bound),
+        None => Ok(()),
+    }
+}
+
+fn replace(
+    ours: &mut Records<Global>,
+    words: &mut SplitWhitespace<'_>,
+) -> Result<(), ReplaceFault> {
+    match next_amendment(words) {
+        Some((id, old, bound)) => ours.replace(id, old, bound),
+        None => Ok(()),
+    }
+}
+
+// What was said of a replacement, as of an amendment.
+fn amended(answer: &Result<(), ReplaceFault>) -> Result<(), AmendFault> {
+    match answer {
+        Ok(()) => Ok(()),
+        Err(ReplaceFault::SelfReplace) => Err(AmendFault::SelfReplace),
+        Err(ReplaceFault::Clash(id)) => Err(AmendFault::Clash(*id)),
+        Err(ReplaceFault::Full) => Err(AmendFault::Full),
+        Err(ReplaceFault::Memory) => Err(AmendFault::Memory),
+    }
+}
+
+// Makes a call that adds a record in the place of another; none where the call is another.
+fn supplant(
+    call: &str,
+    ours: &mut Records<Global>,
+    words: &mut SplitWhitespace<'_>,
+) -> Option<Result<(), AmendFault>> {
+    match call {
+        "amend" => Some(amend(ours, words)),
+        "replace" => Some(amended(&replace(ours, words))),
+        _ => None,
+    }
+}
+
 // Makes a call that adds or takes in records; none where the call is another.
 fn grow(
     call: &str,
@@ -104,6 +154,10 @@ pub fn change(
 ) -> Result<bool, Error> {
     if let Some(answer) = grow(call, ours, theirs, words) {
         append_said(word_of(&answer), clash_of(&answer), out)?;
+        return Ok(true);
+    }
+    if let Some(answer) = supplant(call, ours, words) {
+        append_said(word_of_amendment(&answer), clash_of_amendment(&answer), out)?;
         return Ok(true);
     }
     match call {

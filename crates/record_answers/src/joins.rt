@@ -1,10 +1,11 @@
 use crate::print::{
-    append_id, append_record, append_said, clash_of, clash_of_join, word_of, word_of_join,
+    append_entry, append_id, append_record, append_said, clash_of, clash_of_join, word_of,
+    word_of_join,
 };
 use crate::questions::append_held;
 use anyhow::Error;
 use std::alloc::Global;
-use stn_records::{Additions, Join, Records, State, Tombstones};
+use stn_records::{Additions, Amendments, Join, Records, State, Tombstones};
 
 // What both sites hold, as a new value.
 fn join_records(
@@ -31,6 +32,13 @@ fn append_additions(all: &Additions<Global>, out: &mut Vec<u8>) -> Result<(), Er
 fn append_tombstones(all: &Tombstones<Global>, out: &mut Vec<u8>) -> Result<(), Error> {
     for &(id, _) in all.entries() {
         append_id(id, out)?;
+    }
+    Ok(())
+}
+
+fn append_amendments(all: &Amendments<Global>, out: &mut Vec<u8>) -> Result<(), Error> {
+    for &entry in all.entries() {
+        append_entry(entry, out)?;
     }
     Ok(())
 }
@@ -62,6 +70,19 @@ fn join_tombstones(
     append_tombstones(&all, out)
 }
 
+fn join_amendments(
+    alloc: Global,
+    ours: &State<Global>,
+    theirs: &State<Global>,
+    out: &mut Vec<u8>,
+) -> Result<(), Error> {
+    let mut all = Amendments::new(alloc);
+    all.take(ours.replacements())?;
+    let answer = all.take(theirs.replacements());
+    append_said(word_of_join(&answer), clash_of_join(&answer), out)?;
+    append_amendments(&all, out)
+}
+
 fn join_states(
     alloc: Global,
     ours: &State<Global>,
@@ -74,7 +95,11 @@ fn join_states(
     append_said(word_of_join(&answer), clash_of_join(&answer), out)?;
     append_additions(all.additions(), out)?;
     out.extend_from_slice(b" -")?;
-    append_tombstones(all.tombstones(), out)
+    append_tombstones(all.tombstones(), out)?;
+    if !all.replacements().entries().is_empty() {
+        out.extend_from_slice(b" -")?;
+    }
+    append_amendments(all.replacements(), out)
 }
 
 // Appends a join of what both sites hold, or of a part of it. Whether there is such a call.
@@ -89,6 +114,7 @@ pub fn join(
         "join" => join_records(ours, theirs, out)?,
         "join_additions" => join_additions(alloc, ours.state(), theirs.state(), out)?,
         "join_tombstones" => join_tombstones(alloc, ours.state(), theirs.state(), out)?,
+        "join_amendments" => join_amendments(alloc, ours.state(), theirs.state(), out)?,
         "join_states" => join_states(alloc, ours.state(), theirs.state(), out)?,
         _ => return Ok(false),
     }

@@ -1,5 +1,5 @@
 use anyhow::Error;
-use stn_records::{Id, JoinFault, Mark, Record, RecordsFault};
+use stn_records::{AmendFault, Id, JoinFault, Mark, Record, RecordsFault};
 
 pub fn append_id(id: Id, out: &mut Vec<u8>) -> Result<(), Error> {
     out.push(b' ')?;
@@ -22,6 +22,13 @@ pub fn append_record(id: Id, record: Record, out: &mut Vec<u8>) -> Result<(), Er
     Ok(())
 }
 
+// An entry of an amendment: the id of the new record, and the id that it replaces.
+pub fn append_entry(entry: (Id, Id), out: &mut Vec<u8>) -> Result<(), Error> {
+    let (id, old) = entry;
+    append_id(id, out)?;
+    append_id(old, out)
+}
+
 pub fn append_number(number: usize, out: &mut Vec<u8>) -> Result<(), Error> {
     let alloc = *out.allocator();
     out.extend_from_slice(format!(in alloc; "{number}")?.as_bytes())?;
@@ -42,6 +49,26 @@ pub fn word_of(answer: &Result<(), RecordsFault>) -> &'static str {
 pub fn clash_of(answer: &Result<(), RecordsFault>) -> Option<Id> {
     match answer {
         Err(RecordsFault::Clash(id)) => Some(*id),
+        _ => None,
+    }
+}
+
+// The word for what was said of an amendment.
+pub fn word_of_amendment(answer: &Result<(), AmendFault>) -> &'static str {
+    match answer {
+        Ok(()) => "ok",
+        Err(AmendFault::SelfReplace) => "self",
+        Err(AmendFault::Clash(_)) => "clash",
+        Err(AmendFault::Unknown) => "unknown",
+        Err(AmendFault::Full) => "full",
+        Err(AmendFault::Memory) => "memory",
+    }
+}
+
+// The id of a clash.
+pub fn clash_of_amendment(answer: &Result<(), AmendFault>) -> Option<Id> {
+    match answer {
+        Err(AmendFault::Clash(id)) => Some(*id),
         _ => None,
     }
 }

@@ -1,17 +1,21 @@
-use crate::print::{append_id, append_number, append_record};
+use crate::print::{append_entry, append_id, append_number, append_record};
 use anyhow::Error;
 use std::alloc::Global;
 use std::str::SplitWhitespace;
 use stn_records::{Id, PartFault, Record, Records, Site};
 
-// All that is held, withdrawn or not, and behind a dash the withdrawn ids.
-pub fn append_held(records: &Records<Global>, out: &mut Vec<u8>) -> Result<(), Error> {
-    out.extend_from_slice(b"held")?;
+// The records, replaced or not.
+fn append_records(records: &Records<Global>, out: &mut Vec<u8>) -> Result<(), Error> {
     for place in 0..=records.known() {
         if let Some((id, mark, bound)) = records.record_at(place) {
             append_record(id, Record { mark, bound }, out)?;
         }
     }
+    Ok(())
+}
+
+// Behind a dash the withdrawn ids.
+fn append_withdrawn(records: &Records<Global>, out: &mut Vec<u8>) -> Result<(), Error> {
     out.extend_from_slice(b" -")?;
     for place in 0..=records.known() {
         if let Some(id) = records.tomb_at(place) {
@@ -19,6 +23,48 @@ pub fn append_held(records: &Records<Global>, out: &mut Vec<u8>) -> Result<(), E
         }
     }
     Ok(())
+}
+
+// Behind a dash the entries of amendments, where there are any.
+fn append_entries(records: &Records<Global>, out: &mut Vec<u8>) -> Result<(), Error> {
+    for place in 0..=records.known() {
+        if let Some(entry) = records.entry_at(place) {
+            if place == 0 {
+                out.extend_from_slice(b" -")?;
+            }
+            append_entry(entry, out)?;
+        }
+    }
+    Ok(())
+}
+
+// All that is held.
+pub fn append_held(records: &Records<Global>, out: &mut Vec<u8>) -> Result<(), Error> {
+    out.extend_from_slice(b"held")?;
+    append_records(records, out)?;
+    append_withdrawn(records, out)?;
+    append_entries(records, out)
+}
+
+fn append_replaced(records: &Records<Global>, out: &mut Vec<u8>) -> Result<(), Error> {
+    out.extend_from_slice(b"replaced")?;
+    for &(id, _) in records.replaced() {
+        append_id(id, out)?;
+    }
+    Ok(())
+}
+
+// The entry at a place.
+fn append_entry_at(records: &Records<Global>, place: &str, out: &mut Vec<u8>) -> Result<(), Error> {
+    let entry = place
+        .parse::<usize>()
+        .ok()
+        .and_then(|place| records.entry_at(place));
+    out.extend_from_slice(b"entry")?;
+    match entry {
+        Some(entry) => append_entry(entry, out),
+        None => Ok(out.extend_from_slice(b" none")?),
+    }
 }
 
 fn append_live(records: &Records<Global>, out: &mut Vec<u8>) -> Result<(), Error> {
@@ -65,6 +111,8 @@ pub fn ask(
     match call {
         "held" => append_held(ours, out)?,
         "live" => append_live(ours, out)?,
+        "replaced" => append_replaced(ours, out)?,
+        "entry_at" => append_entry_at(ours, words.next().unwrap_or(""), out)?,
         "known" => append_number(ours.known(), out)?,
         "next" => append_next(ours, words.next().unwrap_or(""), out)?,
         "id" => append_id_read(ours, words.next().unwrap_or(""), out)?,

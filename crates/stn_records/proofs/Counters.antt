@@ -8,7 +8,7 @@ use Rattle.std.specs.FinMap.{is_sorted}
 use Rattle.stn_records.specs.Id.{SiteCounter, id_cmp}
 use Rattle.std.specs.Map.{keys_of}
 use Rattle.stn_records.specs.Sorted.{IsEndOf}
-use Rattle.stn_records.specs.Content.{greatest_counter, next_counter, RecordMap, IdSet, Content, same_ids, known_ids, is_known}
+use Rattle.stn_records.specs.Content.{greatest_counter, next_counter, Content, same_ids, known_ids, is_known, replaced_set, replaced_ids}
 use Rattle.stn_records.specs.ContentLaws.{ids_total, ids_exact}
 use Rattle.stn_records.proofs.Entries.{above_at}
 use Rattle.stn_records.proofs.KnownIds.{known_member}
@@ -108,14 +108,13 @@ next_is_new s site counter is = elim (is_known s (record { site = site; counter 
   | false ↦ λ e. refl
 ] refl
 
--- one more than the greatest counter of both parts
-pub counter_read : (s : Content) (x : RecordMap) (y : IdSet) → record { additions = x; tombstones = y } ≡ s → (site : ℕ) (es : List (SiteCounter × Record)) (ts : List (SiteCounter × Unit {0})) → es ≡ fin.entries x → ts ≡ fin.entries y → (a b m : ℕ) → a ≡ greatest_counter site (keys_of es) → b ≡ greatest_counter site (keys_of ts) → m ≡ max a b → m + 1 ≡ next_counter s site
-counter_read s x y seen site es ts p q a b m ga gb gm =
+-- one more than the greatest counter of the additions and the replaced ids
+pub counter_read : (s : Content) (site : ℕ) (es : List (SiteCounter × Record)) (ts : List (SiteCounter × Unit {0})) → es ≡ fin.entries s.additions → ts ≡ fin.entries (replaced_set s) → (a b m : ℕ) → a ≡ greatest_counter site (keys_of es) → b ≡ greatest_counter site (keys_of ts) → m ≡ max a b → m + 1 ≡ next_counter s site
+counter_read s site es ts p q a b m ga gb gm =
     let ours = ga ∙ ap (λ l. greatest_counter site (keys_of l)) p in
     let theirs = gb ∙ ap (λ l. greatest_counter site (keys_of l)) q in
-    let both = greatest-append site (fin.keys x) (fin.keys y) in
-    let here : m + 1 ≡ next_counter (record { additions = x; tombstones = y }) site = omega (arith, both, ours, theirs, gm) in
-    here ∙ ap (λ (t : Content). next_counter t site) seen
+    let both = greatest-append site (fin.keys s.additions) (replaced_ids s) in
+    omega (arith, both, ours, theirs, gm)
 
 -- a counter that fits is the next one, and one that doesn't is spent
 pub next_cases : {E : Type 0} (o : Option ℕ) (err : E) (r : Result ℕ E) (m n : ℕ) → m + 1 ≡ n → SomeIff o (m + 1 < 65536) (m + 1) → r ≡ ok_or o err → IfOk r (λ counter. counter ≡ n) × (IsErr r ↔ (65535 < n))

@@ -7,11 +7,11 @@ use Rattle.std.specs.Cmp.{Equal-is, tied_itself, alike_right}
 use Rattle.std.specs.Set.{distinct_count, is_member}
 use Rattle.std.specs.FinMap.{is_sorted}
 use Rattle.std.specs.FinMap.Entries.{below_all}
-use Rattle.stn_records.specs.Id.{SiteCounter, id_cmp}
+use Rattle.stn_records.specs.Id.{SiteCounter, id_cmp, lesser_of}
 use Rattle.std.specs.Map.{keys_of}
-use Rattle.stn_records.specs.Sorted.{lesser_of, past_id}
+use Rattle.stn_records.specs.Sorted.{past_id}
 use Rattle.stn_records.specs.Content.{same_ids}
-use Rattle.stn_records.specs.ContentLaws.{ids_total, ids_exact}
+use Rattle.stn_records.specs.ContentLaws.{ids_total, ids_exact, lesser_none}
 use Rattle.stn_records.proofs.Entries.{less_is, less_back, greater_back, below_less}
 use Rattle.stn_records.proofs.KnownIds.{same_count, one_more, member-append}
 
@@ -51,13 +51,6 @@ lesser_member : (f g : Option SiteCounter) (id : SiteCounter) → lesser_of f g 
 lesser_member None g id e = inr e
 lesser_member (Some x) None id e = inl e
 lesser_member (Some x) (Some y) id e = elim (is_lt (id_cmp y x)) as (λ b. cond b (Some y) (Some x) ≡ Some id → (Some x ≡ Some id) ⊎ (Some y ≡ Some id)) [ true ↦ inr | false ↦ inl ] e
-
--- where the lesser of two is none, neither is there
-lesser_none : (f g : Option SiteCounter) → lesser_of f g ≡ None → (f ≡ None) × (g ≡ None)
-lesser_none None None e = (refl, refl)
-lesser_none None (Some y) e = absurd (false≢true (ap is_some (sym e)))
-lesser_none (Some x) None e = absurd (false≢true (ap is_some (sym e)))
-lesser_none (Some x) (Some y) e = absurd (false≢true (elim (is_lt (id_cmp y x)) as (λ b. cond b (Some y) (Some x) ≡ None → false ≡ true) [ true ↦ λ n. ap is_some (sym n) | false ↦ λ n. ap is_some (sym n) ] e))
 
 not_above_within : (f g : Option SiteCounter) (id : SiteCounter) → NotAbove id (lesser_of f g) → NotAbove id f × NotAbove id g
 not_above_within f g id h = by (lesser_of f g) refl h

@@ -1,7 +1,8 @@
 -- Whether all that one site holds is held by another.
 use Rattle.std.proofs.Common.{◌≡◌, ℕ, ◌+◌, ◌<◌, ◌≤◌, ◌↔◌, ◌⊎◌, Bool, true, false, cond, ◌&&◌, List, [], ◌∷◌, length, get_or, drop, eqb, length-drop, drop_of_length-le, Option, Some, None, is_some, option_and_then, Less, Equal, Greater, is_lt, is_eq, sym, refl, ap, subst, ◌∙◌, inl, inr, ⊎_elim, arith}
 use Rattle.std.proofs.lemmas.Bool.{false≢true, cases_lt, and_from, and_parts, not-true, le-leb}
-use Rattle.std.proofs.lemmas.Bool.Decides.{nat_tests, same_from_decides}
+use Rattle.std.proofs.lemmas.Bool.Decides.{nat_tests}
+use Rattle.std.specs.Bool.{Decides}
 use Rattle.std.proofs.lemmas.List.{get_or_default}
 use Rattle.std.specs.Prelude.{IsTrue}
 use Rattle.std.specs.List.{list_all}
@@ -9,14 +10,13 @@ use Rattle.std.specs.Cmp.{tied_back, tied_itself, Equal-is}
 use Rattle.std.specs.FinMap as fin
 use Rattle.std.specs.FinMap.{FinMap, is_sorted, get-entries}
 use Rattle.std.specs.FinMap.Entries.{below_all}
-use Rattle.stn_records.specs.Id.{SiteCounter, id_cmp}
-use Rattle.stn_records.specs.Record.{same_records, is_there}
-use Rattle.stn_records.specs.Sorted.{has_keys, has_entries}
+use Rattle.stn_records.specs.Id.{SiteCounter, id_cmp, same_ids}
+use Rattle.stn_records.specs.Record.{same_records}
+use Rattle.stn_records.specs.Sorted.{is_there, has_keys, has_entries}
 use Rattle.stn_records.specs.Join.{passing}
 use Rattle.stn_records.specs.JoinLaws.{first_step, join_is}
-use Rattle.stn_records.specs.Content.{Content, addition, withdrawal, IsPart, most_known, is_within, known_count, dispute_contents, join_contents, taken}
-use Rattle.stn_records.specs.ContentLaws.{ids_total, ids_exact, records_decide, contents_join, contents_dispute}
-use Rattle.stn_records.specs.declared.record.Record.{Record}
+use Rattle.stn_records.specs.Content.{Content, addition, withdrawal, replacement, IsPart, most_known, is_within, known_count, dispute_contents, join_contents, taken}
+use Rattle.stn_records.specs.ContentLaws.{ids_total, ids_exact, ids_decide, records_decide, contents_join, contents_dispute}
 use Rattle.stn_records.proofs.Entries.{in_order, front, less_is, greater_back, below_less, find_below, passed_over, rest_sorted}
 
 -- whether each entry of theirs passes a test with what ours has of its id, by two cursors; what is not there fails
@@ -130,9 +130,9 @@ module _ {X : Type 0} where
         (λ q v found. (own (fin.find id_cmp q (fin.entries a)) v).1 (sym (get-entries a q) ∙ all q v (get-entries b q ∙ found)))
 
 -- the two tests
-is_own_record : (o : Option Record) (r : Record) → (is_there o r ≡ true) ↔ (o ≡ Some r)
-is_own_record None r = (λ e. absurd (false≢true e), λ e. absurd (false≢true (ap is_some e)))
-is_own_record (Some x) r = (λ e. ap Some ((records_decide x r).0 e), λ e. (records_decide x r).1 (value e))
+is_own : {X : Type 0} (same : X → X → Bool) → ((x y : X) → Decides (same x y) (x ≡ y)) → (o : Option X) (r : X) → (is_there same o r ≡ true) ↔ (o ≡ Some r)
+is_own same decides None r = (λ e. absurd (false≢true e), λ e. absurd (false≢true (ap is_some e)))
+is_own {X} same decides (Some x) r = (λ e. ap Some ((decides x r).0 e), λ e. (decides x r).1 (value e))
   where
     value : Some x ≡ Some r → x ≡ r
     value e = cc
@@ -141,11 +141,10 @@ is_own_id : (o : Option (Unit {0})) (u : Unit {0}) → (is_some o ≡ true) ↔ 
 is_own_id None u = (λ e. absurd (false≢true e), λ e. ap is_some e)
 is_own_id (Some x) u = (λ e. refl, λ e. refl)
 
--- a test of two records that was read at their places
-pub answered : (ours theirs : List (SiteCounter × Record)) (i j : ℕ) (x y r s : SiteCounter × Record) → i < length ours → j < length theirs → (answer : Bool) → ((answer ≡ true) ↔ ((get_or ours i r).1 ≡ (get_or theirs j s).1)) → same_records (get_or ours i x).1 (get_or theirs j y).1 ≡ answer
-answered ours theirs i j x y r s in_ours in_theirs answer told =
-    (λ k. same_records (get_or_default ours i x r in_ours k).1 (get_or_default theirs j y s in_theirs k).1)
-    ∙ same_from_decides (same_records (get_or ours i r).1 (get_or theirs j s).1) answer (records_decide (get_or ours i r).1 (get_or theirs j s).1) told
+-- a test of two values that was read at their places
+pub answered : {X : Type 0} (same : X → X → Bool) (ours theirs : List (SiteCounter × X)) (i j : ℕ) (x y r s : SiteCounter × X) → i < length ours → j < length theirs → (answer : Bool) → answer ≡ same (get_or ours i r).1 (get_or theirs j s).1 → same (get_or ours i x).1 (get_or theirs j y).1 ≡ answer
+answered same ours theirs i j x y r s in_ours in_theirs answer told =
+    (λ k. same (get_or_default ours i x r in_ours k).1 (get_or_default theirs j y s in_theirs k).1) ∙ sym told
 
 module _ (a b : Content) where
   -- what b holds is what a holds already
@@ -162,18 +161,21 @@ module _ (a b : Content) where
       none_of None e = refl
       none_of (Some x) e = absurd (false≢true (sym e))
 
-  -- all that b holds is held by a exactly where its ids and its records are
-  pub told_part : IsTrue (has_keys (fin.entries a.tombstones) (fin.entries b.tombstones) && has_entries (fin.entries a.additions) (fin.entries b.additions)) ↔ IsPart b a
+  -- all that b holds is held by a exactly where its ids, its records and its entries are
+  pub told_part : IsTrue (has_keys (fin.entries a.tombstones) (fin.entries b.tombstones) && (has_entries same_records (fin.entries a.additions) (fin.entries b.additions) && has_entries same_ids (fin.entries a.replacements) (fin.entries b.replacements))) ↔ IsPart b a
   told_part = (
-    λ held. let parts = and_parts _ _ held in ours parts.0 parts.1,
+    λ held. let parts = and_parts _ _ held in let rest = and_parts _ _ parts.1 in ours parts.0 rest.0 rest.1,
     λ inside. and_from _ _
         (all_pass (λ o _. is_some o) is_own_id a.tombstones b.tombstones (λ q v there. inside (withdrawal q) there))
-        (all_pass is_there is_own_record a.additions b.additions (λ q v there. inside (addition q v) there)),
+        (and_from _ _
+        (all_pass (is_there same_records) (is_own same_records records_decide) a.additions b.additions (λ q v there. inside (addition q v) there))
+        (all_pass (is_there same_ids) (is_own same_ids ids_decide) a.replacements b.replacements (λ q v there. inside (replacement q v) there))),
   )
     where
-      ours : has_keys (fin.entries a.tombstones) (fin.entries b.tombstones) ≡ true → has_entries (fin.entries a.additions) (fin.entries b.additions) ≡ true → IsPart b a
-      ours tombs adds (addition id r) h = has_all is_there is_own_record a.additions b.additions adds id r h
-      ours tombs adds (withdrawal id) h = has_all (λ o _. is_some o) is_own_id a.tombstones b.tombstones tombs id tt h
+      ours : has_keys (fin.entries a.tombstones) (fin.entries b.tombstones) ≡ true → has_entries same_records (fin.entries a.additions) (fin.entries b.additions) ≡ true → has_entries same_ids (fin.entries a.replacements) (fin.entries b.replacements) ≡ true → IsPart b a
+      ours tombs adds olds (addition id r) h = has_all (is_there same_records) (is_own same_records records_decide) a.additions b.additions adds id r h
+      ours tombs adds olds (withdrawal id) h = has_all (λ o _. is_some o) is_own_id a.tombstones b.tombstones tombs id tt h
+      ours tombs adds olds (replacement id old) h = has_all (is_there same_ids) (is_own same_ids ids_decide) a.replacements b.replacements olds id old h
 
   -- and then a take leaves a as it is
   pub told_taken : known_count a ≤ most_known → IsPart b a ↔ (taken a b ≡ Some a)
@@ -182,3 +184,16 @@ module _ (a b : Content) where
         ∙ ap (λ b. cond b (Some a) None) (le-leb (known_count a) most_known few),
     λ is item h. (contents_join.union a b a (joined_is is) item).1 (inr h),
   )
+
+  -- three tests of the parts, in turn
+  pub last_told : (x y z : Bool) → x ≡ has_keys (fin.entries a.tombstones) (fin.entries b.tombstones) → y ≡ has_entries same_records (fin.entries a.additions) (fin.entries b.additions) → z ≡ has_entries same_ids (fin.entries a.replacements) (fin.entries b.replacements) → x ≡ true → y ≡ true → (z ≡ true) ↔ IsPart b a
+  last_told x y z ids records entries passed too = (
+    λ e. told_part.0 (and_from _ _ (sym ids ∙ passed) (and_from _ _ (sym records ∙ too) (sym entries ∙ e))),
+    λ inside. entries ∙ (and_parts _ _ (and_parts _ _ (told_part.1 inside)).1).1,
+  )
+
+  pub ids_missed : (x v : Bool) → x ≡ has_keys (fin.entries a.tombstones) (fin.entries b.tombstones) → x ≡ false → v ≡ false → (v ≡ true) ↔ IsPart b a
+  ids_missed x v ids missed is = (λ e. absurd (false≢true (sym is ∙ e)), λ inside. absurd (false≢true (sym missed ∙ ids ∙ (and_parts _ _ (told_part.1 inside)).0)))
+
+  pub records_missed : (y v : Bool) → y ≡ has_entries same_records (fin.entries a.additions) (fin.entries b.additions) → y ≡ false → v ≡ false → (v ≡ true) ↔ IsPart b a
+  records_missed y v records missed is = (λ e. absurd (false≢true (sym is ∙ e)), λ inside. absurd (false≢true (sym missed ∙ records ∙ (and_parts _ _ (and_parts _ _ (told_part.1 inside)).1).0)))

@@ -2,7 +2,7 @@
 use Rattle.std.proofs.Common.{◌≡◌, suc, ◌≤◌, Bool, true, false, cond, ◌||◌, List, [], ◌∷◌, ◌++◌, length, Option, Some, None, is_some, sym, refl, ap, ◌∙◌, ⊎_elim, arith}
 use Rattle.std.proofs.lemmas.Bool.{false≢true, or_left, or_right, or_cases}
 use Rattle.std.specs.FinMap.{contains_key-keys}
-use Rattle.stn_records.specs.Content.{Content, Item, addition, withdrawal, HasItem, same_ids, known_ids, known_count, is_known}
+use Rattle.stn_records.specs.Content.{Content, Item, addition, HasItem, same_ids, known_ids, known_count, is_known, replaced_set, replaced_ids}
 use Rattle.stn_records.specs.ContentLaws.{ids_total}
 use Rattle.std.proofs.lemmas.Map.Made.{length-le_from_is_member}
 use Rattle.std.specs.Cmp.{IsEquivalence, eq_by_cmp_equiv}
@@ -11,6 +11,7 @@ use Rattle.std.specs.Set.{distinct_count, unique_keys, is_member}
 use Rattle.std.specs.FinMap as fin
 use Rattle.stn_records.specs.Id.{SiteCounter}
 use Rattle.std.proofs.lemmas.List.Folds.{list_any-append}
+use Rattle.stn_records.proofs.Replaced.{replaced_fewer}
 
 laws : IsEquivalence same_ids
 laws = eq_by_cmp_equiv ids_total
@@ -64,10 +65,10 @@ member-append xs ys q = list_any-append (same_ids q) xs ys
 
 -- the known ids are those of both parts
 pub known_member : (s : Content) (q : SiteCounter) → is_member same_ids (known_ids s) q ≡ is_known s q
-known_member s q = member-append (fin.keys s.additions) (fin.keys s.tombstones) q
-    ∙ (λ i. sym (contains_key-keys s.additions q) i || sym (contains_key-keys s.tombstones q) i)
+known_member s q = member-append (fin.keys s.additions) (replaced_ids s) q
+    ∙ (λ i. sym (contains_key-keys s.additions q) i || sym (contains_key-keys (replaced_set s) q) i)
 
-there_is : {X : Type 0} (o : Option X) → is_some o ≡ true → (x : X) × (o ≡ Some x)
+pub there_is : {X : Type 0} (o : Option X) → is_some o ≡ true → (x : X) × (o ≡ Some x)
 there_is None e = absurd (false≢true e)
 there_is (Some x) e = (x, refl)
 
@@ -75,7 +76,7 @@ there_is (Some x) e = (x, refl)
 known_of_item : (s t : Content) → ((item : Item) → HasItem s item → HasItem t item) → (q : SiteCounter) → is_known s q ≡ true → is_known t q ≡ true
 known_of_item s t h q k = ⊎_elim
     (λ a. let v = there_is (fin.get s.additions q) a in or_left _ _ (ap is_some (h (addition q v.0) v.1)))
-    (λ b. let v = there_is (fin.get s.tombstones q) b in or_right _ _ (ap is_some (h (withdrawal q) v.1)))
+    (λ b. or_right _ _ (replaced_fewer s t h q b))
     (or_cases _ _ k)
 
 -- a content with fewer items knows no more ids

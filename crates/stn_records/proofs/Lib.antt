@@ -1,9 +1,12 @@
 pub mod Entries
+pub mod Gets
+pub mod OneItem
+pub mod Replaced
 pub mod KnownIds
 pub mod Proper
-pub mod OneItem
 pub mod Limits
 pub mod Outcomes
+pub mod Amending
 pub mod Lists
 pub mod Places
 pub mod Disputes

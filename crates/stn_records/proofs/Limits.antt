@@ -1,9 +1,10 @@
 -- How many ids a content knows after a change, and how many two know together.
 use Rattle.std.proofs.Common.{◌≡◌, ◌+◌, ◌<◌, ◌≤◌, Bool, true, false, cond, ◌||◌, List, [], ◌∷◌, ◌++◌, length, Option, Some, None, is_some, is_eq, sym, refl, ap, ◌∙◌, arith, length-append}
 use Rattle.std.proofs.lemmas.Bool.{false≢true, and_parts, or_left, or_right}
-use Rattle.std.specs.FinMap.{is_sorted, get-empty, get-insert}
+use Rattle.std.specs.FinMap.{contains_key-keys, is_sorted, get-empty, get-insert}
 use Rattle.std.specs.Map.{keys_of}
-use Rattle.stn_records.specs.Content.{most_known, Content, Item, addition, withdrawal, HasItem, same_ids, known_ids, known_count, known_in_either, is_known, joined_contents, with_record, with_tombstone, no_content}
+use Rattle.stn_net.specs.Difference.{Difference}
+use Rattle.stn_records.specs.Content.{most_known, Content, Item, addition, withdrawal, replacement, HasItem, same_ids, known_ids, known_count, known_in_either, is_known, is_replaced, replaced_set, replaced_ids, dispute_contents, joined_contents, part_of, plain, with_record, with_tombstone, with_amendment, no_content, AllAmend}
 use Rattle.stn_records.specs.ContentLaws.{ids_total, ids_exact}
 use Rattle.std.specs.Option.{option_or}
 use Rattle.std.specs.FinMap.Entries.{below_all}
@@ -16,8 +17,9 @@ use Rattle.stn_records.specs.declared.record.Record.{Record}
 use Rattle.stn_records.specs.MapLaws.{get-union}
 use Rattle.std.proofs.lemmas.Map.Entries.{length-keys_of}
 use Rattle.stn_records.proofs.Entries.{less_is, in_order}
-use Rattle.stn_records.proofs.KnownIds.{fewer, same_count, one_more, member-append, known_member, known_fewer, keys_within}
+use Rattle.stn_records.proofs.KnownIds.{fewer, same_count, one_more, member-append, known_member, known_fewer, keys_within, there_is}
 use Rattle.stn_records.proofs.Proper.{retained_value}
+use Rattle.stn_records.proofs.Replaced.{gone, inserted_key, replaced_by_withdrawal, replaced_in_join, replaced_withdrawn, replaced_amended, replaced_of_nothing}
 
 keys_apart : {X : Type 0} (x : SiteCounter) (es : List (SiteCounter × X)) → below_all id_cmp x es ≡ true → AllByRecursion (λ y. same_ids x y ≡ false) (keys_of es)
 keys_apart x [] h = tt
@@ -28,56 +30,98 @@ unfolding IsDistinct
 keys_distinct [] h = tt
 keys_distinct (e ∷ es) h = (keys_apart e.0 es (and_parts _ _ h).0, keys_distinct es (and_parts _ _ h).1)
 
--- each part has at most as many entries as there are known ids
+-- there are at most as many additions and replaced ids as known ids
 pub additions_within : (s : Content) → length (fin.entries s.additions) ≤ known_count s
 additions_within s =
-    let within = keys_within (fin.keys s.additions) (known_ids s) (keys_distinct (fin.entries s.additions) (in_order s.additions)) (λ q m. member-append (fin.keys s.additions) (fin.keys s.tombstones) q ∙ or_left _ _ m) in
+    let within = keys_within (fin.keys s.additions) (known_ids s) (keys_distinct (fin.entries s.additions) (in_order s.additions)) (λ q m. member-append (fin.keys s.additions) (replaced_ids s) q ∙ or_left _ _ m) in
     omega (arith, length-keys_of (fin.entries s.additions), within)
 
+pub replaced_within : (s : Content) → length (fin.entries (replaced_set s)) ≤ known_count s
+replaced_within s =
+    let within = keys_within (replaced_ids s) (known_ids s) (keys_distinct (fin.entries (replaced_set s)) (in_order (replaced_set s))) (λ q m. member-append (fin.keys s.additions) (replaced_ids s) q ∙ or_right _ _ m) in
+    omega (arith, length-keys_of (fin.entries (replaced_set s)), within)
+
+-- and there are at most as many entries of amendments, since each belongs to a record
+pub replacements_within : (s : Content) → AllAmend s → length (fin.entries s.replacements) ≤ known_count s
+replacements_within s amends =
+    let within = keys_within (fin.keys s.replacements) (known_ids s) (keys_distinct (fin.entries s.replacements) (in_order s.replacements))
+    (λ q m. member-append (fin.keys s.additions) (replaced_ids s) q ∙ or_left _ _ (added q (contains_key-keys s.replacements q ∙ m))) in
+    omega (arith, length-keys_of (fin.entries s.replacements), within)
+  where
+    added : (q : SiteCounter) → fin.contains_key s.replacements q ≡ true → is_member same_ids (fin.keys s.additions) q ≡ true
+    added q there = let entry = there_is (fin.get s.replacements q) there in sym (contains_key-keys s.additions q) ∙ ap is_some (amends q entry.0 entry.1).added.1
+
+-- and at most as many withdrawn ids
 pub tombstones_within : (s : Content) → length (fin.entries s.tombstones) ≤ known_count s
 tombstones_within s =
-    let within = keys_within (fin.keys s.tombstones) (known_ids s) (keys_distinct (fin.entries s.tombstones) (in_order s.tombstones)) (λ q m. member-append (fin.keys s.additions) (fin.keys s.tombstones) q ∙ or_right _ _ m) in
+    let within = keys_within (fin.keys s.tombstones) (known_ids s) (keys_distinct (fin.entries s.tombstones) (in_order s.tombstones))
+    (λ q m. member-append (fin.keys s.additions) (replaced_ids s) q ∙ or_right _ _ (sym (contains_key-keys (replaced_set s) q) ∙ withdrawn q (contains_key-keys s.tombstones q ∙ m))) in
     omega (arith, length-keys_of (fin.entries s.tombstones), within)
+  where
+    withdrawn : (q : SiteCounter) → fin.contains_key s.tombstones q ≡ true → is_replaced s q ≡ true
+    withdrawn q there = replaced_by_withdrawal s q (gone (fin.get s.tombstones q) there)
 
 -- and no more ids are known than both parts have entries
-pub known_within : (s : Content) → known_count s ≤ length (fin.entries s.additions) + length (fin.entries s.tombstones)
+pub known_within : (s : Content) → known_count s ≤ length (fin.entries s.additions) + length (fin.entries (replaced_set s))
 known_within s =
     let within = distinct_count-le same_ids (known_ids s) in
-    omega (arith, within, length-append (fin.keys s.additions) (fin.keys s.tombstones), length-keys_of (fin.entries s.additions), length-keys_of (fin.entries s.tombstones))
+    omega (arith, within, length-append (fin.keys s.additions) (replaced_ids s), length-keys_of (fin.entries s.additions), length-keys_of (fin.entries (replaced_set s)))
 
 -- what the join of two contents knows is what they know together
-pub together : (s t : Content) → known_count (joined_contents s t) ≡ known_in_either s t
-together s t = same_count (known_ids (joined_contents s t)) (known_ids s ++ known_ids t) (λ q.
+pub together : (s t : Content) → dispute_contents s t ≡ None → known_count (joined_contents s t) ≡ known_in_either s t
+together s t none = same_count (known_ids (joined_contents s t)) (known_ids s ++ known_ids t) (λ q.
     known_member (joined_contents s t) q
-    ∙ (λ i. is_some (get-union ids_total ids_exact s.additions t.additions q i) || is_some (get-union ids_total ids_exact s.tombstones t.tombstones q i))
-    ∙ regrouped (fin.get s.additions q) (fin.get t.additions q) (fin.get s.tombstones q) (fin.get t.tombstones q)
+    ∙ (λ i. is_some (get-union ids_total ids_exact s.additions t.additions q i) || replaced_in_join s t none q i)
+    ∙ regrouped (fin.get s.additions q) (fin.get t.additions q) (is_replaced s q) (is_replaced t q)
     ∙ (λ i. sym (known_member s q) i || sym (known_member t q) i)
     ∙ sym (member-append (known_ids s) (known_ids t) q))
   where
-    regrouped : (a b : Option Record) (c d : Option (Unit {0})) → (is_some (option_or a b) || is_some (option_or c d)) ≡ ((is_some a || is_some c) || (is_some b || is_some d))
-    regrouped None None None None = refl
-    regrouped None None None (Some d) = refl
-    regrouped None None (Some c) d = refl
-    regrouped None (Some b) None None = refl
-    regrouped None (Some b) None (Some d) = refl
-    regrouped None (Some b) (Some c) d = refl
+    regrouped : (a b : Option Record) (c d : Bool) → (is_some (option_or a b) || (c || d)) ≡ ((is_some a || c) || (is_some b || d))
+    regrouped None None c d = refl
+    regrouped None (Some b) true d = refl
+    regrouped None (Some b) false d = refl
     regrouped (Some a) b c d = refl
 
 -- a known id more or less: with a new one the count is one more, with a known one the same
 with_member : (s : Content) (id : SiteCounter) (r : Record) (q : SiteCounter) → is_known (with_record s id r) q ≡ (same_ids q id || is_known s q)
-with_member s id r q = ap (λ o. is_some o || fin.contains_key s.tombstones q) (get-insert ids_total s.additions id r q) ∙ by (same_ids q id) (fin.get s.additions q)
+with_member s id r q = ap (λ o. is_some o || is_replaced s q) (get-insert ids_total s.additions id r q) ∙ by (same_ids q id) (fin.get s.additions q)
   where
-    by : (b : Bool) (o : Option Record) → (is_some (cond b (Some r) o) || fin.contains_key s.tombstones q) ≡ (b || (is_some o || fin.contains_key s.tombstones q))
+    by : (b : Bool) (o : Option Record) → (is_some (cond b (Some r) o) || is_replaced s q) ≡ (b || (is_some o || is_replaced s q))
     by true o = refl
     by false o = refl
 
+swapped : (a b c : Bool) → (a || (b || c)) ≡ (b || (a || c))
+swapped true true c = refl
+swapped true false c = refl
+swapped false b c = refl
+
 tombed_member : (s : Content) (id : SiteCounter) (q : SiteCounter) → is_known (with_tombstone s id) q ≡ (same_ids q id || is_known s q)
-tombed_member s id q = ap (λ o. fin.contains_key s.additions q || is_some o) (get-insert ids_total s.tombstones id tt q) ∙ by (same_ids q id) (fin.contains_key s.additions q) (fin.get s.tombstones q)
-  where
-    by : (b a : Bool) (o : Option (Unit {0})) → (a || is_some (cond b (Some tt) o)) ≡ (b || (a || is_some o))
-    by true true o = refl
-    by true false o = refl
-    by false a o = refl
+tombed_member s id q =
+    ap (λ set. fin.contains_key s.additions q || fin.contains_key set q) (sym (replaced_withdrawn s id))
+    ∙ ap (λ b. fin.contains_key s.additions q || b) (inserted_key (replaced_set s) id q)
+    ∙ swapped (fin.contains_key s.additions q) (same_ids q id) (is_replaced s q)
+
+-- an amendment is known by both its ids
+amended_member : (s : Content) (id old : SiteCounter) (bound : Difference) → ((z : SiteCounter) → fin.get s.replacements id ≡ Some z → z ≡ old) → (q : SiteCounter) → is_known (with_amendment s id old bound) q ≡ (same_ids q id || (same_ids q old || is_known s q))
+amended_member s id old bound agrees q =
+    ap (λ set. fin.contains_key (fin.insert s.additions id (plain bound)) q || fin.contains_key set q) (sym (replaced_amended s id old bound agrees))
+    ∙ ap (λ b. fin.contains_key (fin.insert s.additions id (plain bound)) q || b) (inserted_key (replaced_set s) old q)
+    ∙ swapped (fin.contains_key (fin.insert s.additions id (plain bound)) q) (same_ids q old) (is_replaced s q)
+    ∙ ap (λ b. same_ids q old || b) (with_member s id (plain bound) q)
+    ∙ swapped (same_ids q old) (same_ids q id) (is_known s q)
+
+-- an id more counts where it is not among the others
+counted : (x : SiteCounter) (xs : List SiteCounter) (b : Bool) → is_member same_ids xs x ≡ b → distinct_count same_ids (x ∷ xs) ≡ distinct_count same_ids xs + cond b 0 1
+counted x xs true e = ap (λ m. length (cond m (unique_keys same_ids xs) (x ∷ unique_keys same_ids xs))) e ∙ omega arith
+counted x xs false e = one_more x xs e ∙ omega arith
+
+-- how many ids are known with an amendment
+pub amended_count : (s : Content) (id old : SiteCounter) (bound : Difference) → ((z : SiteCounter) → fin.get s.replacements id ≡ Some z → z ≡ old) → same_ids id old ≡ false → known_count (with_amendment s id old bound) ≡ known_count s + cond (is_known s old) 0 1 + cond (is_known s id) 0 1
+amended_count s id old bound agrees apart =
+    let both = same_count (known_ids (with_amendment s id old bound)) (id ∷ old ∷ known_ids s) (λ q. known_member (with_amendment s id old bound) q ∙ amended_member s id old bound agrees q ∙ ap (λ m. same_ids q id || (same_ids q old || m)) (sym (known_member s q))) in
+    let first = counted id (old ∷ known_ids s) (is_known s id) (ap (λ b. b || is_member same_ids (known_ids s) id) apart ∙ known_member s id) in
+    let second = counted old (known_ids s) (is_known s old) (known_member s old) in
+    both ∙ first ∙ ap (λ n. n + cond (is_known s id) 0 1) second
 
 -- a content with one id more, known or not
 module _ (s t : Content) (id : SiteCounter) (more : (q : SiteCounter) → is_known t q ≡ (same_ids q id || is_known s q)) where
@@ -100,31 +144,34 @@ record_limited s id r room most = known_more s (with_record s id r) id (with_mem
 pub tombstone_limited : (s : Content) (id : SiteCounter) → (is_known s id ≡ false → known_count s < most_known) → known_count s ≤ most_known → known_count (with_tombstone s id) ≤ most_known
 tombstone_limited s id room most = known_more s (with_tombstone s id) id (tombed_member s id) (is_known s id) refl room most
 
-pub part_limited : (s : Content) (p q : SiteCounter → Bool) → known_count (record { additions = fin.retain_keys s.additions p; tombstones = fin.retain_keys s.tombstones q }) ≤ known_count s
-part_limited s p q = known_fewer (record { additions = fin.retain_keys s.additions p; tombstones = fin.retain_keys s.tombstones q }) s below
+pub part_limited : (s : Content) (records tombstones : List SiteCounter) → known_count (part_of s records tombstones) ≤ known_count s
+part_limited s records tombstones = known_fewer (part_of s records tombstones) s below
   where
-    below : (item : Item) → HasItem (record { additions = fin.retain_keys s.additions p; tombstones = fin.retain_keys s.tombstones q }) item → HasItem s item
-    below (addition id r) h = retained_value s.additions p id r h
-    below (withdrawal id) h = retained_value s.tombstones q id tt h
+    below : (item : Item) → HasItem (part_of s records tombstones) item → HasItem s item
+    below (addition id r) h = retained_value s.additions (λ id. is_member same_ids records id) id r h
+    below (withdrawal id) h = retained_value s.tombstones (λ id. is_member same_ids tombstones id) id tt h
+    below (replacement id old) h = retained_value s.replacements (λ id. is_member same_ids records id) id old h
 
 nothing_known : (q : SiteCounter) → is_member same_ids (known_ids no_content) q ≡ false
-nothing_known q = known_member no_content q ∙ (λ i. is_some (get-empty {X = Record} id_cmp q i) || is_some (get-empty {X = Unit {0}} id_cmp q i))
+nothing_known q = known_member no_content q
+    ∙ (λ i. is_some (get-empty {X = Record} id_cmp q i) || fin.contains_key (replaced_of_nothing fin.empty i) q)
+    ∙ ap is_some (get-empty {X = Unit {0}} id_cmp q)
 
 pub empty_limited : known_count no_content ≤ most_known
 empty_limited = let none = fewer (known_ids no_content) [] (λ q m. absurd (false≢true (sym (nothing_known q) ∙ m))) in omega (arith, none)
 
 -- two contents know together no more ids than all four parts have entries
-pub known_together : (s t : Content) → known_in_either s t ≤ (length (fin.entries s.additions) + length (fin.entries s.tombstones)) + (length (fin.entries t.additions) + length (fin.entries t.tombstones))
+pub known_together : (s t : Content) → known_in_either s t ≤ (length (fin.entries s.additions) + length (fin.entries (replaced_set s))) + (length (fin.entries t.additions) + length (fin.entries (replaced_set t)))
 known_together s t =
     let within = distinct_count-le same_ids (known_ids s ++ known_ids t) in
     omega (
       arith,
       within,
       length-append (known_ids s) (known_ids t),
-      length-append (fin.keys s.additions) (fin.keys s.tombstones),
-      length-append (fin.keys t.additions) (fin.keys t.tombstones),
+      length-append (fin.keys s.additions) (replaced_ids s),
+      length-append (fin.keys t.additions) (replaced_ids t),
       length-keys_of (fin.entries s.additions),
-      length-keys_of (fin.entries s.tombstones),
+      length-keys_of (fin.entries (replaced_set s)),
       length-keys_of (fin.entries t.additions),
-      length-keys_of (fin.entries t.tombstones),
+      length-keys_of (fin.entries (replaced_set t)),
     )

@@ -1,6 +1,8 @@
 -- Contents that are made of lists of entries.
-use Rattle.std.proofs.Common.{◌≡◌, ℕ, ◌<◌, length, true, false, cond, List, [], ◌∷◌, get_or, Some, is_some, is_eq, sym, ap, subst, ◌∙◌, All}
+use Rattle.std.proofs.Common.{◌≡◌, ◌↔◌, ℕ, ◌<◌, length, Bool, true, false, not, ◌&&◌, eqb, cond, List, [], ◌∷◌, get_or, Some, is_some, is_eq, sym, refl, ap, subst, ◌∙◌, All}
 use Rattle.std.proofs.lemmas.Bool.{false≢true}
+use Rattle.std.proofs.lemmas.Bool.Decides.{Decides-eqb, Decides-and, Decides-like}
+use Rattle.std.specs.Bool.{Decides}
 use Rattle.std.proofs.lemmas.List.{get_or_default}
 use Rattle.std.proofs.lemmas.List.Elements.{All-same, recursion_from_All}
 use Rattle.std.specs.List.{AllByRecursion}
@@ -9,9 +11,11 @@ use Rattle.std.specs.FinMap.{get-entries, is_sorted}
 use Rattle.stn_records.specs.Id.{SiteCounter, id_cmp}
 use Rattle.stn_records.specs.Record.{IsProper}
 use Rattle.stn_records.specs.declared.record.Record.{Record}
-use Rattle.stn_records.specs.Content.{RecordMap, AllProper}
+use Rattle.stn_records.specs.declared.record.Mark.TheVariants.{Plain}
+use Rattle.stn_records.specs.Content.{RecordMap, Content, AllProper, AllAmend, IsAmendment}
 use Rattle.std.specs.Cmp.{tied_itself}
-use Rattle.stn_records.specs.ContentLaws.{ids_total}
+use Rattle.stn_records.specs.ContentLaws.{ids_total, ids_exact}
+use Rattle.stn_records.proofs.Gets.{entries_from_get, get_from_entries}
 use Rattle.stn_records.proofs.Entries.{in_order, find_at}
 
 -- the entry at a place is what its id has
@@ -41,3 +45,30 @@ pub entries_of_proper : (m : RecordMap) (seen es : List (SiteCounter × Record))
 entries_of_proper m seen es same proper is k d within =
     let there = entry_at m seen k (get_or seen k d) (same ∙ sym is) within (get_or_default seen k d (get_or seen k d) within) in
     proper (get_or seen k d).0 (get_or seen k d).1 there
+
+-- the entries of a content are amendments where those of the list are, and only there
+pub amends_of_entries : (s : Content) (es : List (SiteCounter × SiteCounter)) → es ≡ fin.entries s.replacements → All (λ e. IsAmendment s.additions e.0 e.1) es → AllAmend s
+amends_of_entries s es is all id old e = get_from_entries ids_total ids_exact s.replacements (λ e. IsAmendment s.additions e.0 e.1) (All-same (λ e. IsAmendment s.additions e.0 e.1) (fin.entries s.replacements) es (sym is) all) id old e
+
+pub entries_of_amends : (s : Content) (es : List (SiteCounter × SiteCounter)) → es ≡ fin.entries s.replacements → AllAmend s → All (λ e. IsAmendment s.additions e.0 e.1) es
+entries_of_amends s es is amends = All-same (λ e. IsAmendment s.additions e.0 e.1) es (fin.entries s.replacements) is (entries_from_get ids_total ids_exact s.replacements (λ e. IsAmendment s.additions e.0 e.1) amends)
+
+-- two ids are one where both their numbers are
+numbers_decide : (a b : SiteCounter) → Decides (eqb a.site b.site && eqb a.counter b.counter) (a ≡ b)
+numbers_decide a b = Decides-like _
+    (λ p. λ i. record { site = p.0 i; counter = p.1 i })
+    (λ e. (ap (λ (i : SiteCounter). i.site) e, ap (λ (i : SiteCounter). i.counter) e))
+    (Decides-and _ _ (Decides-eqb a.site b.site) (Decides-eqb a.counter b.counter))
+
+-- whether an id of a Plain record and an old id make an amendment
+pub amendment_told : (m : RecordMap) (id old : SiteCounter) (held : Record) → fin.get m id ≡ Some held → held.mark ≡ Plain → (b : Bool) → b ≡ not (eqb id.site old.site && eqb id.counter old.counter) → (b ≡ true) ↔ IsAmendment m id old
+amendment_told m id old held there plain b is = (
+  λ e. record {
+    added = (held.bound, there ∙ ap Some (λ i. record { mark = plain i; bound = held.bound }));
+    other = λ same. false≢true (sym (ap not ((numbers_decide id old).1 same)) ∙ sym is ∙ e);
+  },
+  λ a. is ∙ elim (eqb id.site old.site && eqb id.counter old.counter) as (λ t. (eqb id.site old.site && eqb id.counter old.counter) ≡ t → not t ≡ true) [
+    | true ↦ λ t. absurd (a.other ((numbers_decide id old).0 t))
+    | false ↦ λ t. refl
+  ] refl,
+)

@@ -2,15 +2,17 @@
 use Rattle.std.proofs.Common.{◌≡◌, ◌⊎◌, ◌↔◌, true, false, cond, Option, Some, None, is_some, is_eq, sym, refl, ap, ◌∙◌, inl, inr, ⊎_elim}
 use Rattle.std.proofs.lemmas.Bool.{false≢true}
 use Rattle.std.specs.FinMap.{FinMap, get-empty, get-insert}
-use Rattle.stn_records.specs.Content.{Content, Item, addition, withdrawal, HasItem, join_contents, with_record, with_tombstone, one_record, one_tombstone}
+use Rattle.stn_records.specs.Content.{Content, Item, addition, withdrawal, replacement, HasItem, join_contents, plain, with_record, with_tombstone, with_amendment, one_record, one_tombstone, one_amendment}
 use Rattle.stn_records.specs.ContentLaws.{ids_total, ids_exact, contents_join}
 use Rattle.std.specs.Cmp.{Equal-is, tied_itself}
 use Rattle.std.specs.FinMap as fin
+use Rattle.stn_net.specs.Difference.{Difference}
 use Rattle.stn_records.specs.Id.{SiteCounter, id_cmp}
 use Rattle.stn_records.specs.declared.record.Record.{Record}
 use Rattle.stn_records.specs.JoinLaws.{join_is}
 
-inserted_value : {X : Type 0} (m : FinMap id_cmp X) (id : SiteCounter) (x : X) (q : SiteCounter) (y : X) → fin.get (fin.insert m id x) q ≡ Some y → ((q ≡ id) × (x ≡ y)) ⊎ (fin.get m q ≡ Some y)
+-- what an insertion leaves of an id is the value put in, or what was there
+pub inserted_value : {X : Type 0} (m : FinMap id_cmp X) (id : SiteCounter) (x : X) (q : SiteCounter) (y : X) → fin.get (fin.insert m id x) q ≡ Some y → ((q ≡ id) × (x ≡ y)) ⊎ (fin.get m q ≡ Some y)
 inserted_value m id x q y e = elim (is_eq (id_cmp q id)) as (λ b. is_eq (id_cmp q id) ≡ b → cond b (Some x) (fin.get m q) ≡ Some y → ((q ≡ id) × (x ≡ y)) ⊎ (fin.get m q ≡ Some y)) [
   | true ↦ λ t f. inl (ids_exact q id ((Equal-is (id_cmp q id)).0 t), cc)
   | false ↦ λ t f. inr f
@@ -19,7 +21,8 @@ inserted_value m id x q y e = elim (is_eq (id_cmp q id)) as (λ b. is_eq (id_cmp
 pub inserted_here : {X : Type 0} (m : FinMap id_cmp X) (id : SiteCounter) (x : X) → fin.get (fin.insert m id x) id ≡ Some x
 inserted_here m id x = get-insert ids_total m id x id ∙ ap (λ r. cond (is_eq r) (Some x) (fin.get m id)) (tied_itself ids_total id)
 
-kept_value : {X : Type 0} (m : FinMap id_cmp X) (id : SiteCounter) (x : X) (q : SiteCounter) (y : X) → ((z : X) → fin.get m id ≡ Some z → z ≡ x) → fin.get m q ≡ Some y → fin.get (fin.insert m id x) q ≡ Some y
+-- and what was there stays, where the value is not another
+pub kept_value : {X : Type 0} (m : FinMap id_cmp X) (id : SiteCounter) (x : X) (q : SiteCounter) (y : X) → ((z : X) → fin.get m id ≡ Some z → z ≡ x) → fin.get m q ≡ Some y → fin.get (fin.insert m id x) q ≡ Some y
 kept_value m id x q y same e = elim (is_eq (id_cmp q id)) as (λ b. is_eq (id_cmp q id) ≡ b → cond b (Some x) (fin.get m q) ≡ Some y → fin.get (fin.insert m id x) q ≡ Some y) [
   | true ↦ λ t f. get-insert ids_total m id x q ∙ ap (λ b. cond b (Some x) (fin.get m q)) t ∙ f
   | false ↦ λ t f. get-insert ids_total m id x q ∙ ap (λ b. cond b (Some x) (fin.get m q)) t ∙ f
@@ -38,6 +41,7 @@ record_joins s id r same = join_is contents_join s (one_record id r) (with_recor
       λ h. ⊎_elim (kept_value s.additions id r q y same) (λ one. ⊎_elim (λ here. ap (fin.get (fin.insert s.additions id r)) here.0 ∙ inserted_here s.additions id r ∙ ap Some here.1) (λ none. absurd (false≢true (ap is_some (sym (get-empty id_cmp q) ∙ none)))) (inserted_value fin.empty id r q y one)) h,
     )
     union_of (withdrawal q) = (inl, λ h. ⊎_elim (λ x. x) (λ none. absurd (false≢true (ap is_some (sym (get-empty id_cmp q) ∙ none)))) h)
+    union_of (replacement q o) = (inl, λ h. ⊎_elim (λ x. x) (λ none. absurd (false≢true (ap is_some (sym (get-empty id_cmp q) ∙ none)))) h)
 
 -- a content and one withdrawn id join to the content with the id withdrawn
 pub tombstone_joins : (s : Content) (id : SiteCounter) → join_contents s (one_tombstone id) ≡ Some (with_tombstone s id)
@@ -49,26 +53,43 @@ tombstone_joins s id = join_is contents_join s (one_tombstone id) (with_tombston
       λ h. ⊎_elim (λ here. inr (ap (fin.get (fin.insert fin.empty id tt)) here.0 ∙ inserted_here fin.empty id tt)) inl (inserted_value s.tombstones id tt q tt h),
       λ h. ⊎_elim (kept_value s.tombstones id tt q tt (λ z e. refl)) (λ one. ⊎_elim (λ here. ap (fin.get (fin.insert s.tombstones id tt)) here.0 ∙ inserted_here s.tombstones id tt) (λ none. absurd (false≢true (ap is_some (sym (get-empty id_cmp q) ∙ none)))) (inserted_value fin.empty id tt q tt one)) h,
     )
+    union_of (replacement q o) = (inl, λ h. ⊎_elim (λ x. x) (λ none. absurd (false≢true (ap is_some (sym (get-empty id_cmp q) ∙ none)))) h)
+
+-- a content and one amendment, whose record and entry it has or whose id is new, join to the content with the amendment
+pub amendment_joins : (s : Content) (id old : SiteCounter) (bound : Difference) → ((z : Record) → fin.get s.additions id ≡ Some z → z ≡ plain bound) → ((z : SiteCounter) → fin.get s.replacements id ≡ Some z → z ≡ old)
+    → join_contents s (one_amendment id old bound) ≡ Some (with_amendment s id old bound)
+amendment_joins s id old bound same same_old = join_is contents_join s (one_amendment id old bound) (with_amendment s id old bound) union_of
+  where
+    put : {X : Type 0} (m : FinMap id_cmp X) (x : X) → ((z : X) → fin.get m id ≡ Some z → z ≡ x) → (q : SiteCounter) (y : X) → (fin.get (fin.insert m id x) q ≡ Some y) ↔ ((fin.get m q ≡ Some y) ⊎ (fin.get {R = id_cmp} (fin.insert fin.empty id x) q ≡ Some y))
+    put m x agrees q y = (
+      λ h. ⊎_elim (λ here. inr (ap (fin.get (fin.insert fin.empty id x)) here.0 ∙ inserted_here fin.empty id x ∙ ap Some here.1)) inl (inserted_value m id x q y h),
+      λ h. ⊎_elim (kept_value m id x q y agrees) (λ one. ⊎_elim (λ here. ap (fin.get (fin.insert m id x)) here.0 ∙ inserted_here m id x ∙ ap Some here.1) (λ none. absurd (false≢true (ap is_some (sym (get-empty id_cmp q) ∙ none)))) (inserted_value fin.empty id x q y one)) h,
+    )
+
+    union_of : (item : Item) → HasItem (with_amendment s id old bound) item ↔ (HasItem s item ⊎ HasItem (one_amendment id old bound) item)
+    union_of (addition q y) = put s.additions (plain bound) same q y
+    union_of (withdrawal q) = (inl, λ h. ⊎_elim (λ x. x) (λ none. absurd (false≢true (ap is_some (sym (get-empty id_cmp q) ∙ none)))) h)
+    union_of (replacement q y) = put s.replacements old same_old q y
 
 -- what is there already changes nothing
-pub record_again : (s : Content) (id : SiteCounter) (r : Record) → fin.get s.additions id ≡ Some r → s ≡ with_record s id r
-record_again s id r e i = record s { additions = fin.same_map ids_total ids_exact s.additions (fin.insert s.additions id r) (λ q. sym (get-insert ids_total s.additions id r q ∙ at q)) i }
+pub again : {X : Type 0} (m : FinMap id_cmp X) (id : SiteCounter) (x : X) → fin.get m id ≡ Some x → m ≡ fin.insert m id x
+again {X} m id x e = fin.same_map ids_total ids_exact m (fin.insert m id x) (λ q. sym (get-insert ids_total m id x q ∙ at q))
   where
-    at : (q : SiteCounter) → cond (is_eq (id_cmp q id)) (Some r) (fin.get s.additions q) ≡ fin.get s.additions q
-    at q = elim (is_eq (id_cmp q id)) as (λ b. is_eq (id_cmp q id) ≡ b → cond b (Some r) (fin.get s.additions q) ≡ fin.get s.additions q) [
-      | true ↦ λ t. sym e ∙ ap (fin.get s.additions) (sym (ids_exact q id ((Equal-is (id_cmp q id)).0 t)))
+    at : (q : SiteCounter) → cond (is_eq (id_cmp q id)) (Some x) (fin.get m q) ≡ fin.get m q
+    at q = elim (is_eq (id_cmp q id)) as (λ b. is_eq (id_cmp q id) ≡ b → cond b (Some x) (fin.get m q) ≡ fin.get m q) [
+      | true ↦ λ t. sym e ∙ ap (fin.get m) (sym (ids_exact q id ((Equal-is (id_cmp q id)).0 t)))
       | false ↦ λ t. refl
     ] refl
 
+pub record_again : (s : Content) (id : SiteCounter) (r : Record) → fin.get s.additions id ≡ Some r → s ≡ with_record s id r
+record_again s id r e i = record s { additions = again s.additions id r e i }
+
 pub tombstone_again : (s : Content) (id : SiteCounter) → fin.contains_key s.tombstones id ≡ true → s ≡ with_tombstone s id
-tombstone_again s id there i = record s { tombstones = fin.same_map ids_total ids_exact s.tombstones (fin.insert s.tombstones id tt) (λ q. sym (get-insert ids_total s.tombstones id tt q ∙ at q)) i }
+tombstone_again s id there i = record s { tombstones = again s.tombstones id tt (unit (fin.get s.tombstones id) there) i }
   where
-    unit : (o : Option (Unit {0})) → is_some o ≡ true → Some tt ≡ o
+    unit : (o : Option (Unit {0})) → is_some o ≡ true → o ≡ Some tt
     unit None e = absurd (false≢true e)
     unit (Some x) e = refl
 
-    at : (q : SiteCounter) → cond (is_eq (id_cmp q id)) (Some tt) (fin.get s.tombstones q) ≡ fin.get s.tombstones q
-    at q = elim (is_eq (id_cmp q id)) as (λ b. is_eq (id_cmp q id) ≡ b → cond b (Some tt) (fin.get s.tombstones q) ≡ fin.get s.tombstones q) [
-      | true ↦ λ t. unit (fin.get s.tombstones id) there ∙ ap (fin.get s.tombstones) (sym (ids_exact q id ((Equal-is (id_cmp q id)).0 t)))
-      | false ↦ λ t. refl
-    ] refl
+pub amendment_again : (s : Content) (id old : SiteCounter) (bound : Difference) → fin.get s.additions id ≡ Some (plain bound) → fin.get s.replacements id ≡ Some old → s ≡ with_amendment s id old bound
+amendment_again s id old bound there entry i = record s { additions = again s.additions id (plain bound) there i; replacements = again s.replacements id old entry i }

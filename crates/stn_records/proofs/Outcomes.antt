@@ -1,51 +1,100 @@
 -- What each call leaves.
-use Rattle.std.proofs.Common.{◌≡◌, ℕ, ◌+◌, ◌<◌, ◌≤◌, ◌↔◌, Bool, true, false, cond, List, length, Option, Some, None, option_and_then, sym, refl, ap, subst, ◌∙◌, inl, inr, ⊎_elim, arith, Result, Ok, Err, OnOk, OnErr, IsTrue, le_trans, nat_le}
+use Rattle.std.proofs.Common.{◌≡◌, ◌≢◌, ℕ, ◌+◌, ◌<◌, ◌≤◌, ◌↔◌, Bool, true, false, cond, List, length, Some, None, is_some, option_and_then, Equal, sym, refl, ap, subst, ◌∙◌, inl, inr, ⊎_elim, arith, Result, Ok, Err, OnOk, OnErr, IsTrue, le_trans, nat_le}
 use Rattle.std.proofs.lemmas.Bool.{false≢true, cases_lt, leb-true, le-leb, or_left, or_right}
-use Rattle.stn_records.specs.Record.{IsProper}
-use Rattle.stn_records.specs.Content.{most_known, dispute_records, dispute_contents, taken, is_within, IsSound, part_of, RecordMap, IdSet, Content, same_ids, known_count, known_in_either, is_known, joined_contents, with_record, with_tombstone}
-use Rattle.stn_records.specs.ContentLaws.{contents_undisputed}
-use Rattle.stn_records.specs.Join.{passing}
-use Rattle.std.specs.Set.{is_member}
 use Rattle.std.specs.FinMap as fin
-use Rattle.stn_records.specs.Id.{SiteCounter}
+use Rattle.std.specs.FinMap.{get-empty, get-retain_keys}
+use Rattle.std.specs.Set.{is_member}
+use Rattle.stn_net.specs.Difference.{Difference}
+use Rattle.stn_records.specs.Id.{SiteCounter, id_cmp, same_ids}
+use Rattle.stn_records.specs.Record.{IsProper}
 use Rattle.stn_records.specs.declared.record.Record.{Record}
-use Rattle.stn_records.proofs.Proper.{insert_proper, union_proper, retain_proper}
-use Rattle.stn_records.proofs.Limits.{known_within, together, record_limited, tombstone_limited, part_limited}
+use Rattle.stn_records.specs.MapLaws.{get-union, either_value}
+use Rattle.stn_records.specs.Join.{passing}
+use Rattle.stn_records.specs.Content.{most_known, dispute_contents, taken, is_within, IsSound, IsAmendment, AllAmend, part_of, RecordMap, Content, addition, known_count, known_in_either, is_known, is_replaced, replaced_set, joined_contents, no_content, plain, with_record, with_tombstone, with_amendment}
+use Rattle.stn_records.specs.ContentLaws.{ids_total, ids_exact, contents_undisputed}
+use Rattle.stn_records.proofs.OneItem.{inserted_value, inserted_here, kept_value}
+use Rattle.stn_records.proofs.Replaced.{items_back, gone, replaced_by_withdrawal}
+use Rattle.stn_records.proofs.Proper.{empty_proper, insert_proper, union_proper, retain_proper, retained_value}
+use Rattle.stn_records.proofs.Limits.{known_within, together, record_limited, tombstone_limited, part_limited, empty_limited}
 
--- a content that is seen as its two parts
-module _ (s : Content) (x : RecordMap) (y : IdSet) (seen : record { additions = x; tombstones = y } ≡ s) where
-  pub withdrawn_is : (id : SiteCounter) (new : IdSet) → new ≡ fin.insert y id tt → with_tombstone s id ≡ record { additions = x; tombstones = new }
-  withdrawn_is id new is = ap (λ (t : Content). with_tombstone t id) (sym seen) ∙ (λ i. record { additions = x; tombstones = sym is i })
+-- what a call leaves that changes all or nothing
+pub left_by : {T E : Type 0} (result : Result T E) (P : Content → Type 0) (old new changed : Content) → OnOk result (new ≡ changed) → OnErr result (new ≡ old) → P old → P changed → P new
+left_by (Ok v) P old new changed is kept before after = subst P (sym is) after
+left_by (Err e) P old new changed is kept before after = subst P (sym kept) before
 
-  pub added_is : (id : SiteCounter) (r : Record) (new : RecordMap) → new ≡ fin.insert x id r → with_record s id r ≡ record { additions = new; tombstones = y }
-  added_is id r new is = ap (λ (t : Content). with_record t id r) (sym seen) ∙ (λ i. record { additions = sym is i; tombstones = y })
+-- an amendment stays one where a record is put in that is no other of its id
+amends_kept : (m : RecordMap) (id : SiteCounter) (r : Record) → ((z : Record) → fin.get m id ≡ Some z → z ≡ r) → (q old : SiteCounter) → IsAmendment m q old → IsAmendment (fin.insert m id r) q old
+amends_kept m id r agrees q old a = record { added = (a.added.0, kept_value m id r q (plain a.added.0) agrees a.added.1); other = a.other }
 
-  pub withdrawn_sound : {T E : Type 0} (result : Result T E) (id : SiteCounter) (new : IdSet) → OnOk result (new ≡ fin.insert y id tt) → OnErr result (new ≡ y) → IsSound s → (is_known s id ≡ false → known_count s < most_known) → IsSound (record { additions = x; tombstones = new })
-  withdrawn_sound (Ok v) id new is kept sound room = subst IsSound (withdrawn_is id new is) (record { proper = sound.proper; limited = tombstone_limited s id room sound.limited })
-  withdrawn_sound (Err e) id new is kept sound room = subst IsSound (sym seen ∙ (λ i. record { additions = x; tombstones = sym kept i })) sound
+-- which changes leave a sound content
+pub empty_sound : IsSound no_content
+empty_sound = record { proper = empty_proper; amends = λ id old e. absurd (false≢true (ap is_some (sym (get-empty id_cmp id) ∙ e))); limited = empty_limited }
 
-  pub added_sound : {T E : Type 0} (result : Result T E) (id : SiteCounter) (r : Record) (new : RecordMap) → OnOk result (new ≡ fin.insert x id r) → OnErr result (new ≡ x) → IsSound s → IsProper r.mark r.bound → (is_known s id ≡ false → known_count s < most_known) → IsSound (record { additions = new; tombstones = y })
-  added_sound (Ok v) id r new is kept sound proper room = subst IsSound (added_is id r new is) (record { proper = insert_proper s.additions id r sound.proper proper; limited = record_limited s id r room sound.limited })
-  added_sound (Err e) id r new is kept sound proper room = subst IsSound (sym seen ∙ (λ i. record { additions = sym kept i; tombstones = y })) sound
+pub record_sound : (s : Content) (id : SiteCounter) (r : Record) → IsSound s → IsProper r.mark r.bound → ((z : Record) → fin.get s.additions id ≡ Some z → z ≡ r) → (is_known s id ≡ false → known_count s < most_known) → IsSound (with_record s id r)
+record_sound s id r sound proper agrees room = record {
+  proper = insert_proper s.additions id r sound.proper proper;
+  amends = λ q old e. amends_kept s.additions id r agrees q old (sound.amends q old e);
+  limited = record_limited s id r room sound.limited;
+}
 
-  pub seen_tombstone : (id : SiteCounter) (b : Bool) → b ≡ fin.contains_key y id → b ≡ true → fin.contains_key s.tombstones id ≡ true
-  seen_tombstone id b is e = ap (λ (t : Content). fin.contains_key t.tombstones id) (sym seen) ∙ sym is ∙ e
+pub tombstone_sound : (s : Content) (id : SiteCounter) → IsSound s → (is_known s id ≡ false → known_count s < most_known) → IsSound (with_tombstone s id)
+tombstone_sound s id sound room = record { proper = sound.proper; amends = sound.amends; limited = tombstone_limited s id room sound.limited }
 
-  pub seen_record : (id : SiteCounter) (o : Option Record) → o ≡ fin.get x id → o ≡ fin.get s.additions id
-  seen_record id o is = is ∙ ap (λ (t : Content). fin.get t.additions id) seen
+pub amendment_sound : (s : Content) (id old : SiteCounter) (bound : Difference) → IsSound s → id ≢ old → ((z : Record) → fin.get s.additions id ≡ Some z → z ≡ plain bound) → ((z : SiteCounter) → fin.get s.replacements id ≡ Some z → z ≡ old) → known_count (with_amendment s id old bound) ≤ most_known → IsSound (with_amendment s id old bound)
+amendment_sound s id old bound sound apart agrees alike few = record {
+  proper = insert_proper s.additions id (plain bound) sound.proper tt;
+  amends = λ q o e. ⊎_elim
+      (λ here. record {
+        added = (bound, ap (fin.get (fin.insert s.additions id (plain bound))) here.0 ∙ inserted_here s.additions id (plain bound));
+        other = λ same. apart (sym here.0 ∙ same ∙ sym here.1);
+      })
+      (λ there. amends_kept s.additions id (plain bound) agrees q o (sound.amends q o there))
+      (inserted_value s.replacements id old q o e);
+  limited = few;
+}
 
-  -- too few entries for the most ids
-  pub not_full : (es : List (SiteCounter × Record)) (ts : List (SiteCounter × Unit {0})) → es ≡ fin.entries x → ts ≡ fin.entries y → length es + length ts < most_known → known_count s < most_known
-  not_full es ts p q few =
-      let here : known_count (record { additions = x; tombstones = y }) < most_known = omega (arith, known_within (record { additions = x; tombstones = y }), ap length p, ap length q) in
-      subst (λ t. known_count t < most_known) seen here
+pub joined_sound : (s t all : Content) → IsSound s → IsSound t → dispute_contents s t ≡ None → known_in_either s t ≤ most_known → all ≡ joined_contents s t → IsSound all
+joined_sound s t all p q none few is = subst IsSound (sym is) (record {
+  proper = union_proper s.additions t.additions p.proper q.proper;
+  amends = λ id old e. ⊎_elim
+      (λ h. let a = p.amends id old h in record { added = (a.added.0, items_back s t none (addition id (plain a.added.0)) (inl a.added.1)); other = a.other })
+      (λ h. let a = q.amends id old h in record { added = (a.added.0, items_back s t none (addition id (plain a.added.0)) (inr a.added.1)); other = a.other })
+      (either_value (fin.get s.replacements id) (fin.get t.replacements id) old (sym (get-union ids_total ids_exact s.replacements t.replacements id) ∙ e));
+  limited = omega (arith, together s t none, few);
+})
 
--- an id of a record or a tombstone is known
+-- an entry that is kept is kept with its record
+amends_part : (s : Content) (p : SiteCounter → Bool) → AllAmend s → (id old : SiteCounter) → fin.get (fin.retain_keys s.replacements p) id ≡ Some old → IsAmendment (fin.retain_keys s.additions p) id old
+amends_part s p amends id old e =
+    let a = amends id old (retained_value s.replacements p id old e) in
+    record { added = (a.added.0, kept (p id) refl (sym (get-retain_keys s.replacements p id alike) ∙ e) ∙ a.added.1); other = a.other }
+  where
+    alike : (k : SiteCounter) → id_cmp id k ≡ Equal → p k ≡ p id
+    alike k t = ap p (sym (ids_exact id k t))
+
+    kept : (b : Bool) → p id ≡ b → cond (p id) (fin.get s.replacements id) None ≡ Some old → fin.get (fin.retain_keys s.additions p) id ≡ fin.get s.additions id
+    kept true is f = get-retain_keys s.additions p id alike ∙ ap (λ b. cond b (fin.get s.additions id) None) is
+    kept false is f = absurd (false≢true (ap is_some (sym (ap (λ b. cond b (fin.get s.replacements id) None) is) ∙ f)))
+
+pub part_sound : (s part : Content) (records tombstones : List SiteCounter) → IsSound s → part ≡ part_of s records tombstones → IsSound part
+part_sound s part records tombstones sound is =
+    let few = part_limited s records tombstones in
+    let most = sound.limited in
+    subst IsSound (sym is) (record {
+      proper = retain_proper s.additions (λ id. is_member same_ids records id) sound.proper;
+      amends = amends_part s (λ id. is_member same_ids records id) sound.amends;
+      limited = le_trans few most;
+    })
+
+-- an id of a record or a replaced one is known
 pub known_by_record : (s : Content) (id : SiteCounter) → fin.contains_key s.additions id ≡ true → is_known s id ≡ true
 known_by_record s id e = or_left _ _ e
 
+pub known_by_replaced : (s : Content) (id : SiteCounter) → is_replaced s id ≡ true → is_known s id ≡ true
+known_by_replaced s id e = or_right _ _ e
+
 pub known_by_tombstone : (s : Content) (id : SiteCounter) → fin.contains_key s.tombstones id ≡ true → is_known s id ≡ true
-known_by_tombstone s id e = or_right _ _ e
+known_by_tombstone s id e = known_by_replaced s id (replaced_by_withdrawal s id (gone (fin.get s.tombstones id) e))
 
 pub no_room_needed : (s : Content) (id : SiteCounter) → is_known s id ≡ true → is_known s id ≡ false → known_count s < most_known
 no_room_needed s id known unknown = absurd (false≢true (sym unknown ∙ known))
@@ -54,9 +103,9 @@ no_room_needed s id known unknown = absurd (false≢true (sym unknown ∙ known)
 pub room_left : (s : Content) (full : Bool) → (IsTrue full ↔ (known_count s ≡ most_known)) → known_count s ≤ most_known → full ≡ false → known_count s < most_known
 room_left s full is most spare = ⊎_elim (λ few. few) (λ many. absurd (false≢true (sym spare ∙ is.1 (omega arith)))) (cases_lt (known_count s) most_known)
 
--- the dispute of two contents that are seen as their parts
-pub seen_dispute : (s t : Content) (x u : RecordMap) (y v : IdSet) → record { additions = x; tombstones = y } ≡ s → record { additions = u; tombstones = v } ≡ t → (o : Option SiteCounter) → o ≡ dispute_records x u → o ≡ dispute_contents s t
-seen_dispute s t x u y v p q o is = is ∙ (λ i. dispute_contents (p i) (q i))
+-- too few entries for the most ids
+pub not_full : (s : Content) (es : List (SiteCounter × Record)) (ts : List (SiteCounter × Unit {0})) → es ≡ fin.entries s.additions → ts ≡ fin.entries (replaced_set s) → length es + length ts < most_known → known_count s < most_known
+not_full s es ts p q few = omega (arith, known_within s, ap length p, ap length q)
 
 -- where a test says that two contents don't know too much together
 pub not_too_much : (s t : Content) (b : Bool) → (IsTrue b ↔ (most_known < known_in_either s t)) → b ≡ false → known_in_either s t ≤ most_known
@@ -68,7 +117,7 @@ not_too_much s t b tells f = elim (cases_lt most_known (known_in_either s t)) [
 -- a join that knows too much is refused
 pub too_many : (s t : Content) → dispute_contents s t ≡ None → most_known < known_in_either s t → taken s t ≡ None
 too_many s t none many =
-    let wide : most_known < known_count (joined_contents s t) = omega (arith, together s t, many) in
+    let wide : most_known < known_count (joined_contents s t) = omega (arith, together s t none, many) in
     ap (option_and_then (passing is_within)) (contents_undisputed s t none)
     ∙ ap (λ b. cond b (Some (joined_contents s t)) None) (lt-leb-false (known_count (joined_contents s t)) most_known wide)
   where
@@ -78,15 +127,6 @@ too_many s t none many =
 -- and one within the limit is what a take leaves
 pub taken_is : (s t all : Content) → dispute_contents s t ≡ None → known_in_either s t ≤ most_known → all ≡ joined_contents s t → taken s t ≡ Some all
 taken_is s t all none few is =
-    let within : known_count (joined_contents s t) ≤ most_known = omega (arith, together s t, few) in
+    let within : known_count (joined_contents s t) ≤ most_known = omega (arith, together s t none, few) in
     ap (option_and_then (passing is_within)) (contents_undisputed s t none)
     ∙ ap (λ b. cond b (Some (joined_contents s t)) None) (le-leb (known_count (joined_contents s t)) most_known within) ∙ ap Some (sym is)
-
-pub joined_sound : (s t all : Content) → IsSound s → IsSound t → known_in_either s t ≤ most_known → all ≡ joined_contents s t → IsSound all
-joined_sound s t all p q few is = subst IsSound (sym is) (record { proper = union_proper s.additions t.additions p.proper q.proper; limited = omega (arith, together s t, few) })
-
-pub part_sound : (s part : Content) (records tombstones : List SiteCounter) → IsSound s → part ≡ part_of s records tombstones → IsSound part
-part_sound s part records tombstones sound is =
-    let few = part_limited s (λ id. is_member same_ids records id) (λ id. is_member same_ids tombstones id) in
-    let most = sound.limited in
-    subst IsSound (sym is) (record { proper = retain_proper s.additions (λ id. is_member same_ids records id) sound.proper; limited = le_trans few most })

@@ -5,7 +5,7 @@ use Rattle.std.specs.Cmp.{tied_back}
 use Rattle.std.specs.Prelude.{◌↔◌}
 use Rattle.std.proofs.lemmas.List.{get_or_default}
 use Rattle.std.proofs.lemmas.Bool.{false≢true, cases_lt, or_right}
-use Rattle.std.specs.Option.{option_or, is_some}
+use Rattle.std.specs.Option.{option_or}
 use Rattle.std.specs.List.{insert}
 use Rattle.std.specs.Set.{is_member}
 use Rattle.std.specs.FinMap as fin
@@ -15,7 +15,8 @@ use Rattle.std.proofs.lemmas.List.Sorted.{searchable_from_sorted, list_any-IsPer
 use Rattle.std.proofs.lemmas.List.Elements.{filter_agree}
 use Rattle.stn_records.specs.Id.{SiteCounter, id_cmp}
 use Rattle.stn_records.specs.Sorted.{IsPlaceOf, IsGapFor, merge}
-use Rattle.stn_records.specs.Maps.{union}
+use Rattle.stn_records.specs.Maps.{union, AgreesAt}
+use Rattle.stn_records.proofs.OneItem.{again}
 use Rattle.stn_records.specs.MapLaws.{get-union}
 use Rattle.stn_records.specs.Content.{same_ids}
 use Rattle.stn_records.specs.ContentLaws.{ids_total, ids_exact}
@@ -112,12 +113,12 @@ module _ {X : Type 0} where
   pub inserted_is : (es seen now : List (SiteCounter × X)) (m : FinMap id_cmp X) (id : SiteCounter) (at : ℕ) (x : X) → is_sorted id_cmp es ≡ true → fin.from_sorted es ≡ m → seen ≡ es → IsGapFor seen id at → now ≡ insert es at (id, x) → fin.from_sorted now ≡ fin.insert m id x
   inserted_is es seen now m id at x sorted is same gap new = ap fin.from_sorted (new ∙ put_in_gap es seen id at x same gap) ∙ put_inserts es m id x sorted is
 
-  -- an id that the map has not stands at no place
-  pub no_place : (es seen : List (SiteCounter × X)) (m : FinMap id_cmp X) (id : SiteCounter) (at : ℕ) (x : X) → is_sorted id_cmp es ≡ true → fin.from_sorted es ≡ m → seen ≡ es → IsPlaceOf seen id at → fin.get m id ≡ None → ⊥
-  no_place es seen m id at x sorted is same place none =
+  -- an entry that is there already changes nothing
+  pub there_already : (es seen : List (SiteCounter × X)) (m : FinMap id_cmp X) (id : SiteCounter) (at : ℕ) (x : X) → is_sorted id_cmp es ≡ true → fin.from_sorted es ≡ m → seen ≡ es → IsPlaceOf seen id at → AgreesAt m id x → m ≡ fin.insert m id x
+  there_already es seen m id at x sorted is same place agrees =
       let entry = get_or seen at (id, x) in
-      let there = place.found entry (get_or_default seen at entry (id, x) place.in_range) in
-      false≢true (ap is_some (sym none ∙ get_of_sorted es m id sorted is ∙ ap (fin.find id_cmp id) (sym same) ∙ there))
+      let there = get_of_sorted es m id sorted is ∙ ap (fin.find id_cmp id) (sym same) ∙ place.found entry (get_or_default seen at entry (id, x) place.in_range) in
+      again m id x (there ∙ ap Some (agrees entry.1 there))
 
   -- the merge of two lists in order, as it is read
   pub united_sorted : (seen seen' xs ys all : List (SiteCounter × X)) → seen ≡ xs → seen' ≡ ys → is_sorted id_cmp xs ≡ true → is_sorted id_cmp ys ≡ true → all ≡ merge id_cmp seen seen' → is_sorted id_cmp all ≡ true

@@ -1,26 +1,27 @@
 -- For proofs alone: no public clause cites these words. They stand here since the laws of the trait `Join` name them.
 -- The joins of maps of records, of sets of ids and of contents are the unions of their items.
-use Rattle.std.specs.Prelude.{◌≡◌, ℕ, Bool, true, false, not, ◌↔◌, ◌⊎◌, Option, Some, None, option_and_then, is_some, refl}
+use Rattle.std.specs.Prelude.{◌≡◌, ℕ, Bool, true, false, cond, not, ◌↔◌, ◌⊎◌, Option, Some, None, option_and_then, is_some, refl}
 use Rattle.std.specs.Bool.{Decides}
-use Rattle.std.specs.Cmp.{IsTotalOrder, nat_cmp_total}
-use Rattle.std.specs.Ordering.{nat_cmp}
+use Rattle.std.specs.Cmp.{IsTotalOrder, nat_cmp_total, Equal-is, tied_itself}
+use Rattle.std.specs.Ordering.{nat_cmp, is_eq, is_lt}
 use Rattle.std.specs.FinMap.{IsAntisymmetric}
 use Rattle.std.specs.FinMap as map
-use Rattle.std.proofs.Common.{ap, subst, ◌∙◌}
+use Rattle.std.proofs.Common.{sym, ap, subst, ◌∙◌}
+use Rattle.std.proofs.lemmas.Bool.{false≢true}
 use Rattle.std.proofs.lemmas.Bool.Decides.{Decides-eqb, Decides-int_eq, Decides-and, Decides-like}
 use Rattle.std.proofs.lemmas.Cmp.{on_total, then_total}
 use Rattle.std.proofs.lemmas.Map.Lookups.{exact_pairs, exact_unsigned}
 use Rattle.stn_net.specs.Difference.{Difference}
-use Rattle.stn_records.specs.Id.{SiteCounter, id_cmp}
+use Rattle.stn_records.specs.Id.{SiteCounter, id_cmp, same_ids, lesser_of}
 use Rattle.stn_records.specs.Record.{same_marks, same_bounds, same_records}
 use Rattle.stn_records.specs.declared.record.Mark.{Mark}
 use Rattle.stn_records.specs.declared.record.Mark.TheVariants.{Plain, Done}
 use Rattle.stn_records.specs.declared.record.Record.{Record}
 use Rattle.stn_records.specs.Join.{IsJoin}
-use Rattle.stn_records.specs.JoinLaws.{first_step, both_steps, commutes, regroups, repeats}
+use Rattle.stn_records.specs.JoinLaws.{commutes, regroups, repeats}
 use Rattle.stn_records.specs.Maps as maps
-use Rattle.stn_records.specs.MapLaws.{map_join, join_undisputed, undisputed, disputes}
-use Rattle.stn_records.specs.Content.{RecordMap, IdSet, Content, Item, addition, withdrawal, HasItem, dispute_records, join_records, dispute_ids, join_ids, dispute_contents, join_contents, joined_contents}
+use Rattle.stn_records.specs.MapLaws.{map_join, join_undisputed, undisputed, disputes, chosen}
+use Rattle.stn_records.specs.Content.{RecordMap, IdSet, ReplacementMap, Content, Item, addition, withdrawal, replacement, HasItem, dispute_records, join_records, dispute_ids, join_ids, dispute_replacements, join_replacements, dispute_contents, join_contents, joined_contents}
 
 -- ids that compare alike are one
 pub ids_exact : IsAntisymmetric id_cmp
@@ -74,12 +75,42 @@ ids_joined a b = join_undisputed ids_total ids_exact same_units units_decide a b
 pub ids_join : IsJoin {C = IdSet} {I = SiteCounter × Unit {0}} (maps.HasEntry {R = id_cmp}) join_ids
 ids_join = subst (IsJoin {C = IdSet} {I = SiteCounter × Unit {0}} (maps.HasEntry {R = id_cmp})) (λ i a b. ids_joined a b i) (map_join ids_total ids_exact same_units units_decide)
 
--- a join of contents is one of the records and one of the ids
-parts : (a b c : Content) → join_contents a b ≡ Some c → (join_records a.additions b.additions ≡ Some c.additions) × (join_ids a.tombstones b.tombstones ≡ Some c.tombstones)
+-- the test of two ids tells whether they are equal
+pub ids_decide : (a b : SiteCounter) → Decides (same_ids a b) (a ≡ b)
+ids_decide a b = (λ e. ids_exact a b ((Equal-is (id_cmp a b)).0 e), λ e. subst (λ c. same_ids a c ≡ true) e (ap is_eq (tied_itself ids_total a)))
+
+-- the join of two maps of entries is the union of their entries
+pub replacements_join : IsJoin {C = ReplacementMap} {I = SiteCounter × SiteCounter} (maps.HasEntry {R = id_cmp}) join_replacements
+replacements_join = map_join ids_total ids_exact same_ids ids_decide
+
+-- where the lesser of two is none, neither is there
+pub lesser_none : (f g : Option SiteCounter) → lesser_of f g ≡ None → (f ≡ None) × (g ≡ None)
+lesser_none None None e = (refl, refl)
+lesser_none None (Some y) e = absurd (false≢true (ap is_some (sym e)))
+lesser_none (Some x) None e = absurd (false≢true (ap is_some (sym e)))
+lesser_none (Some x) (Some y) e = absurd (false≢true (elim (is_lt (id_cmp y x)) as (λ b. cond b (Some y) (Some x) ≡ None → false ≡ true) [ true ↦ λ n. ap is_some (sym n) | false ↦ λ n. ap is_some (sym n) ] e))
+
+-- where no id is in dispute, the join is the union of the three parts
+pub contents_undisputed : (a b : Content) → dispute_contents a b ≡ None → join_contents a b ≡ Some (joined_contents a b)
+contents_undisputed a b none = ap (λ v. cond (is_some v) None (Some (joined_contents a b))) none
+
+-- a join of contents is one of each part
+pub parts : (a b c : Content) → join_contents a b ≡ Some c → (join_records a.additions b.additions ≡ Some c.additions) × (join_ids a.tombstones b.tombstones ≡ Some c.tombstones) × (join_replacements a.replacements b.replacements ≡ Some c.replacements)
 parts a b c e =
-    let first = first_step (λ additions. Some (record { additions = additions; tombstones = maps.union a.tombstones b.tombstones })) (join_records a.additions b.additions) c e in
-    let is : record { additions = first.0; tombstones = maps.union a.tombstones b.tombstones } ≡ c = cc in
-    (first.1 ∙ ap (λ (s : Content). Some s.additions) is, ap (λ (s : Content). Some s.tombstones) is)
+    let is = chosen (dispute_contents a b) (joined_contents a b) c e in
+    let none = lesser_none (dispute_records a.additions b.additions) (dispute_replacements a.replacements b.replacements) is.0 in (
+      join_undisputed ids_total ids_exact same_records records_decide a.additions b.additions none.0 ∙ ap (λ (s : Content). Some s.additions) is.1,
+      ap (λ (s : Content). Some s.tombstones) is.1,
+      join_undisputed ids_total ids_exact same_ids ids_decide a.replacements b.replacements none.1 ∙ ap (λ (s : Content). Some s.replacements) is.1,
+    )
+
+-- a part that has a join is not in dispute
+undisputed_part : {C : Type 0} (v : Option SiteCounter) (join : Option C) (c : C) → is_some join ≡ not (is_some v) → join ≡ Some c → v ≡ None
+undisputed_part None join c is e = refl
+undisputed_part (Some x) join c is e = absurd (false≢true (sym is ∙ ap is_some e))
+
+none_of_either : (f g : Option SiteCounter) → f ≡ None → g ≡ None → lesser_of f g ≡ None
+none_of_either f g p q = (λ i. lesser_of (p i) (q i))
 
 -- the join of two contents is the union of their items
 pub contents_join : IsJoin HasItem join_contents
@@ -87,20 +118,22 @@ contents_join = record {
   same = λ c d h. λ i. record {
     additions = records_join.same c.additions d.additions (λ e. h (addition e.0 e.1)) i;
     tombstones = ids_join.same c.tombstones d.tombstones (λ e. h (withdrawal e.0)) i;
+    replacements = replacements_join.same c.replacements d.replacements (λ e. h (replacement e.0 e.1)) i;
   };
-  union = λ a b c e item.
-      let both = parts a b c e in
-      item_union a b c both item;
+  union = λ a b c e item. item_union a b c (parts a b c e) item;
   defined = λ a b c f g.
-      let additions = records_join.defined a.additions b.additions c.additions (λ e. f (addition e.0 e.1)) (λ e. g (addition e.0 e.1)) in (
-        record { additions = additions.0; tombstones = maps.union a.tombstones b.tombstones },
-        both_steps (λ x. Some (record { additions = x; tombstones = maps.union a.tombstones b.tombstones })) (join_records a.additions b.additions) additions.0 additions.1,
-      );
+      let additions = records_join.defined a.additions b.additions c.additions (λ e. f (addition e.0 e.1)) (λ e. g (addition e.0 e.1)) in
+      let replacements = replacements_join.defined a.replacements b.replacements c.replacements (λ e. f (replacement e.0 e.1)) (λ e. g (replacement e.0 e.1)) in
+      let none = none_of_either (dispute_records a.additions b.additions) (dispute_replacements a.replacements b.replacements)
+      (undisputed_part (dispute_records a.additions b.additions) (join_records a.additions b.additions) additions.0 (disputes ids_total ids_exact same_records records_decide a.additions b.additions) additions.1)
+      (undisputed_part (dispute_replacements a.replacements b.replacements) (join_replacements a.replacements b.replacements) replacements.0 (disputes ids_total ids_exact same_ids ids_decide a.replacements b.replacements) replacements.1) in
+      (joined_contents a b, contents_undisputed a b none);
 }
   where
-    item_union : (a b c : Content) → (join_records a.additions b.additions ≡ Some c.additions) × (join_ids a.tombstones b.tombstones ≡ Some c.tombstones) → (item : Item) → HasItem c item ↔ (HasItem a item ⊎ HasItem b item)
-    item_union a b c both (addition id r) = records_join.union a.additions b.additions c.additions both.0 (id, r)
-    item_union a b c both (withdrawal id) = ids_join.union a.tombstones b.tombstones c.tombstones both.1 (id, tt)
+    item_union : (a b c : Content) → (join_records a.additions b.additions ≡ Some c.additions) × (join_ids a.tombstones b.tombstones ≡ Some c.tombstones) × (join_replacements a.replacements b.replacements ≡ Some c.replacements) → (item : Item) → HasItem c item ↔ (HasItem a item ⊎ HasItem b item)
+    item_union a b c all (addition id r) = records_join.union a.additions b.additions c.additions all.0 (id, r)
+    item_union a b c all (withdrawal id) = ids_join.union a.tombstones b.tombstones c.tombstones all.1 (id, tt)
+    item_union a b c all (replacement id old) = replacements_join.union a.replacements b.replacements c.replacements all.2 (id, old)
 
 pub records_commute : (a b : RecordMap) → join_records a b ≡ join_records b a
 records_commute = commutes records_join
@@ -126,6 +159,18 @@ ids_repeat = repeats ids_join
 pub ids_dispute : (a b : IdSet) → is_some (join_ids a b) ≡ not (is_some (dispute_ids a b))
 ids_dispute a b = refl
 
+pub replacements_commute : (a b : ReplacementMap) → join_replacements a b ≡ join_replacements b a
+replacements_commute = commutes replacements_join
+
+pub replacements_regroup : (a b c : ReplacementMap) → option_and_then (λ ab. join_replacements ab c) (join_replacements a b) ≡ option_and_then (λ bc. join_replacements a bc) (join_replacements b c)
+replacements_regroup = regroups replacements_join
+
+pub replacements_repeat : (a : ReplacementMap) → join_replacements a a ≡ Some a
+replacements_repeat = repeats replacements_join
+
+pub replacements_dispute : (a b : ReplacementMap) → is_some (join_replacements a b) ≡ not (is_some (dispute_replacements a b))
+replacements_dispute = disputes ids_total ids_exact same_ids ids_decide
+
 pub contents_commute : (a b : Content) → join_contents a b ≡ join_contents b a
 contents_commute = commutes contents_join
 
@@ -135,13 +180,5 @@ contents_regroup = regroups contents_join
 pub contents_repeat : (a : Content) → join_contents a a ≡ Some a
 contents_repeat = repeats contents_join
 
-chain_there : (o : Option RecordMap) (t : IdSet) → is_some {T = Content} (option_and_then (λ additions. Some (record { additions = additions; tombstones = t })) o) ≡ is_some o
-chain_there None t = refl
-chain_there (Some x) t = refl
-
 pub contents_dispute : (a b : Content) → is_some (join_contents a b) ≡ not (is_some (dispute_contents a b))
-contents_dispute a b = chain_there (join_records a.additions b.additions) (maps.union a.tombstones b.tombstones) ∙ records_dispute a.additions b.additions
-
--- where no id is in dispute, the join is the union of both parts
-pub contents_undisputed : (a b : Content) → dispute_contents a b ≡ None → join_contents a b ≡ Some (joined_contents a b)
-contents_undisputed a b none = ap (option_and_then (λ additions. Some (record { additions = additions; tombstones = maps.union a.tombstones b.tombstones }))) (join_undisputed ids_total ids_exact same_records records_decide a.additions b.additions none)
+contents_dispute a b = elim (is_some (dispute_contents a b)) as (λ t. is_some (cond t None (Some (joined_contents a b))) ≡ not t) [ true ↦ refl | false ↦ refl ]

@@ -1,6 +1,6 @@
-use Rattle.std.specs.Prelude.{◌≡◌, ◌≢◌, ℕ, ◌≤◌, List, ◌∷◌, ◌++◌, All, codes, decimal, refl}
+use Rattle.std.specs.Prelude.{◌≡◌, ◌≢◌, ℕ, ◌≤◌, Bool, List, ◌∷◌, ◌++◌, All, Option, Some, None, codes, decimal, if◌then◌else◌, refl}
 use Rattle.std.specs.Coded.{Coded, code_by, coded×, coded_ℕ}
-use Rattle.std.specs.Ordering.{nat_cmp, ordering_then}
+use Rattle.std.specs.Ordering.{nat_cmp, ordering_then, eq_by_cmp, is_lt}
 use Rattle.std.specs.declared.cmp.Ordering.{Ordering}
 
 -- sites are numbered from 1 to this
@@ -30,6 +30,16 @@ pub record IsId (id : SiteCounter) : Type 0 where
 -- by site, and then by counter
 abbrev pub id_cmp : SiteCounter → SiteCounter → Ordering
 id_cmp a b = ordering_then (nat_cmp a.site b.site) (nat_cmp a.counter b.counter)
+
+-- two ids are the same
+abbrev pub same_ids : SiteCounter → SiteCounter → Bool
+same_ids = eq_by_cmp id_cmp
+
+-- the lesser of two ids, or the one that is there
+abbrev pub lesser_of : Option SiteCounter → Option SiteCounter → Option SiteCounter
+lesser_of None b = b
+lesser_of (Some x) None = Some x
+lesser_of (Some x) (Some y) = if is_lt (id_cmp y x) then Some y else Some x
 
 -- the printed form: both numbers without leading zeros, with a dot between
 abbrev pub id_text : SiteCounter → List ℕ

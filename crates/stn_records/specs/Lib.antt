@@ -5,5 +5,6 @@ pub mod JoinLaws
 pub mod Maps
 pub mod MapLaws
 pub mod Content
+pub mod Refusals
 pub mod Sorted
 pub mod ContentLaws

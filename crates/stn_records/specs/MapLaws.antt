@@ -31,6 +31,11 @@ pub none_found : {K : Type 0} (p : K → Bool) (ks : List K) → ((k : K) → p 
 none_found p [] f = refl
 none_found p (k ∷ ks) f = ap (λ b. cond b (Some k) (find p ks)) (f k) ∙ none_found p ks f
 
+-- a choice that gives a value had no dispute
+pub chosen : {K C : Type 0} (v : Option K) (u c : C) → cond (is_some v) None (Some u) ≡ Some c → (v ≡ None) × (u ≡ c)
+chosen None u c e = (refl, same_value u c e)
+chosen (Some k) u c e = absurd (false≢true (ap is_some e))
+
 module _ {X : Type 0} (same : X → X → Bool) (decides : (x y : X) → Decides (same x y) (x ≡ y)) where
   agreed_value : (o p : Option X) (x : X) → differ same o p ≡ false → (o ≡ Some x) ⊎ (p ≡ Some x) → option_or o p ≡ Some x
   agreed_value None p x e h = ⊎_elim (λ l. absurd (false≢true (ap is_some l))) (λ r. r) h
@@ -88,10 +93,6 @@ module _ {K X : Type 0} {R : K → K → Ordering} (o : IsTotalOrder R) (exact :
 
     pub undisputed : (a b : FinMap R X) → Agree a b → dispute same a b ≡ None
     undisputed a b f = none_found (λ k. differ same (get a k) (get b k)) (fin.keys a) f
-
-    chosen : {C : Type 0} (v : Option K) (u c : C) → cond (is_some v) None (Some u) ≡ Some c → (v ≡ None) × (u ≡ c)
-    chosen None u c e = (refl, same_value u c e)
-    chosen (Some k) u c e = absurd (false≢true (ap is_some e))
 
     -- where no key is in dispute, the join is the union
     pub join_undisputed : (a b : FinMap R X) → dispute same a b ≡ None → join same a b ≡ Some (union a b)

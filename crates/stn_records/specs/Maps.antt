@@ -30,3 +30,7 @@ module _ {K X : Type 0} {R : K → K → Ordering} where
   -- the map has the entry
   abbrev pub HasEntry : FinMap R X → K × X → Type 0
   HasEntry m entry = map.get m entry.0 ≡ Some entry.1
+
+  -- what the map has at the key, if anything, is the value
+  abbrev pub AgreesAt : FinMap R X → K → X → Type 0
+  AgreesAt m k x = (there : X) → map.get m k ≡ Some there → there ≡ x

@@ -1,4 +1,4 @@
-use Rattle.std.specs.Prelude.{◌≡◌, ℕ, ℤ, Bool, true, false, ◌&&◌, ◌==◌, Option, Some, None, refl}
+use Rattle.std.specs.Prelude.{◌≡◌, ℕ, ℤ, Bool, true, false, ◌&&◌, ◌==◌, refl}
 use Rattle.std.specs.Ordering.{int_eq}
 use Rattle.std.specs.Coded.{Coded, code_by, coded×, coded_ℕ, coded_ℤ, coded_bool}
 use Rattle.stn_net.specs.Difference.{Difference}
@@ -22,11 +22,6 @@ same_bounds a b = (a.from == b.from) && (a.to == b.to) && int_eq a.lo b.lo && in
 
 abbrev pub same_records : Record → Record → Bool
 same_records r s = same_marks r.mark s.mark && same_bounds r.bound s.bound
-
--- the record is there
-abbrev pub is_there : Option Record → Record → Bool
-is_there None one = false
-is_there (Some there) one = same_records there one
 
 -- a mark as whether it is Done, and a record as a pair of its mark and its bound
 abbrev pub is_done : Mark → Bool

@@ -1,22 +1,24 @@
 -- For proofs alone: no public clause cites these words.
 -- Lists of entries in the order of their ids.
-use Rattle.std.specs.Prelude.{◌≡◌, ℕ, ◌<◌, ◌≤◌, Bool, List, [], ◌∷◌, length, insert, slice_index_or, Option, Some, None, is_some, if◌then◌else◌}
+use Rattle.std.specs.Prelude.{◌≡◌, ℕ, ◌<◌, ◌≤◌, Bool, false, List, [], ◌∷◌, length, insert, slice_index_or, Option, Some, None, is_some, if◌then◌else◌}
 use Rattle.std.specs.List.{list_all}
 use Rattle.std.specs.declared.cmp.Ordering.{Ordering}
-use Rattle.std.specs.Ordering.{eq_by_cmp, is_lt}
+use Rattle.std.specs.Ordering.{eq_by_cmp}
 use Rattle.std.specs.FinMap.{find, put}
 use Rattle.std.specs.FinMap.Entries.{by_order}
 use Rattle.stn_records.specs.Id.{SiteCounter, id_cmp}
-use Rattle.stn_records.specs.Record.{is_there}
-use Rattle.stn_records.specs.declared.record.Record.{Record}
 
 -- each id of theirs is one of ours
 abbrev pub has_keys : {X : Type 0} → List (SiteCounter × X) → List (SiteCounter × X) → Bool
 has_keys ours theirs = list_all (λ entry. is_some (find id_cmp entry.0 ours)) theirs
 
 -- each entry of theirs is one of ours
-abbrev pub has_entries : List (SiteCounter × Record) → List (SiteCounter × Record) → Bool
-has_entries ours theirs = list_all (λ entry. is_there (find id_cmp entry.0 ours) entry.1) theirs
+abbrev pub is_there : {X : Type 0} → (X → X → Bool) → Option X → X → Bool
+is_there same None one = false
+is_there same (Some there) one = same there one
+
+abbrev pub has_entries : {X : Type 0} → (X → X → Bool) → List (SiteCounter × X) → List (SiteCounter × X) → Bool
+has_entries same ours theirs = list_all (λ entry. is_there same (find id_cmp entry.0 ours) entry.1) theirs
 
 -- the entry at the place has the id
 pub record IsPlaceOf {X : Type 0} (entries : List (SiteCounter × X)) (id : SiteCounter) (place : ℕ) : Type 0 where
@@ -45,12 +47,6 @@ module _ {K X : Type 0} (R : K → K → Ordering) where
   abbrev pub merge : List (K × X) → List (K × X) → List (K × X)
   merge [] ys = ys
   merge (x ∷ xs) ys = merge_from x (merge xs) ys
-
--- the lesser of two ids, or the one that is there
-abbrev pub lesser_of : Option SiteCounter → Option SiteCounter → Option SiteCounter
-lesser_of None b = b
-lesser_of (Some x) None = Some x
-lesser_of (Some x) (Some y) = if is_lt (id_cmp y x) then Some y else Some x
 
 -- the entries behind the first, where that has the id
 abbrev pub past_id : {X : Type 0} → SiteCounter → List (SiteCounter × X) → List (SiteCounter × X)

@@ -1,6 +1,6 @@
 ghost use Rattle.std.specs.Prelude.{◌≡◌, ◌↔◌, Some, None, IfSome, IfOk, OnOk, OnErr, IsTrue, All};
 ghost use Rattle.std.specs.FinMap as map;
-ghost use Rattle.stn_records.specs.Maps.{union as union_of};
+ghost use Rattle.stn_records.specs.Maps.{union as union_of, AgreesAt};
 ghost use Rattle.stn_records.specs.Id.{id_cmp};
 ghost use Rattle.stn_records.specs.Record.{IsProper};
 ghost use Rattle.stn_records.specs.Content.{RecordMap, dispute_records, join_records, same_ids, AllHeld, AllProper};
@@ -75,6 +75,16 @@ impl<A: Allocator + Copy> Additions<A> {
     pub fn insert(&mut self, id: Id, entry: Record) -> Result<(), Memory>
         requires proper { IsProper entry.mark entry.bound }
         requires new { map.get self.old id ≡ None }
+        ensures inserted { OnOk result (self.new ≡ map.insert self.old id entry) }
+        ensures kept { OnErr result (self.new ≡ self.old) }
+    {
+        self.records.insert(id, entry)
+    }
+
+    // Adds a record, unless it is there; for want of memory nothing is changed.
+    pub(crate) fn put(&mut self, id: Id, entry: Record) -> Result<(), Memory>
+        requires proper { IsProper entry.mark entry.bound }
+        requires agrees { AgreesAt self.old id entry }
         ensures inserted { OnOk result (self.new ≡ map.insert self.old id entry) }
         ensures kept { OnErr result (self.new ≡ self.old) }
     {

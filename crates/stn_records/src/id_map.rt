@@ -3,7 +3,7 @@ ghost use Rattle.std.specs.Set.{is_member};
 ghost use Rattle.std.specs.FinMap.{is_sorted};
 ghost use Rattle.std.specs.FinMap as map;
 ghost use Rattle.stn_records.specs.Id.{id_cmp};
-ghost use Rattle.stn_records.specs.Maps.{union as union_of};
+ghost use Rattle.stn_records.specs.Maps.{union as union_of, AgreesAt};
 ghost use Rattle.stn_records.specs.Content.{same_ids, AllHeld};
 
 use crate::id::Id;
@@ -84,8 +84,9 @@ impl<X: Copy, A: Allocator + Copy> IdMap<X, A> {
         true
     }
 
+    // Puts in an entry, unless it is there.
     pub(crate) fn insert(&mut self, id: Id, value: X) -> Result<(), Memory>
-        requires { map.get self.old id ≡ None }
+        requires { AgreesAt self.old id value }
         ensures inserted { OnOk result (self.new ≡ map.insert self.old id value) }
         ensures kept { OnErr result (self.new ≡ self.old) }
     {
@@ -93,6 +94,16 @@ impl<X: Copy, A: Allocator + Copy> IdMap<X, A> {
             self.entries.insert(place, (id, value))?;
         }
         Ok(())
+    }
+
+    // The same entries, and this one.
+    pub(crate) fn with(&self, id: Id, value: X) -> Result<Self, Memory>
+        requires { AgreesAt self.now id value }
+        ensures { IfOk result (λ all. all ≡ map.insert self.now id value) }
+    {
+        let mut all = self.copy()?;
+        all.insert(id, value)?;
+        Ok(all)
     }
 
     pub(crate) fn union(&self, other: &Self) -> Result<Self, Memory>

@@ -8,7 +8,8 @@ use thiserror::Error;
 /// Why there is no join.
 #[derive(Clone, Copy, Debug, PartialEq, Eq, Hash, Error)]
 pub enum JoinFault {
-    /// The two have different records of this id, and agree on each id before it.
+    /// This id has two different records, or replaces two different ids, and on each id before it the
+    /// two agree.
     #[error("an id has two different records")]
     Clash(Id),
     /// Memory ran out.

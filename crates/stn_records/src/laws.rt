@@ -1,7 +1,10 @@
-ghost use Rattle.std.specs.Prelude.{◌≡◌, List, ◌∷◌, true, All, option_and_then};
+ghost use Rattle.std.specs.Prelude.{◌≡◌, List, ◌∷◌, None, true, All, option_and_then};
+ghost use Rattle.std.specs.FinMap as map;
+ghost use Rattle.stn_net.specs.Difference.{Difference};
 ghost use Rattle.std.specs.List.Sorted.{IsPermutation};
 ghost use Rattle.stn_records.specs.Join.{Takes, contents_of, outcome_of, passing, join_all, SameItems};
-ghost use Rattle.stn_records.specs.Content.{Content, RecordMap, IdSet, HasItem, HasRecord, HasId, is_within, join_contents, join_records, join_ids, taken};
+ghost use Rattle.stn_records.specs.Id.{SiteCounter};
+ghost use Rattle.stn_records.specs.Content.{Content, RecordMap, IdSet, ReplacementMap, HasItem, HasRecord, HasId, HasReplacement, CountsSame, is_known, is_within, join_contents, join_records, join_ids, join_replacements, known_count, live_of, plain, replaced_count, taken, with_amendment, with_record, with_tombstone};
 
 /// Takes of states, in any order and grouping, leave the join of their list, where that is there and
 /// knows at most 4,096 ids; where it is not, one of the takes is refused. A list of states is given
@@ -11,7 +14,8 @@ pub fn takes_agree()
         → outcome_of taken takes ≡ option_and_then (passing is_within) (join_all join_contents first rest) }
 {}
 
-/// Two lists of states with the same items, additions and withdrawals, have one join, or none.
+/// Two lists of states with the same items, additions, withdrawals and replacements, have one join,
+/// or none.
 pub fn states_by_items_alone()
     ensures { (a b : Content) (ours theirs : List Content) → SameItems HasItem (a ∷ ours) (b ∷ theirs) → join_all join_contents a ours ≡ join_all join_contents b theirs }
 {}
@@ -24,4 +28,20 @@ pub fn additions_by_items_alone()
 /// Two lists of sets of withdrawn ids with the same ids have one join, or none.
 pub fn tombstones_by_items_alone()
     ensures { (a b : IdSet) (ours theirs : List IdSet) → SameItems HasId (a ∷ ours) (b ∷ theirs) → join_all join_ids a ours ≡ join_all join_ids b theirs }
+{}
+
+/// Two lists of amendments with the same entries have one join, or none.
+pub fn amendments_by_items_alone()
+    ensures { (a b : ReplacementMap) (ours theirs : List ReplacementMap) → SameItems HasReplacement (a ∷ ours) (b ∷ theirs) → join_all join_replacements a ours ≡ join_all join_replacements b theirs }
+{}
+
+/// Two states with the same additions and the same replaced ids have the same live records and the
+/// same known ids, and as many replaced ones: an amendment counts as its addition and the withdrawal
+/// of the id that it replaces.
+pub fn counts_same()
+    ensures live { (a b : Content) → CountsSame a b → live_of a ≡ live_of b }
+    ensures known { (a b : Content) → CountsSame a b → (id : SiteCounter) → is_known a id ≡ is_known b id }
+    ensures count { (a b : Content) → CountsSame a b → known_count a ≡ known_count b }
+    ensures replaced { (a b : Content) → CountsSame a b → replaced_count a ≡ replaced_count b }
+    ensures amended { (s : Content) (id old : SiteCounter) (bound : Difference) → map.get s.replacements id ≡ None → CountsSame (with_amendment s id old bound) (with_tombstone (with_record s id (plain bound)) old) }
 {}

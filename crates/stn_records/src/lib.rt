@@ -1,12 +1,16 @@
-//! What a site holds: additions and withdrawals of bounds, and the join of what two sites hold.
+//! What a site holds: bounds that were added, withdrawn and replaced, and the join of what two sites hold.
 #![tactic(auto)]
 
 pub use additions::Additions;
-pub use faults::{BuryFault, CounterSpent, PartFault, RecordsFault, WithdrawFault};
+pub use amendments::Amendments;
+pub use faults::{
+    AmendFault, BuryFault, CounterSpent, PartFault, RecordsFault, ReplaceFault, WithdrawFault,
+};
 pub use id::{Id, MOST_SITES, Site};
 pub use join::{Join, JoinFault};
 pub use laws::{
-    additions_by_items_alone, states_by_items_alone, takes_agree, tombstones_by_items_alone,
+    additions_by_items_alone, amendments_by_items_alone, counts_same, states_by_items_alone,
+    takes_agree, tombstones_by_items_alone,
 };
 pub use record::{Mark, Record};
 pub use records::Records;
@@ -14,6 +18,7 @@ pub use state::State;
 pub use tombstones::Tombstones;
 
 mod additions;
+mod amendments;
 mod faults;
 mod id;
 mod id_map;

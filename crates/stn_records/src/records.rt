@@ -1,15 +1,20 @@
-ghost use Rattle.std.specs.Prelude.{◌≡◌, ◌≢◌, ◌+◌, ◌<◌, ◌≤◌, ◌↔◌, IsTrue, Some, None, true, false, map, slice_get, option_map, is_some, IfOk, IfErr, IfSome, IsOk, Err, IsErr, IsErrOf, OnOk, OnErr};
+ghost use Rattle.std.specs.Prelude.{◌≡◌, ◌≢◌, cond, ◌+◌, ◌<◌, ◌≤◌, ◌↔◌, IsTrue, Some, None, true, false, map, slice_get, option_map, is_some, IfOk, IfErr, IfSome, IsOk, Err, IsErr, IsErrOf, OnOk, OnErr};
 ghost use Rattle.std.specs.FinMap as fin;
-ghost use Rattle.stn_records.specs.Id.{most_counter, SiteCounter};
+ghost use Rattle.stn_records.specs.Id.{most_counter, SiteCounter, id_cmp};
 ghost use Rattle.stn_records.specs.Record.{IsProper};
-ghost use Rattle.stn_records.specs.Content.{most_known, Content, IsSound, IsPart, AllHeld, no_content, one_record, one_tombstone, with_record, with_tombstone, is_known, is_live as is_live_in, known_count, known_in_either, live_of, listed, next_counter as next_counter_of, part_of, dispute_contents, join_contents, taken as taken_of, HasAnother};
+ghost use Rattle.stn_records.specs.Content.{most_known, Content, IsSound, IsPart, AllHeld, no_content, one_record, one_tombstone, one_amendment, with_record, with_tombstone, with_amendment, plain, is_known as is_known_in, is_live as is_live_in, known_count, known_in_either, live_of, listed, next_counter as next_counter_of, part_of, replaced_set, dispute_contents, join_contents, taken as taken_of, HasAnother};
+ghost use Rattle.stn_records.specs.Maps.{differ};
+ghost use Rattle.stn_records.specs.Refusals.{amend_refusal as amend_refusal_of, replace_refusal as replace_refusal_of, clashes as clashes_in, is_too_much};
 
 use crate::MOST_KNOWN;
 use crate::additions::Additions;
-use crate::faults::{BuryFault, CounterSpent, PartFault, RecordsFault, WithdrawFault};
+use crate::amendments::Amendments;
+use crate::faults::{
+    AmendFault, BuryFault, CounterSpent, PartFault, RecordsFault, ReplaceFault, WithdrawFault,
+};
 use crate::id::{Id, Site};
-use crate::record::{Mark, Record, is_same};
-use crate::sorted::{count_ids, greatest_counter, has_ids, has_records};
+use crate::record::{Mark, Record, Value};
+use crate::sorted::{count_ids, greatest_counter};
 use crate::state::State;
 use crate::tombstones::Tombstones;
 use std::alloc::Allocator;
@@ -17,8 +22,10 @@ use std::marker::Model;
 use stn_net::Bound;
 use stn_time::Memory;
 
-/// What a site holds, within the limit of 4,096 known ids. An id is known where its record was
-/// added or where it was withdrawn. A record is live where it was added and is not withdrawn.
+/// What a site holds, within the limit of 4,096 known ids. An id is replaced where it was withdrawn
+/// or where a record replaces it, for good: also where that record is withdrawn later. An id is
+/// known where its record was added or where it is replaced. A record is live where it was added and
+/// is not replaced.
 #[derive(Debug, Drop)]
 pub struct Records<A: Allocator> {
     state: State<A>,
@@ -37,7 +44,7 @@ impl<A: Allocator> Model for Records<A> {
 }
 
 impl<A: Allocator + Copy> Records<A> {
-    /// No record, and nothing withdrawn.
+    /// No record, and nothing withdrawn or replaced.
     pub fn new(alloc: A) -> Self
         ensures { result ≡ no_content }
     {
@@ -46,26 +53,36 @@ impl<A: Allocator + Copy> Records<A> {
         }
     }
 
-    /// The records and the withdrawn ids of two lists, each of them in order of id. None exactly where
-    /// no site holds these lists: where ids don't rise, a Done record is not one of a time at which
-    /// an event was run, or more than 4,096 ids are known. It takes linear time, and no memory.
+    /// The records, the withdrawn ids and the entries of three lists, each of them in order of id: an
+    /// entry has the new id, and then the id that it replaces. None exactly where no site holds these
+    /// lists: where ids don't rise, a Done record is not one of a time at which an event was run, the
+    /// new id of an entry is not that of a Plain record of the first list or is the id that it
+    /// replaces, or more than 4,096 ids are known.
     pub fn from_lists(
         additions: Vec<(Id, Record), A>,
         tombstones: Vec<(Id, ()), A>,
-    ) -> Option<Records<A>>
-        ensures additions { IfSome result (λ made. fin.entries made.additions ≡ additions.items) }
-        ensures tombstones { IfSome result (λ made. fin.entries made.tombstones ≡ tombstones.items) }
-        ensures sound { IfSome result IsSound }
-        ensures all { (s : Content) → IsSound s → fin.entries s.additions ≡ additions.items → fin.entries s.tombstones ≡ tombstones.items → result ≡ Some s }
+        replacements: Vec<(Id, Id), A>,
+    ) -> Result<Option<Records<A>>, Memory>
+        ensures additions { IfOk result (λ made. IfSome made (λ records. fin.entries records.additions ≡ additions.items)) }
+        ensures tombstones { IfOk result (λ made. IfSome made (λ records. fin.entries records.tombstones ≡ tombstones.items)) }
+        ensures replacements { IfOk result (λ made. IfSome made (λ records. fin.entries records.replacements ≡ replacements.items)) }
+        ensures sound { IfOk result (λ made. IfSome made IsSound) }
+        ensures all { (s : Content) → IsSound s → fin.entries s.additions ≡ additions.items → fin.entries s.tombstones ≡ tombstones.items → fin.entries s.replacements ≡ replacements.items → IfOk result (λ made. made ≡ Some s) }
     {
-        let state = State::of(
-            Additions::from_entries(additions)?,
-            Tombstones::from_entries(tombstones)?,
-        );
-        if state.known() > MOST_KNOWN {
-            return None;
+        let Some(additions) = Additions::from_entries(additions) else {
+            return Ok(None);
+        };
+        let Some(tombstones) = Tombstones::from_entries(tombstones) else {
+            return Ok(None);
+        };
+        let Some(replacements) = Amendments::from_entries(replacements) else {
+            return Ok(None);
+        };
+        let state = State::of(additions, tombstones, replacements)?;
+        if !state.all_amend() || state.known() > MOST_KNOWN {
+            return Ok(None);
         }
-        Some(Records { state })
+        Ok(Some(Records { state }))
     }
 
     /// The state that is held.
@@ -89,23 +106,23 @@ impl<A: Allocator + Copy> Records<A> {
 
         ensures clash { (other : SiteCounter) → result ≡ Err (RecordsFault.Clash other) → other ≡ id }
         ensures refused { IsErrOf result (RecordsFault.Clash id) ↔ HasAnother (fin.get self.old.additions id) (record { mark = mark; bound = bound }) }
-        ensures full { IsErrOf result RecordsFault.Full ↔ (is_known self.old id ≡ false) × (known_count self.old ≡ most_known) }
+        ensures full { IsErrOf result RecordsFault.Full ↔ (is_known_in self.old id ≡ false) × (known_count self.old ≡ most_known) }
         ensures kept { OnErr result (self.new ≡ self.old) }
     {
         let added = Record { mark, bound };
-        match self.state.additions.get(id) {
+        match self.state.additions().get(id) {
             Some(there) => {
-                if is_same(&there, &added) {
+                if there.is_same(&added) {
                     Ok(())
                 } else {
                     Err(RecordsFault::Clash(id))
                 }
             }
             None => {
-                if !self.state.tombstones.contains(id) && self.is_full() {
+                if !self.state.is_replaced(id) && self.is_full() {
                     return Err(RecordsFault::Full);
                 }
-                self.state.additions.insert(id, added)?;
+                self.state.add(id, added)?;
                 Ok(())
             }
         }
@@ -120,16 +137,16 @@ impl<A: Allocator + Copy> Records<A> {
         ensures joined { OnOk result (join_contents self.old (one_tombstone id) ≡ Some self.new) }
         ensures again { fin.contains_key self.old.tombstones id ≡ true → IsOk result × (self.new ≡ self.old) }
 
-        ensures unknown { IsErrOf result WithdrawFault.Unknown ↔ (is_known self.old id ≡ false) }
+        ensures unknown { IsErrOf result WithdrawFault.Unknown ↔ (is_known_in self.old id ≡ false) }
         ensures kept { OnErr result (self.new ≡ self.old) }
     {
-        if self.state.tombstones.contains(id) {
+        if self.state.tombstones().contains(id) {
             return Ok(());
         }
-        if self.state.additions.get(id).is_none() {
+        if !self.is_known(id) {
             return Err(WithdrawFault::Unknown);
         }
-        self.state.tombstones.insert(id)?;
+        self.state.withdraw(id)?;
         Ok(())
     }
 
@@ -142,17 +159,141 @@ impl<A: Allocator + Copy> Records<A> {
         ensures joined { OnOk result (join_contents self.old (one_tombstone id) ≡ Some self.new) }
         ensures again { fin.contains_key self.old.tombstones id ≡ true → IsOk result × (self.new ≡ self.old) }
 
-        ensures full { IsErrOf result BuryFault.Full ↔ (is_known self.old id ≡ false) × (known_count self.old ≡ most_known) }
+        ensures full { IsErrOf result BuryFault.Full ↔ (is_known_in self.old id ≡ false) × (known_count self.old ≡ most_known) }
         ensures kept { OnErr result (self.new ≡ self.old) }
     {
-        if self.state.tombstones.contains(id) {
+        if self.state.tombstones().contains(id) {
             return Ok(());
         }
-        if self.state.additions.get(id).is_none() && self.is_full() {
+        if !self.is_known(id) && self.is_full() {
             return Err(BuryFault::Full);
         }
-        self.state.tombstones.insert(id)?;
+        self.state.withdraw(id)?;
         Ok(())
+    }
+
+    /// Adds a Plain record that replaces a known id for good, in one step. An equal record that is
+    /// there already gains its entry; where that is there too, it is no fault and changes nothing.
+    ///
+    /// Refused in this order: `SelfReplace`, where the id would replace itself; `Clash`, where the id
+    /// has another record or replaces another id; `Unknown`, where the old id is not known; `Full`,
+    /// where more than 4,096 ids would be known; `Memory`. After a fault all is as before.
+    pub fn amend(&mut self, id: Id, old: Id, bound: Bound) -> Result<(), AmendFault>
+        ensures amended { OnOk result (self.new ≡ with_amendment self.old id old bound) }
+        ensures joined { OnOk result (join_contents self.old (one_amendment id old bound) ≡ Some self.new) }
+        ensures again { fin.get self.old.additions id ≡ Some (plain bound) → fin.get self.old.replacements id ≡ Some old → IsOk result × (self.new ≡ self.old) }
+
+        ensures refused { (fault : AmendFault) → fault ≢ AmendFault.Memory → IsErrOf result fault ↔ (amend_refusal_of self.old id old bound ≡ Some fault) }
+        ensures kept { OnErr result (self.new ≡ self.old) }
+    {
+        let _ = &self.state;
+        if let Some(fault) = self.amend_refusal(id, old, bound) {
+            return Err(fault);
+        }
+        self.put_amendment(id, old, bound)?;
+        Ok(())
+    }
+
+    /// Adds a Plain record that replaces an id, known or not, for good, in one step. An equal record
+    /// that is there already gains its entry; where that is there too, it is no fault and changes
+    /// nothing.
+    ///
+    /// Refused in this order: `SelfReplace`, where the id would replace itself; `Clash`, where the id
+    /// has another record or replaces another id; `Full`, where more than 4,096 ids would be known;
+    /// `Memory`. After a fault all is as before.
+    pub fn replace(&mut self, id: Id, old: Id, bound: Bound) -> Result<(), ReplaceFault>
+        ensures amended { OnOk result (self.new ≡ with_amendment self.old id old bound) }
+        ensures joined { OnOk result (join_contents self.old (one_amendment id old bound) ≡ Some self.new) }
+        ensures again { fin.get self.old.additions id ≡ Some (plain bound) → fin.get self.old.replacements id ≡ Some old → IsOk result × (self.new ≡ self.old) }
+
+        ensures refused { (fault : ReplaceFault) → fault ≢ ReplaceFault.Memory → IsErrOf result fault ↔ (replace_refusal_of self.old id old bound ≡ Some fault) }
+        ensures kept { OnErr result (self.new ≡ self.old) }
+    {
+        let _ = &self.state;
+        if let Some(fault) = self.replace_refusal(id, old, bound) {
+            return Err(fault);
+        }
+        self.put_amendment(id, old, bound)?;
+        Ok(())
+    }
+
+    // Why the amendment is refused.
+    fn amend_refusal(&self, id: Id, old: Id, bound: Bound) -> Option<AmendFault>
+        ensures { result ≡ amend_refusal_of self.now id old bound }
+    {
+        if id == old {
+            return Some(AmendFault::SelfReplace);
+        }
+        if self.clashes(id, old, bound) {
+            return Some(AmendFault::Clash(id));
+        }
+        if !self.is_known(old) {
+            return Some(AmendFault::Unknown);
+        }
+        if self.is_too_much_amended(id, old, bound) {
+            return Some(AmendFault::Full);
+        }
+        None
+    }
+
+    // Why the replacement is refused.
+    fn replace_refusal(&self, id: Id, old: Id, bound: Bound) -> Option<ReplaceFault>
+        ensures { result ≡ replace_refusal_of self.now id old bound }
+    {
+        if id == old {
+            return Some(ReplaceFault::SelfReplace);
+        }
+        if self.clashes(id, old, bound) {
+            return Some(ReplaceFault::Clash(id));
+        }
+        if self.is_too_much_amended(id, old, bound) {
+            return Some(ReplaceFault::Full);
+        }
+        None
+    }
+
+    // Whether the id has another record, or replaces another id.
+    fn clashes(&self, id: Id, old: Id, bound: Bound) -> bool
+        ensures { result ≡ clashes_in self.now id old bound }
+    {
+        let mark = Mark::Plain;
+        is_another(self.state.additions().get(id), Record { mark, bound })
+            || is_another(self.state.replacements().get(id), old)
+    }
+
+    // Whether more than 4,096 ids would be known with the amendment. They are counted only where the
+    // lists are long enough.
+    fn is_too_much_amended(&self, id: Id, old: Id, bound: Bound) -> bool
+        requires apart { id ≢ old }
+        requires agrees { clashes_in self.now id old bound ≡ false }
+        ensures { result ≡ is_too_much self.now id old bound }
+    {
+        let new = self.newly_known(old) + self.newly_known(id);
+        let added = self.state.additions().entries().len();
+        let replaced = self.state.replaced().len();
+        added + replaced + new > MOST_KNOWN && self.known() + new > MOST_KNOWN
+    }
+
+    // How many ids more are known with this one.
+    fn newly_known(&self, id: Id) -> usize
+        ensures { result ≡ cond (is_known_in self.now id) 0 1 }
+    {
+        if self.is_known(id) { 0 } else { 1 }
+    }
+
+    // Adds the amendment, unless it is there.
+    fn put_amendment(&mut self, id: Id, old: Id, bound: Bound) -> Result<(), Memory>
+        requires other { id ≢ old }
+        requires agrees { clashes_in self.old id old bound ≡ false }
+        requires room { is_too_much self.old id old bound ≡ false }
+        ensures amended { OnOk result (self.new ≡ with_amendment self.old id old bound) }
+        ensures again { fin.get self.old.replacements id ≡ Some old → IsOk result }
+        ensures kept { OnErr result (self.new ≡ self.old) }
+    {
+        if self.state.replacements().get(id).is_some() {
+            return Ok(());
+        }
+        self.state.amend(id, old, bound)
     }
 
     /// What both hold, as a new value. Refused as `take` is, in the same order.
@@ -164,7 +305,7 @@ impl<A: Allocator + Copy> Records<A> {
         ensures full { IsErrOf result RecordsFault.Full ↔ (dispute_contents self.now other.now ≡ None) × (most_known < known_in_either self.now other.now) }
         ensures refused { IfErr result (λ fault. fault ≢ RecordsFault.Memory → taken_of self.now other.now ≡ None) }
     {
-        if let Some(id) = self.state.additions.dispute(&other.state.additions) {
+        if let Some(id) = self.state.dispute(&other.state) {
             return Err(RecordsFault::Clash(id));
         }
         if self.is_too_much_with(other) {
@@ -176,8 +317,8 @@ impl<A: Allocator + Copy> Records<A> {
 
     /// Takes in all that the other holds.
     ///
-    /// Refused in this order: `Clash`, with the least id that has two different records; `Full`,
-    /// where both know more than 4,096 ids together; `Memory`. After a fault all is as before.
+    /// Refused in this order: `Clash`, with the least id that has two different records or replaces
+    /// two different ids; `Full`, where both know more than 4,096 ids together; `Memory`. After a fault all is as before.
     pub fn take(&mut self, other: &Records<A>) -> Result<(), RecordsFault>
         ensures joined { OnOk result (join_contents self.old other.now ≡ Some self.new) }
         ensures taken { OnOk result (taken_of self.old other.now ≡ Some self.new) }
@@ -201,13 +342,11 @@ impl<A: Allocator + Copy> Records<A> {
         ensures part { IsTrue result ↔ IsPart other.now self.now }
         ensures taken { IsTrue result ↔ (taken_of self.now other.now ≡ Some self.now) }
     {
-        let ours = &self.state;
-        let theirs = &other.state;
-        has_ids(ours.tombstones.entries(), theirs.tombstones.entries())
-            && has_records(ours.additions.entries(), theirs.additions.entries())
+        self.state.holds(&other.state)
     }
 
-    /// The records and the withdrawn ids of two lists, alone. An id may stand in a list twice.
+    /// The records of the first list, with the ids that they replace, and the withdrawn ids of the
+    /// second, alone. An id may stand in a list twice.
     ///
     /// Refused in this order: `Unknown`, where a record or a withdrawn id is not held; `Memory`.
     pub fn part(&self, records: &[Id], tombstones: &[Id]) -> Result<Records<A>, PartFault>
@@ -215,7 +354,9 @@ impl<A: Allocator + Copy> Records<A> {
         ensures unknown { IsErrOf result PartFault.Unknown ↔ ¬ (AllHeld self.now.additions records.now × AllHeld self.now.tombstones tombstones.now) }
         ensures held { result ≢ Err PartFault.Unknown → AllHeld self.now.additions records.now × AllHeld self.now.tombstones tombstones.now }
     {
-        if !self.state.additions.has_all(records) || !self.state.tombstones.has_all(tombstones) {
+        if !self.state.additions().has_all(records)
+            || !self.state.tombstones().has_all(tombstones)
+        {
             return Err(PartFault::Unknown);
         }
         Ok(Records {
@@ -223,7 +364,7 @@ impl<A: Allocator + Copy> Records<A> {
         })
     }
 
-    /// The same records and withdrawn ids again.
+    /// The same records, withdrawn ids and replaced ids again.
     pub fn copy(&self) -> Result<Records<A>, Memory>
         ensures { IfOk result (λ copy. copy ≡ self.now) }
     {
@@ -237,9 +378,9 @@ impl<A: Allocator + Copy> Records<A> {
         ensures live { IfOk result (λ all. all.items ≡ map listed (live_of self.now)) }
         ensures sound { IsSound self.now }
     {
-        let mut all = Vec::new(self.state.additions.allocator());
-        for &(id, held) in self.state.additions.entries() {
-            if !self.state.tombstones.contains(id) {
+        let mut all = Vec::new(self.state.additions().allocator());
+        for &(id, held) in self.state.additions().entries() {
+            if !self.state.is_replaced(id) {
                 all.push((id, held.mark, held.bound))?;
             }
         }
@@ -247,15 +388,15 @@ impl<A: Allocator + Copy> Records<A> {
     }
 
     /// The next counter of a site: one more than the greatest counter among all its known ids, the
-    /// withdrawn ones too, or 1. Refused where it would pass 65,535.
+    /// replaced ones too, or 1. Refused where it would pass 65,535.
     pub fn next_counter(&self, site: Site) -> Result<u16, CounterSpent>
         ensures next { IfOk result (λ counter. counter ≡ next_counter_of self.now site) }
         ensures spent { IsErr result ↔ (most_counter < next_counter_of self.now site) }
-        ensures new { IfOk result (λ counter. is_known self.now (record { site = site; counter = counter }) ≡ false) }
+        ensures new { IfOk result (λ counter. is_known_in self.now (record { site = site; counter = counter }) ≡ false) }
     {
-        let added = greatest_counter(self.state.additions.entries(), site);
-        let withdrawn = greatest_counter(self.state.tombstones.entries(), site);
-        added.max(withdrawn).checked_add(1).ok_or(CounterSpent)
+        let added = greatest_counter(self.state.additions().entries(), site);
+        let replaced = greatest_counter(self.state.replaced(), site);
+        added.max(replaced).checked_add(1).ok_or(CounterSpent)
     }
 
     /// How many ids are known.
@@ -271,17 +412,17 @@ impl<A: Allocator + Copy> Records<A> {
     fn is_full(&self) -> bool
         ensures { IsTrue result ↔ (known_count self.now ≡ most_known) }
     {
-        let added = self.state.additions.entries().len();
-        let withdrawn = self.state.tombstones.entries().len();
-        added + withdrawn >= MOST_KNOWN && self.known() >= MOST_KNOWN
+        let added = self.state.additions().entries().len();
+        let replaced = self.state.replaced().len();
+        added + replaced >= MOST_KNOWN && self.known() >= MOST_KNOWN
     }
 
     // Whether both know more than 4,096 ids together. They are counted only where the four lists are long enough.
     fn is_too_much_with(&self, other: &Records<A>) -> bool
         ensures { IsTrue result ↔ (most_known < known_in_either self.now other.now) }
     {
-        let ours = self.state.additions.entries().len() + self.state.tombstones.entries().len();
-        let theirs = other.state.additions.entries().len() + other.state.tombstones.entries().len();
+        let ours = self.state.additions().entries().len() + self.state.replaced().len();
+        let theirs = other.state.additions().entries().len() + other.state.replaced().len();
         ours + theirs > MOST_KNOWN && self.known_with(other) > MOST_KNOWN
     }
 
@@ -290,10 +431,10 @@ impl<A: Allocator + Copy> Records<A> {
         ensures { result ≡ known_in_either self.now other.now }
     {
         count_ids(
-            self.state.additions.entries(),
-            self.state.tombstones.entries(),
-            other.state.additions.entries(),
-            other.state.tombstones.entries(),
+            self.state.additions().entries(),
+            self.state.replaced(),
+            other.state.additions().entries(),
+            other.state.replaced(),
         )
     }
 
@@ -301,15 +442,32 @@ impl<A: Allocator + Copy> Records<A> {
     pub fn is_live(&self, id: Id) -> bool
         ensures { result ≡ is_live_in self.now id }
     {
-        self.state.additions.get(id).is_some() && !self.state.tombstones.contains(id)
+        self.state.additions().get(id).is_some() && !self.state.is_replaced(id)
     }
 
-    /// The record at a place, counted from 0 in order of id, withdrawn or not.
+    /// Whether the id is known.
+    pub fn is_known(&self, id: Id) -> bool
+        ensures { result ≡ is_known_in self.now id }
+    {
+        self.state.is_known(id)
+    }
+
+    /// The replaced ids, those that were withdrawn and those that records replace, in order, each
+    /// once.
+    pub fn replaced(&self) -> &[(Id, ())]
+        ensures value { result.now ≡ fin.entries (replaced_set self.now) }
+        ensures sorted { IsTrue (fin.is_sorted id_cmp (fin.entries (replaced_set self.now))) }
+        ensures sound { IsSound self.now }
+    {
+        self.state.replaced()
+    }
+
+    /// The record at a place, counted from 0 in order of id, replaced or not.
     pub fn record_at(&self, place: usize) -> Option<(Id, Mark, Bound)>
         ensures value { result ≡ option_map listed (slice_get (fin.entries self.now.additions) place) }
         ensures proper { IfSome result (λ entry. IsProper entry.1 entry.2) }
     {
-        let (id, held) = *self.state.additions.entries().get(place)?;
+        let (id, held) = *self.state.additions().entries().get(place)?;
         Some((id, held.mark, held.bound))
     }
 
@@ -317,7 +475,25 @@ impl<A: Allocator + Copy> Records<A> {
     pub fn tomb_at(&self, place: usize) -> Option<Id>
         ensures { result ≡ slice_get (fin.keys self.now.tombstones) place }
     {
-        let (id, _) = *self.state.tombstones.entries().get(place)?;
+        let (id, _) = *self.state.tombstones().entries().get(place)?;
         Some(id)
+    }
+    /// The entry at a place, counted from 0 in order of the new id: the new id, and the id that it
+    /// replaces.
+    pub fn entry_at(&self, place: usize) -> Option<(Id, Id)>
+        ensures { result ≡ slice_get (fin.entries self.now.replacements) place }
+    {
+        let entry = *self.state.replacements().entries().get(place)?;
+        Some(entry)
+    }
+}
+
+// Whether a value is there, and is another.
+fn is_another<X: Value>(there: Option<X>, one: X) -> bool
+    ensures { result ≡ differ X.same there (Some one) }
+{
+    match there {
+        Some(held) => !held.is_same(&one),
+        None => false,
     }
 }

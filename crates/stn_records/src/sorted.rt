@@ -4,15 +4,14 @@ ghost use Rattle.std.specs.Set.{distinct_count, is_member};
 ghost use Rattle.std.specs.List.Sorted.{IsSorted};
 ghost use Rattle.std.specs.FinMap.{is_sorted};
 ghost use Rattle.std.specs.FinMap as fin;
-ghost use Rattle.stn_records.specs.Id.{id_cmp};
+ghost use Rattle.stn_records.specs.Id.{id_cmp, lesser_of};
 ghost use Rattle.stn_records.specs.Maps.{differ};
-ghost use Rattle.stn_records.specs.Record.{same_records};
 ghost use Rattle.stn_records.specs.Content.{same_ids, greatest_counter as greatest_of};
 ghost use Rattle.std.specs.Map.{keys_of};
-ghost use Rattle.stn_records.specs.Sorted.{has_keys, has_entries, IsPlaceOf, IsGapFor, IsEndOf, merge, lesser_of, past_id};
+ghost use Rattle.stn_records.specs.Sorted.{has_keys, has_entries as has_entries_of, IsPlaceOf, IsGapFor, IsEndOf, merge, past_id};
 
 use crate::id::{Id, Site};
-use crate::record::{Record, is_same};
+use crate::record::Value;
 use std::alloc::Allocator;
 use std::cmp::Ordering;
 use stn_time::Memory;
@@ -66,11 +65,11 @@ pub(crate) fn merged<X: Copy, A: Allocator + Copy>(
     Ok(all)
 }
 
-// The least id at which both have a record, and the records differ.
-pub(crate) fn first_dispute(ours: &[(Id, Record)], theirs: &[(Id, Record)]) -> Option<Id>
+// The least id at which both have a value, and the values differ.
+pub(crate) fn first_dispute<X: Value>(ours: &[(Id, X)], theirs: &[(Id, X)]) -> Option<Id>
     requires ours { IsTrue (is_sorted id_cmp ours.now) }
     requires theirs { IsTrue (is_sorted id_cmp theirs.now) }
-    ensures { result ≡ find (λ id. differ same_records (fin.find id_cmp id ours.now) (fin.find id_cmp id theirs.now)) (keys_of ours.now) }
+    ensures { result ≡ find (λ id. differ X.same (fin.find id_cmp id ours.now) (fin.find id_cmp id theirs.now)) (keys_of ours.now) }
 {
     let mut i = 0;
     let mut j = 0;
@@ -78,7 +77,7 @@ pub(crate) fn first_dispute(ours: &[(Id, Record)], theirs: &[(Id, Record)]) -> O
         match ours[i].0.cmp(&theirs[j].0) {
             Ordering::Less => i += 1,
             Ordering::Equal => {
-                if !is_same(&ours[i].1, &theirs[j].1) {
+                if !ours[i].1.is_same(&theirs[j].1) {
                     return Some(ours[i].0);
                 }
                 i += 1;
@@ -111,11 +110,11 @@ pub(crate) fn has_ids<X>(ours: &[(Id, X)], theirs: &[(Id, X)]) -> bool
     j == theirs.len()
 }
 
-// Whether each record of theirs is one of ours.
-pub(crate) fn has_records(ours: &[(Id, Record)], theirs: &[(Id, Record)]) -> bool
+// Whether each entry of theirs is one of ours.
+pub(crate) fn has_entries<X: Value>(ours: &[(Id, X)], theirs: &[(Id, X)]) -> bool
     requires ours { IsTrue (is_sorted id_cmp ours.now) }
     requires theirs { IsTrue (is_sorted id_cmp theirs.now) }
-    ensures { result ≡ has_entries ours.now theirs.now }
+    ensures { result ≡ has_entries_of X.same ours.now theirs.now }
 {
     let mut i = 0;
     let mut j = 0;
@@ -123,7 +122,7 @@ pub(crate) fn has_records(ours: &[(Id, Record)], theirs: &[(Id, Record)]) -> boo
         match ours[i].0.cmp(&theirs[j].0) {
             Ordering::Less => i += 1,
             Ordering::Equal => {
-                if !is_same(&ours[i].1, &theirs[j].1) {
+                if !ours[i].1.is_same(&theirs[j].1) {
                     return false;
                 }
                 i += 1;
@@ -233,7 +232,7 @@ fn first<X>(entries: &[(Id, X)]) -> Option<Id>
 }
 
 // The lesser of two ids, where there are two.
-fn lesser(a: Option<Id>, b: Option<Id>) -> Option<Id>
+pub(crate) fn lesser(a: Option<Id>, b: Option<Id>) -> Option<Id>
     ensures { result ≡ lesser_of a b }
 {
     match (a, b) {

@@ -56,6 +56,13 @@ impl<A: Allocator + Copy> Tombstones<A> {
         self.ids.entries()
     }
 
+    // The ids again, as a map.
+    pub(crate) fn ids(&self) -> Result<IdMap<(), A>, Memory>
+        ensures { IfOk result (λ ids. ids ≡ self.now) }
+    {
+        self.ids.copy()
+    }
+
     /// Whether the id was withdrawn.
     pub fn contains(&self, id: Id) -> bool
         ensures { result ≡ map.contains_key self.now id }
