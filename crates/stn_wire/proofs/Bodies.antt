@@ -1,11 +1,12 @@
 -- Frames with the same bodies are one.
-use Rattle.std.proofs.Common.{◌≡◌, ℕ, [], drop, get_or, refl, sym, ap, ◌∙◌, append-nil, arith}
+use Rattle.std.proofs.Common.{◌≡◌, ℕ, List, [], ◌∷◌, ◌++◌, ◌≤◌, drop, get_or, refl, sym, ap, ◌∙◌, append-nil, arith}
 use Rattle.std.specs.FinMap.{entries, same_entries_map}
 use Rattle.stn_lift.specs.PlanSource.{PlanSource, bare, files}
+use Rattle.stn_records.specs.Id.{SiteCounter}
 use Rattle.stn_records.specs.Content.{Content}
-use Rattle.stn_wire.specs.Spelling.{entry_bytes, IsEntry, entry_width, tomb_bytes, IsTomb, counted, measured}
-use Rattle.stn_wire.specs.Apart.{two_apart, entry_apart, entry_sized, tomb_apart}
-use Rattle.stn_wire.specs.Frame.{FrameContent, old_hello, old_records, hello, records, ask, text, refused, same, source_bytes, IsSaidSource, state_bytes, IsState, IsSaid, kind_of, body_of}
+use Rattle.stn_wire.specs.Spelling.{entry_bytes, IsEntry, entry_width, tomb_bytes, IsTomb, amendment_bytes, amendments_bytes, AreIds, counted, AreCounted, measured}
+use Rattle.stn_wire.specs.Apart.{two_apart, entry_apart, entry_sized, tomb_apart, amendment_apart}
+use Rattle.stn_wire.specs.Frame.{FrameContent, old_hello, old_records, hello, records, ask, text, refused, same, source_bytes, IsSaidSource, state_bytes, IsState, IsOldState, IsSaid, records_kind, kind_of, body_of}
 use Rattle.stn_wire.specs.declared.layout.Layout.{Layout}
 use Rattle.stn_wire.specs.declared.layout.Layout.TheVariants.{Old, New}
 use Rattle.stn_wire.proofs.Chunks.{counted_cut, measured_cut}
@@ -19,24 +20,40 @@ source_apart (files a b) (files c d) p q e =
     let second = measured_cut b d [] [] p.1 q.1 (append-nil _ ∙ first.1 ∙ sym (append-nil _)) in
     λ i. files (first.0 i) (second.0 i)
 
+-- lists of entries with the same bytes are one
+amendments_apart : (l m : List (SiteCounter × SiteCounter)) → AreCounted AreIds l → AreCounted AreIds m → amendments_bytes l ≡ amendments_bytes m → l ≡ m
+amendments_apart [] [] p q e = refl
+amendments_apart [] (m ∷ ms) p q e = absurd cc
+amendments_apart (l ∷ ls) [] p q e = absurd cc
+amendments_apart (l ∷ ls) (m ∷ ms) p q e =
+    (counted_cut AreIds amendment_bytes 8 (λ _. refl) amendment_apart (l ∷ ls) (m ∷ ms) [] [] p q (append-nil _ ∙ e ∙ sym (append-nil _))).0
+
 pub state_apart : (layout : Layout) (a b : Content) → IsState layout a → IsState layout b → state_bytes layout a ≡ state_bytes layout b → a ≡ b
 state_apart layout a b p q e =
-    let first = counted_cut (IsEntry layout) (entry_bytes layout) (entry_width layout) (entry_sized layout) (entry_apart layout) (entries a.additions) (entries b.additions) (counted tomb_bytes (entries a.tombstones)) (counted tomb_bytes (entries b.tombstones)) p.additions q.additions e in
-    let second = counted_cut IsTomb tomb_bytes 4 (λ _. refl) tomb_apart (entries a.tombstones) (entries b.tombstones) [] [] p.tombstones q.tombstones (append-nil _ ∙ first.1 ∙ sym (append-nil _)) in
+    let first = counted_cut (IsEntry layout) (entry_bytes layout) (entry_width layout) (entry_sized layout) (entry_apart layout) (entries a.additions) (entries b.additions)
+    (counted tomb_bytes (entries a.tombstones) ++ amendments_bytes (entries a.replacements)) (counted tomb_bytes (entries b.tombstones) ++ amendments_bytes (entries b.replacements)) p.additions q.additions e in
+    let second = counted_cut IsTomb tomb_bytes 4 (λ _. refl) tomb_apart (entries a.tombstones) (entries b.tombstones) (amendments_bytes (entries a.replacements)) (amendments_bytes (entries b.replacements)) p.tombstones q.tombstones first.1 in
     let additions = same_entries_map a.additions b.additions first.0 in
     let tombstones = same_entries_map a.tombstones b.tombstones second.0 in
-    λ i. record { additions = additions i; tombstones = tombstones i }
+    let replacements = same_entries_map a.replacements b.replacements (amendments_apart (entries a.replacements) (entries b.replacements) p.replacements q.replacements second.1) in
+    λ i. record { additions = additions i; tombstones = tombstones i; replacements = replacements i }
+
+pub records_large : (l : List (SiteCounter × SiteCounter)) → 8 ≤ records_kind l
+records_large [] = omega arith
+records_large (entry ∷ rest) = omega arith
 
 kinds_apart : (f g : FrameContent) → body_of f ≡ body_of g → kind_of f ≡ kind_of g
 kinds_apart f g e = ap (λ l. get_or l 0 0) e
 
 pub body_apart : (f g : FrameContent) → IsSaid f → IsSaid g → body_of f ≡ body_of g → f ≡ g
 body_apart (old_hello a) (old_hello b) p q e = ap (λ s. old_hello s) (source_apart a b p q (ap (drop 1) e))
-body_apart (old_records a) (old_records b) p q e = ap (λ s. old_records s) (state_apart Old a b p q (ap (drop 1) e))
+body_apart (old_records a) (old_records b) p q e = ap (λ s. old_records s) (state_apart Old a b p.said q.said (ap (drop 1) e))
 body_apart (hello a) (hello b) p q e = ap (λ s. hello s) (source_apart a b p q (ap (drop 1) e))
 body_apart (records a) (records b) p q e = ap (λ s. records s) (state_apart New a b p q (ap (drop 1) e))
 body_apart ask ask p q e = refl
 body_apart (text a) (text b) p q e = ap (λ l. text l) (ap (drop 1) e)
 body_apart (refused m) (refused n) p q e = ap (λ n. refused n) (ap (λ l. get_or l 1 0) e)
 body_apart same same p q e = refl
+body_apart (records a) g p q e = let kinds = kinds_apart (records a) g e in absurd (omega (arith, kinds, records_large (entries a.replacements)))
+body_apart f (records b) p q e = let kinds = kinds_apart f (records b) e in absurd (omega (arith, kinds, records_large (entries b.replacements)))
 body_apart f g p q e = let kinds = kinds_apart f g e in absurd (omega arith)

@@ -2,13 +2,15 @@
 use Rattle.std.proofs.Common.{◌≡◌, ℕ, zero, suc, ◌+◌, ◌-◌, ◌<◌, ◌≤◌, List, [], ◌∷◌, ◌++◌, length, take, drop, get_or, ◌^◌, ◌⊎◌, inl, inr, refl, sym, ap, subst, ◌∙◌, ⊎_elim, arith, length-append, length-take, length-drop, take-append-drop}
 use Rattle.std.proofs.lemmas.List.{take_at, drop_at, take-append-le, drop-append-le, get_or_append_left, get_or-take, get_or_past, take-take, drop-take}
 use Rattle.std.proofs.lemmas.Nat.{from_be_bytes-to_be_bytes_4, be_bytes_4}
+use Rattle.std.specs.FinMap.{entries}
 use Rattle.std.specs.List.{AllByRecursion}
+use Rattle.stn_records.specs.Id.{SiteCounter}
 use Rattle.stn_wire.specs.Spelling.{four}
-use Rattle.stn_wire.specs.Frame.{FrameContent, old_hello, old_records, hello, records, ask, text, refused, same, kind_of, body_of, spelling, IsFrame, IsSaid, most_body}
+use Rattle.stn_wire.specs.Frame.{FrameContent, old_hello, old_records, hello, records, ask, text, refused, same, records_kind, kind_of, body_of, spelling, IsFrame, IsSaid, most_body}
 use Rattle.stn_wire.specs.Front.{Front, whole, faulty, unfinished, announced, IsLength, IsKind, IsFront, BeginsFrame}
 use Rattle.stn_wire.specs.declared.fault.WireFault.{WireFault}
 use Rattle.stn_wire.specs.declared.fault.WireFault.TheVariants.{Length, Kind, Body, OldFrame, Memory}
-use Rattle.std.proofs.lemmas.Bool.{cases_lt}
+use Rattle.std.proofs.lemmas.Bool.{cases_lt, cases_eq}
 use Rattle.stn_wire.specs.Reading.{IsWanted}
 use Rattle.stn_wire.proofs.Bodies.{body_apart}
 
@@ -23,15 +25,19 @@ announced_front xs ys e = first xs ∙ ap announced e ∙ sym (first ys)
     first (a ∷ b ∷ c ∷ []) = refl
     first (a ∷ b ∷ c ∷ d ∷ zs) = refl
 
+records_known : (replacements : List (SiteCounter × SiteCounter)) → IsKind (records_kind replacements)
+records_known [] = inl (omega arith, omega arith)
+records_known (entry ∷ rest) = inr refl
+
 kinds_known : (frame : FrameContent) → IsKind (kind_of frame)
-kinds_known (old_hello source) = (omega arith, omega arith)
-kinds_known (old_records state) = (omega arith, omega arith)
-kinds_known (hello source) = (omega arith, omega arith)
-kinds_known (records state) = (omega arith, omega arith)
-kinds_known ask = (omega arith, omega arith)
-kinds_known (text bytes) = (omega arith, omega arith)
-kinds_known (refused code) = (omega arith, omega arith)
-kinds_known same = (omega arith, omega arith)
+kinds_known (old_hello source) = inl (omega arith, omega arith)
+kinds_known (old_records state) = inl (omega arith, omega arith)
+kinds_known (hello source) = inl (omega arith, omega arith)
+kinds_known (records state) = records_known (entries state.replacements)
+kinds_known ask = inl (omega arith, omega arith)
+kinds_known (text bytes) = inl (omega arith, omega arith)
+kinds_known (refused code) = inl (omega arith, omega arith)
+kinds_known same = inl (omega arith, omega arith)
 
 -- what the bytes of a whole frame show
 pub record Shown (bytes : List ℕ) (frame : FrameContent) (n : ℕ) : Type 0 where
@@ -173,8 +179,9 @@ of_length : (bytes : List ℕ) → ((i : ℕ) → get_or bytes i 0 < 256) → ¬
 of_length bytes small none four lasting =
     ⊎_elim (λ less. inl (inr (lasting, inl (omega (arith, four, less)))))
     (λ five.
-    ⊎_elim (λ low. inr (Kind, (five, lasting, λ known. omega (arith, low, known.0))))
-    (λ low. ⊎_elim (λ high. inr (Kind, (five, lasting, λ known. omega (arith, high, known.1)))) (λ high. of_kind bytes small none five lasting (low, high)) (cases_lt 8 (get_or bytes 4 0)))
+    ⊎_elim (λ low. inr (Kind, (five, lasting, ⊎_elim (λ k. omega (arith, low, k.0)) (λ k. omega (arith, low, k)))))
+    (λ low. ⊎_elim (λ high. ⊎_elim (λ known. of_kind bytes small none five lasting (inr known)) (λ other. inr (Kind, (five, lasting, ⊎_elim (λ k. omega (arith, high, k.1)) other))) (cases_eq (get_or bytes 4 0) 16))
+    (λ high. of_kind bytes small none five lasting (inl (low, high))) (cases_lt 8 (get_or bytes 4 0)))
     (cases_lt (get_or bytes 4 0) 1))
     (cases_lt (length bytes) 5)
 

@@ -1,18 +1,23 @@
 -- The bytes of a state.
-use Rattle.std.proofs.Common.{◌≡◌, ◌≢◌, ℕ, ◌+◌, ◌*◌, ◌≤◌, List, [], ◌++◌, length, Option, Some, None, IfSome, refl, sym, ap, subst, ◌∙◌, arith, append-nil, length-append}
+use Rattle.std.proofs.Common.{◌≡◌, ◌≢◌, ◌==◌, ℕ, ◌+◌, ◌*◌, ◌≤◌, Bool, true, false, List, [], ◌∷◌, ◌++◌, length, Option, Some, None, Result, Ok, Err, IfSome, IfOk, drop, get_or, refl, sym, ap, subst, ◌∙◌, arith, append-nil, length-append}
+use Rattle.std.specs.Prelude.{if◌then◌else◌}
 use Rattle.std.specs.FinMap.{entries}
 use Rattle.std.specs.List.{flat_map}
 use Rattle.stn_records.specs.Id.{SiteCounter}
 use Rattle.stn_records.specs.declared.record.Record.{Record}
 use Rattle.stn_records.specs.Content.{Content, IsSound}
-use Rattle.stn_records.proofs.Limits.{additions_within, tombstones_within}
-use Rattle.stn_wire.specs.Spelling.{entry_bytes, IsEntry, entry_width, tomb_bytes, IsTomb, counted, AreCounted}
-use Rattle.stn_wire.specs.Apart.{entry_apart, entry_sized, tomb_apart}
-use Rattle.stn_wire.specs.Frame.{records, body_of, state_bytes, most_body, IsState}
-use Rattle.stn_wire.specs.Reading.{IsReading, counted_then}
+use Rattle.stn_records.proofs.Limits.{additions_within, tombstones_within, replacements_within}
+use Rattle.stn_wire.specs.Spelling.{entry_bytes, IsEntry, entry_width, tomb_bytes, IsTomb, amendment_bytes, amendments_bytes, AreIds, counted, AreCounted}
+use Rattle.stn_wire.specs.Apart.{entry_apart, entry_sized, tomb_apart, amendment_apart}
+use Rattle.stn_wire.specs.Frame.{FrameContent, old_hello, old_records, hello, records, ask, text, refused, same, records_kind, body_of, state_bytes, most_body, IsState, IsSaid}
+use Rattle.stn_wire.specs.Reading.{IsReading, AreEntries, IsStateWith, counted_then, entries_then}
 use Rattle.stn_wire.specs.declared.layout.Layout.{Layout}
 use Rattle.stn_wire.specs.declared.layout.Layout.TheVariants.{New}
 use Rattle.stn_wire.proofs.Chunks.{length-flat_map, counted_cut}
+
+-- an entry of an amendment
+abbrev pub Entry : Type 0
+Entry = SiteCounter × SiteCounter
 
 -- a sound state has few entries
 pub few_additions : (s : Content) → IsSound s → length (entries s.additions) ≤ 4096
@@ -21,16 +26,79 @@ few_additions s sound = omega (arith, additions_within s, sound.limited)
 pub few_tombstones : (s : Content) → IsSound s → length (entries s.tombstones) ≤ 4096
 few_tombstones s sound = omega (arith, tombstones_within s, sound.limited)
 
+pub few_replacements : (s : Content) → IsSound s → length (entries s.replacements) ≤ 4096
+few_replacements s sound = omega (arith, replacements_within s sound.amends, sound.limited)
+
+-- how many bytes entries have
+pub amendments_long : (entry : Entry) (rest : List Entry) → length (amendments_bytes (entry ∷ rest)) ≡ 2 + length (entry ∷ rest) * 8
+amendments_long entry rest = omega (arith, length-flat_map AreIds amendment_bytes 8 (λ _. refl) (entry ∷ rest))
+
+pub amendments_short : (l : List Entry) → length (amendments_bytes l) ≤ 2 + length l * 8
+amendments_short [] = omega arith
+amendments_short (entry ∷ rest) = omega (arith, amendments_long entry rest)
+
+pub amendments_sized : (l : List Entry) → (length l == 0) ≡ false → length (amendments_bytes l) ≡ 2 + length l * 8
+amendments_sized [] some = absurd cc
+amendments_sized (entry ∷ rest) some = amendments_long entry rest
+
 -- how many bytes a state has
-pub length-state_bytes : (layout : Layout) (s : Content) → length (state_bytes layout s) ≡ 4 + length (entries s.additions) * entry_width layout + length (entries s.tombstones) * 4
+pub length-state_bytes : (layout : Layout) (s : Content) → length (state_bytes layout s) ≡ 4 + length (entries s.additions) * entry_width layout + length (entries s.tombstones) * 4 + length (amendments_bytes (entries s.replacements))
 length-state_bytes layout s =
-    omega (arith, length-append (flat_map (entry_bytes layout) (entries s.additions)) (counted tomb_bytes (entries s.tombstones)), length-flat_map (IsEntry layout) (entry_bytes layout) (entry_width layout) (entry_sized layout) (entries s.additions), length-flat_map IsTomb tomb_bytes 4 (λ _. refl) (entries s.tombstones))
+    omega (
+      arith,
+      length-append (flat_map (entry_bytes layout) (entries s.additions)) (counted tomb_bytes (entries s.tombstones) ++ amendments_bytes (entries s.replacements)),
+      length-append (flat_map tomb_bytes (entries s.tombstones)) (amendments_bytes (entries s.replacements)),
+      length-flat_map (IsEntry layout) (entry_bytes layout) (entry_width layout) (entry_sized layout) (entries s.additions),
+      length-flat_map IsTomb tomb_bytes 4 (λ _. refl) (entries s.tombstones),
+    )
 
 -- so its frame is never too long
 pub state_fits : (s : Content) → IsSound s → length (body_of (records s)) ≤ most_body
-state_fits s sound = omega (arith, length-state_bytes New s, few_additions s sound, few_tombstones s sound)
+state_fits s sound = omega (arith, length-state_bytes New s, few_additions s sound, few_tombstones s sound, few_replacements s sound, amendments_short (entries s.replacements))
 
--- ---- reading a state: its additions, its tombstones, and nothing behind them
+-- ---- entries
+
+pub entries_counted : (amended : Bool) (l : List Entry) → AreEntries amended l → AreCounted AreIds l
+entries_counted true l are = are.1
+entries_counted false [] are = record { few = omega arith; each = tt }
+entries_counted false (entry ∷ rest) are = absurd cc
+
+entries_cut : (amended : Bool) (l m : List Entry) (x y : List ℕ) → AreEntries amended l → AreEntries amended m → amendments_bytes l ++ x ≡ amendments_bytes m ++ y → (l ≡ m) × (x ≡ y)
+entries_cut false [] [] x y p q e = (refl, e)
+entries_cut false [] (m ∷ ms) x y p q e = absurd cc
+entries_cut false (l ∷ ls) m x y p q e = absurd cc
+entries_cut true [] m x y p q e = absurd (p.0 refl)
+entries_cut true (l ∷ ls) [] x y p q e = absurd (q.0 refl)
+entries_cut true (l ∷ ls) (m ∷ ms) x y p q e = counted_cut AreIds amendment_bytes 8 (λ _. refl) amendment_apart (l ∷ ls) (m ∷ ms) x y p.1 q.1 e
+
+-- ---- the kind of records
+
+pub kind_of_entries : (amended : Bool) (l : List Entry) → AreEntries amended l → (if amended then 16 else 8) ≡ records_kind l
+kind_of_entries true [] are = absurd (are.0 refl)
+kind_of_entries true (l ∷ ls) are = refl
+kind_of_entries false [] are = refl
+kind_of_entries false (l ∷ ls) are = absurd cc
+
+entries_of_kind : (amended : Bool) (l : List Entry) → AreCounted AreIds l → (if amended then 16 else 8) ≡ records_kind l → AreEntries amended l
+entries_of_kind true [] are e = absurd (omega (arith, e))
+entries_of_kind true (l ∷ ls) are e = (λ none. absurd cc, are)
+entries_of_kind false [] are e = refl
+entries_of_kind false (l ∷ ls) are e = absurd (omega (arith, e))
+
+kind_small : (amended : Bool) → 8 ≤ (if amended then 16 else 8)
+kind_small true = omega arith
+kind_small false = omega arith
+
+pub records_read : (amended : Bool) (rest : List ℕ) (s : Content) → IsStateWith New amended s → rest ≡ state_bytes New s → ((if amended then 16 else 8) ∷ rest) ≡ body_of (records s)
+records_read amended rest s said is = λ i. kind_of_entries amended (entries s.replacements) said.entries i ∷ is i
+
+pub records_unread : (amended : Bool) (rest : List ℕ) → ((s : Content) → IsStateWith New amended s → rest ≢ state_bytes New s) → (f : FrameContent) → IsSaid f
+    → ((if amended then 16 else 8) ∷ rest) ≢ body_of f
+records_unread amended rest none (records s) said e =
+    none s (record { said = said; entries = entries_of_kind amended (entries s.replacements) said.replacements (ap (λ l. get_or l 0 0) e) }) (ap (drop 1) e)
+records_unread amended rest none f said e = let kind = ap (λ l. get_or l 0 0) e in absurd (omega (arith, kind, kind_small amended))
+
+-- ---- reading a state: its additions, its tombstones, its entries, and nothing behind them
 
 abbrev pub Addition : Type 0
 Addition = SiteCounter × Record
@@ -38,32 +106,50 @@ Addition = SiteCounter × Record
 abbrev pub Tombstone : Type 0
 Tombstone = SiteCounter × Unit {0}
 
-module _ (layout : Layout) (bytes : List ℕ) where
-  pub no_additions : IsReading {V = List Addition × List ℕ} (λ found. AreCounted (IsEntry layout) found.0) (counted_then (entry_bytes layout)) bytes None → (s : Content) → IsState layout s → bytes ≢ state_bytes layout s
-  no_additions none s said is = none (entries s.additions, counted tomb_bytes (entries s.tombstones)) said.additions is
+module _ (layout : Layout) (amended : Bool) (bytes : List ℕ) where
+  pub no_additions : IsReading {V = List Addition × List ℕ} (λ found. AreCounted (IsEntry layout) found.0) (counted_then (entry_bytes layout)) bytes None → (s : Content) → IsStateWith layout amended s → bytes ≢ state_bytes layout s
+  no_additions none s has is = none (entries s.additions, counted tomb_bytes (entries s.tombstones) ++ amendments_bytes (entries s.replacements)) has.said.additions is
 
   module _ (xs : List Addition) (rest : List ℕ) (first : IsReading {V = List Addition × List ℕ} (λ found. AreCounted (IsEntry layout) found.0) (counted_then (entry_bytes layout)) bytes (Some (xs, rest))) where
-    behind_additions : (s : Content) → IsState layout s → bytes ≡ state_bytes layout s → (xs ≡ entries s.additions) × (rest ≡ counted tomb_bytes (entries s.tombstones))
-    behind_additions s said is =
-        counted_cut (IsEntry layout) (entry_bytes layout) (entry_width layout) (entry_sized layout) (entry_apart layout) xs (entries s.additions) rest (counted tomb_bytes (entries s.tombstones)) first.0 said.additions (sym first.1 ∙ is)
+    behind_additions : (s : Content) → IsStateWith layout amended s → bytes ≡ state_bytes layout s → (xs ≡ entries s.additions) × (rest ≡ counted tomb_bytes (entries s.tombstones) ++ amendments_bytes (entries s.replacements))
+    behind_additions s has is =
+        counted_cut (IsEntry layout) (entry_bytes layout) (entry_width layout) (entry_sized layout) (entry_apart layout) xs (entries s.additions) rest (counted tomb_bytes (entries s.tombstones) ++ amendments_bytes (entries s.replacements)) first.0 has.said.additions (sym first.1 ∙ is)
 
-    pub no_tombstones : IsReading {V = List Tombstone × List ℕ} (λ found. AreCounted IsTomb found.0) (counted_then tomb_bytes) rest None → (s : Content) → IsState layout s → bytes ≢ state_bytes layout s
-    no_tombstones none s said is = none (entries s.tombstones, []) said.tombstones ((behind_additions s said is).1 ∙ sym (append-nil _))
+    pub no_tombstones : IsReading {V = List Tombstone × List ℕ} (λ found. AreCounted IsTomb found.0) (counted_then tomb_bytes) rest None → (s : Content) → IsStateWith layout amended s → bytes ≢ state_bytes layout s
+    no_tombstones none s has is = none (entries s.tombstones, amendments_bytes (entries s.replacements)) has.said.tombstones (behind_additions s has is).1
 
     module _ (ts : List Tombstone) (left : List ℕ) (second : IsReading {V = List Tombstone × List ℕ} (λ found. AreCounted IsTomb found.0) (counted_then tomb_bytes) rest (Some (ts, left))) where
-      behind_tombstones : (s : Content) → IsState layout s → bytes ≡ state_bytes layout s → (ts ≡ entries s.tombstones) × (left ≡ [])
-      behind_tombstones s said is =
-          counted_cut IsTomb tomb_bytes 4 (λ _. refl) tomb_apart ts (entries s.tombstones) left [] second.0 said.tombstones (sym second.1 ∙ (behind_additions s said is).1 ∙ sym (append-nil _))
+      behind_tombstones : (s : Content) → IsStateWith layout amended s → bytes ≡ state_bytes layout s → (ts ≡ entries s.tombstones) × (left ≡ amendments_bytes (entries s.replacements))
+      behind_tombstones s has is =
+          counted_cut IsTomb tomb_bytes 4 (λ _. refl) tomb_apart ts (entries s.tombstones) left (amendments_bytes (entries s.replacements)) second.0 has.said.tombstones (sym second.1 ∙ (behind_additions s has is).1)
 
-      pub something_left : left ≢ [] → (s : Content) → IsState layout s → bytes ≢ state_bytes layout s
-      something_left more s said is = more (behind_tombstones s said is).1
+      pub no_entries : IsReading {V = List Entry × List ℕ} (λ found. AreEntries amended found.0) entries_then left None → (s : Content) → IsStateWith layout amended s → bytes ≢ state_bytes layout s
+      no_entries none s has is = none (entries s.replacements, []) has.entries ((behind_tombstones s has is).1 ∙ sym (append-nil _))
 
-      pub lists_read : left ≡ [] → (o : Option Content) → IfSome o (λ made. entries made.additions ≡ xs) → IfSome o (λ made. entries made.tombstones ≡ ts) → IfSome o IsSound
-          → ((s : Content) → IsSound s → entries s.additions ≡ xs → entries s.tombstones ≡ ts → o ≡ Some s) → IsReading (IsState layout) (state_bytes layout) bytes o
-      lists_read none (Some made) additions tombstones sound all = (
-        record { sound = sound; additions = subst (AreCounted (IsEntry layout)) (sym additions) first.0; tombstones = subst (AreCounted IsTomb) (sym tombstones) second.0 },
-        first.1 ∙ ap (λ l. counted (entry_bytes layout) xs ++ l) (second.1 ∙ ap (λ l. counted tomb_bytes ts ++ l) none ∙ append-nil _) ∙ (λ i. counted (entry_bytes layout) (sym additions i) ++ counted tomb_bytes (sym tombstones i)),
-      )
-      lists_read none None additions tombstones sound all = λ s said is.
-          let found = all s said.sound (sym (behind_additions s said is).0) (sym (behind_tombstones s said is).0) in
-          absurd cc
+      module _ (es : List Entry) (end : List ℕ) (third : IsReading {V = List Entry × List ℕ} (λ found. AreEntries amended found.0) entries_then left (Some (es, end))) where
+        behind_entries : (s : Content) → IsStateWith layout amended s → bytes ≡ state_bytes layout s → (es ≡ entries s.replacements) × (end ≡ [])
+        behind_entries s has is = entries_cut amended es (entries s.replacements) end [] third.0 has.entries (sym third.1 ∙ (behind_tombstones s has is).1 ∙ sym (append-nil _))
+
+        pub something_left : end ≢ [] → (s : Content) → IsStateWith layout amended s → bytes ≢ state_bytes layout s
+        something_left more s has is = more (behind_entries s has is).1
+
+        pub lists_read : {E : Type 0} → end ≡ [] → (o : Result (Option Content) E) → IfOk o (λ made. IfSome made (λ s. entries s.additions ≡ xs)) → IfOk o (λ made. IfSome made (λ s. entries s.tombstones ≡ ts))
+            → IfOk o (λ made. IfSome made (λ s. entries s.replacements ≡ es)) → IfOk o (λ made. IfSome made IsSound)
+            → ((s : Content) → IsSound s → entries s.additions ≡ xs → entries s.tombstones ≡ ts → entries s.replacements ≡ es → IfOk o (λ made. made ≡ Some s)) → IfOk o (IsReading (IsStateWith layout amended) (state_bytes layout) bytes)
+        lists_read none (Ok (Some made)) additions tombstones replacements sound all = (
+          record {
+            said = record {
+              sound = sound;
+              additions = subst (AreCounted (IsEntry layout)) (sym additions) first.0;
+              tombstones = subst (AreCounted IsTomb) (sym tombstones) second.0;
+              replacements = subst (AreCounted AreIds) (sym replacements) (entries_counted amended es third.0);
+            };
+            entries = subst (AreEntries amended) (sym replacements) third.0;
+          },
+          first.1 ∙ ap (λ l. counted (entry_bytes layout) xs ++ l) (second.1 ∙ ap (λ l. counted tomb_bytes ts ++ l) (third.1 ∙ ap (λ l. amendments_bytes es ++ l) none ∙ append-nil _))
+              ∙ (λ i. counted (entry_bytes layout) (sym additions i) ++ (counted tomb_bytes (sym tombstones i) ++ amendments_bytes (sym replacements i))),
+        )
+        lists_read none (Ok None) additions tombstones replacements sound all = λ s has is.
+            let found = all s has.said.sound (sym (behind_additions s has is).0) (sym (behind_tombstones s has is).0) (sym (behind_entries s has is).0) in
+            absurd cc
+        lists_read none (Err fault) additions tombstones replacements sound all = tt

@@ -13,7 +13,7 @@ use Rattle.stn_records.specs.declared.record.Mark.TheVariants.{Plain, Done}
 use Rattle.stn_records.specs.declared.record.Record.{Record}
 use Rattle.stn_wire.specs.declared.layout.Layout.{Layout}
 use Rattle.stn_wire.specs.declared.layout.Layout.TheVariants.{Old, New}
-use Rattle.stn_wire.specs.Spelling.{two, four, id_bytes, furthest, width_of, side_width, gap_of, most_gap, side_bytes, IsLow, IsHigh, bound_bytes, IsBound, mark_byte, record_bytes, IsRecord, entry_bytes, IsEntry, entry_width, tomb_bytes, IsTomb}
+use Rattle.stn_wire.specs.Spelling.{two, four, id_bytes, furthest, width_of, side_width, gap_of, most_gap, side_bytes, IsLow, IsHigh, bound_bytes, IsBound, mark_byte, record_bytes, IsRecord, entry_bytes, IsEntry, entry_width, tomb_bytes, IsTomb, amendment_bytes, AreIds}
 
 pub two_apart : (m n : ℕ) → m < 2 ^ 16 → n < 2 ^ 16 → two m ≡ two n → m ≡ n
 two_apart m n p q e = sym (from_be_bytes-to_be_bytes_2 m p) ∙ ap (from_be_bytes w16) e ∙ from_be_bytes-to_be_bytes_2 n q
@@ -191,6 +191,12 @@ entry_sized New entry = refl
 
 pub entry_some : (layout : Layout) → 0 < entry_width layout
 entry_some layout = omega arith
+
+pub amendment_apart : (a b : SiteCounter × SiteCounter) → AreIds a → AreIds b → amendment_bytes a ≡ amendment_bytes b → a ≡ b
+amendment_apart a b p q e =
+    let new = id_apart a.0 b.0 p.new q.new (ap (take 4) e) in
+    let replaced = id_apart a.1 b.1 p.replaced q.replaced (ap (drop 4) e) in
+    λ i. (new i, replaced i)
 
 pub tomb_apart : (a b : SiteCounter × Unit {0}) → IsTomb a → IsTomb b → tomb_bytes a ≡ tomb_bytes b → a ≡ b
 tomb_apart a b p q e = let id = id_apart a.0 b.0 p q e in λ i. (id i, tt)

@@ -1,9 +1,10 @@
 -- What a frame says, and its one spelling: a table by kinds.
-use Rattle.std.specs.Prelude.{ℕ, ◌<◌, ◌≤◌, ◌^◌, List, [], ◌∷◌, ◌++◌, length, ⊤}
+use Rattle.std.specs.Prelude.{◌≡◌, ℕ, ◌<◌, ◌≤◌, ◌^◌, List, [], ◌∷◌, ◌++◌, length, ⊤}
 use Rattle.std.specs.FinMap.{entries}
 use Rattle.stn_lift.specs.PlanSource.{PlanSource, bare, files, plan_source}
+use Rattle.stn_records.specs.Id.{SiteCounter}
 use Rattle.stn_records.specs.Content.{Content, IsSound}
-use Rattle.stn_wire.specs.Spelling.{two, measured, counted, AreCounted, entry_bytes, IsEntry, tomb_bytes, IsTomb}
+use Rattle.stn_wire.specs.Spelling.{two, measured, counted, AreCounted, entry_bytes, IsEntry, tomb_bytes, IsTomb, amendments_bytes, AreIds}
 use Rattle.stn_wire.specs.declared.layout.Layout.{Layout}
 use Rattle.stn_wire.specs.declared.layout.Layout.TheVariants.{Old, New}
 use Rattle.stn_wire.specs.declared.frame.Frame.{Frame}
@@ -54,14 +55,26 @@ abbrev pub IsSaidSource : PlanSource → Type 0
 IsSaidSource (bare steps) = steps < 2 ^ 16
 IsSaidSource (files domain plan) = (length domain < 2 ^ 32) × (length plan < 2 ^ 32)
 
--- a state: its additions and its withdrawals, each in order of id
+-- a state: its additions, its withdrawals, and the entries of its amendments, where there are any, each in order of id
 abbrev pub state_bytes : Layout → Content → List ℕ
-state_bytes layout state = counted (entry_bytes layout) (entries state.additions) ++ counted tomb_bytes (entries state.tombstones)
+state_bytes layout state = counted (entry_bytes layout) (entries state.additions)
+    ++ (counted tomb_bytes (entries state.tombstones) ++ amendments_bytes (entries state.replacements))
 
 pub record IsState (layout : Layout) (state : Content) : Type 0 where
   pub sound : IsSound state
   pub additions : AreCounted (IsEntry layout) (entries state.additions)
   pub tombstones : AreCounted IsTomb (entries state.tombstones)
+  pub replacements : AreCounted AreIds (entries state.replacements)
+
+-- a state of the first version, which knows no amendments
+pub record IsOldState (state : Content) : Type 0 where
+  pub said : IsState Old state
+  pub plain : entries state.replacements ≡ []
+
+-- the kind of the records of a state, by its entries
+abbrev pub records_kind : List (SiteCounter × SiteCounter) → ℕ
+records_kind [] = 8
+records_kind (entry ∷ rest) = 16
 
 -- the kind of a frame, the first byte of its body
 abbrev pub kind_of : FrameContent → ℕ
@@ -72,7 +85,7 @@ kind_of (text bytes) = 4
 kind_of (refused code) = 5
 kind_of same = 6
 kind_of (hello source) = 7
-kind_of (records state) = 8
+kind_of (records state) = records_kind (entries state.replacements)
 
 -- what stands behind the kind
 abbrev pub rest_of : FrameContent → List ℕ
@@ -88,7 +101,7 @@ rest_of (records state) = state_bytes New state
 -- what has a spelling
 abbrev pub IsSaid : FrameContent → Type 0
 IsSaid (old_hello source) = IsSaidSource source
-IsSaid (old_records state) = IsState Old state
+IsSaid (old_records state) = IsOldState state
 IsSaid ask = Unit {0}
 IsSaid (text bytes) = Unit {0}
 IsSaid (refused code) = code < 256

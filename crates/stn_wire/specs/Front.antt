@@ -15,7 +15,7 @@ abbrev pub IsLength : ℕ → Type 0
 IsLength n = (1 ≤ n) × (n ≤ most_body)
 
 abbrev pub IsKind : ℕ → Type 0
-IsKind kind = (1 ≤ kind) × (kind ≤ 8)
+IsKind kind = ((1 ≤ kind) × (kind ≤ 8)) ⊎ (kind ≡ 16)
 
 -- a whole frame and how many bytes it has; a fault; less than a frame
 pub data Front : Type 0 where

@@ -1,9 +1,13 @@
 -- For proofs alone: no public clause cites these words.
 -- What a reader answers: the value that the bytes spell, or that they spell none.
-use Rattle.std.specs.Prelude.{◌≡◌, ◌≢◌, ℕ, ◌+◌, ◌<◌, ◌≤◌, List, ◌++◌, take, length, slice_index, Option, Some, None, Result, Ok, Err}
+use Rattle.std.specs.Prelude.{◌≡◌, ◌≢◌, ℕ, ◌+◌, ◌<◌, ◌≤◌, Bool, true, false, List, [], ◌++◌, take, length, slice_index, Option, Some, None, Result, Ok, Err}
 use Rattle.std.specs.List.{flat_map, AllByRecursion}
-use Rattle.stn_wire.specs.Spelling.{measured, counted}
-use Rattle.stn_wire.specs.Frame.{FrameContent, IsSaid, body_of}
+use Rattle.std.specs.FinMap.{entries}
+use Rattle.stn_records.specs.Id.{SiteCounter}
+use Rattle.stn_records.specs.Content.{Content}
+use Rattle.stn_wire.specs.declared.layout.Layout.{Layout}
+use Rattle.stn_wire.specs.Spelling.{measured, counted, AreCounted, AreIds, amendments_bytes}
+use Rattle.stn_wire.specs.Frame.{FrameContent, IsState, IsSaid, body_of}
 use Rattle.stn_wire.specs.Front.{announced, IsLength, IsKind, IsFront, faulty}
 use Rattle.stn_wire.specs.Feeder.{holding, IsTaken}
 use Rattle.stn_wire.specs.declared.fault.WireFault.{WireFault}
@@ -25,6 +29,19 @@ items_then spell found = flat_map spell found.0 ++ found.1
 
 abbrev pub counted_then : {X : Type 0} → (X → List ℕ) → List X × List ℕ → List ℕ
 counted_then spell found = counted spell found.0 ++ found.1
+
+-- the entries of a state: some, or none
+abbrev pub AreEntries : Bool → List (SiteCounter × SiteCounter) → Type 0
+AreEntries true entries = (entries ≢ []) × AreCounted AreIds entries
+AreEntries false entries = entries ≡ []
+
+abbrev pub entries_then : List (SiteCounter × SiteCounter) × List ℕ → List ℕ
+entries_then found = amendments_bytes found.0 ++ found.1
+
+-- a state that a layout spells, with some entries or none
+pub record IsStateWith (layout : Layout) (amended : Bool) (state : Content) : Type 0 where
+  pub said : IsState layout state
+  pub entries : AreEntries amended (entries state.replacements)
 
 abbrev pub measured_then : List ℕ × List ℕ → List ℕ
 measured_then found = measured found.0 ++ found.1

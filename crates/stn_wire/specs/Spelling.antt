@@ -1,5 +1,5 @@
 -- How a value is spelled in bytes. All numbers are unsigned, and their highest byte comes first.
-use Rattle.std.specs.Prelude.{◌≡◌, ◌⊎◌, ℕ, ℤ, pos, neg_ℤ, ◌<ℤ◌, ◌≤ℤ◌, ◌+◌, ◌*◌, ◌<◌, ◌^◌, min, List, ◌∷◌, ◌++◌, length}
+use Rattle.std.specs.Prelude.{◌≡◌, ◌⊎◌, ℕ, ℤ, pos, neg_ℤ, ◌<ℤ◌, ◌≤ℤ◌, ◌+◌, ◌*◌, ◌<◌, ◌^◌, min, List, [], ◌∷◌, ◌++◌, length}
 use Rattle.std.specs.Int.{Width, w16, w32, w64, to_be_bytes, int_gap}
 use Rattle.std.specs.List.{flat_map, AllByRecursion}
 use Rattle.stn_time.specs.Time.{horizon}
@@ -114,3 +114,16 @@ tomb_bytes entry = id_bytes entry.0
 
 abbrev pub IsTomb : SiteCounter × Unit {0} → Type 0
 IsTomb entry = IsId entry.0
+
+-- an entry of an amendment: the id of the record, and the id that it replaces
+abbrev pub amendment_bytes : SiteCounter × SiteCounter → List ℕ
+amendment_bytes entry = id_bytes entry.0 ++ id_bytes entry.1
+
+pub record AreIds (entry : SiteCounter × SiteCounter) : Type 0 where
+  pub new : IsId entry.0
+  pub replaced : IsId entry.1
+
+-- a list of entries, where there are any
+abbrev pub amendments_bytes : List (SiteCounter × SiteCounter) → List ℕ
+amendments_bytes [] = []
+amendments_bytes (entry ∷ rest) = counted amendment_bytes (entry ∷ rest)

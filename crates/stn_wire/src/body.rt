@@ -1,12 +1,12 @@
 // Bodies of frames: a table by kinds.
-ghost use Rattle.std.specs.Prelude.{◌≡◌, ◌∷◌, ◌≤◌, ◌++◌, length, IfOk, OnOk, option_map};
+ghost use Rattle.std.specs.Prelude.{◌≡◌, ◌∷◌, ◌≤◌, ◌++◌, length, IfOk, OnOk, option_map, if◌then◌else◌};
 ghost use Rattle.stn_wire.specs.Frame.{most_body, content, said_content, body_of, IsSaid};
 ghost use Rattle.stn_wire.specs.Reading.{IsBodyReading};
 
 use crate::frame::{Frame, Said};
 use crate::layout::Layout;
 use crate::source::{append_source, read_source};
-use crate::state::{append_state, read_state};
+use crate::state::{append_state, kind_of_records, read_state};
 use std::alloc::Allocator;
 use stn_time::Memory;
 
@@ -24,7 +24,8 @@ pub(crate) fn read_body<A: Allocator + Copy>(
         Some((5, rest)) => Ok(read_refused(rest)),
         Some((6, rest)) => Ok(read_same(rest)),
         Some((7, rest)) => read_hello(alloc, rest),
-        Some((8, rest)) => read_records(alloc, rest),
+        Some((8, rest)) => read_records(alloc, false, rest),
+        Some((16, rest)) => read_records(alloc, true, rest),
         _ => Ok(None),
     }
 }
@@ -41,7 +42,7 @@ fn read_old_hello<A: Allocator + Copy>(alloc: A, rest: &[u8]) -> Result<Option<F
 fn read_old_records<A: Allocator + Copy>(alloc: A, rest: &[u8]) -> Result<Option<Frame<A>>, Memory>
     ensures { IfOk result (λ r. IsBodyReading (2 ∷ rest.now) (option_map content r)) }
 {
-    match read_state(alloc, Layout::Old, rest)? {
+    match read_state(alloc, Layout::Old, false, rest)? {
         Some(state) => Ok(Some(Frame::OldRecords(state))),
         None => Ok(None),
     }
@@ -56,10 +57,14 @@ fn read_hello<A: Allocator + Copy>(alloc: A, rest: &[u8]) -> Result<Option<Frame
     }
 }
 
-fn read_records<A: Allocator + Copy>(alloc: A, rest: &[u8]) -> Result<Option<Frame<A>>, Memory>
-    ensures { IfOk result (λ r. IsBodyReading (8 ∷ rest.now) (option_map content r)) }
+fn read_records<A: Allocator + Copy>(
+    alloc: A,
+    amended: bool,
+    rest: &[u8],
+) -> Result<Option<Frame<A>>, Memory>
+    ensures { IfOk result (λ r. IsBodyReading ((if amended then 16 else 8) ∷ rest.now) (option_map content r)) }
 {
-    match read_state(alloc, Layout::New, rest)? {
+    match read_state(alloc, Layout::New, amended, rest)? {
         Some(state) => Ok(Some(Frame::Records(state))),
         None => Ok(None),
     }
@@ -116,7 +121,7 @@ pub(crate) fn append_body<A: Allocator + Copy, B: Allocator>(
             append_source(out, source)
         }
         Said::Records(state) => {
-            out.push(8)?;
+            out.push(kind_of_records(state))?;
             append_state(out, state)
         }
         Said::Ask => Ok(out.push(3)?),

@@ -14,7 +14,7 @@ pub enum Frame<A: Allocator> {
     OldRecords(Records<A>),
     /// The plan of the site, by what its base is made from.
     Hello(Source<A>),
-    /// Records and withdrawn ids.
+    /// Records with the ids that they replace, and withdrawn ids.
     Records(Records<A>),
     /// A report is wanted.
     Ask,
@@ -50,7 +50,7 @@ impl<A: Allocator> Frame<A> {
 pub enum Said<'a, A: Allocator> {
     /// The plan of the site.
     Hello(&'a Source<A>),
-    /// Records and withdrawn ids.
+    /// Records with the ids that they replace, and withdrawn ids.
     Records(&'a Records<A>),
     /// A report is wanted.
     Ask,

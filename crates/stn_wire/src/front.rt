@@ -44,7 +44,7 @@ pub(crate) fn wanted(bytes: &[u8]) -> Result<usize, WireFault>
     }
     match bytes.get(4) {
         None => Ok(5),
-        Some(1..=8) => Ok(4 + length),
+        Some(1..=8 | 16) => Ok(4 + length),
         Some(_) => Err(WireFault::Kind),
     }
 }

@@ -73,6 +73,42 @@ impl Item for (Id, Record) {
     ghost apart = { entry_apart };
 }
 
+impl Item for (Id, Id) {
+    ghost use Rattle.std.specs.Prelude.{refl};
+    ghost use Rattle.std.proofs.Common.{lit<};
+    ghost use Rattle.stn_wire.specs.Spelling.{AreIds, amendment_bytes};
+    ghost use Rattle.stn_wire.specs.Apart.{amendment_apart};
+
+    ghost wide = { λ layout. 8 };
+
+    ghost IsSpelled = { λ layout. AreIds };
+
+    ghost bytes_of = { λ layout. amendment_bytes };
+
+    fn size(_layout: Layout) -> usize {
+        8
+    }
+
+    fn read(_layout: Layout, bytes: &[u8]) -> Option<(Id, Id)> {
+        let (new, replaced) = bytes.split_at(4);
+        let new = read_id(new)?;
+        let replaced = read_id(replaced)?;
+        Some((new, replaced))
+    }
+
+    fn append<A: Allocator>(&self, out: &mut Vec<u8, A>) -> Result<(), Memory> {
+        let (new, replaced) = self;
+        append_id(out, *new)?;
+        append_id(out, *replaced)
+    }
+
+    ghost some = { λ layout. lit< tt };
+
+    ghost sized = { λ layout item. refl };
+
+    ghost apart = { λ layout. amendment_apart };
+}
+
 impl Item for (Id, ()) {
     ghost use Rattle.std.specs.Prelude.{refl};
     ghost use Rattle.std.proofs.Common.{lit<};

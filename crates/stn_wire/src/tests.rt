@@ -42,6 +42,40 @@ fn states_there_and_back(rt: HostRuntime) -> Result<(), Fail> {
     Ok(())
 }
 
+// A frame of the record 1.2, s1 to e1 in 6.000, and of one entry, by which it replaces this id of site 1.
+fn amendment(alloc: Global, kind: u8, counter: u8) -> Result<Vec<u8, Global>, WireFault> {
+    let mut bytes = Vec::new(alloc);
+    bytes.extend_from_slice(&[0, 0, 0, 40, kind])?;
+    bytes.extend_from_slice(b"\x00\x01\x00\x01\x00\x02\x00\x00\x01\x00\x02\x00\x00\x00\x07")?;
+    bytes.extend_from_slice(b"\x57\xb1\x43\x70\x00\x00\x00\x07\x57\xb1\x43\x70\x00\x00")?;
+    bytes.extend_from_slice(&[0, 1, 0, 1, 0, 2, 0, 1, 0, counter])?;
+    Ok(bytes)
+}
+
+// 1.2 replaces 1.1, and not itself; entries stand in frames of kind 16 alone.
+#[test]
+fn amendments_there_and_back(rt: HostRuntime) -> Result<(), Fail> {
+    let alloc = rt.alloc();
+    assert_eq!(rt; is_spelled(alloc, &amendment(alloc, 16, 1)?), Ok(true));
+    assert_eq!(rt;
+        fault_of(alloc, &amendment(alloc, 16, 2)?),
+        Some(WireFault::Body)
+    );
+    assert_eq!(rt;
+        fault_of(alloc, &amendment(alloc, 8, 1)?),
+        Some(WireFault::Body)
+    );
+    assert_eq!(rt;
+        fault_of(alloc, b"\x00\x00\x00\x07\x10\x00\x00\x00\x00\x00\x00"),
+        Some(WireFault::Body)
+    );
+    assert_eq!(rt;
+        fault_of(alloc, b"\x00\x00\x00\x01\x11"),
+        Some(WireFault::Kind)
+    );
+    Ok(())
+}
+
 #[test]
 fn sources_of_two_texts(rt: HostRuntime) -> Result<(), Fail> {
     let alloc = rt.alloc();
