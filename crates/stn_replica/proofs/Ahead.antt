@@ -6,7 +6,7 @@ use Rattle.std.specs.Cmp.{tied_back}
 use Rattle.std.specs.FinMap.{FinMap, entries, get, get-entries, contains_key, find, is_sorted}
 use Rattle.std.specs.FinMap.Entries.{below_all}
 use Rattle.stn_records.specs.Id.{SiteCounter, id_cmp}
-use Rattle.stn_records.specs.Content.{Content, is_live}
+use Rattle.stn_records.specs.Content.{Content, is_live, is_replaced}
 use Rattle.stn_records.specs.ContentLaws.{ids_total}
 use Rattle.stn_records.proofs.Entries.{less_is, greater_back, below_less, find_below, passed_over, sorted_drop, in_order, front}
 use Rattle.stn_replica.specs.Work.{is_risen}
@@ -94,8 +94,8 @@ module _ {X Y : Type 0} (all items : List (SiteCounter × Y)) (m : FinMap id_cmp
       subst (IsAhead all (place + 1) m) (sym is) (one_ahead all m place e rest (subst (λ l. place < length l) same within) (subst (λ l. e ≡ get_or l place e) same at) ahead sorted)
 
 -- an added record has become live by what the cursors say of it
-pub rises : (old new : Content) (id : SiteCounter) (added gone withdrawn risen : Bool) → contains_key new.additions id ≡ true
-    → added ≡ contains_key old.additions id → gone ≡ contains_key old.tombstones id → withdrawn ≡ contains_key new.tombstones id
-    → risen ≡ (not withdrawn && not (added && not gone)) → risen ≡ is_risen old new id
-rises old new id added gone withdrawn risen there a g w is =
-    is ∙ (λ i. not (w i) && not (a i && not (g i))) ∙ ap (λ b. (b && not (contains_key new.tombstones id)) && not (is_live old id)) (sym there)
+pub rises : (old new : Content) (id : SiteCounter) (added gone replaced risen : Bool) → contains_key new.additions id ≡ true
+    → added ≡ contains_key old.additions id → gone ≡ is_replaced old id → replaced ≡ is_replaced new id
+    → risen ≡ (not replaced && not (added && not gone)) → risen ≡ is_risen old new id
+rises old new id added gone replaced risen there a g w is =
+    is ∙ (λ i. not (w i) && not (a i && not (g i))) ∙ ap (λ b. (b && not (is_replaced new id)) && not (is_live old id)) (sym there)

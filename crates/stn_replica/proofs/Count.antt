@@ -1,15 +1,19 @@
--- How many records and withdrawn ids a state has.
-use Rattle.std.proofs.Common.{suc, ◌≤◌, Bool, true, false, cond, not, List, [], ◌∷◌, length, map, filter, arith}
+-- How many records and replaced ids a state has.
+use Rattle.std.proofs.Common.{◌≡◌, sym, suc, ◌≤◌, Bool, true, false, cond, not, List, [], ◌∷◌, length, map, filter, arith}
 use Rattle.std.proofs.lemmas.List.{length-map}
-use Rattle.std.specs.FinMap.{entries, keys, contains_key}
+use Rattle.std.specs.FinMap.{entries}
 use Rattle.stn_records.specs.Id.{SiteCounter}
 use Rattle.stn_records.specs.declared.record.Record.{Record}
-use Rattle.stn_records.specs.Content.{Content, known_count, live_of, listed}
-use Rattle.stn_records.proofs.Limits.{additions_within, tombstones_within}
+use Rattle.stn_records.specs.Content.{Content, known_count, is_replaced, live_of, listed, replaced_count, replaced_set}
+use Rattle.stn_records.proofs.Limits.{additions_within, replaced_within}
 
--- no more ids are withdrawn than are known
-pub withdrawn_within : (s : Content) → length (keys s.tombstones) ≤ known_count s
-withdrawn_within s = omega (arith, tombstones_within s, length-map (entries s.tombstones) (λ (e : SiteCounter × Unit {0}). e.0))
+-- as many ids are replaced as the set has entries
+pub replaced_counted : (s : Content) → length (entries (replaced_set s)) ≡ replaced_count s
+replaced_counted s = sym (length-map (entries (replaced_set s)) (λ (e : SiteCounter × Unit {0}). e.0))
+
+-- and no more than are known
+pub few_replaced : (s : Content) → replaced_count s ≤ known_count s
+few_replaced s = omega (arith, replaced_within s, replaced_counted s)
 
 length_kept : {X : Type 0} (p : X → Bool) (xs : List X) → length (filter p xs) ≤ length xs
 length_kept p [] = omega arith
@@ -17,4 +21,4 @@ length_kept p (x ∷ xs) = elim (p x) as (λ b. length (cond b (x ∷ filter p x
 
 -- no more records are live than ids are known
 pub live_within : (s : Content) → length (map listed (live_of s)) ≤ known_count s
-live_within s = omega (arith, additions_within s, length-map (live_of s) listed, length_kept (λ (entry : SiteCounter × Record). not (contains_key s.tombstones entry.0)) (entries s.additions))
+live_within s = omega (arith, additions_within s, length-map (live_of s) listed, length_kept (λ (entry : SiteCounter × Record). not (is_replaced s entry.0)) (entries s.additions))

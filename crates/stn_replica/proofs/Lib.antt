@@ -1,8 +1,9 @@
 pub mod Ahead
+pub mod Amended
 pub mod Broken
 pub mod Changes
 pub mod Count
-pub mod Entries
+pub mod Counts
 pub mod Flags
 pub mod Items
 pub mod Lengths

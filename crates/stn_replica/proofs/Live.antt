@@ -9,13 +9,13 @@ use Rattle.stn_net.specs.Schedule.{HasSchedule, Meets}
 use Rattle.stn_matrix.specs.Table.{Table}
 use Rattle.stn_records.specs.Id.{SiteCounter, id_cmp}
 use Rattle.stn_records.specs.declared.record.Record.{Record}
-use Rattle.stn_records.specs.Content.{Content, is_live, live_of, no_content}
+use Rattle.stn_records.specs.Content.{Content, is_live, is_replaced, live_of, no_content, replaced_set}
 use Rattle.stn_records.specs.ContentLaws.{ids_total, ids_exact}
 use Rattle.stn_replica.specs.Bounds.{bounds_of, live_bounds, RecordsName}
 use Rattle.stn_replica.specs.Invariant.{IsSettled}
 use Rattle.stn_replica.specs.Work.{is_risen, risen, KeepsLive}
 use Rattle.stn_replica.specs.Walk.{Extends}
-use Rattle.stn_replica.proofs.Entries.{entries_from_get, get_from_entries}
+use Rattle.stn_records.proofs.Gets.{entries_from_get, get_from_entries}
 use Rattle.stn_replica.proofs.Schedules.{schedule_before, met_behind, schedule_with, settled_same_schedules}
 
 abbrev pub Entry : Type 0
@@ -72,15 +72,15 @@ module _ (P : Difference → Type 0) where
   -- what holds of the bounds of all live records
   pub live_from_bounds : (s : Content) → All P (live_bounds s) → LiveHold P s
   live_from_bounds s h id r there live =
-      get_from_entries ids_total ids_exact s.additions (λ entry. not (contains_key s.tombstones entry.0) ≡ true → P entry.1.bound)
-      (All-passing (λ entry. not (contains_key s.tombstones entry.0)) (λ entry. P entry.1.bound) (entries s.additions) (records_from_bounds P (live_of s) h))
+      get_from_entries ids_total ids_exact s.additions (λ entry. not (is_replaced s entry.0) ≡ true → P entry.1.bound)
+      (All-passing (λ entry. not (is_replaced s entry.0)) (λ entry. P entry.1.bound) (entries s.additions) (records_from_bounds P (live_of s) h))
       id r there (sym (known_here (get s.additions id) r _ there) ∙ live)
 
   pub bounds_from_live : (s : Content) → LiveHold P s → All P (live_bounds s)
   bounds_from_live s f =
       bounds_from_records P (live_of s)
-      (All-filter_passing (λ entry. not (contains_key s.tombstones entry.0)) (λ entry. P entry.1.bound) (entries s.additions)
-      (entries_from_get ids_total ids_exact s.additions (λ entry. not (contains_key s.tombstones entry.0) ≡ true → P entry.1.bound)
+      (All-filter_passing (λ entry. not (is_replaced s entry.0)) (λ entry. P entry.1.bound) (entries s.additions)
+      (entries_from_get ids_total ids_exact s.additions (λ entry. not (is_replaced s entry.0) ≡ true → P entry.1.bound)
       (λ id r there untombed. f id r there (known_here (get s.additions id) r _ there ∙ untombed))))
 
   pub risen_from_bounds : (old new : Content) → All P (bounds_of (risen old new)) → RisenHold P old new
@@ -102,7 +102,7 @@ there_where_live : (o : Option Record) (b : Bool) → (is_some o && b) ≡ true 
 there_where_live None b e = absurd (false≢true e)
 there_where_live (Some r) b e = (r, refl)
 
-left_true : (a b : Bool) → (a && b) ≡ true → a ≡ true
+pub left_true : (a b : Bool) → (a && b) ≡ true → a ≡ true
 left_true true b e = refl
 left_true false b e = e
 
@@ -121,7 +121,7 @@ module _ (P : Difference → Type 0) (old new : Content) (extends : Extends old 
   new_hold f g id r there live =
       elim (is_live old id) as (λ b. is_live old id ≡ b → P r.bound) [
         | true ↦ λ t.
-            let before = there_where_live (get old.additions id) (not (contains_key old.tombstones id)) t in
+            let before = there_where_live (get old.additions id) (not (is_replaced old id)) t in
             let same = same_record (get new.additions id) before.0 r (extends id before.0 before.1) there in
             subst (λ (x : Record). P x.bound) same (f id before.0 before.1 t)
         | false ↦ λ t. g id r there (ap (λ b. b && not (is_live old id)) live ∙ ap not t)
@@ -159,26 +159,54 @@ conflict_stays base old new extends keeps none s =
 pub added_there : (s : Content) → All (λ (entry : Entry). contains_key s.additions entry.0 ≡ true) (entries s.additions)
 added_there s = entries_from_get ids_total ids_exact s.additions (λ entry. contains_key s.additions entry.0 ≡ true) (λ id r there. ap is_some there)
 
--- and each id that was withdrawn
-pub tombs_there : (s : Content) → All (λ (entry : SiteCounter × Unit {0}). contains_key s.tombstones entry.0 ≡ true) (entries s.tombstones)
-tombs_there s = entries_from_get ids_total ids_exact s.tombstones (λ entry. contains_key s.tombstones entry.0 ≡ true) (λ id u there. ap is_some there)
-
--- where no id that is withdrawn now was live, each record that was live still is
-pub keeps_from_tombs : (old new : Content) → Extends old new → All (λ (entry : SiteCounter × Unit {0}). is_live old entry.0 ≡ false) (entries new.tombstones) → KeepsLive old new
-keeps_from_tombs old new extends dead id live =
-    let there = there_where_live (get old.additions id) (not (contains_key old.tombstones id)) live in
-    elim (get new.tombstones id) as (λ o. get new.tombstones id ≡ o → (is_some (get new.additions id) && not (is_some o)) ≡ true) [
-      | None ↦ λ e. ap (λ o. is_some o && true) (extends id there.0 there.1)
-      | Some u ↦ λ e. absurd (false≢true (sym (get_from_entries ids_total ids_exact new.tombstones (λ entry. is_live old entry.0 ≡ false) dead id u e) ∙ live))
+-- where no id that is replaced now was live, each record that was live still is
+pub keeps_unless_replaced : (old new : Content) → Extends old new → ((id : SiteCounter) → is_replaced new id ≡ true → is_live old id ≡ false) → KeepsLive old new
+keeps_unless_replaced old new extends dead id live =
+    let there = there_where_live (get old.additions id) (not (is_replaced old id)) live in
+    elim (is_replaced new id) as (λ b. is_replaced new id ≡ b → (is_some (get new.additions id) && not b) ≡ true) [
+      | true ↦ λ e. absurd (false≢true (sym (dead id e) ∙ live))
+      | false ↦ λ e. ap (λ o. is_some o && true) (extends id there.0 there.1)
     ] refl
 
--- where an id that is withdrawn now was live, it no longer is
-pub falls_from_tomb : (old new : Content) (id : SiteCounter) → contains_key new.tombstones id ≡ true → is_live old id ≡ true → ¬ KeepsLive old new
-falls_from_tomb old new id tomb live keeps = false≢true (sym (ap (λ b. contains_key new.additions id && not b) tomb ∙ and_false (contains_key new.additions id)) ∙ keeps id live)
+-- each id that is replaced is found
+pub replaced_there : (s : Content) → All (λ (entry : SiteCounter × Unit {0}). is_replaced s entry.0 ≡ true) (entries (replaced_set s))
+replaced_there s = entries_from_get ids_total ids_exact (replaced_set s) (λ entry. is_replaced s entry.0 ≡ true) (λ id u there. ap is_some there)
+
+-- so where none of those that are replaced now was live, each record that was live still is
+pub keeps_where_dead : (old new : Content) → Extends old new → All (λ (entry : SiteCounter × Unit {0}). is_live old entry.0 ≡ false) (entries (replaced_set new)) → KeepsLive old new
+keeps_where_dead old new extends dead =
+    keeps_unless_replaced old new extends (λ id e.
+    let there = there_is (get (replaced_set new) id) e in
+    get_from_entries ids_total ids_exact (replaced_set new) (λ entry. is_live old entry.0 ≡ false) dead id there.0 there.1)
+  where
+    there_is : {X : Type 0} (o : Option X) → is_some o ≡ true → (x : X) × (o ≡ Some x)
+    there_is None e = absurd (false≢true e)
+    there_is (Some x) e = (x, refl)
+
+-- where an id that is replaced now was live, it no longer is
+pub falls_where_replaced : (old new : Content) (id : SiteCounter) → is_replaced new id ≡ true → is_live old id ≡ true → ¬ KeepsLive old new
+falls_where_replaced old new id gone live keeps = false≢true (sym (ap (λ b. contains_key new.additions id && not b) gone ∙ and_false (contains_key new.additions id)) ∙ keeps id live)
+
+-- where the same records are live, the same is settled
+pub settled_alike : (base : List Difference) (old new : Content) (table : Table) (possible : Bool)
+    → new.additions ≡ old.additions → ((id : SiteCounter) → is_live new id ≡ is_live old id)
+    → All (NamesEvents table.events) (base ++ live_bounds new)
+    → IsSettled (base ++ live_bounds old) table possible → IsSettled (base ++ live_bounds new) table possible
+settled_alike base old new table possible added live named settled =
+    settled_same_schedules (base ++ live_bounds old) (base ++ live_bounds new) table possible
+    (λ time s.
+    let all = live_from_bounds (Meets time) old (met_behind base (live_bounds old) time s) in
+    schedule_with base (live_bounds new) time (schedule_before base (live_bounds old) time s)
+    (bounds_from_live (Meets time) new (λ id r there now. all id r (ap (λ m. get m id) (sym added) ∙ there) (sym (live id) ∙ now))))
+    (λ time s.
+    let all = live_from_bounds (Meets time) new (met_behind base (live_bounds new) time s) in
+    schedule_with base (live_bounds old) time (schedule_before base (live_bounds new) time s)
+    (bounds_from_live (Meets time) old (λ id r there now. all id r (ap (λ m. get m id) added ∙ there) (live id ∙ now))))
+    named settled
 
 -- records that name some events, named by the bounds of the live ones
 pub live_named : (events : ℕ) (s : Content) → RecordsName events s → All (NamesEvents events) (live_bounds s)
-live_named events s named = bounds_from_records (NamesEvents events) (live_of s) (All-filter (λ entry. not (contains_key s.tombstones entry.0)) (λ entry. NamesEvents events entry.1.bound) (entries s.additions) named)
+live_named events s named = bounds_from_records (NamesEvents events) (live_of s) (All-filter (λ entry. not (is_replaced s entry.0)) (λ entry. NamesEvents events entry.1.bound) (entries s.additions) named)
 
 pub nothing_live : (none : Content) → none ≡ no_content → (id : SiteCounter) → is_live none id ≡ false
-nothing_live none is id = ap (λ s. is_live s id) is ∙ ap (λ o. is_some o && not (contains_key no_content.tombstones id)) (get-empty id_cmp id)
+nothing_live none is id = ap (λ s. is_live s id) is ∙ ap (λ o. is_some o && not (is_replaced no_content id)) (get-empty id_cmp id)

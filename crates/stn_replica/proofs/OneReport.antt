@@ -1,19 +1,24 @@
 -- A plan and a state have one report.
-use Rattle.std.proofs.Common.{◌≡◌, ℕ, zero, suc, ◌+◌, ◌⊎◌, List, [], ◌∷◌, ◌++◌, codes, Bool, Some, sym, ap, subst, ◌∙◌, ⊎_elim}
+use Rattle.std.proofs.Common.{◌≡◌, ℕ, zero, suc, ◌+◌, ◌⊎◌, List, [], ◌∷◌, ◌++◌, codes, Bool, Some, length, map, inl, inr, sym, ap, subst, ◌∙◌, ⊎_elim}
 use Rattle.std.proofs.lemmas.List.Elements.{All-take}
 use Rattle.std.specs.List.{flat_map}
 use Rattle.stn_net.specs.Difference.{Difference}
 use Rattle.stn_net.specs.Schedule.{HasSchedule, Meets}
 use Rattle.stn_windows.proofs.Windows.{one_window}
-use Rattle.stn_lift.specs.PlanSource.{PlanSource, base_bounds, events_of}
-use Rattle.stn_records.specs.Content.{Content}
+use Rattle.stn_lift.specs.PlanSource.{PlanSource, base_bounds, events_of, steps_of}
+use Rattle.stn_records.specs.Id.{SiteCounter}
+use Rattle.stn_records.specs.declared.record.Record.{Record}
+use Rattle.stn_records.specs.Content.{Content, live_of, replaced_count}
 use Rattle.stn_conflict.specs.declared.links.Link.{Link}
-use Rattle.stn_conflict.specs.Arcs.{weight_of}
+use Rattle.stn_conflict.specs.Arcs.{weight_of, IsNegativeCycle}
 use Rattle.stn_conflict.specs.Named.{IsNamedCycle}
-use Rattle.stn_replica.specs.Bounds.{all_bounds, live_bounds}
+use Rattle.stn_replica.specs.Bounds.{all_bounds, bounds_of, live_bounds}
 use Rattle.stn_replica.specs.Names.{live_ids}
-use Rattle.stn_replica.specs.Lines.{line, window_line, conflict_line, link_line}
-use Rattle.stn_replica.specs.Report.{is_done, IsWindowLines, IsWindowsPart, IsConflictPart, IsReport, heading}
+use Rattle.stn_replica.specs.Lines.{line, plan_line, records_line, window_line, conflict_line, link_line}
+use Rattle.stn_replica.specs.Report.{is_done, says_done, IsWindowLines, IsWindowsPart, IsConflictPart, IsReport, heading}
+
+abbrev Entries : Type 0
+Entries = List (SiteCounter × Record)
 
 one_lines : (bounds : List Difference) (done : ℕ → Bool) → HasSchedule bounds → (n : ℕ) (text other : List ℕ) → IsWindowLines bounds done n text → IsWindowLines bounds done n other → text ≡ other
 one_lines bounds done s zero text other p q = p ∙ sym q
@@ -63,3 +68,28 @@ pub same_reports : ((source : PlanSource) (state : Content) (text other : List �
     → (a b : PlanSource) (s t : Content) (text other : List ℕ) → a ≡ b → s ≡ t → IsReport a s text → IsReport b t other → text ≡ other
 same_reports law a b s t text other plan state p q =
     law b t text other (subst (λ x. IsReport b x text) state (subst (λ x. IsReport x s text) plan p)) q
+
+-- a report depends on the live records and the number of replaced ids alone
+pub counted_reports : (source : PlanSource) (s t : Content) (text : List ℕ) → live_of s ≡ live_of t → replaced_count s ≡ replaced_count t → IsReport source s text → IsReport source t text
+counted_reports source s t text live count p = record {
+  rest = p.rest;
+  part = ⊎_elim (λ windows. inl (windows_part windows)) (λ conflict. inr (conflict_part conflict)) p.part;
+  whole = p.whole ∙ (λ i. (plan_line (steps_of source) (events_of source) ++ records_line (length (live i)) (count i)) ++ p.rest);
+}
+  where
+    windows_part : IsWindowsPart source s p.rest → IsWindowsPart source t p.rest
+    windows_part w = record {
+      possible = subst (λ (records : Entries). HasSchedule (base_bounds source ++ bounds_of records)) live w.possible;
+      lines = w.lines;
+      windows = subst (λ (records : Entries). IsWindowLines (base_bounds source ++ bounds_of records) (says_done records) (events_of source) w.lines) live w.windows;
+      whole = w.whole;
+    }
+
+    conflict_part : IsConflictPart source s p.rest → IsConflictPart source t p.rest
+    conflict_part k = record {
+      links = k.links;
+      named = subst (λ (records : Entries). IsNamedCycle (base_bounds source ++ bounds_of records) k.links) live k.named;
+      negative = subst (λ (records : Entries). IsNegativeCycle (base_bounds source ++ bounds_of records) k.links) live k.negative;
+      whole = k.whole ∙ (λ i. conflict_line (weight_of (base_bounds source ++ bounds_of (live i)) k.links)
+          ++ flat_map (link_line (base_bounds source) (map (λ entry. entry.0) (live i)) (bounds_of (live i))) k.links);
+    }

@@ -5,15 +5,11 @@ use Rattle.std.proofs.lemmas.List.Elements.{All-push, All-same, All-get_or}
 use Rattle.std.specs.FinMap.{entries}
 use Rattle.stn_records.specs.Id.{SiteCounter}
 use Rattle.stn_records.specs.declared.record.Record.{Record}
-use Rattle.stn_records.specs.Content.{Content, RecordMap, IdSet}
+use Rattle.stn_records.specs.Content.{Content, RecordMap}
 
 -- the records that are walked are those of the state
 pub walked_are : (s held : Content) (additions : RecordMap) (items : List (SiteCounter × Record)) → items ≡ entries additions → additions ≡ held.additions → held ≡ s → items ≡ entries s.additions
 walked_are s held additions items all part whole = all ∙ ap entries (part ∙ ap (λ (t : Content). t.additions) whole)
-
--- and so are the withdrawn ids
-pub tombs_walked_are : (s held : Content) (tombstones : IdSet) (items : List (SiteCounter × Unit {0})) → items ≡ entries tombstones → tombstones ≡ held.tombstones → held ≡ s → items ≡ entries s.tombstones
-tombs_walked_are s held tombstones items all part whole = all ∙ ap entries (part ∙ ap (λ (t : Content). t.tombstones) whole)
 
 module _ {X : Type 0} where
   -- with the next one, one more has been seen

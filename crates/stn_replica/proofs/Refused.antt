@@ -20,10 +20,10 @@ use Rattle.stn_replica.specs.declared.faults.ReplicaFault.TheVariants.{Bound, Co
 use Rattle.stn_replica.specs.Bounds.{RecordsName}
 use Rattle.stn_replica.specs.FaultsOf.{of_records_fault}
 use Rattle.stn_replica.specs.Held.{Held}
-use Rattle.stn_replica.specs.Refusals.{names_events, bound_refusal, next_refusal, add_refusal, done_refusal, withdraw_refusal, records_name, take_refusal}
+use Rattle.stn_replica.specs.Refusals.{names_events, bound_refusal, next_refusal, add_refusal, amend_refusal, done_refusal, withdraw_refusal, records_name, take_refusal}
 use Rattle.stn_records.proofs.Outcomes.{too_many}
 use Rattle.stn_records.proofs.Holding.{held_agrees}
-use Rattle.stn_replica.proofs.Changes.{unknown_absent}
+use Rattle.stn_replica.proofs.Counts.{unknown_absent}
 
 -- the first of several causes stands, or another is asked for
 first_stands : {X : Type 0} (stands : Bool) (cause : X) (others : Option X) → stands ≡ true → option_or (then_some stands cause) others ≡ Some cause
@@ -189,10 +189,13 @@ untested true x e = refl
 untested false x e = absurd (cc)
 
 -- a bound that is accepted is about the plan's events
-pub accepted_named : (held : Held) (bound : Difference) → add_refusal held bound ≡ None → NamesEvents (events_of held.source) bound
-accepted_named held bound e =
-    let sound : bound_refusal (events_of held.source) bound ≡ None = mapped_none Bound (bound_refusal (events_of held.source) bound) (or_none (option_map Bound (bound_refusal (events_of held.source) bound)) (next_refusal held) e).0 in
+sound_named : (held : Held) (bound : Difference) → option_map Bound (bound_refusal (events_of held.source) bound) ≡ None → NamesEvents (events_of held.source) bound
+sound_named held bound e =
+    let sound : bound_refusal (events_of held.source) bound ≡ None = mapped_none Bound (bound_refusal (events_of held.source) bound) e in
     (names_decides (events_of held.source) bound).0 (untested (names_events (events_of held.source) bound) NoEvent (or_none (then_some (not (names_events (events_of held.source) bound)) NoEvent) _ sound).0)
+
+pub accepted_named : (held : Held) (bound : Difference) → add_refusal held bound ≡ None → NamesEvents (events_of held.source) bound
+accepted_named held bound e = sound_named held bound (or_none (option_map Bound (bound_refusal (events_of held.source) bound)) (next_refusal held) e).0
 
 -- so is an event that was executed
 pub executed_named : (held : Held) (time : ℤ) (event : ℕ) → done_refusal held event ≡ None → NamesEvents (events_of held.source) (fixed_at time event)
@@ -207,3 +210,13 @@ executed_named held time event e =
 -- and an id that may be withdrawn is known
 pub accepted_known : (held : Held) (id : SiteCounter) → withdraw_refusal held id ≡ None → is_known held.state id ≡ true
 accepted_known held id e = untested (is_known held.state id) Unknown e
+
+-- so is the bound of an amendment that is accepted
+pub amended_named : (held : Held) (old : SiteCounter) (bound : Difference) → amend_refusal held old bound ≡ None → NamesEvents (events_of held.source) bound
+amended_named held old bound e = sound_named held bound (or_none (option_map Bound (bound_refusal (events_of held.source) bound)) _ e).0
+
+-- and its old id is known
+pub amended_known : (held : Held) (old : SiteCounter) (bound : Difference) → amend_refusal held old bound ≡ None → is_known held.state old ≡ true
+amended_known held old bound e =
+    untested (is_known held.state old) Unknown
+    (or_none (then_some (not (is_known held.state old)) Unknown) (next_refusal held) (or_none (option_map Bound (bound_refusal (events_of held.source) bound)) _ e).1).0

@@ -4,7 +4,7 @@ use Rattle.std.proofs.lemmas.Bool.{false≢true}
 use Rattle.std.proofs.lemmas.Int.{ints}
 use Rattle.std.proofs.lemmas.List.Elements.{All-filter}
 use Rattle.std.proofs.lemmas.List.FromFn.{fill_by_all}
-use Rattle.std.specs.FinMap.{entries, contains_key}
+use Rattle.std.specs.FinMap.{entries}
 use Rattle.stn_net.specs.Difference.{Difference}
 use Rattle.stn_net.specs.Schedule.{IsSchedule, Meets}
 use Rattle.stn_lift.specs.PlanSource.{PlanSource, base_bounds, events_of}
@@ -13,14 +13,14 @@ use Rattle.stn_records.specs.Record.{IsProper, is_done as marks_done}
 use Rattle.stn_records.specs.declared.record.Mark.{Mark}
 use Rattle.stn_records.specs.declared.record.Mark.TheVariants.{Plain, Done}
 use Rattle.stn_records.specs.declared.record.Record.{Record}
-use Rattle.stn_records.specs.Content.{Content, AllProper, live_of}
+use Rattle.stn_records.specs.Content.{Content, AllProper, live_of, is_replaced}
 use Rattle.stn_records.specs.ContentLaws.{ids_total, ids_exact}
 use Rattle.stn_replica.specs.Bounds.{all_bounds, live_bounds}
 use Rattle.stn_replica.specs.Report.{is_done}
 use Rattle.stn_windows.specs.Dispatch.{CanWaitUntil}
 use Rattle.stn_windows.specs.Rehearsal.{IsRehearsal, NeverFalls, RunsEachOnce, HasScheduleThrough}
 use Rattle.stn_replica.specs.Dispatch.{done_events, KeepsRecorded, IsRestOfPlan}
-use Rattle.stn_replica.proofs.Entries.{entries_from_get}
+use Rattle.stn_records.proofs.Gets.{entries_from_get}
 use Rattle.stn_replica.proofs.Live.{records_from_bounds}
 use Rattle.stn_replica.proofs.Schedules.{met_behind}
 
@@ -41,7 +41,7 @@ pub keeps_recorded : (source : PlanSource) (state : Content) (times : ℕ → �
 keeps_recorded source state times all_proper schedule = λ k d h done.
     let entry = get_or (live_of state) k d in
     let met = records_from_bounds (Meets times) (live_of state) (met_behind (base_bounds source) (live_bounds state) times schedule) k d h in
-    let proper = All-filter (λ (e : SiteCounter × Record). not (contains_key state.tombstones e.0)) (λ e. IsProper e.1.mark e.1.bound) (entries state.additions)
+    let proper = All-filter (λ (e : SiteCounter × Record). not (is_replaced state e.0)) (λ e. IsProper e.1.mark e.1.bound) (entries state.additions)
     (entries_from_get ids_total ids_exact state.additions (λ e. IsProper e.1.mark e.1.bound) all_proper) k d h in
     let fixed = fixes entry.1.mark entry.1.bound done proper in
     let from = ap times fixed.0 in

@@ -9,13 +9,13 @@ use Rattle.stn_matrix.specs.Tightest.{IsExact}
 use Rattle.stn_lift.specs.PlanSource.{PlanSource, base_bounds, events_of}
 use Rattle.stn_records.specs.Id.{SiteCounter}
 use Rattle.stn_records.specs.declared.record.Record.{Record}
-use Rattle.stn_records.specs.Content.{Content, is_live, is_known, no_content, with_record, with_tombstone, join_contents}
+use Rattle.stn_records.specs.Content.{Content, is_live, no_content, with_tombstone, join_contents}
 use Rattle.stn_replica.specs.Bounds.{all_bounds, live_bounds, bounds_of, RecordsName}
 use Rattle.stn_replica.specs.Held.{Held}
 use Rattle.stn_replica.specs.Invariant.{IsSettled, IsSoundReplica}
 use Rattle.stn_replica.specs.Work.{risen, KeepsLive, SparesWork}
-use Rattle.stn_replica.proofs.Changes.{extends_added, keeps_with_record, one_risen, named_added, settled_added, extends_joined, named_joined, withdrawn_dead, none_named, settled_at_first}
-use Rattle.stn_replica.proofs.Live.{live_named, settled_grown, conflict_stays}
+use Rattle.stn_replica.proofs.Changes.{IsGrown, one_risen, settled_added, extends_joined, named_joined, withdrawn_dead, same_live, none_named, settled_at_first}
+use Rattle.stn_replica.proofs.Live.{live_named, settled_alike, settled_grown, conflict_stays}
 use Rattle.stn_replica.proofs.Schedules.{settled_tightened}
 
 -- what an option holds, from what it is
@@ -52,43 +52,47 @@ all_named source state opening table exact opens events named =
     (subst (λ n. All (NamesEvents n) (base_bounds source)) opens exact.named)
     (live_named (events_of source) state named))
 
--- ---- additions
-pub sound_added : (source : PlanSource) (state : Content) (opening current next : Table) (possible result : Bool) (id : SiteCounter) (r : Record)
-    → IsSoundReplica source state opening current possible → possible ≡ true → is_known state id ≡ false → NamesEvents (events_of source) r.bound
+-- ---- additions and amendments
+pub sound_added : (source : PlanSource) (state new : Content) (opening current next : Table) (possible result : Bool) (id : SiteCounter) (r : Record)
+    → IsSoundReplica source state opening current possible → possible ≡ true → IsGrown state new id r → RecordsName (events_of source) new
     → ((bounds : List Difference) → IsExact bounds current → (IsTrue result ↔ HasSchedule (bounds ++ r.bound ∷ [])))
     → ((bounds : List Difference) → IsExact bounds current → IsTrue result → IsExact (bounds ++ r.bound ∷ []) next)
     → next.events ≡ current.events → next.steps ≤ 18446744073709551615
-    → IsSoundReplica source (with_record state id r) opening next result
-sound_added source state opening current next possible result id r p t unknown this can exact events counted =
+    → IsSoundReplica source new opening next result
+sound_added source state new opening current next possible result id r p t more named can exact events counted =
     let before = settled_exact (all_bounds source state) current possible t p.settled in
-    let named = named_added state id r unknown (events_of source) p.named this in
     record {
       named = named;
       opening_events = p.opening_events;
       current_events = events ∙ p.current_events;
       opening_exact = p.opening_exact;
-      settled = settled_added state id r unknown (base_bounds source) next result
-          (all_named source (with_record state id r) opening next p.opening_exact p.opening_events (events ∙ p.current_events) named)
+      settled = settled_added state new id r more (base_bounds source) next result
+          (all_named source new opening next p.opening_exact p.opening_events (events ∙ p.current_events) named)
           (settled_tightened (all_bounds source state) r.bound next result (can (all_bounds source state) before) (exact (all_bounds source state) before));
       counted = counted;
     }
 
-pub sound_in_conflict : (source : PlanSource) (state : Content) (opening current : Table) (possible : Bool) (id : SiteCounter) (r : Record)
-    → IsSoundReplica source state opening current possible → possible ≡ false → is_known state id ≡ false → NamesEvents (events_of source) r.bound
-    → IsSoundReplica source (with_record state id r) opening current possible
-sound_in_conflict source state opening current possible id r p t unknown this = record {
-  named = named_added state id r unknown (events_of source) p.named this;
+pub sound_in_conflict : (source : PlanSource) (state new : Content) (opening current : Table) (possible : Bool) (id : SiteCounter) (r : Record)
+    → IsSoundReplica source state opening current possible → possible ≡ false → IsGrown state new id r → RecordsName (events_of source) new
+    → IsSoundReplica source new opening current possible
+sound_in_conflict source state new opening current possible id r p t more named = record {
+  named = named;
   opening_events = p.opening_events;
   current_events = p.current_events;
   opening_exact = p.opening_exact;
-  settled = subst (λ b. IsSettled (all_bounds source (with_record state id r)) current b) (sym t)
-      (conflict_stays (base_bounds source) state (with_record state id r) (extends_added state id r unknown) (keeps_with_record state id r unknown) (settled_conflict (all_bounds source state) current possible t p.settled));
+  settled = subst (λ b. IsSettled (all_bounds source new) current b) (sym t)
+      (conflict_stays (base_bounds source) state new more.extends more.keeps (settled_conflict (all_bounds source state) current possible t p.settled));
   counted = p.counted;
 }
 
-pub spares_added : (old new : Held) (state : Content) (id : SiteCounter) (r : Record) → is_known state id ≡ false
-    → old.state ≡ state → new.state ≡ with_record state id r → old.steps ≤ new.steps → new.steps ≤ old.steps + 1 → SparesWork old new
-spares_added old new state id r unknown before after least most = λ _ _. (least, rw (before, after) (omega (arith, one_risen state id r unknown)))
+pub spares_added : (old new : Held) (before after : Content) (id : SiteCounter) (r : Record) → IsGrown before after id r
+    → old.state ≡ before → new.state ≡ after → old.steps ≤ new.steps → new.steps ≤ old.steps + 1 → SparesWork old new
+spares_added old new before after id r more was is least most = λ _ _. (least, rw (was, is) (omega (arith, one_risen before after id r more)))
+
+-- where a live record has stopped being live, nothing is said of the work
+pub spares_fallen : (old new : Held) (before after : Content) → ¬ KeepsLive before after → old.state ≡ before → new.state ≡ after → SparesWork old new
+spares_fallen old new before after falls was is = λ keeps _.
+    absurd (falls (λ id live. ap (λ s. is_live s id) (sym is) ∙ keeps id (ap (λ s. is_live s id) was ∙ live)))
 
 -- after a rebuild
 pub sound_rebuilt : (source : PlanSource) (state new : Content) (opening current next : Table) (possible result : Bool)
@@ -141,10 +145,22 @@ pub named_taken : (source : PlanSource) (state other new : Content) (opening cur
     → join_contents state other ≡ Some new → RecordsName (events_of source) other → RecordsName (events_of source) new
 named_taken source state other new opening current possible p joined theirs = named_joined (events_of source) state other new joined p.named theirs
 
+-- after a withdrawal of a record that was not live
+pub sound_dead : (source : PlanSource) (state : Content) (opening current : Table) (possible : Bool) (id : SiteCounter) → IsSoundReplica source state opening current possible
+    → is_live state id ≡ false → IsSoundReplica source (with_tombstone state id) opening current possible
+sound_dead source state opening current possible id p dead = record {
+  named = p.named;
+  opening_events = p.opening_events;
+  current_events = p.current_events;
+  opening_exact = p.opening_exact;
+  settled = settled_alike (base_bounds source) state (with_tombstone state id) current possible refl (same_live state id dead)
+      (all_named source (with_tombstone state id) opening current p.opening_exact p.opening_events p.current_events p.named) p.settled;
+  counted = p.counted;
+}
+
 -- where the withdrawn record was live, a live record has stopped being live
-pub spares_fallen : (old new : Held) (state : Content) (id : SiteCounter) → is_live state id ≡ true → old.state ≡ state → new.state ≡ with_tombstone state id → SparesWork old new
-spares_fallen old new state id live before after = λ keeps _.
-    absurd (false≢true (sym (withdrawn_dead state id) ∙ ap (λ s. is_live s id) (sym after) ∙ keeps id (ap (λ s. is_live s id) before ∙ live)))
+pub falls_withdrawn : (state : Content) (id : SiteCounter) → is_live state id ≡ true → ¬ KeepsLive state (with_tombstone state id)
+falls_withdrawn state id live keeps = false≢true (sym (withdrawn_dead state id) ∙ keeps id live)
 
 -- where the steps are the same
 pub spares_same : (old new : Held) → new.steps ≡ old.steps → SparesWork old new

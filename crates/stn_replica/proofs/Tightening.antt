@@ -2,14 +2,14 @@
 use Rattle.std.proofs.Common.{◌≡◌, ℕ, ◌+◌, ◌≤◌, Bool, true, false, cond, not, List, [], ◌∷◌, ◌++◌, length, filter, take, drop, min, refl, sym, ap, subst, ◌∙◌, arith, append_assoc, append-nil, length-append}
 use Rattle.std.proofs.lemmas.List.{map-append, take-append-drop}
 use Rattle.std.proofs.lemmas.List.Elements.{filter-append}
-use Rattle.std.specs.FinMap.{entries, contains_key}
+use Rattle.std.specs.FinMap.{entries}
 use Rattle.stn_net.specs.Difference.{Difference}
 use Rattle.stn_net.specs.Schedule.{HasSchedule, IsSchedule}
 use Rattle.stn_matrix.specs.Table.{Table}
 use Rattle.stn_matrix.specs.Tightest.{IsExact}
 use Rattle.stn_records.specs.Id.{SiteCounter}
 use Rattle.stn_records.specs.declared.record.Record.{Record}
-use Rattle.stn_records.specs.Content.{Content}
+use Rattle.stn_records.specs.Content.{Content, is_replaced}
 use Rattle.stn_replica.specs.Bounds.{bounds_of, live_bounds}
 use Rattle.stn_replica.specs.Work.{is_risen}
 use Rattle.stn_replica.proofs.Schedules.{schedule_before}
@@ -123,7 +123,7 @@ fewer_risen old new records place =
 
 -- those of live records
 pub conflict_live : (state : Content) (place : ℕ) (e : SiteCounter × Record) (bounds : List Difference)
-    → take (place + 1) (entries state.additions) ≡ take place (entries state.additions) ++ e ∷ [] → not (contains_key state.tombstones e.0) ≡ true
+    → take (place + 1) (entries state.additions) ≡ take place (entries state.additions) ++ e ∷ [] → not (is_replaced state e.0) ≡ true
     → ¬ HasSchedule ((bounds ++ bounds_seen state place) ++ e.1.bound ∷ [])
     → ¬ HasSchedule (bounds ++ live_bounds state)
 conflict_live state place e bounds more live none =
@@ -135,7 +135,7 @@ conflict_live state place e bounds more live none =
 
 -- the matrix takes the bound of one more that is live
 pub live_taken : (state : Content) (place : ℕ) (e : SiteCounter × Record) (bounds : List Difference) (next : Table)
-    → take (place + 1) (entries state.additions) ≡ take place (entries state.additions) ++ e ∷ [] → not (contains_key state.tombstones e.0) ≡ true
+    → take (place + 1) (entries state.additions) ≡ take place (entries state.additions) ++ e ∷ [] → not (is_replaced state e.0) ≡ true
     → IsExact ((bounds ++ bounds_seen state place) ++ e.1.bound ∷ []) next → IsExact (bounds ++ bounds_seen state (place + 1)) next
 live_taken state place e bounds next more live exact =
     subst (λ all. IsExact all next)

@@ -3,17 +3,17 @@ use Rattle.std.proofs.Common.{◌≡◌, ℕ, ℤ, ◌+◌, Bool, true, false, c
 use Rattle.std.proofs.lemmas.List.{map-append, take-append-drop, take-append-le, take_all, length-map}
 use Rattle.std.proofs.lemmas.Bool.{false≢true}
 use Rattle.std.proofs.lemmas.List.Elements.{filter-append, All-same, All-push, All-head, All-take}
-use Rattle.std.specs.FinMap.{entries, get, contains_key}
+use Rattle.std.specs.FinMap.{entries, get}
 use Rattle.stn_time.proofs.Each.{All-right}
 use Rattle.stn_net.specs.Difference.{Difference}
 use Rattle.stn_records.specs.Id.{SiteCounter}
 use Rattle.stn_records.specs.declared.record.Record.{Record}
-use Rattle.stn_records.specs.Content.{Content, live_of, is_live}
+use Rattle.stn_records.specs.Content.{Content, live_of, is_live, is_replaced}
 use Rattle.stn_records.specs.ContentLaws.{ids_total, ids_exact}
 use Rattle.stn_net.specs.Schedule.{Meets}
 use Rattle.stn_replica.specs.Names.{live_ids}
 use Rattle.stn_replica.specs.Walk.{IsFirstBrokenRecord}
-use Rattle.stn_replica.proofs.Entries.{entries_from_get}
+use Rattle.stn_records.proofs.Gets.{entries_from_get}
 use Rattle.stn_replica.specs.Bounds.{bounds_of, live_bounds}
 
 get_or-append_here : {X : Type 0} (xs : List X) (y : X) (ys : List X) (d : X) → get_or (xs ++ (y ∷ ys)) (length xs) d ≡ y
@@ -25,7 +25,7 @@ take-append_here xs ys = take-append-le (length xs) xs ys (omega arith) ∙ take
 
 -- the live ones of the first records
 abbrev pub live_seen : Content → ℕ → List (SiteCounter × Record)
-live_seen state place = filter (λ entry. not (contains_key state.tombstones entry.0)) (take place (entries state.additions))
+live_seen state place = filter (λ entry. not (is_replaced state entry.0)) (take place (entries state.additions))
 
 -- and their bounds
 abbrev pub bounds_seen : Content → ℕ → List Difference
@@ -33,35 +33,35 @@ bounds_seen state place = bounds_of (live_seen state place)
 
 -- the live ones of the others
 abbrev pub live_ahead : Content → ℕ → List (SiteCounter × Record)
-live_ahead state place = filter (λ entry. not (contains_key state.tombstones entry.0)) (drop place (entries state.additions))
+live_ahead state place = filter (λ entry. not (is_replaced state entry.0)) (drop place (entries state.additions))
 
 -- one more that is live
 pub one_more_live : (state : Content) (place : ℕ) (e : SiteCounter × Record) → take (place + 1) (entries state.additions) ≡ take place (entries state.additions) ++ e ∷ []
-    → not (contains_key state.tombstones e.0) ≡ true → live_seen state (place + 1) ≡ live_seen state place ++ e ∷ []
+    → not (is_replaced state e.0) ≡ true → live_seen state (place + 1) ≡ live_seen state place ++ e ∷ []
 one_more_live state place e more live =
-    ap (filter (λ entry. not (contains_key state.tombstones entry.0))) more
-    ∙ filter-append (λ entry. not (contains_key state.tombstones entry.0)) (take place (entries state.additions)) (e ∷ [])
+    ap (filter (λ entry. not (is_replaced state entry.0))) more
+    ∙ filter-append (λ entry. not (is_replaced state entry.0)) (take place (entries state.additions)) (e ∷ [])
     ∙ ap (λ b. live_seen state place ++ cond b (e ∷ []) []) live
 
 -- and its bound
 pub bounds_with_live : (state : Content) (place : ℕ) (e : SiteCounter × Record) → take (place + 1) (entries state.additions) ≡ take place (entries state.additions) ++ e ∷ []
-    → not (contains_key state.tombstones e.0) ≡ true → bounds_seen state (place + 1) ≡ bounds_seen state place ++ e.1.bound ∷ []
+    → not (is_replaced state e.0) ≡ true → bounds_seen state (place + 1) ≡ bounds_seen state place ++ e.1.bound ∷ []
 bounds_with_live state place e more live =
     ap bounds_of (one_more_live state place e more live) ∙ map-append (λ entry. entry.1.bound) (live_seen state place) (e ∷ [])
 
 -- one more that is not
 pub one_more_dead : (state : Content) (place : ℕ) (e : SiteCounter × Record) → take (place + 1) (entries state.additions) ≡ take place (entries state.additions) ++ e ∷ []
-    → not (contains_key state.tombstones e.0) ≡ false → live_seen state (place + 1) ≡ live_seen state place
+    → not (is_replaced state e.0) ≡ false → live_seen state (place + 1) ≡ live_seen state place
 one_more_dead state place e more dead =
-    ap (filter (λ entry. not (contains_key state.tombstones entry.0))) more
-    ∙ filter-append (λ entry. not (contains_key state.tombstones entry.0)) (take place (entries state.additions)) (e ∷ [])
+    ap (filter (λ entry. not (is_replaced state entry.0))) more
+    ∙ filter-append (λ entry. not (is_replaced state entry.0)) (take place (entries state.additions)) (e ∷ [])
     ∙ ap (λ b. live_seen state place ++ cond b (e ∷ []) []) dead ∙ append-nil (live_seen state place)
 
 -- all live records are those seen and those ahead
 pub live_parts : (state : Content) (place : ℕ) → live_of state ≡ live_seen state place ++ live_ahead state place
 live_parts state place =
-    ap (filter (λ entry. not (contains_key state.tombstones entry.0))) (sym (take-append-drop place (entries state.additions)))
-    ∙ filter-append (λ entry. not (contains_key state.tombstones entry.0)) (take place (entries state.additions)) (drop place (entries state.additions))
+    ap (filter (λ entry. not (is_replaced state entry.0))) (sym (take-append-drop place (entries state.additions)))
+    ∙ filter-append (λ entry. not (is_replaced state entry.0)) (take place (entries state.additions)) (drop place (entries state.additions))
 
 -- what is walked over is there
 pub held_at : (state : Content) (place : ℕ) (e : SiteCounter × Record) → take (place + 1) (entries state.additions) ≡ take place (entries state.additions) ++ e ∷ [] → is_some (get state.additions e.0) ≡ true
@@ -77,7 +77,7 @@ there_and false b c e f = absurd (false≢true e)
 
 -- whether it is live is whether it is not withdrawn
 pub live_at : (state : Content) (place : ℕ) (e : SiteCounter × Record) (b : Bool) → take (place + 1) (entries state.additions) ≡ take place (entries state.additions) ++ e ∷ []
-    → is_live state e.0 ≡ b → not (contains_key state.tombstones e.0) ≡ b
+    → is_live state e.0 ≡ b → not (is_replaced state e.0) ≡ b
 live_at state place e b more live = there_and (is_some (get state.additions e.0)) _ b (held_at state place e more) live
 
 -- the bounds seen, with a live one

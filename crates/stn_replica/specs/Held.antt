@@ -4,8 +4,9 @@ use Rattle.stn_net.specs.Difference.{Difference}
 use Rattle.stn_windows.specs.Rehearsal.{fixed_at}
 use Rattle.stn_lift.specs.PlanSource.{PlanSource, coded_source}
 use Rattle.stn_records.specs.Content.{Content, coded_content, next_counter}
+pub use Rattle.stn_records.specs.Content.{plain}
 use Rattle.stn_records.specs.Id.{SiteCounter}
-use Rattle.stn_records.specs.declared.record.Mark.TheVariants.{Plain, Done}
+use Rattle.stn_records.specs.declared.record.Mark.TheVariants.{Done}
 use Rattle.stn_records.specs.declared.record.Record.{Record}
 
 -- what a replica holds: its site, what its plan is made from, its state, and by how many bounds its matrix was tightened
@@ -26,10 +27,6 @@ next_id held = record { site = held.site; counter = next_counter held.state held
 -- the difference that two events and two sides make
 abbrev pub difference : ℕ → ℕ → ℤ → ℤ → Difference
 difference from to lo hi = record { from = from; to = to; lo = lo; hi = hi }
-
--- a record of a bound that a site added
-abbrev pub plain : Difference → Record
-plain bound = record { mark = Plain; bound = bound }
 
 -- a record that the site executed an event at a time
 abbrev pub executed : ℤ → ℕ → Record

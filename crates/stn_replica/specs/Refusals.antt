@@ -35,6 +35,12 @@ next_refusal held =
 abbrev pub add_refusal : Held → Difference → Option ReplicaFault
 add_refusal held bound = option_or (option_map Bound (bound_refusal (events_of held.source) bound)) (next_refusal held)
 
+-- an amendment: what is added is no bound, the id to be replaced is not known, the site can make no further record
+abbrev pub amend_refusal : Held → SiteCounter → Difference → Option ReplicaFault
+amend_refusal held old bound =
+    option_or (option_map Bound (bound_refusal (events_of held.source) bound))
+    (option_or (then_some (not (is_known held.state old)) Unknown) (next_refusal held))
+
 -- a record that an event is done: the event is the origin or not one of the plan's, the site can make no further record
 abbrev pub done_refusal : Held → ℕ → Option ReplicaFault
 done_refusal held event =
@@ -48,8 +54,8 @@ withdraw_refusal held id = then_some (not (is_known held.state id)) Unknown
 abbrev pub records_name : ℕ → Content → Bool
 records_name events state = list_all (λ entry. names_events events entry.1.bound) (entries state.additions)
 
--- taking in what another site holds: a record is about an event that the plan has not, an id has two different records, the site
--- would know more ids than it may
+-- taking in what another site holds: a record is about an event that the plan has not, an id has two different records or replaces two
+-- different ids, the site would know more ids than it may
 abbrev pub take_refusal : Held → Content → Option ReplicaFault
 take_refusal held other =
     option_or (then_some (not (records_name (events_of held.source) other)) (Bound NoEvent))

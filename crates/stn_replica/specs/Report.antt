@@ -1,5 +1,4 @@
 use Rattle.std.specs.Prelude.{◌≡◌, ℕ, ℤ, zero, suc, Bool, ◌==◌, ◌&&◌, ◌⊎◌, List, [], ◌++◌, length, codes}
-use Rattle.std.specs.FinMap.{keys}
 use Rattle.std.specs.List.{list_any, flat_map}
 use Rattle.stn_net.specs.Difference.{Difference}
 use Rattle.stn_net.specs.Schedule.{HasSchedule}
@@ -7,7 +6,7 @@ use Rattle.stn_windows.specs.Window.{IsWindow}
 use Rattle.stn_lift.specs.PlanSource.{PlanSource, steps_of, events_of, base_bounds}
 use Rattle.stn_records.specs.declared.record.Record.{Record}
 use Rattle.stn_records.specs.Record.{is_done as marks_done}
-use Rattle.stn_records.specs.Content.{Content, live_of}
+use Rattle.stn_records.specs.Content.{Content, live_of, replaced_count}
 use Rattle.stn_records.specs.Id.{SiteCounter}
 use Rattle.stn_conflict.specs.declared.links.Link.{Link}
 use Rattle.stn_conflict.specs.Arcs.{weight_of, IsNegativeCycle}
@@ -54,7 +53,7 @@ pub record IsConflictPart (source : PlanSource) (state : Content) (text : List �
 -- `plan ..` and `records ..`
 abbrev pub heading : PlanSource → Content → List ℕ
 heading source state =
-    plan_line (steps_of source) (events_of source) ++ records_line (length (live_of state)) (length (keys state.tombstones))
+    plan_line (steps_of source) (events_of source) ++ records_line (length (live_of state)) (replaced_count state)
 
 -- the text is the report of a plan and a state: the heading, and then the windows where all bounds have a schedule, the
 -- named cycle where they have none

@@ -1,8 +1,8 @@
 ghost use Rattle.std.specs.Prelude.{◌≡◌};
-ghost use Rattle.stn_replica.specs.FaultsOf.{of_records_fault, of_withdraw_fault};
+ghost use Rattle.stn_replica.specs.FaultsOf.{of_amend_fault, of_records_fault, of_withdraw_fault};
 
 use stn_net::BoundFault;
-use stn_records::{CounterSpent, Id, RecordsFault, WithdrawFault};
+use stn_records::{AmendFault, CounterSpent, Id, RecordsFault, WithdrawFault};
 use thiserror::Error;
 
 /// Why a replica refused a change. Each call gives those that it lists.
@@ -20,7 +20,7 @@ pub enum ReplicaFault {
     /// The id is not known.
     #[error("no such record")]
     Unknown,
-    /// This id has two different records; the least such id.
+    /// This id has two different records, or replaces two different ids; the least such id.
     #[error("an id has two different records")]
     Clash(Id),
     /// Memory ran out.
@@ -58,6 +58,19 @@ impl From<RecordsFault> for ReplicaFault {
             RecordsFault::Clash(id) => ReplicaFault::Clash(id),
             RecordsFault::Full => ReplicaFault::Full,
             RecordsFault::Memory => ReplicaFault::Memory,
+        }
+    }
+}
+
+impl From<AmendFault> for ReplicaFault {
+    ghost from_gives = { λ fault made. made ≡ of_amend_fault fault };
+
+    fn from(fault: AmendFault) -> ReplicaFault {
+        match fault {
+            AmendFault::SelfReplace | AmendFault::Unknown => ReplicaFault::Unknown,
+            AmendFault::Clash(id) => ReplicaFault::Clash(id),
+            AmendFault::Full => ReplicaFault::Full,
+            AmendFault::Memory => ReplicaFault::Memory,
         }
     }
 }

@@ -56,6 +56,7 @@ pub fn append_records_line<B: Allocator>(
     Ok(())
 }
 
+/// Appends the line of an event's window.
 pub fn append_window_line<B: Allocator>(
     out: &mut Vec<u8, B>,
     event: Event,
@@ -129,7 +130,8 @@ pub fn append_link_line<B: Allocator>(
     Ok(())
 }
 
-fn bound_name(base: &[Bound], ids: &[Id], place: usize) -> BoundName
+/// The name of the bound at a place of the plan's bounds followed by the others, whose ids these are.
+pub fn bound_name(base: &[Bound], ids: &[Id], place: usize) -> BoundName
     requires there { place < length base.now + length ids.now }
     requires few { length base.now < 2 ^ 32 }
     ensures { result ≡ name_in base.now ids.now place }
@@ -141,7 +143,8 @@ fn bound_name(base: &[Bound], ids: &[Id], place: usize) -> BoundName
     }
 }
 
-fn bound_at(base: &[Bound], others: &[Bound], place: usize) -> Bound
+/// The bound at a place of the plan's bounds followed by the others.
+pub fn bound_at(base: &[Bound], others: &[Bound], place: usize) -> Bound
     requires { place < length base.now + length others.now }
     ensures { result ≡ bound_at (base.now ++ others.now) place }
 {

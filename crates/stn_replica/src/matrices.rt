@@ -58,10 +58,10 @@ fn tighten_live<A: Allocator + Copy>(matrix: &mut Matrix<A>, records: &Records<A
     ensures events { matrix.new.events ≡ matrix.old.events }
     ensures counted { matrix.new.steps ≤ u64.MAX }
 {
-    let mut withdrawn = records.state().tombstones().entries();
+    let mut replaced = records.replaced();
     for &(id, record) in records.state().additions().entries() {
-        withdrawn = from_id(withdrawn, id);
-        if !begins_with(withdrawn, id) && !matrix.tighten(record.bound) {
+        replaced = from_id(replaced, id);
+        if !begins_with(replaced, id) && !matrix.tighten(record.bound) {
             return false;
         }
     }
@@ -85,35 +85,35 @@ pub fn tighten_risen<A: Allocator + Copy>(
     ensures most { matrix.new.steps ≤ matrix.old.steps + length (risen before.now after.now) }
 {
     let mut added = before.state().additions().entries();
-    let mut fallen = before.state().tombstones().entries();
-    let mut withdrawn = after.state().tombstones().entries();
+    let mut fallen = before.replaced();
+    let mut replaced = after.replaced();
     for &(id, record) in after.state().additions().entries() {
         added = from_id(added, id);
         fallen = from_id(fallen, id);
-        withdrawn = from_id(withdrawn, id);
-        if has_risen(added, fallen, withdrawn, id) && !matrix.tighten(record.bound) {
+        replaced = from_id(replaced, id);
+        if has_risen(added, fallen, replaced, id) && !matrix.tighten(record.bound) {
             return false;
         }
     }
     true
 }
 
-// Whether the record of an id has become live, by what walks have left of the records and the withdrawn ids of before and
-// of the ids withdrawn now.
-fn has_risen(added: &[(Id, Record)], fallen: &[(Id, ())], withdrawn: &[(Id, ())], id: Id) -> bool
-    ensures { result ≡ (not (walk.begins_with id withdrawn.now) && not (walk.begins_with id added.now && not (walk.begins_with id fallen.now))) }
+// Whether the record of an id has become live, by what walks have left of the records and the replaced ids of before and
+// of the ids replaced now.
+fn has_risen(added: &[(Id, Record)], fallen: &[(Id, ())], replaced: &[(Id, ())], id: Id) -> bool
+    ensures { result ≡ (not (walk.begins_with id replaced.now) && not (walk.begins_with id added.now && not (walk.begins_with id fallen.now))) }
 {
-    !begins_with(withdrawn, id) && !was_live(added, fallen, id)
+    !begins_with(replaced, id) && !was_live(added, fallen, id)
 }
 
-// Whether each record that was live still is: none of those that are withdrawn now was.
+// Whether each record that was live still is: none of those that are replaced now was.
 pub fn keeps_live<A: Allocator + Copy>(before: &Records<A>, after: &Records<A>) -> bool
     requires { Extends before.now after.now }
     ensures { IsTrue result ↔ KeepsLive before.now after.now }
 {
     let mut added = before.state().additions().entries();
-    let mut fallen = before.state().tombstones().entries();
-    for &(id, _) in after.state().tombstones().entries() {
+    let mut fallen = before.replaced();
+    for &(id, _) in after.replaced() {
         added = from_id(added, id);
         fallen = from_id(fallen, id);
         if was_live(added, fallen, id) {
@@ -123,7 +123,7 @@ pub fn keeps_live<A: Allocator + Copy>(before: &Records<A>, after: &Records<A>) 
     true
 }
 
-// Whether the record of an id was live, by what walks have left of the records and the withdrawn ids of before.
+// Whether the record of an id was live, by what walks have left of the records and the replaced ids of before.
 fn was_live(added: &[(Id, Record)], fallen: &[(Id, ())], id: Id) -> bool
     ensures { result ≡ (walk.begins_with id added.now && not (walk.begins_with id fallen.now)) }
 {

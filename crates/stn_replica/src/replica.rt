@@ -7,14 +7,14 @@ ghost use Rattle.stn_windows.specs.Window.{IsWindow};
 ghost use Rattle.stn_lift.specs.PlanSource.{base_bounds, events_of};
 ghost use Rattle.stn_net.specs.Difference.{NamesEvents};
 ghost use Rattle.stn_records.specs.Record.{IsProper};
-ghost use Rattle.stn_records.specs.Content.{no_content, IsPart};
+ghost use Rattle.stn_records.specs.Content.{no_content, is_known, IsPart};
 ghost use Rattle.stn_replica.specs.Bounds.{all_bounds, live_bounds, RecordsName};
 ghost use Rattle.stn_replica.specs.Names.{broken_bound};
 ghost use Rattle.stn_replica.specs.Walk.{IsFirstBrokenRecord, RecordsTimed};
 ghost use Rattle.stn_replica.specs.Held.{difference, plain, executed};
 ghost use Rattle.stn_replica.specs.Work.{SparesWork};
-ghost use Rattle.stn_replica.specs.Calls.{added, withdrew, took, Leaves};
-ghost use Rattle.stn_replica.specs.Refusals.{next_refusal, add_refusal, done_refusal, withdraw_refusal, take_refusal};
+ghost use Rattle.stn_replica.specs.Calls.{added, amended, withdrew, took, Leaves};
+ghost use Rattle.stn_replica.specs.Refusals.{next_refusal, add_refusal, amend_refusal, done_refusal, withdraw_refusal, take_refusal};
 
 use crate::faults::ReplicaFault;
 use crate::matrices::{all_name_events, keeps_live, rebuild, tighten_risen};
@@ -124,6 +124,56 @@ impl<A: Allocator + Copy> Replica<A> {
         self.hold(Mark::Plain, bound)
     }
 
+    /// Replaces a known id for good by a new record of a bound, under the site's next id, which is
+    /// returned. Where the record of the old id was live, it no longer is; it doesn't come back where
+    /// the new record is withdrawn. An id that is withdrawn or replaced already may be replaced again.
+    ///
+    /// Refused in this order: `NoEvent`, `SameEvent` and `Crossed` of a bound, `Unknown`, where the old
+    /// id is not known, `CounterSpent`, `Full`, `Memory`. After a fault all is as before.
+    pub fn amend(
+        &mut self,
+        old: Id,
+        from: Event,
+        to: Event,
+        lo: Ms,
+        hi: Ms,
+    ) -> Result<Id, ReplicaFault>
+        ensures leaves { IfOk result (λ id. Leaves self.old (amended id old (difference from to lo hi)) self.new) }
+        ensures work { OnOk result (SparesWork self.old self.new) }
+        ensures accepted { OnOk result (amend_refusal self.old old (difference from to lo hi) ≡ None) }
+        ensures fault { IfErr result (λ fault. fault ≡ unwrap_or (amend_refusal self.old old (difference from to lo hi)) ReplicaFault.Memory) }
+        ensures kept { OnErr result (self.new ≡ self.old) }
+    {
+        let bound = Bound::new(self.base.events(), from, to, lo, hi)?;
+        if !self.records.is_known(old) {
+            return Err(ReplicaFault::Unknown);
+        }
+        self.replace(old, bound)
+    }
+
+    // Replaces a known id by a new record under the site's next id, which is returned.
+    fn replace(&mut self, old: Id, bound: Bound) -> Result<Id, ReplicaFault>
+        requires named { NamesEvents (events_of self.old.source) bound }
+        requires known { is_known self.old.state old ≡ true }
+        ensures leaves { IfOk result (λ id. Leaves self.old (amended id old bound) self.new) }
+        ensures work { OnOk result (SparesWork self.old self.new) }
+        ensures accepted { OnOk result (next_refusal self.old ≡ None) }
+        ensures fault { IfErr result (λ fault. fault ≡ unwrap_or (next_refusal self.old) ReplicaFault.Memory) }
+        ensures kept { OnErr result (self.new ≡ self.old) }
+    {
+        let counter = self.records.next_counter(self.site)?;
+        let id = Id::new(self.site, counter).unwrap();
+        prove!(self.records.state().replacements().get(id).is_none());
+        let was_live = self.records.is_live(old);
+        self.records.amend(id, old, bound)?;
+        if was_live {
+            self.possible = rebuild(&self.opening, &mut self.current, &self.records);
+        } else if self.possible {
+            self.possible = self.current.tighten(bound);
+        }
+        Ok(id)
+    }
+
     /// Records at which time an event was executed, under the site's next id, which is returned. A
     /// record that contradicts others, as one of the same event at another time, is added like any
     /// other.
@@ -163,7 +213,7 @@ impl<A: Allocator + Copy> Replica<A> {
         Ok(id)
     }
 
-    /// Withdraws a known record for good; one that is withdrawn already changes nothing.
+    /// Withdraws a known id for good; one that is withdrawn already changes nothing.
     ///
     /// Refused in this order: `Unknown`, where the id is not known; `Memory`. After a fault all is as
     /// before.
@@ -187,8 +237,8 @@ impl<A: Allocator + Copy> Replica<A> {
     /// for no memory.
     ///
     /// Refused in this order: `NoEvent` of a bound, where a record names an event that the plan has
-    /// not; `Clash`, with the least id that has two different records; `Full`, where both know more
-    /// than 4,096 ids together; `Memory`. After a fault all is as before.
+    /// not; `Clash`, with the least id that has two different records or replaces two different ids;
+    /// `Full`, where both know more than 4,096 ids together; `Memory`. After a fault all is as before.
     pub fn take(&mut self, other: &Records<A>) -> Result<(), ReplicaFault>
         ensures leaves { OnOk result (Leaves self.old (took other.now) self.new) }
         ensures work { OnOk result (SparesWork self.old self.new) }
@@ -281,8 +331,8 @@ impl<A: Allocator + Copy> Replica<A> {
         }
     }
 
-    // The allocator that the replica was made with.
-    pub(crate) fn alloc(&self) -> A {
+    /// The allocator that the replica was made with.
+    pub fn alloc(&self) -> A {
         self.alloc
     }
 }

@@ -1,12 +1,11 @@
 ghost use Rattle.std.specs.Prelude.{◌≡◌, ℕ, ◌+◌, ◌*◌, ◌<◌, ◌≤◌, ◌++◌, ◌^◌, List, codes, length, map, All, IfOk, OnOk, OnErr};
-ghost use Rattle.std.specs.FinMap.{keys};
 ghost use Rattle.std.specs.List.{flat_map};
 ghost use Rattle.stn_net.specs.Difference.{Difference};
 ghost use Rattle.stn_net.specs.Event.{most_events};
 ghost use Rattle.stn_net.specs.Schedule.{HasSchedule};
 ghost use Rattle.stn_matrix.specs.Tightest.{IsExact};
 ghost use Rattle.stn_lift.specs.PlanSource.{events_of};
-ghost use Rattle.stn_records.specs.Content.{most_known, known_count, live_of, listed};
+ghost use Rattle.stn_records.specs.Content.{most_known, known_count, live_of, listed, replaced_count as replaced_count_of};
 ghost use Rattle.stn_replica.specs.Bounds.{all_bounds, RecordsName};
 ghost use Rattle.stn_replica.specs.Lines.{line, conflict_line, link_line};
 ghost use Rattle.stn_replica.specs.Report.{most_report, is_done, IsWindowLines, IsReport, IsConflictPart, heading};
@@ -25,7 +24,7 @@ use stn_time::Memory;
 use stn_windows::window;
 
 impl<A: Allocator + Copy> Replica<A> {
-    /// Appends the report: how many steps, events, live and withdrawn records there are; then, where
+    /// Appends the report: how many steps, events, live records and replaced ids there are; then, where
     /// all bounds have a schedule, the window of each event, and else one cycle of bounds that
     /// contradict each other. It depends on the plan and the state alone, and has at most 65,536
     /// bytes. For want of memory it appends nothing.
@@ -59,9 +58,9 @@ impl<A: Allocator + Copy> Replica<A> {
         ensures text { OnOk result (out.new.items ≡ out.old.items ++ heading self.now.source self.now.state) }
         ensures short { OnOk result (length out.new.items ≤ length out.old.items + MOST_LINE * 2) }
     {
-        let withdrawn = withdrawn_count(self.records());
+        let replaced = replaced_count(self.records());
         append_plan_line(out, self.base().steps(), self.base().events())?;
-        append_records_line(out, live.len() as u16, withdrawn)?;
+        append_records_line(out, live.len() as u16, replaced)?;
         Ok(())
     }
 
@@ -82,7 +81,7 @@ impl<A: Allocator + Copy> Replica<A> {
         Ok(())
     }
 
-    fn append_conflict(
+    pub(crate) fn append_conflict(
         &self,
         live: &[(Id, Mark, Bound)],
         out: &mut Vec<u8, A>,
@@ -105,24 +104,27 @@ impl<A: Allocator + Copy> Replica<A> {
     }
 }
 
-fn ids_of<A: Allocator>(alloc: A, records: &[(Id, Mark, Bound)]) -> Result<Vec<Id, A>, Memory>
+pub fn ids_of<A: Allocator>(alloc: A, records: &[(Id, Mark, Bound)]) -> Result<Vec<Id, A>, Memory>
     ensures { IfOk result (λ ids. ids.items ≡ map (λ entry. entry.0) records.now) }
 {
     records.iter().map(|entry| entry.0).collect(alloc)
 }
 
-fn bounds_of<A: Allocator>(alloc: A, records: &[(Id, Mark, Bound)]) -> Result<Vec<Bound, A>, Memory>
+pub fn bounds_of<A: Allocator>(
+    alloc: A,
+    records: &[(Id, Mark, Bound)],
+) -> Result<Vec<Bound, A>, Memory>
     ensures { IfOk result (λ bounds. bounds.items ≡ map (λ entry. entry.2) records.now) }
 {
     records.iter().map(|entry| entry.2).collect(alloc)
 }
 
-// How many ids are withdrawn.
-fn withdrawn_count<A: Allocator + Copy>(records: &Records<A>) -> u16
-    ensures value { result ≡ length (keys records.now.tombstones) }
+// How many ids are replaced.
+fn replaced_count<A: Allocator + Copy>(records: &Records<A>) -> u16
+    ensures value { result ≡ replaced_count_of records.now }
     ensures limited { known_count records.now ≤ most_known }
 {
-    records.state().tombstones().entries().len() as u16
+    records.replaced().len() as u16
 }
 
 // The sum of the cycle, and then its links.
@@ -145,7 +147,9 @@ fn append_cycle<A: Allocator>(
     Ok(())
 }
 
-fn append_link_lines<B: Allocator>(
+/// Appends the line of each link, whose place is one of the plan's bounds followed by the others. After
+/// an error a part of them may stand there.
+pub fn append_link_lines<B: Allocator>(
     base: &[Bound],
     ids: &[Id],
     others: &[Bound],

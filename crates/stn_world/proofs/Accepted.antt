@@ -9,16 +9,16 @@ use Rattle.stn_net.specs.Difference.{Difference}
 use Rattle.stn_records.specs.Id.{SiteCounter}
 use Rattle.stn_replica.specs.declared.faults.ReplicaFault.{ReplicaFault}
 use Rattle.stn_replica.specs.declared.faults.ReplicaFault.TheVariants as replica_fault
-use Rattle.stn_replica.specs.Refusals.{add_refusal, done_refusal, withdraw_refusal, take_refusal}
+use Rattle.stn_replica.specs.Refusals.{add_refusal, done_refusal, amend_refusal, withdraw_refusal, take_refusal}
 use Rattle.stn_replica.proofs.Refused.{or_none, mapped_none, untested}
 use Rattle.stn_world.specs.declared.faults.WorldFault.{WorldFault}
 use Rattle.stn_world.specs.declared.faults.WorldFault.TheVariants.{NoSite, TooManyPackets, NoPacket, Replica, Memory}
 use Rattle.stn_world.specs.Faults.{of_replica_fault}
-use Rattle.stn_records.specs.Content.{Content, IsPart}
+use Rattle.stn_records.specs.Content.{Content}
 use Rattle.stn_world.specs.Parts.{is_part}
 use Rattle.stn_world.specs.World.{World, most_packets, HasSite, has_site, HasPacket, has_packet, held_at, content_at, packet_at}
-use Rattle.stn_world.specs.Steps.{added, finished, withdrew, merged, sent, delivered, missing, step_refusal, IsAccepted, send_refusal}
-use Rattle.stn_world.proofs.Parts.{part_decides}
+use Rattle.stn_world.specs.Steps.{added, finished, amended, withdrew, merged, sent, delivered, missing, step_refusal, IsAccepted, send_refusal}
+use Rattle.stn_world.proofs.Parts.{IsSentOf, part_decides}
 
 both : (a b n : ℕ) → (leb a b && leb b n) ≡ true → (a ≤ b) × (b ≤ n)
 both a b n e = (grind (arith, nat_tests), grind (arith, nat_tests))
@@ -68,6 +68,12 @@ accepted_execution world site event time e =
     let both = accepted_site world site (option_map of_replica_fault (done_refusal (held_at world site) event)) e in
     (both.0, mapped_none of_replica_fault (done_refusal (held_at world site) event) both.1)
 
+pub accepted_amendment : (world : World) (site : ℕ) (old : SiteCounter) (bound : Difference) → IsAccepted world (amended site old bound)
+    → HasSite world site × (amend_refusal (held_at world site) old bound ≡ None)
+accepted_amendment world site old bound e =
+    let both = accepted_site world site (option_map of_replica_fault (amend_refusal (held_at world site) old bound)) e in
+    (both.0, mapped_none of_replica_fault (amend_refusal (held_at world site) old bound) both.1)
+
 pub accepted_withdrawal : (world : World) (site : ℕ) (id : SiteCounter) → IsAccepted world (withdrew site id) → HasSite world site × (withdraw_refusal (held_at world site) id ≡ None)
 accepted_withdrawal world site id e =
     let both = accepted_site world site (option_map of_replica_fault (withdraw_refusal (held_at world site) id)) e in
@@ -111,13 +117,13 @@ merge_fault world site other fault there other_there apart is =
     refused_by (take_refusal (held_at world site) (content_at world other)) fault is ∙ ap (λ o. unwrap_or o Memory) (sym (merge_refusal world site other there other_there apart))
 
 -- ---- sendings
-pub accepted_sending : (world : World) (site : ℕ) (part : Content) → IsAccepted world (sent site part) → HasSite world site × IsPart part (content_at world site)
+pub accepted_sending : (world : World) (site : ℕ) (part : Content) → IsAccepted world (sent site part) → HasSite world site × IsSentOf part (content_at world site)
 accepted_sending world site part e =
     let both = accepted_site world site (then_some (not (is_part part (content_at world site))) (Replica replica_fault.Unknown)) e in
     (both.0, (part_decides part (content_at world site)).0 (untested (is_part part (content_at world site)) (Replica replica_fault.Unknown) both.1))
 
 -- a site sends a part of what it holds
-pub sending_free : (world : World) (site : ℕ) (part : Content) → HasSite world site → IsPart part (content_at world site) → IsAccepted world (sent site part)
+pub sending_free : (world : World) (site : ℕ) (part : Content) → HasSite world site → IsSentOf part (content_at world site) → IsAccepted world (sent site part)
 sending_free world site part there inside =
     at_site world site (then_some (not (is_part part (content_at world site))) (Replica replica_fault.Unknown)) there
     ∙ ap (λ b. then_some (not b) (Replica replica_fault.Unknown)) ((part_decides part (content_at world site)).1 inside)

@@ -1,5 +1,5 @@
 -- The law over all runs of a world.
-use Rattle.std.proofs.Common.{◌≡◌, inr, ⊎_elim, ℕ, suc, ◌-◌, ◌≤◌, Bool, true, false, not, ◌&&◌, ltb, is_some, None, List, get_or, refl, ap, subst, ◌∙◌, arith}
+use Rattle.std.proofs.Common.{◌≡◌, inr, ⊎_elim, ℕ, suc, ◌-◌, ◌≤◌, Bool, true, false, not, ◌&&◌, ltb, None, List, get_or, refl, ap, subst, ◌∙◌, arith}
 use Rattle.std.specs.Prelude.{option_map}
 use Rattle.std.specs.Bool.{then_some}
 use Rattle.std.specs.List.{Contains}
@@ -9,19 +9,19 @@ use Rattle.std.proofs.lemmas.Bool.Decides.{nat_tests}
 use Rattle.std.proofs.lemmas.List.{get_or_default}
 use Rattle.std.proofs.lemmas.List.Elements.{Contains-append_cases}
 use Rattle.stn_records.specs.Id.{SiteCounter}
-use Rattle.stn_records.specs.Content.{most_known, Content, Item, addition, withdrawal, HasItem, is_known, is_live, known_in_either, dispute_contents, joined_contents, no_content, IsPart}
-use Rattle.stn_records.specs.ContentLaws.{contents_join, contents_undisputed}
-use Rattle.stn_records.proofs.Limits.{together}
+use Rattle.stn_records.specs.Content.{most_known, Content, Item, HasItem, is_known, is_replaced, is_live, known_in_either, dispute_contents, no_content, IsPart}
 use Rattle.stn_replica.specs.declared.faults.ReplicaFault.TheVariants.{Full}
+use Rattle.stn_replica.specs.Calls.{Replaces}
 use Rattle.stn_replica.specs.Refusals.{take_refusal}
 use Rattle.stn_replica.proofs.Refused.{agreed_take}
 use Rattle.stn_world.specs.Faults.{of_replica_fault}
 use Rattle.stn_world.specs.World.{World, HasSite, HasPacket, content_at, packet_at, held_at}
-use Rattle.stn_world.specs.Steps.{Step, added, finished, withdrew, merged, sent, delivered, IsAccepted, stepped, run, Brings}
+use Rattle.stn_world.specs.Steps.{Step, added, finished, amended, withdrew, merged, sent, delivered, IsAccepted, stepped, run, Brings}
 use Rattle.stn_world.specs.Whole.{IsCoherent}
 use Rattle.stn_world.specs.Runs.{Making, records_made, states_of}
-use Rattle.stn_world.proofs.Accepted.{accepted_addition, accepted_execution, accepted_withdrawal, accepted_merge, accepted_delivery, merge_itself, merge_free, delivery_refusal}
-use Rattle.stn_world.proofs.Whole.{parts_agree, part_named, known_items, items_known}
+use Rattle.stn_world.proofs.Accepted.{accepted_addition, accepted_execution, accepted_amendment, accepted_withdrawal, accepted_merge, accepted_delivery, merge_itself, merge_free, delivery_refusal}
+use Rattle.stn_world.proofs.Whole.{parts_agree, part_named, held_record, items_known}
+use Rattle.stn_world.proofs.Alike.{replaces_more, replaced_by}
 use Rattle.stn_world.proofs.Runs.{this_step, coherent_stepped, grows_run}
 use Rattle.stn_world.proofs.Lawful.{IsLawful, known_made}
 
@@ -36,11 +36,9 @@ module _ (world : World) (items : List Making) (now : IsLawful world items) wher
   -- where few records are made, a site has room for any part of what was made
   has_room : (site : ℕ) (other : Content) → records_made items ≤ most_known → IsPart other now.all → take_refusal (held_at world site) other ≡ None
   has_room site other few inside =
-      let agreed = parts_agree (content_at world site) other now.all (now.whole.sites site) inside in
-      let union = contents_join.union (content_at world site) other (joined_contents (content_at world site) other) (contents_undisputed (content_at world site) other agreed) in
-      let known = known_made world items now (joined_contents (content_at world site) other) (λ item h. ⊎_elim (λ ours. now.whole.sites site item ours) (λ theirs. inside item theirs) ((union item).0 h)) in
-      agreed_take (held_at world site) other (part_named world now.all other now.whole inside) agreed
-      ∙ ap (λ b. then_some b Full) (not_full most_known (known_in_either (content_at world site) other) (omega (arith, known, few, together (content_at world site) other)))
+      let known = known_made world items now (content_at world site) other (now.whole.sites site) inside in
+      agreed_take (held_at world site) other (part_named world now.all other now.whole inside) (parts_agree (content_at world site) other now.all (now.whole.sites site) inside)
+      ∙ ap (λ b. then_some b Full) (not_full most_known (known_in_either (content_at world site) other) (omega (arith, known, few)))
 
   pub delivery_accepted : records_made items ≤ most_known → (site number : ℕ) → HasSite world site → HasPacket world number → IsAccepted world (delivered site number)
   delivery_accepted few site number there packet_there =
@@ -69,6 +67,7 @@ module _ (world : World) (items : List Making) (now : IsLawful world items) wher
   brings_there : (step : Step) (site : ℕ) (item : Item) → IsAccepted world step → Brings world step site item → HasSite world site
   brings_there (added at bound) site item accepted brings = subst (HasSite world) brings.0 (accepted_addition world at bound accepted).0
   brings_there (finished at event time) site item accepted brings = subst (HasSite world) brings.0 (accepted_execution world at event time accepted).0
+  brings_there (amended at old bound) site item accepted brings = subst (HasSite world) brings.0 (accepted_amendment world at old bound accepted).0
   brings_there (withdrew at id) site item accepted brings = subst (HasSite world) brings.0 (accepted_withdrawal world at id accepted).0
   brings_there (merged at other) site item accepted brings = subst (HasSite world) brings.0 (accepted_merge world at other accepted).0
   brings_there (sent at part) site item accepted brings = absurd brings
@@ -78,13 +77,15 @@ module _ (world : World) (items : List Making) (now : IsLawful world items) wher
   and_false true = refl
   and_false false = refl
 
-  never_live : (content : Content) (id : SiteCounter) → HasItem content (withdrawal id) → is_live content id ≡ false
-  never_live content id gone = ap (λ o. fin.contains_key content.additions id && not (is_some o)) gone ∙ and_false (fin.contains_key content.additions id)
+  never_live : (content : Content) (id : SiteCounter) → is_replaced content id ≡ true → is_live content id ≡ false
+  never_live content id gone = ap (λ b. fin.contains_key content.additions id && not b) gone ∙ and_false (fin.contains_key content.additions id)
 
-  pub withdrawn_stays : (step : Step) (site : ℕ) (id : SiteCounter) → IsAccepted world step → Brings world step site (withdrawal id) → (rest : List Step)
+  pub withdrawn_stays : (step : Step) (site : ℕ) (id : SiteCounter) → IsAccepted world step → Replaces (Brings world step site) id → (rest : List Step)
       → is_live (content_at (run (stepped world step) rest) site) id ≡ false
-  withdrawn_stays step site id accepted brings rest =
-      never_live (content_at (run (stepped world step) rest) site) id (taken_stays step site (withdrawal id) accepted (brings_there step site (withdrawal id) accepted brings) brings rest)
+  withdrawn_stays step site id accepted replaces rest =
+      let after = content_at (run (stepped world step) rest) site in
+      never_live after id (replaced_by after id (replaces_more (Brings world step site) (HasItem after) id
+      (λ item brings. taken_stays step site item accepted (brings_there step site item accepted brings) brings rest) replaces))
 
   -- ---- the states agree
   element : (xs : List Content) (one : Content) → Contains xs one → (place : ℕ) × (get_or xs (place - 1) no_content ≡ one)
@@ -101,7 +102,6 @@ module _ (world : World) (items : List Making) (now : IsLawful world items) wher
   any_agree one other there other_there = parts_agree one other now.all (state_part one there) (state_part other other_there)
 
   pub own_known : (one : Content) (id : SiteCounter) → Contains (states_of world) one → is_known one id ≡ true → is_known (content_at world id.site) id ≡ true
-  own_known one id there known = ⊎_elim
-      (λ h. items_known (content_at world id.site) id h.0 (now.whole.own id h.0 (state_part one there (addition id h.0) h.1)))
-      (λ gone. let made = now.whole.made id (state_part one there (withdrawal id) gone) in items_known (content_at world id.site) id made.0 (now.whole.own id made.0 made.1))
-      (known_items one id known)
+  own_known one id there known =
+      let added = held_record world now.all one id now.whole (state_part one there) known in
+      items_known (content_at world id.site) id added.0 (now.whole.own id added.0 added.1)

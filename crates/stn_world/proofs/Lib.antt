@@ -6,5 +6,6 @@ pub mod Pair
 pub mod Merges
 pub mod Sendings
 pub mod Runs
+pub mod Alike
 pub mod Lawful
 pub mod EachRun

@@ -1,56 +1,134 @@
 -- Whether a state is part of another, and the parts that are sent.
-use Rattle.std.proofs.Common.{◌≡◌, List, Option, Some, None, is_some, refl, ap, All}
+use Rattle.std.proofs.Common.{◌≡◌, Bool, true, false, cond, List, Option, Some, None, is_some, sym, refl, ap, ◌∙◌, All}
 use Rattle.std.specs.Prelude.{IsTrue}
 use Rattle.std.specs.Bool.{Decides}
 use Rattle.std.specs.List.{list_all}
+use Rattle.std.specs.Option.{option_eq}
 use Rattle.std.specs.Set.{is_member}
 use Rattle.std.specs.FinMap as fin
+use Rattle.std.specs.FinMap.{get-retain_keys}
 use Rattle.std.proofs.lemmas.Bool.{false≢true}
 use Rattle.std.proofs.lemmas.Bool.Decides.{Decides-by_and, Decides-and, Decides-like}
-use Rattle.stn_records.specs.Id.{SiteCounter, id_cmp}
+use Rattle.stn_records.specs.Id.{SiteCounter, id_cmp, same_ids}
 use Rattle.stn_records.specs.declared.record.Record.{Record}
-use Rattle.stn_records.specs.Record.{is_there}
-use Rattle.stn_records.specs.Content.{Content, addition, withdrawal, AllHeld, part_of, same_ids, IsPart}
-use Rattle.stn_records.specs.ContentLaws.{ids_total, ids_exact, records_decide}
+use Rattle.stn_records.specs.Record.{same_records}
+use Rattle.stn_records.specs.Content.{Content, addition, withdrawal, replacement, HasItem, AllHeld, AllAmend, part_of, plain, IsPart}
+use Rattle.stn_records.specs.ContentLaws.{ids_total, ids_exact, ids_decide, records_decide}
 use Rattle.stn_records.proofs.Proper.{retained_value}
-use Rattle.stn_replica.proofs.Entries.{entries_from_get, get_from_entries}
-use Rattle.stn_world.specs.Parts.{is_part, holds_all}
+use Rattle.stn_records.proofs.Gets.{entries_from_get, get_from_entries}
+use Rattle.stn_world.specs.Parts.{has_whole_record, is_part, holds_all}
 
-there_decides : (o : Option Record) (one : Record) → Decides (is_there o one) (o ≡ Some one)
-there_decides None one = (λ e. absurd (false≢true e), λ e. absurd (false≢true (ap is_some e)))
-there_decides (Some there) one = (λ e. ap Some ((records_decide there one).0 e), λ e. (records_decide there one).1 (same there one e))
+-- a test of values decides whether options are the same
+options_decide : {X : Type 0} (same : X → X → Bool) → ((x y : X) → Decides (same x y) (x ≡ y)) → (o p : Option X) → Decides (option_eq same o p) (o ≡ p)
+options_decide same decides None None = (λ _. refl, λ _. refl)
+options_decide same decides None (Some y) = (λ e. absurd (false≢true e), λ e. absurd (false≢true (ap is_some e)))
+options_decide same decides (Some x) None = (λ e. absurd (false≢true e), λ e. absurd (false≢true (sym (ap is_some e))))
+options_decide same decides (Some x) (Some y) = (λ e. ap Some ((decides x y).0 e), λ e. (decides x y).1 (value_of e))
   where
-    same : (a b : Record) → Some a ≡ Some b → a ≡ b
-    same a b e = cc
+    value_of : Some x ≡ Some y → x ≡ y
+    value_of e = cc
+
+key_decides : {X : Type 0} (o : Option X) → Decides (is_some o) ((x : X) × (o ≡ Some x))
+key_decides None = (λ e. absurd (false≢true e), λ h. absurd (false≢true (ap is_some h.1)))
+key_decides (Some x) = (λ _. (x, refl), λ _. refl)
 
 gone_decides : (o : Option (Unit {0})) (u : Unit {0}) → Decides (is_some o) (o ≡ Some u)
 gone_decides None u = (λ e. absurd (false≢true e), λ e. absurd (false≢true (ap is_some e)))
 gone_decides (Some v) u = (λ _. refl, λ _. refl)
 
--- the test of a part tells whether it is one
-pub part_decides : (part whole : Content) → Decides (is_part part whole) (IsPart part whole)
-part_decides part whole =
-    let records = Decides-by_and (λ (entry : SiteCounter × Record). is_there (fin.get whole.additions entry.0) entry.1) (λ entry. fin.get whole.additions entry.0 ≡ Some entry.1)
-    (list_all (λ (entry : SiteCounter × Record). is_there (fin.get whole.additions entry.0) entry.1)) (λ entry. there_decides (fin.get whole.additions entry.0) entry.1) refl (λ _ _. refl) (fin.entries part.additions) in
-    let gone = Decides-by_and (λ (entry : SiteCounter × Unit {0}). fin.contains_key whole.tombstones entry.0) (λ entry. fin.get whole.tombstones entry.0 ≡ Some entry.1)
-    (list_all (λ (entry : SiteCounter × Unit {0}). fin.contains_key whole.tombstones entry.0)) (λ entry. gone_decides (fin.get whole.tombstones entry.0) entry.1) refl (λ _ _. refl) (fin.entries part.tombstones) in
-    Decides-like _ (λ both. items both.0 both.1) (λ is. (held is, withdrawn is)) (Decides-and _ _ records gone)
+-- what may be sent of a whole: its records with their entries, and its withdrawn ids
+pub record IsSentOf (part whole : Content) : Type 0 where
+  pub records : (id : SiteCounter) (one : Record) → HasItem part (addition id one) → HasItem whole (addition id one) × (fin.get part.replacements id ≡ fin.get whole.replacements id)
+  pub entries : (id old : SiteCounter) → HasItem part (replacement id old) → (one : Record) × HasItem part (addition id one)
+  pub tombstones : (id : SiteCounter) → HasItem part (withdrawal id) → HasItem whole (withdrawal id)
+
+module _ (part whole : Content) where
+  IsWholes : SiteCounter × Record → Type 0
+  IsWholes entry = (fin.get whole.additions entry.0 ≡ Some entry.1) × (fin.get part.replacements entry.0 ≡ fin.get whole.replacements entry.0)
+
+  IsOfRecord : SiteCounter × SiteCounter → Type 0
+  IsOfRecord entry = (one : Record) × (fin.get part.additions entry.0 ≡ Some one)
+
+  IsGone : SiteCounter × Unit {0} → Type 0
+  IsGone entry = fin.get whole.tombstones entry.0 ≡ Some entry.1
+
+  wholes_decide : (entry : SiteCounter × Record) → Decides (has_whole_record part whole entry) (IsWholes entry)
+  unfolding IsWholes
+  wholes_decide entry = Decides-and _ _
+      (options_decide same_records records_decide (fin.get whole.additions entry.0) (Some entry.1))
+      (options_decide same_ids ids_decide (fin.get part.replacements entry.0) (fin.get whole.replacements entry.0))
+
+  -- the test of a part tells whether it may be sent
+  pub part_decides : Decides (is_part part whole) (IsSentOf part whole)
+  unfolding IsWholes IsOfRecord IsGone
+  part_decides =
+      let records = Decides-by_and (has_whole_record part whole) IsWholes (list_all (has_whole_record part whole)) wholes_decide refl (λ _ _. refl) (fin.entries part.additions) in
+      let entries = Decides-by_and (λ (entry : SiteCounter × SiteCounter). fin.contains_key part.additions entry.0) IsOfRecord
+      (list_all (λ (entry : SiteCounter × SiteCounter). fin.contains_key part.additions entry.0)) (λ entry. key_decides (fin.get part.additions entry.0)) refl (λ _ _. refl) (fin.entries part.replacements) in
+      let gone = Decides-by_and (λ (entry : SiteCounter × Unit {0}). fin.contains_key whole.tombstones entry.0) IsGone
+      (list_all (λ (entry : SiteCounter × Unit {0}). fin.contains_key whole.tombstones entry.0)) (λ entry. gone_decides (fin.get whole.tombstones entry.0) entry.1) refl (λ _ _. refl) (fin.entries part.tombstones) in
+      Decides-like _ (λ all. told all.0.0 all.0.1 all.1) (λ is. ((held is, of_records is), withdrawn is)) (Decides-and _ _ (Decides-and _ _ records entries) gone)
+    where
+      told : All IsWholes (fin.entries part.additions) → All IsOfRecord (fin.entries part.replacements) → All IsGone (fin.entries part.tombstones) → IsSentOf part whole
+      told records entries gone = record {
+        records = λ id one there. get_from_entries ids_total ids_exact part.additions IsWholes records id one there;
+        entries = λ id old there. get_from_entries ids_total ids_exact part.replacements IsOfRecord entries id old there;
+        tombstones = λ id there. get_from_entries ids_total ids_exact part.tombstones IsGone gone id tt there;
+      }
+
+      held : IsSentOf part whole → All IsWholes (fin.entries part.additions)
+      held is = entries_from_get ids_total ids_exact part.additions IsWholes is.records
+
+      of_records : IsSentOf part whole → All IsOfRecord (fin.entries part.replacements)
+      of_records is = entries_from_get ids_total ids_exact part.replacements IsOfRecord is.entries
+
+      withdrawn : IsSentOf part whole → All IsGone (fin.entries part.tombstones)
+      withdrawn is = entries_from_get ids_total ids_exact part.tombstones IsGone (λ id u there. is.tombstones id there)
+
+  -- the whole has what is sent
+  pub sent_inside : IsSentOf part whole → IsPart part whole
+  sent_inside is (addition id one) there = (is.records id one there).0
+  sent_inside is (withdrawal id) there = is.tombstones id there
+  sent_inside is (replacement id old) there = let one = is.entries id old there in sym (is.records id one.0 one.1).1 ∙ there
+
+  -- and each entry that is sent belongs to a record that is sent
+  pub sent_amends : IsSentOf part whole → AllAmend whole → AllAmend part
+  sent_amends is amends id old there =
+      let one = is.entries id old there in
+      let amended = amends id old (sent_inside is (replacement id old) there) in
+      record { added = (amended.added.0, one.1 ∙ (sym (is.records id one.0 one.1).0 ∙ amended.added.1)); other = amended.other }
+
+-- all that a site holds may be sent
+pub all_sent : (content : Content) → AllAmend content → IsSentOf content content
+all_sent content amends = record {
+  records = λ id one there. (there, refl);
+  entries = λ id old there. let amended = amends id old there in (plain amended.added.0, amended.added.1);
+  tombstones = λ id there. there;
+}
+
+-- where a map was cut to some keys
+kept_key : {X : Type 0} (m : fin.FinMap id_cmp X) (p : SiteCounter → Bool) (id : SiteCounter) (x : X) → fin.get (fin.retain_keys m p) id ≡ Some x → p id ≡ true
+kept_key m p id x e = passed (p id) (fin.get m id) (sym (get-retain_keys m p id (λ k t. ap p (sym (ids_exact id k t)))) ∙ e)
   where
-    items : All (λ (entry : SiteCounter × Record). fin.get whole.additions entry.0 ≡ Some entry.1) (fin.entries part.additions)
-        → All (λ (entry : SiteCounter × Unit {0}). fin.get whole.tombstones entry.0 ≡ Some entry.1) (fin.entries part.tombstones) → IsPart part whole
-    items records gone (addition id one) there = get_from_entries ids_total ids_exact part.additions (λ entry. fin.get whole.additions entry.0 ≡ Some entry.1) records id one there
-    items records gone (withdrawal id) there = get_from_entries ids_total ids_exact part.tombstones (λ entry. fin.get whole.tombstones entry.0 ≡ Some entry.1) gone id tt there
+    passed : (b : Bool) (o : Option _) → cond b o None ≡ Some x → b ≡ true
+    passed true o f = refl
+    passed false o f = absurd (false≢true (ap is_some f))
 
-    held : IsPart part whole → All (λ (entry : SiteCounter × Record). fin.get whole.additions entry.0 ≡ Some entry.1) (fin.entries part.additions)
-    held is = entries_from_get ids_total ids_exact part.additions (λ entry. fin.get whole.additions entry.0 ≡ Some entry.1) (λ id one there. is (addition id one) there)
+kept_value : {X : Type 0} (m : fin.FinMap id_cmp X) (p : SiteCounter → Bool) (id : SiteCounter) → p id ≡ true → fin.get (fin.retain_keys m p) id ≡ fin.get m id
+kept_value m p id e = get-retain_keys m p id (λ k t. ap p (sym (ids_exact id k t))) ∙ ap (λ b. cond b (fin.get m id) None) e
 
-    withdrawn : IsPart part whole → All (λ (entry : SiteCounter × Unit {0}). fin.get whole.tombstones entry.0 ≡ Some entry.1) (fin.entries part.tombstones)
-    withdrawn is = entries_from_get ids_total ids_exact part.tombstones (λ entry. fin.get whole.tombstones entry.0 ≡ Some entry.1) (λ id u there. is (withdrawal id) there)
-
--- the records and the withdrawn ids of two lists are a part
-pub part_of-part : (content : Content) (records tombstones : List SiteCounter) → IsPart (part_of content records tombstones) content
-part_of-part content records tombstones (addition id one) there = retained_value content.additions (λ id. is_member same_ids records id) id one there
-part_of-part content records tombstones (withdrawal id) there = retained_value content.tombstones (λ id. is_member same_ids tombstones id) id tt there
+-- so may the records of a list with their entries, and the withdrawn ids of another
+pub part_sent : (content : Content) (records tombstones : List SiteCounter) → AllAmend content → IsSentOf (part_of content records tombstones) content
+part_sent content records tombstones amends = record {
+  records = λ id one there. (retained_value content.additions named id one there, kept_value content.replacements named id (kept_key content.additions named id one there));
+  entries = λ id old there.
+      let amended = amends id old (retained_value content.replacements named id old there) in
+      (plain amended.added.0, kept_value content.additions named id (kept_key content.replacements named id old there) ∙ amended.added.1);
+  tombstones = λ id there. retained_value content.tombstones (λ other. is_member same_ids tombstones other) id tt there;
+}
+  where
+    named : SiteCounter → Bool
+    named id = is_member same_ids records id
 
 holds_decides : {X : Type 0} (m : fin.FinMap id_cmp X) (ids : List SiteCounter) → Decides (list_all (λ id. fin.contains_key m id) ids) (AllHeld m ids)
 holds_decides m ids = Decides-by_and (λ id. fin.contains_key m id) (λ id. IsTrue (fin.contains_key m id)) (list_all (λ id. fin.contains_key m id)) (λ id. (λ e. e, λ e. e)) refl (λ _ _. refl) ids

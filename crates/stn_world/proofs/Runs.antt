@@ -3,16 +3,16 @@ use Rattle.std.proofs.Common.{◌≡◌, ◌≢◌, ◌↔◌, ◌⊎◌, inl, i
 use Rattle.std.proofs.lemmas.Bool.{false≢true, cases_eq}
 use Rattle.std.proofs.lemmas.List.{length-set, get_or-set_other}
 use Rattle.stn_lift.specs.PlanSource.{PlanSource}
-use Rattle.stn_records.specs.Content.{Content, Item, HasItem, no_content, with_record, with_tombstone, joined_contents, addition, withdrawal, IsPart}
+use Rattle.stn_records.specs.Content.{Content, Item, HasItem, no_content, plain, with_record, with_amendment, with_tombstone, joined_contents, addition, withdrawal, replacement, IsPart}
 use Rattle.stn_records.specs.ContentLaws.{contents_join}
-use Rattle.stn_replica.specs.Held.{plain, executed}
+use Rattle.stn_replica.specs.Held.{executed}
 use Rattle.stn_replica.proofs.Items.{nothing_there, record_brought, withdrawal_brought, regroup}
 use Rattle.stn_world.specs.declared.faults.WorldFault.{WorldFault}
 use Rattle.stn_world.specs.World.{World, HasSite, opening_world, content_at, packet_at, next_id_at, with_content}
-use Rattle.stn_world.specs.Steps.{Step, added, finished, withdrew, merged, sent, delivered, after, stepped, run, step_refusal, IsAccepted, Brings, TookAt}
+use Rattle.stn_world.specs.Steps.{Step, added, finished, amended, withdrew, merged, sent, delivered, after, stepped, run, step_refusal, IsAccepted, Brings, TookAt}
 use Rattle.stn_world.specs.Whole.{IsCoherent}
-use Rattle.stn_world.proofs.Accepted.{accepted_addition, accepted_execution, accepted_withdrawal, accepted_merge, accepted_delivery}
-use Rattle.stn_world.proofs.Whole.{content_here, sites_join, packet_joins, coherent_after, grows_after, coherent_at_first, nothing_at_first}
+use Rattle.stn_world.proofs.Accepted.{accepted_addition, accepted_execution, accepted_amendment, accepted_withdrawal, accepted_merge, accepted_delivery}
+use Rattle.stn_world.proofs.Whole.{content_here, amended_items, sites_join, packet_joins, coherent_after, grows_after, coherent_at_first, nothing_at_first}
 
 there_after : (world : World) (at : ℕ) (content : Content) (site : ℕ) → HasSite world site → HasSite (with_content world at content) site
 there_after world at content site there = record { least = there.least; most = subst (λ (n : ℕ). site ≤ n) (sym (length-set world.sites (at - 1) content)) there.most }
@@ -46,6 +46,9 @@ one_step world (finished at event time) accepted coherent site other item =
     changed_at world at (with_record (content_at world at) (next_id_at world at) (executed time event)) (λ i. i ≡ addition (next_id_at world at) (executed time event)) item
     (accepted_execution world at event time accepted).0
     (record_brought (content_at world at) (with_record (content_at world at) (next_id_at world at) (executed time event)) at (next_id_at world at) (executed time event) refl refl item) site other
+one_step world (amended at old bound) accepted coherent site other item =
+    changed_at world at (with_amendment (content_at world at) (next_id_at world at) old bound) (λ i. (i ≡ addition (next_id_at world at) (plain bound)) ⊎ (i ≡ replacement (next_id_at world at) old)) item
+    (accepted_amendment world at old bound accepted).0 (amended_items world coherent at old bound item) site other
 one_step world (withdrew at id) accepted coherent site other item =
     changed_at world at (with_tombstone (content_at world at) id) (λ i. i ≡ withdrawal id) item (accepted_withdrawal world at id accepted).0
     (withdrawal_brought (content_at world at) (with_tombstone (content_at world at) id) id refl item) site other
@@ -60,6 +63,7 @@ one_step world (delivered at number) accepted coherent site other item =
 site_stays : (world : World) (step : Step) (site : ℕ) → HasSite world site → HasSite (after world step) site
 site_stays world (added at bound) site there = there_after world at _ site there
 site_stays world (finished at event time) site there = there_after world at _ site there
+site_stays world (amended at old bound) site there = there_after world at _ site there
 site_stays world (withdrew at id) site there = there_after world at _ site there
 site_stays world (merged at other) site there = there_after world at _ site there
 site_stays world (sent at part) site there = record { least = there.least; most = there.most }
@@ -68,6 +72,7 @@ site_stays world (delivered at number) site there = there_after world at _ site 
 after_keeps : (world : World) (step : Step) → (after world step).source ≡ world.source
 after_keeps world (added at bound) = refl
 after_keeps world (finished at event time) = refl
+after_keeps world (amended at old bound) = refl
 after_keeps world (withdrew at id) = refl
 after_keeps world (merged at other) = refl
 after_keeps world (sent at part) = refl

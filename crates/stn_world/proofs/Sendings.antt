@@ -13,8 +13,9 @@ use Rattle.stn_world.specs.Faults.{of_part_fault}
 use Rattle.stn_world.specs.Parts.{holds_all}
 use Rattle.stn_world.specs.World.{World, most_packets, HasSite, content_at}
 use Rattle.stn_world.specs.Steps.{sent, IsAccepted, send_refusal}
+use Rattle.stn_world.specs.Whole.{IsCoherent}
 use Rattle.stn_world.proofs.Accepted.{sending_free, send_with_room}
-use Rattle.stn_world.proofs.Parts.{part_of-part, holds_all-decides}
+use Rattle.stn_world.proofs.Parts.{part_sent, all_sent, holds_all-decides}
 
 -- a part that could not be made
 abbrev failed : (A : Type 0) → PartFault → Result A PartFault
@@ -58,10 +59,11 @@ pub holds_there : (theirs content : Content) (records tombstones : List SiteCoun
     → holds_all content records tombstones ≡ true
 holds_there theirs content records tombstones same held = ap (λ (c : Content). holds_all c records tombstones) (sym same) ∙ (holds_all-decides theirs records tombstones).1 held
 
--- a part of what a site holds may be sent
-pub part_free : (world : World) (site : ℕ) (records tombstones : List SiteCounter) → HasSite world site
+-- in a coherent world a site may send a part of what it holds, and all of it
+pub part_free : (world : World) (site : ℕ) (records tombstones : List SiteCounter) → HasSite world site → IsCoherent world
     → IsAccepted world (sent site (part_of (content_at world site) records tombstones))
-part_free world site records tombstones there = sending_free world site (part_of (content_at world site) records tombstones) there (part_of-part (content_at world site) records tombstones)
+part_free world site records tombstones there coherent =
+    sending_free world site (part_of (content_at world site) records tombstones) there (part_sent (content_at world site) records tombstones (coherent.1.sites_amend site))
 
-pub all_free : (world : World) (site : ℕ) → HasSite world site → IsAccepted world (sent site (content_at world site))
-all_free world site there = sending_free world site (content_at world site) there (λ item h. h)
+pub all_free : (world : World) (site : ℕ) → HasSite world site → IsCoherent world → IsAccepted world (sent site (content_at world site))
+all_free world site there coherent = sending_free world site (content_at world site) there (all_sent (content_at world site) (coherent.1.sites_amend site))

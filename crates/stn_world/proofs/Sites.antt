@@ -5,15 +5,15 @@ use Rattle.std.proofs.lemmas.List.FromFn.{get_or-range_with_len}
 use Rattle.std.proofs.Math.Seq.{map-set_same}
 use Rattle.std.specs.List.{range_with_len}
 use Rattle.stn_lift.specs.PlanSource.{PlanSource}
-use Rattle.stn_records.specs.Content.{Content, IsPart, no_content, with_record, with_tombstone, dispute_contents, join_contents, joined_contents}
+use Rattle.stn_records.specs.Content.{Content, IsPart, no_content, with_record, with_amendment, with_tombstone, dispute_contents, join_contents, joined_contents}
 use Rattle.stn_records.specs.ContentLaws.{contents_dispute, contents_undisputed, contents_repeat}
 use Rattle.stn_replica.specs.Held.{Held, next_id}
 use Rattle.stn_net.specs.Difference.{Difference}
 use Rattle.stn_records.specs.Id.{SiteCounter}
 use Rattle.stn_records.specs.declared.record.Record.{Record}
-use Rattle.stn_replica.specs.Refusals.{add_refusal, done_refusal, withdraw_refusal, take_refusal}
-use Rattle.stn_world.specs.World.{World, most_packets, HasSite, HasPacket, content_at, packet_at, held_at, next_id_at, with_content, make, withdraw, send, deliver}
-use Rattle.stn_replica.specs.Calls.{Accepted, added, withdrew, took, Leaves}
+use Rattle.stn_replica.specs.Refusals.{add_refusal, done_refusal, amend_refusal, withdraw_refusal, take_refusal}
+use Rattle.stn_world.specs.World.{World, most_packets, HasSite, HasPacket, content_at, packet_at, held_at, next_id_at, with_content, make, amend, withdraw, send, deliver}
+use Rattle.stn_replica.specs.Calls.{Accepted, added, amended, withdrew, took, Leaves}
 use Rattle.stn_world.specs.Whole.{IsSites, IsCoherent, IsSoundWorld}
 use Rattle.stn_records.specs.Id.{most_sites}
 use Rattle.stn_world.proofs.Whole.{coherent_at_first}
@@ -135,6 +135,9 @@ add_refusal_at world site one bound held = ap (λ (h : Held). add_refusal h boun
 pub done_refusal_at : (world : World) (site : ℕ) (one : Held) (event : ℕ) → IsHeldAt world site one → done_refusal one event ≡ done_refusal (held_at world site) event
 done_refusal_at world site one event held = ap (λ (h : Held). done_refusal h event) (held_is world site one held)
 
+pub amend_refusal_at : (world : World) (site : ℕ) (one : Held) (old : SiteCounter) (bound : Difference) → IsHeldAt world site one → amend_refusal one old bound ≡ amend_refusal (held_at world site) old bound
+amend_refusal_at world site one old bound held = ap (λ (h : Held). amend_refusal h old bound) (held_is world site one held)
+
 pub withdraw_refusal_at : (world : World) (site : ℕ) (one : Held) (id : SiteCounter) → IsHeldAt world site one → withdraw_refusal one id ≡ withdraw_refusal (held_at world site) id
 withdraw_refusal_at world site one id held = ap (λ (h : Held). withdraw_refusal h id) (held_is world site one held)
 
@@ -173,6 +176,16 @@ made_there world source replicas place site one new id record_of is at held left
     world_set world source replicas place site new (with_record (content_at world site) (next_id_at world site) record_of) (sym is) at
     (left.state.1 ∙ (ap (λ (c : Content). with_record c id record_of) held.state
     ∙ ap (λ (i : SiteCounter). with_record (content_at world site) i record_of) (left.state.0 ∙ next_id_at-held world site one held)))
+
+-- an amendment at a site's replica is the world's
+pub amended_there : {packets : List Content} (world : World) (source : PlanSource) (replicas : List Held) (place site : ℕ) (one new : Held) (id old : SiteCounter) (bound : Difference)
+    → world_of source replicas packets ≡ world → place ≡ site - 1 → IsHeldAt world site one
+    → Leaves one (amended id old bound) new
+    → world_of source (set replicas place new) packets ≡ amend world site old bound
+amended_there world source replicas place site one new id old bound is at held left =
+    world_set world source replicas place site new (with_amendment (content_at world site) (next_id_at world site) old bound) (sym is) at
+    (left.state.1 ∙ (ap (λ (c : Content). with_amendment c id old bound) held.state
+    ∙ ap (λ (i : SiteCounter). with_amendment (content_at world site) i old bound) (left.state.0 ∙ next_id_at-held world site one held)))
 
 -- a withdrawal at a site's replica is the world's
 pub withdrawn_there : {packets : List Content} (world : World) (source : PlanSource) (replicas : List Held) (place site : ℕ) (one new : Held) (id : SiteCounter)

@@ -1,25 +1,26 @@
 -- The sites of a world stay parts of a whole.
-use Rattle.std.proofs.Common.{◌≡◌, ◌⊎◌, inl, inr, ⊎_elim, ℕ, zero, suc, ◌-◌, Bool, true, false, not, ◌||◌, is_some, Option, Some, None, List, [], ◌∷◌, ◌++◌, set, get_or, replicate, refl, ap, sym, subst, ◌∙◌, arith}
+use Rattle.std.proofs.Common.{◌≡◌, ◌≢◌, ◌↔◌, ◌⊎◌, inl, inr, ⊎_elim, ℕ, zero, suc, ◌-◌, Bool, true, false, not, ◌||◌, is_some, Option, Some, None, List, [], ◌∷◌, ◌++◌, set, get_or, replicate, refl, ap, sym, subst, ◌∙◌, arith}
 use Rattle.std.proofs.lemmas.Bool.{false≢true, or_cases}
 use Rattle.std.proofs.lemmas.List.{get_or-set_same}
 use Rattle.std.specs.FinMap as fin
-use Rattle.stn_net.specs.Difference.{NamesEvents}
+use Rattle.stn_net.specs.Difference.{Difference, NamesEvents}
 use Rattle.stn_lift.specs.PlanSource.{PlanSource, events_of}
 use Rattle.stn_records.specs.Id.{SiteCounter}
 use Rattle.stn_records.specs.declared.record.Record.{Record}
-use Rattle.stn_records.specs.Content.{Content, Item, addition, withdrawal, HasItem, is_known, no_content, with_record, with_tombstone, dispute_contents, join_contents, joined_contents, IsPart}
+use Rattle.stn_records.specs.Content.{Content, Item, addition, withdrawal, replacement, HasItem, is_known, is_replaced, no_content, plain, with_record, with_amendment, with_tombstone, dispute_contents, join_contents, joined_contents, IsPart, IsAmendment, AllAmend}
 use Rattle.stn_records.specs.ContentLaws.{ids_total, ids_exact, contents_join, contents_dispute, contents_undisputed}
-use Rattle.stn_records.proofs.OneItem.{inserted_here}
+use Rattle.stn_records.proofs.Replaced.{replaced_cases}
 use Rattle.stn_records.proofs.Counters.{next_is_new}
 use Rattle.stn_replica.specs.Bounds.{RecordsName}
-use Rattle.stn_replica.specs.Held.{plain, executed}
-use Rattle.stn_replica.proofs.Entries.{entries_from_get}
-use Rattle.stn_replica.proofs.Items.{nothing_there, addition_items, withdrawal_brought}
-use Rattle.stn_replica.proofs.Refused.{accepted_named, accepted_known, executed_named}
-use Rattle.stn_world.specs.World.{World, HasSite, opening_world, content_at, packet_at, held_at, next_id_at, with_content, make, withdraw, send}
-use Rattle.stn_world.specs.Steps.{Step, added, finished, withdrew, merged, sent, delivered, after, IsAccepted}
+use Rattle.stn_replica.specs.Held.{executed}
+use Rattle.stn_records.proofs.Gets.{entries_from_get}
+use Rattle.stn_replica.proofs.Items.{nothing_there, addition_items, amendment_items, withdrawal_brought}
+use Rattle.stn_replica.proofs.Refused.{accepted_named, accepted_known, executed_named, amended_named, amended_known}
+use Rattle.stn_world.specs.World.{World, HasSite, opening_world, content_at, packet_at, held_at, next_id_at, with_content, make, amend, withdraw, send}
+use Rattle.stn_world.specs.Steps.{Step, added, finished, amended, withdrew, merged, sent, delivered, after, IsAccepted}
 use Rattle.stn_world.specs.Whole.{IsWhole, IsCoherent}
-use Rattle.stn_world.proofs.Accepted.{accepted_addition, accepted_execution, accepted_withdrawal, accepted_sending}
+use Rattle.stn_world.proofs.Parts.{sent_inside, sent_amends}
+use Rattle.stn_world.proofs.Accepted.{accepted_addition, accepted_execution, accepted_amendment, accepted_withdrawal, accepted_sending}
 
 -- a place of a list that was set has the new element, or what it had
 set_cases : {X : Type 0} (xs : List X) (i j : ℕ) (x d : X) → ((get_or (set xs i x) j d ≡ x) × (get_or xs i d ≡ get_or xs j d)) ⊎ (get_or (set xs i x) j d ≡ get_or xs j d)
@@ -40,42 +41,44 @@ kept world at content site item grows there =
     ⊎_elim (λ e. subst (λ (c : Content). HasItem c item) (sym e.0) (grows item (subst (λ (c : Content). HasItem c item) (sym e.1) there)))
     (λ e. subst (λ (c : Content). HasItem c item) (sym e) there) (set_cases world.sites (at - 1) (site - 1) content no_content)
 
--- a site's content grows, and with it the whole
-grown : (world : World) (all more : Content) (at : ℕ) (content : Content) → IsWhole world all → IsPart all more → IsPart content more → IsPart (content_at world at) content
-    → ((id : SiteCounter) (one : Record) → HasItem more (addition id one) → HasItem all (addition id one) ⊎ (HasItem (content_at (with_content world at content) id.site) (addition id one) × NamesEvents (events_of world.source) one.bound))
-    → ((id : SiteCounter) → HasItem more (withdrawal id) → (one : Record) × HasItem more (addition id one))
-    → IsWhole (with_content world at content) more
-grown world all more at content whole lifts inside grows new made = record {
-  sites = λ site. each_site (λ (c : Content). IsPart c more) world at content site inside (λ item there. lifts item (whole.sites site item there));
-  packets = λ number item there. lifts item (whole.packets number item there);
-  own = λ id one there. ⊎_elim (λ old. kept world at content id.site (addition id one) grows (whole.own id one old)) (λ h. h.0) (new id one there);
-  made = made;
-  named = λ id one there. ⊎_elim (λ old. whole.named id one old) (λ h. h.1) (new id one there);
-}
+-- ---- entries
+-- an entry that amends does so in a larger state
+amends_more : (old new : Content) (id entry : SiteCounter) → IsPart old new → IsAmendment old.additions id entry → IsAmendment new.additions id entry
+amends_more old new id entry grows is = record { added = (is.added.0, grows (addition id (plain is.added.0)) is.added.1); other = is.other }
 
--- ---- additions
-apart_items : {id other : SiteCounter} {one : Record} {P : Type 0} → withdrawal id ≡ addition other one → P
-apart_items e = absurd (cc)
+-- each entry amends where new ones come with their records
+amends_made : (old new : Content) (New : Item → Type 0) → ((item : Item) → HasItem new item ↔ (HasItem old item ⊎ New item)) → AllAmend old
+    → ((id entry : SiteCounter) → New (replacement id entry) → ((bound : Difference) × New (addition id (plain bound))) × (id ≢ entry)) → AllAmend new
+amends_made old new New grown amends news id entry there = ⊎_elim
+    (λ was. amends_more old new id entry (λ item h. (grown item).1 (inl h)) (amends id entry was))
+    (λ h. let one = news id entry h in record { added = (one.0.0, (grown (addition id (plain one.0.0))).1 (inr one.0.1)); other = one.1 })
+    ((grown (replacement id entry)).0 there)
 
-same_id : (id other : SiteCounter) (one two : Record) → addition id one ≡ addition other two → id ≡ other
-same_id id other one two e = cc
+-- and in a union
+amends_join : (a b c : Content) → ((item : Item) → HasItem c item ↔ (HasItem a item ⊎ HasItem b item)) → AllAmend a → AllAmend b → AllAmend c
+amends_join a b c union ours theirs = amends_made a c (HasItem b) union ours (λ id entry h. let is = theirs id entry h in (is.added, is.other))
 
-same_one : (id other : SiteCounter) (one two : Record) → addition id one ≡ addition other two → one ≡ two
-same_one id other one two e = cc
-
-pub known_items : (s : Content) (id : SiteCounter) → is_known s id ≡ true → ((one : Record) × HasItem s (addition id one)) ⊎ HasItem s (withdrawal id)
-known_items s id known = ⊎_elim (λ e. inl (held (fin.get s.additions id) e)) (λ e. inr (gone (fin.get s.tombstones id) e)) (or_cases _ _ known)
+-- ---- known ids
+-- an id that is known was added, withdrawn or replaced
+pub known_items : (s : Content) (id : SiteCounter) → is_known s id ≡ true
+    → ((one : Record) × HasItem s (addition id one)) ⊎ (HasItem s (withdrawal id) ⊎ ((other : SiteCounter) × HasItem s (replacement other id)))
+known_items s id known = ⊎_elim (λ e. inl (held (fin.get s.additions id) e)) (λ e. inr (replaced_cases s id e)) (or_cases _ _ known)
   where
     held : (o : Option Record) → is_some o ≡ true → (one : Record) × (o ≡ Some one)
     held None e = absurd (false≢true e)
     held (Some one) e = (one, refl)
 
-    gone : (o : Option (Unit {0})) → is_some o ≡ true → o ≡ Some tt
-    gone None e = absurd (false≢true e)
-    gone (Some tt) e = refl
-
 pub items_known : (s : Content) (id : SiteCounter) (one : Record) → HasItem s (addition id one) → is_known s id ≡ true
-items_known s id one there = ap (λ (o : Option Record). is_some o || fin.contains_key s.tombstones id) there
+items_known s id one there = ap (λ (o : Option Record). is_some o || is_replaced s id) there
+
+-- in the whole each id that is known has a record
+pub has_record : (world : World) (all : Content) (id : SiteCounter) → IsWhole world all → is_known all id ≡ true → (one : Record) × HasItem all (addition id one)
+has_record world all id whole known = ⊎_elim (λ h. h) (λ gone. ⊎_elim (whole.made id) (λ h. whole.replaced h.0 id h.1) gone) (known_items all id known)
+
+-- so it is for one that a site or a packet knows
+pub held_record : (world : World) (all part : Content) (id : SiteCounter) → IsWhole world all → IsPart part all → is_known part id ≡ true → (one : Record) × HasItem all (addition id one)
+held_record world all part id whole inside known =
+    ⊎_elim (λ h. (h.0, inside (addition id h.0) h.1)) (λ gone. ⊎_elim (λ h. whole.made id (inside (withdrawal id) h)) (λ h. whole.replaced h.0 id (inside (replacement h.0 id) h.1)) gone) (known_items part id known)
 
 -- a site's next id is new everywhere
 pub next_unknown : (world : World) (all : Content) (site : ℕ) → IsWhole world all → is_known all (next_id_at world site) ≡ false
@@ -86,45 +89,109 @@ next_unknown world all site whole = none (is_known all (next_id_at world site)) 
 
     none : (known : Bool) → is_known all (next_id_at world site) ≡ known → known ≡ false
     none false e = refl
-    none true e = absurd (⊎_elim (λ h. here h.0 h.1) (λ gone. let made = whole.made (next_id_at world site) gone in here made.0 made.1) (known_items all (next_id_at world site) e))
+    none true e = let added = has_record world all (next_id_at world site) whole e in absurd (here added.0 added.1)
 
 pub content_here : (world : World) (site : ℕ) (content : Content) → HasSite world site → content_at (with_content world site content) site ≡ content
 content_here world site content there = let least = there.least in let most = there.most in get_or-set_same world.sites (site - 1) content no_content (omega arith)
+
+-- an amendment of a site is a record and its entry
+pub amended_items : (world : World) → IsCoherent world → (site : ℕ) (old : SiteCounter) (bound : Difference) (item : Item)
+    → HasItem (with_amendment (content_at world site) (next_id_at world site) old bound) item
+    ↔ (HasItem (content_at world site) item ⊎ ((item ≡ addition (next_id_at world site) (plain bound)) ⊎ (item ≡ replacement (next_id_at world site) old)))
+amended_items world coherent site old bound =
+    amendment_items (content_at world site) (next_id_at world site) old bound (coherent.1.sites_amend site) (next_is_new (content_at world site) site (next_id_at world site).counter refl)
+
+-- ---- equal items
+same_id : (id other : SiteCounter) (one two : Record) → addition id one ≡ addition other two → id ≡ other
+same_id id other one two e = cc
+
+same_one : (id other : SiteCounter) (one two : Record) → addition id one ≡ addition other two → one ≡ two
+same_one id other one two e = cc
+
+site_of : (other : SiteCounter) (two : Record) (id : SiteCounter) (one : Record) → addition other two ≡ addition id one → other.site ≡ id.site
+site_of other two id one e = ap (λ (i : SiteCounter). i.site) (same_id other id two one e)
+
+same_gone : (id other : SiteCounter) → withdrawal id ≡ withdrawal other → id ≡ other
+same_gone id other e = cc
+
+same_new : (other second id old : SiteCounter) → replacement other second ≡ replacement id old → other ≡ id
+same_new other second id old e = cc
+
+same_old : (other second id old : SiteCounter) → replacement other second ≡ replacement id old → second ≡ old
+same_old other second id old e = cc
+
+-- ---- items that a site makes
+-- what a site holds grows by new items, and with it the whole: records of the site about the plan's events, withdrawals of ids that have a
+-- record, and entries of such records that replace ids that have one
+made_whole : (world : World) (all more : Content) (site : ℕ) (content : Content) (New : Item → Type 0) → IsWhole world all → HasSite world site
+    → ((item : Item) → HasItem more item ↔ (HasItem all item ⊎ New item))
+    → ((item : Item) → HasItem content item ↔ (HasItem (content_at world site) item ⊎ New item))
+    → ((id : SiteCounter) (one : Record) → New (addition id one) → (id.site ≡ site) × NamesEvents (events_of world.source) one.bound)
+    → ((id : SiteCounter) → New (withdrawal id) → (one : Record) × HasItem all (addition id one))
+    → ((id old : SiteCounter) → New (replacement id old) → ((one : Record) × HasItem all (addition old one)) × (((bound : Difference) × New (addition id (plain bound))) × (id ≢ old)))
+    → IsWhole (with_content world site content) more
+made_whole world all more site content New whole there larger grown records gone entries = record {
+  sites = λ at. each_site (λ (c : Content). IsPart c more) world site content at (λ item h. (larger item).1 (⊎_elim (λ was. inl (whole.sites site item was)) inr ((grown item).0 h))) (λ item h. lifts item (whole.sites at item h));
+  packets = λ number item h. lifts item (whole.packets number item h);
+  own = λ id one h. ⊎_elim (λ was. kept world site content id.site (addition id one) (λ item i. (grown item).1 (inl i)) (whole.own id one was)) (λ new.
+      subst (λ (k : ℕ). HasItem (content_at (with_content world site content) k) (addition id one)) (sym (records id one new).0)
+      (subst (λ (c : Content). HasItem c (addition id one)) (sym (content_here world site content there)) ((grown (addition id one)).1 (inr new)))) ((larger (addition id one)).0 h);
+  made = λ id h. lifted id (⊎_elim (whole.made id) (gone id) ((larger (withdrawal id)).0 h));
+  replaced = λ id old h. lifted old (⊎_elim (whole.replaced id old) (λ new. (entries id old new).0) ((larger (replacement id old)).0 h));
+  amends = amends_made all more New larger whole.amends amending;
+  sites_amend = λ at. each_site AllAmend world site content at (amends_made (content_at world site) content New grown (whole.sites_amend site) amending) (whole.sites_amend at);
+  packets_amend = whole.packets_amend;
+  named = λ id one h. ⊎_elim (whole.named id one) (λ new. (records id one new).1) ((larger (addition id one)).0 h);
+}
+  where
+    lifts : IsPart all more
+    lifts item h = (larger item).1 (inl h)
+
+    lifted : (id : SiteCounter) → (one : Record) × HasItem all (addition id one) → (one : Record) × HasItem more (addition id one)
+    lifted id one = (one.0, lifts (addition id one.0) one.1)
+
+    amending : (id old : SiteCounter) → New (replacement id old) → ((bound : Difference) × New (addition id (plain bound))) × (id ≢ old)
+    amending id old new = (entries id old new).1
 
 pub added_whole : (world : World) (all : Content) (site : ℕ) (one : Record) → IsWhole world all → HasSite world site → NamesEvents (events_of world.source) one.bound
     → IsWhole (make world site one) (with_record all (next_id_at world site) one)
 added_whole world all site one whole there named =
     let id = next_id_at world site in
-    let more = addition_items all id one (next_unknown world all site whole) in
-    let here = addition_items (content_at world site) id one (next_is_new (content_at world site) site id.counter refl) in
-    grown world all (with_record all id one) site (with_record (content_at world site) id one) whole
-    (λ item h. (more item).1 (inl h))
-    (λ item h. (more item).1 (⊎_elim (λ old. inl (whole.sites site item old)) inr ((here item).0 h)))
-    (λ item h. (here item).1 (inl h))
-    (λ other two h. ⊎_elim inl (λ e. inr (
-      subst (λ (i : SiteCounter). HasItem (content_at (make world site one) i.site) (addition i two)) (sym (same_id other id two one e))
-          (subst (λ (r : Record). HasItem (content_at (make world site one) site) (addition id r)) (sym (same_one other id two one e))
-          (subst (λ (c : Content). HasItem c (addition id one)) (sym (content_here world site (with_record (content_at world site) id one) there)) (inserted_here (content_at world site).additions id one))),
-      subst (λ (r : Record). NamesEvents (events_of world.source) r.bound) (sym (same_one other id two one e)) named,
-    )) ((more (addition other two)).0 h))
-    (λ other h. ⊎_elim (λ old. let made = whole.made other old in (made.0, (more (addition other made.0)).1 (inl made.1))) (λ e. apart_items e) ((more (withdrawal other)).0 h))
+    made_whole world all (with_record all id one) site (with_record (content_at world site) id one) (λ item. item ≡ addition id one) whole there
+    (addition_items all id one (next_unknown world all site whole))
+    (addition_items (content_at world site) id one (next_is_new (content_at world site) site id.counter refl))
+    (λ other two e. (site_of other two id one e, subst (λ (r : Record). NamesEvents (events_of world.source) r.bound) (sym (same_one other id two one e)) named))
+    (λ other e. absurd (cc))
+    (λ other old e. absurd (cc))
 
--- ---- withdrawals
-same_gone : (id other : SiteCounter) → withdrawal id ≡ withdrawal other → id ≡ other
-same_gone id other e = cc
-
-pub withdrawn_whole : (world : World) (all : Content) (site : ℕ) (id : SiteCounter) → IsWhole world all → is_known (content_at world site) id ≡ true
+pub withdrawn_whole : (world : World) (all : Content) (site : ℕ) (id : SiteCounter) → IsWhole world all → HasSite world site → is_known (content_at world site) id ≡ true
     → IsWhole (withdraw world site id) (with_tombstone all id)
-withdrawn_whole world all site id whole known =
-    let more = withdrawal_brought all (with_tombstone all id) id refl in
-    let here = withdrawal_brought (content_at world site) (with_tombstone (content_at world site) id) id refl in
-    let one = ⊎_elim {C = (one : Record) × HasItem all (addition id one)} (λ h. (h.0, whole.sites site (addition id h.0) h.1)) (λ gone. whole.made id (whole.sites site (withdrawal id) gone)) (known_items (content_at world site) id known) in
-    grown world all (with_tombstone all id) site (with_tombstone (content_at world site) id) whole
-    (λ item h. (more item).1 (inl h))
-    (λ item h. (more item).1 (⊎_elim (λ old. inl (whole.sites site item old)) inr ((here item).0 h)))
-    (λ item h. (here item).1 (inl h))
-    (λ other two h. inl h)
-    (λ other h. ⊎_elim (λ old. whole.made other old) (λ e. subst (λ (i : SiteCounter). (r : Record) × HasItem all (addition i r)) (sym (same_gone other id e)) one) ((more (withdrawal other)).0 h))
+withdrawn_whole world all site id whole there known =
+    made_whole world all (with_tombstone all id) site (with_tombstone (content_at world site) id) (λ item. item ≡ withdrawal id) whole there
+    (withdrawal_brought all (with_tombstone all id) id refl)
+    (withdrawal_brought (content_at world site) (with_tombstone (content_at world site) id) id refl)
+    (λ other two e. absurd (cc))
+    (λ other e. subst (λ (i : SiteCounter). (r : Record) × HasItem all (addition i r)) (sym (same_gone other id e)) (held_record world all (content_at world site) id whole (whole.sites site) known))
+    (λ other old e. absurd (cc))
+
+pub amended_whole : (world : World) (all : Content) (site : ℕ) (old : SiteCounter) (bound : Difference) → IsWhole world all → HasSite world site
+    → is_known (content_at world site) old ≡ true → NamesEvents (events_of world.source) bound
+    → IsWhole (amend world site old bound) (with_amendment all (next_id_at world site) old bound)
+amended_whole world all site old bound whole there known named =
+    let id = next_id_at world site in
+    let new = next_is_new (content_at world site) site id.counter refl in
+    made_whole world all (with_amendment all id old bound) site (with_amendment (content_at world site) id old bound) (λ item. (item ≡ addition id (plain bound)) ⊎ (item ≡ replacement id old)) whole there
+    (amendment_items all id old bound whole.amends (next_unknown world all site whole))
+    (amendment_items (content_at world site) id old bound (whole.sites_amend site) new)
+    (λ other two e. ⊎_elim (λ f. (site_of other two id (plain bound) f, subst (λ (r : Record). NamesEvents (events_of world.source) r.bound) (sym (same_one other id two (plain bound) f)) named)) (λ f. absurd (cc)) e)
+    (λ other e. ⊎_elim (λ f. absurd (cc)) (λ f. absurd (cc)) e)
+    (λ other second e. ⊎_elim (λ f. absurd (cc)) (λ f. (
+      subst (λ (i : SiteCounter). (r : Record) × HasItem all (addition i r)) (sym (same_old other second id old f)) (held_record world all (content_at world site) old whole (whole.sites site) known),
+      (
+        (bound, inl (ap (λ (i : SiteCounter). addition i (plain bound)) (same_new other second id old f))),
+        λ g. false≢true (sym (subst (λ (i : SiteCounter). is_known (content_at world site) i ≡ false) (sym (same_new other second id old f) ∙ (g ∙ same_old other second id old f)) new) ∙ known),
+      ),
+    )) e)
 
 -- ---- merges
 -- two parts of a whole agree on every id
@@ -155,16 +222,20 @@ pub site_named : (world : World) → IsCoherent world → (site : ℕ) → Recor
 site_named world coherent site = part_named world coherent.0 (content_at world site) coherent.1 (coherent.1.sites site)
 
 -- a site takes in another part of the whole
-pub joined_whole : (world : World) (all : Content) (site : ℕ) (other : Content) → IsWhole world all → IsPart other all → IsWhole (with_content world site (joined_contents (content_at world site) other)) all
-joined_whole world all site other whole inside =
-    let union = contents_join.union (content_at world site) other (joined_contents (content_at world site) other)
-    (contents_undisputed (content_at world site) other (parts_agree (content_at world site) other all (whole.sites site) inside)) in
-    grown world all all site (joined_contents (content_at world site) other) whole
-    (λ item h. h)
-    (λ item h. ⊎_elim (λ ours. whole.sites site item ours) (λ theirs. inside item theirs) ((union item).0 h))
-    (λ item h. (union item).1 (inl h))
-    (λ id one h. inl h)
-    whole.made
+pub joined_whole : (world : World) (all : Content) (site : ℕ) (other : Content) → IsWhole world all → IsPart other all → AllAmend other → IsWhole (with_content world site (joined_contents (content_at world site) other)) all
+joined_whole world all site other whole inside amends =
+    let joined = joined_contents (content_at world site) other in
+    let union = contents_join.union (content_at world site) other joined (contents_undisputed (content_at world site) other (parts_agree (content_at world site) other all (whole.sites site) inside)) in record {
+      sites = λ at. each_site (λ (c : Content). IsPart c all) world site joined at (λ item h. ⊎_elim (λ ours. whole.sites site item ours) (λ theirs. inside item theirs) ((union item).0 h)) (whole.sites at);
+      packets = whole.packets;
+      own = λ id one h. kept world site joined id.site (addition id one) (λ item i. (union item).1 (inl i)) (whole.own id one h);
+      made = whole.made;
+      replaced = whole.replaced;
+      amends = whole.amends;
+      sites_amend = λ at. each_site AllAmend world site joined at (amends_join (content_at world site) other joined union (whole.sites_amend site) amends) (whole.sites_amend at);
+      packets_amend = whole.packets_amend;
+      named = whole.named;
+    }
 
 -- ---- packets
 -- a place of a longer list has the new element, or what it had
@@ -174,12 +245,20 @@ last_cases [] (suc i) x d = inr refl
 last_cases (y ∷ xs) zero x d = inr refl
 last_cases (y ∷ xs) (suc i) x d = last_cases xs i x d
 
-pub sent_whole : (world : World) (all part : Content) → IsWhole world all → IsPart part all → IsWhole (send world part) all
-sent_whole world all part whole inside = record {
+-- and so has a property of all packets
+each_packet : (P : Content → Type 0) (world : World) (part : Content) (number : ℕ) → P part → P (packet_at world number) → P (packet_at (send world part) number)
+each_packet P world part number new old = ⊎_elim (λ e. subst P (sym e) new) (λ e. subst P (sym e) old) (last_cases world.packets (number - 1) part no_content)
+
+pub sent_whole : (world : World) (all part : Content) → IsWhole world all → IsPart part all → AllAmend part → IsWhole (send world part) all
+sent_whole world all part whole inside amends = record {
   sites = whole.sites;
-  packets = λ number. ⊎_elim (λ e. subst (λ (c : Content). IsPart c all) (sym e) inside) (λ e. subst (λ (c : Content). IsPart c all) (sym e) (whole.packets number)) (last_cases world.packets (number - 1) part no_content);
+  packets = λ number. each_packet (λ (c : Content). IsPart c all) world part number inside (whole.packets number);
   own = whole.own;
   made = whole.made;
+  replaced = whole.replaced;
+  amends = whole.amends;
+  sites_amend = whole.sites_amend;
+  packets_amend = λ number. each_packet AllAmend world part number amends (whole.packets_amend number);
   named = whole.named;
 }
 
@@ -199,6 +278,10 @@ made_grows : (world : World) (at : ℕ) (one : Record) → IsPart (content_at wo
 made_grows world at one item h =
     (addition_items (content_at world at) (next_id_at world at) one (next_is_new (content_at world at) at (next_id_at world at).counter refl) item).1 (inl h)
 
+amended_grows : (world : World) → IsCoherent world → (at : ℕ) (old : SiteCounter) (bound : Difference)
+    → IsPart (content_at world at) (with_amendment (content_at world at) (next_id_at world at) old bound)
+amended_grows world coherent at old bound item h = (amended_items world coherent at old bound item).1 (inl h)
+
 pub coherent_after : (world : World) (step : Step) → IsAccepted world step → IsCoherent world → IsCoherent (after world step)
 coherent_after world (added site bound) accepted coherent =
     let is = accepted_addition world site bound accepted in
@@ -208,18 +291,31 @@ coherent_after world (finished site event time) accepted coherent =
       with_record coherent.0 (next_id_at world site) (executed time event),
       added_whole world coherent.0 site (executed time event) coherent.1 is.0 (executed_named (held_at world site) time event is.1),
     )
+coherent_after world (amended site old bound) accepted coherent =
+    let is = accepted_amendment world site old bound accepted in (
+      with_amendment coherent.0 (next_id_at world site) old bound,
+      amended_whole world coherent.0 site old bound coherent.1 is.0 (amended_known (held_at world site) old bound is.1) (amended_named (held_at world site) old bound is.1),
+    )
 coherent_after world (withdrew site id) accepted coherent =
-    (with_tombstone coherent.0 id, withdrawn_whole world coherent.0 site id coherent.1 (accepted_known (held_at world site) id (accepted_withdrawal world site id accepted).1))
-coherent_after world (merged site other) accepted coherent = (coherent.0, joined_whole world coherent.0 site (content_at world other) coherent.1 (coherent.1.sites other))
+    let is = accepted_withdrawal world site id accepted in
+    (with_tombstone coherent.0 id, withdrawn_whole world coherent.0 site id coherent.1 is.0 (accepted_known (held_at world site) id is.1))
+coherent_after world (merged site other) accepted coherent =
+    (coherent.0, joined_whole world coherent.0 site (content_at world other) coherent.1 (coherent.1.sites other) (coherent.1.sites_amend other))
 coherent_after world (sent site part) accepted coherent =
-    (coherent.0, sent_whole world coherent.0 part coherent.1 (λ item there. coherent.1.sites site item ((accepted_sending world site part accepted).1 item there)))
-coherent_after world (delivered site number) accepted coherent = (coherent.0, joined_whole world coherent.0 site (packet_at world number) coherent.1 (coherent.1.packets number))
+    let is = (accepted_sending world site part accepted).1 in (
+      coherent.0,
+      sent_whole world coherent.0 part coherent.1 (λ item there. coherent.1.sites site item (sent_inside part (content_at world site) is item there)) (sent_amends part (content_at world site) is (coherent.1.sites_amend site)),
+    )
+coherent_after world (delivered site number) accepted coherent =
+    (coherent.0, joined_whole world coherent.0 site (packet_at world number) coherent.1 (coherent.1.packets number) (coherent.1.packets_amend number))
 
 -- a site keeps what it held
 pub grows_after : (world : World) (step : Step) → IsCoherent world → (site : ℕ) → IsPart (content_at world site) (content_at (after world step) site)
 grows_after world (added at bound) coherent site item there = kept world at (with_record (content_at world at) (next_id_at world at) (plain bound)) site item (made_grows world at (plain bound)) there
 grows_after world (finished at event time) coherent site item there =
     kept world at (with_record (content_at world at) (next_id_at world at) (executed time event)) site item (made_grows world at (executed time event)) there
+grows_after world (amended at old bound) coherent site item there =
+    kept world at (with_amendment (content_at world at) (next_id_at world at) old bound) site item (amended_grows world coherent at old bound) there
 grows_after world (withdrew at id) coherent site item there =
     kept world at (with_tombstone (content_at world at) id) site item (λ i h. (withdrawal_brought (content_at world at) (with_tombstone (content_at world at) id) id refl i).1 (inl h)) there
 grows_after world (merged at other) coherent site item there =
@@ -238,12 +334,19 @@ get_same (suc n) x (suc i) = get_same n x i
 pub nothing_at_first : (source : PlanSource) (sites site : ℕ) → content_at (opening_world source sites) site ≡ no_content
 nothing_at_first source sites site = get_same sites no_content (site - 1)
 
+nothing_amends : AllAmend no_content
+nothing_amends id old there = absurd (nothing_there (replacement id old) there)
+
 pub whole_at_first : (source : PlanSource) (sites : ℕ) → IsWhole (opening_world source sites) no_content
 whole_at_first source sites = record {
   sites = λ site. subst (λ (c : Content). IsPart c no_content) (sym (nothing_at_first source sites site)) (λ item h. h);
   packets = λ number item h. h;
   own = λ id one h. absurd (nothing_there (addition id one) h);
   made = λ id h. absurd (nothing_there (withdrawal id) h);
+  replaced = λ id old h. absurd (nothing_there (replacement id old) h);
+  amends = nothing_amends;
+  sites_amend = λ site. subst AllAmend (sym (nothing_at_first source sites site)) nothing_amends;
+  packets_amend = λ number. nothing_amends;
   named = λ id one h. absurd (nothing_there (addition id one) h);
 }
 

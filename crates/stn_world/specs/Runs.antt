@@ -2,20 +2,24 @@
 use Rattle.std.specs.Prelude.{ℕ, List, [], ◌∷◌, ◌++◌, length, filter, Bool, true, false, is_some, if◌then◌else◌}
 use Rattle.std.specs.List.{Contains}
 use Rattle.stn_lift.specs.PlanSource.{PlanSource}
-use Rattle.stn_records.specs.Content.{Content, Item, addition, withdrawal}
+use Rattle.stn_records.specs.Content.{Content, Item, addition, withdrawal, replacement}
 use Rattle.stn_replica.specs.Held.{plain, executed}
 use Rattle.stn_world.specs.World.{World, opening_world, next_id_at}
-use Rattle.stn_world.specs.Steps.{Step, added, finished, withdrew, step_refusal, stepped, run}
+use Rattle.stn_world.specs.Steps.{Step, added, finished, amended, withdrew, step_refusal, stepped, run}
 
 -- an item that was made, and the site that made it
 pub record Making : Type 0 where
   pub site : ℕ
   pub item : Item
 
--- what an accepted step makes: a record that is added, an id that is withdrawn, and any other step nothing
+-- what an accepted step makes: a record that is added, a record and the entry by which it replaces another, an id that is withdrawn, and any
+-- other step nothing
 abbrev pub makings : World → Step → List Making
 makings world (added site bound) = record { site = site; item = addition (next_id_at world site) (plain bound) } ∷ []
 makings world (finished site event time) = record { site = site; item = addition (next_id_at world site) (executed time event) } ∷ []
+makings world (amended site old bound) =
+    record { site = site; item = addition (next_id_at world site) (plain bound) }
+    ∷ (record { site = site; item = replacement (next_id_at world site) old } ∷ [])
 makings world (withdrew site id) = record { site = site; item = withdrawal id } ∷ []
 makings world other = []
 
@@ -36,6 +40,7 @@ WasMade items item = (maker : ℕ) × Contains items (record { site = maker; ite
 abbrev pub is_addition : Item → Bool
 is_addition (addition id one) = true
 is_addition (withdrawal id) = false
+is_addition (replacement id old) = false
 
 abbrev pub records_made : List Making → ℕ
 records_made items = length (filter (λ one. is_addition one.item) items)

@@ -4,21 +4,23 @@ use Rattle.std.specs.Bool.{then_some}
 use Rattle.std.specs.Option.{option_or}
 use Rattle.stn_net.specs.Difference.{Difference}
 use Rattle.stn_records.specs.Id.{SiteCounter}
-use Rattle.stn_records.specs.Content.{Content, Item, addition, withdrawal, HasItem}
+use Rattle.stn_records.specs.Content.{Content, Item, addition, withdrawal, replacement, HasItem}
 use Rattle.stn_replica.specs.declared.faults.ReplicaFault.TheVariants as replica_fault
 use Rattle.stn_replica.specs.Held.{plain, executed}
-use Rattle.stn_replica.specs.Refusals.{add_refusal, done_refusal, withdraw_refusal, take_refusal}
+use Rattle.stn_replica.specs.Calls.{CountAlike}
+use Rattle.stn_replica.specs.Refusals.{add_refusal, done_refusal, amend_refusal, withdraw_refusal, take_refusal}
 use Rattle.stn_world.specs.declared.faults.WorldFault.{WorldFault}
 use Rattle.stn_world.specs.declared.faults.WorldFault.TheVariants.{NoSite, TooManyPackets, NoPacket, Replica, Memory}
 use Rattle.stn_world.specs.Faults.{of_replica_fault}
 use Rattle.stn_world.specs.Parts.{is_part}
-use Rattle.stn_world.specs.World.{World, most_packets, has_site, has_packet, content_at, packet_at, held_at, next_id_at, make, withdraw, merge, send, deliver}
+use Rattle.stn_world.specs.World.{World, most_packets, has_site, has_packet, content_at, packet_at, held_at, next_id_at, make, amend, withdraw, merge, send, deliver}
 
--- a step: a site adds a bound, records the time at which it executed an event, withdraws an id, takes in all that another holds, sends any
--- part of what it holds, or takes in a packet, of any age
+-- a step: a site adds a bound, records the time at which it executed an event, amends a record by another bound, withdraws an id, takes in
+-- all that another holds, sends any part of what it holds, or takes in a packet, of any age
 pub data Step : Type 0 where
   added : ℕ → Difference → Step
   finished : ℕ → ℕ → ℤ → Step
+  amended : ℕ → SiteCounter → Difference → Step
   withdrew : ℕ → SiteCounter → Step
   merged : ℕ → ℕ → Step
   sent : ℕ → Content → Step
@@ -33,6 +35,7 @@ missing world site = then_some (not (has_site world site)) NoSite
 abbrev pub step_refusal : World → Step → Option WorldFault
 step_refusal world (added site bound) = option_or (missing world site) (option_map of_replica_fault (add_refusal (held_at world site) bound))
 step_refusal world (finished site event time) = option_or (missing world site) (option_map of_replica_fault (done_refusal (held_at world site) event))
+step_refusal world (amended site old bound) = option_or (missing world site) (option_map of_replica_fault (amend_refusal (held_at world site) old bound))
 step_refusal world (withdrew site id) = option_or (missing world site) (option_map of_replica_fault (withdraw_refusal (held_at world site) id))
 step_refusal world (merged site other) =
     option_or (missing world site) (option_or (missing world other)
@@ -49,6 +52,7 @@ IsAccepted world step = step_refusal world step ≡ None
 abbrev pub after : World → Step → World
 after world (added site bound) = make world site (plain bound)
 after world (finished site event time) = make world site (executed time event)
+after world (amended site old bound) = amend world site old bound
 after world (withdrew site id) = withdraw world site id
 after world (merged site other) = merge world site other
 after world (sent site part) = send world part
@@ -80,10 +84,13 @@ abbrev pub IsSending : World → Step → Option WorldFault → Result ℕ World
 IsSending old step refusal (Ok number) new = (refusal ≡ None) × IsAccepted old step × (new ≡ after old step) × (number ≡ length old.packets + 1)
 IsSending old step refusal (Err fault) new = (fault ≡ unwrap_or refusal Memory) × (new ≡ old)
 
--- the step brings the item to the site: the site's own addition, its own withdrawal, what another site holds, or what the packet holds
+-- the step brings the item to the site: the site's own addition, its own amendment, which is a record and its entry, its own withdrawal,
+-- what another site holds, or what the packet holds
 abbrev pub Brings : World → Step → ℕ → Item → Type 0
 Brings world (added at bound) site item = (at ≡ site) × (item ≡ addition (next_id_at world at) (plain bound))
 Brings world (finished at event time) site item = (at ≡ site) × (item ≡ addition (next_id_at world at) (executed time event))
+Brings world (amended at old bound) site item =
+    (at ≡ site) × ((item ≡ addition (next_id_at world at) (plain bound)) ⊎ (item ≡ replacement (next_id_at world at) old))
 Brings world (withdrew at id) site item = (at ≡ site) × (item ≡ withdrawal id)
 Brings world (merged at other) site item = (at ≡ site) × HasItem (content_at world other) item
 Brings world (sent at part) site item = ⊥
@@ -94,9 +101,14 @@ abbrev pub TookAt : World → List Step → ℕ → Item → Type 0
 TookAt world [] site item = ⊥
 TookAt world (step ∷ steps) site item = (IsAccepted world step × Brings world step site item) ⊎ TookAt (stepped world step) steps site item
 
--- two sites, of one world or of two, took the same additions and withdrawals
+-- two sites, of one world or of two, took the same additions and withdrawals; an amendment is the addition of its record and the withdrawal
+-- of the id that it replaces
 abbrev pub TookSameAt : World → List Step → ℕ → World → List Step → ℕ → Type 0
-TookSameAt world ours site other theirs there = (item : Item) → TookAt world ours site item ↔ TookAt other theirs there item
+TookSameAt world ours site other theirs there = CountAlike (TookAt world ours site) (TookAt other theirs there)
+
+-- they took the same items
+abbrev pub TookSameItemsAt : World → List Step → ℕ → World → List Step → ℕ → Type 0
+TookSameItemsAt world ours site other theirs there = (item : Item) → TookAt world ours site item ↔ TookAt other theirs there item
 
 -- what a merge can be refused for: a site is not there, the site would know too many ids, or want of memory
 abbrev pub IsMergeFault : WorldFault → Type 0

@@ -6,7 +6,7 @@ use Rattle.stn_net.specs.Difference.{NamesEvents}
 use Rattle.stn_lift.specs.PlanSource.{PlanSource, bare, events_of}
 use Rattle.stn_records.specs.declared.record.Record.{Record}
 use Rattle.stn_records.specs.Id.{most_sites, SiteCounter}
-use Rattle.stn_records.specs.Content.{Content, no_content, addition, withdrawal, HasItem, IsPart}
+use Rattle.stn_records.specs.Content.{Content, no_content, addition, withdrawal, replacement, HasItem, IsPart, AllAmend}
 use Rattle.stn_replica.specs.Held.{Held}
 use Rattle.stn_world.specs.World.{World, most_packets, content_at, packet_at}
 use Rattle.stn_world.specs.Sites.{world_of}
@@ -22,13 +22,18 @@ pub record IsSites (source : PlanSource) (replicas : List Held) : Type 0 where
 abbrev pub held_in : List Held → ℕ → Held
 held_in replicas place = slice_index_or replicas place (record { site = 0; source = bare 0; state = no_content; steps = 0 })
 
--- what each site and each packet holds is part of a whole, of which each record is held by the site that made it, each withdrawn id has a
--- record, and each record is about the plan's events. So any two of them agree on every id
+-- what each site and each packet holds is part of a whole, of which each record is held by the site that made it, each id that is withdrawn
+-- or replaced has a record, and each record is about the plan's events. So any two of them agree on every id. Each entry belongs to a Plain
+-- record that is held with it
 pub record IsWhole (world : World) (all : Content) : Type 0 where
   pub sites : (site : ℕ) → IsPart (content_at world site) all
   pub packets : (number : ℕ) → IsPart (packet_at world number) all
   pub own : (id : SiteCounter) (one : Record) → HasItem all (addition id one) → HasItem (content_at world id.site) (addition id one)
   pub made : (id : SiteCounter) → HasItem all (withdrawal id) → (one : Record) × HasItem all (addition id one)
+  pub replaced : (id old : SiteCounter) → HasItem all (replacement id old) → (one : Record) × HasItem all (addition old one)
+  pub amends : AllAmend all
+  pub sites_amend : (site : ℕ) → AllAmend (content_at world site)
+  pub packets_amend : (number : ℕ) → AllAmend (packet_at world number)
   pub named : (id : SiteCounter) (one : Record) → HasItem all (addition id one) → NamesEvents (events_of world.source) one.bound
 
 -- the sites and the packets of the world are parts of a whole

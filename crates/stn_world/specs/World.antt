@@ -1,10 +1,11 @@
 -- A plan at several sites, as a value, and its changes.
 use Rattle.std.specs.Prelude.{ℕ, ◌-◌, ◌≤◌, Bool, ◌&&◌, nat_le, List, [], ◌∷◌, ◌++◌, length, slice_index_or, slice_set, replicate, refl}
 use Rattle.std.specs.Coded.{Coded, code_by, coded×, coded_list}
+use Rattle.stn_net.specs.Difference.{Difference}
 use Rattle.stn_lift.specs.PlanSource.{PlanSource, coded_source}
 use Rattle.stn_records.specs.declared.record.Record.{Record}
 use Rattle.stn_records.specs.Id.{SiteCounter}
-use Rattle.stn_records.specs.Content.{Content, coded_content, no_content, with_record, with_tombstone, joined_contents}
+use Rattle.stn_records.specs.Content.{Content, coded_content, no_content, with_record, with_tombstone, with_amendment, joined_contents}
 use Rattle.stn_replica.specs.Held.{Held, next_id}
 
 -- a program keeps at most so many packets
@@ -66,6 +67,10 @@ with_content world site content = record world { sites = slice_set world.sites (
 -- a site makes a record under its next id
 abbrev pub make : World → ℕ → Record → World
 make world site made = with_content world site (with_record (content_at world site) (next_id_at world site) made)
+
+-- a site makes a record of a bound under its next id, and the record replaces another
+abbrev pub amend : World → ℕ → SiteCounter → Difference → World
+amend world site old bound = with_content world site (with_amendment (content_at world site) (next_id_at world site) old bound)
 
 -- a site withdraws an id
 abbrev pub withdraw : World → ℕ → SiteCounter → World

@@ -2,17 +2,18 @@ ghost use Rattle.std.specs.Prelude.{◌≡◌, ℕ, ◌≤◌, ◌↔◌, List, 
 ghost use Rattle.std.specs.List.{Contains};
 ghost use Rattle.stn_lift.specs.PlanSource.{PlanSource};
 ghost use Rattle.stn_records.specs.Id.{SiteCounter};
-ghost use Rattle.stn_records.specs.Content.{most_known, Content, Item, withdrawal, HasItem, is_known, is_live, dispute_contents, IsPart};
+ghost use Rattle.stn_records.specs.Content.{most_known, Content, Item, HasItem, is_known, is_live, dispute_contents, IsPart, CountsSame};
+ghost use Rattle.stn_replica.specs.Calls.{Replaces};
 ghost use Rattle.stn_replica.specs.Report.{IsReport};
 ghost use Rattle.stn_world.specs.World.{World, HasSite, HasPacket, opening_world, content_at, packet_at};
-ghost use Rattle.stn_world.specs.Steps.{Step, merged, delivered, IsAccepted, run, Brings, TookAt, TookSameAt};
+ghost use Rattle.stn_world.specs.Steps.{Step, merged, delivered, IsAccepted, run, Brings, TookAt, TookSameAt, TookSameItemsAt};
 ghost use Rattle.stn_world.specs.Runs.{Making, WasMade, records_made, states_of, InEachRun};
 
-use stn_replica::one_report;
+use stn_replica::{one_report, same_counts_same_bytes};
 
 /// The law that what a site of a world holds is the union of what it took: after any run it has an
-/// addition or a withdrawal exactly where one of the steps that were accepted brought it there; it
-/// does nothing.
+/// addition, a withdrawal or an entry of an amendment exactly where one of the steps that were accepted
+/// brought it there; it does nothing.
 pub fn sites_are_unions()
     ensures { (source : PlanSource) (sites : ℕ) (steps : List Step) (site : ℕ) → HasSite (opening_world source sites) site
         → (item : Item) → HasItem (content_at (run (opening_world source sites) steps) site) item ↔ TookAt (opening_world source sites) steps site item }
@@ -61,25 +62,31 @@ pub fn same_items_print_same()
     one_report();
 }
 
-/// The law that in each run a bound that was withdrawn at a site, or came there as withdrawn by a
-/// packet or a merge, is never live there afterwards, even where its record comes later; it does
-/// nothing.
+/// The law that in each run a bound that was withdrawn or replaced at a site, or came there as withdrawn
+/// or replaced by a packet or a merge, is never live there afterwards, even where its record comes
+/// later; it does nothing.
 pub fn withdrawn_for_good()
-    ensures { InEachRun (λ now items. (step : Step) (site : ℕ) (id : SiteCounter) → IsAccepted now step → Brings now step site (withdrawal id)
+    ensures { InEachRun (λ now items. (step : Step) (site : ℕ) (id : SiteCounter) → IsAccepted now step → Replaces (Brings now step site) id
         → (rest : List Step) → is_live (content_at (run now (step ∷ rest)) site) id ≡ false) }
 {}
 
 /// The law that two sites of one plan, in one world or in two, that took the same additions and
-/// withdrawals, in any order, more than once or merged in any grouping, hold the same and report the
-/// same bytes; it does nothing.
+/// withdrawals, in any order, more than once or merged in any grouping, have the same records and the
+/// same replaced ids and report the same bytes; it does nothing. An amendment is the addition of its
+/// record and the withdrawal of the id that it replaces, so it prints as these two would. Sites that
+/// took the same items hold the same.
 pub fn sites_took_same_same_bytes()
-    ensures { (source : PlanSource) (sites others : ℕ) (ours theirs : List Step)
+    ensures bytes { (source : PlanSource) (sites others : ℕ) (ours theirs : List Step)
         → (site other : ℕ) → HasSite (opening_world source sites) site → HasSite (opening_world source others) other
         → TookSameAt (opening_world source sites) ours site (opening_world source others) theirs other
         → let one = content_at (run (opening_world source sites) ours) site in
         let two = content_at (run (opening_world source others) theirs) other in
-        (one ≡ two) × ((text last : List ℕ) → IsReport source one text → IsReport source two last → text ≡ last) }
+        CountsSame one two × ((text last : List ℕ) → IsReport source one text → IsReport source two last → text ≡ last) }
+    ensures states { (source : PlanSource) (sites others : ℕ) (ours theirs : List Step)
+        → (site other : ℕ) → HasSite (opening_world source sites) site → HasSite (opening_world source others) other
+        → TookSameItemsAt (opening_world source sites) ours site (opening_world source others) theirs other
+        → content_at (run (opening_world source sites) ours) site ≡ content_at (run (opening_world source others) theirs) other }
 {
     sites_are_unions();
-    one_report();
+    same_counts_same_bytes();
 }

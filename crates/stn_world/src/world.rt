@@ -10,7 +10,7 @@ ghost use Rattle.stn_world.specs.declared.faults.WorldFault.TheVariants.{NoSite,
 ghost use Rattle.stn_world.specs.Faults.{IsSitesFault};
 ghost use Rattle.stn_world.specs.Parts.{holds_all};
 ghost use Rattle.stn_world.specs.Whole.{held_in};
-ghost use Rattle.stn_world.specs.Steps.{added, finished, withdrew, merged, sent, delivered, IsStep, IsMergeFault, IsSending, send_refusal, IsDeliveryFault};
+ghost use Rattle.stn_world.specs.Steps.{added, finished, amended, withdrew, merged, sent, delivered, IsStep, IsMergeFault, IsSending, send_refusal, IsDeliveryFault};
 ghost use Rattle.stn_world.specs.World.{most_packets, HasSite, HasPacket, opening_world, content_at, packet_at, next_id_at};
 
 use crate::faults::{SitesFault, WorldFault};
@@ -137,6 +137,28 @@ impl<A: Allocator + Copy> World<A> {
         Ok(id)
     }
 
+    /// Amends at a site a record that it knows: adds a bound under that site's next id, which is returned,
+    /// and replaces the record by it, for good. Wherever the new record comes, the replaced one is not
+    /// live.
+    ///
+    /// Refused in this order: `NoSite`; the faults of `Replica::amend`. After a fault all is as before.
+    pub fn amend(
+        &mut self,
+        site: u32,
+        old: Id,
+        from: Event,
+        to: Event,
+        lo: Ms,
+        hi: Ms,
+    ) -> Result<Id, WorldFault>
+        ensures id { IfOk result (λ id. id ≡ next_id_at self.old site) }
+        ensures step { IsStep self.old (amended site old (difference from to lo hi)) result self.new }
+    {
+        let place = self.place_of(site)?;
+        let id = self.replicas[place].amend(old, from, to, lo, hi)?;
+        Ok(id)
+    }
+
     /// Withdraws at a site a record that it knows, for good; one that is withdrawn there already changes
     /// nothing.
     ///
@@ -188,7 +210,8 @@ impl<A: Allocator + Copy> World<A> {
     }
 
     /// Sends some of the records and withdrawn ids that a site holds, and nothing else, as a new packet,
-    /// whose number is returned: 1 for the first. An id may stand in a list twice.
+    /// whose number is returned: 1 for the first. A record that replaces another is sent with its entry.
+    /// An id may stand in a list twice.
     ///
     /// Refused in this order: `NoSite`; `TooManyPackets`, where there are 256; `Unknown` of a replica,
     /// where the site has not a record or a withdrawn id of the lists; `Memory`. After a fault all is

@@ -1,6 +1,7 @@
 use Rattle.std.proofs.Common.{◌≡◌, ◌+◌, List, [], ◌∷◌, ◌++◌, filter, not, take, true, refl, sym, ap, ◌∙◌, arith}
 use Rattle.std.proofs.lemmas.List.{length-set}
-use Rattle.std.specs.FinMap.{entries, contains_key}
+use Rattle.std.specs.FinMap.{entries}
+use Rattle.stn_records.specs.Content.{is_replaced}
 use Rattle.stn_records.specs.Id.{SiteCounter}
 use Rattle.stn_records.specs.declared.record.Record.{Record}
 use Rattle.stn_replica.specs.Report.{says_done}
@@ -44,7 +45,7 @@ loop-id-preserved g c =
 pub returns-clause-done : goal.returns-clause-done
 returns-clause-done g c = λ event within.
     c.loop-id.invariant.done event within
-    ∙ ap (λ (records : List (SiteCounter × Record)). says_done (filter (λ entry. not (contains_key c.args.records.now.tombstones entry.0)) records) event)
+    ∙ ap (λ (records : List (SiteCounter × Record)). says_done (filter (λ entry. not (is_replaced c.args.records.now entry.0)) records) event)
     (all_seen (entries c.args.records.now.additions) c.entries-id-items.result.now c.loop-id.id-index
     (walked_are c.args.records.now c.state.result.now c.additions.result.now c.entries-id-items.result.now c.entries-id-items.ensures.value c.additions.ensures c.state.ensures.value)
     c.loop-id-test.false)

@@ -1,14 +1,15 @@
 use Rattle.std.proofs.Common.{◌≡◌, ◌+◌, List, [], ◌∷◌, ◌++◌, not, filter, take, refl, sym, ap, subst, ◌∙◌, arith, append-nil}
 use Rattle.std.proofs.lemmas.Bool.{false≢true}
-use Rattle.std.specs.FinMap.{entries, contains_key}
+use Rattle.std.specs.FinMap.{entries}
 use Rattle.stn_net.specs.Difference.{Difference}
 use Rattle.stn_matrix.specs.Tightest.{IsExact}
 use Rattle.stn_records.specs.Id.{SiteCounter}
 use Rattle.stn_records.specs.declared.record.Record.{Record}
+use Rattle.stn_records.specs.Content.{is_replaced, replaced_set}
 use Rattle.stn_records.proofs.Entries.{in_order}
 use Rattle.stn_replica.specs.Bounds.{bounds_of}
 use Rattle.stn_replica.proofs.Ahead.{all_ahead, seen_there, seen_ahead}
-use Rattle.stn_replica.proofs.Places.{walked_are, tombs_walked_are, one_more_seen, all_seen}
+use Rattle.stn_replica.proofs.Places.{walked_are, one_more_seen, all_seen}
 use Rattle.stn_replica.proofs.Walk.{bounds_seen, one_more_dead}
 use Rattle.stn_replica.proofs.Tightening.{conflict_live, live_taken}
 use Rattle.stn_replica.proofs.matrices.tighten_live.Goals as goal
@@ -20,10 +21,10 @@ returns-then-not-tighten-clause-settled g c =
     let place = c.loop-id.id-index in
     let entry = c.loop-id-item.result in
     let records = entries state.additions in
-    let items = walked_are state c.state-2.result.now c.additions.result.now c.entries-id-items.result.now c.entries-id-items.ensures.value c.additions.ensures c.state-2.ensures.value in
+    let items = walked_are state c.state.result.now c.additions.result.now c.entries-id-items.result.now c.entries-id-items.ensures.value c.additions.ensures c.state.ensures.value in
     let more : take (place + 1) records ≡ take place records ++ entry ∷ [] = one_more_seen records c.entries-id-items.result.now place entry items c.loop-id-test.true c.loop-id-item.is in
-    let there = seen_there records c.entries-id-items.result.now state.tombstones place entry c.loop-id.withdrawn.now c.from_id-withdrawn.result.now items
-    c.loop-id-test.true c.loop-id-item.is c.loop-id.invariant.withdrawn c.from_id-withdrawn.ensures in
+    let there = seen_there records c.entries-id-items.result.now (replaced_set state) place entry c.loop-id.replaced.now c.from_id-replaced.result.now items
+    c.loop-id-test.true c.loop-id-item.is c.loop-id.invariant.replaced c.from_id-replaced.ensures in
     λ bounds exact.
     conflict_live state place entry bounds more (ap not (sym there ∙ sym c.if-not-begins_with.ensures))
     (λ s. false≢true ((c.if-not-tighten.ensures.possible _ (c.loop-id.invariant.exact bounds exact)).1 s))
@@ -34,12 +35,12 @@ loop-id-preserved g c =
     let place = c.loop-id.id-index in
     let entry = c.loop-id-item.result in
     let records = entries state.additions in
-    let items = walked_are state c.state-2.result.now c.additions.result.now c.entries-id-items.result.now c.entries-id-items.ensures.value c.additions.ensures c.state-2.ensures.value in
+    let items = walked_are state c.state.result.now c.additions.result.now c.entries-id-items.result.now c.entries-id-items.ensures.value c.additions.ensures c.state.ensures.value in
     let more : take (place + 1) records ≡ take place records ++ entry ∷ [] = one_more_seen records c.entries-id-items.result.now place entry items c.loop-id-test.true c.loop-id-item.is in
-    let there = seen_there records c.entries-id-items.result.now state.tombstones place entry c.loop-id.withdrawn.now c.from_id-withdrawn.result.now items
-    c.loop-id-test.true c.loop-id-item.is c.loop-id.invariant.withdrawn c.from_id-withdrawn.ensures in
-    let ahead = seen_ahead records c.entries-id-items.result.now state.tombstones place entry c.loop-id.withdrawn.now c.from_id-withdrawn.result.now items
-    c.loop-id-test.true c.loop-id-item.is c.loop-id.invariant.withdrawn c.from_id-withdrawn.ensures (in_order state.additions) in
+    let there = seen_there records c.entries-id-items.result.now (replaced_set state) place entry c.loop-id.replaced.now c.from_id-replaced.result.now items
+    c.loop-id-test.true c.loop-id-item.is c.loop-id.invariant.replaced c.from_id-replaced.ensures in
+    let ahead = seen_ahead records c.entries-id-items.result.now (replaced_set state) place entry c.loop-id.replaced.now c.from_id-replaced.result.now items
+    c.loop-id-test.true c.loop-id-item.is c.loop-id.invariant.replaced c.from_id-replaced.ensures (in_order state.additions) in
     elim c.else-not-begins_with.branch [
       | else-not-begins_with-via-then-not-begins_with+else-not-tighten w ↦ rw w.matrix-is (record {
         exact = λ bounds exact.
@@ -47,7 +48,7 @@ loop-id-preserved g c =
             (w.if-not-tighten.ensures.exact (bounds ++ bounds_seen state place) (c.loop-id.invariant.exact bounds exact) refl);
         events = w.if-not-tighten.ensures.events ∙ c.loop-id.invariant.events;
         counted = let rose = w.if-not-tighten.ensures.counted refl in omega (arith, rose, c.loop-id.invariant.counted);
-        withdrawn = ahead;
+        replaced = ahead;
       })
       | else-not-begins_with-via-else-not-begins_with w ↦ rw w.matrix-is (record {
         exact = λ bounds exact.
@@ -56,7 +57,7 @@ loop-id-preserved g c =
             (c.loop-id.invariant.exact bounds exact);
         events = c.loop-id.invariant.events;
         counted = c.loop-id.invariant.counted;
-        withdrawn = ahead;
+        replaced = ahead;
       })
     ]
 
@@ -65,14 +66,13 @@ loop-id-init g c = record {
   exact = λ bounds exact. subst (λ (all : List Difference). IsExact all c.args.matrix.now) (sym (append-nil bounds)) exact;
   events = refl;
   counted = c.requires.counted;
-  withdrawn = all_ahead (entries c.args.records.now.additions) c.args.records.now.tombstones c.entries-withdrawn.result.now
-      (tombs_walked_are c.args.records.now c.state.result.now c.tombstones.result.now c.entries-withdrawn.result.now c.entries-withdrawn.ensures.value c.tombstones.ensures c.state.ensures.value);
+  replaced = all_ahead (entries c.args.records.now.additions) (replaced_set c.args.records.now) c.replaced-replaced.result.now c.replaced-replaced.ensures.value;
 }
 
 pub returns-clause-settled : goal.returns-clause-settled
 returns-clause-settled g c = λ bounds exact.
-    subst (λ (records : List (SiteCounter × Record)). IsExact (bounds ++ bounds_of (filter (λ entry. not (contains_key c.args.records.now.tombstones entry.0)) records)) c.loop-id.matrix)
+    subst (λ (records : List (SiteCounter × Record)). IsExact (bounds ++ bounds_of (filter (λ entry. not (is_replaced c.args.records.now entry.0)) records)) c.loop-id.matrix)
     (all_seen (entries c.args.records.now.additions) c.entries-id-items.result.now c.loop-id.id-index
-    (walked_are c.args.records.now c.state-2.result.now c.additions.result.now c.entries-id-items.result.now c.entries-id-items.ensures.value c.additions.ensures c.state-2.ensures.value)
+    (walked_are c.args.records.now c.state.result.now c.additions.result.now c.entries-id-items.result.now c.entries-id-items.ensures.value c.additions.ensures c.state.ensures.value)
     c.loop-id-test.false)
     (c.loop-id.invariant.exact bounds exact)

@@ -2,6 +2,7 @@ use Rattle.std.proofs.Common.{◌≡◌, ◌≤◌, ◌++◌, List}
 use Rattle.std.specs.FinMap.{entries}
 use Rattle.stn_net.specs.Difference.{Difference}
 use Rattle.stn_matrix.specs.Tightest.{IsExact}
+use Rattle.stn_records.specs.Content.{replaced_set}
 use Rattle.stn_replica.proofs.Ahead.{IsAhead}
 use Rattle.stn_replica.proofs.Walk.{bounds_seen}
 use Rattle.stn_replica.proofs.matrices.tighten_live.Given as goal
@@ -11,5 +12,5 @@ invariant-loop-id g l = record {
   exact : (bounds : List Difference) → IsExact bounds l.initial.matrix → IsExact (bounds ++ bounds_seen l.records l.id-index) l.matrix;
   events : l.matrix.events ≡ l.initial.matrix.events;
   counted : l.matrix.steps ≤ 18446744073709551615;
-  withdrawn : IsAhead (entries l.records.additions) l.id-index l.records.tombstones l.withdrawn;
+  replaced : IsAhead (entries l.records.additions) l.id-index (replaced_set l.records) l.replaced;
 }

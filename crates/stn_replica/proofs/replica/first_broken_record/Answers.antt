@@ -1,5 +1,6 @@
 use Rattle.std.proofs.Common.{◌≡◌, ◌+◌, [], ◌∷◌, ◌++◌, not, filter, take, subst, All}
-use Rattle.std.specs.FinMap.{entries, contains_key}
+use Rattle.std.specs.FinMap.{entries}
+use Rattle.stn_records.specs.Content.{is_replaced}
 use Rattle.stn_net.specs.Schedule.{Meets, times_of}
 use Rattle.stn_replica.specs.Bounds.{bounds_of}
 use Rattle.stn_replica.proofs.Places.{walked_are, one_more_seen, all_seen}
@@ -33,7 +34,7 @@ loop-id-preserved g c =
 
 pub returns-clause-none : goal.returns-clause-none
 returns-clause-none g c =
-    subst (λ records. All (Meets (times_of c.args.times.now)) (bounds_of (filter (λ entry. not (contains_key c.args.records.now.tombstones entry.0)) records)))
+    subst (λ records. All (Meets (times_of c.args.times.now)) (bounds_of (filter (λ entry. not (is_replaced c.args.records.now entry.0)) records)))
     (all_seen (entries c.args.records.now.additions) c.entries-id-items.result.now c.loop-id.id-index
     (walked_are c.args.records.now c.state.result.now c.additions.result.now c.entries-id-items.result.now c.entries-id-items.ensures.value c.additions.ensures c.state.ensures.value)
     c.loop-id-test.false) c.loop-id.invariant

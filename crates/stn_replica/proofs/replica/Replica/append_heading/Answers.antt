@@ -4,4 +4,4 @@ use Rattle.stn_replica.proofs.Count.{live_within}
 use Rattle.stn_replica.proofs.replica.Replica.append_heading.Goals as goal
 
 pub overflow_cast-live : goal.overflow_cast-live
-overflow_cast-live g c = omega (arith, live_within c.args.self.now.state, ap length c.requires, ap known_count c.records.ensures.value, c.withdrawn_count-withdrawn.ensures.limited)
+overflow_cast-live g c = omega (arith, live_within c.args.self.now.state, ap length c.requires, ap known_count c.records.ensures.value, c.replaced_count-replaced.ensures.limited)

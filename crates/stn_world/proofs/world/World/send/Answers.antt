@@ -45,7 +45,7 @@ invariant_of-self-2 g c =
     let made = sent_there c.args.self.now _ c.self.inside.replicas.items part c.in_ok-part.part c.self.view_is same in
     subst (λ (l : List Content). IsSoundWorld (rc_value c.self.inside.base) c.self.inside.replicas.items l) (sym c.in_ok-push.ensures.items)
     (sound_sent c.args.self.now _ _ c.self.inside.replicas.items c.in_ok-part.part c.self.view_is c.self.invariant c.in_ok-number.ensures.room made
-    (coherent_after c.args.self.now (sent c.args.site part) (part_free c.args.self.now c.args.site c.args.records.now c.args.tombstones.now c.in_ok-place.ensures.there) (subst IsCoherent c.self.view_is c.self.invariant.coherent)))
+    (coherent_after c.args.self.now (sent c.args.site part) (part_free c.args.self.now c.args.site c.args.records.now c.args.tombstones.now c.in_ok-place.ensures.there (subst IsCoherent c.self.view_is c.self.invariant.coherent)) (subst IsCoherent c.self.view_is c.self.invariant.coherent)))
 
 pub returns : goal.returns
 returns g c =
@@ -56,7 +56,7 @@ returns g c =
     record {
       step = (
         send_free c.args.self.now c.args.site c.in_ok-place.ensures.there c.in_ok-number.ensures.room (holds_all (content_at c.args.self.now c.args.site) c.args.records.now c.args.tombstones.now) all,
-        part_free c.args.self.now c.args.site c.args.records.now c.args.tombstones.now c.in_ok-place.ensures.there,
+        part_free c.args.self.now c.args.site c.args.records.now c.args.tombstones.now c.in_ok-place.ensures.there (subst IsCoherent c.self.view_is c.self.invariant.coherent),
         ap (λ (l : List Content). world_of (rc_value c.self.inside.base) c.self.inside.replicas.items l) c.in_ok-push.ensures.items ∙ sent_there c.args.self.now _ c.self.inside.replicas.items part c.in_ok-part.part c.self.view_is same,
         c.in_ok-number.ensures.number,
       );
