@@ -4,6 +4,7 @@ use Rattle.std.specs.Prelude.{◌+◌, length, unwrap_or}
 use Rattle.std.specs.Option.{option_map_or}
 use Rattle.std.proofs.lemmas.Bool.{false_from_ne_true}
 use Rattle.stn_time.specs.Time.{horizon}
+use Rattle.stn_net.specs.Difference.{Difference}
 use Rattle.stn_records.specs.Id.{SiteCounter}
 use Rattle.stn_replica.specs.Held.{difference}
 use Rattle.stn_time.specs.TimeOf.{time_of}
@@ -11,16 +12,16 @@ use Rattle.stn_lift.specs.PlanSource.{PlanSource}
 use Rattle.stn_records.specs.Content.{Content}
 use Rattle.stn_world.specs.declared.faults.WorldFault.{WorldFault}
 use Rattle.stn_world.specs.declared.faults.WorldFault.TheVariants as world_fault
-use Rattle.stn_world.specs.World.{World, HasSite, has_site, content_at, next_id_at}
-use Rattle.stn_world.specs.Steps.{Step, added, finished, sent, step_refusal, send_refusal, after, IsStep, IsSending}
+use Rattle.stn_world.specs.World.{World, HasSite, has_site, content_at}
+use Rattle.stn_world.specs.Steps.{Step, sent, step_refusal, send_refusal, after, IsStep, IsSending}
 use Rattle.stn_world.proofs.Accepted.{site_decides}
 use Rattle.stn_exec.specs.declared.answer.Refusal.{Refusal}
 use Rattle.stn_exec.specs.declared.answer.Refusal.TheVariants as refusal
 use Rattle.stn_exec.specs.declared.answer.Answer.{Answer}
 use Rattle.stn_exec.specs.declared.answer.Answer.TheVariants as answer
-use Rattle.stn_exec.specs.Command.{Action, add, done, rehearse, sites_command}
+use Rattle.stn_exec.specs.Command.{Action, rehearse, sites_command}
 use Rattle.stn_exec.specs.Refusals.{refusal_of}
-use Rattle.stn_exec.specs.Effect.{Effect, said, rehearsed, asked, refusing, answered, called, sending, and_then, refusing_time, side_of, add_effect, done_effect, action_effect, command_effect}
+use Rattle.stn_exec.specs.Effect.{Effect, said, rehearsed, asked, refusing, answered, called, sending, and_then, refusing_time, side_of, difference_read, making, action_effect, command_effect}
 
 -- a call that was refused: its fault is what refuses the call, and is a refusal of the line
 answered_refused : (old new next : World) (made : Answer) (refused_for : Option WorldFault) (fault : WorldFault) (cause : Refusal)
@@ -61,22 +62,27 @@ pub accepted_call : (T : Type 0) (value : T) (old new : World) (step : Step) (ma
 accepted_call T value old new step made effect is seen =
     ap (λ (w : World). record { world = w; reply = said made }) is.1 ∙ (sym (ap (answered old (after old step) made) is.0) ∙ seen)
 
--- an addition that was refused
-pub refused_addition : {E : Type 0} (result : Result Answer E) (old new : World) (site from to : ℕ) (lo hi : List ℕ) (low high : ℤ) (fault : WorldFault)
-    → side_of (neg_ℤ horizon) lo ≡ Ok low → side_of horizon hi ≡ Ok high
-    → IsStep {T = SiteCounter} old (added site (difference from to low high)) (Err fault) new
-    → IfOk result (λ given. (cause : Refusal) × (refusal_of fault ≡ Some cause) × (given ≡ answer.Refused cause))
-    → IfOk result (λ given. record { world = new; reply = said given } ≡ action_effect old site (add from to lo hi))
-refused_addition result old new site from to lo hi low high fault first second step refused =
-    refused_call SiteCounter result old new (added site (difference from to low high)) (answer.Added (next_id_at old site)) fault (action_effect old site (add from to lo hi)) step refused
-    (ap (add_effect old site) (sym
-    (ap (λ (r : Result ℤ Refusal). and_then r (λ l. and_then (side_of horizon hi) (λ h. Ok (difference from to l h)))) first
-    ∙ ap (λ (r : Result ℤ Refusal). and_then r (λ h. Ok (difference from to low h))) second)))
+-- a call that makes a record of what was read
+pub made_of : {T : Type 0} (world : World) (step : T → Step) (made : Answer) (read : Result T Refusal) (value : T) → read ≡ Ok value
+    → called world (step value) made ≡ making world step made read
+made_of world step made read value e = ap (making world step made) (sym e)
 
--- a record of an executed event
-pub finishes : (world : World) (site event : ℕ) (word : List ℕ) (time : ℤ) → refusing_time (time_of word) ≡ Ok time
-    → called world (finished site event time) (answer.Added (next_id_at world site)) ≡ action_effect world site (done event word)
-finishes world site event word time read = ap (done_effect world site event) (sym read)
+-- both sides of a bound that were read
+pub sides_read : (from to : ℕ) (lo hi : List ℕ) (low high : ℤ) → side_of (neg_ℤ horizon) lo ≡ Ok low → side_of horizon hi ≡ Ok high
+    → difference_read from to lo hi ≡ Ok (difference from to low high)
+sides_read from to lo hi low high first second =
+    ap (λ (r : Result ℤ Refusal). and_then r (λ l. and_then (side_of horizon hi) (λ h. Ok (difference from to l h)))) first
+    ∙ ap (λ (r : Result ℤ Refusal). and_then r (λ h. Ok (difference from to low h))) second
+
+-- an addition or an amendment that was refused
+pub refused_making : {E : Type 0} (result : Result Answer E) (old new : World) (step : Difference → Step) (made : Answer) (from to : ℕ) (lo hi : List ℕ) (low high : ℤ) (fault : WorldFault)
+    → side_of (neg_ℤ horizon) lo ≡ Ok low → side_of horizon hi ≡ Ok high
+    → IsStep {T = SiteCounter} old (step (difference from to low high)) (Err fault) new
+    → IfOk result (λ given. (cause : Refusal) × (refusal_of fault ≡ Some cause) × (given ≡ answer.Refused cause))
+    → IfOk result (λ given. record { world = new; reply = said given } ≡ making old step made (difference_read from to lo hi))
+refused_making result old new step made from to lo hi low high fault first second is refused =
+    refused_call SiteCounter result old new (step (difference from to low high)) made fault (making old step made (difference_read from to lo hi)) is refused
+    (made_of old step made (difference_read from to lo hi) (difference from to low high) (sides_read from to lo hi low high first second))
 
 -- ---- sendings
 pub accepted_sending : (old new : World) (site number : ℕ) (part : Content) (held : Bool)

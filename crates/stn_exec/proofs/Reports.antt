@@ -5,25 +5,27 @@ use Rattle.std.specs.Result.{result_ok}
 use Rattle.std.proofs.lemmas.Bool.{false≢true}
 use Rattle.std.proofs.lemmas.List.Sums.{fold-append}
 use Rattle.stn_time.specs.TimeOf.{time_of}
-use Rattle.stn_net.specs.Difference.{Difference}
 use Rattle.stn_lift.specs.PlanSource.{PlanSource, events_of}
 use Rattle.stn_text.specs.Lines.{lines_of, words_of}
 use Rattle.stn_replica.specs.Report.{IsReport}
-use Rattle.stn_replica.specs.Refusals.{add_refusal, done_refusal, withdraw_refusal}
+use Rattle.stn_replica.specs.Refusals.{withdraw_refusal}
 use Rattle.stn_world.specs.declared.faults.WorldFault.{WorldFault}
 use Rattle.stn_world.specs.declared.faults.WorldFault.TheVariants.{NoSite}
 use Rattle.stn_world.specs.Faults.{of_replica_fault}
 use Rattle.stn_world.specs.World.{World, HasSite, has_site, opening_world, held_at, content_at}
 use Rattle.stn_records.specs.Content.{Content, Item, HasItem, part_of}
-use Rattle.stn_world.specs.Steps.{Step, added, finished, withdrew, merged, sent, delivered, step_refusal, send_refusal, after, IsAccepted, stepped, run, TookAt, TookSameAt}
+use Rattle.stn_world.specs.Steps.{Step, added, finished, amended, withdrew, merged, sent, delivered, step_refusal, send_refusal, after, IsAccepted, stepped, run, TookAt, TookSameAt}
 use Rattle.stn_world.proofs.Accepted.{site_decides, no_site}
 use Rattle.stn_world.specs.Parts.{holds_all}
 use Rattle.stn_world.proofs.Sendings.{part_free, all_free}
-use Rattle.stn_world.proofs.Runs.{run_stays, run_keeps}
+use Rattle.stn_world.specs.Whole.{IsCoherent}
+use Rattle.stn_world.proofs.Whole.{coherent_at_first}
+use Rattle.stn_world.proofs.Runs.{run_stays, run_keeps, coherent_run}
 use Rattle.stn_exec.specs.declared.answer.Refusal.{Refusal}
 use Rattle.stn_exec.specs.declared.answer.Refusal.TheVariants as refusal
-use Rattle.stn_exec.specs.Command.{Action, add, done, withdraw, merge, send_all, send, deliver, report, check, next, rehearse, Command, sites_command, command_of}
-use Rattle.stn_exec.specs.Effect.{Effect, Reply, reported, foreseen, rehearsed, refusing, refusing_time, difference_read, add_effect, done_effect, sending, sent_step, asked, action_effect, command_effect, action_step, step_of}
+use Rattle.stn_exec.specs.declared.answer.Answer.{Answer}
+use Rattle.stn_exec.specs.Command.{Action, add, done, amend, withdraw, merge, send_all, send, deliver, report, check, next, rehearse, Command, sites_command, command_of}
+use Rattle.stn_exec.specs.Effect.{Effect, Reply, reported, foreseen, rehearsed, refusing, refusing_time, difference_read, making, sending, sent_step, asked, action_effect, command_effect, action_step, step_of}
 use Rattle.stn_exec.specs.Script.{Outcome, Start, is_skipped, form_effect, line_outcome, lines_outcome, heading_of, last_line, script_outcome}
 use Rattle.stn_exec.specs.Output.{IsOutput}
 use Rattle.stn_exec.specs.Reports.{line_steps, steps_of_lines, LineOf, first_world, steps_before, world_at, ReportsSite, PrintsAt}
@@ -31,14 +33,10 @@ use Rattle.stn_exec.proofs.Effects.{there_effect}
 use Rattle.stn_exec.proofs.Scripts.{line_outcome-skipped, line_outcome-run, line_effect-is, script_outcome-is}
 
 -- ---- what a command leaves is what its step leaves
-addition_run : (world : World) (site : ℕ) (read : Result Difference Refusal) → (add_effect world site read).world ≡ run world (option_to_list (option_map (added site) (result_ok read)))
-addition_run world site (Ok bound) = refl
-addition_run world site (Err cause) = refl
-
-execution_run : (world : World) (site event : ℕ) (read : Result ℤ Refusal)
-    → (done_effect world site event read).world ≡ run world (option_to_list (option_map (finished site event) (result_ok read)))
-execution_run world site event (Ok time) = refl
-execution_run world site event (Err cause) = refl
+making_run : {T : Type 0} (world : World) (step : T → Step) (made : Answer) (read : Result T Refusal)
+    → (making world step made read).world ≡ run world (option_to_list (option_map step (result_ok read)))
+making_run world step made (Ok value) = refl
+making_run world step made (Err cause) = refl
 
 sending_run : (world : World) (site : ℕ) (part : Content) (held : Bool) → IsAccepted world (sent site part)
     → (sending world site part held).world ≡ run world (option_to_list (sent_step world site part held))
@@ -52,19 +50,20 @@ asked_stays : (world : World) (reply : ℤ → Reply) (read : Result ℤ Refusal
 asked_stays world reply (Ok now) = refl
 asked_stays world reply (Err cause) = refl
 
-there_run : (world : World) (site : ℕ) (action : Action) → HasSite world site → (action_effect world site action).world ≡ run world (option_to_list (action_step world site action))
-there_run world site (add from to lo hi) there = addition_run world site (difference_read from to lo hi)
-there_run world site (done event time) there = execution_run world site event (refusing_time (time_of time))
-there_run world site (withdraw id) there = refl
-there_run world site (merge other) there = refl
-there_run world site send_all there = sending_run world site (content_at world site) true (all_free world site there)
-there_run world site (send records tombstones) there =
-    sending_run world site (part_of (content_at world site) records tombstones) (holds_all (content_at world site) records tombstones) (part_free world site records tombstones there)
-there_run world site (deliver packet) there = refl
-there_run world site report there = refl
-there_run world site (check times) there = refl
-there_run world site (next now) there = asked_stays world (foreseen world.source (content_at world site)) (refusing_time (time_of now))
-there_run world site (rehearse now) there = asked_stays world (rehearsed world.source (content_at world site)) (refusing_time (time_of now))
+there_run : (world : World) (site : ℕ) (action : Action) → HasSite world site → IsCoherent world → (action_effect world site action).world ≡ run world (option_to_list (action_step world site action))
+there_run world site (add from to lo hi) there coherent = making_run world (added site) _ (difference_read from to lo hi)
+there_run world site (done event time) there coherent = making_run world (finished site event) _ (refusing_time (time_of time))
+there_run world site (amend old from to lo hi) there coherent = making_run world (amended site old) _ (difference_read from to lo hi)
+there_run world site (withdraw id) there coherent = refl
+there_run world site (merge other) there coherent = refl
+there_run world site send_all there coherent = sending_run world site (content_at world site) true (all_free world site there coherent)
+there_run world site (send records tombstones) there coherent =
+    sending_run world site (part_of (content_at world site) records tombstones) (holds_all (content_at world site) records tombstones) (part_free world site records tombstones there coherent)
+there_run world site (deliver packet) there coherent = refl
+there_run world site report there coherent = refl
+there_run world site (check times) there coherent = refl
+there_run world site (next now) there coherent = asked_stays world (foreseen world.source (content_at world site)) (refusing_time (time_of now))
+there_run world site (rehearse now) there coherent = asked_stays world (rehearsed world.source (content_at world site)) (refusing_time (time_of now))
 
 -- at a site that is not there, each step is refused
 refused_run : (world : World) (step : Step) → step_refusal world step ≡ Some NoSite → run world (step ∷ []) ≡ world
@@ -73,17 +72,15 @@ refused_run world step refused = ap (λ o. cond (is_some o) world (after world s
 unsent_run : (world : World) (site : ℕ) (part : Content) (held : Bool) → ¬ HasSite world site → run world (option_to_list (sent_step world site part held)) ≡ world
 unsent_run world site part held missing = ap (λ o. run world (option_to_list (cond (is_some o) None (Some (sent site part))))) (no_site world site _ missing)
 
+unmade_run : {T : Type 0} (world : World) (step : T → Step) (read : Result T Refusal) → ((value : T) → step_refusal world (step value) ≡ Some NoSite)
+    → run world (option_to_list (option_map step (result_ok read))) ≡ world
+unmade_run world step (Ok value) refused = refused_run world (step value) (refused value)
+unmade_run world step (Err cause) refused = refl
+
 missing_run : (world : World) (site : ℕ) (action : Action) → ¬ HasSite world site → run world (option_to_list (action_step world site action)) ≡ world
-missing_run world site (add from to lo hi) missing = read (difference_read from to lo hi)
-  where
-    read : (r : Result Difference Refusal) → run world (option_to_list (option_map (added site) (result_ok r))) ≡ world
-    read (Ok bound) = refused_run world (added site bound) (no_site world site (option_map of_replica_fault (add_refusal (held_at world site) bound)) missing)
-    read (Err cause) = refl
-missing_run world site (done event time) missing = read (refusing_time (time_of time))
-  where
-    read : (r : Result ℤ Refusal) → run world (option_to_list (option_map (finished site event) (result_ok r))) ≡ world
-    read (Ok at) = refused_run world (finished site event at) (no_site world site (option_map of_replica_fault (done_refusal (held_at world site) event)) missing)
-    read (Err cause) = refl
+missing_run world site (add from to lo hi) missing = unmade_run world (added site) (difference_read from to lo hi) (λ bound. no_site world site _ missing)
+missing_run world site (done event time) missing = unmade_run world (finished site event) (refusing_time (time_of time)) (λ at. no_site world site _ missing)
+missing_run world site (amend old from to lo hi) missing = unmade_run world (amended site old) (difference_read from to lo hi) (λ bound. no_site world site _ missing)
 missing_run world site (withdraw id) missing = refused_run world (withdrew site id) (no_site world site (option_map of_replica_fault (withdraw_refusal (held_at world site) id)) missing)
 missing_run world site (merge other) missing = refused_run world (merged site other) (no_site world site _ missing)
 missing_run world site send_all missing = unsent_run world site (content_at world site) true missing
@@ -95,19 +92,19 @@ missing_run world site (check times) missing = refl
 missing_run world site (next now) missing = refl
 missing_run world site (rehearse now) missing = refl
 
-effect_run : (world : World) (site : ℕ) (action : Action) → (command_effect world (sites_command site action)).world ≡ run world (option_to_list (action_step world site action))
-effect_run world site action = tested (has_site world site) refl
+effect_run : (world : World) (site : ℕ) (action : Action) → IsCoherent world → (command_effect world (sites_command site action)).world ≡ run world (option_to_list (action_step world site action))
+effect_run world site action coherent = tested (has_site world site) refl
   where
     tested : (b : Bool) → has_site world site ≡ b → (cond b (action_effect world site action) (refusing world refusal.NoSite)).world ≡ run world (option_to_list (action_step world site action))
-    tested true e = there_run world site action ((site_decides world site).0 e)
+    tested true e = there_run world site action ((site_decides world site).0 e) coherent
     tested false e = sym (missing_run world site action (λ there. false≢true (sym e ∙ (site_decides world site).1 there)))
 
-form_run : (number : ℕ) (world : World) (command : Option Command) → (form_effect number world command).world ≡ run world (option_to_list (option_and_then (step_of world) command))
-form_run number world None = refl
-form_run number world (Some command) = effect_run world command.site command.action
+form_run : (number : ℕ) (world : World) (command : Option Command) → IsCoherent world → (form_effect number world command).world ≡ run world (option_to_list (option_and_then (step_of world) command))
+form_run number world None coherent = refl
+form_run number world (Some command) coherent = effect_run world command.site command.action coherent
 
-line_run : (number : ℕ) (world : World) (words : List (List ℕ)) → (line_outcome number world words).world ≡ run world (line_steps world words)
-line_run number world words = tested (is_skipped words) refl
+line_run : (number : ℕ) (world : World) (words : List (List ℕ)) → IsCoherent world → (line_outcome number world words).world ≡ run world (line_steps world words)
+line_run number world words coherent = tested (is_skipped words) refl
   where
     steps : Bool → List Step
     steps b = cond b [] (option_to_list (option_and_then (step_of world) (command_of (events_of world.source) words)))
@@ -117,16 +114,17 @@ line_run number world words = tested (is_skipped words) refl
     tested false e =
         ap (λ (o : Outcome). o.world) (line_outcome-run number world words e)
         ∙ (ap (λ (f : Effect). f.world) (sym (line_effect-is number world words (command_of (events_of world.source) words) refl))
-        ∙ (form_run number world (command_of (events_of world.source) words) ∙ ap (λ b. run world (steps b)) (sym e)))
+        ∙ (form_run number world (command_of (events_of world.source) words) coherent ∙ ap (λ b. run world (steps b)) (sym e)))
 
-pub lines_run : (number : ℕ) (world : World) (lines : List (List ℕ)) → (lines_outcome number world lines).world ≡ run world (steps_of_lines world lines)
+pub lines_run : (number : ℕ) (world : World) (lines : List (List ℕ)) → IsCoherent world → (lines_outcome number world lines).world ≡ run world (steps_of_lines world lines)
 unfolding lines_outcome steps_of_lines
-lines_run number world [] = refl
-lines_run number world (line ∷ lines) =
+lines_run number world [] coherent = refl
+lines_run number world (line ∷ lines) coherent =
     let first = (line_outcome number world (words_of line)).world in
     let steps = line_steps world (words_of line) in
-    lines_run (number + 1) first lines
-    ∙ (ap (λ (w : World). run w (steps_of_lines w lines)) (line_run number world (words_of line))
+    let one = line_run number world (words_of line) coherent in
+    lines_run (number + 1) first lines (subst IsCoherent (sym one) (coherent_run world steps coherent))
+    ∙ (ap (λ (w : World). run w (steps_of_lines w lines)) one
     ∙ sym (fold-append stepped world steps (steps_of_lines (run world steps) lines)))
 
 -- ---- the output at a line
@@ -163,10 +161,10 @@ script_started script start heading = sym (script_outcome-is script (Ok start) (
 pub script_run : (script : List ℕ) (start : Start) → heading_of (last_line script) (lines_of script) ≡ Ok start
     → (script_outcome script).world ≡ run (opening_world start.source start.sites) (steps_of_lines (opening_world start.source start.sites) start.lines)
 script_run script start heading =
-    ap (λ (o : Outcome). o.world) (script_started script start heading) ∙ lines_run start.number (opening_world start.source start.sites) start.lines
+    ap (λ (o : Outcome). o.world) (script_started script start heading) ∙ lines_run start.number (opening_world start.source start.sites) start.lines (coherent_at_first start.source start.sites)
 
 pub world_run : (script : List ℕ) (at : LineOf script) → world_at at ≡ run (first_world at) (steps_before at)
-world_run script at = lines_run at.start.number (first_world at) at.before
+world_run script at = lines_run at.start.number (first_world at) at.before (coherent_at_first at.start.source at.start.sites)
 
 pub prints : (script output : List ℕ) (at : LineOf script) → IsOutput (script_outcome script).replies output → (text : List ℕ) × PrintsAt at output text
 prints script output at all =

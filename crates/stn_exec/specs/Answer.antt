@@ -8,7 +8,7 @@ use Rattle.stn_replica.specs.Names.{name_text}
 use Rattle.stn_exec.specs.declared.answer.Refusal.{Refusal}
 use Rattle.stn_exec.specs.declared.answer.Refusal.TheVariants as refusal
 use Rattle.stn_exec.specs.declared.answer.Answer.{Answer}
-use Rattle.stn_exec.specs.declared.answer.Answer.TheVariants.{Added, Withdrawn, Merged, Sent, Delivered, Schedule, Broken, Refused}
+use Rattle.stn_exec.specs.declared.answer.Answer.TheVariants.{Added, Amended, Withdrawn, Merged, Sent, Delivered, Schedule, Broken, Refused}
 use Rattle.stn_exec.specs.BaseRefusals.{base_code, base_place}
 
 -- the number that is printed for a refusal
@@ -58,6 +58,7 @@ refusal_text other = line_with (codes "refused ") (refusal_code other)
 -- the line that an answer is
 abbrev pub answer_text : Answer → List ℕ
 answer_text (Added id) = line_with_id (codes "added ") id
+answer_text (Amended id) = line_with_id (codes "amended ") id
 answer_text (Withdrawn id) = line_with_id (codes "withdrawn ") id
 answer_text Merged = codes "merged" ++ 10 ∷ []
 answer_text (Sent number) = line_with (codes "packet ") number

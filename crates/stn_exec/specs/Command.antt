@@ -8,12 +8,14 @@ use Rattle.stn_net.specs.Event.{most_events, event_text}
 use Rattle.stn_records.specs.Id.{most_sites, most_counter, SiteCounter, id_text}
 use Rattle.stn_text.specs.Numbers.{number_of}
 
--- what a command does: it adds the bound of two events and two sides, records the time at which an event was executed, withdraws a
--- record, merges another site, sends all that the site holds or some of its records and withdrawn ids, takes in a packet, prints the
--- report, checks times, asks what comes next from a time on, or rehearses the rest of the plan from a time on; sides and times are words
+-- what a command does: it adds the bound of two events and two sides, records the time at which an event was executed, amends a record by
+-- such a bound, withdraws a record, merges another site, sends all that the site holds or some of its records and withdrawn ids, takes in a
+-- packet, prints the report, checks times, asks what comes next from a time on, or rehearses the rest of the plan from a time on; sides and
+-- times are words
 pub data Action : Type 0 where
   add : (from to : ℕ) (lo hi : List ℕ) → Action
   done : (event : ℕ) (time : List ℕ) → Action
+  amend : (old : SiteCounter) (from to : ℕ) (lo hi : List ℕ) → Action
   withdraw : (id : SiteCounter) → Action
   merge : (other : ℕ) → Action
   send_all : Action
@@ -59,6 +61,12 @@ add_of other = None
 abbrev pub done_of : List (List ℕ) → Option Action
 done_of (event ∷ (time ∷ [])) = option_map (λ which. done which time) (event_of event)
 done_of other = None
+
+-- the form `amend <id> <event> <event> <bound> <bound>`
+abbrev pub amend_of : List (List ℕ) → Option Action
+amend_of (word ∷ (from ∷ (to ∷ (lo ∷ (hi ∷ []))))) =
+    option_and_then (λ old. option_and_then (λ first. option_map (λ second. amend old first second lo hi) (event_of to)) (event_of from)) (id_of word)
+amend_of other = None
 
 -- the form `withdraw <id>`
 abbrev pub withdraw_of : List (List ℕ) → Option Action
@@ -117,6 +125,7 @@ abbrev pub action_of : ℕ → List ℕ → List (List ℕ) → Option Action
 action_of events name words =
     if bytes_eq name (codes "add") then add_of words else
     (if bytes_eq name (codes "done") then done_of words else
+    (if bytes_eq name (codes "amend") then amend_of words else
     (if bytes_eq name (codes "withdraw") then withdraw_of words else
     (if bytes_eq name (codes "merge") then merge_of words else
     (if bytes_eq name (codes "send") then send_of words else
@@ -124,7 +133,7 @@ action_of events name words =
     (if bytes_eq name (codes "report") then report_of words else
     (if bytes_eq name (codes "check") then check_of events words else
     (if bytes_eq name (codes "next") then next_of words else
-    (if bytes_eq name (codes "rehearse") then rehearse_of words else None)))))))))
+    (if bytes_eq name (codes "rehearse") then rehearse_of words else None))))))))))
 
 -- a site's command
 abbrev pub sites_command : ℕ → Action → Command

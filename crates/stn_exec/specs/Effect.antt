@@ -15,12 +15,12 @@ use Rattle.stn_replica.specs.Names.{broken_bound}
 use Rattle.stn_world.specs.declared.faults.WorldFault.{WorldFault}
 use Rattle.stn_world.specs.Parts.{holds_all}
 use Rattle.stn_world.specs.World.{World, has_site, content_at, next_id_at}
-use Rattle.stn_world.specs.Steps.{Step, added, finished, withdrew, merged, sent, delivered, step_refusal, send_refusal, after}
+use Rattle.stn_world.specs.Steps.{Step, added, finished, amended, withdrew, merged, sent, delivered, step_refusal, send_refusal, after}
 use Rattle.stn_exec.specs.declared.answer.Refusal.{Refusal}
 use Rattle.stn_exec.specs.declared.answer.Refusal.TheVariants as refusal
 use Rattle.stn_exec.specs.declared.answer.Answer.{Answer}
 use Rattle.stn_exec.specs.declared.answer.Answer.TheVariants as answer
-use Rattle.stn_exec.specs.Command.{Action, add, done, withdraw, merge, send_all, send, deliver, report, check, next, rehearse, Command}
+use Rattle.stn_exec.specs.Command.{Action, add, done, amend, withdraw, merge, send_all, send, deliver, report, check, next, rehearse, Command}
 use Rattle.stn_exec.specs.Refusals.{refusal_of}
 
 -- what a line prints: an answer; or, of what a site holds, the report, what comes next from a time on, or the rest of the plan
@@ -71,20 +71,15 @@ refusing_time (Err fault) = Err (refusal.Time fault)
 abbrev pub side_of : ℤ → List ℕ → Result ℤ Refusal
 side_of open_side word = if bytes_eq word (codes "*") then Ok open_side else refusing_time (time_of word)
 
--- the difference that an addition names, where both sides can be read, the lower one first
+-- the difference that an addition or an amendment names, where both sides can be read, the lower one first
 abbrev pub difference_read : ℕ → ℕ → List ℕ → List ℕ → Result Difference Refusal
 difference_read from to lo hi =
     and_then (side_of (neg_ℤ horizon) lo) (λ low. and_then (side_of horizon hi) (λ high. Ok (difference from to low high)))
 
--- an addition
-abbrev pub add_effect : World → ℕ → Result Difference Refusal → Effect
-add_effect world site (Ok bound) = called world (added site bound) (answer.Added (next_id_at world site))
-add_effect world site (Err cause) = refusing world cause
-
--- a record of the time at which an event was executed
-abbrev pub done_effect : World → ℕ → ℕ → Result ℤ Refusal → Effect
-done_effect world site event (Ok time) = called world (finished site event time) (answer.Added (next_id_at world site))
-done_effect world site event (Err cause) = refusing world cause
+-- a call that makes a record of what was read
+abbrev pub making : {T : Type 0} → World → (T → Step) → Answer → Result T Refusal → Effect
+making world step made (Ok value) = called world (step value) made
+making world step made (Err cause) = refusing world cause
 
 -- a question about what a site holds, from a time on
 abbrev pub asked : World → (ℤ → Reply) → Result ℤ Refusal → Effect
@@ -104,8 +99,10 @@ check_answer source state (Err cause) = answer.Refused cause
 
 -- a command of a site that is there
 abbrev pub action_effect : World → ℕ → Action → Effect
-action_effect world site (add from to lo hi) = add_effect world site (difference_read from to lo hi)
-action_effect world site (done event time) = done_effect world site event (refusing_time (time_of time))
+action_effect world site (add from to lo hi) = making world (added site) (answer.Added (next_id_at world site)) (difference_read from to lo hi)
+action_effect world site (done event time) = making world (finished site event) (answer.Added (next_id_at world site)) (refusing_time (time_of time))
+action_effect world site (amend old from to lo hi) =
+    making world (amended site old) (answer.Amended (next_id_at world site)) (difference_read from to lo hi)
 action_effect world site (withdraw id) = called world (withdrew site id) (answer.Withdrawn id)
 action_effect world site (merge other) = called world (merged site other) answer.Merged
 action_effect world site send_all = sending world site (content_at world site) true
@@ -126,11 +123,12 @@ command_effect world command =
 abbrev pub sent_step : World → ℕ → Content → Bool → Option Step
 sent_step world site part held = if is_some (send_refusal world site held) then None else Some (sent site part)
 
--- the step that an action of a site is, if it is one: an addition whose sides can be read, a record of an executed event whose time can
--- be read, a withdrawal, a merge, the sending of a packet, or its delivery
+-- the step that an action of a site is, if it is one: an addition or an amendment whose sides can be read, a record of an executed event
+-- whose time can be read, a withdrawal, a merge, the sending of a packet, or its delivery
 abbrev pub action_step : World → ℕ → Action → Option Step
 action_step world site (add from to lo hi) = option_map (added site) (result_ok (difference_read from to lo hi))
 action_step world site (done event time) = option_map (finished site event) (result_ok (refusing_time (time_of time)))
+action_step world site (amend old from to lo hi) = option_map (amended site old) (result_ok (difference_read from to lo hi))
 action_step world site (withdraw id) = Some (withdrew site id)
 action_step world site (merge other) = Some (merged site other)
 action_step world site send_all = sent_step world site (content_at world site) true

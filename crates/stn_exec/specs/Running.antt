@@ -10,7 +10,7 @@ use Rattle.stn_exec.specs.declared.command.Action.TheVariants as line
 use Rattle.stn_exec.specs.declared.script.Ran.{Ran}
 use Rattle.stn_exec.specs.declared.script.RunFault.{RunFault}
 use Rattle.stn_exec.specs.declared.script.RunFault.TheVariants.{Write, Memory}
-use Rattle.stn_exec.specs.Command.{Action, add, done, withdraw, merge, send_all, send_items, deliver, report, check, next, rehearse, Command, sites_command}
+use Rattle.stn_exec.specs.Command.{Action, add, done, amend, withdraw, merge, send_all, send_items, deliver, report, check, next, rehearse, Command, sites_command}
 use Rattle.stn_exec.specs.Effect.{Effect}
 use Rattle.stn_exec.specs.Script.{Outcome}
 use Rattle.stn_exec.specs.Output.{IsReplyText, IsRefusal, CountsRefusals, WritesOutput, WritesOutputPart}
@@ -19,6 +19,7 @@ use Rattle.stn_exec.specs.Output.{IsReplyText, IsRefusal, CountsRefusals, Writes
 abbrev pub seen_action : ActionOfLine → Action
 seen_action (line.Add from to lo hi) = add from to lo.now hi.now
 seen_action (line.Done event time) = done event time.now
+seen_action (line.Amend old from to lo hi) = amend old from to lo.now hi.now
 seen_action (line.Withdraw id) = withdraw id
 seen_action (line.Merge other) = merge other
 seen_action line.SendAll = send_all

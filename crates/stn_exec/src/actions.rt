@@ -9,7 +9,7 @@ ghost use Rattle.stn_text.specs.Lines.{words_of};
 ghost use Rattle.stn_exec.specs.declared.answer.Refusal.{Refusal};
 ghost use Rattle.stn_world.specs.declared.faults.WorldFault.TheVariants.{Replica};
 ghost use Rattle.stn_exec.specs.declared.answer.Answer.TheVariants.{Broken, Schedule, Refused};
-ghost use Rattle.stn_exec.specs.Command.{add, done, withdraw, merge, send_all, send, send_items, deliver};
+ghost use Rattle.stn_exec.specs.Command.{add, done, amend, withdraw, merge, send_all, send, send_items, deliver};
 ghost use Rattle.stn_exec.specs.Refusals.{refusal_of};
 ghost use Rattle.stn_exec.specs.Effect.{said, refusing_time, side_of, difference_read, action_effect, check_answer, times_from};
 
@@ -63,6 +63,28 @@ pub fn done<A: Allocator + Copy>(
     }
 }
 
+/// Amends a record at a site by the bound of these events and sides, which are words of a line.
+pub fn amend<A: Allocator + Copy>(
+    world: &mut World<A>,
+    site: u32,
+    old: Id,
+    from: Event,
+    to: Event,
+    lo: &[u8],
+    hi: &[u8],
+) -> Result<Answer, Memory>
+    ensures { IfOk result (λ answer. record { world = world.new; reply = said answer }
+        ≡ action_effect world.old site (amend old from to lo.now hi.now)) }
+{
+    match read_sides(lo, hi) {
+        Ok((low, high)) => match world.amend(site, old, from, to, low, high) {
+            Ok(id) => Ok(Answer::Amended(id)),
+            Err(fault) => refused(fault),
+        },
+        Err(refusal) => Ok(Answer::Refused(refusal)),
+    }
+}
+
 /// Withdraws a record at a site.
 pub fn withdraw<A: Allocator + Copy>(
     world: &mut World<A>,
@@ -104,7 +126,8 @@ pub fn send_all<A: Allocator + Copy>(world: &mut World<A>, site: u32) -> Result<
     }
 }
 
-/// Sends the records and the withdrawn ids of a site that the words of a line name.
+/// Sends the records of a site that the words of a line name, with the ids that they replace, and the
+/// withdrawn ids that they name.
 pub fn send<A: Allocator + Copy>(
     alloc: A,
     world: &mut World<A>,

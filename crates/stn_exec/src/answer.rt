@@ -23,7 +23,7 @@ pub enum Refusal {
     Overdue(Event),
     /// The plan has no base. Want of memory is no refusal.
     Base(BaseFault),
-    /// This id has two different records.
+    /// This id has two different records, or replaces two different ids.
     Clash(Id),
     /// Too many ids would be known.
     Full,
@@ -46,6 +46,8 @@ pub enum Refusal {
 pub enum Answer {
     /// The bound was added as the record of this id.
     Added(Id),
+    /// The bound was added as the record of this id, and replaces another.
+    Amended(Id),
     /// The record of this id was withdrawn.
     Withdrawn(Id),
     /// The site took in what the other holds.
@@ -108,6 +110,7 @@ impl Answer {
     {
         match self {
             Answer::Added(id) => append_id_line(out, b"added ", *id),
+            Answer::Amended(id) => append_id_line(out, b"amended ", *id),
             Answer::Withdrawn(id) => append_id_line(out, b"withdrawn ", *id),
             Answer::Merged => out.extend_from_slice(b"merged\n"),
             Answer::Sent(number) => append_line(out, b"packet ", u32::from(*number)),

@@ -2,7 +2,7 @@ ghost use Rattle.std.specs.Prelude.{◌≡◌, ℕ, ◌∷◌, length, IfSome, I
 ghost use Rattle.std.specs.List.{list_all, filter_map};
 ghost use Rattle.std.specs.Option.{option_map};
 ghost use Rattle.stn_text.specs.Lines.{words_of};
-ghost use Rattle.stn_exec.specs.Command.{command_of, action_of, add_of, done_of, withdraw_of, merge_of, send_of, deliver_of, report_of, check_of, next_of, rehearse_of, event_of, id_of, tombstone_of, is_item};
+ghost use Rattle.stn_exec.specs.Command.{command_of, action_of, add_of, done_of, amend_of, withdraw_of, merge_of, send_of, deliver_of, report_of, check_of, next_of, rehearse_of, event_of, id_of, tombstone_of, is_item};
 ghost use Rattle.stn_exec.specs.Running.{seen_command, seen_action, IsForEvents};
 
 use std::alloc::Allocator;
@@ -33,13 +33,22 @@ pub enum Action<'a> {
         event: Event,
         time: &'a [u8],
     },
+    /// Amends the record of this id by the bound of two events and two sides.
+    Amend {
+        old: Id,
+        from: Event,
+        to: Event,
+        lo: &'a [u8],
+        hi: &'a [u8],
+    },
     /// Withdraws the record of this id.
     Withdraw(Id),
     /// Takes in all that the site of this number holds.
     Merge(u32),
     /// Sends all that the site holds.
     SendAll,
-    /// Sends the records and the withdrawn ids that the words of this part of the line name.
+    /// Sends the records that the words of this part of the line name, with the ids that they replace, and
+    /// the withdrawn ids that they name.
     Send(&'a [u8]),
     /// Takes in all that the packet of this number holds.
     Deliver(u32),
@@ -75,6 +84,8 @@ fn read_action<'a>(events: u16, name: &[u8], rest: &'a [u8]) -> Option<Action<'a
         read_add(rest)
     } else if name == b"done".as_slice() {
         read_done(rest)
+    } else if name == b"amend".as_slice() {
+        read_amend(rest)
     } else if name == b"withdraw".as_slice() {
         read_withdraw(rest)
     } else if name == b"merge".as_slice() {
@@ -123,6 +134,30 @@ fn read_done(rest: &[u8]) -> Option<Action<'_>>
     }
     let event = read_event(word)?;
     Some(Action::Done { event, time })
+}
+
+fn read_amend(rest: &[u8]) -> Option<Action<'_>>
+    ensures action { option_map seen_action result ≡ amend_of (words_of rest.now) }
+    ensures fits { (events : ℕ) → IfSome result (λ action. IsForEvents events (seen_action action)) }
+{
+    let (word, behind) = first_word(rest)?;
+    let (first, behind_first) = first_word(behind)?;
+    let (second, behind_second) = first_word(behind_first)?;
+    let (lo, behind_lo) = first_word(behind_second)?;
+    let (hi, behind_hi) = first_word(behind_lo)?;
+    if first_word(behind_hi).is_some() {
+        return None;
+    }
+    let old = read_id(word)?;
+    let from = read_event(first)?;
+    let to = read_event(second)?;
+    Some(Action::Amend {
+        old,
+        from,
+        to,
+        lo,
+        hi,
+    })
 }
 
 fn read_withdraw(rest: &[u8]) -> Option<Action<'_>>

@@ -27,7 +27,8 @@ pub fn one_script()
 /// print, what the line prints, and what the lines behind it print. What a site's command `report`
 /// prints is the report of what the site holds, which is the union of what it took. So two sites of
 /// one plan, of one script or of two, that took the same additions and withdrawals, in any order, more
-/// than once or merged in any grouping, print the same bytes.
+/// than once or merged in any grouping, print the same bytes. An amendment is one addition and one
+/// withdrawal.
 pub fn scripts_are_runs()
     ensures end { (script : List ℕ) (start : Start) → heading_of (last_line script) (lines_of script) ≡ Ok start
         → (script_outcome script).world ≡ run (opening_world start.source start.sites) (steps_of_lines (opening_world start.source start.sites) start.lines) }

@@ -13,7 +13,9 @@ ghost use Rattle.stn_exec.specs.Running.{seen_action, seen_command, IsForEvents,
 ghost use Rattle.stn_exec.specs.Script.{line_effect, line_outcome, lines_outcome, started, script_outcome, last_line};
 ghost use Rattle.stn_exec.specs.declared.script.RunFault.TheVariants.{Read, Write, Bound, Memory};
 
-use crate::actions::{add, check, deliver, done, merge, read_time, send, send_all, withdraw};
+use crate::actions::{
+    add, amend, check, deliver, done, merge, read_time, send, send_all, withdraw,
+};
 use crate::answer::{Answer, Refusal};
 use crate::command::{Action, Command, read_command};
 use crate::dispatch::{append_next, append_rehearsal};
@@ -175,6 +177,13 @@ fn reply_action<A: Allocator + Copy>(
     match action {
         Action::Add { from, to, lo, hi } => say(&add(world, site, *from, *to, lo, hi)?, out),
         Action::Done { event, time } => say(&done(world, site, *event, time)?, out),
+        Action::Amend {
+            old,
+            from,
+            to,
+            lo,
+            hi,
+        } => say(&amend(world, site, *old, *from, *to, lo, hi)?, out),
         Action::Withdraw(id) => say(&withdraw(world, site, *id)?, out),
         Action::Merge(other) => say(&merge(world, site, *other)?, out),
         Action::SendAll => say(&send_all(world, site)?, out),

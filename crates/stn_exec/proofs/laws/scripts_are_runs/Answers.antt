@@ -19,4 +19,4 @@ returns-clause-union c = unions c.sites_are_unions.ensures
 pub returns-clause-bytes : goal.returns-clause-bytes
 returns-clause-bytes c =
     same_bytes (λ source sites others ours theirs site other here there same.
-    (c.sites_took_same_same_bytes.ensures source sites others ours theirs site other here there same).1)
+    (c.sites_took_same_same_bytes.ensures.bytes source sites others ours theirs site other here there same).1)
