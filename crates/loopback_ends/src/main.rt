@@ -1,18 +1,27 @@
 //! For tests: both ends of connections on this machine, one end after the other. It prints what a session answers and what the
-//! other site makes of the replies, what `serve_on` and `send_on` print and their statuses, and what the saved log then reports.
+//! other site makes of the replies, what `serve_on` and `send_on` print and their statuses, and what the saved log then reports. Some
+//! of the other ends keep silent, or read nothing.
 #![tactic(auto)]
+
+mod changing;
+mod untrusted;
 
 use anyhow::{Context, Error, bail};
 use std::alloc::Global;
 use std::io::{Read, Write};
 use std::net::{Shutdown, TcpListener, TcpStream};
+use std::time::Duration;
 use std::{fs, io};
 use stn_device::Counted;
 use stn_log::load;
 use stn_records::Site;
 use stn_replica::Replica;
 use stn_session::{receive_replies, send_requests, serve};
-use stn_shell::{FileStore, execute, send_on, serve_on};
+use stn_shell::{Peer, Service, SiteLog, execute, send_on, serve_on};
+use stn_store::FileStore;
+
+// How many milliseconds a session or an exchange may take.
+const LIMIT: u64 = 2_000;
 
 // How long the requests of an empty replica are: HELLO, RECORDS and ASK.
 const REQUESTS_LENGTH: u64 = 22;
@@ -34,6 +43,12 @@ const REPLIES: [u8; 69] = [
 
 const REPORT: &[u8] =
     b"plan 1 steps 2 events\nrecords 2 live 0 withdrawn\nok\ns1 2.000 10.000\ne1 7.000 15.000\n";
+
+// The log of a site.
+fn site_log(name: &str, site: u8) -> Result<SiteLog<'_>, Error> {
+    let site = Site::new(site).context("no site")?;
+    Ok(SiteLog { name, site })
+}
 
 // The replica of a site by its log.
 fn load_log(rt: &HostRuntime, log: &str, site: u8) -> Result<Replica<Global>, Error> {
@@ -99,15 +114,31 @@ fn session(rt: &HostRuntime, listener: &TcpListener) -> Result<(), Error> {
 // Serves the connections that wait, and prints the status.
 fn serve_waiting(rt: &HostRuntime, listener: &TcpListener, count: u16) -> Result<(), Error> {
     let mut replica = load_log(rt, "t.log", 1)?;
+    serve_log(rt, listener, count, "t.log", &mut replica)
+}
+
+// The same for a replica that was loaded before.
+fn serve_log(
+    rt: &HostRuntime,
+    listener: &TcpListener,
+    count: u16,
+    log: &str,
+    replica: &mut Replica<Global>,
+) -> Result<(), Error> {
     let mut out = Counted::new(io::writer(rt));
     let mut err = Counted::new(io::writer(rt));
-    let status = serve_on(
-        rt.alloc(),
-        &mut FileStore::new(rt),
+    let service = Service {
         listener,
         count,
-        "t.log",
-        &mut replica,
+        limit: Duration::from_millis(LIMIT),
+    };
+    let log = site_log(log, 1)?;
+    let status = serve_on(
+        rt,
+        &mut FileStore::new(rt),
+        &service,
+        &log,
+        replica,
         &mut out,
         &mut err,
     );
@@ -207,10 +238,11 @@ fn ask_and_go(rt: &HostRuntime, listener: &TcpListener) -> Result<(), Error> {
 
 // A session after which the log can't be saved.
 fn serve_unsaved(rt: &HostRuntime, listener: &TcpListener) -> Result<(), Error> {
-    fs::create_dir(rt, "t.log.new")?;
+    fs::remove_file(rt, "t.log.lock")?;
+    fs::create_dir(rt, "t.log.lock")?;
     drop(TcpStream::connect(rt, listener.local_addr()?)?);
     serve_waiting(rt, listener, 1)?;
-    fs::remove_dir(rt, "t.log.new")?;
+    fs::remove_dir(rt, "t.log.lock")?;
     Ok(())
 }
 
@@ -233,7 +265,7 @@ fn send_waiting(rt: &HostRuntime, listener: &TcpListener, replies: &[u8]) -> Res
     let stream = TcpStream::connect(rt, listener.local_addr()?)?;
     let (other, _) = listener.accept()?;
     reply(&other, replies)?;
-    send_over(rt, &stream)
+    send_over(rt, stream)
 }
 
 // Writes replies, and says that nothing more comes.
@@ -244,16 +276,29 @@ fn reply(other: &TcpStream, replies: &[u8]) -> io::Result<()> {
 }
 
 // Sends over a connection, and prints the status.
-fn send_over(rt: &HostRuntime, stream: &TcpStream) -> Result<(), Error> {
+fn send_over(rt: &HostRuntime, stream: TcpStream) -> Result<(), Error> {
     let mut replica = load_log(rt, "u.log", 2)?;
+    send_replica(rt, stream, &mut replica)
+}
+
+// The same for a replica that was loaded before.
+fn send_replica(
+    rt: &HostRuntime,
+    stream: TcpStream,
+    replica: &mut Replica<Global>,
+) -> Result<(), Error> {
+    let Ok(peer) = Peer::of(rt, stream, Duration::from_millis(LIMIT)) else {
+        bail!("no clock");
+    };
     let mut out = Counted::new(io::writer(rt));
     let mut err = Counted::new(io::writer(rt));
+    let log = site_log("u.log", 2)?;
     let status = send_on(
-        rt.alloc(),
+        rt,
         &mut FileStore::new(rt),
-        stream,
-        "u.log",
-        &mut replica,
+        &peer,
+        &log,
+        replica,
         &mut out,
         &mut err,
     );
@@ -323,5 +368,6 @@ fn main(rt: HostRuntime) -> Result<(), Error> {
     command(&rt, &["stn", "send", "u.log", "2", "nowhere"])?;
     command(&rt, &["stn", "serve", "t.log", "1", "nowhere", "1"])?;
     command(&rt, &["stn", "serve", "none.log", "1", "127.0.0.1:0", "1"])?;
-    Ok(())
+    untrusted::serve_peers(&rt, &listener)?;
+    changing::serve_and_send(&rt, &listener)
 }

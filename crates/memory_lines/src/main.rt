@@ -6,7 +6,8 @@ use anyhow::{Context, Error, bail};
 use std::alloc::Global;
 use std::io;
 use stn_line::line;
-use stn_shell::{Failure, MemoryStore, Task, answer};
+use stn_shell::{Task, answer};
+use stn_store::{Failure, MemoryStore};
 
 // The words of a command line.
 fn words_of<'a>(alloc: Global, line: &'a str) -> io::Result<Vec<&'a str>> {

@@ -31,7 +31,7 @@ fn of_logs(rt: &HostRuntime, frames: &[Vec<u8>], old_alone: bool) -> Result<Vec<
     for frame in frames {
         let wanted = match frame.get(4) {
             Some(1 | 2) => true,
-            Some(7 | 8) => !old_alone,
+            Some(7 | 8 | 16) => !old_alone,
             _ => false,
         };
         if wanted {

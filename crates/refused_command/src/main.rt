@@ -1,10 +1,9 @@
 //! For tests: the program, with a command of several words that is refused.
 #![tactic(auto)]
 
-use std::io;
 use std::process::ExitCode;
 use stn_shell::program;
 
-fn main(rt: HostRuntime) -> io::Result<ExitCode> {
+fn main(rt: HostRuntime) -> ExitCode {
     program(&rt)
 }

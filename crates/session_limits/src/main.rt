@@ -102,31 +102,70 @@ fn append_records(bytes: &mut Vec<u8>, count: u16) -> Result<(), Error> {
     Ok(())
 }
 
-// So many withdrawn ids of a site, from the counter 1 on.
-fn append_withdrawn(bytes: &mut Vec<u8>, site: u8, count: u16) -> Result<(), Error> {
-    bytes.extend_from_slice(&count.to_be_bytes())?;
-    for number in 0..count {
-        let counter = number.wrapping_add(1);
-        bytes.extend_from_slice(&[0, site])?;
-        bytes.extend_from_slice(&counter.to_be_bytes())?;
+fn append_id(bytes: &mut Vec<u8>, site: u8, counter: u16) -> Result<(), Error> {
+    bytes.extend_from_slice(&[0, site])?;
+    bytes.extend_from_slice(&counter.to_be_bytes())?;
+    Ok(())
+}
+
+// So many ids of a site, from the counter 1 on.
+#[derive(Clone, Copy)]
+struct Ids {
+    site: u8,
+    count: u16,
+}
+
+const NONE: Ids = Ids { site: 1, count: 0 };
+
+fn append_withdrawn(bytes: &mut Vec<u8>, ids: Ids) -> Result<(), Error> {
+    bytes.extend_from_slice(&ids.count.to_be_bytes())?;
+    for number in 0..ids.count {
+        append_id(bytes, ids.site, number.wrapping_add(1))?;
     }
     Ok(())
 }
 
-// What a RECORDS frame holds: so many records of site 1, and so many withdrawn ids of a site.
+// The records of site 1, from the counter 1 on, replace one of the ids each: the first the second, and so on, and the last the first.
+fn append_replaced(bytes: &mut Vec<u8>, ids: Ids) -> Result<(), Error> {
+    bytes.extend_from_slice(&ids.count.to_be_bytes())?;
+    for number in 0..ids.count {
+        let counter = number.wrapping_add(1);
+        let next = counter.checked_rem(ids.count).unwrap_or(0);
+        append_id(bytes, 1, counter)?;
+        append_id(bytes, ids.site, next.wrapping_add(1))?;
+    }
+    Ok(())
+}
+
+// What a RECORDS frame holds: so many records of site 1, withdrawn ids, and ids that records replace.
 #[derive(Clone, Copy)]
 struct Held {
     records: u16,
-    site: u8,
-    withdrawn: u16,
+    withdrawn: Ids,
+    replaced: Ids,
 }
 
 impl Held {
-    fn new(records: u16, site: u8, withdrawn: u16) -> Held {
+    fn new(records: u16, withdrawn: Ids, replaced: Ids) -> Held {
         Held {
             records,
-            site,
             withdrawn,
+            replaced,
+        }
+    }
+
+    // Those of sites of their own.
+    fn apart(records: u16, withdrawn: u16, replaced: u16) -> Held {
+        Held {
+            records,
+            withdrawn: Ids {
+                site: 2,
+                count: withdrawn,
+            },
+            replaced: Ids {
+                site: 3,
+                count: replaced,
+            },
         }
     }
 }
@@ -140,14 +179,24 @@ fn append_frame(bytes: &mut Vec<u8>, kind: u8, rest: &[u8]) -> Result<(), Error>
     Ok(())
 }
 
+// Appends a RECORDS frame.
+fn append_held(bytes: &mut Vec<u8>, held: Held) -> Result<(), Error> {
+    let mut lists = Vec::new(*bytes.allocator());
+    append_records(&mut lists, held.records)?;
+    append_withdrawn(&mut lists, held.withdrawn)?;
+    if held.replaced.count == 0 {
+        append_frame(bytes, 8, &lists)
+    } else {
+        append_replaced(&mut lists, held.replaced)?;
+        append_frame(bytes, 16, &lists)
+    }
+}
+
 // HELLO or SAME, and a RECORDS frame for each of these.
 fn told(alloc: Global, first: &[u8], rest: &[Held]) -> Result<Vec<u8>, Error> {
     let mut bytes = Vec::from_slice(alloc, first)?;
     for held in rest {
-        let mut lists = Vec::new(alloc);
-        append_records(&mut lists, held.records)?;
-        append_withdrawn(&mut lists, held.site, held.withdrawn)?;
-        append_frame(&mut bytes, 8, &lists)?;
+        append_held(&mut bytes, *held)?;
     }
     Ok(bytes)
 }
@@ -167,35 +216,74 @@ fn print_replies(rt: &HostRuntime, input: &[u8], wanted: &[u8]) -> Result<(), Er
     print_end(rt, served)
 }
 
-// A frame with 4,096 records, one with 4,096 withdrawn ids of the same, and one with both.
+// A frame with 4,096 records, one with 4,096 withdrawn ids of the same, one with both, and one in which these records also replace
+// each other.
 fn print_full_frames(rt: &HostRuntime) -> Result<(), Error> {
-    let both = Held::new(4096, 1, 4096);
-    let input = told(
-        rt.alloc(),
-        &HELLO,
-        &[Held::new(4096, 1, 0), Held::new(0, 1, 4096), both],
-    )?;
-    let wanted = told(rt.alloc(), &SAME, &[Held::new(4096, 1, 0), both, both])?;
-    print!(rt; "frames of 4096 records and 4096 withdrawn ids: ")?;
+    let all = Ids {
+        site: 1,
+        count: 4096,
+    };
+    let records = Held::new(4096, NONE, NONE);
+    let withdrawn = Held::new(0, all, NONE);
+    let both = Held::new(4096, all, NONE);
+    let each = Held::new(4096, all, all);
+    let input = told(rt.alloc(), &HELLO, &[records, withdrawn, both, each])?;
+    let wanted = told(rt.alloc(), &SAME, &[records, both, both, each])?;
+    print!(rt; "frames of 4096 records, withdrawn ids and replaced ids: ")?;
     print_replies(rt, &input, &wanted)
+}
+
+fn print_ids(rt: &HostRuntime, name: &str, ids: Ids) -> Result<(), Error> {
+    let Ids { site, count } = ids;
+    print!(rt; ", {count} {name} ids of site {site}")?;
+    Ok(())
+}
+
+// What is named by a frame, which is answered by these replies.
+fn print_frame(rt: &HostRuntime, held: Held, wanted: &[u8]) -> Result<(), Error> {
+    let input = told(rt.alloc(), &HELLO, &[held])?;
+    print!(rt; "frame of {} records of site 1", held.records)?;
+    print_ids(rt, "withdrawn", held.withdrawn)?;
+    print_ids(rt, "replaced", held.replaced)?;
+    print!(rt; ": ")?;
+    print_replies(rt, &input, wanted)
+}
+
+// A frame that names as many ids as may be.
+fn print_full_frame(rt: &HostRuntime, held: Held) -> Result<(), Error> {
+    let wanted = told(rt.alloc(), &SAME, &[held])?;
+    print_frame(rt, held, &wanted)
 }
 
 // A frame that names one id too many.
 fn print_overfull_frame(rt: &HostRuntime, held: Held) -> Result<(), Error> {
-    let input = told(rt.alloc(), &HELLO, &[held])?;
-    let wanted = [0, 0, 0, 1, 6, 0, 0, 0, 2, 5, 52];
-    print!(rt;
-        "frame of {} records of site 1 and {} withdrawn ids of site {}: ",
-        held.records, held.withdrawn, held.site
-    )?;
-    print_replies(rt, &input, &wanted)
+    print_frame(rt, held, &[0, 0, 0, 1, 6, 0, 0, 0, 2, 5, 52])
+}
+
+// Frames whose ids stand in one list or in two.
+fn print_overfull_frames(rt: &HostRuntime) -> Result<(), Error> {
+    let too_many = Ids {
+        site: 1,
+        count: 4097,
+    };
+    print_overfull_frame(rt, Held::new(4097, NONE, NONE))?;
+    print_overfull_frame(rt, Held::new(0, too_many, NONE))?;
+    print_overfull_frame(rt, Held::apart(4096, 1, 0))?;
+    print_overfull_frame(rt, Held::apart(4096, 0, 1))
+}
+
+// Frames whose ids stand in three lists.
+fn print_frames_of_three_lists(rt: &HostRuntime) -> Result<(), Error> {
+    print_full_frame(rt, Held::apart(2048, 1024, 1024))?;
+    print_overfull_frame(rt, Held::apart(2049, 1024, 1024))?;
+    print_overfull_frame(rt, Held::apart(2048, 1025, 1024))?;
+    print_overfull_frame(rt, Held::apart(2048, 1024, 1025))
 }
 
 fn main(rt: HostRuntime) -> Result<(), Error> {
     print_full_frames(&rt)?;
-    print_overfull_frame(&rt, Held::new(4097, 1, 0))?;
-    print_overfull_frame(&rt, Held::new(0, 1, 4097))?;
-    print_overfull_frame(&rt, Held::new(4096, 2, 1))?;
+    print_overfull_frames(&rt)?;
+    print_frames_of_three_lists(&rt)?;
     print_hellos(&rt, 16_777_216)?;
     print_hellos(&rt, 16_777_217)
 }

@@ -1,10 +1,9 @@
 //! The program `stn`: does the command of its words.
 #![tactic(auto)]
 
-use std::io;
 use std::process::ExitCode;
 use stn_shell::program;
 
-fn main(rt: HostRuntime) -> io::Result<ExitCode> {
+fn main(rt: HostRuntime) -> ExitCode {
     program(&rt)
 }

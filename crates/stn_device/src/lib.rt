@@ -1,10 +1,14 @@
-//! Readers and writers that count their failed calls, and whole inputs and outputs over them.
+//! Readers and writers that count their failed calls, and whole inputs and outputs over them; readers and writers with a deadline.
 #![tactic(auto)]
 
+pub use connection::Connection;
 pub use counted::Counted;
-pub use whole::{MOST_BYTES, ReadFault, WriteFault, read_whole, write_whole};
+pub use deadline::{Deadline, TimedStream, UntilDeadline};
+pub use whole::{MOST_BYTES, ReadFault, WriteFault, drain, read_whole, write_whole};
 
+mod connection;
 mod counted;
+mod deadline;
 #[cfg(test)]
 mod tests;
 mod whole;

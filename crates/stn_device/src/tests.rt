@@ -1,6 +1,10 @@
-use crate::{Counted, ReadFault, WriteFault, read_whole, write_whole};
+use crate::{
+    Counted, Deadline, ReadFault, TimedStream, UntilDeadline, WriteFault, drain, read_whole,
+    write_whole,
+};
 use std::io;
 use std::io::{Error, ErrorKind, Read, Write};
+use std::time::Duration;
 
 // A reader that hands on at most `piece` bytes a call and fails at the call of a number, counted from 1.
 #[derive(Drop)]
@@ -180,4 +184,86 @@ fn a_failed_flush_gives_the_error_of_the_device(rt: HostRuntime) {
     assert!(rt; kind_of(failing.flush()) == Some(ErrorKind::Interrupted));
     assert_eq!(rt; failing.failures(), 1);
     assert!(rt; failing.flush().is_ok());
+}
+
+// A peer that sends one byte every 20 seconds, and takes one.
+#[derive(Drop)]
+struct SlowPeer {
+    clock: Duration,
+}
+
+fn pace() -> Duration {
+    Duration::from_secs(20)
+}
+
+impl SlowPeer {
+    // Waits for the next byte, or as long as the call may take.
+    fn wait(&mut self, limit: Duration) -> io::Result<usize> {
+        self.clock = self.clock.saturating_add(pace().min(limit));
+        if limit < pace() {
+            return Err(Error::from(ErrorKind::WouldBlock));
+        }
+        Ok(1)
+    }
+}
+
+impl TimedStream for SlowPeer {
+    ghost use Rattle.std.specs.Prelude.{None};
+
+    ghost remaining = { λ _. None };
+
+    ghost contents = { λ _. None };
+
+    ghost time = { λ _. None };
+
+    fn now(&self) -> io::Result<Duration> {
+        Ok(self.clock)
+    }
+
+    fn read_within(&mut self, buf: &mut [u8], limit: Duration) -> io::Result<usize> {
+        Ok(self.wait(limit)?.min(buf.len()))
+    }
+
+    fn write_within(&mut self, buf: &[u8], limit: Duration) -> io::Result<usize> {
+        Ok(self.wait(limit)?.min(buf.len()))
+    }
+}
+
+// The peer, met at 7 seconds, for 50 more.
+fn slow_stream() -> Counted<UntilDeadline<SlowPeer>> {
+    let clock = Duration::from_secs(7);
+    let deadline = Deadline::after(clock, Duration::from_secs(50));
+    Counted::new(UntilDeadline::new(SlowPeer { clock }, deadline))
+}
+
+#[test]
+fn reads_end_at_the_deadline(rt: HostRuntime) {
+    let mut reader = slow_stream();
+    let mut buffer = [0u8; 4];
+    assert!(rt; matches!(reader.read(&mut buffer), Ok(1)));
+    assert!(rt; matches!(reader.read(&mut buffer), Ok(1)));
+    assert!(rt; kind_of(reader.read(&mut buffer)) == Some(ErrorKind::WouldBlock));
+    assert!(rt; kind_of(reader.read(&mut buffer)) == Some(ErrorKind::TimedOut));
+    assert_eq!(rt; reader.failures(), 2);
+}
+
+#[test]
+fn writes_end_at_the_deadline(rt: HostRuntime) {
+    let mut writer = slow_stream();
+    assert!(rt; write_whole(&mut writer, b"abc") == Err(WriteFault));
+    assert!(rt; kind_of(writer.write(b"c")) == Some(ErrorKind::TimedOut));
+    assert!(rt; writer.flush().is_ok());
+}
+
+#[test]
+fn drains_up_to_its_limit(rt: HostRuntime) {
+    for limit in [0, 5, TEXT.len(), 4096] {
+        let mut whole = reader(3, 0);
+        drain(&mut whole, limit);
+        let used = TEXT.len() - whole.into_inner().rest.len();
+        assert_eq!(rt; used, limit.min(TEXT.len()));
+    }
+    let mut slow = slow_stream();
+    drain(&mut slow, 4096);
+    assert_eq!(rt; slow.failures(), 1);
 }

@@ -1,7 +1,7 @@
 ghost use Rattle.std.specs.Prelude.{◌≡◌, ◌≢◌, ◌<◌, ◌≤◌, ◌+◌, length, Err, OnOk, OnErr, IfOk, IfSome, IsErrOf};
 ghost use Rattle.std.specs.Io.KnownBytes.{Appends, Consumes, IsAtEnd};
 ghost use Rattle.stn_device.specs.Counted.{counted_device, CountsFailure, KeepsCount};
-ghost use Rattle.stn_device.specs.Bytes.{ConsumesAtMost, AppendsPart};
+ghost use Rattle.stn_device.specs.Bytes.{ConsumesAtMost, AppendsPart, UsesUpTo};
 ghost use Rattle.stn_device.specs.declared.whole.ReadFault.TheVariants.{Memory};
 
 use crate::counted::Counted;
@@ -97,4 +97,20 @@ pub fn write_whole<W: Write>(writer: &mut Counted<W>, bytes: &[u8]) -> Result<()
         }
     }
     Ok(())
+}
+
+/// Reads and drops what comes, to the end or the first failed call, at most `limit` bytes.
+pub fn drain<R: Read>(reader: &mut Counted<R>, limit: usize)
+    ensures { UsesUpTo R.remaining limit reader.old reader.new }
+{
+    let mut piece = [0u8; PIECE];
+    let mut left = limit;
+    while left > 0 {
+        let room = PIECE.min(left);
+        match reader.read(&mut piece[..room]) {
+            Ok(0) => return,
+            Ok(count) => left -= count,
+            Err(_) => return,
+        }
+    }
 }

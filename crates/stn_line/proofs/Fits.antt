@@ -1,6 +1,6 @@
 -- What the rows hold after a parse without a fault, where each argument takes one value or asks for help.
 use Rattle.std.proofs.Common.{◌≡◌, ◌≢◌, ◌⊎◌, ◌∙◌, ℕ, Bool, true, false, not, cond, List, [], ◌∷◌, Option, Some, None, refl, sym, ap, subst, inl, inr, arith, length, zero, suc, is_some, ◌&&◌, ◌||◌, ◌==◌, option_map}
-use Rattle.std.specs.Prelude.{IsSomeAnd, find, fold, slice_get, option_and_then}
+use Rattle.std.specs.Prelude.{IsSomeAnd, IfSome, find, fold, slice_get, option_and_then}
 use Rattle.std.specs.List.{list_any}
 use Rattle.std.specs.Option.{option_map_or}
 use Rattle.std.specs.Str.{bytes_eq, chars}
@@ -323,6 +323,18 @@ no_defaults c (a ∷ rest) rows plain = ap (λ r. fold with_default r rest) (kep
     kept true = refl
     kept false = rw none refl
 
+-- the first row of an argument has one value, which the argument takes
+fits_first : (c : List Rule) (rows : List Row) (a : Rule) (r : Row) → find (λ x. bytes_eq x.id a.id) rows ≡ Some r → Fit c rows → IsPlainIn c a
+    → (value : Text) × (r.values ≡ value ∷ []) × Accepts a.ignore_case (parser_of_value a.parser) value
+fits_first c rows a r found fit plain =
+    let at = find_each (RowFits c) (λ (x : Row). bytes_eq x.id a.id) rows r fit found in
+    let fits = at.0 in
+    let same : r.id ≡ a.id = (bytes_eq-Decides r.id a.id).0 at.1 in
+    let own : arg_by_id c a.id ≡ Some fits.rule = ap (arg_by_id c) (sym same) ∙ fits.own in
+    let rule : fits.rule ≡ a = same_Some _ _ (sym own ∙ plain.1) in
+    let passes = subst (λ (x : Rule). value_kinds x.ignore_case (parser_of_value x.parser) fits.value ≡ []) rule fits.passes in
+    (fits.value, fits.one, accepted a fits.value passes)
+
 -- a required argument that is among the rows has a value that it takes
 given_by_row : (c : List Rule) (rows : List Row) (a : Rule) → Fit c rows → IsPlainIn c a → is_given a.id rows ≡ true
     → IsSomeAnd (first_of a.id rows) (Accepts a.ignore_case (parser_of_value a.parser))
@@ -331,20 +343,28 @@ given_by_row c rows a fit plain given = go (find (λ r. bytes_eq r.id a.id) rows
     go : (o : Option Row) → find (λ r. bytes_eq r.id a.id) rows ≡ o → option_map_or (λ r. explicit_source r.source) o false ≡ true
         → IsSomeAnd (option_and_then (λ r. slice_get r.values 0) o) (Accepts a.ignore_case (parser_of_value a.parser))
     go None found given = cc
-    go (Some r) found given =
-        let at = find_each (RowFits c) (λ (x : Row). bytes_eq x.id a.id) rows r fit found in
-        let fits = at.0 in
-        let same : r.id ≡ a.id = (bytes_eq-Decides r.id a.id).0 at.1 in
-        let own : arg_by_id c a.id ≡ Some fits.rule = ap (arg_by_id c) (sym same) ∙ fits.own in
-        let rule : fits.rule ≡ a = same_Some _ _ (sym own ∙ plain.1) in
-        let passes = subst (λ (x : Rule). value_kinds x.ignore_case (parser_of_value x.parser) fits.value ≡ []) rule fits.passes in
-        rw fits.one (accepted a fits.value passes)
+    go (Some r) found given = let first = fits_first c rows a r found fit plain in rw first.1 first.2
+
+-- and so has any argument that is among them
+taken_by_row : (c : List Rule) (rows : List Row) (a : Rule) → Fit c rows → IsPlainIn c a
+    → IfSome (first_of a.id rows) (Accepts a.ignore_case (parser_of_value a.parser))
+taken_by_row c rows a fit plain = go (find (λ r. bytes_eq r.id a.id) rows) refl
+  where
+    go : (o : Option Row) → find (λ r. bytes_eq r.id a.id) rows ≡ o
+        → IfSome (option_and_then (λ r. slice_get r.values 0) o) (Accepts a.ignore_case (parser_of_value a.parser))
+    go None found = tt
+    go (Some r) found = let first = fits_first c rows a r found fit plain in rw first.1 first.2
 
 all_given : (c : List Rule) (rows : List Row) (rules : List Rule) → Fit c rows → Each (IsPlainIn c) rules
     → list_any (λ a. a.required && not (is_given a.id rows)) rules ≡ false → Each (IsGiven rows) rules
 all_given c rows [] fit plain none = tt
-all_given c rows (a ∷ rest) fit plain none =
-    (λ required. given_by_row c rows a fit plain.0 (is_there a.required (is_given a.id rows) required (or_parts _ _ none).0), all_given c rows rest fit plain.1 (or_parts _ _ none).1)
+all_given c rows (a ∷ rest) fit plain none = (
+  record {
+    needed = λ required. given_by_row c rows a fit plain.0 (is_there a.required (is_given a.id rows) required (or_parts _ _ none).0);
+    taken = taken_by_row c rows a fit plain.0;
+  },
+  all_given c rows rest fit plain.1 (or_parts _ _ none).1,
+)
 
 -- one level of the parse: what is required is given
 level_given : (commands : List Shape) (s : Shape) (words : List Text) → ReadsPlainly commands s → level_fault s [] nothing_held words false [] ≡ []

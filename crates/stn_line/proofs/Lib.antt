@@ -1,3 +1,4 @@
 mod Fits
 mod OfStn
 mod Values
+mod Shapes

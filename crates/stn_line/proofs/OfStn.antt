@@ -11,8 +11,8 @@ use Rattle.clap.specs.declared.parser.matches.ArgMatches.TheViews.{out-ArgMatche
 use Rattle.clap.specs.Walk.{action_of, rows_of}
 use Rattle.clap.specs.Words.{Row, Rule, Shape, Text, built, fault_of, is_simple, is_simple_and_free, subcommand_of}
 use Rattle.clap.specs.declared.builder.action.ArgAction.TheVariants.{Set}
-use Rattle.stn_line.specs.Commands.{most_connections, most_read_steps, stn}
-use Rattle.stn_line.specs.Given.{Each, HasWords, HasWordsAmong, IsGiven, IsNumberThere, IsThere, IsThereOnLog}
+use Rattle.stn_line.specs.Commands.{most_connections, most_read_steps, most_seconds, stn}
+use Rattle.stn_line.specs.Given.{Each, HasWords, HasWordsAmong, IsGiven, IsNumberThere, IsNumberWhereGiven, IsThere, IsThereOnLog}
 use Rattle.stn_line.proofs.Values.{at_value, entered_is}
 use Rattle.stn_line.proofs.Fits.{Asks, ReadsPlainly, TakesOne, command_given}
 
@@ -41,20 +41,23 @@ all_plain = (
       (
         record { own = refl; again = refl; negates = refl; rules = ((takes_one refl refl refl, refl), ((takes_one refl refl refl, refl), ((takes_one refl refl refl, refl), ((takes_one refl refl refl, refl), ((takes_one refl refl refl, refl), ((takes_one refl refl refl, refl), ((asks refl refl, refl), tt))))))) },
         (
-          record { own = refl; again = refl; negates = refl; rules = ((takes_one refl refl refl, refl), ((takes_one refl refl refl, refl), ((takes_one refl refl refl, refl), ((asks refl refl, refl), tt)))) },
+          record { own = refl; again = refl; negates = refl; rules = ((takes_one refl refl refl, refl), ((takes_one refl refl refl, refl), ((takes_one refl refl refl, refl), ((takes_one refl refl refl, refl), ((takes_one refl refl refl, refl), ((takes_one refl refl refl, refl), ((takes_one refl refl refl, refl), ((asks refl refl, refl), tt)))))))) },
           (
-            record { own = refl; again = refl; negates = refl; rules = ((takes_one refl refl refl, refl), ((takes_one refl refl refl, refl), ((takes_one refl refl refl, refl), ((takes_one refl refl refl, refl), ((asks refl refl, refl), tt))))) },
+            record { own = refl; again = refl; negates = refl; rules = ((takes_one refl refl refl, refl), ((takes_one refl refl refl, refl), ((takes_one refl refl refl, refl), ((asks refl refl, refl), tt)))) },
             (
-              record { own = refl; again = refl; negates = refl; rules = ((takes_one refl refl refl, refl), ((takes_one refl refl refl, refl), ((takes_one refl refl refl, refl), ((asks refl refl, refl), tt)))) },
+              record { own = refl; again = refl; negates = refl; rules = ((takes_one refl refl refl, refl), ((takes_one refl refl refl, refl), ((takes_one refl refl refl, refl), ((takes_one refl refl refl, refl), ((asks refl refl, refl), tt))))) },
               (
-                record { own = refl; again = refl; negates = refl; rules = ((takes_one refl refl refl, refl), ((takes_one refl refl refl, refl), ((asks refl refl, refl), tt))) },
+                record { own = refl; again = refl; negates = refl; rules = ((takes_one refl refl refl, refl), ((takes_one refl refl refl, refl), ((takes_one refl refl refl, refl), ((asks refl refl, refl), tt)))) },
                 (
-                  record { own = refl; again = refl; negates = refl; rules = ((takes_one refl refl refl, refl), ((takes_one refl refl refl, refl), ((takes_one refl refl refl, refl), ((asks refl refl, refl), tt)))) },
+                  record { own = refl; again = refl; negates = refl; rules = ((takes_one refl refl refl, refl), ((takes_one refl refl refl, refl), ((asks refl refl, refl), tt))) },
                   (
-                    record { own = refl; again = refl; negates = refl; rules = ((takes_one refl refl refl, refl), ((takes_one refl refl refl, refl), ((takes_one refl refl refl, refl), ((takes_one refl refl refl, refl), ((asks refl refl, refl), tt))))) },
+                    record { own = refl; again = refl; negates = refl; rules = ((takes_one refl refl refl, refl), ((takes_one refl refl refl, refl), ((takes_one refl refl refl, refl), ((asks refl refl, refl), tt)))) },
                     (
-                      record { own = refl; again = refl; negates = refl; rules = ((takes_one refl refl refl, refl), ((takes_one refl refl refl, refl), ((takes_one refl refl refl, refl), ((asks refl refl, refl), tt)))) },
-                      tt,
+                      record { own = refl; again = refl; negates = refl; rules = ((takes_one refl refl refl, refl), ((takes_one refl refl refl, refl), ((takes_one refl refl refl, refl), ((takes_one refl refl refl, refl), ((takes_one refl refl refl, refl), ((asks refl refl, refl), tt)))))) },
+                      (
+                        record { own = refl; again = refl; negates = refl; rules = ((takes_one refl refl refl, refl), ((takes_one refl refl refl, refl), ((takes_one refl refl refl, refl), ((takes_one refl refl refl, refl), ((asks refl refl, refl), tt))))) },
+                        tt,
+                      ),
                     ),
                   ),
                 ),
@@ -78,43 +81,49 @@ stn_given words none = command_given stn words is_required all_plain none
 -- what each command's words hold
 pub bare_there : (rows : List Row) → HasWords (codes "bare") rows → IsThereOnLog rows × IsNumberThere (codes "STEPS") 0 most_read_steps rows
 unfolding stn
-bare_there rows has = (record { log = has.0 refl; site = has.1.0 refl }, has.1.1.0 refl)
+bare_there rows has = (record { log = has.0.needed refl; site = has.1.0.needed refl }, has.1.1.0.needed refl)
 
 pub init_there : (rows : List Row) → HasWords (codes "init") rows → IsThereOnLog rows × IsThere (codes "DOMAIN") rows × IsThere (codes "PLAN") rows
 unfolding stn
-init_there rows has = (record { log = has.0 refl; site = has.1.0 refl }, has.1.1.0 refl, has.1.1.1.0 refl)
+init_there rows has = (record { log = has.0.needed refl; site = has.1.0.needed refl }, has.1.1.0.needed refl, has.1.1.1.0.needed refl)
 
 pub add_there : (rows : List Row) → HasWords (codes "add") rows → IsThereOnLog rows × IsThere (codes "FROM") rows × IsThere (codes "TO") rows
 unfolding stn
-add_there rows has = (record { log = has.0 refl; site = has.1.0 refl }, has.1.1.0 refl, has.1.1.1.0 refl)
+add_there rows has = (record { log = has.0.needed refl; site = has.1.0.needed refl }, has.1.1.0.needed refl, has.1.1.1.0.needed refl)
+
+pub amend_there : (rows : List Row) → HasWords (codes "amend") rows → IsThereOnLog rows × IsThere (codes "ID") rows × IsThere (codes "FROM") rows × IsThere (codes "TO") rows
+unfolding stn
+amend_there rows has = (record { log = has.0.needed refl; site = has.1.0.needed refl }, has.1.1.0.needed refl, has.1.1.1.0.needed refl, has.1.1.1.1.0.needed refl)
 
 pub withdraw_there : (rows : List Row) → HasWords (codes "withdraw") rows → IsThereOnLog rows × IsThere (codes "ID") rows
 unfolding stn
-withdraw_there rows has = (record { log = has.0 refl; site = has.1.0 refl }, has.1.1.0 refl)
+withdraw_there rows has = (record { log = has.0.needed refl; site = has.1.0.needed refl }, has.1.1.0.needed refl)
 
 pub done_there : (rows : List Row) → HasWords (codes "done") rows → IsThereOnLog rows × IsThere (codes "EVENT") rows × IsThere (codes "TIME") rows
 unfolding stn
-done_there rows has = (record { log = has.0 refl; site = has.1.0 refl }, has.1.1.0 refl, has.1.1.1.0 refl)
+done_there rows has = (record { log = has.0.needed refl; site = has.1.0.needed refl }, has.1.1.0.needed refl, has.1.1.1.0.needed refl)
 
 pub merge_there : (rows : List Row) → HasWords (codes "merge") rows → IsThereOnLog rows × IsThere (codes "OTHER") rows
 unfolding stn
-merge_there rows has = (record { log = has.0 refl; site = has.1.0 refl }, has.1.1.0 refl)
+merge_there rows has = (record { log = has.0.needed refl; site = has.1.0.needed refl }, has.1.1.0.needed refl)
 
 pub report_there : (rows : List Row) → HasWords (codes "report") rows → IsThereOnLog rows
 unfolding stn
-report_there rows has = record { log = has.0 refl; site = has.1.0 refl }
+report_there rows has = record { log = has.0.needed refl; site = has.1.0.needed refl }
 
 pub next_there : (rows : List Row) → HasWords (codes "next") rows → IsThereOnLog rows × IsThere (codes "NOW") rows
 unfolding stn
-next_there rows has = (record { log = has.0 refl; site = has.1.0 refl }, has.1.1.0 refl)
+next_there rows has = (record { log = has.0.needed refl; site = has.1.0.needed refl }, has.1.1.0.needed refl)
 
 pub serve_there : (rows : List Row) → HasWords (codes "serve") rows → IsThereOnLog rows × IsThere (codes "ADDR") rows × IsNumberThere (codes "COUNT") 1 most_connections rows
+    × IsNumberWhereGiven (codes "seconds") 1 most_seconds rows
 unfolding stn
-serve_there rows has = (record { log = has.0 refl; site = has.1.0 refl }, has.1.1.0 refl, has.1.1.1.0 refl)
+serve_there rows has = (record { log = has.0.needed refl; site = has.1.0.needed refl }, has.1.1.0.needed refl, has.1.1.1.0.needed refl, has.1.1.1.1.0.taken)
 
 pub send_there : (rows : List Row) → HasWords (codes "send") rows → IsThereOnLog rows × IsThere (codes "ADDR") rows
+    × IsNumberWhereGiven (codes "seconds") 1 most_seconds rows
 unfolding stn
-send_there rows has = (record { log = has.0 refl; site = has.1.0 refl }, has.1.1.0 refl)
+send_there rows has = (record { log = has.0.needed refl; site = has.1.0.needed refl }, has.1.1.0.needed refl, has.1.1.1.0.taken)
 
 -- the name is one of these
 IsOneOf : Text → List Text → Type 0
@@ -141,6 +150,7 @@ pub is_send : (name : Text) (rows : List Row) → HasWords name rows
     → name ≢ codes "bare"
     → name ≢ codes "init"
     → name ≢ codes "add"
+    → name ≢ codes "amend"
     → name ≢ codes "withdraw"
     → name ≢ codes "done"
     → name ≢ codes "merge"
@@ -149,9 +159,10 @@ pub is_send : (name : Text) (rows : List Row) → HasWords name rows
     → name ≢ codes "serve"
     → name ≡ codes "send"
 unfolding stn IsOneOf
-is_send name rows has run bare init add withdraw done merge report next serve =
-    let behind-add = other (other (other (other (is_one_of (built stn).subs name rows has) run) bare) init) add in
-    let behind-serve = other (other (other (other (other (other behind-add withdraw) done) merge) report) next) serve in
+is_send name rows has run bare init add amend withdraw done merge report next serve =
+    let behind-amend = other (other (other (other (other (is_one_of (built stn).subs name rows has) run) bare) init) add) amend in
+    let behind-next = other (other (other (other (other behind-amend withdraw) done) merge) report) next in
+    let behind-serve = other behind-next serve in
     elim behind-serve [ inl send ↦ send | inr none ↦ absurd none ]
 
 -- what the matches of the entered command hold, by its name

@@ -1,5 +1,5 @@
 -- From what a getter gives to the value that is known to be there.
-use Rattle.std.proofs.Common.{◌≡◌, ◌∙◌, ℕ, Option, Some, None, Result, Ok, Err, Bor, IsSome, IsSomeAnd, IsOk, option_map, refl, sym, ap, subst, arith}
+use Rattle.std.proofs.Common.{◌≡◌, ◌∙◌, ◌≤◌, ℕ, Option, Some, None, Result, Ok, Err, Bor, IsSome, IsSomeAnd, IfSome, IsOk, option_map, refl, sym, ap, subst, arith}
 use Rattle.std.specs.Str.Parse.{ParsesUnsigned, digits_value, without_leading_plus}
 use Rattle.std.specs.Prelude.{Box}
 use Rattle.std.specs.Box.{box_value}
@@ -23,6 +23,17 @@ value_got r x o got is = sym got ∙ ap (option_map (λ s. s.now)) is
 pub at_value : {T : Type 0} (t : T) (o : Option T) (P : T → Type 0) → o ≡ Some t → IsSomeAnd o P → P t
 at_value t None P is there = absurd there
 at_value t (Some u) P is there = let same : u ≡ t = cc in subst P same there
+
+-- an option's value, where it is given
+pub at_given : {T : Type 0} (t : T) (o : Option T) (P : T → Type 0) → o ≡ Some t → IfSome o P → P t
+at_given t None P is all = cc
+at_given t (Some u) P is all = let same : u ≡ t = cc in subst P same all
+
+pub none_got : (r : Option (Bor Text)) (o : Option Text) → option_map (λ s. s.now) r ≡ o → r ≡ None → o ≡ None
+none_got r o got is = sym got ∙ ap (option_map (λ s. s.now)) is
+
+pub is_short : (least most : ℕ) (t : Text) → IsUnsignedIn least most t → most ≤ 65535 → IsUnsignedIn 0 65535 t
+is_short least most t within few = (within.0, within.1, omega arith, omega (arith, within.3, few))
 
 -- a number of sixteen bits is read
 pub number_read : {E : Type 0} (t : Text) (r : Result ℕ E) → ParsesUnsigned 16 10 t r → IsUnsignedIn 0 65535 t → IsOk r

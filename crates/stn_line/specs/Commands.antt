@@ -15,6 +15,13 @@ most_read_steps = 65535
 abbrev pub most_connections : ℕ
 most_connections = 1000
 
+-- how many seconds a session or an exchange may take: at most, and where nothing is said
+abbrev pub most_seconds : ℕ
+most_seconds = 3600
+
+abbrev pub usual_seconds : ℕ
+usual_seconds = 60
+
 -- a word that has to be there
 abbrev pub word_rule : Text → Rule
 word_rule name = record (new_rule name) { required = true }
@@ -26,6 +33,10 @@ number_rule name least most = record (word_rule name) { parser = Some (parser.Un
 -- an option `--name=T`, which may be left out
 abbrev pub option_rule : Text → Rule
 option_rule name = record (new_rule name) { long = Some name; value_names = 1 }
+
+-- an option whose value is a number from `least` to `most`
+abbrev pub number_option_rule : Text → ℕ → ℕ → Rule
+number_option_rule name least most = record (option_rule name) { parser = Some (parser.Unsigned least most) }
 
 -- a command with its words
 abbrev pub command : Text → List Rule → Shape
@@ -44,6 +55,9 @@ init_words = word_rule (codes "DOMAIN") ∷ word_rule (codes "PLAN") ∷ []
 abbrev pub add_words : List Rule
 add_words = word_rule (codes "FROM") ∷ word_rule (codes "TO") ∷ option_rule (codes "lo") ∷ option_rule (codes "hi") ∷ []
 
+abbrev pub amend_words : List Rule
+amend_words = word_rule (codes "ID") ∷ add_words
+
 abbrev pub withdraw_words : List Rule
 withdraw_words = word_rule (codes "ID") ∷ []
 
@@ -56,11 +70,14 @@ merge_words = word_rule (codes "OTHER") ∷ []
 abbrev pub next_words : List Rule
 next_words = word_rule (codes "NOW") ∷ []
 
+abbrev pub seconds_rule : Rule
+seconds_rule = number_option_rule (codes "seconds") 1 most_seconds
+
 abbrev pub serve_words : List Rule
-serve_words = word_rule (codes "ADDR") ∷ number_rule (codes "COUNT") 1 most_connections ∷ []
+serve_words = word_rule (codes "ADDR") ∷ number_rule (codes "COUNT") 1 most_connections ∷ seconds_rule ∷ []
 
 abbrev pub send_words : List Rule
-send_words = word_rule (codes "ADDR") ∷ []
+send_words = word_rule (codes "ADDR") ∷ seconds_rule ∷ []
 
 -- all the commands
 abbrev pub commands : List Shape
@@ -68,6 +85,7 @@ commands = command (codes "run") []
     ∷ on_log (codes "bare") bare_words
     ∷ on_log (codes "init") init_words
     ∷ on_log (codes "add") add_words
+    ∷ on_log (codes "amend") amend_words
     ∷ on_log (codes "withdraw") withdraw_words
     ∷ on_log (codes "done") done_words
     ∷ on_log (codes "merge") merge_words

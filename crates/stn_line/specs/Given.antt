@@ -1,6 +1,6 @@
 -- For proofs alone: no public clause cites these words.
 -- What the words of an accepted command hold.
-use Rattle.std.specs.Prelude.{◌≡◌, true, List, [], ◌∷◌, IsSomeAnd, ℕ, codes, ⊤, find}
+use Rattle.std.specs.Prelude.{◌≡◌, true, List, [], ◌∷◌, IsSomeAnd, IfSome, ℕ, codes, ⊤, find}
 use Rattle.std.specs.Str.{bytes_eq}
 use Rattle.clap.specs.Facts.{parser_of_value}
 use Rattle.clap.specs.Words.{Accepts, IsUnsignedIn, Row, Rule, Shape, Text, built, first_of}
@@ -12,10 +12,10 @@ abbrev pub Each : {X : Type 0} → (X → Type 0) → List X → Type 0
 Each P [] = ⊤
 Each P (x ∷ xs) = P x × Each P xs
 
--- where the argument is required, it has a value that it takes
-abbrev pub IsGiven : List Row → Rule → Type 0
-IsGiven rows rule = rule.required ≡ true
-    → IsSomeAnd (first_of rule.id rows) (Accepts rule.ignore_case (parser_of_value rule.parser))
+-- where the argument is required, it has a value; and a value that it has is one that it takes
+pub record IsGiven (rows : List Row) (rule : Rule) : Type 0 where
+  pub needed : rule.required ≡ true → IsSomeAnd (first_of rule.id rows) (Accepts rule.ignore_case (parser_of_value rule.parser))
+  pub taken : IfSome (first_of rule.id rows) (Accepts rule.ignore_case (parser_of_value rule.parser))
 
 -- one of the commands has this name, and each word that it requires is given
 abbrev pub HasWordsAmong : List Shape → Text → List Row → Type 0
@@ -33,6 +33,10 @@ IsThere name rows = IsSomeAnd (first_of name rows) (λ _. ⊤)
 -- and its value is a number from `least` to `most`
 abbrev pub IsNumberThere : Text → ℕ → ℕ → List Row → Type 0
 IsNumberThere name least most rows = IsSomeAnd (first_of name rows) (IsUnsignedIn least most)
+
+-- where the option of this name is given, its value is a number from `least` to `most`
+abbrev pub IsNumberWhereGiven : Text → ℕ → ℕ → List Row → Type 0
+IsNumberWhereGiven name least most rows = IfSome (first_of name rows) (IsUnsignedIn least most)
 
 -- a log and a site are there
 pub record IsThereOnLog (rows : List Row) : Type 0 where

@@ -1,10 +1,10 @@
 -- What the words of a command line mean, by what clap finds in them: a command, and the value of each of its words.
-use Rattle.std.specs.Prelude.{◌≡◌, ◌≢◌, ◌≤◌, ℕ, List, Option, Some, codes, option_map, ⊤}
+use Rattle.std.specs.Prelude.{◌≡◌, ◌≢◌, ◌≤◌, ℕ, List, Option, Some, codes, option_map, unwrap_or, ⊤}
 use Rattle.std.specs.Borrow.{Bor}
 use Rattle.std.specs.Str.Parse.{digits_value, without_leading_plus}
 use Rattle.clap.specs.Words.{IsAmong, Row, Text, fault_of, first_of, kind_of}
 use Rattle.clap.specs.declared.error.kind.ErrorKind.TheVariants.{OutOfMemory}
-use Rattle.stn_line.specs.Commands.{most_connections, stn}
+use Rattle.stn_line.specs.Commands.{most_connections, most_seconds, usual_seconds, stn}
 use Rattle.stn_line.specs.declared.words.Line.{Line}
 use Rattle.stn_line.specs.declared.words.Line.TheVariants as line
 use Rattle.stn_line.specs.declared.words.LineFault.{LineFault}
@@ -22,6 +22,11 @@ IsOption name word rows = first_of name rows ≡ option_map (λ w. w.now) word
 abbrev pub IsNumber : Text → ℕ → List Row → Type 0
 IsNumber name number rows = option_map (λ word. digits_value 10 (without_leading_plus word)) (first_of name rows) ≡ Some number
 
+-- the seconds that a session or an exchange may take: those that are given, else the usual ones
+abbrev pub IsSeconds : ℕ → List Row → Type 0
+IsSeconds seconds rows =
+    seconds ≡ unwrap_or (option_map (λ word. digits_value 10 (without_leading_plus word)) (first_of (codes "seconds") rows)) usual_seconds
+
 -- the log and the site that a command is for
 pub record IsOnLog (log : Bor Text) (site : ℕ) (rows : List Row) : Type 0 where
   pub file : IsWord (codes "LOG") log rows
@@ -36,16 +41,22 @@ IsLineOf (line.Init log site domain plan) name rows =
 IsLineOf (line.Add log site from to lo hi) name rows =
     (name ≡ codes "add") × IsOnLog log site rows × IsWord (codes "FROM") from rows × IsWord (codes "TO") to rows
     × IsOption (codes "lo") lo rows × IsOption (codes "hi") hi rows
+IsLineOf (line.Amend log site id from to lo hi) name rows =
+    (name ≡ codes "amend") × IsOnLog log site rows × IsWord (codes "ID") id rows
+    × IsWord (codes "FROM") from rows × IsWord (codes "TO") to rows × IsOption (codes "lo") lo rows × IsOption (codes "hi") hi rows
 IsLineOf (line.Withdraw log site id) name rows = (name ≡ codes "withdraw") × IsOnLog log site rows × IsWord (codes "ID") id rows
 IsLineOf (line.Done log site event time) name rows =
     (name ≡ codes "done") × IsOnLog log site rows × IsWord (codes "EVENT") event rows × IsWord (codes "TIME") time rows
 IsLineOf (line.Merge log site other) name rows = (name ≡ codes "merge") × IsOnLog log site rows × IsWord (codes "OTHER") other rows
 IsLineOf (line.Report log site) name rows = (name ≡ codes "report") × IsOnLog log site rows
 IsLineOf (line.Next log site now) name rows = (name ≡ codes "next") × IsOnLog log site rows × IsWord (codes "NOW") now rows
-IsLineOf (line.Serve log site address count) name rows =
+IsLineOf (line.Serve log site address count seconds) name rows =
     (name ≡ codes "serve") × IsOnLog log site rows × IsWord (codes "ADDR") address rows
-    × IsNumber (codes "COUNT") count rows × (1 ≤ count) × (count ≤ most_connections)
-IsLineOf (line.Send log site address) name rows = (name ≡ codes "send") × IsOnLog log site rows × IsWord (codes "ADDR") address rows
+    × IsNumber (codes "COUNT") count rows × (1 ≤ count) × (count ≤ most_connections) × IsSeconds seconds rows
+    × (1 ≤ seconds) × (seconds ≤ most_seconds)
+IsLineOf (line.Send log site address seconds) name rows =
+    (name ≡ codes "send") × IsOnLog log site rows × IsWord (codes "ADDR") address rows × IsSeconds seconds rows
+    × (1 ≤ seconds) × (seconds ≤ most_seconds)
 
 -- clap's own refusal of the words, of one of the kinds that it states for them; memory may run out at any words
 abbrev pub IsFaultOf : LineFault → List Text → Type 0

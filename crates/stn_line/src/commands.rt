@@ -14,6 +14,9 @@ const MOST_READ_STEPS: u64 = 65_535;
 // So many connections are served in turn at most.
 const MOST_CONNECTIONS: u64 = 1_000;
 
+// A session or an exchange may take so many seconds at most.
+const MOST_SECONDS: u64 = 3_600;
+
 /// The program with all its commands, and their help.
 pub(crate) fn stn<'a>(alloc: Global) -> Result<Command<'a>, AllocError>
     ensures app { IfOk result (λ command. app_of command ≡ spec.stn) }
@@ -23,6 +26,7 @@ pub(crate) fn stn<'a>(alloc: Global) -> Result<Command<'a>, AllocError>
         .subcommand(bare(alloc)?)?
         .subcommand(init(alloc)?)?
         .subcommand(add(alloc)?)?
+        .subcommand(amend(alloc)?)?
         .subcommand(withdraw(alloc)?)?
         .subcommand(done(alloc)?)?
         .subcommand(merge(alloc)?)?
@@ -107,10 +111,34 @@ fn add<'a>(alloc: Global) -> Result<Command<'a>, AllocError>
     .arg(hi)
 }
 
+fn amend<'a>(alloc: Global) -> Result<Command<'a>, AllocError>
+    ensures is { IfOk result (spec.Reads (spec.on_log (codes "amend") spec.amend_words)) }
+{
+    let id = word(alloc, "ID", "The id of the record to replace, as `1.2`");
+    let from = word(alloc, "FROM", "The event to count from: `z`, `s1`, `e1`");
+    let to = word(alloc, "TO", "The event to count to");
+    let lo = option(alloc, "lo", "TO comes at least so many seconds after FROM");
+    let hi = option(alloc, "hi", "TO comes at most so many seconds after FROM");
+    on_log(
+        alloc,
+        "amend",
+        "Replaces a record for good, in one step, by a new bound",
+    )?
+    .arg(id)?
+    .arg(from)?
+    .arg(to)?
+    .arg(lo)?
+    .arg(hi)
+}
+
 fn withdraw<'a>(alloc: Global) -> Result<Command<'a>, AllocError>
     ensures is { IfOk result (spec.Reads (spec.on_log (codes "withdraw") spec.withdraw_words)) }
 {
-    let id = word(alloc, "ID", "The id that `add` or `done` printed, as `1.2`");
+    let id = word(
+        alloc,
+        "ID",
+        "The id that `add`, `amend` or `done` printed, as `1.2`",
+    );
     on_log(alloc, "withdraw", "Withdraws a record for good")?.arg(id)
 }
 
@@ -178,7 +206,11 @@ fn serve<'a>(alloc: Global) -> Result<Command<'a>, AllocError>
         "Exchanges records with the sites that connect",
     )?
     .arg(address)?
-    .arg(count)
+    .arg(count)?
+    .arg(seconds(
+        alloc,
+        "How many seconds a session may take, from 1 to 3600; 60 where it is not given",
+    ))
 }
 
 fn send<'a>(alloc: Global) -> Result<Command<'a>, AllocError>
@@ -190,7 +222,11 @@ fn send<'a>(alloc: Global) -> Result<Command<'a>, AllocError>
         "send",
         "Exchanges records with the site that serves at an address",
     )?
-    .arg(address)
+    .arg(address)?
+    .arg(seconds(
+        alloc,
+        "How many seconds the exchange may take, from 1 to 3600; 60 where it is not given",
+    ))
 }
 
 // A command on the log of a site.
@@ -230,4 +266,16 @@ fn option<'a>(alloc: Global, name: &'a str, help: &'a str) -> Arg<'a>
     ensures own { result.global ≡ false }
 {
     Arg::new(alloc, name).long(name).value_name("T").help(help)
+}
+
+// The option with the seconds of a session or an exchange.
+fn seconds<'a>(alloc: Global, help: &'a str) -> Arg<'a>
+    ensures rule { rule_of result ≡ spec.seconds_rule }
+    ensures own { result.global ≡ false }
+{
+    Arg::new(alloc, "seconds")
+        .long("seconds")
+        .value_name("N")
+        .value_parser(ValueParser::unsigned(1, MOST_SECONDS))
+        .help(help)
 }

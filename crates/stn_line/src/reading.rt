@@ -1,8 +1,8 @@
 ghost use Rattle.std.specs.Prelude.{◌≡◌, ◌≤◌, IfErr, IfOk, IsSomeAnd, Some, [], ℕ, codes, map, option_map};
 ghost use Rattle.clap.specs.Words.{IsUnsignedIn, fault_of, first_of, found_of, rows_of, subcommand_of, subcommand_rows_of};
-ghost use Rattle.stn_line.specs.Commands.{most_connections, most_read_steps, stn as program};
-ghost use Rattle.stn_line.specs.Given.{HasWords, IsThere, IsThereOnLog, IsNumberThere};
-ghost use Rattle.stn_line.specs.Lines.{IsFaultOf, IsLineOf, IsNumber, IsOnLog, IsOption, IsWord};
+ghost use Rattle.stn_line.specs.Commands.{most_connections, most_read_steps, most_seconds, stn as program};
+ghost use Rattle.stn_line.specs.Given.{HasWords, IsThere, IsThereOnLog, IsNumberThere, IsNumberWhereGiven};
+ghost use Rattle.stn_line.specs.Lines.{IsFaultOf, IsLineOf, IsNumber, IsOnLog, IsOption, IsSeconds, IsWord};
 
 use crate::commands::stn;
 use crate::words::{Line, LineFault};
@@ -10,6 +10,9 @@ use clap::ArgMatches;
 use clap::error::ErrorKind;
 use std::alloc::Global;
 use stn_records::Site;
+
+// A session or an exchange may take so many seconds where the words say nothing.
+const USUAL_SECONDS: u16 = 60;
 
 /// The command that the words ask for; the first word is the program's name. Where clap takes the
 /// words, only memory can fail.
@@ -37,6 +40,7 @@ fn read<'a>(matches: &ArgMatches<'a>) -> Line<'a>
         "bare" => bare(words),
         "init" => init(words),
         "add" => add(words),
+        "amend" => amend(words),
         "withdraw" => withdraw(words),
         "done" => done(words),
         "merge" => merge(words),
@@ -82,6 +86,24 @@ fn add<'a>(words: &ArgMatches<'a>) -> Line<'a>
     Line::Add {
         log: word(words, "LOG"),
         site: site(words),
+        from: word(words, "FROM"),
+        to: word(words, "TO"),
+        lo: option(words, "lo"),
+        hi: option(words, "hi"),
+    }
+}
+
+fn amend<'a>(words: &ArgMatches<'a>) -> Line<'a>
+    requires log { IsThereOnLog (rows_of (found_of words.now)) }
+    requires id { IsThere (codes "ID") (rows_of (found_of words.now)) }
+    requires from { IsThere (codes "FROM") (rows_of (found_of words.now)) }
+    requires to { IsThere (codes "TO") (rows_of (found_of words.now)) }
+    ensures { IsLineOf result (codes "amend") (rows_of (found_of words.now)) }
+{
+    Line::Amend {
+        log: word(words, "LOG"),
+        site: site(words),
+        id: word(words, "ID"),
         from: word(words, "FROM"),
         to: word(words, "TO"),
         lo: option(words, "lo"),
@@ -153,6 +175,7 @@ fn serve<'a>(words: &ArgMatches<'a>) -> Line<'a>
     requires log { IsThereOnLog (rows_of (found_of words.now)) }
     requires address { IsThere (codes "ADDR") (rows_of (found_of words.now)) }
     requires count { IsNumberThere (codes "COUNT") 1 most_connections (rows_of (found_of words.now)) }
+    requires seconds { IsNumberWhereGiven (codes "seconds") 1 most_seconds (rows_of (found_of words.now)) }
     ensures { IsLineOf result (codes "serve") (rows_of (found_of words.now)) }
 {
     Line::Serve {
@@ -160,18 +183,33 @@ fn serve<'a>(words: &ArgMatches<'a>) -> Line<'a>
         site: site(words),
         address: word(words, "ADDR"),
         count: number(words, "COUNT"),
+        seconds: seconds(words),
     }
 }
 
 fn send<'a>(words: &ArgMatches<'a>) -> Line<'a>
     requires log { IsThereOnLog (rows_of (found_of words.now)) }
     requires address { IsThere (codes "ADDR") (rows_of (found_of words.now)) }
+    requires seconds { IsNumberWhereGiven (codes "seconds") 1 most_seconds (rows_of (found_of words.now)) }
     ensures { IsLineOf result (codes "send") (rows_of (found_of words.now)) }
 {
     Line::Send {
         log: word(words, "LOG"),
         site: site(words),
         address: word(words, "ADDR"),
+        seconds: seconds(words),
+    }
+}
+
+// The seconds of a session or an exchange.
+fn seconds(words: &ArgMatches<'_>) -> u16
+    requires { IsNumberWhereGiven (codes "seconds") 1 most_seconds (rows_of (found_of words.now)) }
+    ensures value { IsSeconds result (rows_of (found_of words.now)) }
+    ensures within { (1 ≤ result) × (result ≤ most_seconds) }
+{
+    match words.get_str("seconds") {
+        Some(digits) => digits.parse().unwrap(),
+        None => USUAL_SECONDS,
     }
 }
 

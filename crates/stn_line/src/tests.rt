@@ -74,6 +74,27 @@ fn reads_add(rt: HostRuntime) {
 }
 
 #[test]
+fn reads_amend(rt: HostRuntime) {
+    let line = read(
+        &rt,
+        rt.alloc(),
+        &["stn", "amend", "t.log", "1", "2.3", "s1", "e1", "--hi=7.5"],
+    );
+    let site = Site::new(1).expect(&rt, "a site");
+    assert!(rt;
+        line == Line::Amend {
+            log: "t.log",
+            site,
+            id: "2.3",
+            from: "s1",
+            to: "e1",
+            lo: None,
+            hi: Some("7.5")
+        }
+    );
+}
+
+#[test]
 fn reads_withdraw(rt: HostRuntime) {
     let line = read(&rt, rt.alloc(), &["stn", "withdraw", "t.log", "1", "1.2"]);
     let site = Site::new(1).expect(&rt, "a site");
@@ -146,7 +167,8 @@ fn reads_serve(rt: HostRuntime) {
             log: "t.log",
             site,
             address: "[::1]:7000",
-            count: 1000
+            count: 1000,
+            seconds: 60
         }
     );
 }
@@ -156,14 +178,15 @@ fn reads_send(rt: HostRuntime) {
     let line = read(
         &rt,
         rt.alloc(),
-        &["stn", "send", "t.log", "1", "[::1]:7000"],
+        &["stn", "send", "t.log", "1", "[::1]:7000", "--seconds=3600"],
     );
     let site = Site::new(1).expect(&rt, "a site");
     assert!(rt;
         line == Line::Send {
             log: "t.log",
             site,
-            address: "[::1]:7000"
+            address: "[::1]:7000",
+            seconds: 3600
         }
     );
 }
@@ -185,6 +208,14 @@ fn refuses_numbers_out_of_range(rt: HostRuntime) {
 fn refuses_a_count_of_none(rt: HostRuntime) {
     let range = Some(ErrorKind::ValueValidation);
     assert!(rt; refusal(rt.alloc(), &["stn", "serve", "t.log", "1", "a:1", "0"]) == range);
+}
+
+#[test]
+fn refuses_seconds_out_of_range(rt: HostRuntime) {
+    let range = Some(ErrorKind::ValueValidation);
+    for seconds in ["--seconds=0", "--seconds=3601", "--seconds=soon"] {
+        assert!(rt; refusal(rt.alloc(), &["stn", "send", "t.log", "1", "a:1", seconds]) == range);
+    }
 }
 
 #[test]

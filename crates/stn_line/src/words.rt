@@ -31,6 +31,16 @@ pub enum Line<'a> {
         lo: Option<&'a str>,
         hi: Option<&'a str>,
     },
+    /// Adds a bound in the place of a record, which is replaced for good; a side that is not given is open.
+    Amend {
+        log: &'a str,
+        site: Site,
+        id: &'a str,
+        from: &'a str,
+        to: &'a str,
+        lo: Option<&'a str>,
+        hi: Option<&'a str>,
+    },
     /// Withdraws a record.
     Withdraw {
         log: &'a str,
@@ -61,18 +71,20 @@ pub enum Line<'a> {
         site: Site,
         now: &'a str,
     },
-    /// Serves connections at an address, one after another.
+    /// Serves connections at an address, one after another; each session may take so many seconds.
     Serve {
         log: &'a str,
         site: Site,
         address: &'a str,
         count: u16,
+        seconds: u16,
     },
-    /// Exchanges records with the site that serves at an address.
+    /// Exchanges records with the site that serves at an address, for so many seconds at most.
     Send {
         log: &'a str,
         site: Site,
         address: &'a str,
+        seconds: u16,
     },
 }
 

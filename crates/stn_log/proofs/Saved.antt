@@ -10,10 +10,10 @@ use Rattle.std.proofs.lemmas.List.{take_all}
 use Rattle.std.proofs.lemmas.Bool.Decides.{nat_tests}
 use Rattle.stn_device.specs.Bytes.{most_bytes}
 use Rattle.stn_lift.specs.PlanSource.{PlanSource, events_of, base_of}
-use Rattle.stn_records.specs.Id.{SiteCounter, id_cmp}
+use Rattle.stn_records.specs.Id.{SiteCounter, id_cmp, lesser_of}
 use Rattle.stn_records.specs.declared.record.Record.{Record}
-use Rattle.stn_records.specs.Maps.{differ, with_entries}
-use Rattle.stn_records.specs.Content.{most_known, Content, same_ids, known_ids, known_count, known_in_either, no_content, dispute_contents, joined_contents, IsSound}
+use Rattle.stn_records.specs.Maps.{differ, dispute, with_entries}
+use Rattle.stn_records.specs.Content.{most_known, Content, same_ids, with_ids, replaced_ids, known_ids, known_count, known_in_either, no_content, dispute_contents, joined_contents, IsSound}
 use Rattle.stn_records.proofs.Places.{nothing_sorted}
 use Rattle.stn_replica.specs.Bounds.{RecordsName}
 use Rattle.stn_replica.specs.Held.{holding_state}
@@ -35,17 +35,27 @@ no_entries X = ap fin.entries (sym (nothing_sorted X)) ∙ entries-from_sorted i
 no_keys : (X : Type 0) → (let m : FinMap id_cmp X = fin.empty in fin.keys m) ≡ []
 no_keys X = ap (map (λ (e : SiteCounter × X). e.0)) (no_entries X)
 
+no_values : (X : Type 0) → (let m : FinMap id_cmp X = fin.empty in fin.values m) ≡ []
+no_values X = ap (map (λ (e : SiteCounter × X). e.1)) (no_entries X)
+
+none_replaced : replaced_ids no_content ≡ []
+none_replaced = ap (λ (ids : List SiteCounter). fin.keys (with_ids no_content.tombstones ids)) (no_values SiteCounter) ∙ no_keys (Unit {0})
+
 none_known : known_ids no_content ≡ []
-none_known = λ i. no_keys Record i ++ no_keys (Unit {0}) i
+none_known = λ i. no_keys Record i ++ none_replaced i
 
 joined_alone : (state : Content) → joined_contents no_content state ≡ state
 joined_alone state = λ i. record {
   additions = with_entries state.additions (no_entries Record i);
   tombstones = with_entries state.tombstones (no_entries (Unit {0}) i);
+  replacements = with_entries state.replacements (no_entries SiteCounter i);
 }
 
+none_disputed : {X : Type 0} (same : X → X → Bool) (m : FinMap id_cmp X) → dispute same fin.empty m ≡ None
+none_disputed {X} same m = let none : FinMap id_cmp X = fin.empty in ap (λ (ids : List SiteCounter). find (λ k. differ same (fin.get none k) (fin.get m k)) ids) (no_keys X)
+
 nothing_disputed : (state : Content) → dispute_contents no_content state ≡ None
-nothing_disputed state = ap (λ (ids : List SiteCounter). find (λ k. differ same_records (fin.get no_content.additions k) (fin.get state.additions k)) ids) (no_keys Record)
+nothing_disputed state = λ i. lesser_of (none_disputed same_records state.additions i) (none_disputed same_ids state.replacements i)
 
 known_alone : (state : Content) → known_in_either no_content state ≡ known_count state
 known_alone state = ap (λ (ids : List SiteCounter). distinct_count same_ids (ids ++ known_ids state)) none_known

@@ -1,5 +1,4 @@
 pub mod Served
-pub mod Lacks
 pub mod Chains
-pub mod Decided
-pub mod Lookups
+pub mod Joined
+mod Failed

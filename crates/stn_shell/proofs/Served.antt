@@ -9,18 +9,19 @@ use Rattle.stn_records.specs.Content.{Content}
 use Rattle.stn_session.specs.declared.session.Served.{Served}
 use Rattle.stn_session.specs.declared.session.ServeFault.{ServeFault}
 use Rattle.stn_shell.specs.Printing.{Device, Prints}
-use Rattle.stn_shell.specs.Store.{Entry}
+use Rattle.stn_store.specs.Store.{Entry}
+use Rattle.stn_shell.specs.declared.command.SiteLog.{SiteLog}
 use Rattle.stn_shell.specs.Connections.{session_text, IsSavedSession, AreSessionsBetween, Serves, StopsAtSession, StopsServing}
-use Rattle.stn_shell.specs.declared.failure.Failure.{Failure}
-use Rattle.stn_shell.specs.declared.failure.Fault.{Fault}
+use Rattle.stn_store.specs.declared.failure.Failure.{Failure}
+use Rattle.stn_store.specs.declared.failure.Fault.{Fault}
 
 -- no session yet
-pub serves_none : (source : PlanSource) (log : List ℕ) (state : Content) (saves : Option (List Entry)) (device : Device)
+pub serves_none : (source : PlanSource) (log : SiteLog) (state : Content) (saves : Option (List Entry)) (device : Device)
     → Serves 0 source log state state saves saves device device
 serves_none source log state saves device = record { answers = []; many = refl; sessions = (refl, refl); printed = (Appends-nil device.bytes, refl) }
 
 -- one session more
-sessions_more : (source : PlanSource) (log : List ℕ) (first : Content) (old : Option (List Entry))
+sessions_more : (source : PlanSource) (log : SiteLog) (first : Content) (old : Option (List Entry))
     (answers : List (Result Served ServeFault))
     (middle : Content) (between : Option (List Entry)) (answer : Result Served ServeFault) (last : Content) (new : Option (List Entry))
     → AreSessionsBetween source log first old answers middle between → IsSavedSession source log middle between answer last new
@@ -35,7 +36,7 @@ sessions_more source log first old [] middle between answer last new none one = 
 sessions_more source log first old (earlier ∷ answers) middle between answer last new all one =
     (all.0, all.1, all.2, sessions_more source log all.0 all.1 answers middle between answer last new all.3 one)
 
-pub serves_more : (count : ℕ) (source here : PlanSource) (log : List ℕ) (first middle last : Content)
+pub serves_more : (count : ℕ) (source here : PlanSource) (log : SiteLog) (first middle last : Content)
     (before saves after : Option (List Entry))
     (old between new : Device) (answer : Result Served ServeFault)
     → Serves count source log first middle before saves old between → here ≡ source → IsSavedSession here log middle saves answer last after
@@ -53,7 +54,7 @@ serves_more count source here log first middle last before saves after old betwe
 }
 
 -- and none more
-pub stops_serving : (Fails : Fault → Type 0) (count served : ℕ) (source here : PlanSource) (log : List ℕ) (first middle last : Content)
+pub stops_serving : (Fails : Fault → Type 0) (count served : ℕ) (source here : PlanSource) (log : SiteLog) (first middle last : Content)
     (before saves after : Option (List Entry)) (old between new : Device) (failure : Failure)
     → Serves served source log first middle before saves old between → here ≡ source → served < count
     → StopsAtSession Fails here log middle last saves after between new failure

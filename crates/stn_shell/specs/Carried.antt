@@ -10,15 +10,15 @@ use Rattle.stn_shell.specs.Commands.{IsAnswered}
 use Rattle.stn_shell.specs.Connections.{Serves, StopsServing, Sends, StopsSending}
 use Rattle.stn_shell.specs.Printing.{Device, Prints, IsUnprinted}
 use Rattle.stn_shell.specs.Refusals.{IsRefusalOf}
-use Rattle.stn_shell.specs.Store.{Entry, Opens, IsUnopened, IsLack}
+use Rattle.stn_store.specs.Store.{Entry, Opens, IsUnopened, IsLack}
 use Rattle.stn_shell.specs.declared.command.SiteLog.{SiteLog}
 use Rattle.stn_shell.specs.declared.command.LogCommand.{LogCommand}
 use Rattle.stn_shell.specs.declared.command.Task.{Task}
 use Rattle.stn_shell.specs.declared.command.Task.TheVariants.{Run, Serve, Send, Command}
-use Rattle.stn_shell.specs.declared.failure.Failure.{Failure}
-use Rattle.stn_shell.specs.declared.failure.Failure.TheVariants.{Failed}
-use Rattle.stn_shell.specs.declared.failure.Fault.{Fault}
-use Rattle.stn_shell.specs.declared.failure.Fault.TheVariants.{Read, Write, Bound, Memory, Net}
+use Rattle.stn_store.specs.declared.failure.Failure.{Failure}
+use Rattle.stn_store.specs.declared.failure.Failure.TheVariants.{Failed}
+use Rattle.stn_store.specs.declared.failure.Fault.{Fault}
+use Rattle.stn_store.specs.declared.failure.Fault.TheVariants.{Read, Write, Bound, Memory, Net}
 
 -- a script was read to its end and its output printed; the status is 0 exactly where none of its lines was refused
 pub record RunsScript (unread rest old new : Device) (status : ℕ) : Type 0 where
@@ -49,7 +49,7 @@ pub record ServesAt (before after : Option (List Entry)) (log : SiteLog) (count 
   pub bound : Device
   pub opened : Opens before log.name.now log.site found
   pub listens : Prints old bound (codes "listening" ++ 10 ∷ [])
-  pub served : Serves count found.source log.name.now found.state left before after bound new
+  pub served : Serves count found.source log found.state left before after bound new
 
 -- why a service did not begin: the address can't be bound, or it can't be told that it is
 abbrev pub StopsListening : Device → Device → Failure → Type 0
@@ -62,14 +62,14 @@ StopsAt Fails before after log count old new failure =
     ⊎ ((found : Held) × Opens before log.name.now log.site found × (after ≡ before) × StopsListening old new failure)
     ⊎ ((found : Held) × (left : Content) × (bound : Device) × Opens before log.name.now log.site found
     × Prints old bound (codes "listening" ++ 10 ∷ [])
-    × StopsServing Fails count found.source log.name.now found.state left before after bound new failure)
+    × StopsServing Fails count found.source log found.state left before after bound new failure)
 
 -- an exchange over a log: what the replies brought was saved, and their text printed
 pub record SendsFrom (before after : Option (List Entry)) (log : SiteLog) (old new : Device) : Type 0 where
   pub found : Held
   pub left : Content
   pub opened : Opens before log.name.now log.site found
-  pub sent : Sends found.source log.name.now found.state left before after old new
+  pub sent : Sends found.source log found.state left before after old new
 
 -- why there was none: the log was not opened; the address can't be reached; or the exchange stopped
 abbrev pub StopsFrom : (Fault → Type 0) → Option (List Entry) → Option (List Entry) → SiteLog → Device → Device → Failure → Type 0
@@ -77,7 +77,7 @@ StopsFrom Fails before after log old new failure =
     ((IsUnopened before log.name.now failure ⊎ IsLack Fails failure) × (after ≡ before) × (new ≡ old))
     ⊎ ((found : Held) × Opens before log.name.now log.site found × (after ≡ before) × (failure ≡ Failed Net) × (new ≡ old))
     ⊎ ((found : Held) × (left : Content) × Opens before log.name.now log.site found
-    × StopsSending Fails found.source log.name.now found.state left before after old new failure)
+    × StopsSending Fails found.source log found.state left before after old new failure)
 
 -- a command of a log was done, and its answer printed
 pub record Answers (before after : Option (List Entry)) (log : SiteLog) (command : LogCommand) (old new : Device) : Type 0 where
@@ -95,13 +95,13 @@ StopsCommand Fails before after log command old new failure =
 -- a task came to its end, with a status
 abbrev pub IsCarriedOut : Option (List Entry) → Option (List Entry) → Task → Device → Device → Device → Device → ℕ → Type 0
 IsCarriedOut before after Run unread rest old new status = RunsScript unread rest old new status
-IsCarriedOut before after (Serve log address count) unread rest old new status = (status ≡ 0) × ServesAt before after log count old new
-IsCarriedOut before after (Send log address) unread rest old new status = (status ≡ 0) × SendsFrom before after log old new
+IsCarriedOut before after (Serve log address count seconds) unread rest old new status = (status ≡ 0) × ServesAt before after log count old new
+IsCarriedOut before after (Send log address seconds) unread rest old new status = (status ≡ 0) × SendsFrom before after log old new
 IsCarriedOut before after (Command log command) unread rest old new status = (status ≡ 0) × Answers before after log command old new
 
 -- why a task did not come to its end, and what it did until then
 abbrev pub Stops : (Fault → Type 0) → Option (List Entry) → Option (List Entry) → Task → Device → Device → Device → Device → Failure → Type 0
 Stops Fails before after Run unread rest old new failure = StopsScript unread rest old new failure
-Stops Fails before after (Serve log address count) unread rest old new failure = StopsAt Fails before after log count old new failure
-Stops Fails before after (Send log address) unread rest old new failure = StopsFrom Fails before after log old new failure
+Stops Fails before after (Serve log address count seconds) unread rest old new failure = StopsAt Fails before after log count old new failure
+Stops Fails before after (Send log address seconds) unread rest old new failure = StopsFrom Fails before after log old new failure
 Stops Fails before after (Command log command) unread rest old new failure = StopsCommand Fails before after log command old new failure

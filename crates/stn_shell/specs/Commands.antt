@@ -5,15 +5,15 @@ use Rattle.stn_net.specs.Difference.{Difference}
 use Rattle.stn_lift.specs.PlanSource.{PlanSource, bare, files, base_of}
 use Rattle.stn_records.specs.Content.{no_content}
 use Rattle.stn_records.specs.Id.{SiteCounter, id_text}
-use Rattle.stn_replica.specs.Calls.{added, withdrew, took}
+use Rattle.stn_replica.specs.Calls.{added, amended, withdrew, took}
 use Rattle.stn_replica.specs.Held.{Held, plain, executed}
 use Rattle.stn_replica.specs.Report.{IsReport}
 use Rattle.stn_exec.specs.Dispatch.{IsNextText}
-use Rattle.stn_shell.specs.Store.{Entry, IsThere, Spells, Opens, saved_too, Changes}
-use Rattle.stn_shell.specs.Words.{bound_read, execution_read, id_read, time_read}
+use Rattle.stn_store.specs.Store.{Entry, IsThere, Spells, Opens, saved_too, Changes}
+use Rattle.stn_shell.specs.Words.{amendment_read, bound_read, execution_read, id_read, time_read}
 use Rattle.stn_shell.specs.declared.command.SiteLog.{SiteLog}
 use Rattle.stn_shell.specs.declared.command.LogCommand.{LogCommand}
-use Rattle.stn_shell.specs.declared.command.LogCommand.TheVariants.{Bare, Init, Add, Withdraw, Done, Merge, Report, Next}
+use Rattle.stn_shell.specs.declared.command.LogCommand.TheVariants.{Bare, Init, Add, Amend, Withdraw, Done, Merge, Report, Next}
 
 -- the log of a source that has a base, where none was; it says nothing else
 pub record IsMade (old new : Option (List Entry)) (log : List ℕ) (source : PlanSource) (text : List ℕ) : Type 0 where
@@ -38,6 +38,16 @@ pub record IsAdded (old new : Option (List Entry)) (log : SiteLog) (from to : Li
   pub read : bound_read from to lo hi ≡ Ok bound
   pub change : Changes old new log.name.now log.site (added id (plain bound))
   pub line : text ≡ codes "added " ++ (id_text id ++ 10 ∷ [])
+
+-- a bound in the place of a record
+pub record IsAmended (old new : Option (List Entry)) (log : SiteLog) (word from to : List ℕ) (lo hi : Option (Bor (List ℕ)))
+    (text : List ℕ) : Type 0 where
+  pub replaced : SiteCounter
+  pub bound : Difference
+  pub id : SiteCounter
+  pub read : amendment_read word from to lo hi ≡ Ok (replaced, bound)
+  pub change : Changes old new log.name.now log.site (amended id replaced bound)
+  pub line : text ≡ codes "amended " ++ (id_text id ++ 10 ∷ [])
 
 -- a record by its id
 pub record IsWithdrawn (old new : Option (List Entry)) (log : SiteLog) (word text : List ℕ) : Type 0 where
@@ -83,6 +93,7 @@ abbrev pub IsAnswered : Option (List Entry) → Option (List Entry) → SiteLog 
 IsAnswered old new log (Bare steps) text = IsMade old new log.name.now (bare steps) text
 IsAnswered old new log (Init domain plan) text = IsMadeOfTexts old new log.name.now domain.now plan.now text
 IsAnswered old new log (Add from to lo hi) text = IsAdded old new log from.now to.now lo hi text
+IsAnswered old new log (Amend id from to lo hi) text = IsAmended old new log id.now from.now to.now lo hi text
 IsAnswered old new log (Withdraw id) text = IsWithdrawn old new log id.now text
 IsAnswered old new log (Done event time) text = IsDone old new log event.now time.now text
 IsAnswered old new log (Merge other) text = IsMerged old new log other.now text

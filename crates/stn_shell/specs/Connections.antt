@@ -2,13 +2,15 @@
 use Rattle.std.specs.Prelude.{◌≡◌, ◌⊎◌, ℕ, ◌<◌, List, [], ◌∷◌, ◌++◌, length, flat_map, codes, decimal, Option, Result, Ok, Err, IfOk, IfErr}
 use Rattle.stn_lift.specs.PlanSource.{PlanSource}
 use Rattle.stn_records.specs.Content.{Content}
-use Rattle.stn_shell.specs.Causes.{of_reply}
+use Rattle.stn_store.specs.Causes.{of_reply}
 use Rattle.stn_shell.specs.Printing.{Device, Prints, IsUnprinted}
-use Rattle.stn_shell.specs.Store.{Entry, saved_too, IsLack}
-use Rattle.stn_shell.specs.declared.failure.Failure.{Failure}
-use Rattle.stn_shell.specs.declared.failure.Failure.TheVariants.{Failed}
-use Rattle.stn_shell.specs.declared.failure.Fault.{Fault}
-use Rattle.stn_shell.specs.declared.failure.Fault.TheVariants as fault
+use Rattle.stn_store.specs.Store.{Entry}
+use Rattle.stn_shell.specs.Joining.{JoinsLog, IsUntaken, SavesJoin, IsUnkept}
+use Rattle.stn_shell.specs.declared.command.SiteLog.{SiteLog}
+use Rattle.stn_store.specs.declared.failure.Failure.{Failure}
+use Rattle.stn_store.specs.declared.failure.Failure.TheVariants.{Failed}
+use Rattle.stn_store.specs.declared.failure.Fault.{Fault}
+use Rattle.stn_store.specs.declared.failure.Fault.TheVariants as fault
 use Rattle.stn_session.specs.Session.{opening}
 use Rattle.stn_session.specs.Serving.{IsServed, IsBroken}
 use Rattle.stn_session.specs.Exchange.{IsReceived}
@@ -46,14 +48,17 @@ pub record IsSessionBetween (source : PlanSource) (first : Content) (answer : Re
   pub served : IfOk answer (IsServed (opening source first) before after old new last)
   pub broken : IfErr answer (IsBroken (opening source first) before after old new last)
 
--- such a session, after which the log was saved with the state that it left
-pub record IsSavedSession (source : PlanSource) (log : List ℕ) (first : Content) (old : Option (List Entry))
+-- a session that found what the log said, after which what the log said by then was taken in, and the log saved
+pub record IsSavedSession (source : PlanSource) (log : SiteLog) (first : Content) (old : Option (List Entry))
     (answer : Result Served ServeFault) (last : Content) (new : Option (List Entry)) : Type 0 where
-  pub session : IsSessionBetween source first answer last
-  pub saved : new ≡ saved_too old log (record { source = source; state = last })
+  pub found : Content
+  pub left : Content
+  pub before : JoinsLog old log source first found
+  pub session : IsSessionBetween source found answer left
+  pub saved : SavesJoin log source left last old new
 
--- sessions, each of which found what the one before it left
-abbrev pub AreSessionsBetween : PlanSource → List ℕ → Content → Option (List Entry) → List (Result Served ServeFault)
+-- sessions, each of which began with what was saved of the one before it
+abbrev pub AreSessionsBetween : PlanSource → SiteLog → Content → Option (List Entry) → List (Result Served ServeFault)
     → Content → Option (List Entry) → Type 0
 AreSessionsBetween source log first old [] last new = (last ≡ first) × (new ≡ old)
 AreSessionsBetween source log first old (answer ∷ answers) last new =
@@ -61,24 +66,31 @@ AreSessionsBetween source log first old (answer ∷ answers) last new =
     × AreSessionsBetween source log next saves answers last new
 
 -- so many sessions, the log saved after each, and their lines
-pub record Serves (count : ℕ) (source : PlanSource) (log : List ℕ) (first last : Content) (before after : Option (List Entry))
+pub record Serves (count : ℕ) (source : PlanSource) (log : SiteLog) (first last : Content) (before after : Option (List Entry))
     (old new : Device) : Type 0 where
   pub answers : List (Result Served ServeFault)
   pub many : length answers ≡ count
   pub sessions : AreSessionsBetween source log first before answers last after
   pub printed : Prints old new (flat_map session_text answers)
 
--- why no further session was served, saved and printed: no connection came; the log could not be saved, and nothing was printed; or its
--- line could not be printed, after the log was saved
-abbrev pub StopsAtSession : (Fault → Type 0) → PlanSource → List ℕ → Content → Content → Option (List Entry) → Option (List Entry)
+-- why a session was not served, or not saved: what the log says was not taken in before it; or its state was not saved
+abbrev pub IsUnservedSession : (Fault → Type 0) → PlanSource → SiteLog → Content → Content → Option (List Entry) → Failure → Type 0
+IsUnservedSession Fails source log first last entries failure =
+    (IsUntaken Fails entries log source first failure × (last ≡ first))
+    ⊎ ((found : Content) × (left : Content) × (answer : Result Served ServeFault) × JoinsLog entries log source first found
+    × IsSessionBetween source found answer left × IsUnkept Fails entries log source left last failure)
+
+-- why no further session was served, saved and printed: no connection came; it was not served or not saved, and nothing was printed; or
+-- its line could not be printed, after the log was saved
+abbrev pub StopsAtSession : (Fault → Type 0) → PlanSource → SiteLog → Content → Content → Option (List Entry) → Option (List Entry)
     → Device → Device → Failure → Type 0
 StopsAtSession Fails source log first last before after old new failure =
     ((failure ≡ Failed fault.Net) × (last ≡ first) × (after ≡ before) × (new ≡ old))
-    ⊎ ((answer : Result Served ServeFault) × IsSessionBetween source first answer last × (after ≡ before) × (new ≡ old) × IsLack Fails failure)
+    ⊎ (IsUnservedSession Fails source log first last before failure × (after ≡ before) × (new ≡ old))
     ⊎ ((answer : Result Served ServeFault) × IsSavedSession source log first before answer last after × IsUnprinted old new (session_text answer) failure)
 
 -- fewer sessions than were asked for, and why it was no more
-pub record StopsServing (Fails : Fault → Type 0) (count : ℕ) (source : PlanSource) (log : List ℕ) (first last : Content)
+pub record StopsServing (Fails : Fault → Type 0) (count : ℕ) (source : PlanSource) (log : SiteLog) (first last : Content)
     (before after : Option (List Entry)) (old new : Device) (failure : Failure) : Type 0 where
   pub served : ℕ
   pub fewer : served < count
@@ -94,11 +106,17 @@ pub record Exchanges (source : PlanSource) (first last : Content) (answer : Resu
   pub after : Option (List ℕ)
   pub received : IsReceived source first before after last answer
 
--- an exchange, after which the log was saved, and then the text of the replies printed
-pub record Sends (source : PlanSource) (log : List ℕ) (first last : Content) (before after : Option (List Entry)) (old new : Device) : Type 0 where
+-- an exchange, after which what the log said by then was taken in, and the log saved
+pub record IsSavedExchange (source : PlanSource) (log : SiteLog) (first : Content) (old : Option (List Entry))
+    (text : List ℕ) (last : Content) (new : Option (List Entry)) : Type 0 where
+  pub left : Content
+  pub exchanged : Exchanges source first left (Ok text)
+  pub saved : SavesJoin log source left last old new
+
+-- such an exchange, and then the text of the replies printed
+pub record Sends (source : PlanSource) (log : SiteLog) (first last : Content) (before after : Option (List Entry)) (old new : Device) : Type 0 where
   pub text : List ℕ
-  pub exchanged : Exchanges source first last (Ok text)
-  pub saved : after ≡ saved_too before log (record { source = source; state = last })
+  pub exchanged : IsSavedExchange source log first before text last after
   pub printed : Prints old new text
 
 -- why nothing came of an exchange: the requests could not be sent, and nothing changed; or the replies were refused, or no further one came
@@ -107,12 +125,12 @@ StopsAsking source first last failure =
     (((failure ≡ Failed fault.Write) ⊎ (failure ≡ Failed fault.Memory)) × (last ≡ first))
     ⊎ ((cause : ReplyFault) × Exchanges source first last (Err cause) × (failure ≡ of_reply cause))
 
--- why a text was not told: nothing came of the exchange, or the log could not be saved, and nothing was printed; or the text could not
--- be printed, after the log was saved
-abbrev pub StopsSending : (Fault → Type 0) → PlanSource → List ℕ → Content → Content → Option (List Entry) → Option (List Entry)
+-- why a text was not told: nothing came of the exchange, or its state was not saved, and nothing was printed; or the text could not be
+-- printed, after the log was saved
+abbrev pub StopsSending : (Fault → Type 0) → PlanSource → SiteLog → Content → Content → Option (List Entry) → Option (List Entry)
     → Device → Device → Failure → Type 0
 StopsSending Fails source log first last before after old new failure =
     (StopsAsking source first last failure × (after ≡ before) × (new ≡ old))
-    ⊎ ((text : List ℕ) × Exchanges source first last (Ok text) × IsLack Fails failure × (after ≡ before) × (new ≡ old))
-    ⊎ ((text : List ℕ) × Exchanges source first last (Ok text) × (after ≡ saved_too before log (record { source = source; state = last }))
-    × IsUnprinted old new text failure)
+    ⊎ ((text : List ℕ) × (left : Content) × Exchanges source first left (Ok text) × IsUnkept Fails before log source left last failure
+    × (after ≡ before) × (new ≡ old))
+    ⊎ ((text : List ℕ) × IsSavedExchange source log first before text last after × IsUnprinted old new text failure)

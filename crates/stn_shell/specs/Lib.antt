@@ -1,13 +1,9 @@
-pub mod Endings
-pub mod Causes
 pub mod Tasks
-pub mod Bytes
-pub mod Store
-pub mod Memory
 pub mod Words
 pub mod Refusals
 pub mod Commands
 pub mod Printing
+pub mod Joining
 pub mod Connections
 pub mod Carried
 pub mod Executed

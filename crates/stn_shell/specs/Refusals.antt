@@ -4,16 +4,16 @@ use Rattle.stn_lift.specs.PlanSource.{PlanSource, bare, files, base_of}
 use Rattle.stn_lift.specs.declared.fault.BaseFault.{BaseFault}
 use Rattle.stn_replica.specs.Held.{Held}
 use Rattle.stn_replica.specs.declared.faults.ReplicaFault.{ReplicaFault}
-use Rattle.stn_replica.specs.Refusals.{add_refusal, done_refusal, withdraw_refusal, take_refusal}
-use Rattle.stn_shell.specs.Causes.{of_base, of_replica, other_plan, log_there}
-use Rattle.stn_shell.specs.Store.{Entry, IsThere, Spells, Opens, IsMissing, IsUnopened}
-use Rattle.stn_shell.specs.Words.{bound_read, execution_read, id_read, time_read}
+use Rattle.stn_replica.specs.Refusals.{add_refusal, amend_refusal, done_refusal, withdraw_refusal, take_refusal}
+use Rattle.stn_store.specs.Causes.{of_base, of_replica, other_plan, log_there}
+use Rattle.stn_store.specs.Store.{Entry, IsThere, Spells, Opens, IsMissing, IsUnopened}
+use Rattle.stn_shell.specs.Words.{amendment_read, bound_read, execution_read, id_read, time_read}
 use Rattle.stn_shell.specs.declared.command.SiteLog.{SiteLog}
 use Rattle.stn_shell.specs.declared.command.LogCommand.{LogCommand}
-use Rattle.stn_shell.specs.declared.command.LogCommand.TheVariants.{Bare, Init, Add, Withdraw, Done, Merge, Report, Next}
-use Rattle.stn_shell.specs.declared.failure.Failure.{Failure}
-use Rattle.stn_shell.specs.declared.failure.Failure.TheVariants.{Failed}
-use Rattle.stn_shell.specs.declared.failure.Fault.TheVariants.{Memory}
+use Rattle.stn_shell.specs.declared.command.LogCommand.TheVariants.{Bare, Init, Add, Amend, Withdraw, Done, Merge, Report, Next}
+use Rattle.stn_store.specs.declared.failure.Failure.{Failure}
+use Rattle.stn_store.specs.declared.failure.Failure.TheVariants.{Failed}
+use Rattle.stn_store.specs.declared.failure.Fault.TheVariants.{Memory}
 
 -- words that can't be read refuse the command; else it goes on with what they say
 abbrev pub WithWords : {X : Type 0} → Result X Failure → (X → Option Failure → Type 0) → Option Failure → Type 0
@@ -55,6 +55,8 @@ IsRefusalOf entries log (Init domain plan) = WhereFree entries log.name.now
     (WithText entries domain.now (λ actions. WithText entries plan.now (λ steps. IsBaseRefusal (files actions steps))))
 IsRefusalOf entries log (Add from to lo hi) = WithWords (bound_read from.now to.now lo hi)
     (λ bound. WithLog entries log.name.now log.site (λ held cause. cause ≡ option_map of_replica (add_refusal held bound)))
+IsRefusalOf entries log (Amend id from to lo hi) = WithWords (amendment_read id.now from.now to.now lo hi)
+    (λ said. WithLog entries log.name.now log.site (λ held cause. cause ≡ option_map of_replica (amend_refusal held said.0 said.1)))
 IsRefusalOf entries log (Withdraw id) = WithWords (id_read id.now)
     (λ which. WithLog entries log.name.now log.site (λ held cause. cause ≡ option_map of_replica (withdraw_refusal held which)))
 IsRefusalOf entries log (Done event time) = WithWords (execution_read event.now time.now)

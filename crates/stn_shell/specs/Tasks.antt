@@ -5,7 +5,7 @@ use Rattle.stn_line.specs.declared.words.Line.{Line}
 use Rattle.stn_line.specs.declared.words.Line.TheVariants as line
 use Rattle.stn_shell.specs.declared.command.SiteLog.{SiteLog}
 use Rattle.stn_shell.specs.declared.command.LogCommand.{LogCommand}
-use Rattle.stn_shell.specs.declared.command.LogCommand.TheVariants.{Bare, Init, Add, Withdraw, Done, Merge, Report, Next}
+use Rattle.stn_shell.specs.declared.command.LogCommand.TheVariants.{Bare, Init, Add, Amend, Withdraw, Done, Merge, Report, Next}
 use Rattle.stn_shell.specs.declared.command.Task.{Task}
 use Rattle.stn_shell.specs.declared.command.Task.TheVariants.{Run, Serve, Send, Command}
 
@@ -19,11 +19,12 @@ on_log name site command = Command (site_log name site) command
 
 abbrev pub task_of : Line → Task
 task_of line.Run = Run
-task_of (line.Serve log site address count) = Serve (site_log log site) address count
-task_of (line.Send log site address) = Send (site_log log site) address
+task_of (line.Serve log site address count seconds) = Serve (site_log log site) address count seconds
+task_of (line.Send log site address seconds) = Send (site_log log site) address seconds
 task_of (line.Bare log site steps) = on_log log site (Bare steps)
 task_of (line.Init log site domain plan) = on_log log site (Init domain plan)
 task_of (line.Add log site from to lo hi) = on_log log site (Add from to lo hi)
+task_of (line.Amend log site id from to lo hi) = on_log log site (Amend id from to lo hi)
 task_of (line.Withdraw log site id) = on_log log site (Withdraw id)
 task_of (line.Done log site event time) = on_log log site (Done event time)
 task_of (line.Merge log site other) = on_log log site (Merge other)

@@ -9,8 +9,8 @@ use Rattle.stn_records.specs.Id.{SiteCounter}
 use Rattle.stn_replica.specs.Held.{difference}
 use Rattle.stn_exec.specs.Command.{event_of, id_of}
 use Rattle.stn_exec.specs.Effect.{and_then}
-use Rattle.stn_shell.specs.Causes.{of_time, no_such_word}
-use Rattle.stn_shell.specs.declared.failure.Failure.{Failure}
+use Rattle.stn_store.specs.Causes.{of_time, no_such_word}
+use Rattle.stn_store.specs.declared.failure.Failure.{Failure}
 
 -- what a word names
 abbrev pub named : {X : Type 0} → Option X → Result X Failure
@@ -44,6 +44,13 @@ bound_read from to lo hi =
     and_then (side_read (neg_ℤ horizon) lo) (λ least.
     and_then (side_read horizon hi) (λ greatest.
     Ok (difference first second least greatest)))))
+
+-- the id of the record to replace, and the bound in its place
+unfoldable pub amendment_read : List ℕ → List ℕ → List ℕ → Option (Bor (List ℕ)) → Option (Bor (List ℕ)) → Result (SiteCounter × Difference) Failure
+amendment_read id from to lo hi =
+    and_then (id_read id) (λ old.
+    and_then (bound_read from to lo hi) (λ bound.
+    Ok (old, bound)))
 
 -- an event, and when it took place
 unfoldable pub execution_read : List ℕ → List ℕ → Result (ℕ × ℤ) Failure

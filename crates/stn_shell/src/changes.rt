@@ -1,22 +1,22 @@
 //! What a command does to a replica, or asks of it.
 
-ghost use Rattle.std.specs.Prelude.{◌≡◌, ◌++◌, codes, [], ◌∷◌, None, OnOk, IfOk, IfErr};
+ghost use Rattle.std.specs.Prelude.{◌≡◌, ◌++◌, codes, [], ◌∷◌, None, OnOk, OnErr, IfOk, IfErr};
 ghost use Rattle.stn_records.specs.Id.{id_text, SiteCounter};
-ghost use Rattle.stn_replica.specs.Calls.{added, withdrew, took, Leaves};
+ghost use Rattle.stn_replica.specs.Calls.{added, amended, withdrew, took, Leaves};
 ghost use Rattle.stn_replica.specs.Held.{difference, plain, executed};
-ghost use Rattle.stn_replica.specs.Refusals.{add_refusal, done_refusal, withdraw_refusal, take_refusal};
+ghost use Rattle.stn_replica.specs.Refusals.{add_refusal, amend_refusal, done_refusal, withdraw_refusal, take_refusal};
 ghost use Rattle.stn_replica.specs.Report.{IsReport};
 ghost use Rattle.stn_exec.specs.Dispatch.{IsNextText};
 ghost use Rattle.stn_shell.specs.Refusals.{IsCallFailure, IsMergeFailure};
-ghost use Rattle.stn_shell.specs.declared.failure.Failure.TheVariants.{Failed};
-ghost use Rattle.stn_shell.specs.declared.failure.Fault.TheVariants as lack;
+ghost use Rattle.stn_store.specs.declared.failure.Failure.TheVariants.{Failed};
+ghost use Rattle.stn_store.specs.declared.failure.Fault.TheVariants as lack;
 
-use crate::failure::Failure;
 use std::alloc::Allocator;
 use stn_exec::append_next;
 use stn_net::Event;
 use stn_records::Id;
 use stn_replica::Replica;
+use stn_store::Failure;
 use stn_time::{Memory, Ms};
 
 /// A bound between two events, as it is asked for: it may not be one.
@@ -42,6 +42,23 @@ pub fn add<A: Allocator + Copy>(
 {
     let id = replica.add(bound.from, bound.to, bound.lo, bound.hi)?;
     Ok(id_line(alloc, b"added ", id)?)
+}
+
+/// Adds a bound in the place of a record: what is printed for it.
+pub fn amend<A: Allocator + Copy>(
+    alloc: A,
+    replica: &mut Replica<A>,
+    old: Id,
+    bound: AskedBound,
+) -> Result<Vec<u8, A>, Failure>
+    ensures done { IfOk result (λ text. (id : SiteCounter)
+        × Leaves replica.old (amended id old (difference bound.from bound.to bound.lo bound.hi)) replica.new
+        × (text.items ≡ codes "amended " ++ (id_text id ++ 10 ∷ []))) }
+    ensures accepted { OnOk result (amend_refusal replica.old old (difference bound.from bound.to bound.lo bound.hi) ≡ None) }
+    ensures refused { IfErr result (IsCallFailure (amend_refusal replica.old old (difference bound.from bound.to bound.lo bound.hi))) }
+{
+    let id = replica.amend(old, bound.from, bound.to, bound.lo, bound.hi)?;
+    Ok(id_line(alloc, b"amended ", id)?)
 }
 
 /// Records that an event took place: what is printed for it.
@@ -87,13 +104,28 @@ pub fn merge<A: Allocator + Copy>(
     ensures accepted { OnOk result (take_refusal replica.old other.now.state ≡ None) }
     ensures refused { IfErr result (IsMergeFailure replica.old other.now) }
 {
+    take_in(replica, other)?;
+    let mut text = Vec::new(alloc);
+    text.extend_from_slice(b"merged\n")?;
+    Ok(text)
+}
+
+/// Takes all that another replica of the same plan holds. A refusal changes nothing.
+pub fn take_in<A: Allocator + Copy>(
+    replica: &mut Replica<A>,
+    other: &Replica<A>,
+) -> Result<(), Failure>
+    ensures same { OnOk result (replica.old.source ≡ other.now.source) }
+    ensures left { OnOk result (Leaves replica.old (took other.now.state) replica.new) }
+    ensures accepted { OnOk result (take_refusal replica.old other.now.state ≡ None) }
+    ensures refused { IfErr result (IsMergeFailure replica.old other.now) }
+    ensures kept { OnErr result (replica.new ≡ replica.old) }
+{
     if !replica.base().same(other.base()) {
         return Err(Failure::other_plan());
     }
     replica.take(other.records())?;
-    let mut text = Vec::new(alloc);
-    text.extend_from_slice(b"merged\n")?;
-    Ok(text)
+    Ok(())
 }
 
 /// The report.

@@ -34,6 +34,14 @@ pub enum LogCommand<'a> {
         lo: Option<&'a str>,
         hi: Option<&'a str>,
     },
+    /// Adds a bound in the place of a record, which is replaced for good; a side that is not given is open.
+    Amend {
+        id: &'a str,
+        from: &'a str,
+        to: &'a str,
+        lo: Option<&'a str>,
+        hi: Option<&'a str>,
+    },
     /// Withdraws a record.
     Withdraw {
         id: &'a str,
@@ -60,16 +68,18 @@ pub enum LogCommand<'a> {
 pub enum Task<'a> {
     /// Runs a script.
     Run,
-    /// Serves connections at an address, one after another.
+    /// Serves connections at an address, one after another; each session may take so many seconds.
     Serve {
         log: SiteLog<'a>,
         address: &'a str,
         count: u16,
+        seconds: u16,
     },
-    /// Exchanges records with the site that serves at an address.
+    /// Exchanges records with the site that serves at an address, for so many seconds at most.
     Send {
         log: SiteLog<'a>,
         address: &'a str,
+        seconds: u16,
     },
     /// Does a command of a log.
     Command {
@@ -90,21 +100,25 @@ impl<'a> Task<'a> {
                 site,
                 address,
                 count,
+                seconds,
             } => {
                 return Task::Serve {
                     log: SiteLog { name, site },
                     address,
                     count,
+                    seconds,
                 };
             }
             Line::Send {
                 log: name,
                 site,
                 address,
+                seconds,
             } => {
                 return Task::Send {
                     log: SiteLog { name, site },
                     address,
+                    seconds,
                 };
             }
             Line::Bare { log, site, steps } => (log, site, LogCommand::Bare { steps }),
@@ -122,6 +136,25 @@ impl<'a> Task<'a> {
                 lo,
                 hi,
             } => (log, site, LogCommand::Add { from, to, lo, hi }),
+            Line::Amend {
+                log,
+                site,
+                id,
+                from,
+                to,
+                lo,
+                hi,
+            } => (
+                log,
+                site,
+                LogCommand::Amend {
+                    id,
+                    from,
+                    to,
+                    lo,
+                    hi,
+                },
+            ),
             Line::Withdraw { log, site, id } => (log, site, LogCommand::Withdraw { id }),
             Line::Done {
                 log,

@@ -4,18 +4,17 @@ ghost use Rattle.std.specs.Prelude.{◌≡◌, ◌⊎◌, false, Some, None, OnO
 ghost use Rattle.stn_lift.specs.PlanSource.{plan_source};
 ghost use Rattle.stn_shell.specs.Commands.{IsAnswered, IsMade};
 ghost use Rattle.stn_shell.specs.Refusals.{IsRefusalOf, IsBaseRefusal};
-ghost use Rattle.stn_shell.specs.Store.{IsThere, IsLack};
+ghost use Rattle.stn_store.specs.Store.{IsThere, IsMissing, IsTaken, IsLack};
 ghost use Rattle.stn_shell.specs.declared.command.LogCommand.TheVariants as of;
 
-use crate::changes::{AskedBound, add, done, merge, next, report, withdraw};
+use crate::changes::{add, amend, done, merge, next, report, withdraw};
 use crate::command::{LogCommand, SiteLog};
-use crate::failure::Failure;
-use crate::store::Store;
-use crate::words::{open_sides, read_event, read_id, read_side, read_time};
+use crate::words::{read_bound, read_event, read_id, read_time};
 use std::alloc::Global;
 use std::rc::Rc;
 use stn_lift::{Base, Source};
 use stn_replica::Replica;
+use stn_store::{Failure, Fault, Store};
 
 /// Does a command of a log: the answer. A refused command changes nothing; nor does one for which memory is wanting or a device of
 /// the store fails.
@@ -35,11 +34,29 @@ pub fn answer<S: Store>(
         LogCommand::Bare { steps } => make_bare(alloc, store, log, *steps),
         LogCommand::Init { domain, plan } => make_of_texts(alloc, store, log, *domain, *plan),
         LogCommand::Add { from, to, lo, hi } => add_to(alloc, store, log, *from, *to, *lo, *hi),
+        LogCommand::Amend {
+            id,
+            from,
+            to,
+            lo,
+            hi,
+        } => amend_in(alloc, store, log, *id, *from, *to, *lo, *hi),
         LogCommand::Withdraw { id } => withdraw_from(alloc, store, log, *id),
         LogCommand::Done { event, time } => done_at(alloc, store, log, *event, *time),
         LogCommand::Merge { other } => merge_with(alloc, store, log, *other),
         LogCommand::Report => report_of(alloc, store, log),
         LogCommand::Next { now } => next_of(alloc, store, log, *now),
+    }
+}
+
+// Holds a log that is there. No other program changes it until what is held is dropped.
+fn hold_log<S: Store>(store: &S, name: &str) -> Result<S::Held, Failure>
+    ensures { IfErr result (λ failure. IsMissing (S.entries store.now) name.now failure ⊎ IsLack S.fails failure) }
+{
+    if store.is_there(name)? {
+        store.hold(name)
+    } else {
+        Err(Failure::Failed(Fault::File))
     }
 }
 
@@ -54,7 +71,8 @@ fn make<S: Store>(
     ensures done { IfOk result (λ text. IsMade (S.entries store.old) (S.entries store.new) log.now.name.now
         (plan_source source.now) text.items) }
     ensures accepted { OnOk result (IsBaseRefusal (plan_source source.now) None) }
-    ensures refused { IfErr result (λ failure. IsBaseRefusal (plan_source source.now) (Some failure) ⊎ IsLack S.fails failure) }
+    ensures refused { IfErr result (λ failure. IsBaseRefusal (plan_source source.now) (Some failure)
+        ⊎ IsTaken (S.entries store.old) log.now.name.now failure ⊎ IsLack S.fails failure) }
     ensures unsaved { OnErr result (S.entries store.new ≡ S.entries store.old) }
 {
     let base = Base::from_source(alloc, source)?;
@@ -62,7 +80,8 @@ fn make<S: Store>(
     let replica = Replica::new(alloc, log.site, base)?;
     let mut text = Vec::new(alloc);
     text.extend_from_slice(b"made\n")?;
-    store.save(log.name, &replica)?;
+    let _held = store.hold(log.name)?;
+    store.save_new(log.name, &replica)?;
     Ok(text)
 }
 
@@ -120,13 +139,35 @@ fn add_to<S: Store>(
         ⊎ IsLack S.fails failure) }
     ensures unsaved { OnErr result (S.entries store.new ≡ S.entries store.old) }
 {
-    let from = read_event(from)?;
-    let to = read_event(to)?;
-    let (least, greatest) = open_sides();
-    let lo = read_side(lo, least)?;
-    let hi = read_side(hi, greatest)?;
+    let bound = read_bound(from, to, lo, hi)?;
+    let _held = hold_log(store, log.name)?;
     let mut replica = store.load(log.name, log.site)?;
-    let text = add(alloc, &mut replica, AskedBound { from, to, lo, hi })?;
+    let text = add(alloc, &mut replica, bound)?;
+    store.save(log.name, &replica)?;
+    Ok(text)
+}
+
+fn amend_in<S: Store>(
+    alloc: Global,
+    store: &mut S,
+    log: &SiteLog<'_>,
+    id: &str,
+    from: &str,
+    to: &str,
+    lo: Option<&str>,
+    hi: Option<&str>,
+) -> Result<Vec<u8>, Failure>
+    ensures done { IfOk result (λ text. IsAnswered (S.entries store.old) (S.entries store.new) log.now (of.Amend id.entry from.entry to.entry lo.entry hi.entry) text.items) }
+    ensures accepted { OnOk result (IsRefusalOf (S.entries store.old) log.now (of.Amend id.entry from.entry to.entry lo.entry hi.entry) None) }
+    ensures refused { IfErr result (λ failure. IsRefusalOf (S.entries store.old) log.now (of.Amend id.entry from.entry to.entry lo.entry hi.entry) (Some failure)
+        ⊎ IsLack S.fails failure) }
+    ensures unsaved { OnErr result (S.entries store.new ≡ S.entries store.old) }
+{
+    let old = read_id(id)?;
+    let bound = read_bound(from, to, lo, hi)?;
+    let _held = hold_log(store, log.name)?;
+    let mut replica = store.load(log.name, log.site)?;
+    let text = amend(alloc, &mut replica, old, bound)?;
     store.save(log.name, &replica)?;
     Ok(text)
 }
@@ -144,6 +185,7 @@ fn withdraw_from<S: Store>(
     ensures unsaved { OnErr result (S.entries store.new ≡ S.entries store.old) }
 {
     let id = read_id(id)?;
+    let _held = hold_log(store, log.name)?;
     let mut replica = store.load(log.name, log.site)?;
     let text = withdraw(alloc, &mut replica, id)?;
     store.save(log.name, &replica)?;
@@ -165,6 +207,7 @@ fn done_at<S: Store>(
 {
     let event = read_event(event)?;
     let time = read_time(time)?;
+    let _held = hold_log(store, log.name)?;
     let mut replica = store.load(log.name, log.site)?;
     let text = done(alloc, &mut replica, event, time)?;
     store.save(log.name, &replica)?;
@@ -183,6 +226,7 @@ fn merge_with<S: Store>(
         ⊎ IsLack S.fails failure) }
     ensures unsaved { OnErr result (S.entries store.new ≡ S.entries store.old) }
 {
+    let _held = hold_log(store, log.name)?;
     let mut replica = store.load(log.name, log.site)?;
     let other = store.load(other, log.site)?;
     let text = merge(alloc, &mut replica, &other)?;

@@ -1,32 +1,36 @@
 //! A task, from its words to its status.
 
-ghost use Rattle.std.specs.Prelude.{◌<◌, ◌≤◌, ◌-◌, ◌^◌, ◌++◌, [], ◌∷◌, map, codes, IfOk, IfErr, OnOk};
+ghost use Rattle.std.specs.Prelude.{◌≡◌, ◌⊎◌, ◌<◌, ◌≤◌, ◌-◌, ◌*◌, ◌^◌, ◌++◌, [], ◌∷◌, map, codes, IfOk, IfErr, OnOk};
 ghost use Rattle.clap.specs.Words.{kind_of};
 ghost use Rattle.stn_device.specs.Counted.{failure_count};
 ghost use Rattle.stn_shell.specs.Carried.{RunsScript, StopsScript, ServesAt, StopsAt, SendsFrom, StopsFrom, Answers, StopsCommand, IsCarriedOut, Stops, StopsListening};
 ghost use Rattle.stn_shell.specs.Executed.{IsSaid, IsExecuted};
 ghost use Rattle.stn_shell.specs.Printing.{device_of, Prints};
+ghost use Rattle.stn_store.specs.Store.{Opens, IsUnopened, IsLack};
+ghost use Rattle.std.specs.Duration.{as_nanos};
 
 use crate::command::{LogCommand, SiteLog, Task};
 use crate::commands::answer;
-use crate::connections::{exchange, serve_each};
-use crate::failure::{Failure, Fault};
-use crate::files::FileStore;
+use crate::connections::{Service, exchange, serve_each};
+use crate::peer::Peer;
 use crate::printing::{print, print_now, tell_failure, tell_fault};
-use crate::store::Store;
 use std::alloc::Global;
+use std::fs::File;
 use std::io::{Read, Write};
 use std::net::{Net, TcpListener, TcpStream};
 use std::rt::Files;
+use std::time::{Clock, Duration};
 use stn_device::{Counted, write_whole};
 use stn_exec::run;
 use stn_line::{LineFault, line};
+use stn_replica::Replica;
+use stn_store::{Failure, Fault, FileStore, Store};
 
 /// Does the command of the words, of which the first is the program's name, and says its status: 0 where nothing was refused
 /// and no device failed, 1 where something was, 2 where the words are no command's. An answer or a refusal is printed to `out`,
 /// a device's fault to `err`.
 pub fn execute<
-    T: Files + AllocGlobal + Net<Listener = TcpListener, Stream = TcpStream>,
+    T: Files<File = File> + AllocGlobal + Clock + Net<Listener = TcpListener, Stream = TcpStream>,
     R: Read,
     W: Write,
     E: Write,
@@ -91,7 +95,7 @@ fn tell_words<W: Write, E: Write>(
 // Does a task, and prints its answer: the status, or why there is none.
 fn do_task<
     S: Store,
-    T: AllocGlobal + Net<Listener = TcpListener, Stream = TcpStream>,
+    T: AllocGlobal + Clock + Net<Listener = TcpListener, Stream = TcpStream>,
     R: Read,
     W: Write,
 >(
@@ -117,12 +121,17 @@ fn do_task<
             log,
             address,
             count,
+            seconds,
         } => {
-            serve_at(rt, store, log, *address, *count, out)?;
+            serve_at(rt, store, log, *address, *count, limit(*seconds), out)?;
             Ok(0)
         }
-        Task::Send { log, address } => {
-            send_to(rt, store, log, *address, out)?;
+        Task::Send {
+            log,
+            address,
+            seconds,
+        } => {
+            send_to(rt, store, log, *address, limit(*seconds), out)?;
             Ok(0)
         }
         Task::Command { log, command } => {
@@ -167,13 +176,25 @@ fn do_command<S: Store, W: Write>(
     print(&text, out)
 }
 
+// How long a session or an exchange of so many seconds may take.
+fn limit(seconds: u16) -> Duration
+    ensures { as_nanos result ≡ seconds * 1_000_000_000 }
+{
+    Duration::from_secs(u64::from(seconds))
+}
+
 // Serves a log at an address.
-fn serve_at<S: Store, T: AllocGlobal + Net<Listener = TcpListener, Stream = TcpStream>, W: Write>(
+fn serve_at<
+    S: Store,
+    T: AllocGlobal + Clock + Net<Listener = TcpListener, Stream = TcpStream>,
+    W: Write,
+>(
     rt: &T,
     store: &mut S,
     log: &SiteLog<'_>,
     address: &str,
     count: u16,
+    limit: Duration,
     out: &mut Counted<W>,
 ) -> Result<(), Failure>
     ensures done { OnOk result (ServesAt (S.entries store.old) (S.entries store.new) log.now count
@@ -181,17 +202,24 @@ fn serve_at<S: Store, T: AllocGlobal + Net<Listener = TcpListener, Stream = TcpS
     ensures stopped { IfErr result (StopsAt S.fails (S.entries store.old) (S.entries store.new) log.now count
         (device_of W.contents out.old) (device_of W.contents out.new)) }
 {
-    let mut replica = store.load(log.name, log.site)?;
+    let mut replica = open(store, log)?;
     let listener = listen(rt, address, out)?;
-    serve_each(
-        rt.alloc(),
-        store,
-        &listener,
+    let service = Service {
+        listener: &listener,
         count,
-        log.name,
-        &mut replica,
-        out,
-    )
+        limit,
+    };
+    serve_each(rt, store, &service, log, &mut replica, out)
+}
+
+// The replica of a log that can be saved.
+fn open<S: Store>(store: &S, log: &SiteLog<'_>) -> Result<Replica<Global>, Failure>
+    ensures opened { IfOk result (λ replica. Opens (S.entries store.now) log.now.name.now log.now.site replica) }
+    ensures failed { IfErr result (λ failure. IsUnopened (S.entries store.now) log.now.name.now failure ⊎ IsLack S.fails failure) }
+{
+    let replica = store.load(log.name, log.site)?;
+    store.can_save(log.name)?;
+    Ok(replica)
 }
 
 // Binds an address, and says so.
@@ -214,11 +242,12 @@ fn listen<T: Net<Listener = TcpListener, Stream = TcpStream>, W: Write>(
 }
 
 // Exchanges with the site that serves at an address.
-fn send_to<S: Store, T: AllocGlobal + Net<Listener = TcpListener, Stream = TcpStream>, W: Write>(
+fn send_to<S: Store, T: AllocGlobal + Clock + Net<Stream = TcpStream>, W: Write>(
     rt: &T,
     store: &mut S,
     log: &SiteLog<'_>,
     address: &str,
+    limit: Duration,
     out: &mut Counted<W>,
 ) -> Result<(), Failure>
     ensures done { OnOk result (SendsFrom (S.entries store.old) (S.entries store.new) log.now
@@ -227,8 +256,6 @@ fn send_to<S: Store, T: AllocGlobal + Net<Listener = TcpListener, Stream = TcpSt
         (device_of W.contents out.old) (device_of W.contents out.new)) }
 {
     let mut replica = store.load(log.name, log.site)?;
-    match TcpStream::connect(rt, address) {
-        Ok(stream) => exchange(rt.alloc(), store, &stream, log.name, &mut replica, out),
-        Err(_) => Err(Failure::Failed(Fault::Net)),
-    }
+    let peer = Peer::connect(rt, address, limit)?;
+    exchange(rt, store, &peer, log, &mut replica, out)
 }

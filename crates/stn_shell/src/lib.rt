@@ -3,24 +3,18 @@
 
 pub use command::{LogCommand, SiteLog, Task};
 pub use commands::answer;
-pub use connections::{send_on, serve_on};
+pub use connections::{Service, send_on, serve_on};
 pub use execution::execute;
-pub use failure::{Argument, Failure, Fault, Refusal};
-pub use files::FileStore;
-pub use memory::MemoryStore;
+pub use peer::Peer;
 pub use process::program;
-pub use store::Store;
 
 mod changes;
 mod command;
 mod commands;
 mod connections;
 mod execution;
-mod failure;
-mod files;
-mod memory;
+mod joining;
+mod peer;
 mod printing;
 mod process;
-mod reading;
-mod store;
 mod words;

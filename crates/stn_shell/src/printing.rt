@@ -3,10 +3,10 @@
 ghost use Rattle.std.specs.Prelude.{OnOk, IfErr};
 ghost use Rattle.stn_shell.specs.Printing.{device_of, Prints, IsUnprinted, TellsFault, TellsRefusal, Tells};
 
-use crate::failure::{Failure, Fault, Refusal};
 use std::alloc::Allocator;
 use std::io::Write;
 use stn_device::{Counted, write_whole};
+use stn_store::{Failure, Fault, Refusal};
 
 /// Prints a text.
 pub fn print<W: Write>(text: &[u8], out: &mut Counted<W>) -> Result<(), Failure>

@@ -1,12 +1,14 @@
 //! What the words of a command say.
 
-ghost use Rattle.std.specs.Prelude.{◌≡◌, neg_ℤ};
+ghost use Rattle.std.specs.Prelude.{◌≡◌, neg_ℤ, Ok, Err, IfOk, IfErr};
 ghost use Rattle.stn_time.specs.Time.{horizon};
-ghost use Rattle.stn_shell.specs.Words.{event_read, id_read, time_read, side_read};
+ghost use Rattle.stn_replica.specs.Held.{difference};
+ghost use Rattle.stn_shell.specs.Words.{bound_read, event_read, id_read, time_read, side_read};
 
-use crate::failure::Failure;
+use crate::changes::AskedBound;
 use stn_net::Event;
 use stn_records::Id;
+use stn_store::Failure;
 use stn_time::{HORIZON, Ms};
 
 /// The event that a word names.
@@ -39,8 +41,8 @@ pub fn read_time(word: &str) -> Result<Ms, Failure>
     }
 }
 
-/// The side of a bound that a word spells; the open one, where there is no word.
-pub fn read_side(word: Option<&str>, open_side: Ms) -> Result<Ms, Failure>
+// The side of a bound that a word spells; the open one, where there is no word.
+fn read_side(word: Option<&str>, open_side: Ms) -> Result<Ms, Failure>
     ensures { result ≡ side_read open_side word.entry }
 {
     match word {
@@ -49,8 +51,34 @@ pub fn read_side(word: Option<&str>, open_side: Ms) -> Result<Ms, Failure>
     }
 }
 
-/// The least and the greatest difference.
-pub fn open_sides() -> (Ms, Ms)
+/// The bound that the words of two events and of its two sides spell; a side without a word is open.
+#[tactic(auto, unfolding(crate::specs::Words::bound_read))]
+pub fn read_bound(
+    from: &str,
+    to: &str,
+    lo: Option<&str>,
+    hi: Option<&str>,
+) -> Result<AskedBound, Failure>
+    ensures said { IfOk result (λ bound. bound_read from.now to.now lo.entry hi.entry ≡ Ok (difference bound.from bound.to bound.lo bound.hi)) }
+    ensures refused { IfErr result (λ failure. bound_read from.now to.now lo.entry hi.entry ≡ Err failure) }
+{
+    let (least, greatest) = open_sides();
+    match (
+        read_event(from),
+        read_event(to),
+        read_side(lo, least),
+        read_side(hi, greatest),
+    ) {
+        (Ok(from), Ok(to), Ok(lo), Ok(hi)) => Ok(AskedBound { from, to, lo, hi }),
+        (Err(failure), _, _, _) => Err(failure),
+        (_, Err(failure), _, _) => Err(failure),
+        (_, _, Err(failure), _) => Err(failure),
+        (_, _, _, Err(failure)) => Err(failure),
+    }
+}
+
+// The least and the greatest difference.
+fn open_sides() -> (Ms, Ms)
     ensures { (result.0 ≡ neg_ℤ horizon) × (result.1 ≡ horizon) }
 {
     (Ms::new(-HORIZON).unwrap(), Ms::new(HORIZON).unwrap())

@@ -1,7 +1,7 @@
 use Rattle.std.proofs.Common.{refl, codes}
 use Rattle.clap.specs.Matches.{found_of}
 use Rattle.clap.specs.Walk.{rows_of}
-use Rattle.stn_line.proofs.OfStn.{bare_there, init_there, add_there, withdraw_there, done_there, merge_there, report_there, next_there, serve_there, send_there, entered_has, is_send}
+use Rattle.stn_line.proofs.OfStn.{bare_there, init_there, add_there, amend_there, withdraw_there, done_there, merge_there, report_there, next_there, serve_there, send_there, entered_has, is_send}
 use Rattle.stn_line.proofs.Values.{entered_is}
 use Rattle.stn_line.proofs.reading.read.Goals as goal
 
@@ -36,6 +36,22 @@ add-requires-clause-from c =
 pub add-requires-clause-to : goal.add-requires-clause-to
 add-requires-clause-to c =
     (add_there (rows_of (found_of c.unwrap.result.1.now)) (entered_has c.args.matches.now c.subcommand.result c.unwrap.result c.subcommand.ensures.name c.subcommand.ensures.rows c.unwrap.ensures c.requires (codes "add") c.in-add.is)).2
+
+pub amend-requires-clause-log : goal.amend-requires-clause-log
+amend-requires-clause-log c =
+    (amend_there (rows_of (found_of c.unwrap.result.1.now)) (entered_has c.args.matches.now c.subcommand.result c.unwrap.result c.subcommand.ensures.name c.subcommand.ensures.rows c.unwrap.ensures c.requires (codes "amend") c.in-amend.is)).0
+
+pub amend-requires-clause-id : goal.amend-requires-clause-id
+amend-requires-clause-id c =
+    (amend_there (rows_of (found_of c.unwrap.result.1.now)) (entered_has c.args.matches.now c.subcommand.result c.unwrap.result c.subcommand.ensures.name c.subcommand.ensures.rows c.unwrap.ensures c.requires (codes "amend") c.in-amend.is)).1
+
+pub amend-requires-clause-from : goal.amend-requires-clause-from
+amend-requires-clause-from c =
+    (amend_there (rows_of (found_of c.unwrap.result.1.now)) (entered_has c.args.matches.now c.subcommand.result c.unwrap.result c.subcommand.ensures.name c.subcommand.ensures.rows c.unwrap.ensures c.requires (codes "amend") c.in-amend.is)).2
+
+pub amend-requires-clause-to : goal.amend-requires-clause-to
+amend-requires-clause-to c =
+    (amend_there (rows_of (found_of c.unwrap.result.1.now)) (entered_has c.args.matches.now c.subcommand.result c.unwrap.result c.subcommand.ensures.name c.subcommand.ensures.rows c.unwrap.ensures c.requires (codes "amend") c.in-amend.is)).3
 
 pub withdraw-requires-clause-log : goal.withdraw-requires-clause-log
 withdraw-requires-clause-log c =
@@ -88,21 +104,31 @@ pub serve-requires-clause-count : goal.serve-requires-clause-count
 serve-requires-clause-count c =
     (serve_there (rows_of (found_of c.unwrap.result.1.now)) (entered_has c.args.matches.now c.subcommand.result c.unwrap.result c.subcommand.ensures.name c.subcommand.ensures.rows c.unwrap.ensures c.requires (codes "serve") c.in-serve.is)).2
 
+pub serve-requires-clause-seconds : goal.serve-requires-clause-seconds
+serve-requires-clause-seconds c =
+    (serve_there (rows_of (found_of c.unwrap.result.1.now)) (entered_has c.args.matches.now c.subcommand.result c.unwrap.result c.subcommand.ensures.name c.subcommand.ensures.rows c.unwrap.ensures c.requires (codes "serve") c.in-serve.is)).3
+
 pub send-requires-clause-log : goal.send-requires-clause-log
 send-requires-clause-log c =
     let named = is_send c.unwrap.result.0.now (rows_of (found_of c.unwrap.result.1.now)) (entered_has c.args.matches.now c.subcommand.result c.unwrap.result c.subcommand.ensures.name c.subcommand.ensures.rows c.unwrap.ensures c.requires c.unwrap.result.0.now refl)
-    c.in_default.not-run c.in_default.not-bare c.in_default.not-init c.in_default.not-add c.in_default.not-withdraw c.in_default.not-done c.in_default.not-merge c.in_default.not-report c.in_default.not-next c.in_default.not-serve in
+    c.in_default.not-run c.in_default.not-bare c.in_default.not-init c.in_default.not-add c.in_default.not-amend c.in_default.not-withdraw c.in_default.not-done c.in_default.not-merge c.in_default.not-report c.in_default.not-next c.in_default.not-serve in
     (send_there (rows_of (found_of c.unwrap.result.1.now)) (entered_has c.args.matches.now c.subcommand.result c.unwrap.result c.subcommand.ensures.name c.subcommand.ensures.rows c.unwrap.ensures c.requires (codes "send") named)).0
 
 pub send-requires-clause-address : goal.send-requires-clause-address
 send-requires-clause-address c =
     let named = is_send c.unwrap.result.0.now (rows_of (found_of c.unwrap.result.1.now)) (entered_has c.args.matches.now c.subcommand.result c.unwrap.result c.subcommand.ensures.name c.subcommand.ensures.rows c.unwrap.ensures c.requires c.unwrap.result.0.now refl)
-    c.in_default.not-run c.in_default.not-bare c.in_default.not-init c.in_default.not-add c.in_default.not-withdraw c.in_default.not-done c.in_default.not-merge c.in_default.not-report c.in_default.not-next c.in_default.not-serve in
+    c.in_default.not-run c.in_default.not-bare c.in_default.not-init c.in_default.not-add c.in_default.not-amend c.in_default.not-withdraw c.in_default.not-done c.in_default.not-merge c.in_default.not-report c.in_default.not-next c.in_default.not-serve in
     (send_there (rows_of (found_of c.unwrap.result.1.now)) (entered_has c.args.matches.now c.subcommand.result c.unwrap.result c.subcommand.ensures.name c.subcommand.ensures.rows c.unwrap.ensures c.requires (codes "send") named)).1
+
+pub send-requires-clause-seconds : goal.send-requires-clause-seconds
+send-requires-clause-seconds c =
+    let named = is_send c.unwrap.result.0.now (rows_of (found_of c.unwrap.result.1.now)) (entered_has c.args.matches.now c.subcommand.result c.unwrap.result c.subcommand.ensures.name c.subcommand.ensures.rows c.unwrap.ensures c.requires c.unwrap.result.0.now refl)
+    c.in_default.not-run c.in_default.not-bare c.in_default.not-init c.in_default.not-add c.in_default.not-amend c.in_default.not-withdraw c.in_default.not-done c.in_default.not-merge c.in_default.not-report c.in_default.not-next c.in_default.not-serve in
+    (send_there (rows_of (found_of c.unwrap.result.1.now)) (entered_has c.args.matches.now c.subcommand.result c.unwrap.result c.subcommand.ensures.name c.subcommand.ensures.rows c.unwrap.ensures c.requires (codes "send") named)).2
 
 pub returns-in_default : goal.returns-in_default
 returns-in_default c =
     let named = is_send c.unwrap.result.0.now (rows_of (found_of c.unwrap.result.1.now)) (entered_has c.args.matches.now c.subcommand.result c.unwrap.result c.subcommand.ensures.name c.subcommand.ensures.rows c.unwrap.ensures c.requires c.unwrap.result.0.now refl)
-    c.in_default.not-run c.in_default.not-bare c.in_default.not-init c.in_default.not-add c.in_default.not-withdraw c.in_default.not-done c.in_default.not-merge c.in_default.not-report c.in_default.not-next c.in_default.not-serve in
+    c.in_default.not-run c.in_default.not-bare c.in_default.not-init c.in_default.not-add c.in_default.not-amend c.in_default.not-withdraw c.in_default.not-done c.in_default.not-merge c.in_default.not-report c.in_default.not-next c.in_default.not-serve in
     let entered = entered_is c.args.matches.now c.subcommand.result c.unwrap.result c.subcommand.ensures.name c.subcommand.ensures.rows c.unwrap.ensures in
     rw (entered, named) c.send.ensures

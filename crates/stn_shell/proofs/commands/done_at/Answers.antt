@@ -1,9 +1,9 @@
 use Rattle.std.proofs.Common.{◌≡◌, refl, sym, ap, inl, inr, ⊎_elim, Ok, Err}
 use Rattle.std.specs.Prelude.{option_map}
 use Rattle.std.proofs.lemmas.Result.{err_from_is_err_and}
-use Rattle.stn_shell.specs.Causes.{of_replica}
+use Rattle.stn_store.specs.Causes.{of_replica}
 use Rattle.stn_shell.specs.Words.{execution_read}
-use Rattle.stn_shell.proofs.Lacks.{lack_of_memory}
+use Rattle.stn_store.proofs.Lacks.{lack_of_memory}
 use Rattle.stn_shell.proofs.Chains.{event_fails, time_fails, execution_says}
 use Rattle.stn_shell.proofs.commands.done_at.Goals as goal
 
@@ -20,6 +20,13 @@ returns-in_err-time-clause-refused g c =
     let e : execution_read c.args.event.now c.args.time.now ≡ Err c.in_err-time.field-0.0 = time_fails _ _ _ _ (sym c.in_ok-event.ensures) (sym c.in_err-time.ensures) in
     rw (p.1, p.2)
     (inl (rw e refl))
+
+pub returns-in_err-_held-clause-refused : goal.returns-in_err-_held-clause-refused
+returns-in_err-_held-clause-refused g c =
+    let p = err_from_is_err_and c.from_residual-in_err-_held.result c.from_residual-in_err-_held.ensures.1 in
+    let e : execution_read c.args.event.now c.args.time.now ≡ Ok (c.in_ok-event.event, c.in_ok-time.time) = execution_says _ _ _ _ (sym c.in_ok-event.ensures) (sym c.in_ok-time.ensures) in
+    rw (p.1, p.2)
+    (⊎_elim (λ u. inl (rw e (inl (_, inl u, refl)))) inr c.in_err-_held.ensures)
 
 pub returns-in_err-replica-clause-refused : goal.returns-in_err-replica-clause-refused
 returns-in_err-replica-clause-refused g c =

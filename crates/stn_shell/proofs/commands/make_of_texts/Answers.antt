@@ -1,6 +1,6 @@
 use Rattle.std.proofs.Common.{true, false, Some, refl, ap, subst, inl, inr, ⊎_elim}
 use Rattle.std.proofs.lemmas.Result.{err_from_is_err_and, on_ok_weaker, IfErr-weaker}
-use Rattle.stn_shell.specs.Store.{IsThere}
+use Rattle.stn_store.specs.Store.{IsThere}
 use Rattle.stn_shell.proofs.commands.make_of_texts.Goals as goal
 
 pub returns-then-branch-clause-refused : goal.returns-then-branch-clause-refused
@@ -40,5 +40,5 @@ returns-clause-refused g c =
     IfErr-weaker c.make.result _ _
     (λ failure why. ⊎_elim
     (λ cause. inl (inr (free, inr (c.in_ok-domain.domain.items, c.in_ok-domain.ensures.spelled, inr (c.in_ok-plan.plan.items, c.in_ok-plan.ensures.spelled, cause)))))
-    inr why)
+    (⊎_elim (λ taken. inl (inl (taken.0, ap Some taken.1))) inr) why)
     c.make.ensures.refused

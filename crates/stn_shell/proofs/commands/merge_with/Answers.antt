@@ -1,13 +1,13 @@
 use Rattle.std.proofs.Common.{refl, sym, ap, inl, inr, ⊎_elim}
 use Rattle.std.specs.Prelude.{option_map}
 use Rattle.std.proofs.lemmas.Result.{err_from_is_err_and}
-use Rattle.stn_shell.specs.Causes.{of_replica}
-use Rattle.stn_shell.proofs.Lacks.{lack_of_memory}
+use Rattle.stn_store.specs.Causes.{of_replica}
+use Rattle.stn_store.proofs.Lacks.{lack_of_memory}
 use Rattle.stn_shell.proofs.commands.merge_with.Goals as goal
 
 pub returns-in_err-replica-clause-refused : goal.returns-in_err-replica-clause-refused
 returns-in_err-replica-clause-refused g c =
-    let p = err_from_is_err_and c.from_residual.result c.from_residual.ensures.1 in
+    let p = err_from_is_err_and c.from_residual-in_err-replica.result c.from_residual-in_err-replica.ensures.1 in
     rw (p.1, p.2)
     (⊎_elim (λ u. inl (inl (_, u, refl))) inr c.in_err-replica.ensures.failed)
 

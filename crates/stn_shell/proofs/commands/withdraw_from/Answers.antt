@@ -1,8 +1,8 @@
 use Rattle.std.proofs.Common.{refl, sym, ap, inl, inr, ⊎_elim}
 use Rattle.std.specs.Prelude.{option_map}
 use Rattle.std.proofs.lemmas.Result.{err_from_is_err_and}
-use Rattle.stn_shell.specs.Causes.{of_replica}
-use Rattle.stn_shell.proofs.Lacks.{lack_of_memory}
+use Rattle.stn_store.specs.Causes.{of_replica}
+use Rattle.stn_store.proofs.Lacks.{lack_of_memory}
 use Rattle.stn_shell.proofs.commands.withdraw_from.Goals as goal
 
 pub returns-in_err-id-clause-refused : goal.returns-in_err-id-clause-refused

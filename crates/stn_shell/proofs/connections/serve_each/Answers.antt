@@ -10,7 +10,7 @@ pub returns-in_err-serve_next-clause-stopped : goal.returns-in_err-serve_next-cl
 returns-in_err-serve_next-clause-stopped g c =
     let p = err_from_is_err_and c.from_residual.result c.from_residual.ensures.1 in
     let i = c.connections.invariant in
-    let few : c.connections.counter < c.args.count = omega (arith, c.connections-test.true) in
+    let few : c.connections.counter < c.args.service.now.count = omega (arith, c.connections-test.true) in
     rw (p.1, p.2) (stops_serving _ _ _ _ _ _ _ _ _ _ _ _ _ _ _ _ i.served i.source few c.in_err-serve_next.ensures.stopped)
 
 pub returns-in_err-serve_next-clause-source : goal.returns-in_err-serve_next-clause-source
@@ -31,7 +31,7 @@ connections-preserved g c =
 
 pub returns-clause-served : goal.returns-clause-served
 returns-clause-served g c =
-    let all : c.connections.counter ≡ c.args.count = omega (arith, c.connections.auto.counter-end, c.connections-test.false) in
+    let all : c.connections.counter ≡ c.args.service.now.count = omega (arith, c.connections.auto.counter-end, c.connections-test.false) in
     rw all at c.connections.invariant.served
 
 pub returns-clause-source : goal.returns-clause-source

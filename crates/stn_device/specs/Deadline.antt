@@ -1,0 +1,36 @@
+-- A deadline, and how time passes at a stream: in nanoseconds of the stream's clock, where that is known.
+use Rattle.std.specs.Prelude.{◌≡◌, ◌⊎◌, ℕ, ◌+◌, ◌<◌, ◌≤◌, Option, Some, None, Result, IsErr, ⊤}
+use Rattle.std.specs.Duration.{as_nanos}
+use Rattle.stn_device.specs.declared.deadline.Deadline.{Deadline}
+use Rattle.stn_device.specs.declared.deadline.UntilDeadline.{UntilDeadline}
+
+-- the moment at which the time is over
+abbrev pub end_of : Deadline → ℕ
+end_of deadline = as_nanos deadline.end
+
+-- the stream whose calls have a deadline
+abbrev pub timed_stream : {S : Type 0} → UntilDeadline S → S
+timed_stream until = until.stream
+
+-- a clock that is known shows this time
+abbrev pub ShowsTime : Option ℕ → ℕ → Type 0
+ShowsTime None now = ⊤
+ShowsTime (Some time) now = now ≡ time
+
+-- so much time is left until the end, and some is; of a clock that is not known this says only that
+abbrev pub IsTimeLeft : ℕ → Option ℕ → ℕ → Type 0
+IsTimeLeft end None left = 0 < left
+IsTimeLeft end (Some time) left = (0 < left) × (time + left ≡ end)
+
+-- no more time passed than the limit
+abbrev pub PassesAtMost : Option ℕ → Option ℕ → ℕ → Type 0
+PassesAtMost None new limit = ⊤
+PassesAtMost (Some old) None limit = ⊥
+PassesAtMost (Some old) (Some new) limit = (old ≤ new) × (new ≤ old + limit)
+
+-- a call that began before the deadline is over by then; from the deadline on each call fails, and takes no time
+abbrev pub KeepsDeadline : {T E : Type 0} → ℕ → Option ℕ → Option ℕ → Result T E → Type 0
+KeepsDeadline end None new answer = ⊤
+KeepsDeadline end (Some old) None answer = ⊥
+KeepsDeadline end (Some old) (Some new) answer =
+    ((old < end) × (old ≤ new) × (new ≤ end)) ⊎ ((end ≤ old) × (new ≡ old) × IsErr answer)

@@ -1,0 +1,45 @@
+//! Connections whose calls can be given a time.
+
+use crate::deadline::TimedStream;
+use std::io::{self, Read, Write};
+use std::net::TcpStream;
+use std::time::{Clock, Duration};
+
+/// A connection, and a clock.
+#[derive(Drop)]
+pub struct Connection<'a, C> {
+    clock: &'a C,
+    stream: &'a TcpStream,
+}
+
+impl<'a, C> Connection<'a, C> {
+    /// The connection, timed by the clock.
+    pub fn new(clock: &'a C, stream: &'a TcpStream) -> Connection<'a, C> {
+        Connection { clock, stream }
+    }
+}
+
+// What a peer sends and takes, and when, is known to no clause.
+impl<C: Clock> TimedStream for Connection<'_, C> {
+    ghost use Rattle.std.specs.Prelude.{None};
+
+    ghost remaining = { λ _. None };
+
+    ghost contents = { λ _. None };
+
+    ghost time = { λ _. None };
+
+    fn now(&self) -> io::Result<Duration> {
+        self.clock.monotonic()
+    }
+
+    fn read_within(&mut self, buf: &mut [u8], limit: Duration) -> io::Result<usize> {
+        self.stream.set_read_timeout(Some(limit))?;
+        self.stream.read(buf)
+    }
+
+    fn write_within(&mut self, buf: &[u8], limit: Duration) -> io::Result<usize> {
+        self.stream.set_write_timeout(Some(limit))?;
+        self.stream.write(buf)
+    }
+}

@@ -1,0 +1,63 @@
+-- What a log says, taken in before a session and after it.
+use Rattle.std.proofs.Common.{◌≡◌, ◌∙◌, ℕ, List, Option, Result, Ok, Err, OnOk, sym, subst, inl, inr}
+use Rattle.stn_lift.specs.PlanSource.{PlanSource}
+use Rattle.stn_records.specs.Content.{Content}
+use Rattle.stn_replica.specs.Calls.{Leaves, took}
+use Rattle.stn_replica.specs.Held.{Held}
+use Rattle.stn_session.specs.declared.session.Served.{Served}
+use Rattle.stn_session.specs.declared.session.ServeFault.{ServeFault}
+use Rattle.stn_store.specs.Store.{Entry, Opens}
+use Rattle.stn_store.specs.declared.failure.Failure.{Failure}
+use Rattle.stn_store.specs.declared.failure.Fault.{Fault}
+use Rattle.stn_shell.specs.Connections.{IsSessionBetween, IsSavedSession, IsUnservedSession, Exchanges, IsSavedExchange}
+use Rattle.stn_shell.specs.Joining.{JoinsLog, SavesJoin, IsUnkept}
+use Rattle.stn_shell.specs.declared.command.SiteLog.{SiteLog}
+
+-- a state that was taken in
+pub join_taken : {T E : Type 0} (answer : Result T E) (entries : Option (List Entry)) (log : SiteLog) (old said new : Held)
+    → Opens entries log.name.now log.site said → OnOk answer (old.source ≡ said.source) → OnOk answer (Leaves old (took said.state) new)
+    → OnOk answer (JoinsLog entries log old.source old.state new.state)
+join_taken (Ok done) entries log old said new opened same left = inr (said, opened, sym same, left.state)
+join_taken (Err failure) entries log old said new opened same left = tt
+
+-- a session between the two
+pub saved_session : (source here there : PlanSource) (log : SiteLog) (first found left last : Content) (old new : Option (List Entry))
+    (answer : Result Served ServeFault) → here ≡ source → there ≡ here → JoinsLog old log source first found
+    → IsSessionBetween here found answer left → SavesJoin log there left last old new → IsSavedSession source log first old answer last new
+saved_session source here there log first found left last old new answer same still before session saved = record {
+  found = found;
+  left = left;
+  before = before;
+  session = subst (λ (plan : PlanSource). IsSessionBetween plan found answer left) same session;
+  saved = subst (λ (plan : PlanSource). SavesJoin log plan left last old new) (still ∙ same) saved;
+}
+
+-- one whose state was not saved
+pub unkept_session : (Fails : Fault → Type 0) (source here there : PlanSource) (log : SiteLog) (first found left last : Content)
+    (entries : Option (List Entry)) (answer : Result Served ServeFault) (failure : Failure) → here ≡ source → there ≡ here
+    → JoinsLog entries log source first found → IsSessionBetween here found answer left
+    → IsUnkept Fails entries log there left last failure → IsUnservedSession Fails source log first last entries failure
+unkept_session Fails source here there log first found left last entries answer failure same still before session unkept = inr (
+  found,
+  left,
+  answer,
+  before,
+  subst (λ (plan : PlanSource). IsSessionBetween plan found answer left) same session,
+  subst (λ (plan : PlanSource). IsUnkept Fails entries log plan left last failure) (still ∙ same) unkept,
+)
+
+-- an exchange and what was taken in after it
+pub saved_exchange : (source here : PlanSource) (log : SiteLog) (first left last : Content) (old new : Option (List Entry)) (text : List ℕ)
+    → here ≡ source → Exchanges source first left (Ok text) → SavesJoin log here left last old new
+    → IsSavedExchange source log first old text last new
+saved_exchange source here log first left last old new text same exchanged saved = record {
+  left = left;
+  exchanged = exchanged;
+  saved = subst (λ (plan : PlanSource). SavesJoin log plan left last old new) same saved;
+}
+
+-- one whose state was not saved
+pub unkept_exchange : (Fails : Fault → Type 0) (source here : PlanSource) (log : SiteLog) (left last : Content) (entries : Option (List Entry))
+    (failure : Failure) → here ≡ source → IsUnkept Fails entries log here left last failure → IsUnkept Fails entries log source left last failure
+unkept_exchange Fails source here log left last entries failure same unkept =
+    subst (λ (plan : PlanSource). IsUnkept Fails entries log plan left last failure) same unkept

@@ -1,0 +1,15 @@
+use Rattle.std.proofs.Common.{inl, inr, ⊎_elim}
+use Rattle.std.proofs.lemmas.Result.{IfErr-weaker}
+use Rattle.stn_store.proofs.Lacks.{lack_of_memory}
+use Rattle.stn_shell.proofs.Joined.{join_taken}
+use Rattle.stn_shell.proofs.joining.take_log.Goals as goal
+
+pub returns-in_ok-said-clause-taken : goal.returns-in_ok-said-clause-taken
+returns-in_ok-said-clause-taken g c =
+    join_taken c.take_in.result _ c.args.log.now _ _ _ c.in_ok-said.ensures.opened c.take_in.ensures.same c.take_in.ensures.left
+
+pub returns-in_ok-said-clause-untaken : goal.returns-in_ok-said-clause-untaken
+returns-in_ok-said-clause-untaken g c = IfErr-weaker c.take_in.result _ _
+    (λ failure refused. ⊎_elim (λ memory. inl (lack_of_memory _ _ memory))
+    (λ refusal. inr (inr (c.in_ok-said.said, c.in_ok-said.ensures.opened, refusal))) refused)
+    c.take_in.ensures.refused

@@ -1,7 +1,0 @@
-use Rattle.std.proofs.Common.{◌≡◌, option_map, map, take}
-use Rattle.stn_shell.specs.Store.{bytes_under}
-use Rattle.stn_shell.specs.Memory.{entry_of}
-use Rattle.stn_shell.proofs.memory.MemoryStore.get.Given as goal
-
-abbrev pub invariant-loop-entry : goal.invariant-loop-entry
-invariant-loop-entry l = option_map (λ bytes. bytes.now) l.found ≡ bytes_under (map entry_of (take l.entry-index l.entry-items)) l.name

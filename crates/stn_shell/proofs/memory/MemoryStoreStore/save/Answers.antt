@@ -1,8 +1,0 @@
-use Rattle.std.proofs.lemmas.Result.{err_from_is_err_and}
-use Rattle.stn_shell.proofs.Lacks.{lack_of_memory}
-use Rattle.stn_shell.proofs.memory.MemoryStoreStore.save.Goals as goal
-
-pub returns-in_err-text-clause-failed : goal.returns-in_err-text-clause-failed
-returns-in_err-text-clause-failed c =
-    let p = err_from_is_err_and c.from_residual.result c.from_residual.ensures.1 in
-    rw (p.1, p.2) (lack_of_memory _ _ c.in_err-text.ensures.failed)

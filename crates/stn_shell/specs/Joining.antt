@@ -1,0 +1,35 @@
+-- What a log says by now, taken in by a replica of its plan.
+use Rattle.std.specs.Prelude.{◌≡◌, ◌⊎◌, true, false, List, Option, Some}
+use Rattle.stn_lift.specs.PlanSource.{PlanSource}
+use Rattle.stn_records.specs.Content.{Content, join_contents}
+use Rattle.stn_replica.specs.Held.{Held, holding_state}
+use Rattle.stn_shell.specs.Refusals.{IsMergeRefusal}
+use Rattle.stn_shell.specs.declared.command.SiteLog.{SiteLog}
+use Rattle.stn_store.specs.Store.{Entry, IsThere, Opens, IsUnopened, IsLack, saved_too}
+use Rattle.stn_store.specs.declared.failure.Failure.{Failure}
+use Rattle.stn_store.specs.declared.failure.Fault.{Fault}
+
+-- a state joined with the one that the log says; a log that is gone says nothing
+abbrev pub JoinsLog : Option (List Entry) → SiteLog → PlanSource → Content → Content → Type 0
+JoinsLog entries log source first last =
+    (IsThere entries log.name.now false × (last ≡ first))
+    ⊎ ((said : Held) × Opens entries log.name.now log.site said × (said.source ≡ source) × (join_contents first said.state ≡ Some last))
+
+-- why it can't be: memory was wanting or a device of the store failed; the log is there and can't be opened; or it is another plan's, or
+-- says what can't be taken in
+abbrev pub IsUntaken : (Fault → Type 0) → Option (List Entry) → SiteLog → PlanSource → Content → Failure → Type 0
+IsUntaken Fails entries log source state failure =
+    IsLack Fails failure
+    ⊎ (IsThere entries log.name.now true × IsUnopened entries log.name.now failure)
+    ⊎ ((said : Held) × Opens entries log.name.now log.site said × IsMergeRefusal (holding_state source state) said (Some failure))
+
+-- the join, and the log saved with it
+abbrev pub SavesJoin : SiteLog → PlanSource → Content → Content → Option (List Entry) → Option (List Entry) → Type 0
+SavesJoin log source first last old new =
+    JoinsLog old log source first last × (new ≡ saved_too old log.name.now (record { source = source; state = last }))
+
+-- why it was not saved, and what state was left: the log was not held, or it was not taken in; or the join was not saved
+abbrev pub IsUnkept : (Fault → Type 0) → Option (List Entry) → SiteLog → PlanSource → Content → Content → Failure → Type 0
+IsUnkept Fails entries log source first last failure =
+    (IsUntaken Fails entries log source first failure × (last ≡ first))
+    ⊎ (JoinsLog entries log source first last × IsLack Fails failure)

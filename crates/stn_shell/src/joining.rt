@@ -1,0 +1,49 @@
+//! What a log says by now, taken in by a replica.
+
+ghost use Rattle.std.specs.Prelude.{◌≡◌, OnOk, OnErr, IfErr};
+ghost use Rattle.stn_shell.specs.Joining.{JoinsLog, IsUntaken, SavesJoin, IsUnkept};
+ghost use Rattle.stn_store.specs.Store.{Opens};
+
+use crate::changes::take_in;
+use crate::command::SiteLog;
+use std::alloc::Global;
+use stn_replica::Replica;
+use stn_store::{Failure, Store};
+
+/// Takes in what a log says. A log that is gone says nothing. A refusal or a fault changes nothing.
+pub fn take_log<S: Store>(
+    store: &S,
+    log: &SiteLog<'_>,
+    replica: &mut Replica<Global>,
+) -> Result<(), Failure>
+    ensures taken { OnOk result (JoinsLog (S.entries store.now) log.now replica.old.source replica.old.state replica.new.state) }
+    ensures untaken { IfErr result (IsUntaken S.fails (S.entries store.now) log.now replica.old.source replica.old.state) }
+    ensures kept { OnErr result (replica.new ≡ replica.old) }
+    ensures source { replica.new.source ≡ replica.old.source }
+    ensures site { replica.new.site ≡ replica.old.site }
+{
+    if store.is_there(log.name)? {
+        let said = store.load(log.name, log.site)?;
+        take_in(replica, &said)
+    } else {
+        Ok(())
+    }
+}
+
+/// Takes in what a log says by now, and saves the join. No other program changes the log meanwhile.
+pub fn save_join<S: Store>(
+    store: &mut S,
+    log: &SiteLog<'_>,
+    replica: &mut Replica<Global>,
+) -> Result<(), Failure>
+    ensures saved { OnOk result (SavesJoin log.now replica.old.source replica.old.state replica.new.state
+        (S.entries store.old) (S.entries store.new)) }
+    ensures unkept { IfErr result (IsUnkept S.fails (S.entries store.old) log.now replica.old.source replica.old.state replica.new.state) }
+    ensures unsaved { OnErr result (S.entries store.new ≡ S.entries store.old) }
+    ensures source { replica.new.source ≡ replica.old.source }
+    ensures site { replica.new.site ≡ replica.old.site }
+{
+    let _held = store.hold(log.name)?;
+    take_log(store, log, replica)?;
+    store.save(log.name, replica)
+}

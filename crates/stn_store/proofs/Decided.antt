@@ -1,0 +1,77 @@
+-- What a log and a text are that were read.
+use Rattle.std.proofs.Common.{◌≡◌, ℕ, ◌+◌, ◌<◌, ◌≤◌, List, [], ◌++◌, length, take, Option, Some, None, Result, Err, refl, sym, ap, subst, ◌∙◌, inl, inr, append-nil, arith}
+use Rattle.std.proofs.lemmas.List.{take_all, length-take}
+use Rattle.std.specs.Prelude.{IfSome, ◌⊎◌, option_map}
+use Rattle.std.specs.Io.KnownBytes.{Consumes, IsAtEnd}
+use Rattle.stn_device.specs.declared.whole.ReadFault.{ReadFault}
+use Rattle.stn_device.specs.declared.whole.ReadFault.TheVariants as read
+use Rattle.stn_text.specs.Bytes.{most_text}
+use Rattle.stn_log.specs.Log.{Log, IsLog, IsDecided, meaning_of}
+use Rattle.stn_log.specs.declared.fault.LoadFault.{LoadFault}
+use Rattle.stn_log.specs.declared.fault.LoadFault.TheVariants as load
+use Rattle.stn_store.specs.Bytes.{IsLogIn, IsTextIn}
+use Rattle.stn_store.specs.Causes.{of_load, of_read}
+use Rattle.stn_store.specs.declared.failure.Failure.TheVariants.{Failed}
+use Rattle.stn_store.specs.declared.failure.Fault.TheVariants.{Memory, Read, Bound}
+
+at_end : (read rest : List ℕ) (meaning : Result Log LoadFault) → rest ≡ [] → IsLog read meaning → IsLog (read ++ rest) meaning
+at_end read rest meaning e log = subst (λ (bytes : List ℕ). IsLog bytes meaning) (sym (ap (λ (more : List ℕ). read ++ more) e ∙ append-nil read)) log
+
+-- what was read has a meaning, and so have the bytes
+pub decided_log : (known rest : Option (List ℕ)) (meaning : Result Log LoadFault) → IsDecided known rest meaning → IsLogIn known meaning
+decided_log None rest meaning (read, consumed, inl ended) = (read, tt, ended.1)
+decided_log None rest meaning (read, consumed, inr all) = (read ++ [], tt, all [])
+decided_log (Some bytes) None meaning (read, consumed, ends) = absurd consumed
+decided_log (Some bytes) (Some rest) meaning (read, consumed, inl ended) = (read ++ rest, consumed, at_end read rest meaning ended.0 ended.1)
+decided_log (Some bytes) (Some rest) meaning (read, consumed, inr all) = (read ++ rest, consumed, all rest)
+
+-- why a log was not loaded
+pub load_failed : (known rest : Option (List ℕ)) (fault : LoadFault) → IfSome (meaning_of (Err fault)) (IsDecided known rest)
+    → (of_load fault ≡ Failed Memory) ⊎ ((of_load fault ≡ Failed Read)
+    ⊎ ((cause : LoadFault) × IsLogIn known (Err cause) × (of_load fault ≡ of_load cause)))
+load_failed known rest load.Memory decided = inl refl
+load_failed known rest load.Read decided = inr (inl refl)
+load_failed known rest load.Bound decided = inr (inr (_, decided_log known rest _ decided, refl))
+load_failed known rest load.LogForm decided = inr (inr (_, decided_log known rest _ decided, refl))
+load_failed known rest (load.Frame fault) decided = inr (inr (_, decided_log known rest _ decided, refl))
+load_failed known rest (load.Base fault) decided = inr (inr (_, decided_log known rest _ decided, refl))
+load_failed known rest (load.Take fault) decided = inr (inr (_, decided_log known rest _ decided, refl))
+
+pub decided_log_of : (known first rest : Option (List ℕ)) (meaning : Result Log LoadFault) → first ≡ known → IsDecided first rest meaning
+    → IsLogIn known meaning
+decided_log_of known first rest meaning same decided =
+    subst (λ (bytes : Option (List ℕ)). IsLogIn bytes meaning) same (decided_log first rest meaning decided)
+
+pub load_failed_of : (known first rest : Option (List ℕ)) (fault : LoadFault) → first ≡ known
+    → IfSome (meaning_of (Err fault)) (IsDecided first rest)
+    → (of_load fault ≡ Failed Memory) ⊎ ((of_load fault ≡ Failed Read)
+    ⊎ ((cause : LoadFault) × IsLogIn known (Err cause) × (of_load fault ≡ of_load cause)))
+load_failed_of known first rest fault same decided = load_failed known rest fault
+    (subst (λ (bytes : Option (List ℕ)). IfSome (meaning_of (Err fault)) (IsDecided bytes rest)) same decided)
+
+-- a text of which no more was read than a limit
+pub text_read : (known first rest : Option (List ℕ)) (limit : ℕ) (text : List ℕ) → first ≡ option_map (take limit) known → limit ≡ most_text + 1
+    → Consumes first rest text → IsAtEnd rest → length text ≤ most_text + 1 → IsTextIn known text
+text_read None first rest limit text e limited consumed ended short = (text, tt, sym (take_all (most_text + 1) text short))
+text_read (Some bytes) None rest limit text e limited consumed ended short = absurd (cc)
+text_read (Some bytes) (Some first) None limit text e limited consumed ended short = absurd consumed
+text_read (Some bytes) (Some first) (Some rest) limit text e limited consumed ended short =
+    let whole : first ≡ text = consumed ∙ ap (λ (more : List ℕ). text ++ more) ended ∙ append-nil text in
+    let cut : first ≡ take limit bytes = cc in
+    (bytes, refl, sym whole ∙ cut ∙ ap (λ (n : ℕ). take n bytes) limited)
+
+-- a reader whose bytes are known gives no more than the limit
+pub text_unbound : (known first : Option (List ℕ)) (limit : ℕ) → first ≡ option_map (take limit) known → limit ≡ most_text + 1
+    → IfSome first (λ input. most_text + 1 < length input) → known ≡ None
+text_unbound None first limit e limited long = refl
+text_unbound (Some bytes) first limit e limited long =
+    let at : IfSome (Some (take limit bytes)) (λ input. most_text + 1 < length input) = subst (λ (input : Option (List ℕ)). IfSome input (λ xs. most_text + 1 < length xs)) e long in
+    absurd (omega (arith, at, length-take limit bytes, limited))
+
+-- why a text was not read
+pub text_failed : (known first : Option (List ℕ)) (limit : ℕ) (fault : ReadFault) → first ≡ option_map (take limit) known → limit ≡ most_text + 1
+    → (fault ≡ read.Bound → IfSome first (λ input. most_text + 1 < length input))
+    → (of_read fault ≡ Failed Memory) ⊎ ((of_read fault ≡ Failed Read) ⊎ ((of_read fault ≡ Failed Bound) × (known ≡ None)))
+text_failed known first limit read.Memory e limited long = inl refl
+text_failed known first limit read.Read e limited long = inr (inl refl)
+text_failed known first limit read.Bound e limited long = inr (inr (refl, text_unbound known first limit e limited (long refl)))

@@ -1,0 +1,19 @@
+use Rattle.std.proofs.Common.{Err, ap, ◌∙◌, take}
+use Rattle.std.specs.Prelude.{option_map}
+use Rattle.std.specs.Io.Take.{take_remaining}
+use Rattle.std.proofs.lemmas.Result.{err_from_is_err_and}
+use Rattle.stn_store.proofs.Decided.{text_read, text_failed}
+use Rattle.stn_store.proofs.reading.read_text.Goals as goal
+
+pub returns-in_err-read_whole-clause-failed : goal.returns-in_err-read_whole-clause-failed
+returns-in_err-read_whole-clause-failed g c =
+    let p = err_from_is_err_and c.from_residual.result c.from_residual.ensures.1 in
+    let first = ap (take_remaining g.R.Read.remaining) c.new-counted.ensures.device
+    ∙ ap (λ inner. option_map (take c.take.result.limit) (g.R.Read.remaining inner)) c.take.ensures.inner in
+    rw (p.1, p.2) (text_failed _ _ _ c.in_err-read_whole.field-0.0 first c.take.ensures.limit (λ e. c.in_err-read_whole.ensures.bound (ap Err e)))
+
+pub returns-clause-text : goal.returns-clause-text
+returns-clause-text g c =
+    let first = ap (take_remaining g.R.Read.remaining) c.new-counted.ensures.device
+    ∙ ap (λ inner. option_map (take c.take.result.limit) (g.R.Read.remaining inner)) c.take.ensures.inner in
+    text_read _ _ _ _ _ first c.take.ensures.limit c.in_ok-read_whole.ensures.bytes c.in_ok-read_whole.ensures.end c.in_ok-read_whole.ensures.within

@@ -1,0 +1,126 @@
+//! Files that this program makes beside a log.
+
+ghost use Rattle.std.specs.Prelude.{IfErr, ⊤};
+ghost use Rattle.stn_store.specs.Store.{IsLack};
+
+use crate::failure::{Failure, Fault};
+use std::alloc::Global;
+use std::fs::{self, File, Metadata, OpenFile, OpenOptions};
+use std::io::{self, ErrorKind};
+use std::os::unix::fs::{MetadataExt, OpenOptionsExt, fchown};
+use std::rt::Files;
+use stn_device::Counted;
+use stn_log::save;
+use stn_replica::Replica;
+
+/// Who may read and write a new file; the system takes away what the umask says.
+pub const NEW_MODE: u32 = 0o666;
+
+/// The same of a file that is given the mode of another one.
+const OWN_MODE: u32 = 0o600;
+
+/// What a call on files answers.
+pub fn of_files<X: Drop>(answer: io::Result<X>) -> Result<X, Failure>
+    ensures { IfErr result (IsLack (λ _. ⊤)) }
+{
+    match answer {
+        Ok(value) => Ok(value),
+        Err(_) => Err(Failure::Failed(Fault::File)),
+    }
+}
+
+/// Makes a file where nothing is, not even a link.
+pub fn make_file<T: Files>(rt: &T, path: &str, mode: u32) -> io::Result<T::File> {
+    let mut options = OpenOptions::new();
+    options.read(true);
+    options.write(true);
+    options.create_new(true);
+    options.mode(mode);
+    options.open(rt, path)
+}
+
+/// Opens an empty file. What is no file, or isn't empty, is left alone.
+pub fn open_empty<T: Files>(rt: &T, path: &str) -> io::Result<T::File> {
+    let found = fs::symlink_metadata(rt, path)?;
+    if !found.is_file() || found.len() != 0 {
+        return Err(io::Error::from(ErrorKind::AlreadyExists));
+    }
+    let mut options = OpenOptions::new();
+    options.read(true);
+    options.write(true);
+    match options.open(rt, path) {
+        Err(error) if error.kind() == ErrorKind::PermissionDenied => fs::open(rt, path),
+        opened => opened,
+    }
+}
+
+/// Makes a file beside a log, under the first of its names that is free: its path, and the file.
+pub fn make_beside<T: Files + AllocGlobal>(
+    rt: &T,
+    log: &str,
+    mode: u32,
+) -> Result<(String, T::File), Failure>
+    ensures { IfErr result (IsLack (λ _. ⊤)) }
+{
+    for number in 0..u32::MAX {
+        let path = format!(in rt.alloc(); "{log}.saving-{number}")?;
+        match make_file(rt, path.as_str(), mode) {
+            Ok(file) => return Ok((path, file)),
+            Err(error) if error.kind() == ErrorKind::AlreadyExists => {}
+            Err(_) => break,
+        }
+    }
+    Err(Failure::Failed(Fault::File))
+}
+
+/// Writes the log of a replica beside the one that is there, with its mode and, where the system lets it, its owner, and waits
+/// until the device has it: the path. Where that can't be, no file is left.
+pub fn write_beside<T: Files<File = File> + AllocGlobal>(
+    rt: &T,
+    log: &str,
+    old: Option<&Metadata>,
+    replica: &Replica<Global>,
+) -> Result<String, Failure>
+    ensures { IfErr result (IsLack (λ _. ⊤)) }
+{
+    let mode = if old.is_some() { OWN_MODE } else { NEW_MODE };
+    let (path, file) = make_beside(rt, log, mode)?;
+    match fill(rt.alloc(), file, old, replica) {
+        Ok(()) => Ok(path),
+        Err(failure) => {
+            let _ = fs::remove_file(rt, path.as_str());
+            Err(failure)
+        }
+    }
+}
+
+// Writes the log of a replica into a file.
+fn fill(
+    alloc: Global,
+    file: File,
+    old: Option<&Metadata>,
+    replica: &Replica<Global>,
+) -> Result<(), Failure>
+    ensures { IfErr result (IsLack (λ _. ⊤)) }
+{
+    if let Some(old) = old {
+        of_files(keep(&file, old))?;
+    }
+    let mut writer = Counted::new(file);
+    save(alloc, replica, &mut writer)?;
+    match writer.into_inner().sync_all() {
+        Ok(()) => Ok(()),
+        Err(_) => Err(Failure::Failed(Fault::Write)),
+    }
+}
+
+// Gives a file the owner and the mode of another one. The owner is the system's to refuse.
+fn keep(file: &File, old: &Metadata) -> io::Result<()> {
+    let made = file.metadata()?;
+    if made.uid() != old.uid() || made.gid() != old.gid() {
+        if fchown(file, Some(old.uid()), Some(old.gid())).is_err() {
+            let _ = fchown(file, None, Some(old.gid()));
+        }
+    }
+    file.set_permissions(old.permissions())
+}

@@ -1,0 +1,48 @@
+//! Logs and texts by their bytes.
+
+ghost use Rattle.std.specs.Prelude.{◌≡◌, ◌⊎◌, Ok, Err, None, IfOk, IfErr};
+ghost use Rattle.stn_log.specs.Log.{log_held};
+ghost use Rattle.stn_log.specs.declared.fault.LoadFault.{LoadFault as LoadFaultView};
+ghost use Rattle.stn_store.specs.Causes.{of_load};
+ghost use Rattle.stn_store.specs.Bytes.{IsLogIn, IsTextIn};
+ghost use Rattle.stn_store.specs.declared.failure.Failure.TheVariants.{Failed};
+ghost use Rattle.stn_store.specs.declared.failure.Fault.TheVariants as lack;
+
+use crate::failure::Failure;
+use std::alloc::Global;
+use std::io::Read;
+use stn_device::{Counted, read_whole};
+use stn_log::load;
+use stn_records::Site;
+use stn_replica::Replica;
+use stn_text::MOST_TEXT;
+
+/// How many bytes of a domain or a plan are read at most: one more than a text may have.
+const MOST_TEXT_READ: usize = MOST_TEXT + 1;
+
+/// The replica of a site by the bytes of its log.
+pub fn read_log<R: Read + Drop>(
+    alloc: Global,
+    reader: R,
+    site: Site,
+) -> Result<Replica<Global>, Failure>
+    ensures said { IfOk result (λ replica. IsLogIn (R.remaining reader) (Ok (log_held replica))) }
+    ensures site { IfOk result (λ replica. replica.site ≡ site) }
+    ensures failed { IfErr result (λ failure. (failure ≡ Failed lack.Memory) ⊎ (failure ≡ Failed lack.Read)
+        ⊎ ((fault : LoadFaultView) × IsLogIn (R.remaining reader) (Err fault) × (failure ≡ of_load fault))) }
+{
+    let mut counted = Counted::new(reader);
+    Ok(load(alloc, &mut counted, site)?)
+}
+
+/// The text of a domain or a plan; of a longer one so much that it shows.
+pub fn read_text<R: Read + Drop>(alloc: Global, reader: R) -> Result<Vec<u8>, Failure>
+    ensures text { IfOk result (λ text. IsTextIn (R.remaining reader) text.items) }
+
+    // A reader whose bytes are known is not read beyond its limit.
+    ensures failed { IfErr result (λ failure. (failure ≡ Failed lack.Memory) ⊎ (failure ≡ Failed lack.Read)
+        ⊎ ((failure ≡ Failed lack.Bound) × (R.remaining reader ≡ None))) }
+{
+    let mut counted = Counted::new(reader.take(MOST_TEXT_READ as u64));
+    Ok(read_whole(alloc, &mut counted, MOST_TEXT_READ)?)
+}

@@ -1,0 +1,60 @@
+//! Where commands find logs and texts, and leave logs.
+
+ghost use Rattle.std.specs.Prelude.{◌≡◌, ◌⊎◌, false, List, Option, OnOk, OnErr, IfOk, IfErr};
+ghost use Rattle.stn_log.specs.Log.{log_held};
+ghost use Rattle.stn_store.specs.Store.{Entry, IsThere, Opens, IsUnopened, Spells, IsMissing, IsTaken, IsLack, saved_too};
+ghost use Rattle.stn_store.specs.declared.failure.Fault.{Fault};
+
+use crate::failure::Failure;
+use std::alloc::Global;
+use stn_records::Site;
+use stn_replica::Replica;
+
+/// A store of logs and texts, each under a name. Several programs may use it at once.
+pub trait Store {
+    /// What was put under names, one after the other, where that is known.
+    ghost entries: { Self → Option (List Entry) };
+
+    /// A device of such a store may fail so.
+    ghost fails: { Fault → Type 0 };
+
+    /// What keeps every other program from holding a log, until it is dropped.
+    type Held: Drop;
+
+    /// Waits until no other program holds the log of a name, and holds it. Whoever changes a log holds it from its load to its save. A
+    /// log is held once at a time: who holds it and asks again waits without end.
+    fn hold(&self, name: &str) -> Result<Self::Held, Failure>
+        ensures failed { IfErr result (IsLack fails) };
+
+    /// Finds out whether a log can be held and saved under a name. Nothing is changed or waited for.
+    fn can_save(&self, name: &str) -> Result<(), Failure>
+        ensures failed { IfErr result (IsLack fails) };
+
+    /// Whether something of the name is there.
+    fn is_there(&self, name: &str) -> Result<bool, Failure>
+        ensures found { IfOk result (λ there. IsThere (entries self.now) name.now there) }
+        ensures failed { IfErr result (IsLack fails) };
+
+    /// The replica of a site by its log.
+    fn load(&self, name: &str, site: Site) -> Result<Replica<Global>, Failure>
+        ensures opened { IfOk result (λ replica. Opens (entries self.now) name.now site replica) }
+        ensures failed { IfErr result (λ failure. IsUnopened (entries self.now) name.now failure ⊎ IsLack fails failure) };
+
+    /// The text of a domain or a plan; of a longer one so much that it shows.
+    fn text(&self, name: &str) -> Result<Vec<u8>, Failure>
+        ensures spelled { IfOk result (λ text. Spells (entries self.now) name.now text.items) }
+        ensures failed { IfErr result (λ failure. IsMissing (entries self.now) name.now failure ⊎ IsLack fails failure) };
+
+    /// Saves a replica as a log, under a name that is free at that moment. What stands there stays.
+    fn save_new(&mut self, name: &str, replica: &Replica<Global>) -> Result<(), Failure>
+        ensures free { OnOk result (IsThere (entries self.old) name.now false) }
+        ensures saved { OnOk result (entries self.new ≡ saved_too (entries self.old) name.now (log_held replica.now)) }
+        ensures kept { OnErr result (entries self.new ≡ entries self.old) }
+        ensures failed { IfErr result (λ failure. IsTaken (entries self.old) name.now failure ⊎ IsLack fails failure) };
+
+    /// Saves a replica as the log of a name. Where it can't be, the old one stays.
+    fn save(&mut self, name: &str, replica: &Replica<Global>) -> Result<(), Failure>
+        ensures saved { OnOk result (entries self.new ≡ saved_too (entries self.old) name.now (log_held replica.now)) }
+        ensures kept { OnErr result (entries self.new ≡ entries self.old) }
+        ensures failed { IfErr result (IsLack fails) };
+}
