@@ -9,3 +9,4 @@ pub mod Looser
 pub mod Orders
 pub mod Made
 pub mod Whole
+pub mod NumberedStates

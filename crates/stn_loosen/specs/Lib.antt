@@ -1,4 +1,5 @@
 pub mod Slack
 pub mod Loosened
 pub mod Faults
+pub mod Numbered
 pub mod Making

@@ -1,6 +1,6 @@
 -- The loosened plan: a bare plan with as many steps, and records that hold its durations with slack, and those of its orders that
 -- the others don't imply.
-use Rattle.std.specs.Prelude.{◌≡◌, ℕ, ◌*◌, ◌<◌, ◌⊎◌, ℤ, ◌-ℤ◌, List, [], ◌∷◌, ◌++◌, length, map}
+use Rattle.std.specs.Prelude.{◌≡◌, ℕ, ◌*◌, ◌<◌, ◌≤◌, ◌⊎◌, ℤ, ◌-ℤ◌, List, [], ◌∷◌, ◌++◌, length, map}
 use Rattle.std.specs.List.Sorted.{IsPermutation, IsSortedByKey, IsStableByKey}
 use Rattle.std.specs.Ordering.{int_cmp}
 use Rattle.stn_net.specs.Difference.{Difference}
@@ -64,6 +64,10 @@ pub record AreLoosened (source : PlanSource) (slack : Slack) (records : List Dif
   pub orders : List Difference
   pub sorted : AreNearestFirst (planned_of source) (orders_of source) orders
   pub made : AreMadeOf source slack orders records
+
+-- the same, where a site may know as many
+abbrev pub AreFewLoosened : PlanSource → Slack → List Difference → Type 0
+AreFewLoosened source slack records = AreLoosened source slack records × (length records ≤ most_known)
 
 -- they would be too many: already those made of the first orders are more than a site may know
 pub record AreTooMany (source : PlanSource) (slack : Slack) : Type 0 where

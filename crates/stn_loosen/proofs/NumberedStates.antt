@@ -1,0 +1,116 @@
+-- A state whose records are numbered from 1 on.
+use Rattle.std.proofs.Common.{◌≡◌, ℕ, ◌+◌, ◌<◌, ◌≤◌, max, Bool, true, eqb, not, filter, Ordering, Equal, Greater, List, [], ◌∷◌, ◌++◌, map, length, is_some, refl, sym, ap, subst, ◌∙◌, arith, append-nil}
+use Rattle.std.specs.Ordering.{nat_cmp, ordering_then}
+use Rattle.std.specs.List.{AllByRecursion}
+use Rattle.std.specs.FinMap.{empty, keys, entries, entries-insert, len-entries, len-empty, get-empty, contains_key}
+use Rattle.std.specs.FinMap.Entries.{put}
+use Rattle.std.proofs.lemmas.Bool.Decides.{nat_tests}
+use Rattle.stn_net.specs.Difference.{Difference}
+use Rattle.stn_lift.specs.PlanSource.{PlanSource, bare, base_bounds, steps_of}
+use Rattle.stn_records.specs.Id.{SiteCounter, id_cmp}
+use Rattle.stn_records.specs.declared.record.Record.{Record}
+use Rattle.stn_records.specs.Content.{Content, no_content, RecordMap, IdSet, with_record, with_ids, replaced_set, is_replaced, known_ids, next_counter, greatest_counter}
+use Rattle.stn_records.specs.ContentLaws.{ids_total}
+use Rattle.stn_replica.specs.Held.{plain}
+use Rattle.stn_replica.specs.Bounds.{bounds_of, live_bounds, all_bounds}
+use Rattle.stn_loosen.specs.Loosened.{bounds_with}
+use Rattle.stn_loosen.specs.Numbered.{numbered, Holds}
+
+-- a key that comes after all others is put last
+put_last : {K X : Type 0} (R : K → K → Ordering) (key : K) (value : X) (es : List (K × X)) → AllByRecursion (λ e. R key e.0 ≡ Greater) es → put R key value es ≡ es ++ (key, value) ∷ []
+put_last R key value [] all = refl
+put_last R key value (e ∷ es) all = rw all.0 (ap (λ l. e ∷ l) (put_last R key value es all.1))
+
+numbered-push : (site counter : ℕ) (bounds : List Difference) (bound : Difference)
+    → numbered site counter (bounds ++ bound ∷ []) ≡ numbered site counter bounds ++ (record { site = site; counter = counter + length bounds }, plain bound) ∷ []
+numbered-push site counter [] bound =
+    let same : counter ≡ counter + 0 = omega arith in
+    ap (λ n. (record { site = site; counter = n }, plain bound) ∷ []) same
+numbered-push site counter (first ∷ bounds) bound =
+    let same : (counter + 1) + length bounds ≡ counter + length (first ∷ bounds) = omega arith in
+    ap (λ l. (record { site = site; counter = counter }, plain first) ∷ l)
+    (numbered-push site (counter + 1) bounds bound ∙ ap (λ n. numbered site (counter + 1) bounds ++ (record { site = site; counter = n }, plain bound) ∷ []) same)
+
+after : (site one other : ℕ) → one < other → id_cmp (record { site = site; counter = other }) (record { site = site; counter = one }) ≡ Greater
+after site one other less =
+    let same : nat_cmp site site ≡ Equal = grind (arith, nat_tests) in
+    let more : nat_cmp other one ≡ Greater = grind (arith, nat_tests) in
+    ap (λ o. ordering_then o (nat_cmp other one)) same ∙ more
+
+all_before : (site counter next : ℕ) (bounds : List Difference) → counter + length bounds ≤ next
+    → AllByRecursion (λ (e : SiteCounter × Record). id_cmp (record { site = site; counter = next }) e.0 ≡ Greater) (numbered site counter bounds)
+all_before site counter next [] most = tt
+all_before site counter next (bound ∷ bounds) most = (after site counter next (omega arith), all_before site (counter + 1) next bounds (omega arith))
+
+greatest_numbered : (site before : ℕ) (bounds : List Difference) → max before (greatest_counter site (map (λ (e : SiteCounter × Record). e.0) (numbered site (before + 1) bounds))) ≡ before + length bounds
+greatest_numbered site before [] = omega arith
+greatest_numbered site before (bound ∷ bounds) =
+    let rest = greatest_numbered site (before + 1) bounds in
+    let same : eqb site site ≡ true = grind (arith, nat_tests) in
+    rw same (omega (arith, rest))
+
+nothing_left : {A : Type 0} (xs : List A) → length xs ≡ 0 → xs ≡ []
+nothing_left [] none = refl
+nothing_left (x ∷ xs) none = absurd (omega arith)
+
+no_entries : {K X : Type 0} (R : K → K → Ordering) → entries (empty {X = X} {R = R}) ≡ []
+no_entries {X = X} R = nothing_left (entries (empty {X = X} {R = R})) (sym (len-entries (empty {X = X} {R = R})) ∙ len-empty R X)
+
+-- such a state replaces nothing, so it knows what was added
+none_replaced : (additions : RecordMap) → replaced_set (record no_content { additions = additions }) ≡ empty
+none_replaced additions = ap (with_ids empty) (ap (λ (es : List (SiteCounter × SiteCounter)). map (λ (e : SiteCounter × SiteCounter). e.1) es) (no_entries id_cmp))
+
+known_alone : (additions : RecordMap) → known_ids (record no_content { additions = additions }) ≡ map (λ (e : SiteCounter × Record). e.0) (entries additions)
+known_alone additions =
+    ap (λ (set : IdSet). map (λ (e : SiteCounter × Record). e.0) (entries additions) ++ keys set) (none_replaced additions)
+    ∙ ap (λ (es : List (SiteCounter × Unit {0})). map (λ (e : SiteCounter × Record). e.0) (entries additions) ++ map (λ e. e.0) es) (no_entries id_cmp)
+    ∙ append-nil (map (λ (e : SiteCounter × Record). e.0) (entries additions))
+
+pub next_of : (site : ℕ) (bounds : List Difference) (state : Content) → Holds site bounds state → next_counter state site ≡ length bounds + 1
+next_of site bounds state holds =
+    let known : known_ids state ≡ map (λ (e : SiteCounter × Record). e.0) (numbered site 1 bounds) =
+    ap known_ids holds.alone ∙ known_alone state.additions ∙ ap (map (λ (e : SiteCounter × Record). e.0)) holds.records in
+    let greatest = greatest_numbered site 0 bounds in
+    let zero_one : numbered site (0 + 1) bounds ≡ numbered site 1 bounds = ap (λ n. numbered site n bounds) (let one : 0 + 1 ≡ 1 = omega arith in one) in
+    omega (arith, greatest, ap (greatest_counter site) known, ap (λ es. greatest_counter site (map (λ (e : SiteCounter × Record). e.0) es)) zero_one)
+
+pub holds_none : (site : ℕ) (state : Content) → state ≡ no_content → Holds site [] state
+holds_none site state is = subst (Holds site []) (sym is) (record { records = no_entries id_cmp; alone = refl })
+
+-- one record more
+pub holds_more : (site : ℕ) (bounds : List Difference) (bound : Difference) (old new : Content) → Holds site bounds old
+    → new ≡ with_record old (record { site = site; counter = next_counter old site }) (plain bound) → Holds site (bounds ++ bound ∷ []) new
+holds_more site bounds bound old new holds is =
+    let next = next_of site bounds old holds in
+    let same : next_counter old site ≡ 1 + length bounds = omega (arith, next) in
+    let id : SiteCounter = record { site = site; counter = 1 + length bounds } in
+    let made : new ≡ with_record old id (plain bound) = is ∙ ap (λ n. with_record old (record { site = site; counter = n }) (plain bound)) same in
+    let holds_now : Holds site (bounds ++ bound ∷ []) (with_record old id (plain bound)) = record {
+      records = entries-insert ids_total old.additions id (plain bound)
+          ∙ ap (put id_cmp id (plain bound)) holds.records
+          ∙ put_last id_cmp id (plain bound) (numbered site 1 bounds) (all_before site 1 (1 + length bounds) bounds (omega arith))
+          ∙ sym (numbered-push site 1 bounds bound);
+      alone = ap (λ (s : Content). with_record s id (plain bound)) holds.alone;
+    } in
+    subst (Holds site (bounds ++ bound ∷ [])) (sym made) holds_now
+
+-- all are live, in their order
+all_pass : {X : Type 0} (test : X → Bool) → ((x : X) → test x ≡ true) → (xs : List X) → filter test xs ≡ xs
+all_pass test passes [] = refl
+all_pass test passes (x ∷ xs) = rw (passes x) (ap (λ l. x ∷ l) (all_pass test passes xs))
+
+numbered_bounds : (site counter : ℕ) (bounds : List Difference) → bounds_of (numbered site counter bounds) ≡ bounds
+numbered_bounds site counter [] = refl
+numbered_bounds site counter (bound ∷ bounds) = ap (λ l. bound ∷ l) (numbered_bounds site (counter + 1) bounds)
+
+live_alone : (additions : RecordMap) → live_bounds (record no_content { additions = additions }) ≡ bounds_of (entries additions)
+live_alone additions =
+    ap bounds_of
+    (all_pass (λ (e : SiteCounter × Record). not (is_replaced (record no_content { additions = additions }) e.0))
+    (λ e. ap (λ (set : IdSet). not (contains_key set e.0)) (none_replaced additions) ∙ ap (λ o. not (is_some o)) (get-empty id_cmp e.0)) (entries additions))
+
+-- so all bounds are those of the bare plan and of the records
+pub all_are : (source : PlanSource) (site : ℕ) (bounds : List Difference) (state : Content) → Holds site bounds state → all_bounds (bare (steps_of source)) state ≡ bounds_with source bounds
+all_are source site bounds state holds =
+    ap (λ l. base_bounds (bare (steps_of source)) ++ l)
+    (ap live_bounds holds.alone ∙ live_alone state.additions ∙ ap bounds_of holds.records ∙ numbered_bounds site 1 bounds)

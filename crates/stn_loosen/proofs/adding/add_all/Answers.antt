@@ -1,0 +1,29 @@
+use Rattle.std.proofs.Common.{◌≡◌, ◌+◌, [], ◌∷◌, ◌++◌, take, refl, sym, ap, subst, ◌∙◌}
+use Rattle.std.proofs.lemmas.List.{take_more}
+use Rattle.stn_records.specs.Content.{next_counter, with_record}
+use Rattle.stn_replica.specs.Held.{plain}
+use Rattle.stn_loosen.specs.Numbered.{Holds}
+use Rattle.stn_loosen.proofs.NumberedStates.{holds_none, holds_more}
+use Rattle.stn_loosen.proofs.adding.add_all.Goals as goal
+
+pub loop-bound-init : goal.loop-bound-init
+loop-bound-init g c = record { site = refl; source = refl; holds = holds_none c.args.replica.now.site c.args.replica.now.state c.requires }
+
+pub loop-bound-preserved : goal.loop-bound-preserved
+loop-bound-preserved g c =
+    let site = c.args.replica.now.site in
+    let old = c.loop-bound.replica in
+    let new = c.add_bound.new.replica in
+    let place = c.loop-bound.bound-index in
+    let bound = c.bound-item.result in
+    let bounds = c.args.bounds.now in
+    let was : old.site ≡ site = c.loop-bound.invariant.site in
+    let more : take (place + 1) bounds ≡ take place bounds ++ bound ∷ [] =
+    take_more bounds place bound c.loop-bound-test.true ∙ ap (λ b. take place bounds ++ b ∷ []) (sym c.bound-item.is) in
+    let made : new.state ≡ with_record old.state (record { site = site; counter = next_counter old.state site }) (plain bound) =
+    c.in_ok-add_bound.ensures.added ∙ ap (λ n. with_record old.state (record { site = n; counter = next_counter old.state n }) (plain bound)) was in
+    record {
+      site = c.in_ok-add_bound.ensures.site ∙ was;
+      source = c.in_ok-add_bound.ensures.source ∙ c.loop-bound.invariant.source;
+      holds = subst (λ l. Holds site l new.state) (sym more) (holds_more site (take place bounds) bound old.state new.state c.loop-bound.invariant.holds made);
+    }

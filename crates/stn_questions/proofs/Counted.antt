@@ -1,0 +1,89 @@
+-- What is asked of a plan depends on the live records alone.
+use Rattle.std.proofs.Common.{◌≡◌, ◌⊎◌, inl, inr, ⊎_elim, ℕ, ℤ, neg_ℤ, ◌+◌, Bool, List, ◌++◌, codes, length, map, refl, ap, subst, ◌∙◌}
+use Rattle.std.specs.List.{flat_map, range_with_len}
+use Rattle.stn_time.specs.Text.{printed}
+use Rattle.stn_net.specs.Difference.{Difference}
+use Rattle.stn_net.specs.Schedule.{HasSchedule}
+use Rattle.stn_windows.specs.Dispatch.{IsNext}
+use Rattle.stn_windows.specs.Window.{IsWindow}
+use Rattle.stn_lift.specs.PlanSource.{PlanSource, base_bounds, events_of}
+use Rattle.stn_records.specs.Id.{SiteCounter}
+use Rattle.stn_records.specs.declared.record.Record.{Record}
+use Rattle.stn_records.specs.Content.{Content, live_of}
+use Rattle.stn_conflict.specs.declared.links.Link.{Link}
+use Rattle.stn_conflict.specs.Arcs.{weight_of, IsNegativeCycle}
+use Rattle.stn_conflict.specs.Named.{IsWay, IsNamedCycle}
+use Rattle.stn_replica.specs.Bounds.{bounds_of}
+use Rattle.stn_replica.specs.Lines.{line, window_line, conflict_line, link_line}
+use Rattle.stn_replica.specs.Report.{says_done, IsConflictPart}
+use Rattle.stn_questions.specs.declared.asked.Question.{Question}
+use Rattle.stn_questions.specs.declared.asked.Question.TheVariants.{Records, Steps, Bounds, Ready, Why}
+use Rattle.stn_questions.specs.Bounds.{listed_line}
+use Rattle.stn_questions.specs.Ready.{IsReadyAnswer, SaysReady, SaysConflict, IsReadyText}
+use Rattle.stn_questions.specs.Why.{end_text, IsWhyPart, IsWhyText}
+use Rattle.stn_questions.specs.Answer.{IsAnswer, AsksOfPlan}
+
+abbrev Entries : Type 0
+Entries = List (SiteCounter × Record)
+
+-- all bounds, and the flags of the events that are done, by the live records
+abbrev bounds_with : PlanSource → Entries → List Difference
+bounds_with source records = base_bounds source ++ bounds_of records
+
+abbrev done_with : PlanSource → Entries → List Bool
+done_with source records = map (says_done records) (range_with_len 0 (events_of source + 1))
+
+abbrev ids_of : Entries → List SiteCounter
+ids_of records = map (λ entry. entry.0) records
+
+module _ (source : PlanSource) (s t : Content) (live : live_of s ≡ live_of t) where
+  same_ready : (now : ℤ) (text : List ℕ) → IsReadyText source s now text → IsReadyText source t now text
+  same_ready now text p = ⊎_elim
+      (λ (says : SaysReady source s now text). inl (record {
+        possible = subst (λ (records : Entries). HasSchedule (bounds_with source records)) live says.possible;
+        answer = says.answer;
+        next = subst (λ (records : Entries). IsNext (bounds_with source records) (done_with source records) now says.answer) live says.next;
+        said = subst (λ (records : Entries). IsReadyAnswer (bounds_with source records) (done_with source records) now says.answer text) live says.said;
+      }))
+      (λ (says : SaysConflict source s text). inr (record {
+        conflict = subst (λ (records : Entries). ¬ HasSchedule (bounds_with source records)) live says.conflict;
+        said = says.said;
+      }))
+      p
+
+  same_conflict : (text : List ℕ) → IsConflictPart source s text → IsConflictPart source t text
+  same_conflict text p = record {
+    links = p.links;
+    named = subst (λ (records : Entries). IsNamedCycle (bounds_with source records) p.links) live p.named;
+    negative = subst (λ (records : Entries). IsNegativeCycle (bounds_with source records) p.links) live p.negative;
+    whole = p.whole ∙ (λ i. conflict_line (weight_of (bounds_with source (live i)) p.links)
+        ++ flat_map (link_line (base_bounds source) (ids_of (live i)) (bounds_of (live i))) p.links);
+  }
+
+  same_end : (word : List ℕ) (time : ℤ) (links : List Link) → end_text source s word time links ≡ end_text source t word time links
+  same_end word time links = λ i. line (word ++ codes " " ++ printed time) ++ flat_map (link_line (base_bounds source) (ids_of (live i)) (bounds_of (live i))) links
+
+  same_why : (event : ℕ) (text : List ℕ) → IsWhyPart source s event text → IsWhyPart source t event text
+  same_why event text p = record {
+    possible = subst (λ (records : Entries). HasSchedule (bounds_with source records)) live p.possible;
+    earliest = p.earliest;
+    latest = p.latest;
+    window = subst (λ (records : Entries). IsWindow (bounds_with source records) event p.earliest p.latest) live p.window;
+    to_origin = p.to_origin;
+    from_origin = p.from_origin;
+    way_to_origin = subst (λ (records : Entries). IsWay (bounds_with source records) event 0 p.to_origin) live p.way_to_origin;
+    way_from_origin = subst (λ (records : Entries). IsWay (bounds_with source records) 0 event p.from_origin) live p.way_from_origin;
+    holds_earliest = p.holds_earliest ∙ ap (λ (records : Entries). neg_ℤ (weight_of (bounds_with source records) p.to_origin)) live;
+    holds_latest = p.holds_latest ∙ ap (λ (records : Entries). weight_of (bounds_with source records) p.from_origin) live;
+    whole = p.whole ∙ (λ i. window_line event p.earliest p.latest (says_done (live i) event)
+        ++ (same_end (codes "earliest") p.earliest p.to_origin i ++ same_end (codes "latest") p.latest p.from_origin i));
+  }
+
+  -- states with the same live records have the same answers, but of their records
+  pub counted_answer : (question : Question) (text : List ℕ) → AsksOfPlan question → IsAnswer source s question text → IsAnswer source t question text
+  counted_answer Records text asks p = absurd asks
+  counted_answer Steps text asks p = p
+  counted_answer Bounds text asks p =
+      p ∙ (λ i. flat_map (listed_line (base_bounds source) (ids_of (live i)) (bounds_of (live i))) (range_with_len 0 (length (bounds_with source (live i)))))
+  counted_answer (Ready now) text asks p = same_ready now text p
+  counted_answer (Why event) text asks p = ⊎_elim (λ why. inl (same_why event text why)) (λ conflict. inr (same_conflict text conflict)) p

@@ -1,0 +1,100 @@
+-- How long the steps of a plan last, by its bounds.
+use Rattle.std.proofs.Common.{◌≡◌, ℕ, ℤ, zero, suc, ◌+◌, ◌-◌, ◌*◌, ◌<◌, ◌≤◌, ◌⊎◌, List, [], ◌∷◌, ◌++◌, length, take, drop, get_or, Result, Ok, Err, refl, sym, ap, subst, ◌∙◌, arith, length-append, length-drop, ⊎_elim}
+use Rattle.std.proofs.lemmas.List.{get_or-drop, get_or_append_left, get_or-append_right, get_or_at}
+use Rattle.std.proofs.lemmas.Bool.{cases_lt}
+use Rattle.std.specs.Result.{result_unwrap_or}
+use Rattle.stn_net.specs.Difference.{Difference}
+use Rattle.stn_net.specs.Horizon.{horizon_bounds}
+use Rattle.stn_net.specs.Schedule.{times_of}
+use Rattle.stn_net.proofs.Horizons.{length-horizon_bounds}
+use Rattle.stn_conflict.specs.Arcs.{bound_at}
+use Rattle.stn_pddl.specs.declared.fault.DomainFault.{DomainFault}
+use Rattle.stn_pddl.specs.Schemas.{ActionSchema}
+use Rattle.stn_pddl.specs.Domains.{domain_of}
+use Rattle.stn_plan.specs.declared.fault.PlanFault.{PlanFault}
+use Rattle.stn_plan.specs.Steps.{PlannedStep, plan_of}
+use Rattle.stn_lift.specs.declared.fault.LiftFault.{LiftFault}
+use Rattle.stn_lift.specs.declared.fault.BaseFault.{BaseFault}
+use Rattle.stn_lift.specs.Activities.{Activity, activities}
+use Rattle.stn_lift.specs.BaseBounds.{duration_bound, duration_bounds, duration_of, events_interfere, event_times, orders, lifted_bounds}
+use Rattle.stn_lift.specs.PlanSource.{files, of_lift, steps_in, lifted, activities_of, source_with, base_of, base_bounds, events_of, IsSoundSource}
+use Rattle.stn_lift.proofs.Steps.{length-activities}
+use Rattle.stn_questions.specs.Steps.{planned_steps}
+use Rattle.stn_questions.specs.Durations.{least_of, AreDurations}
+
+length-durations : (duration : ℕ → ℤ) (steps : ℕ) → length (duration_bounds duration steps) ≡ steps
+unfolding duration_bounds
+length-durations duration zero = refl
+length-durations duration (suc steps) =
+    omega (arith, length-append (duration_bounds duration steps) (duration_bound steps (duration steps) ∷ []), length-durations duration steps)
+
+duration_at : (duration : ℕ → ℤ) (steps place : ℕ) (d : Difference) → place < steps → get_or (duration_bounds duration steps) place d ≡ duration_bound place (duration place)
+unfolding duration_bounds
+duration_at duration zero place d within = absurd (omega arith)
+duration_at duration (suc steps) place d within =
+    ⊎_elim
+    (λ before. get_or_append_left (duration_bounds duration steps) (duration_bound steps (duration steps) ∷ []) d place (omega (arith, length-durations duration steps, before))
+    ∙ duration_at duration steps place d before)
+    (λ after. let same : steps ≡ place = omega (arith, after) in
+    get_or_at (duration_bounds duration steps) (duration_bound steps (duration steps)) [] d place (length-durations duration steps ∙ same)
+    ∙ ap (λ n. duration_bound n (duration n)) same)
+    (cases_lt place steps)
+
+-- a step in each place
+same_count : (actions : Result (List ActionSchema) DomainFault) (plan : Result (List PlannedStep) PlanFault) (found : List Activity)
+    → steps_in actions plan ≡ Ok found → length (result_unwrap_or plan []) ≡ length found
+same_count (Err fault) plan found e = cc
+same_count (Ok actions) (Err fault) found e = cc
+same_count (Ok actions) (Ok steps) found e = by (activities actions 0 steps) refl e
+  where
+    by : (given : Result (List Activity) LiftFault) → activities actions 0 steps ≡ given → of_lift given ≡ Ok found → length steps ≡ length found
+    by (Ok some) is same = let one : some ≡ found = cc in sym (length-activities actions 0 steps some is) ∙ ap length one
+    by (Err fault) is same = cc
+
+-- the texts of a base have no fault
+has_base : (domain plan : List ℕ) (found : Result (List Activity) BaseFault) → source_with (files domain plan) found ≡ Ok (files domain plan)
+    → (some : List Activity) × (found ≡ Ok some)
+has_base domain plan (Ok some) e = (some, refl)
+has_base domain plan (Err fault) e = cc
+
+one_step_each : (domain plan : List ℕ) → base_of (files domain plan) ≡ Ok (files domain plan) → length (planned_steps plan) ≡ length (activities_of domain plan)
+unfolding lifted activities_of
+one_step_each domain plan based =
+    let found = has_base domain plan (lifted domain plan) based in
+    same_count (domain_of domain) (plan_of plan) found.0 found.1 ∙ ap (λ given. length (result_unwrap_or given [])) (sym found.1)
+
+-- after the horizon bounds come those of the durations
+bounds_last : (first middle last : List Difference) (events place : ℕ) (d : Difference) → length first ≡ events → place < length middle
+    → get_or (drop events ((first ++ middle) ++ last)) place d ≡ get_or middle place d
+bounds_last first middle last events place d count within =
+    get_or-drop events ((first ++ middle) ++ last) place d
+    ∙ get_or_append_left (first ++ middle) last d (events + place) (omega (arith, length-append first middle))
+    ∙ get_or-append_right first middle events (events + place) d count (omega arith)
+    ∙ ap (λ n. get_or middle n d) (omega arith)
+
+lifted_last : (steps : List Activity) (events place : ℕ) → events ≡ 2 * length steps → place < length steps
+    → least_of (drop events (lifted_bounds steps)) place ≡ duration_of steps place
+lifted_last steps events place e within =
+    ap (λ (bound : Difference). bound.lo)
+    (bounds_last (horizon_bounds (2 * length steps)) (duration_bounds (duration_of steps) (length steps))
+    (orders (events_interfere steps) (times_of (event_times steps)) (2 * length steps) (2 * length steps)) events place _
+    (length-horizon_bounds (2 * length steps) ∙ sym e) (omega (arith, length-durations (duration_of steps) (length steps)))
+    ∙ duration_at (duration_of steps) (length steps) place _ within)
+
+lifted_length : (steps : List Activity) (events : ℕ) → events ≡ 2 * length steps → length steps ≤ length (drop events (lifted_bounds steps))
+lifted_length steps events e =
+    let first = horizon_bounds (2 * length steps) in
+    let middle = duration_bounds (duration_of steps) (length steps) in
+    let last = orders (events_interfere steps) (times_of (event_times steps)) (2 * length steps) (2 * length steps) in
+    omega (arith, length-drop events ((first ++ middle) ++ last), length-append (first ++ middle) last, length-append first middle, length-horizon_bounds (2 * length steps), length-durations (duration_of steps) (length steps))
+
+-- what lies after the horizon bounds of a plan in a domain
+pub durations_last : (domain plan : List ℕ) (events : ℕ) → events ≡ events_of (files domain plan) → IsSoundSource (files domain plan)
+    → AreDurations domain plan (drop events (base_bounds (files domain plan)))
+durations_last domain plan events e sound =
+    let count = one_step_each domain plan sound.based in
+    let steps = activities_of domain plan in
+    record {
+      one_each = omega (arith, count, lifted_length steps events e);
+      lasting = λ place within. lifted_last steps events place e (omega (arith, count, within));
+    }

@@ -1,0 +1,73 @@
+-- Texts that grow by a line.
+use Rattle.std.proofs.Common.{◌≡◌, ℕ, ℤ, zero, suc, ◌+◌, List, [], ◌∷◌, ◌++◌, length, map, take, codes, get_or, ◌<◌, refl, sym, ap, ◌∙◌, arith, append_assoc}
+use Rattle.std.proofs.lemmas.List.{append-nil, map-append, take_more, length-map, length-take, get_or_read}
+use Rattle.std.proofs.lemmas.List.Concat.{flat_map-append}
+use Rattle.std.specs.List.{flat_map, range_with_len}
+use Rattle.stn_net.specs.Difference.{Difference}
+use Rattle.stn_plan.specs.Steps.{PlannedStep}
+use Rattle.stn_replica.specs.Lines.{line}
+use Rattle.stn_questions.specs.Durations.{least_of}
+use Rattle.stn_questions.specs.Steps.{step_line, step_lines}
+
+-- a line of five parts, one after the other
+pub line_in_parts : (front first second third fourth fifth t1 t2 t3 t4 t5 t6 : List ℕ) → t1 ≡ front ++ first → t2 ≡ t1 ++ second → t3 ≡ t2 ++ third → t4 ≡ t3 ++ fourth
+    → t5 ≡ t4 ++ fifth → t6 ≡ t5 ++ 10 ∷ [] → t6 ≡ front ++ line (first ++ second ++ third ++ fourth ++ fifth)
+line_in_parts front first second third fourth fifth t1 t2 t3 t4 t5 t6 a b c d e f =
+    f ∙ ap line (e ∙ ap (λ t. t ++ fifth) (d ∙ ap (λ t. t ++ fourth) (c ∙ ap (λ t. t ++ third) (b ∙ ap (λ t. t ++ second) a)))) ∙ simp append_assoc
+
+-- the text of one number more
+pub range_more : (f : ℕ → List ℕ) (a n next : ℕ) → a + n ≡ next → flat_map f (range_with_len a (suc n)) ≡ flat_map f (range_with_len a n) ++ f next
+range_more f a zero next e = append-nil (f a) ∙ ap f (omega (arith, e))
+range_more f a (suc n) next e =
+    ap (λ rest. f a ++ rest) (range_more f (a + 1) n next (omega (arith, e))) ∙ sym (append_assoc (f a) (flat_map f (range_with_len (a + 1) n)) (f next))
+
+-- a text that has grown by it
+pub range_grown : (f : ℕ → List ℕ) (a n next more : ℕ) (front old new : List ℕ) → a + n ≡ next → more ≡ suc n
+    → old ≡ front ++ flat_map f (range_with_len a n) → new ≡ old ++ f next → new ≡ front ++ flat_map f (range_with_len a more)
+range_grown f a n next more front old new e is was grown =
+    grown ∙ ap (λ text. text ++ f next) was ∙ append_assoc front (flat_map f (range_with_len a n)) (f next)
+    ∙ ap (λ text. front ++ text) (sym (range_more f a n next e)) ∙ ap (λ k. front ++ flat_map f (range_with_len a k)) (sym is)
+
+-- the text of one element more, seen by a view
+pub mapped_more : {X Y : Type 0} (f : Y → List ℕ) (view : X → Y) (xs : List X) (place : ℕ) (x : X) → place < length xs → x ≡ get_or xs place x
+    → flat_map f (map view (take (place + 1) xs)) ≡ flat_map f (map view (take place xs)) ++ f (view x)
+mapped_more f view xs place x within is =
+    ap (λ seen. flat_map f (map view seen)) (take_more xs place x within ∙ ap (λ y. take place xs ++ y ∷ []) (sym is))
+    ∙ ap (flat_map f) (map-append view (take place xs) (x ∷ []))
+    ∙ flat_map-append f (map view (take place xs)) (view x ∷ [])
+    ∙ ap (λ last. flat_map f (map view (take place xs)) ++ last) (append-nil (f (view x)))
+
+-- the lines of one step more
+pub step_lines-push : (duration : ℕ → ℤ) (before place : ℕ) (steps : List PlannedStep) (step : PlannedStep) → before + length steps ≡ place
+    → step_lines duration before (steps ++ step ∷ []) ≡ step_lines duration before steps ++ step_line (place + 1) step (duration place)
+step_lines-push duration before place [] step e =
+    append-nil (step_line (before + 1) step (duration before)) ∙ ap (λ n. step_line (n + 1) step (duration n)) (omega (arith, e))
+step_lines-push duration before place (first ∷ steps) step e =
+    ap (λ rest. step_line (before + 1) first (duration before) ++ rest) (step_lines-push duration (before + 1) place steps step (omega (arith, e)))
+    ∙ sym (append_assoc (step_line (before + 1) first (duration before)) (step_lines duration (before + 1) steps) (step_line (place + 1) step (duration place)))
+
+-- steps that last as long have the same lines
+pub step_lines-same : (one other : ℕ → ℤ) (before : ℕ) (steps : List PlannedStep) → ((place : ℕ) → place < before + length steps → one place ≡ other place)
+    → step_lines one before steps ≡ step_lines other before steps
+step_lines-same one other before [] same = refl
+step_lines-same one other before (step ∷ steps) same =
+    ap (λ duration. step_line (before + 1) step duration ++ step_lines one (before + 1) steps) (same before (omega arith))
+    ∙ ap (λ rest. step_line (before + 1) step (other before) ++ rest) (step_lines-same one other (before + 1) steps (λ place within. same place (omega arith)))
+
+-- the lines of one step more, read from two lists
+pub steps_grown : {X : Type 0} (view : X → PlannedStep) (xs : List X) (durations : List Difference) (place : ℕ) (x : X) (bound : Difference) (duration : ℤ) (front old new : List ℕ)
+    → place < length xs → x ≡ get_or xs place x → place < length durations → bound ≡ get_or durations place bound → duration ≡ bound.lo
+    → old ≡ front ++ step_lines (least_of durations) 0 (map view (take place xs)) → new ≡ old ++ step_line (place + 1) (view x) duration
+    → new ≡ front ++ step_lines (least_of durations) 0 (map view (take (place + 1) xs))
+steps_grown view xs durations place x bound duration front old new within is there at lasts was grown =
+    let seen = map view (take place xs) in
+    let f = least_of durations in
+    let more : map view (take (place + 1) xs) ≡ seen ++ view x ∷ [] =
+    ap (map view) (take_more xs place x within ∙ ap (λ y. take place xs ++ y ∷ []) (sym is)) ∙ map-append view (take place xs) (x ∷ []) in
+    let count : 0 + length seen ≡ place = omega (arith, length-map (take place xs) view, length-take place xs) in
+    let read : duration ≡ f place = lasts ∙ ap (λ (b : Difference). b.lo) (get_or_read durations place bound there at _) in
+    grown
+    ∙ (λ i. was i ++ step_line (place + 1) (view x) (read i))
+    ∙ append_assoc front (step_lines f 0 seen) (step_line (place + 1) (view x) (f place))
+    ∙ ap (λ text. front ++ text) (sym (step_lines-push f 0 place seen (view x) count))
+    ∙ ap (λ steps. front ++ step_lines f 0 steps) (sym more)

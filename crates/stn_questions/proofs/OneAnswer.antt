@@ -1,0 +1,112 @@
+-- A plan and a state have one answer to each question.
+use Rattle.std.proofs.Common.{◌≡◌, ◌⊎◌, ℕ, ℤ, neg_ℤ, Bool, List, ◌++◌, codes, refl, sym, ap, subst, ◌∙◌, ⊎_elim, inr, append_assoc}
+use Rattle.std.proofs.lemmas.List.{append_cancel_left}
+use Rattle.std.specs.List.{flat_map}
+use Rattle.stn_net.specs.Difference.{Difference}
+use Rattle.stn_net.specs.Schedule.{HasSchedule}
+use Rattle.stn_windows.specs.declared.answers.Next.{Next}
+use Rattle.stn_windows.specs.declared.answers.Next.TheVariants.{Run, AllDone, Overdue}
+use Rattle.stn_windows.specs.Dispatch.{IsNext}
+use Rattle.stn_windows.proofs.Windows.{one_window}
+use Rattle.stn_lift.specs.PlanSource.{PlanSource, base_bounds}
+use Rattle.stn_records.specs.Content.{Content}
+use Rattle.stn_conflict.specs.declared.links.Link.{Link}
+use Rattle.stn_conflict.specs.Arcs.{IsNegativeCycle}
+use Rattle.stn_conflict.specs.Named.{IsWay}
+use Rattle.stn_replica.specs.Bounds.{all_bounds, live_bounds}
+use Rattle.stn_replica.specs.Dispatch.{done_events}
+use Rattle.stn_replica.specs.Lines.{window_line, link_line}
+use Rattle.stn_replica.specs.Names.{live_ids}
+use Rattle.stn_replica.specs.Report.{is_done, IsConflictPart, IsReport, heading}
+use Rattle.stn_questions.specs.Ready.{AreReadyLines, ready_line, IsReadyAnswer, SaysReady, SaysConflict, IsReadyText}
+use Rattle.stn_questions.specs.Why.{end_text, IsWhyPart, IsWhyText}
+use Rattle.stn_questions.specs.declared.asked.Question.{Question}
+use Rattle.stn_questions.specs.declared.asked.Question.TheVariants.{Records, Steps, Bounds, Ready, Why}
+use Rattle.stn_questions.specs.Records.{record_line, IsRecordsText}
+use Rattle.stn_questions.specs.Answer.{IsAnswer}
+use Rattle.stn_questions.proofs.KnownOnce.{one_known}
+use Rattle.stn_questions.proofs.OneReady.{one_list}
+
+-- what one law says of the answers that say what comes next
+abbrev pub OneNext : Type 0
+OneNext = (bounds : List Difference) → (done : List Bool) → (now : ℤ) → (one other : Next) → IsNext bounds done now one → IsNext bounds done now other → one ≡ other
+
+one_said : (bounds : List Difference) (done : List Bool) (now : ℤ) (answer : Next) (text other : List ℕ) → IsReadyAnswer bounds done now answer text → IsReadyAnswer bounds done now answer other → text ≡ other
+one_said bounds done now (Run time event) text other p q =
+    p.lines ∙ ap (flat_map ready_line) (one_list bounds done now p.ready q.ready p.events q.events) ∙ sym q.lines
+one_said bounds done now AllDone text other p q = p ∙ sym q
+one_said bounds done now (Overdue event) text other p q = p ∙ sym q
+
+-- one text says which events are ready
+one_ready : OneNext → (source : PlanSource) (state : Content) (now : ℤ) (text other : List ℕ) → IsReadyText source state now text → IsReadyText source state now other → text ≡ other
+one_ready unique source state now text other p q =
+    ⊎_elim
+    (λ mine. ⊎_elim
+    (λ theirs.
+    let bounds = all_bounds source state in
+    let done = done_events source state in
+    let same : mine.answer ≡ theirs.answer = unique bounds done now mine.answer theirs.answer mine.next theirs.next in
+    one_said bounds done now theirs.answer text other (subst (λ answer. IsReadyAnswer bounds done now answer text) same mine.said) theirs.said)
+    (λ theirs. absurd (theirs.conflict mine.possible)) q)
+    (λ mine. ⊎_elim (λ theirs. absurd (mine.conflict theirs.possible)) (λ theirs. mine.said ∙ sym theirs.said) q)
+    p
+
+-- what other laws say of reports, of ways and of negative cycles
+abbrev pub OneReport : Type 0
+OneReport = (source : PlanSource) → (state : Content) → (text other : List ℕ) → IsReport source state text → IsReport source state other → text ≡ other
+
+abbrev pub OneWay : Type 0
+OneWay = (bounds : List Difference) → (from to : ℕ) → (one other : List Link) → IsWay bounds from to one → IsWay bounds from to other → one ≡ other
+
+abbrev pub Refutes : Type 0
+Refutes = (bounds : List Difference) → (links : List Link) → IsNegativeCycle bounds links → ¬ HasSchedule bounds
+
+-- a report has one conflict
+one_conflict : OneReport → (source : PlanSource) (state : Content) (text other : List ℕ) → IsConflictPart source state text → IsConflictPart source state other → text ≡ other
+one_conflict unique source state text other p q =
+    append_cancel_left (heading source state) text other
+    (unique source state (heading source state ++ text) (heading source state ++ other)
+    (record { rest = text; part = inr p; whole = refl }) (record { rest = other; part = inr q; whole = refl }))
+
+one_part : OneWay → (source : PlanSource) (state : Content) (event : ℕ) (text other : List ℕ) → IsWhyPart source state event text → IsWhyPart source state event other → text ≡ other
+one_part unique source state event text other p q =
+    let bounds = all_bounds source state in
+    let ends = one_window bounds event p.earliest p.latest q.earliest q.latest p.possible p.window q.window in
+    let back = unique bounds event 0 p.to_origin q.to_origin p.way_to_origin q.way_to_origin in
+    let forth = unique bounds 0 event p.from_origin q.from_origin p.way_from_origin q.way_from_origin in
+    p.whole
+    ∙ (λ i. window_line event (ends.0 i) (ends.1 i) (is_done state event)
+    ++ (end_text source state (codes "earliest") (ends.0 i) (back i) ++ end_text source state (codes "latest") (ends.1 i) (forth i)))
+    ∙ sym q.whole
+
+-- one text says why a window ends where it does
+one_why : OneReport → OneWay → Refutes → (source : PlanSource) (state : Content) (event : ℕ) (text other : List ℕ)
+    → IsWhyText source state event text → IsWhyText source state event other → text ≡ other
+one_why reports ways refutes source state event text other p q =
+    ⊎_elim
+    (λ mine. ⊎_elim
+    (λ theirs. one_part ways source state event text other mine theirs)
+    (λ theirs. absurd (refutes (all_bounds source state) theirs.links theirs.negative mine.possible)) q)
+    (λ mine. ⊎_elim
+    (λ theirs. absurd (refutes (all_bounds source state) mine.links mine.negative theirs.possible))
+    (λ theirs. one_conflict reports source state text other mine theirs) q)
+    p
+
+one_text : (state : Content) (text other : List ℕ) → IsRecordsText state text → IsRecordsText state other → text ≡ other
+one_text state text other p q = p.lines ∙ ap (flat_map (record_line state)) (one_known state p.ids q.ids p.known q.known) ∙ sym q.lines
+
+-- a question has one answer
+pub one_answer : OneNext → OneReport → OneWay → Refutes → (source : PlanSource) (state : Content) (question : Question) (text other : List ℕ)
+    → IsAnswer source state question text → IsAnswer source state question other → text ≡ other
+one_answer nexts reports ways refutes source state Records text other p q = one_text state text other p q
+one_answer nexts reports ways refutes source state Steps text other p q = p ∙ sym q
+one_answer nexts reports ways refutes source state Bounds text other p q = p ∙ sym q
+one_answer nexts reports ways refutes source state (Ready now) text other p q = one_ready nexts source state now text other p q
+one_answer nexts reports ways refutes source state (Why event) text other p q = one_why reports ways refutes source state event text other p q
+
+-- equal plans and equal states have the same answer
+pub same_answer : ((source : PlanSource) → (state : Content) → (question : Question) → (text other : List ℕ) → IsAnswer source state question text → IsAnswer source state question other → text ≡ other)
+    → (a b : PlanSource) (s t : Content) (question : Question) (text other : List ℕ) → a ≡ b → s ≡ t
+    → IsAnswer a s question text → IsAnswer b t question other → text ≡ other
+same_answer law a b s t question text other plan state p q =
+    law b t question text other (subst (λ x. IsAnswer b x question text) state (subst (λ x. IsAnswer x s question text) plan p)) q

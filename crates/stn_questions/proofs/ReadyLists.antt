@@ -1,0 +1,91 @@
+-- The events that are ready: each once, and in their order.
+use Rattle.std.proofs.Common.{◌≡◌, ◌≢◌, ◌⊎◌, ℕ, ℤ, ◌+◌, ◌<◌, ◌≤◌, ◌≤ℤ◌, ◌<ℤ◌, Bool, true, false, cond, eqb, List, [], ◌∷◌, ◌++◌, length, get_or, All, Some, None, Ordering, Less, Equal, Greater, refl, sym, ap, subst, ◌∙◌, arith, ⊎_elim}
+use Rattle.std.proofs.lemmas.Bool.{false≢true, cases_lt}
+use Rattle.std.proofs.lemmas.Bool.Decides.{nat_tests}
+use Rattle.std.proofs.lemmas.Cmp.{nat_cmp_total, int_cmp_total, on_total, then_total}
+use Rattle.std.proofs.lemmas.Int.{ints}
+use Rattle.std.proofs.lemmas.List.Sorted.{sorted_far, ranks_by}
+use Rattle.std.proofs.lemmas.List.Sums.{sum_by_push}
+use Rattle.std.specs.Cmp.{IsTotalOrder, ranks, int_ranks}
+use Rattle.std.specs.List.{AllPairs, count_by}
+use Rattle.std.specs.List.Sorted.{IsSorted}
+use Rattle.std.specs.Ordering.{MatchOrdering, nat_cmp, int_cmp, is_lt, ordering_then}
+use Rattle.stn_net.specs.Difference.{Difference}
+use Rattle.stn_windows.specs.Dispatch.{IsReady, AreReadyTimes}
+use Rattle.stn_questions.specs.declared.ready_event.ReadyEvent.{ReadyEvent}
+use Rattle.stn_questions.specs.Ready.{IsBefore}
+
+-- by first time, by number, by last time
+abbrev pub by_turn : ReadyEvent → ReadyEvent → Ordering
+by_turn x y = ordering_then (int_cmp x.first y.first) (ordering_then (nat_cmp x.event y.event) (int_cmp x.last y.last))
+
+turns : IsTotalOrder by_turn
+turns =
+    then_total (on_total (λ (x : ReadyEvent). x.first) int_cmp_total)
+    (then_total (on_total (λ (x : ReadyEvent). x.event) nat_cmp_total) (on_total (λ (x : ReadyEvent). x.last) int_cmp_total))
+
+-- what the other is not less than comes before it
+not_less : (a b : ReadyEvent) (first second third : Ordering) → MatchOrdering first (b.first <ℤ a.first) (b.first ≡ a.first) (a.first <ℤ b.first)
+    → MatchOrdering second (b.event < a.event) (b.event ≡ a.event) (a.event < b.event)
+    → is_lt (ordering_then first (ordering_then second third)) ≡ false → IsBefore a b
+not_less a b Less second third p q e = absurd (false≢true (sym e))
+not_less a b Equal Less third p q e = absurd (false≢true (sym e))
+not_less a b Equal Equal third p q e = (omega (arith, ints), λ same. omega arith)
+not_less a b Equal Greater third p q e = (omega (arith, ints), λ same. omega arith)
+not_less a b Greater second third p q e = (omega (arith, ints), λ same. absurd (omega (arith, ints)))
+
+-- a sorted list is in order
+pub sorted_in_order : (xs : List ReadyEvent) → IsSorted by_turn xs → AllPairs IsBefore xs
+sorted_in_order xs sorted = λ i j d before within.
+    let a = get_or xs i d in
+    let b = get_or xs j d in
+    not_less a b (int_cmp b.first a.first) (nat_cmp b.event a.event) (int_cmp b.last a.last) (int_ranks b.first a.first) (ranks b.event a.event)
+    (sorted_far (λ x y. is_lt (by_turn x y)) (ranks_by turns (λ (x : ReadyEvent). x)) xs sorted i j d (omega arith) within)
+
+-- how often an event stands in a list
+abbrev pub counted : List ReadyEvent → ℕ → ℕ
+counted ready event = count_by (λ one. eqb one.event event) ready
+
+pub same_number : (a b : ℕ) → a ≡ b → eqb a b ≡ true
+same_number a b e = grind (arith, nat_tests)
+
+pub other_number : (a b : ℕ) → a ≢ b → eqb a b ≡ false
+other_number a b e = grind (arith, nat_tests)
+
+pushed : (ready : List ReadyEvent) (one : ReadyEvent) (event : ℕ) (same : Bool) → eqb one.event event ≡ same → counted (ready ++ one ∷ []) event ≡ counted ready event + cond same 1 0
+pushed ready one event same is =
+    sum_by_push (λ (x : ReadyEvent). cond (eqb x.event event) 1 0) ready one ∙ ap (λ b. counted ready event + cond b 1 0) is
+
+-- one more of another event
+pub pushed_other : (ready : List ReadyEvent) (one : ReadyEvent) (event : ℕ) → one.event ≢ event → counted (ready ++ one ∷ []) event ≡ counted ready event
+pushed_other ready one event other = omega (arith, pushed ready one event false (other_number one.event event other))
+
+-- one more of this
+pushed_same : (ready : List ReadyEvent) (one : ReadyEvent) (event : ℕ) → one.event ≡ event → counted (ready ++ one ∷ []) event ≡ counted ready event + 1
+pushed_same ready one event same = pushed ready one event true (same_number one.event event same)
+
+module _ (bounds : List Difference) (done : List Bool) (now : ℤ) where
+  -- the times from now on at which the event may run are those from its first to its last
+  abbrev pub HasTimes : ReadyEvent → Type 0
+  HasTimes one = AreReadyTimes bounds done now one.event (Some (one.first, one.last))
+
+  -- each of the first events that may run from now on stands once in the list
+  abbrev pub HasEach : ℕ → List ReadyEvent → Type 0
+  HasEach most ready = (event : ℕ) (time : ℤ) → event ≤ most → now ≤ℤ time → IsReady bounds done event time → counted ready event ≡ 1
+
+  -- the next event is ready
+  pub each_pushed : (ready : List ReadyEvent) (one : ReadyEvent) (before : ℕ) → one.event ≡ before + 1 → counted ready (before + 1) ≡ 0
+      → HasEach before ready → HasEach (before + 1) (ready ++ one ∷ [])
+  each_pushed ready one before is none each event time most later able = ⊎_elim
+      (λ less. pushed_other ready one event (λ same. absurd (omega arith)) ∙ each event time (omega arith) later able)
+      (λ last. let same : event ≡ before + 1 = omega arith in
+      pushed_same ready one event (is ∙ sym same) ∙ ap (λ n. counted ready n + 1) same ∙ ap (λ n. n + 1) none)
+      (cases_lt event (before + 1))
+
+  -- the next event is not
+  pub each_kept : (ready : List ReadyEvent) (before number : ℕ) → number ≡ before + 1 → AreReadyTimes bounds done now number None
+      → HasEach before ready → HasEach (before + 1) ready
+  each_kept ready before number is never each event time most later able = ⊎_elim
+      (λ less. each event time (omega arith) later able)
+      (λ last. let same : event ≡ number = omega arith in absurd (never time later (subst (λ n. IsReady bounds done n time) same able)))
+      (cases_lt event (before + 1))

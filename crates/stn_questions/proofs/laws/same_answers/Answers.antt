@@ -1,0 +1,18 @@
+use Rattle.std.proofs.Common.{subst}
+use Rattle.stn_lift.specs.PlanSource.{PlanSource}
+use Rattle.stn_replica.proofs.Items.{same_counts}
+use Rattle.stn_questions.specs.Answer.{IsAnswer}
+use Rattle.stn_questions.proofs.Counted.{counted_answer}
+use Rattle.stn_questions.proofs.OneAnswer.{same_answer}
+use Rattle.stn_questions.proofs.laws.same_answers.Goals as goal
+
+pub returns-clause-items : goal.returns-clause-items
+returns-clause-items c = λ ours theirs one other p q same plan question text last.
+    same_answer c.one_answer.ensures one.source other.source one.state other.state question text last plan
+    (c.took_same_same_bytes.ensures.states ours theirs one other p q same)
+
+pub returns-clause-plan : goal.returns-clause-plan
+returns-clause-plan c = λ ours theirs one other p q same plan question asks text last first second.
+    c.one_answer.ensures other.source other.state question text last
+    (counted_answer other.source one.state other.state (c.counts_same.ensures.live one.state other.state (same_counts ours theirs one other p q same)) question text asks
+    (subst (λ (source : PlanSource). IsAnswer source one.state question text) plan first)) second

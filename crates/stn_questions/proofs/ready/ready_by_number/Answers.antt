@@ -1,0 +1,41 @@
+use Rattle.std.proofs.Common.{◌≡◌, ◌≢◌, ◌+◌, ◌<◌, ◌≤◌, [], ◌∷◌, ◌++◌, List, length, Some, None, sym, ap, subst, ◌∙◌, arith}
+use Rattle.std.proofs.lemmas.List.Elements.{All-push}
+use Rattle.stn_windows.specs.Dispatch.{AreReadyTimes}
+use Rattle.stn_replica.proofs.Printing.{if_some}
+use Rattle.stn_windows.proofs.Readiness.{left_within}
+use Rattle.stn_questions.specs.declared.ready_event.ReadyEvent.{ReadyEvent}
+use Rattle.stn_questions.proofs.ReadyLists.{counted, HasTimes, HasEach, pushed_other, each_pushed, each_kept}
+use Rattle.stn_questions.proofs.ready.ready_by_number.Goals as goal
+use Rattle.stn_questions.proofs.ready.ready_by_number.Goals.{in-Some+in_ok-push, in_default}
+
+pub loop-before-preserved : goal.loop-before-preserved
+loop-before-preserved g c =
+    let before = c.loop-before.before in
+    let old = c.loop-before.ready.items in
+    let done = c.args.done.now in
+    let now = c.args.now in
+    let is : c.unwrap-event.result ≡ before + 1 = if_some c.new.result c.unwrap-event.result (λ event. event ≡ before + 1) c.unwrap-event.ensures c.new.ensures.value in
+    elim c.match-ready_times.branch [
+      | in-Some+in_ok-push w ↦
+          let one : ReadyEvent = record { first = w.in-Some.times.0; event = c.unwrap-event.result; last = w.in-Some.times.1 } in
+          let new : c.match-ready_times.ready.items ≡ old ++ one ∷ [] = ap (λ v. v.items) w.ready-is ∙ w.in_ok-push.ensures.items in
+          rw new (record {
+            times = λ bounds exact. All-push (HasTimes bounds done now) old one (c.loop-before.invariant.times bounds exact) (w.in-Some.ensures bounds exact);
+            once = λ bounds exact. each_pushed bounds done now old one before is (c.loop-before.invariant.none before (omega arith)) (c.loop-before.invariant.once bounds exact);
+            none = λ event after. pushed_other old one (event + 1) (λ same. absurd (omega arith)) ∙ c.loop-before.invariant.none event (omega arith);
+          })
+      | in_default w ↦
+          let new : c.match-ready_times.ready.items ≡ old = ap (λ v. v.items) w.ready-is in
+          rw new (record {
+            times = c.loop-before.invariant.times;
+            once = λ bounds exact.
+                each_kept bounds done now old before c.unwrap-event.result is
+                (subst (AreReadyTimes bounds done now c.unwrap-event.result) w.in_default.is (c.ready_times.ensures bounds exact)) (c.loop-before.invariant.once bounds exact);
+            none = λ event after. c.loop-before.invariant.none event (omega arith);
+          })
+    ]
+
+pub returns-clause-once : goal.returns-clause-once
+returns-clause-once g c = λ bounds exact event time later able.
+    let within : event < length c.args.done.now = left_within c.args.done.now event able.left in
+    c.loop-before.invariant.once bounds exact event time (omega (arith, c.requires, c.loop-before-test.false, c.events-before-end.ensures.value)) later able

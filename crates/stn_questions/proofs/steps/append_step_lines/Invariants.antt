@@ -1,0 +1,8 @@
+use Rattle.std.proofs.Common.{◌≡◌, ◌++◌, map, take}
+use Rattle.stn_plan.specs.Views.{planned_step}
+use Rattle.stn_questions.specs.Steps.{step_lines}
+use Rattle.stn_questions.specs.Durations.{least_of}
+use Rattle.stn_questions.proofs.steps.append_step_lines.Given as goal
+
+abbrev pub invariant-loop-before : goal.invariant-loop-before
+invariant-loop-before g l = l.out.items ≡ l.initial.out.items ++ step_lines (least_of l.durations) 0 (map planned_step (take l.before l.steps))

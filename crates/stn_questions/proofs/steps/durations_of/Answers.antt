@@ -1,0 +1,25 @@
+use Rattle.std.proofs.Common.{◌≡◌, ◌≤◌, length, drop, sym, ap, subst, ◌∙◌, arith}
+use Rattle.std.proofs.lemmas.List.{take_rest}
+use Rattle.stn_lift.specs.PlanSource.{base_bounds, events_of, IsSoundSource}
+use Rattle.stn_questions.specs.Durations.{AreDurations}
+use Rattle.stn_replica.proofs.Opening.{horizon_within}
+use Rattle.stn_questions.proofs.Lasting.{durations_last}
+use Rattle.stn_questions.proofs.steps.durations_of.Goals as goal
+
+pub slice_bounds-result-count : goal.slice_bounds-result-count
+slice_bounds-result-count g c =
+    let base = c.args.base.now in
+    omega (arith, c.from-first.ensures, c.events.ensures.value, horizon_within base c.bounds.ensures.sound, ap length c.bounds.ensures.value)
+
+pub slice_bounds-result-start : goal.slice_bounds-result-start
+slice_bounds-result-start g c =
+    let base = c.args.base.now in
+    omega (arith, c.from-first.ensures, c.events.ensures.value, horizon_within base c.bounds.ensures.sound, ap length c.bounds.ensures.value)
+
+pub returns : goal.returns
+returns g c = λ domain plan e.
+    let first = c.from-first.result in
+    let bounds = c.bounds.result.now in
+    let is = take_rest bounds first ∙ ap (drop first) (c.bounds.ensures.value ∙ ap base_bounds e) in
+    subst (AreDurations domain plan) (sym is)
+    (durations_last domain plan first (c.from-first.ensures ∙ c.events.ensures.value ∙ ap events_of e) (subst IsSoundSource e c.bounds.ensures.sound))

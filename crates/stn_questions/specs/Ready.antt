@@ -1,0 +1,59 @@
+-- What `ready` prints.
+use Rattle.std.specs.Prelude.{◌≡◌, ◌⊎◌, ℕ, ℤ, ◌==◌, ◌≤ℤ◌, Bool, List, ◌++◌, codes, All, Some, count_by}
+use Rattle.std.specs.List.{flat_map, AllPairs}
+use Rattle.stn_time.specs.Text.{printed}
+use Rattle.stn_net.specs.Difference.{Difference}
+use Rattle.stn_net.specs.Event.{event_text}
+use Rattle.stn_net.specs.Schedule.{HasSchedule}
+use Rattle.stn_windows.specs.Dispatch.{IsReady, AreReadyTimes, ComesFirst, IsNext}
+use Rattle.stn_windows.specs.declared.answers.Next.{Next}
+use Rattle.stn_windows.specs.declared.answers.Next.TheVariants.{Run, AllDone, Overdue}
+use Rattle.stn_lift.specs.PlanSource.{PlanSource}
+use Rattle.stn_records.specs.Content.{Content}
+use Rattle.stn_replica.specs.Bounds.{all_bounds}
+use Rattle.stn_replica.specs.Dispatch.{done_events}
+use Rattle.stn_replica.specs.Lines.{line, times_text}
+use Rattle.stn_questions.specs.declared.ready_event.ReadyEvent.{ReadyEvent}
+
+-- the first event has the earlier first time; where the first times are equal, it has no greater number
+abbrev pub IsBefore : ReadyEvent → ReadyEvent → Type 0
+IsBefore one other = ComesFirst one.first one.event other.first other.event
+
+-- each event that may run at some time from now on stands there once, and no other event does; the times from now on at which it may
+-- run are those from its first to its last; the events come by first time, and then by number
+pub record AreReadyEvents (bounds : List Difference) (done : List Bool) (now : ℤ) (ready : List ReadyEvent) : Type 0 where
+  pub times : All (λ one. AreReadyTimes bounds done now one.event (Some (one.first, one.last))) ready
+  pub once : (event : ℕ) (time : ℤ) → now ≤ℤ time → IsReady bounds done event time → count_by (λ one. one.event == event) ready ≡ 1
+  pub order : AllPairs IsBefore ready
+
+-- `<event> <first> <last>`
+abbrev pub ready_line : ReadyEvent → List ℕ
+ready_line one = line (event_text one.event ++ codes " " ++ times_text one.first one.last)
+
+-- the lines of the events that are ready from now on
+pub record AreReadyLines (bounds : List Difference) (done : List Bool) (now : ℤ) (text : List ℕ) : Type 0 where
+  pub ready : List ReadyEvent
+  pub events : AreReadyEvents bounds done now ready
+  pub lines : text ≡ flat_map ready_line ready
+
+-- what is printed where this comes next: the lines of the events that are ready where one of them runs next, and else why none does
+abbrev pub IsReadyAnswer : List Difference → List Bool → ℤ → Next → List ℕ → Type 0
+IsReadyAnswer bounds done now (Run time event) text = AreReadyLines bounds done now text
+IsReadyAnswer bounds done now AllDone text = text ≡ line (codes "all done")
+IsReadyAnswer bounds done now (Overdue event) text = text ≡ line (codes "overdue " ++ event_text event)
+
+-- all bounds have a schedule, and the text says which events are ready from now on
+pub record SaysReady (source : PlanSource) (state : Content) (now : ℤ) (text : List ℕ) : Type 0 where
+  pub possible : HasSchedule (all_bounds source state)
+  pub answer : Next
+  pub next : IsNext (all_bounds source state) (done_events source state) now answer
+  pub said : IsReadyAnswer (all_bounds source state) (done_events source state) now answer text
+
+-- all bounds have no schedule, and the text is `conflict`
+pub record SaysConflict (source : PlanSource) (state : Content) (text : List ℕ) : Type 0 where
+  pub conflict : ¬ HasSchedule (all_bounds source state)
+  pub said : text ≡ line (codes "conflict")
+
+-- the text that `ready` prints from now on
+abbrev pub IsReadyText : PlanSource → Content → ℤ → List ℕ → Type 0
+IsReadyText source state now text = SaysReady source state now text ⊎ SaysConflict source state text

@@ -1,0 +1,32 @@
+-- What `steps` prints.
+use Rattle.std.specs.Prelude.{ℕ, ℤ, ◌+◌, List, [], ◌∷◌, ◌++◌, codes, decimal}
+use Rattle.std.specs.List.{flat_map, range_with_len}
+use Rattle.std.specs.Result.{result_unwrap_or}
+use Rattle.stn_time.specs.Text.{printed}
+use Rattle.stn_plan.specs.Steps.{PlannedStep, plan_of}
+use Rattle.stn_lift.specs.BaseBounds.{duration_of}
+use Rattle.stn_lift.specs.PlanSource.{PlanSource, bare, files, activities_of}
+use Rattle.stn_replica.specs.Lines.{line}
+
+-- the action, and behind a space each of its arguments
+abbrev pub words_text : List ℕ → List (List ℕ) → List ℕ
+words_text action arguments = action ++ flat_map (λ argument. codes " " ++ argument) arguments
+
+-- `<number> <action> <argument> .. <start> <duration>`, the words as the plan's text spells them
+abbrev pub step_line : ℕ → PlannedStep → ℤ → List ℕ
+step_line number step duration =
+    line (decimal number ++ codes " " ++ words_text step.action step.args ++ codes " " ++ printed step.time ++ codes " " ++ printed duration)
+
+-- the lines of the steps after so many others; steps are counted from 1, and each lasts as long as it is said of the number of those before it
+abbrev pub step_lines : (ℕ → ℤ) → ℕ → List PlannedStep → List ℕ
+step_lines duration before [] = []
+step_lines duration before (step ∷ steps) = step_line (before + 1) step (duration before) ++ step_lines duration (before + 1) steps
+
+-- the steps of a plan text, in the order of its lines
+abbrev pub planned_steps : List ℕ → List PlannedStep
+planned_steps plan = result_unwrap_or (plan_of plan) []
+
+-- a line for each step from 1 on: its number; in a domain also its action, its planned start and the duration in the domain
+abbrev pub steps_text : PlanSource → List ℕ
+steps_text (bare steps) = flat_map (λ number. line (decimal number)) (range_with_len 1 steps)
+steps_text (files domain plan) = step_lines (duration_of (activities_of domain plan)) 0 (planned_steps plan)

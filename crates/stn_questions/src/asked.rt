@@ -1,0 +1,17 @@
+use stn_net::Event;
+use stn_time::Ms;
+
+/// A question about a plan.
+#[derive(Clone, Copy, Debug, PartialEq, Eq, Hash)]
+pub enum Question {
+    /// Which records are known, and what became of them?
+    Records,
+    /// What is each step?
+    Steps,
+    /// Which bounds does the plan have?
+    Bounds,
+    /// Which events may run from this time on, and until when?
+    Ready(Ms),
+    /// Why does this event's window end where it does?
+    Why(Event),
+}

@@ -1,0 +1,167 @@
+ghost use Rattle.std.specs.Prelude.{◌≡◌, ℕ, ℤ, ◌+◌, ◌≤◌, ◌≤ℤ◌, ◌==◌, ◌++◌, List, length, take, All, Some, count_by, codes, IfOk, OnOk, OnErr};
+ghost use Rattle.std.specs.List.{flat_map};
+ghost use Rattle.stn_net.specs.Difference.{Difference};
+ghost use Rattle.stn_net.specs.Event.{most_events, event_text};
+ghost use Rattle.stn_net.specs.Schedule.{HasSchedule};
+ghost use Rattle.stn_matrix.specs.Tightest.{IsExact};
+ghost use Rattle.stn_windows.specs.Dispatch.{IsReady, AreReadyTimes};
+ghost use Rattle.stn_replica.specs.Bounds.{all_bounds};
+ghost use Rattle.stn_replica.specs.Dispatch.{done_events};
+ghost use Rattle.stn_replica.specs.Lines.{line};
+ghost use Rattle.stn_questions.specs.Ready.{AreReadyEvents, AreReadyLines, IsReadyAnswer, IsReadyText, ready_line};
+
+use crate::ready_event::ReadyEvent;
+use std::alloc::Allocator;
+use stn_matrix::Matrix;
+use stn_net::Event;
+use stn_replica::{EVENT_FLAGS, Replica};
+use stn_time::{Memory, Ms};
+use stn_windows::{Next, ready_times};
+
+/// Appends which events may run from now on: a line for each event that may run at some time from now
+/// on, with the first and the last such time, by first time and then by number. Where all bounds have
+/// no schedule, that is `conflict`; where every event is done, `all done`; and where no event may run
+/// any more, `overdue` and the event that `next` names. For want of memory it appends nothing.
+pub fn print_ready<A: Allocator + Copy, B: Allocator>(
+    replica: &Replica<A>,
+    now: Ms,
+    out: &mut Vec<u8, B>,
+) -> Result<(), Memory>
+    ensures printed { OnOk result ((text : List ℕ) × IsReadyText replica.now.source replica.now.state now text × (out.new.items ≡ out.old.items ++ text)) }
+    ensures kept { OnErr result (out.new.items ≡ out.old.items) }
+{
+    let text = text_of(replica, now)?;
+    out.extend_from_slice(&text)?;
+    Ok(())
+}
+
+fn text_of<A: Allocator + Copy>(replica: &Replica<A>, now: Ms) -> Result<Vec<u8, A>, Memory>
+    ensures { IfOk result (λ text. IsReadyText replica.now.source replica.now.state now text.items) }
+{
+    let mut text = Vec::new(replica.alloc());
+    match replica.next(now) {
+        Some(answer) => append_answer(replica, now, answer, &mut text)?,
+        None => text.extend_from_slice(b"conflict\n")?,
+    }
+    Ok(text)
+}
+
+// Appends what is printed where this comes next.
+fn append_answer<A: Allocator + Copy>(
+    replica: &Replica<A>,
+    now: Ms,
+    answer: Next,
+    out: &mut Vec<u8, A>,
+) -> Result<(), Memory>
+    requires { HasSchedule (all_bounds replica.now.source replica.now.state) }
+    ensures { OnOk result ((text : List ℕ)
+        × IsReadyAnswer (all_bounds replica.now.source replica.now.state) (done_events replica.now.source replica.now.state) now answer text
+        × (out.new.items ≡ out.old.items ++ text)) }
+{
+    match answer {
+        Next::Run(_, _) => append_ready(replica, now, out)?,
+        Next::AllDone => out.extend_from_slice(b"all done\n")?,
+        Next::Overdue(event) => append_overdue(event, out)?,
+    }
+    Ok(())
+}
+
+fn append_overdue<B: Allocator>(event: Event, out: &mut Vec<u8, B>) -> Result<(), Memory>
+    ensures { OnOk result (out.new.items ≡ out.old.items ++ line (codes "overdue " ++ event_text event)) }
+{
+    out.extend_from_slice(b"overdue ")?;
+    event.print(out)?;
+    out.extend_from_slice(b"\n")?;
+    Ok(())
+}
+
+// Appends the lines of the events that are ready from now on.
+fn append_ready<A: Allocator + Copy>(
+    replica: &Replica<A>,
+    now: Ms,
+    out: &mut Vec<u8, A>,
+) -> Result<(), Memory>
+    requires { HasSchedule (all_bounds replica.now.source replica.now.state) }
+    ensures { OnOk result ((text : List ℕ)
+        × AreReadyLines (all_bounds replica.now.source replica.now.state) (done_events replica.now.source replica.now.state) now text
+        × (out.new.items ≡ out.old.items ++ text)) }
+{
+    let matrix = replica.current().unwrap();
+    let flags = replica.done_flags();
+    let done = flags_of(&flags, matrix);
+    let ready = ready_events(replica.alloc(), matrix, done, now)?;
+    append_lines(&ready, out)?;
+    Ok(())
+}
+
+// Those of the flags that are about the matrix's events.
+fn flags_of<'a, A: Allocator>(flags: &'a [bool; EVENT_FLAGS], matrix: &Matrix<A>) -> &'a [bool]
+    ensures value { result.now ≡ take (matrix.now.events + 1) flags.now }
+    ensures one_each { length result.now ≡ matrix.now.events + 1 }
+    ensures few { matrix.now.events ≤ most_events }
+{
+    &flags[..usize::from(matrix.events()) + 1]
+}
+
+// The events that are ready from now on, in the order in which they are printed.
+fn ready_events<A: Allocator + Copy>(
+    alloc: A,
+    matrix: &Matrix<A>,
+    done: &[bool],
+    now: Ms,
+) -> Result<Vec<ReadyEvent, A>, Memory>
+    requires { length done.now ≡ matrix.now.events + 1 }
+    ensures { IfOk result (λ ready. (bounds : List Difference) → IsExact bounds matrix.now → AreReadyEvents bounds done.now now ready.items) }
+{
+    let mut ready = ready_by_number(alloc, matrix, done, now)?;
+    ready.sort_unstable();
+    Ok(ready)
+}
+
+// The same, by their numbers.
+fn ready_by_number<A: Allocator + Copy>(
+    alloc: A,
+    matrix: &Matrix<A>,
+    done: &[bool],
+    now: Ms,
+) -> Result<Vec<ReadyEvent, A>, Memory>
+    requires { length done.now ≡ matrix.now.events + 1 }
+    ensures times { IfOk result (λ ready. (bounds : List Difference) → IsExact bounds matrix.now
+        → All (λ one. AreReadyTimes bounds done.now now one.event (Some (one.first, one.last))) ready.items) }
+    ensures once { IfOk result (λ ready. (bounds : List Difference) → IsExact bounds matrix.now
+        → (event : ℕ) → (time : ℤ) → now ≤ℤ time → IsReady bounds done.now event time → count_by (λ one. one.event == event) ready.items ≡ 1) }
+{
+    let mut ready = Vec::new(alloc);
+    for before in 0..matrix.events() {
+        let event = Event::new(before + 1).unwrap();
+        if let Some(times) = ready_times(matrix, done, event, now) {
+            ready.push(ReadyEvent {
+                first: times.0,
+                event,
+                last: times.1,
+            })?;
+        }
+    }
+    Ok(ready)
+}
+
+fn append_lines<B: Allocator>(ready: &[ReadyEvent], out: &mut Vec<u8, B>) -> Result<(), Memory>
+    ensures { OnOk result (out.new.items ≡ out.old.items ++ flat_map ready_line ready.now) }
+{
+    for one in ready {
+        append_line(*one, out)?;
+    }
+    Ok(())
+}
+
+fn append_line<B: Allocator>(one: ReadyEvent, out: &mut Vec<u8, B>) -> Result<(), Memory>
+    ensures { OnOk result (out.new.items ≡ out.old.items ++ ready_line one) }
+{
+    one.event.print(out)?;
+    out.extend_from_slice(b" ")?;
+    one.first.print(out)?;
+    out.extend_from_slice(b" ")?;
+    one.last.print(out)?;
+    out.extend_from_slice(b"\n")?;
+    Ok(())
+}

@@ -1,0 +1,141 @@
+ghost use Rattle.std.specs.Prelude.{◌≡◌, ◌↔◌, ◌++◌, ℕ, List, map, Option, IsTrue, IfOk, OnOk, OnErr};
+ghost use Rattle.std.specs.List.{Any, flat_map};
+ghost use Rattle.stn_questions.specs.Records.{AreKnown, IsRecordsText, amends_text, held_text, word_where, record_line};
+
+use crate::bounds::append_bound;
+use std::alloc::Allocator;
+use stn_records::{Id, Mark, Record, Records};
+use stn_replica::Replica;
+use stn_time::Memory;
+
+/// Appends a line for each known id, in order: the id; its record's bound, where the record is known,
+/// with `done` where it says that its event is done; `amends` and the old id, where the record replaces
+/// one; `withdrawn` where the id is, and `replaced` where a record replaces it. For want of memory it
+/// appends nothing.
+pub fn print_records<A: Allocator + Copy, B: Allocator>(
+    replica: &Replica<A>,
+    out: &mut Vec<u8, B>,
+) -> Result<(), Memory>
+    ensures printed { OnOk result ((text : List ℕ) × IsRecordsText replica.now.state text × (out.new.items ≡ out.old.items ++ text)) }
+    ensures kept { OnErr result (out.new.items ≡ out.old.items) }
+{
+    let text = text_of(replica.alloc(), replica.records())?;
+    out.extend_from_slice(&text)?;
+    Ok(())
+}
+
+fn text_of<A: Allocator + Copy>(alloc: A, records: &Records<A>) -> Result<Vec<u8, A>, Memory>
+    ensures { IfOk result (λ text. IsRecordsText records.now text.items) }
+{
+    let ids = known_ids(alloc, records)?;
+    let mut text = Vec::new(alloc);
+    append_lines(records, &ids, &mut text)?;
+    Ok(text)
+}
+
+// The known ids in order, each once.
+fn known_ids<A: Allocator + Copy>(alloc: A, records: &Records<A>) -> Result<Vec<Id, A>, Memory>
+    ensures { IfOk result (λ ids. AreKnown records.now ids.items) }
+{
+    let state = records.state();
+    let mut ids = Vec::new(alloc);
+    append_ids(state.additions().entries(), &mut ids)?;
+    append_ids(state.tombstones().entries(), &mut ids)?;
+    append_replaced(state.replacements().entries(), &mut ids)?;
+    ids.sort_unstable();
+    ids.dedup();
+    Ok(ids)
+}
+
+fn append_ids<X, A: Allocator>(entries: &[(Id, X)], ids: &mut Vec<Id, A>) -> Result<(), Memory>
+    ensures { OnOk result (ids.new.items ≡ ids.old.items ++ map (λ entry. entry.0) entries.now) }
+{
+    for entry in entries {
+        ids.push(entry.0)?;
+    }
+    Ok(())
+}
+
+// Appends the ids that records replace.
+fn append_replaced<A: Allocator>(entries: &[(Id, Id)], ids: &mut Vec<Id, A>) -> Result<(), Memory>
+    ensures { OnOk result (ids.new.items ≡ ids.old.items ++ map (λ entry. entry.1) entries.now) }
+{
+    for entry in entries {
+        ids.push(entry.1)?;
+    }
+    Ok(())
+}
+
+fn append_lines<A: Allocator + Copy, B: Allocator>(
+    records: &Records<A>,
+    ids: &[Id],
+    out: &mut Vec<u8, B>,
+) -> Result<(), Memory>
+    ensures { OnOk result (out.new.items ≡ out.old.items ++ flat_map (record_line records.now) ids.now) }
+{
+    for id in ids {
+        append_line(records, *id, out)?;
+    }
+    Ok(())
+}
+
+fn append_line<A: Allocator + Copy, B: Allocator>(
+    records: &Records<A>,
+    id: Id,
+    out: &mut Vec<u8, B>,
+) -> Result<(), Memory>
+    ensures { OnOk result (out.new.items ≡ out.old.items ++ record_line records.now id) }
+{
+    let state = records.state();
+    id.print(out)?;
+    append_held(state.additions().get(id), out)?;
+    append_amended(state.replacements().get(id), out)?;
+    append_word(state.tombstones().contains(id), b" withdrawn", out)?;
+    append_word(
+        is_replaced(state.replacements().entries(), id),
+        b" replaced",
+        out,
+    )?;
+    out.extend_from_slice(b"\n")?;
+    Ok(())
+}
+
+// Appends the record of an id, where it is known.
+fn append_held<B: Allocator>(held: Option<Record>, out: &mut Vec<u8, B>) -> Result<(), Memory>
+    ensures { OnOk result (out.new.items ≡ out.old.items ++ held_text held) }
+{
+    if let Some(record) = held {
+        out.extend_from_slice(b" ")?;
+        append_bound(out, record.bound)?;
+        append_word(record.mark == Mark::Done, b" done", out)?;
+    }
+    Ok(())
+}
+
+// Appends the id that a record replaces, where it replaces one.
+fn append_amended<B: Allocator>(old: Option<Id>, out: &mut Vec<u8, B>) -> Result<(), Memory>
+    ensures { OnOk result (out.new.items ≡ out.old.items ++ amends_text old) }
+{
+    if let Some(id) = old {
+        out.extend_from_slice(b" amends ")?;
+        id.print(out)?;
+    }
+    Ok(())
+}
+
+// Whether one of the entries replaces the id.
+fn is_replaced(entries: &[(Id, Id)], id: Id) -> bool
+    ensures { IsTrue result ↔ Any (λ entry. entry.1 ≡ id) entries.now }
+{
+    entries.iter().any(|entry| entry.1 == id)
+}
+
+// Appends the word where it is so.
+fn append_word<B: Allocator>(so: bool, word: &[u8], out: &mut Vec<u8, B>) -> Result<(), Memory>
+    ensures { OnOk result (out.new.items ≡ out.old.items ++ word_where so word.now) }
+{
+    if so {
+        out.extend_from_slice(word)?;
+    }
+    Ok(())
+}

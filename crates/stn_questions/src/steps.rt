@@ -1,0 +1,138 @@
+ghost use Rattle.std.specs.Prelude.{◌≡◌, ◌≤◌, ◌++◌, ℕ, List, length, map, decimal, IfOk, OnOk, OnErr};
+ghost use Rattle.std.specs.List.{flat_map, range_with_len};
+ghost use Rattle.stn_net.specs.Event.{most_steps};
+ghost use Rattle.stn_plan.specs.Views.{planned_step, word_of};
+ghost use Rattle.stn_lift.specs.PlanSource.{files};
+ghost use Rattle.stn_replica.specs.Lines.{line};
+ghost use Rattle.stn_questions.specs.Durations.{least_of, AreDurations};
+ghost use Rattle.stn_questions.specs.Steps.{words_text, step_line, step_lines, planned_steps, steps_text};
+
+use std::alloc::{AllocError, Allocator};
+use stn_lift::{Base, Source};
+use stn_net::Bound;
+use stn_plan::{Plan, PlanFault, Step};
+use stn_replica::Replica;
+use stn_text::append_decimal;
+use stn_time::{Memory, Ms};
+
+/// Appends a line for each step, from 1 on: its number; of a plan in a domain also its action and the
+/// arguments as the plan's text spells them, its planned start and its duration in the domain. For want
+/// of memory it appends nothing.
+pub fn print_steps<A: Allocator + Copy, B: Allocator>(
+    replica: &Replica<A>,
+    out: &mut Vec<u8, B>,
+) -> Result<(), Memory>
+    ensures printed { OnOk result (out.new.items ≡ out.old.items ++ steps_text replica.now.source) }
+    ensures kept { OnErr result (out.new.items ≡ out.old.items) }
+{
+    let text = text_of(replica.alloc(), replica.base())?;
+    out.extend_from_slice(&text)?;
+    Ok(())
+}
+
+fn text_of<A: Allocator + Copy>(alloc: A, base: &Base<A>) -> Result<Vec<u8, A>, Memory>
+    ensures { IfOk result (λ text. text.items ≡ steps_text base.now) }
+{
+    let mut text = Vec::new(alloc);
+    match base.source() {
+        Source::Bare(steps) => append_numbers(&mut text, *steps)?,
+        Source::Files(_, plan) => append_planned(alloc, plan, durations_of(base), &mut text)?,
+    }
+    Ok(text)
+}
+
+// The bounds that say how long each step of a plan in a domain lasts.
+fn durations_of<A: Allocator>(base: &Base<A>) -> &[Bound]
+    ensures { (domain plan : List ℕ) → base.now ≡ files domain plan → AreDurations domain plan result.now }
+{
+    let first = usize::from(base.events());
+    &base.bounds()[first..]
+}
+
+// Appends a line for each number from 1 to that of the steps.
+fn append_numbers<B: Allocator>(out: &mut Vec<u8, B>, steps: u16) -> Result<(), Memory>
+    requires { steps ≤ most_steps }
+    ensures { OnOk result (out.new.items ≡ out.old.items ++ flat_map (λ number. line (decimal number)) (range_with_len 1 steps)) }
+{
+    for before in 0..steps {
+        append_decimal(out, b"", before + 1)?;
+        out.extend_from_slice(b"\n")?;
+    }
+    Ok(())
+}
+
+// Appends the lines of the steps of a plan's text, of which these bounds say how long each lasts.
+fn append_planned<A: Allocator + Copy>(
+    alloc: A,
+    plan: &[u8],
+    durations: &[Bound],
+    out: &mut Vec<u8, A>,
+) -> Result<(), Memory>
+    requires one_each { length (planned_steps plan.now) ≤ length durations.now }
+    ensures { OnOk result (out.new.items ≡ out.old.items ++ step_lines (least_of durations.now) 0 (planned_steps plan.now)) }
+{
+    let plan = read_again(alloc, plan)?;
+    append_step_lines(plan.steps(), durations, out)?;
+    Ok(())
+}
+
+// The plan of the text of one that was read before, so that nothing but memory can be wanting.
+fn read_again<'a, A: Allocator + Copy>(alloc: A, text: &'a [u8]) -> Result<Plan<'a, A>, Memory>
+    ensures { IfOk result (λ plan. plan.steps ≡ planned_steps text.now) }
+{
+    match Plan::read(alloc, text) {
+        Ok(plan) => Ok(plan),
+        Err(_) => Err(AllocError),
+    }
+}
+
+fn append_step_lines<'a, A: Allocator, B: Allocator>(
+    steps: &[Step<'a, A>],
+    durations: &[Bound],
+    out: &mut Vec<u8, B>,
+) -> Result<(), Memory>
+    requires one_each { length steps.now ≤ length durations.now }
+    requires few { length steps.now ≤ most_steps }
+    ensures { OnOk result (out.new.items ≡ out.old.items ++ step_lines (least_of durations.now) 0 (map planned_step steps.now)) }
+{
+    for (before, step) in steps.iter().enumerate() {
+        let duration = durations[before].lo();
+        append_step_line(before as u16 + 1, step, duration, out)?;
+    }
+    Ok(())
+}
+
+fn append_step_line<'a, A: Allocator, B: Allocator>(
+    number: u16,
+    step: &Step<'a, A>,
+    duration: Ms,
+    out: &mut Vec<u8, B>,
+) -> Result<(), Memory>
+    ensures { OnOk result (out.new.items ≡ out.old.items ++ step_line number (planned_step step.now) duration) }
+{
+    append_decimal(out, b"", number)?;
+    out.extend_from_slice(b" ")?;
+    append_words(step.action, &step.args, out)?;
+    out.extend_from_slice(b" ")?;
+    step.time.print(out)?;
+    out.extend_from_slice(b" ")?;
+    duration.print(out)?;
+    out.extend_from_slice(b"\n")?;
+    Ok(())
+}
+
+// Appends an action and its arguments, with a space before each of these.
+fn append_words<B: Allocator>(
+    action: &[u8],
+    arguments: &[&[u8]],
+    out: &mut Vec<u8, B>,
+) -> Result<(), Memory>
+    ensures { OnOk result (out.new.items ≡ out.old.items ++ words_text action.now (map word_of arguments.now)) }
+{
+    out.extend_from_slice(action)?;
+    for argument in arguments {
+        out.extend_from_slice(b" ")?;
+        out.extend_from_slice(argument)?;
+    }
+    Ok(())
+}
