@@ -51,14 +51,26 @@ def windows():
     return lines + ["1 report"]
 
 
-def merges():
+def merged(command):
     """64 sites over 128 events, 4,096 records, 1,024 random merges, two rounds of a ring, and two reports."""
     rng = random.Random(2)
     lines = ["steps 64", "sites 64"]
-    lines += [f"{number % 64 + 1} add {bound}" for number, bound in enumerate(bounds(rng, 128, 4096))]
+    for number, bound in enumerate(bounds(rng, 128, 4096)):
+        site, counter = number % 64 + 1, number // 64 + 1
+        lines.append(f"{site} {command(site, counter)} {bound}")
     lines += ["{} merge {}".format(*rng.sample(range(1, 65), 2)) for _ in range(1024)]
     lines += [f"{site % 64 + 1} merge {site}" for _ in range(2) for site in range(1, 65)]
     return lines + ["1 report", "64 report"]
+
+
+def merges():
+    """All records are added."""
+    return merged(lambda site, counter: "add")
+
+
+def amended():
+    """Every fourth record of a site replaces the one before it."""
+    return merged(lambda site, counter: "add" if counter % 4 else f"amend {site}.{counter - 1}")
 
 
 def conflict():
@@ -96,7 +108,7 @@ def dense():
     return domain + plan + ["sites 64", "64 report"]
 
 
-SCRIPTS = {made.__name__: made for made in (windows, merges, conflict, dense, rehearse, packets)}
+SCRIPTS = {made.__name__: made for made in (windows, merges, amended, conflict, dense, rehearse, packets)}
 
 
 def processor():

@@ -10,8 +10,8 @@ import sys
 HORIZON, OLD_HORIZON = 31_536_000_000, 1_000_000_000
 MOST_BODY = 262_144
 MOST_IDS = 4096
-OLD_HELLO, OLD_RECORDS, TEXT, REFUSED, HELLO, RECORDS = 1, 2, 4, 5, 7, 8
-KINDS = range(1, 9)
+OLD_HELLO, OLD_RECORDS, TEXT, REFUSED, HELLO, RECORDS, AMENDED = 1, 2, 4, 5, 7, 8, 16
+KINDS = (*range(1, 9), AMENDED)
 OLD = (OLD_HELLO, OLD_RECORDS)
 
 
@@ -78,7 +78,20 @@ def an_old_record(reader):
     return mark, start, to, low, high
 
 
-def records_of(reader, record_of):
+def entries_of(reader, added):
+    """The entries of amendments: the ids of new records, and the ids that these replace."""
+    entries, last = {}, (0, 0)
+    count = reader.number(2)
+    rule(count >= 1)
+    for _ in range(count):
+        new, old = an_id(reader), an_id(reader)
+        rule(last < new and new != old and new in added and added[new][0] == 0)
+        entries[new] = old
+        last = new
+    return entries
+
+
+def records_of(reader, record_of, amended=False):
     added, last = {}, (0, 0)
     for _ in range(reader.number(2)):
         one = an_id(reader)
@@ -91,8 +104,9 @@ def records_of(reader, record_of):
         rule(last < one)
         withdrawn.add(one)
         last = one
-    rule(len(withdrawn | added.keys()) <= MOST_IDS)
-    return added, withdrawn
+    entries = entries_of(reader, added) if amended else {}
+    rule(len(withdrawn | added.keys() | set(entries.values())) <= MOST_IDS)
+    return added, withdrawn, entries
 
 
 def source_of(reader):
@@ -109,8 +123,8 @@ def content_of(body):
     kind = reader.number(1)
     if kind in (HELLO, OLD_HELLO):
         content = source_of(reader)
-    elif kind == RECORDS:
-        content = records_of(reader, a_record)
+    elif kind in (RECORDS, AMENDED):
+        content = records_of(reader, a_record, kind == AMENDED)
     elif kind == OLD_RECORDS:
         content = records_of(reader, an_old_record)
     elif kind == TEXT:
@@ -150,17 +164,23 @@ class Replica:
         self.steps = source
         self.added = {}
         self.withdrawn = set()
+        self.entries = {}
 
-    def take(self, added, withdrawn):
+    def known(self):
+        return self.added.keys() | self.withdrawn | set(self.entries.values())
+
+    def take(self, added, withdrawn, entries):
         if any(max(record[1], record[2]) > 2 * self.steps for record in added.values()):
             raise Fault(4)
         if any(self.added.get(one, record) != record for one, record in added.items()):
             raise Fault(40)
-        known = self.added.keys() | self.withdrawn | added.keys() | withdrawn
-        if len(known) > MOST_IDS:
+        if any(self.entries.get(new, old) != old for new, old in entries.items()):
+            raise Fault(40)
+        if len(self.known() | added.keys() | withdrawn | set(entries.values())) > MOST_IDS:
             raise Fault(41)
         self.added.update(added)
         self.withdrawn |= withdrawn
+        self.entries.update(entries)
 
 
 def frame_case(data):
@@ -175,7 +195,7 @@ def frame_case(data):
 
 def load(data):
     """The replica of a log, whose frames are all of one version."""
-    replica, wanted = None, {HELLO: RECORDS, OLD_HELLO: OLD_RECORDS}
+    replica, wanted = None, {HELLO: (RECORDS, AMENDED), OLD_HELLO: (OLD_RECORDS,)}
     while data or replica is None:
         frame = frame_of(data)
         if frame is None:
@@ -184,7 +204,7 @@ def load(data):
         if kind not in wanted:
             raise Fault(62)
         if replica is None:
-            replica, wanted = Replica(content), (wanted[kind],)
+            replica, wanted = Replica(content), wanted[kind]
         else:
             replica.take(*content)
         data = data[length:]

@@ -295,9 +295,10 @@ class Literals:
 
 @dataclass
 class Step:
-    """A line of a plan; the duration may be none."""
+    """A line of a plan: its words as they are spelled, and in small letters; the duration may be none."""
 
     time: int
+    words: list
     action: str
     arguments: list
     duration: int
@@ -341,7 +342,7 @@ def step_of(tokens, number):
     if time < 0 or (duration or 0) < 0:
         raise Refused(23, number)
     action, *arguments = (word.lower() for word in words)
-    return Step(time, action, arguments, duration)
+    return Step(time, words, action, arguments, duration)
 
 
 def plan_of(data):
@@ -404,11 +405,24 @@ def horizon_bounds(events):
     return [(0, event, 0, HORIZON) for event in range(1, events + 1)]
 
 
-def lifted(domain, plan):
-    """The bounds of a plan in a domain, and the planned times of its events."""
+def checked_steps(domain, plan):
+    """The steps of a plan in a domain, and the actions of the domain."""
     actions, steps = domain_of(domain), plan_of(plan)
     for number, step in enumerate(steps, 1):
         check_step(number, step, actions)
+    return steps, actions
+
+
+def step_lines(domain, plan):
+    """Each step: its number, its words as the plan spells them, its planned start and its duration."""
+    steps, actions = checked_steps(domain, plan)
+    times = [(time_text(step.time), time_text(actions[step.action].duration)) for step in steps]
+    return [" ".join([str(number), *step.words, *pair]) for number, (step, pair) in enumerate(zip(steps, times), 1)]
+
+
+def lifted(domain, plan):
+    """The bounds of a plan in a domain, and the planned times of its events."""
+    steps, actions = checked_steps(domain, plan)
     events = [Event(0, set(), set(), set())]
     for step in steps:
         events += events_of(step, actions[step.action])

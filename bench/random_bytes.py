@@ -11,19 +11,26 @@ import sys
 
 sys.dont_write_bytecode = True
 
-from changed import HELLO, HORIZON, OLD, RECORDS, Fault, Replica, frame_of, load, log_case
+from changed import AMENDED, HELLO, HORIZON, OLD, RECORDS, Fault, Replica, frame_of, load, log_case
 
 ASK = 3
 
 
+def ids_bytes(ids):
+    return b"".join(number.to_bytes(2, "big") for one in ids for number in one)
+
+
 def log_of(replica):
     """The log of a replica: all that it holds."""
-    body = bytes([RECORDS]) + len(replica.added).to_bytes(2, "big")
+    body = bytes([AMENDED if replica.entries else RECORDS]) + len(replica.added).to_bytes(2, "big")
     for one, (mark, start, to, low, high) in sorted(replica.added.items()):
         numbers = (*one, mark, start, to, low + HORIZON, high + HORIZON)
         body += b"".join(number.to_bytes(count, "big") for number, count in zip(numbers, (2, 2, 1, 2, 2, 8, 8)))
     body += len(replica.withdrawn).to_bytes(2, "big")
-    body += b"".join(number.to_bytes(2, "big") for one in sorted(replica.withdrawn) for number in one)
+    body += ids_bytes(sorted(replica.withdrawn))
+    if replica.entries:
+        body += len(replica.entries).to_bytes(2, "big")
+        body += b"".join(map(ids_bytes, sorted(replica.entries.items())))
     hello = bytes([HELLO, 0]) + replica.steps.to_bytes(2, "big")
     return b"".join(len(part).to_bytes(4, "big") + part for part in (hello, body))
 
@@ -46,9 +53,9 @@ def serve(data):
             return "60", frames, replica
         if kind == HELLO:
             greeted = True
-        elif not greeted or kind not in (RECORDS, ASK):
+        elif not greeted or kind not in (RECORDS, AMENDED, ASK):
             return "61", frames, replica
-        elif kind == RECORDS:
+        elif kind in (RECORDS, AMENDED):
             try:
                 replica.take(*content)
             except Fault:
@@ -133,7 +140,7 @@ def main():
     count = int(sys.argv[1])
     frames = [bytes.fromhex(line.split()[1]) for line in sys.stdin]
     print_random_sessions(count, frames)
-    print_random_logs(count, "random logs", [frame for frame in frames if frame[4] in (HELLO, RECORDS, *OLD)])
+    print_random_logs(count, "random logs", [frame for frame in frames if frame[4] in (HELLO, RECORDS, AMENDED, *OLD)])
     print_random_logs(count, "random old logs", [frame for frame in frames if frame[4] in OLD])
 
 

@@ -13,7 +13,7 @@ from pathlib import Path
 
 sys.dont_write_bytecode = True
 
-from plans import EVENTS, HORIZON, MOST_STEPS, Refused, event_text, horizon_bounds, is_digits, lifted, read_time, time_text
+from plans import EVENTS, HORIZON, MOST_STEPS, Refused, event_text, horizon_bounds, is_digits, lifted, read_time, step_lines, time_text
 
 MOST_SITES = 64
 MOST_COUNTER = 65_535
@@ -98,18 +98,23 @@ def levels_of(start, tight):
     return levels
 
 
+def way_of(table, bounds, start, end):
+    """The links of the first tight chain, by levels, from one event to another, over the table of the bounds."""
+    far = table.rows[start]
+    links = [link for bound in bounds for link in bound.links()]
+    tight = [link for link in links if far[link.begins] + link.weight == far[link.ends]]
+    levels = levels_of(start, tight)
+    way, here = [], end
+    while here != start:
+        way.append(next(link for link in tight if link.ends == here and levels.get(link.begins) == levels[here] - 1))
+        here = way[-1].begins
+    return way[::-1]
+
+
 def named_cycle(table, bounds, culprit):
     """The links of the cycle that a report names, over the table of the bounds before the culprit."""
     first = table.refused_link(culprit)
-    far = table.rows[first.ends]
-    links = [link for bound in bounds[:bounds.index(culprit)] for link in bound.links()]
-    tight = [link for link in links if far[link.begins] + link.weight == far[link.ends]]
-    levels = levels_of(first.ends, tight)
-    way, here = [], first.begins
-    while here != first.ends:
-        way.append(next(link for link in tight if link.ends == here and levels.get(link.begins) == levels[here] - 1))
-        here = way[-1].begins
-    return [first, *reversed(way)]
+    return [first, *way_of(table, bounds[:bounds.index(culprit)], first.ends, first.begins)]
 
 
 def id_text(one):
@@ -128,11 +133,12 @@ def read_id(text):
 
 
 class Plan:
-    """What all sites share."""
+    """What all sites share; of each step a line."""
 
-    def __init__(self, steps, bounds):
-        self.steps = steps
-        self.events = 2 * steps
+    def __init__(self, lines, bounds):
+        self.lines = lines
+        self.steps = len(lines)
+        self.events = 2 * self.steps
         self.bounds = [Bound(f"plan.{number}", *bound) for number, bound in enumerate(bounds, 1)]
         self.table = Table(self.events)
         for bound in self.bounds:
@@ -142,36 +148,55 @@ class Plan:
 def bare_plan(steps):
     if steps > MOST_STEPS:
         raise Refused(34)
-    return Plan(steps, horizon_bounds(2 * steps))
+    return Plan([str(step) for step in range(1, steps + 1)], horizon_bounds(2 * steps))
 
 
 class Site:
-    """A site: its records, by id a mark and a bound, and the withdrawn ids."""
+    """A site: its records, by id a mark and a bound; the withdrawn ids; and the ids that records replace, by the id of the record."""
 
     def __init__(self, number, plan):
         self.number = number
         self.plan = plan
         self.added = {}
         self.withdrawn = set()
+        self.replacing = {}
+
+    def replaced(self):
+        """The ids that no longer count."""
+        return self.withdrawn | set(self.replacing.values())
+
+    def known(self):
+        return self.added.keys() | self.replaced()
 
     def put(self, *record):
-        known = self.added.keys() | self.withdrawn
+        known = self.known()
         counter = 1 + max((counter for site, counter in known if site == self.number), default=0)
         if counter > MOST_COUNTER:
             raise Refused(43)
         if len(known) >= MOST_IDS:
             raise Refused(41)
         self.added[self.number, counter] = record
-        return id_text((self.number, counter))
+        return self.number, counter
 
-    def add(self, start, to, low, high):
+    def check_bound(self, start, to, low, high):
         if max(start, to) > self.plan.events:
             raise Refused(4)
         if start == to:
             raise Refused(5)
         if low > high:
             raise Refused(6)
-        return self.put("plain", start, to, low, high)
+
+    def add(self, *bound):
+        self.check_bound(*bound)
+        return self.put("plain", *bound)
+
+    def amend(self, old, *bound):
+        self.check_bound(*bound)
+        if old not in self.known():
+            raise Refused(42)
+        one = self.put("plain", *bound)
+        self.replacing[one] = old
+        return one
 
     def done(self, event, time):
         if not 1 <= event <= self.plan.events:
@@ -179,29 +204,33 @@ class Site:
         return self.put("done", 0, event, time, time)
 
     def withdraw(self, one):
-        if one not in self.added and one not in self.withdrawn:
+        if one not in self.known():
             raise Refused(42)
         self.withdrawn.add(one)
-        return id_text(one)
+        return one
 
     def take(self, packet):
         """Takes a packet; on sites of one script no id has two records."""
-        added, withdrawn = packet
-        if len(self.added.keys() | self.withdrawn | added.keys() | withdrawn) > MOST_IDS:
+        added, withdrawn, replacing = packet
+        if len(self.known() | added.keys() | withdrawn | set(replacing.values())) > MOST_IDS:
             raise Refused(41)
         self.added.update(added)
         self.withdrawn.update(withdrawn)
+        self.replacing.update(replacing)
 
     def packet(self, items):
-        """What these items are, or all that the site holds."""
+        """What these items are, or all that the site holds; a record comes with the id that it replaces."""
         if not items:
-            return dict(self.added), set(self.withdrawn)
+            return dict(self.added), set(self.withdrawn), dict(self.replacing)
         if any(one not in (self.withdrawn if mark else self.added) for mark, one in items):
             raise Refused(42)
-        return {one: self.added[one] for mark, one in items if not mark}, {one for mark, one in items if mark}
+        added = {one: self.added[one] for mark, one in items if not mark}
+        replacing = {one: old for one, old in self.replacing.items() if one in added}
+        return added, {one for mark, one in items if mark}, replacing
 
     def live(self):
-        return [(id_text(one), *record) for one, record in sorted(self.added.items()) if one not in self.withdrawn]
+        replaced = self.replaced()
+        return [(id_text(one), *record) for one, record in sorted(self.added.items()) if one not in replaced]
 
     def bounds(self):
         return self.plan.bounds + [Bound(name, *bound) for name, _, *bound in self.live()]
@@ -221,17 +250,64 @@ class Site:
     def report(self):
         table, culprit = self.judged()
         lines = [f"plan {self.plan.steps} steps {self.plan.events} events"]
-        lines.append(f"records {len(self.live())} live {len(self.withdrawn)} withdrawn")
+        lines.append(f"records {len(self.live())} live {len(self.replaced())} withdrawn")
         if culprit:
-            cycle = named_cycle(table, self.bounds(), culprit)
-            lines.append(f"conflict {time_text(sum(link.weight for link in cycle))}")
-            return lines + [link.text() for link in cycle]
-        lines.append("ok")
-        done = self.done_events()
-        for event in range(1, self.plan.events + 1):
-            mark = " done" if event in done else ""
-            lines.append(f"{event_text(event)} {time_text(table.earliest(event))} {time_text(table.latest(event))}{mark}")
-        return lines
+            return lines + self.conflict(table, culprit)
+        return lines + ["ok"] + [self.window(table, event) for event in range(1, self.plan.events + 1)]
+
+    def conflict(self, table, culprit):
+        cycle = named_cycle(table, self.bounds(), culprit)
+        return [f"conflict {time_text(sum(link.weight for link in cycle))}"] + [link.text() for link in cycle]
+
+    def window(self, table, event):
+        mark = " done" if event in self.done_events() else ""
+        return f"{event_text(event)} {time_text(table.earliest(event))} {time_text(table.latest(event))}{mark}"
+
+    def record_line(self, one):
+        words = [id_text(one)]
+        if one in self.added:
+            mark, *bound = self.added[one]
+            words += [bound_text(*bound)] + ["done"] * (mark == "done")
+        if one in self.replacing:
+            words.append(f"amends {id_text(self.replacing[one])}")
+        words += ["withdrawn"] * (one in self.withdrawn) + ["replaced"] * (one in self.replacing.values())
+        return " ".join(words)
+
+    def record_lines(self):
+        return [self.record_line(one) for one in sorted(self.known())]
+
+    def step_lines(self):
+        return self.plan.lines
+
+    def bound_lines(self):
+        return [f"{bound.name} {bound_text(bound.start, bound.to, bound.low, bound.high)}" for bound in self.bounds()]
+
+    def ready(self, now):
+        """Each event that may run from now on before all others that are left, with the first and the last such time."""
+        table, culprit = self.judged()
+        if culprit:
+            return ["conflict"]
+        left = [event for event in range(1, self.plan.events + 1) if event not in self.done_events()]
+        if not left:
+            return ["all done"]
+        last = min(table.latest(event) for event in left)
+        leading = [event for event in left if all(table.rows[event][other] >= 0 for other in left)]
+        times = sorted((max(now, table.earliest(event)), event) for event in leading)
+        lines = [f"{event_text(event)} {time_text(first)} {time_text(last)}" for first, event in times if first <= last]
+        return lines or self.next(now)
+
+    def why(self, event):
+        if event > self.plan.events:
+            raise Refused(4)
+        table, culprit = self.judged()
+        if culprit:
+            return self.conflict(table, culprit)
+        earliest = way_of(table, self.bounds(), event, 0)
+        latest = way_of(table, self.bounds(), 0, event)
+        lines = [self.window(table, event), f"earliest {time_text(-sum(link.weight for link in earliest))}"]
+        lines += [link.text() for link in earliest]
+        lines.append(f"latest {time_text(sum(link.weight for link in latest))}")
+        return lines + [link.text() for link in latest]
 
     def coming(self, now):
         """What is left from a time on, by time and event; or the word that says why not, and the overdue event."""
@@ -262,6 +338,12 @@ class Site:
         return [f"broken {broken.name}" if broken else "schedule"]
 
 
+def bound_text(start, to, low, high):
+    """A bound as `add` reads it: a side at the end of the horizon is open."""
+    sides = "*" if low == -HORIZON else time_text(low), "*" if high == HORIZON else time_text(high)
+    return " ".join([event_text(start), event_text(to), *sides])
+
+
 def run_lines(runs):
     return [f"run {time_text(time)} {event_text(event)}" for time, event in runs]
 
@@ -283,7 +365,24 @@ def words_of(line):
 
 
 # How many words follow the name of a command; after `send` and `check` there may be any number.
-WORDS = {"add": 4, "withdraw": 1, "done": 2, "merge": 1, "send": None, "deliver": 1, "report": 0, "next": 1, "rehearse": 1, "check": None}
+WORDS = {
+    "add": 4,
+    "amend": 5,
+    "withdraw": 1,
+    "done": 2,
+    "merge": 1,
+    "send": None,
+    "deliver": 1,
+    "report": 0,
+    "next": 1,
+    "rehearse": 1,
+    "check": None,
+    "records": 0,
+    "steps": 0,
+    "bounds": 0,
+    "ready": 1,
+    "why": 1,
+}
 
 
 @dataclass
@@ -340,8 +439,8 @@ class Script:
         domain = self.block()
         if self.heading_words() != ["plan"]:
             raise Refused(70, self.at)
-        bounds, planned = lifted(domain, self.block())
-        return Plan(len(planned) // 2, bounds)
+        plan = self.block()
+        return Plan(step_lines(domain, plan), lifted(domain, plan)[0])
 
     def heading(self):
         plan = self.plan()
@@ -386,15 +485,21 @@ class Script:
         start, to = EVENTS.get(start), EVENTS.get(to)
         if None in (start, to):
             return None
-        return lambda site: [f"added {site.add(start, to, read_side(low, -HORIZON), read_side(high, HORIZON))}"]
+        return lambda site: [f"added {id_text(site.add(start, to, read_side(low, -HORIZON), read_side(high, HORIZON)))}"]
+
+    def read_amend(self, old, start, to, low, high):
+        old, start, to = read_id(old), EVENTS.get(start), EVENTS.get(to)
+        if None in (old, start, to):
+            return None
+        return lambda site: [f"amended {id_text(site.amend(old, start, to, read_side(low, -HORIZON), read_side(high, HORIZON)))}"]
 
     def read_withdraw(self, one):
         one = read_id(one)
-        return None if one is None else lambda site: [f"withdrawn {site.withdraw(one)}"]
+        return None if one is None else lambda site: [f"withdrawn {id_text(site.withdraw(one))}"]
 
     def read_done(self, event, time):
         event = EVENTS.get(event)
-        return None if event is None else lambda site: [f"added {site.done(event, read_time(time))}"]
+        return None if event is None else lambda site: [f"added {id_text(site.done(event, read_time(time)))}"]
 
     def read_merge(self, other):
         other = read_number(other)
@@ -432,6 +537,22 @@ class Script:
 
     def read_rehearse(self, time):
         return lambda site: site.rehearse(read_time(time))
+
+    def read_records(self):
+        return Site.record_lines
+
+    def read_steps(self):
+        return Site.step_lines
+
+    def read_bounds(self):
+        return Site.bound_lines
+
+    def read_ready(self, time):
+        return lambda site: site.ready(read_time(time))
+
+    def read_why(self, event):
+        event = EVENTS.get(event)
+        return None if event is None else lambda site: site.why(event)
 
     def read_check(self, *times):
         if len(times) != self.sites[0].plan.events:

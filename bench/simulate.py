@@ -3,7 +3,7 @@
 
 usage: simulate.py SEED [SITES [STEPS [WORK]]]    64 sites, 2 steps and 300 commands, unless told
 
-First come random commands: bounds that a hidden schedule meets, withdrawals, packets of all or of some items, deliveries of any packet at any
+First come random commands: bounds that a hidden schedule meets, amendments, withdrawals, packets of all or of some items, deliveries of any packet at any
 age and any number of times, and merges; a packet that is never delivered is lost. Then each site sends all to the first, and the first to
 each, in any order and some of them twice. At the end each site reports, and all should print the same bytes:
 
@@ -25,13 +25,36 @@ def event(number):
     return "z" if number == 0 else f"{'s' if number % 2 else 'e'}{(number + 1) // 2}"
 
 
+class Held:
+    """What a site or a packet holds, as ids alone: records, withdrawn ids, and by the id of a record the id that it replaces."""
+
+    def __init__(self, records=(), withdrawn=(), replacing=()):
+        self.records = set(records)
+        self.withdrawn = set(withdrawn)
+        self.replacing = dict(replacing)
+
+    def known(self):
+        return self.records | self.withdrawn | set(self.replacing.values())
+
+    def take(self, other):
+        self.records |= other.records
+        self.withdrawn |= other.withdrawn
+        self.replacing |= other.replacing
+
+    def part(self, records, withdrawn):
+        return Held(records, withdrawn, {one: old for one, old in self.replacing.items() if one in records})
+
+    def copy(self):
+        return self.part(self.records, self.withdrawn)
+
+
 class Simulation:
-    """What the sites and the packets hold, as ids alone: records, and withdrawn ids."""
+    """What the sites and the packets hold."""
 
     def __init__(self, seed, sites, steps):
         self.rng = random.Random(seed)
         self.schedule = [0] + [self.rng.randrange(SPREAD) for _ in range(2 * steps)]
-        self.sites = [(set(), set()) for _ in range(sites)]
+        self.sites = [Held() for _ in range(sites)]
         self.packets = []
         self.lines = [f"steps {steps}", f"sites {sites}"]
 
@@ -41,35 +64,47 @@ class Simulation:
     def any_site(self):
         return self.rng.randrange(len(self.sites))
 
-    def add(self):
-        site = self.any_site()
-        records, withdrawn = self.sites[site]
+    def new_record(self, site):
+        """The id of a new record of a site, and the words of its bound."""
         first, second = self.rng.sample(range(len(self.schedule)), 2)
         gap = self.schedule[second] - self.schedule[first]
         low = max(-SPREAD, gap - self.rng.randrange(100_000_000))
         high = min(SPREAD, gap + self.rng.randrange(100_000_000))
-        counter = 1 + max((own for maker, own in records | withdrawn if maker == site), default=0)
-        records.add((site, counter))
-        self.say(site, f"add {event(first)} {event(second)} {text(low)} {text(high)}")
+        held = self.sites[site]
+        counter = 1 + max((own for maker, own in held.known() if maker == site), default=0)
+        held.records.add((site, counter))
+        return (site, counter), f"{event(first)} {event(second)} {text(low)} {text(high)}"
+
+    def add(self):
+        site = self.any_site()
+        self.say(site, f"add {self.new_record(site)[1]}")
+
+    def amend(self):
+        site = self.any_site()
+        held = self.sites[site]
+        if held.records:
+            maker, counter = old = self.rng.choice(sorted(held.records))
+            one, bound = self.new_record(site)
+            held.replacing[one] = old
+            self.say(site, f"amend {maker + 1}.{counter} {bound}")
 
     def withdraw(self):
         site = self.any_site()
-        records, withdrawn = self.sites[site]
-        if records:
-            maker, counter = self.rng.choice(sorted(records))
-            withdrawn.add((maker, counter))
+        held = self.sites[site]
+        if held.records:
+            maker, counter = self.rng.choice(sorted(held.records))
+            held.withdrawn.add((maker, counter))
             self.say(site, f"withdraw {maker + 1}.{counter}")
 
     def send_all(self, site):
-        records, withdrawn = self.sites[site]
-        self.packets.append((set(records), set(withdrawn)))
+        self.packets.append(self.sites[site].copy())
         self.say(site, "send")
         return len(self.packets)
 
     def send(self):
         site = self.any_site()
-        records, withdrawn = self.sites[site]
-        items = [("", one) for one in sorted(records)] + [("-", one) for one in sorted(withdrawn)]
+        held = self.sites[site]
+        items = [("", one) for one in sorted(held.records)] + [("-", one) for one in sorted(held.withdrawn)]
         # Room is left for the packets of the end.
         if len(self.packets) + len(self.sites) + 1 >= MOST_PACKETS:
             return
@@ -77,30 +112,26 @@ class Simulation:
             self.send_all(site)
             return
         chosen = self.rng.sample(items, self.rng.randrange(1, min(len(items), 8) + 1))
-        self.packets.append(({one for mark, one in chosen if not mark}, {one for mark, one in chosen if mark}))
+        self.packets.append(held.part({one for mark, one in chosen if not mark}, {one for mark, one in chosen if mark}))
         self.say(site, "send " + " ".join(f"{mark}{maker + 1}.{counter}" for mark, (maker, counter) in chosen))
-
-    def take(self, site, held):
-        self.sites[site][0].update(held[0])
-        self.sites[site][1].update(held[1])
 
     def deliver(self, site=None, number=None):
         if not self.packets:
             return
         site = self.any_site() if site is None else site
         number = self.rng.randrange(len(self.packets)) + 1 if number is None else number
-        self.take(site, self.packets[number - 1])
+        self.sites[site].take(self.packets[number - 1])
         self.say(site, f"deliver {number}")
 
     def merge(self):
         site, other = self.any_site(), self.any_site()
-        self.take(site, self.sites[other])
+        self.sites[site].take(self.sites[other])
         self.say(site, f"merge {other + 1}")
 
     def work(self, count):
-        steps = [self.add, self.withdraw, self.send, self.deliver, self.merge]
+        steps = [self.add, self.amend, self.withdraw, self.send, self.deliver, self.merge]
         for _ in range(count):
-            self.rng.choices(steps, weights=[3, 1, 3, 4, 1])[0]()
+            self.rng.choices(steps, weights=[4, 2, 1, 4, 6, 1])[0]()
 
     def deliver_all(self, ways):
         ways = ways + [way for way in ways if self.rng.random() < 0.25]
