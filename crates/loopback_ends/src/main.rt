@@ -44,12 +44,6 @@ const REPLIES: [u8; 69] = [
 const REPORT: &[u8] =
     b"plan 1 steps 2 events\nrecords 2 live 0 withdrawn\nok\ns1 2.000 10.000\ne1 7.000 15.000\n";
 
-// The log of a site.
-fn site_log(name: &str, site: u8) -> Result<SiteLog<'_>, Error> {
-    let site = Site::new(site).context("no site")?;
-    Ok(SiteLog { name, site })
-}
-
 // The replica of a site by its log.
 fn load_log(rt: &HostRuntime, log: &str, site: u8) -> Result<Replica<Global>, Error> {
     let site = Site::new(site).context("no site")?;
@@ -132,12 +126,12 @@ fn serve_log(
         count,
         limit: Duration::from_millis(LIMIT),
     };
-    let log = site_log(log, 1)?;
+    let site = Site::new(1).context("no site")?;
     let status = serve_on(
         rt,
         &mut FileStore::new(rt),
         &service,
-        &log,
+        &SiteLog { name: log, site },
         replica,
         &mut out,
         &mut err,
@@ -292,12 +286,15 @@ fn send_replica(
     };
     let mut out = Counted::new(io::writer(rt));
     let mut err = Counted::new(io::writer(rt));
-    let log = site_log("u.log", 2)?;
+    let site = Site::new(2).context("no site")?;
     let status = send_on(
         rt,
         &mut FileStore::new(rt),
         &peer,
-        &log,
+        &SiteLog {
+            name: "u.log",
+            site,
+        },
         replica,
         &mut out,
         &mut err,
