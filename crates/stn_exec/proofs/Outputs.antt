@@ -5,23 +5,33 @@ use Rattle.std.proofs.lemmas.Bool.Decides.{same_from_decides}
 use Rattle.stn_lift.specs.PlanSource.{PlanSource}
 use Rattle.stn_records.specs.Content.{Content}
 use Rattle.stn_replica.specs.Report.{IsReport}
-use Rattle.stn_exec.specs.Effect.{Reply, said, reported, foreseen, rehearsed}
+use Rattle.stn_questions.specs.declared.asked.Question.{Question}
+use Rattle.stn_questions.specs.Answer.{IsAnswer}
+use Rattle.stn_exec.specs.Effect.{Reply, said, reported, foreseen, rehearsed, told}
 use Rattle.stn_exec.proofs.Foresight.{one_next_text, one_rehearse_text}
 use Rattle.stn_exec.specs.Output.{IsReplyText, IsOutput, IsRefusal, CountsRefusals}
 
--- a reply has one text, where a plan and a state have one report
-one_text : ((source : PlanSource) (state : Content) (text other : List ℕ) → IsReport source state text → IsReport source state other → text ≡ other)
-    → (reply : Reply) (text other : List ℕ) → IsReplyText reply text → IsReplyText reply other → text ≡ other
-one_text unique (said answer) text other p q = p ∙ sym q
-one_text unique (reported source state) text other p q = unique source state text other p q
-one_text unique (foreseen source state now) text other p q = one_next_text source state now text other p q
-one_text unique (rehearsed source state now) text other p q = one_rehearse_text source state now text other p q
+-- what other laws say of reports, and of answers to questions
+abbrev pub OneReport : Type 0
+OneReport = (source : PlanSource) → (state : Content) → (text other : List ℕ) → IsReport source state text → IsReport source state other → text ≡ other
 
-pub one_output : ((source : PlanSource) (state : Content) (text other : List ℕ) → IsReport source state text → IsReport source state other → text ≡ other)
+abbrev pub OneAnswer : Type 0
+OneAnswer = (source : PlanSource) → (state : Content) → (question : Question) → (text other : List ℕ) → IsAnswer source state question text → IsAnswer source state question other → text ≡ other
+
+-- a reply has one text, where a plan and a state have one report, and one answer to each question
+one_text : OneReport → OneAnswer
+    → (reply : Reply) (text other : List ℕ) → IsReplyText reply text → IsReplyText reply other → text ≡ other
+one_text unique alone (said answer) text other p q = p ∙ sym q
+one_text unique alone (reported source state) text other p q = unique source state text other p q
+one_text unique alone (foreseen source state now) text other p q = one_next_text source state now text other p q
+one_text unique alone (rehearsed source state now) text other p q = one_rehearse_text source state now text other p q
+one_text unique alone (told source state question) text other p q = alone source state question text other p q
+
+pub one_output : OneReport → OneAnswer
     → (replies : List Reply) (text other : List ℕ) → IsOutput replies text → IsOutput replies other → text ≡ other
-one_output unique [] text other p q = p ∙ sym q
-one_output unique (reply ∷ replies) text other p q =
-    p.4 ∙ (ap (λ (l : List ℕ). l ++ p.1) (one_text unique reply p.0 q.0 p.2 q.2) ∙ (ap (λ (l : List ℕ). q.0 ++ l) (one_output unique replies p.1 q.1 p.3 q.3) ∙ sym q.4))
+one_output unique alone [] text other p q = p ∙ sym q
+one_output unique alone (reply ∷ replies) text other p q =
+    p.4 ∙ (ap (λ (l : List ℕ). l ++ p.1) (one_text unique alone reply p.0 q.0 p.2 q.2) ∙ (ap (λ (l : List ℕ). q.0 ++ l) (one_output unique alone replies p.1 q.1 p.3 q.3) ∙ sym q.4))
 
 -- ---- refusals
 abbrev counted : Bool → ℕ → ℕ

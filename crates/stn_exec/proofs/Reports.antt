@@ -13,22 +13,25 @@ use Rattle.stn_world.specs.declared.faults.WorldFault.{WorldFault}
 use Rattle.stn_world.specs.declared.faults.WorldFault.TheVariants.{NoSite}
 use Rattle.stn_world.specs.Faults.{of_replica_fault}
 use Rattle.stn_world.specs.World.{World, HasSite, has_site, opening_world, held_at, content_at}
-use Rattle.stn_records.specs.Content.{Content, Item, HasItem, part_of}
-use Rattle.stn_world.specs.Steps.{Step, added, finished, amended, withdrew, merged, sent, delivered, step_refusal, send_refusal, after, IsAccepted, stepped, run, TookAt, TookSameAt}
+use Rattle.stn_records.specs.Content.{Content, CountsSame, Item, HasItem, part_of}
+use Rattle.stn_world.specs.Steps.{Step, added, finished, amended, withdrew, merged, sent, delivered, step_refusal, send_refusal, after, IsAccepted, stepped, run, TookAt, TookSameAt, TookSameItemsAt}
 use Rattle.stn_world.proofs.Accepted.{site_decides, no_site}
 use Rattle.stn_world.specs.Parts.{holds_all}
 use Rattle.stn_world.proofs.Sendings.{part_free, all_free}
 use Rattle.stn_world.specs.Whole.{IsCoherent}
 use Rattle.stn_world.proofs.Whole.{coherent_at_first}
 use Rattle.stn_world.proofs.Runs.{run_stays, run_keeps, coherent_run}
+use Rattle.stn_net.specs.declared.bound.BoundFault.TheVariants.{NoEvent}
+use Rattle.stn_questions.specs.declared.asked.Question.{Question}
+use Rattle.stn_questions.specs.Answer.{IsAnswer}
 use Rattle.stn_exec.specs.declared.answer.Refusal.{Refusal}
 use Rattle.stn_exec.specs.declared.answer.Refusal.TheVariants as refusal
 use Rattle.stn_exec.specs.declared.answer.Answer.{Answer}
-use Rattle.stn_exec.specs.Command.{Action, add, done, amend, withdraw, merge, send_all, send, deliver, report, check, next, rehearse, Command, sites_command, command_of}
-use Rattle.stn_exec.specs.Effect.{Effect, Reply, reported, foreseen, rehearsed, refusing, refusing_time, difference_read, making, sending, sent_step, asked, action_effect, command_effect, action_step, step_of}
+use Rattle.stn_exec.specs.Command.{Inquiry, Action, add, done, amend, withdraw, merge, send_all, send, deliver, report, check, next, rehearse, ask, Command, sites_command, command_of}
+use Rattle.stn_exec.specs.Effect.{Effect, Reply, reported, foreseen, rehearsed, refusing, refusing_time, difference_read, question_asked, is_of_no_event, making, sending, sent_step, asked, asking, told, action_effect, command_effect, action_step, step_of}
 use Rattle.stn_exec.specs.Script.{Outcome, Start, is_skipped, form_effect, line_outcome, lines_outcome, heading_of, last_line, script_outcome}
-use Rattle.stn_exec.specs.Output.{IsOutput}
-use Rattle.stn_exec.specs.Reports.{line_steps, steps_of_lines, LineOf, first_world, steps_before, world_at, ReportsSite, PrintsAt}
+use Rattle.stn_exec.specs.Output.{IsReplyText, IsOutput}
+use Rattle.stn_exec.specs.Reports.{line_steps, steps_of_lines, LineOf, first_world, steps_before, world_at, ReportsSite, AsksSite, PrintsAt}
 use Rattle.stn_exec.proofs.Effects.{there_effect}
 use Rattle.stn_exec.proofs.Scripts.{line_outcome-skipped, line_outcome-run, line_effect-is, script_outcome-is}
 
@@ -50,6 +53,14 @@ asked_stays : (world : World) (reply : ℤ → Reply) (read : Result ℤ Refusal
 asked_stays world reply (Ok now) = refl
 asked_stays world reply (Err cause) = refl
 
+asking_stays : (world : World) (site : ℕ) (read : Result Question Refusal) → (asking world site read).world ≡ world
+asking_stays world site (Ok question) = by (is_of_no_event world.source question)
+  where
+    by : (b : Bool) → (cond b (refusing world (refusal.Bound NoEvent)) (record { world = world; reply = told world.source (content_at world site) question })).world ≡ world
+    by true = refl
+    by false = refl
+asking_stays world site (Err cause) = refl
+
 there_run : (world : World) (site : ℕ) (action : Action) → HasSite world site → IsCoherent world → (action_effect world site action).world ≡ run world (option_to_list (action_step world site action))
 there_run world site (add from to lo hi) there coherent = making_run world (added site) _ (difference_read from to lo hi)
 there_run world site (done event time) there coherent = making_run world (finished site event) _ (refusing_time (time_of time))
@@ -64,6 +75,7 @@ there_run world site report there coherent = refl
 there_run world site (check times) there coherent = refl
 there_run world site (next now) there coherent = asked_stays world (foreseen world.source (content_at world site)) (refusing_time (time_of now))
 there_run world site (rehearse now) there coherent = asked_stays world (rehearsed world.source (content_at world site)) (refusing_time (time_of now))
+there_run world site (ask inquiry) there coherent = asking_stays world site (question_asked inquiry)
 
 -- at a site that is not there, each step is refused
 refused_run : (world : World) (step : Step) → step_refusal world step ≡ Some NoSite → run world (step ∷ []) ≡ world
@@ -91,6 +103,7 @@ missing_run world site report missing = refl
 missing_run world site (check times) missing = refl
 missing_run world site (next now) missing = refl
 missing_run world site (rehearse now) missing = refl
+missing_run world site (ask inquiry) missing = refl
 
 effect_run : (world : World) (site : ℕ) (action : Action) → IsCoherent world → (command_effect world (sites_command site action)).world ≡ run world (option_to_list (action_step world site action))
 effect_run world site action coherent = tested (has_site world site) refl
@@ -179,30 +192,37 @@ prints script output at all =
     let three = outputs_split _ _ two.1 two.3 in
     (three.0, record { first = two.0; last = three.1; before = two.2; here = three.2; behind = three.3; whole = two.4 ∙ ap (λ (l : List ℕ). two.0 ++ l) three.4 })
 
--- ---- the report at a line
-there_at : (script : List ℕ) (at : LineOf script) (site : ℕ) → ReportsSite at site → HasSite (world_at at) site
-there_at script at site says =
-    subst (λ (w : World). HasSite w site) (sym (world_run script at)) (run_stays (first_world at) (steps_before at) site says.there)
+-- ---- what a command prints at a line
+stays_there : (script : List ℕ) (at : LineOf script) (site : ℕ) → HasSite (first_world at) site → HasSite (world_at at) site
+stays_there script at site there = subst (λ (w : World). HasSite w site) (sym (world_run script at)) (run_stays (first_world at) (steps_before at) site there)
 
 source_at : (script : List ℕ) (at : LineOf script) → (world_at at).source ≡ at.start.source
 source_at script at = ap (λ (w : World). w.source) (world_run script at) ∙ run_keeps (first_world at) (steps_before at)
 
-report_replies : (script : List ℕ) (at : LineOf script) (site : ℕ) → ReportsSite at site
-    → (line_outcome (at.start.number + length at.before) (world_at at) (words_of at.line)).replies ≡ reported at.start.source (content_at (world_at at) site) ∷ []
-report_replies script at site says =
+replies_at : (script : List ℕ) (at : LineOf script) (site : ℕ) (action : Action) → is_skipped (words_of at.line) ≡ false
+    → command_of (events_of at.start.source) (words_of at.line) ≡ Some (sites_command site action) → HasSite (first_world at) site
+    → (line_outcome (at.start.number + length at.before) (world_at at) (words_of at.line)).replies ≡ (action_effect (world_at at) site action).reply ∷ []
+replies_at script at site action kept is there =
     let number = at.start.number + length at.before in
     let world = world_at at in
-    let command : Some (sites_command site report) ≡ command_of (events_of world.source) (words_of at.line) =
-    sym (ap (λ (s : PlanSource). command_of (events_of s) (words_of at.line)) (source_at script at) ∙ says.command) in
-    ap (λ (o : Outcome). o.replies) (line_outcome-run number world (words_of at.line) says.kept)
-    ∙ (ap (λ (e : Effect). e.reply ∷ []) (sym (line_effect-is number world (words_of at.line) (Some (sites_command site report)) command))
-    ∙ (ap (λ (e : Effect). e.reply ∷ []) (sym (there_effect world site report (there_at script at site says)))
-    ∙ ap (λ (s : PlanSource). reported s (content_at world site) ∷ []) (source_at script at)))
+    let command : Some (sites_command site action) ≡ command_of (events_of world.source) (words_of at.line) =
+    sym (ap (λ (s : PlanSource). command_of (events_of s) (words_of at.line)) (source_at script at) ∙ is) in
+    ap (λ (o : Outcome). o.replies) (line_outcome-run number world (words_of at.line) kept)
+    ∙ (ap (λ (e : Effect). e.reply ∷ []) (sym (line_effect-is number world (words_of at.line) (Some (sites_command site action)) command))
+    ∙ ap (λ (e : Effect). e.reply ∷ []) (sym (there_effect world site action (stays_there script at site there))))
 
+-- the output of one reply is its text
+one_reply : (replies : List Reply) (reply : Reply) (text : List ℕ) → replies ≡ reply ∷ [] → IsOutput replies text → IsReplyText reply text
+one_reply replies reply text is all =
+    let one = subst (λ (l : List Reply). IsOutput l text) is all in
+    subst (IsReplyText reply) (sym (one.4 ∙ (ap (λ (l : List ℕ). one.0 ++ l) one.3 ∙ append-nil one.0))) one.2
+
+-- ---- the report at a line
 pub reports : (script output text : List ℕ) (at : LineOf script) (site : ℕ) → ReportsSite at site → PrintsAt at output text → IsReport at.start.source (content_at (world_at at) site) text
 reports script output text at site says printed =
-    let one = subst (λ (l : List Reply). IsOutput l text) (report_replies script at site says) printed.here in
-    subst (IsReport at.start.source (content_at (world_at at) site)) (sym (one.4 ∙ (ap (λ (l : List ℕ). one.0 ++ l) one.3 ∙ append-nil one.0))) one.2
+    one_reply _ (reported at.start.source (content_at (world_at at) site)) text
+    (replies_at script at site report says.kept says.command says.there ∙ ap (λ (s : PlanSource). reported s (content_at (world_at at) site) ∷ []) (source_at script at))
+    printed.here
 
 -- what the site holds is the union of what it took
 pub unions : ((source : PlanSource) (sites : ℕ) (steps : List Step) (site : ℕ) → HasSite (opening_world source sites) site
@@ -229,3 +249,56 @@ same_bytes law script other output last text last_text at there site others one 
     (subst (λ (w : World). IsReport at.start.source (content_at w site) text) (world_run script at) (reports script output text at site one p)) said)
     two.there same
     (subst (λ (w : World). IsReport there.start.source (content_at w others) last_text) (world_run other there) (reports other last last_text there others two q))
+
+-- ---- the answer to a question at a line
+asked_reply : (world : World) (site : ℕ) (inquiry : Inquiry) (question : Question) → question_asked inquiry ≡ Ok question → is_of_no_event world.source question ≡ false
+    → (action_effect world site (ask inquiry)).reply ≡ told world.source (content_at world site) question
+asked_reply world site inquiry question is there =
+    ap (λ (read : Result Question Refusal). (asking world site read).reply) is
+    ∙ ap (λ (b : Bool). (cond b (refusing world (refusal.Bound NoEvent)) (record { world = world; reply = told world.source (content_at world site) question })).reply) there
+
+pub answers : (script output text : List ℕ) (at : LineOf script) (site : ℕ) (question : Question) → AsksSite at site question → PrintsAt at output text
+    → IsAnswer at.start.source (content_at (world_at at) site) question text
+answers script output text at site question asks printed =
+    let world = world_at at in
+    one_reply _ (told at.start.source (content_at world site) question) text
+    (replies_at script at site (ask asks.inquiry) asks.kept asks.command asks.there
+    ∙ (ap (λ (r : Reply). r ∷ [])
+    (asked_reply world site asks.inquiry question asks.asked (ap (λ (s : PlanSource). is_of_no_event s question) (source_at script at) ∙ asks.event)
+    ∙ ap (λ (s : PlanSource). told s (content_at world site) question) (source_at script at))))
+    printed.here
+
+-- what two sites of one plan hold is alike, where it is after the runs of their steps
+alike_at : (Took : World → List Step → ℕ → World → List Step → ℕ → Type 0) (Alike : Content → Content → Type 0)
+    → ((source : PlanSource) (sites others : ℕ) (ours theirs : List Step) (site other : ℕ) → HasSite (opening_world source sites) site → HasSite (opening_world source others) other
+    → Took (opening_world source sites) ours site (opening_world source others) theirs other
+    → Alike (content_at (run (opening_world source sites) ours) site) (content_at (run (opening_world source others) theirs) other))
+    → (script other : List ℕ) (at : LineOf script) (there : LineOf other) (site others : ℕ) → HasSite (first_world at) site → HasSite (first_world there) others
+    → at.start.source ≡ there.start.source → Took (first_world at) (steps_before at) site (first_world there) (steps_before there) others
+    → Alike (content_at (world_at at) site) (content_at (world_at there) others)
+alike_at Took Alike law script other at there site others one two plan same =
+    subst (λ (w : World). Alike (content_at (world_at at) site) (content_at w others)) (sym (world_run other there))
+    (subst (λ (w : World). Alike (content_at w site) (content_at (run (first_world there) (steps_before there)) others)) (sym (world_run script at))
+    (subst (λ (s : PlanSource). HasSite (opening_world s there.start.sites) others
+    → Took (first_world at) (steps_before at) site (opening_world s there.start.sites) (steps_before there) others
+    → Alike (content_at (run (first_world at) (steps_before at)) site) (content_at (run (opening_world s there.start.sites) (steps_before there)) others)) plan
+    (λ here took. law at.start.source at.start.sites there.start.sites (steps_before at) (steps_before there) site others one here took)
+    two same))
+
+-- it is the same where they took the same items
+pub same_states : ((source : PlanSource) (sites others : ℕ) (ours theirs : List Step) (site other : ℕ) → HasSite (opening_world source sites) site → HasSite (opening_world source others) other
+    → TookSameItemsAt (opening_world source sites) ours site (opening_world source others) theirs other
+    → content_at (run (opening_world source sites) ours) site ≡ content_at (run (opening_world source others) theirs) other)
+    → (script other : List ℕ) (at : LineOf script) (there : LineOf other) (site others : ℕ) → HasSite (first_world at) site → HasSite (first_world there) others
+    → at.start.source ≡ there.start.source → TookSameItemsAt (first_world at) (steps_before at) site (first_world there) (steps_before there) others
+    → content_at (world_at at) site ≡ content_at (world_at there) others
+same_states = alike_at TookSameItemsAt (λ one other. one ≡ other)
+
+-- and counts the same where they took the same additions and withdrawals
+pub same_counts : ((source : PlanSource) (sites others : ℕ) (ours theirs : List Step) (site other : ℕ) → HasSite (opening_world source sites) site → HasSite (opening_world source others) other
+    → TookSameAt (opening_world source sites) ours site (opening_world source others) theirs other
+    → CountsSame (content_at (run (opening_world source sites) ours) site) (content_at (run (opening_world source others) theirs) other))
+    → (script other : List ℕ) (at : LineOf script) (there : LineOf other) (site others : ℕ) → HasSite (first_world at) site → HasSite (first_world there) others
+    → at.start.source ≡ there.start.source → TookSameAt (first_world at) (steps_before at) site (first_world there) (steps_before there) others
+    → CountsSame (content_at (world_at at) site) (content_at (world_at there) others)
+same_counts = alike_at TookSameAt CountsSame

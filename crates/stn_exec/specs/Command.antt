@@ -8,10 +8,19 @@ use Rattle.stn_net.specs.Event.{most_events, event_text}
 use Rattle.stn_records.specs.Id.{most_sites, most_counter, SiteCounter, id_text}
 use Rattle.stn_text.specs.Numbers.{number_of}
 
+-- what a question asks: which records, which steps and which bounds there are; which events may run from a time on, which is a word; or why
+-- the window of an event ends where it does
+pub data Inquiry : Type 0 where
+  records : Inquiry
+  steps : Inquiry
+  bounds : Inquiry
+  ready : (now : List ℕ) → Inquiry
+  why : (event : ℕ) → Inquiry
+
 -- what a command does: it adds the bound of two events and two sides, records the time at which an event was executed, amends a record by
 -- such a bound, withdraws a record, merges another site, sends all that the site holds or some of its records and withdrawn ids, takes in a
--- packet, prints the report, checks times, asks what comes next from a time on, or rehearses the rest of the plan from a time on; sides and
--- times are words
+-- packet, prints the report, checks times, asks what comes next from a time on, rehearses the rest of the plan from a time on, or asks a
+-- question of the plan; sides and times are words
 pub data Action : Type 0 where
   add : (from to : ℕ) (lo hi : List ℕ) → Action
   done : (event : ℕ) (time : List ℕ) → Action
@@ -25,6 +34,7 @@ pub data Action : Type 0 where
   check : (times : List (List ℕ)) → Action
   next : (now : List ℕ) → Action
   rehearse : (now : List ℕ) → Action
+  ask : (inquiry : Inquiry) → Action
 
 -- a command of one site
 pub record Command : Type 0 where
@@ -120,6 +130,34 @@ abbrev pub rehearse_of : List (List ℕ) → Option Action
 rehearse_of (now ∷ []) = Some (rehearse now)
 rehearse_of other = None
 
+-- the question that a name asks alone
+abbrev pub inquiry_of : List ℕ → Option Inquiry
+inquiry_of name =
+    if bytes_eq name (codes "records") then Some records else
+    (if bytes_eq name (codes "steps") then Some steps else
+    (if bytes_eq name (codes "bounds") then Some bounds else None))
+
+-- the forms `records`, `steps` and `bounds`
+abbrev pub alone_of : List ℕ → List (List ℕ) → Option Action
+alone_of name [] = option_map ask (inquiry_of name)
+alone_of name other = None
+
+-- the form `ready <t>`
+abbrev pub ready_of : List (List ℕ) → Option Action
+ready_of (now ∷ []) = Some (ask (ready now))
+ready_of other = None
+
+-- the form `why <event>`
+abbrev pub why_of : List (List ℕ) → Option Action
+why_of (word ∷ []) = option_map (λ event. ask (why event)) (event_of word)
+why_of other = None
+
+-- the forms of questions by their names
+abbrev pub question_of : List ℕ → List (List ℕ) → Option Action
+question_of name words =
+    if bytes_eq name (codes "ready") then ready_of words else
+    (if bytes_eq name (codes "why") then why_of words else alone_of name words)
+
 -- the forms by their names
 abbrev pub action_of : ℕ → List ℕ → List (List ℕ) → Option Action
 action_of events name words =
@@ -133,7 +171,7 @@ action_of events name words =
     (if bytes_eq name (codes "report") then report_of words else
     (if bytes_eq name (codes "check") then check_of events words else
     (if bytes_eq name (codes "next") then next_of words else
-    (if bytes_eq name (codes "rehearse") then rehearse_of words else None))))))))))
+    (if bytes_eq name (codes "rehearse") then rehearse_of words else question_of name words))))))))))
 
 -- a site's command
 abbrev pub sites_command : ℕ → Action → Command

@@ -1,17 +1,20 @@
 -- What commands do at the sites of a world.
-use Rattle.std.specs.Prelude.{ℕ, ◌+◌, Bool, true, if◌then◌else◌, List, [], ◌∷◌, length, codes, ℤ, pos, neg_ℤ, Option, Some, None, is_some, option_map, option_and_then, Result, Ok, Err}
+use Rattle.std.specs.Prelude.{ℕ, ◌+◌, Bool, true, false, nat_lt, if◌then◌else◌, List, [], ◌∷◌, length, codes, ℤ, pos, neg_ℤ, Option, Some, None, is_some, option_map, option_and_then, Result, Ok, Err}
 use Rattle.std.specs.Option.{option_map_or}
 use Rattle.std.specs.Result.{result_ok}
 use Rattle.std.specs.Str.{bytes_eq}
 use Rattle.stn_time.specs.Time.{horizon}
 use Rattle.stn_time.specs.declared.reading.TimeFault.{TimeFault}
 use Rattle.stn_time.specs.TimeOf.{time_of}
+use Rattle.stn_net.specs.declared.bound.BoundFault.TheVariants.{NoEvent}
 use Rattle.stn_net.specs.Difference.{Difference}
 use Rattle.stn_net.specs.Schedule.{times_of}
-use Rattle.stn_lift.specs.PlanSource.{PlanSource}
+use Rattle.stn_lift.specs.PlanSource.{PlanSource, events_of}
 use Rattle.stn_records.specs.Content.{Content, part_of}
 use Rattle.stn_replica.specs.Held.{difference}
 use Rattle.stn_replica.specs.Names.{broken_bound}
+use Rattle.stn_questions.specs.declared.asked.Question.{Question}
+use Rattle.stn_questions.specs.declared.asked.Question.TheVariants as question
 use Rattle.stn_world.specs.declared.faults.WorldFault.{WorldFault}
 use Rattle.stn_world.specs.Parts.{holds_all}
 use Rattle.stn_world.specs.World.{World, has_site, content_at, next_id_at}
@@ -20,16 +23,18 @@ use Rattle.stn_exec.specs.declared.answer.Refusal.{Refusal}
 use Rattle.stn_exec.specs.declared.answer.Refusal.TheVariants as refusal
 use Rattle.stn_exec.specs.declared.answer.Answer.{Answer}
 use Rattle.stn_exec.specs.declared.answer.Answer.TheVariants as answer
-use Rattle.stn_exec.specs.Command.{Action, add, done, amend, withdraw, merge, send_all, send, deliver, report, check, next, rehearse, Command}
+use Rattle.stn_exec.specs.Command as inquiry
+use Rattle.stn_exec.specs.Command.{Inquiry, Action, add, done, amend, withdraw, merge, send_all, send, deliver, report, check, next, rehearse, ask, Command}
 use Rattle.stn_exec.specs.Refusals.{refusal_of}
 
--- what a line prints: an answer; or, of what a site holds, the report, what comes next from a time on, or the rest of the plan
--- from a time on
+-- what a line prints: an answer; or, of what a site holds, the report, what comes next from a time on, the rest of the plan from a
+-- time on, or the answer to a question
 pub data Reply : Type 0 where
   said : Answer → Reply
   reported : PlanSource → Content → Reply
   foreseen : PlanSource → Content → ℤ → Reply
   rehearsed : PlanSource → Content → ℤ → Reply
+  told : PlanSource → Content → Question → Reply
 
 -- a command's reply, and the world that it leaves
 pub record Effect : Type 0 where
@@ -86,6 +91,26 @@ abbrev pub asked : World → (ℤ → Reply) → Result ℤ Refusal → Effect
 asked world reply (Ok now) = record { world = world; reply = reply now }
 asked world reply (Err cause) = refusing world cause
 
+-- the question that is asked, where its time can be read
+abbrev pub question_asked : Inquiry → Result Question Refusal
+question_asked inquiry.records = Ok question.Records
+question_asked inquiry.steps = Ok question.Steps
+question_asked inquiry.bounds = Ok question.Bounds
+question_asked (inquiry.ready now) = and_then (refusing_time (time_of now)) (λ time. Ok (question.Ready time))
+question_asked (inquiry.why event) = Ok (question.Why event)
+
+-- the question is about an event that the plan has not
+abbrev pub is_of_no_event : PlanSource → Question → Bool
+is_of_no_event source (question.Why event) = nat_lt (events_of source) event
+is_of_no_event source other = false
+
+-- a question of the plan and of what a site holds
+abbrev pub asking : World → ℕ → Result Question Refusal → Effect
+asking world site (Ok question) =
+    if is_of_no_event world.source question then refusing world (refusal.Bound NoEvent)
+    else record { world = world; reply = told world.source (content_at world site) question }
+asking world site (Err cause) = refusing world cause
+
 -- the times that the words spell, or the first fault
 abbrev pub times_from : List (List ℕ) → Result (List ℤ) Refusal
 times_from [] = Ok []
@@ -113,6 +138,7 @@ action_effect world site report = record { world = world; reply = reported world
 action_effect world site (check times) = record { world = world; reply = said (check_answer world.source (content_at world site) (times_from times)) }
 action_effect world site (next now) = asked world (foreseen world.source (content_at world site)) (refusing_time (time_of now))
 action_effect world site (rehearse now) = asked world (rehearsed world.source (content_at world site)) (refusing_time (time_of now))
+action_effect world site (ask what) = asking world site (question_asked what)
 
 -- a command
 abbrev pub command_effect : World → Command → Effect
@@ -139,6 +165,7 @@ action_step world site report = None
 action_step world site (check times) = None
 action_step world site (next now) = None
 action_step world site (rehearse now) = None
+action_step world site (ask what) = None
 
 abbrev pub step_of : World → Command → Option Step
 step_of world command = action_step world command.site command.action

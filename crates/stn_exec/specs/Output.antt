@@ -3,9 +3,10 @@ use Rattle.std.specs.Prelude.{◌≡◌, ℕ, ◌+◌, Bool, true, if◌then◌e
 use Rattle.std.specs.Bool.{Decides}
 use Rattle.std.specs.Io.KnownBytes.{Appends}
 use Rattle.stn_replica.specs.Report.{IsReport}
+use Rattle.stn_questions.specs.Answer.{IsAnswer}
 use Rattle.stn_exec.specs.Answer.{answer_text, is_refusal}
 use Rattle.stn_exec.specs.Dispatch.{IsNextText, IsRehearseText, IsRefusedRehearsal}
-use Rattle.stn_exec.specs.Effect.{Reply, said, reported, foreseen, rehearsed}
+use Rattle.stn_exec.specs.Effect.{Reply, said, reported, foreseen, rehearsed, told}
 
 -- the text is printed for the reply
 abbrev pub IsReplyText : Reply → List ℕ → Type 0
@@ -13,6 +14,7 @@ IsReplyText (said answer) text = text ≡ answer_text answer
 IsReplyText (reported source state) text = IsReport source state text
 IsReplyText (foreseen source state now) text = IsNextText source state now text
 IsReplyText (rehearsed source state now) text = IsRehearseText source state now text
+IsReplyText (told source state question) text = IsAnswer source state question text
 
 -- the reply is a refusal
 abbrev pub IsRefusal : Reply → Type 0

@@ -4,8 +4,9 @@ use Rattle.stn_lift.specs.PlanSource.{events_of}
 use Rattle.stn_text.specs.Lines.{lines_of, words_of}
 use Rattle.stn_world.specs.World.{World, HasSite, opening_world}
 use Rattle.stn_world.specs.Steps.{Step, run}
-use Rattle.stn_exec.specs.Command.{report, sites_command, command_of}
-use Rattle.stn_exec.specs.Effect.{step_of}
+use Rattle.stn_questions.specs.declared.asked.Question.{Question}
+use Rattle.stn_exec.specs.Command.{Inquiry, report, ask, sites_command, command_of}
+use Rattle.stn_exec.specs.Effect.{question_asked, is_of_no_event, step_of}
 use Rattle.stn_exec.specs.Script.{Start, is_skipped, heading_of, last_line, line_outcome, lines_outcome}
 use Rattle.stn_exec.specs.Output.{IsOutput}
 
@@ -46,6 +47,15 @@ world_at at = (lines_outcome at.start.number (first_world at) at.before).world
 pub record ReportsSite {script : List ℕ} (at : LineOf script) (site : ℕ) : Type 0 where
   pub kept : is_skipped (words_of at.line) ≡ false
   pub command : command_of (events_of at.start.source) (words_of at.line) ≡ Some (sites_command site report)
+  pub there : HasSite (first_world at) site
+
+-- the line is a site's question, whose time can be read, and which is about no event that the plan has not; and the site is there
+pub record AsksSite {script : List ℕ} (at : LineOf script) (site : ℕ) (question : Question) : Type 0 where
+  pub kept : is_skipped (words_of at.line) ≡ false
+  pub inquiry : Inquiry
+  pub command : command_of (events_of at.start.source) (words_of at.line) ≡ Some (sites_command site (ask inquiry))
+  pub asked : question_asked inquiry ≡ Ok question
+  pub event : is_of_no_event at.start.source question ≡ false
   pub there : HasSite (first_world at) site
 
 -- the line prints the text: the output is what the lines before it print, the text, and what the lines behind it print

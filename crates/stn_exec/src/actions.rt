@@ -11,12 +11,14 @@ ghost use Rattle.stn_world.specs.declared.faults.WorldFault.TheVariants.{Replica
 ghost use Rattle.stn_exec.specs.declared.answer.Answer.TheVariants.{Broken, Schedule, Refused};
 ghost use Rattle.stn_exec.specs.Command.{add, done, amend, withdraw, merge, send_all, send, send_items, deliver};
 ghost use Rattle.stn_exec.specs.Refusals.{refusal_of};
-ghost use Rattle.stn_exec.specs.Effect.{said, refusing_time, side_of, difference_read, action_effect, check_answer, times_from};
+ghost use Rattle.stn_exec.specs.Running.{seen_inquiry};
+ghost use Rattle.stn_exec.specs.Effect.{said, refusing_time, side_of, difference_read, question_asked, action_effect, check_answer, times_from};
 
 use crate::answer::{Answer, Refusal};
-use crate::command::{read_records, read_tombstones};
+use crate::command::{Inquiry, read_records, read_tombstones};
 use std::alloc::{AllocError, Allocator};
 use stn_net::Event;
+use stn_questions::Question;
 use stn_records::Id;
 use stn_replica::{Replica as SiteReplica, ReplicaFault};
 use stn_text::first_word;
@@ -234,6 +236,19 @@ pub fn read_time(word: &[u8]) -> Result<Ms, Refusal>
         Ok(time) => Ok(time),
         Err(fault) => Err(Refusal::Time(fault)),
     }
+}
+
+/// The question that is asked, where its time can be read.
+pub fn question_asked(inquiry: &Inquiry<'_>) -> Result<Question, Refusal>
+    ensures { result ≡ question_asked (seen_inquiry inquiry.now) }
+{
+    Ok(match inquiry {
+        Inquiry::Records => Question::Records,
+        Inquiry::Steps => Question::Steps,
+        Inquiry::Bounds => Question::Bounds,
+        Inquiry::Ready(now) => Question::Ready(read_time(now)?),
+        Inquiry::Why(event) => Question::Why(*event),
+    })
 }
 
 // The answer where a world refused a call; want of memory is none.

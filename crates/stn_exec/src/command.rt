@@ -2,7 +2,7 @@ ghost use Rattle.std.specs.Prelude.{◌≡◌, ℕ, ◌∷◌, length, IfSome, I
 ghost use Rattle.std.specs.List.{list_all, filter_map};
 ghost use Rattle.std.specs.Option.{option_map};
 ghost use Rattle.stn_text.specs.Lines.{words_of};
-ghost use Rattle.stn_exec.specs.Command.{command_of, action_of, add_of, done_of, amend_of, withdraw_of, merge_of, send_of, deliver_of, report_of, check_of, next_of, rehearse_of, event_of, id_of, tombstone_of, is_item};
+ghost use Rattle.stn_exec.specs.Command.{command_of, action_of, add_of, done_of, amend_of, withdraw_of, merge_of, send_of, deliver_of, report_of, check_of, next_of, rehearse_of, alone_of, ready_of, why_of, question_of, event_of, id_of, tombstone_of, is_item};
 ghost use Rattle.stn_exec.specs.Running.{seen_command, seen_action, IsForEvents};
 
 use std::alloc::Allocator;
@@ -16,6 +16,21 @@ use stn_time::Memory;
 pub struct Command<'a> {
     pub site: u32,
     pub action: Action<'a>,
+}
+
+/// What a question asks.
+#[derive(Clone, Copy)]
+pub enum Inquiry<'a> {
+    /// Which records there are.
+    Records,
+    /// Which steps there are.
+    Steps,
+    /// Which bounds there are.
+    Bounds,
+    /// Which events may run from this time on.
+    Ready(&'a [u8]),
+    /// Why the window of this event ends where it does.
+    Why(Event),
 }
 
 /// What a command does.
@@ -60,6 +75,8 @@ pub enum Action<'a> {
     Next(&'a [u8]),
     /// Prints the whole rest of the plan from this time on.
     Rehearse(&'a [u8]),
+    /// Answers a question of the plan.
+    Ask(Inquiry<'a>),
 }
 
 /// The command that a line is, in a plan of so many events beside the origin, by its first word and
@@ -103,7 +120,20 @@ fn read_action<'a>(events: u16, name: &[u8], rest: &'a [u8]) -> Option<Action<'a
     } else if name == b"rehearse".as_slice() {
         read_rehearse(rest)
     } else {
-        None
+        read_question(name, rest)
+    }
+}
+
+fn read_question<'a>(name: &[u8], rest: &'a [u8]) -> Option<Action<'a>>
+    ensures action { option_map seen_action result ≡ question_of name.now (words_of rest.now) }
+    ensures fits { (events : ℕ) → IfSome result (λ action. IsForEvents events (seen_action action)) }
+{
+    if name == b"ready".as_slice() {
+        read_ready(rest)
+    } else if name == b"why".as_slice() {
+        read_why(rest)
+    } else {
+        read_alone(name, rest)
     }
 }
 
@@ -308,6 +338,50 @@ fn read_rehearse(rest: &[u8]) -> Option<Action<'_>>
     match first_word(behind) {
         Some(_) => None,
         None => Some(Action::Rehearse(now)),
+    }
+}
+
+// A question of one word.
+fn read_alone<'a>(name: &[u8], rest: &'a [u8]) -> Option<Action<'a>>
+    ensures action { option_map seen_action result ≡ alone_of name.now (words_of rest.now) }
+    ensures fits { (events : ℕ) → IfSome result (λ action. IsForEvents events (seen_action action)) }
+{
+    if first_word(rest).is_some() {
+        return None;
+    }
+    if name == b"records".as_slice() {
+        Some(Action::Ask(Inquiry::Records))
+    } else if name == b"steps".as_slice() {
+        Some(Action::Ask(Inquiry::Steps))
+    } else if name == b"bounds".as_slice() {
+        Some(Action::Ask(Inquiry::Bounds))
+    } else {
+        None
+    }
+}
+
+fn read_ready(rest: &[u8]) -> Option<Action<'_>>
+    ensures action { option_map seen_action result ≡ ready_of (words_of rest.now) }
+    ensures fits { (events : ℕ) → IfSome result (λ action. IsForEvents events (seen_action action)) }
+{
+    let (now, behind) = first_word(rest)?;
+    match first_word(behind) {
+        Some(_) => None,
+        None => Some(Action::Ask(Inquiry::Ready(now))),
+    }
+}
+
+fn read_why(rest: &[u8]) -> Option<Action<'_>>
+    ensures action { option_map seen_action result ≡ why_of (words_of rest.now) }
+    ensures fits { (events : ℕ) → IfSome result (λ action. IsForEvents events (seen_action action)) }
+{
+    let (word, behind) = first_word(rest)?;
+    if first_word(behind).is_some() {
+        return None;
+    }
+    match read_event(word) {
+        Some(event) => Some(Action::Ask(Inquiry::Why(event))),
+        None => None,
     }
 }
 

@@ -2,12 +2,16 @@ ghost use Rattle.std.specs.Prelude.{◌≡◌, ◌↔◌, ℕ, List, Ok};
 ghost use Rattle.stn_text.specs.Lines.{lines_of};
 ghost use Rattle.stn_records.specs.Content.{Item, HasItem};
 ghost use Rattle.stn_replica.specs.Report.{IsReport};
+ghost use Rattle.stn_questions.specs.declared.asked.Question.{Question};
+ghost use Rattle.stn_questions.specs.Answer.{AsksOfPlan, IsAnswer};
 ghost use Rattle.stn_world.specs.World.{opening_world, content_at};
-ghost use Rattle.stn_world.specs.Steps.{run, TookAt, TookSameAt};
+ghost use Rattle.stn_world.specs.Steps.{run, TookAt, TookSameAt, TookSameItemsAt};
 ghost use Rattle.stn_exec.specs.Output.{IsOutput, CountsRefusals};
 ghost use Rattle.stn_exec.specs.Script.{Start, heading_of, last_line, script_outcome};
-ghost use Rattle.stn_exec.specs.Reports.{steps_of_lines, LineOf, first_world, steps_before, world_at, ReportsSite, PrintsAt};
+ghost use Rattle.stn_exec.specs.Reports.{steps_of_lines, LineOf, first_world, steps_before, world_at, ReportsSite, AsksSite, PrintsAt};
 
+use stn_questions::one_answer;
+use stn_records::counts_same;
 use stn_replica::one_report;
 use stn_world::{sites_are_unions, sites_took_same_same_bytes};
 
@@ -19,6 +23,7 @@ pub fn one_script()
         → CountsRefusals (script_outcome script).replies count → CountsRefusals (script_outcome script).replies other → count ≡ other }
 {
     one_report();
+    one_answer();
 }
 
 /// The law that the commands of a script are a run of the world's steps, and what its reports say; it
@@ -45,4 +50,25 @@ pub fn scripts_are_runs()
 {
     sites_are_unions();
     sites_took_same_same_bytes();
+}
+
+/// The law of what a script's questions print; it does nothing. What the line of a site's question
+/// prints is the answer of the plan and of what the site holds. So two sites of one plan, of one script
+/// or of two, that took the same items print the same answer to each question; and where they took the
+/// same additions and withdrawals, to each question but that for the records.
+pub fn questions_are_answered()
+    ensures answer { (script output text : List ℕ) (at : LineOf script) (site : ℕ) (question : Question) → AsksSite at site question → PrintsAt at output text
+        → IsAnswer at.start.source (content_at (world_at at) site) question text }
+    ensures items { (script other output last text last_text : List ℕ) (at : LineOf script) (there : LineOf other) (site others : ℕ) (question : Question)
+        → AsksSite at site question → AsksSite there others question → at.start.source ≡ there.start.source
+        → TookSameItemsAt (first_world at) (steps_before at) site (first_world there) (steps_before there) others
+        → PrintsAt at output text → PrintsAt there last last_text → text ≡ last_text }
+    ensures plan { (script other output last text last_text : List ℕ) (at : LineOf script) (there : LineOf other) (site others : ℕ) (question : Question)
+        → AsksOfPlan question → AsksSite at site question → AsksSite there others question → at.start.source ≡ there.start.source
+        → TookSameAt (first_world at) (steps_before at) site (first_world there) (steps_before there) others
+        → PrintsAt at output text → PrintsAt there last last_text → text ≡ last_text }
+{
+    sites_took_same_same_bytes();
+    one_answer();
+    counts_same();
 }

@@ -3,7 +3,7 @@
 
 pub use command::{read_event, read_id};
 pub use dispatch::append_next;
-pub use laws::{one_script, scripts_are_runs};
+pub use laws::{one_script, questions_are_answered, scripts_are_runs};
 pub use script::{Ran, RunFault, run};
 pub use stn_device::{Counted, MOST_BYTES};
 pub use stn_world::World;

@@ -1,4 +1,4 @@
-ghost use Rattle.std.specs.Prelude.{◌≡◌, ◌≢◌, ◌+◌, ◌-◌, ◌^◌, ◌<◌, ◌≤◌, ◌++◌, ◌∷◌, List, ℕ, length, Err, OnOk, OnErr, IfOk, IfSome, IsErrOf};
+ghost use Rattle.std.specs.Prelude.{◌≡◌, ◌≢◌, ◌+◌, ◌-◌, ◌^◌, ◌<◌, ◌≤◌, ◌++◌, ◌∷◌, List, ℕ, length, Ok, Err, OnOk, OnErr, IfOk, IfSome, IsErrOf};
 ghost use Rattle.std.specs.Io.KnownBytes.{Consumes, IsAtEnd, Keeps};
 ghost use Rattle.stn_device.specs.Counted.{counted_device, failure_count, KeepsCount};
 ghost use Rattle.stn_device.specs.Bytes.{most_bytes, ConsumesAtMost};
@@ -6,23 +6,25 @@ ghost use Rattle.stn_lift.specs.PlanSource.{events_of};
 ghost use Rattle.stn_text.specs.Lines.{lines_of, words_of};
 ghost use Rattle.stn_exec.specs.Answer.{answer_text, is_refusal};
 ghost use Rattle.stn_world.specs.World.{HasSite, content_at};
-ghost use Rattle.stn_exec.specs.Command.{report, next, rehearse};
-ghost use Rattle.stn_exec.specs.Effect.{action_effect, command_effect};
+ghost use Rattle.stn_exec.specs.Command.{report, next, rehearse, ask};
+ghost use Rattle.stn_exec.specs.Effect.{action_effect, asking, command_effect};
 ghost use Rattle.stn_exec.specs.Output.{CountsRefusals, WritesOutput, WritesOutputPart};
-ghost use Rattle.stn_exec.specs.Running.{seen_action, seen_command, IsForEvents, IsReplied, IsRun};
+ghost use Rattle.stn_exec.specs.Running.{seen_inquiry, seen_action, seen_command, IsForEvents, IsReplied, IsRun};
 ghost use Rattle.stn_exec.specs.Script.{line_effect, line_outcome, lines_outcome, started, script_outcome, last_line};
 ghost use Rattle.stn_exec.specs.declared.script.RunFault.TheVariants.{Read, Write, Bound, Memory};
 
 use crate::actions::{
-    add, amend, check, deliver, done, merge, read_time, send, send_all, withdraw,
+    add, amend, check, deliver, done, merge, question_asked, read_time, send, send_all, withdraw,
 };
 use crate::answer::{Answer, Refusal};
-use crate::command::{Action, Command, read_command};
+use crate::command::{Action, Command, Inquiry, read_command};
 use crate::dispatch::{append_next, append_rehearsal};
 use crate::heading::{HeadingFault, open, opening_word};
 use std::alloc::{AllocError, Allocator};
 use std::io::{Read, Write};
 use stn_device::{Counted, MOST_BYTES, ReadFault, WriteFault, read_whole, write_whole};
+use stn_net::BoundFault;
+use stn_questions::{Question, WhyFault, print_answer};
 use stn_replica::Replica;
 use stn_text::first_line;
 use stn_time::Memory;
@@ -193,6 +195,7 @@ fn reply_action<A: Allocator + Copy>(
         Action::Check(times) => say(&check(alloc, replica_at(world, site), times)?, out),
         Action::Next(now) => next_at(world, site, now, out),
         Action::Rehearse(now) => rehearse_at(world, site, now, out),
+        Action::Ask(inquiry) => ask_at(world, site, inquiry, out),
     }
 }
 
@@ -250,6 +253,39 @@ fn rehearse_at<A: Allocator + Copy>(
     match read_time(now) {
         Ok(time) => append_rehearsal(replica_at(world, site), time, out),
         Err(refusal) => say(&Answer::Refused(refusal), out),
+    }
+}
+
+// Appends what a site answers to a question of a line. Whether it is refused.
+fn ask_at<A: Allocator + Copy>(
+    world: &World<A>,
+    site: u32,
+    inquiry: &Inquiry<'_>,
+    out: &mut Vec<u8, A>,
+) -> Result<bool, Memory>
+    requires { HasSite world.now site }
+    ensures { IfOk result (IsReplied world.now out.old.items out.new.items (action_effect world.now site (ask (seen_inquiry inquiry.now)))) }
+{
+    match question_asked(inquiry) {
+        Ok(question) => answer_at(world, site, question, out),
+        Err(refusal) => say(&Answer::Refused(refusal), out),
+    }
+}
+
+// Appends what a site answers to a question. Whether it is refused.
+fn answer_at<A: Allocator + Copy>(
+    world: &World<A>,
+    site: u32,
+    question: Question,
+    out: &mut Vec<u8, A>,
+) -> Result<bool, Memory>
+    requires { HasSite world.now site }
+    ensures { IfOk result (IsReplied world.now out.old.items out.new.items (asking world.now site (Ok question))) }
+{
+    match print_answer(replica_at(world, site), question, out) {
+        Ok(()) => Ok(false),
+        Err(WhyFault::NoEvent) => say(&Answer::Refused(Refusal::Bound(BoundFault::NoEvent)), out),
+        Err(WhyFault::Memory) => Err(AllocError),
     }
 }
 
