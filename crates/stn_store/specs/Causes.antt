@@ -15,6 +15,8 @@ use Rattle.stn_lift.specs.declared.fault.BaseFault.TheVariants as base
 use Rattle.stn_records.specs.Id.{SiteCounter}
 use Rattle.stn_replica.specs.declared.faults.ReplicaFault.{ReplicaFault}
 use Rattle.stn_replica.specs.declared.faults.ReplicaFault.TheVariants as replica
+use Rattle.stn_loosen.specs.declared.fault.LoosenFault.{LoosenFault}
+use Rattle.stn_loosen.specs.declared.fault.LoosenFault.TheVariants as loosen
 use Rattle.stn_wire.specs.declared.fault.WireFault.{WireFault}
 use Rattle.stn_wire.specs.declared.fault.WireFault.TheVariants as wire
 use Rattle.stn_device.specs.declared.whole.ReadFault.{ReadFault}
@@ -89,6 +91,10 @@ of_replica replica.Unknown = refused 42
 of_replica replica.CounterSpent = refused 43
 of_replica replica.Memory = Failed Memory
 
+abbrev pub of_loosening : LoosenFault → Failure
+of_loosening loosen.Full = refused 41
+of_loosening loosen.Memory = Failed Memory
+
 abbrev pub of_wire : WireFault → Failure
 of_wire wire.Length = refused 50
 of_wire wire.Kind = refused 51
@@ -133,7 +139,7 @@ of_reply reply.Read = Failed Read
 of_reply reply.Bound = Failed Bound
 of_reply reply.Memory = Failed Memory
 
--- the bases of two logs differ; a log is there already; a word is no event, or no id
+-- the bases of two logs differ; a log is there already; a word is no event, no id, or a time below 0 where none may be
 abbrev pub other_plan : Failure
 other_plan = refused 60
 

@@ -1,7 +1,7 @@
 //! Why a command ends without its answer.
 
 ghost use Rattle.std.specs.Prelude.{◌≡◌, ◌++◌, OnOk};
-ghost use Rattle.stn_store.specs.Causes.{of_time, of_bound, of_domain, of_plan, of_lifting, of_base, of_replica, of_wire, of_run, of_read, of_load, of_save, of_send, of_reply, other_plan, log_there, no_such_word};
+ghost use Rattle.stn_store.specs.Causes.{of_time, of_bound, of_domain, of_plan, of_lifting, of_base, of_replica, of_loosening, of_wire, of_run, of_read, of_load, of_save, of_send, of_reply, other_plan, log_there, no_such_word};
 ghost use Rattle.stn_store.specs.Causes as causes;
 ghost use Rattle.stn_store.specs.Endings.{argument_text, refusal_text, fault_text};
 ghost use Rattle.stn_store.specs.declared.failure.Failure.TheVariants as failure;
@@ -13,6 +13,7 @@ use stn_device::ReadFault;
 use stn_exec::RunFault;
 use stn_lift::{BaseFault, LiftFault};
 use stn_log::{LoadFault, SaveFault};
+use stn_loosen::LoosenFault;
 use stn_net::BoundFault;
 use stn_pddl::DomainFault;
 use stn_plan::PlanFault;
@@ -106,7 +107,7 @@ impl Failure {
         Failure::refused(64)
     }
 
-    /// A word is no event, or no id.
+    /// A word is no event, no id, or a time below 0 where none may be.
     pub fn no_such_word() -> Failure
         ensures { result ≡ no_such_word }
     {
@@ -274,6 +275,17 @@ impl From<ReplicaFault> for Failure {
             ReplicaFault::Unknown => Failure::refused(42),
             ReplicaFault::CounterSpent => Failure::refused(43),
             ReplicaFault::Memory => Failure::Failed(Fault::Memory),
+        }
+    }
+}
+
+impl From<LoosenFault> for Failure {
+    ghost from_gives = { λ fault given. given ≡ of_loosening fault };
+
+    fn from(fault: LoosenFault) -> Failure {
+        match fault {
+            LoosenFault::Full => Failure::refused(41),
+            LoosenFault::Memory => Failure::Failed(Fault::Memory),
         }
     }
 }

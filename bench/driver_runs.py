@@ -1,0 +1,136 @@
+#!/usr/bin/env python3
+"""Runs examples/driver.py over three plans with 200 seeds each, and checks each run: prints how many runs came to
+`all done`, and at the end `passed`, or what is wrong, with status 1.
+
+usage: bench/driver_runs.py PROGRAM
+
+PROGRAM is the built program (crates/stn/out/launcher/stn, which ./stn builds). A run is checked by bench/plans.py,
+which reads domains and plans by the formats alone:
+
+- each step takes its planned duration, with the tolerance;
+- events that interfere keep the planner's order, as far as they took place;
+- a run that doesn't come to `all done` stops at an event that can't take place any more.
+"""
+import subprocess
+import sys
+import tempfile
+from pathlib import Path
+
+import plans
+
+SEEDS = 200
+ROOT = Path(__file__).resolve().parent.parent
+CELLAR_DOMAIN = """(define (domain cellar)
+ (:requirements :durative-actions)
+ (:durative-action light-match
+  :parameters (?m)
+  :duration (= ?duration 8)
+  :condition ()
+  :effect (and (at start (light)) (at end (not (light)))))
+ (:durative-action mend-fuse
+  :parameters (?f - fuse)
+  :duration (= ?duration 5)
+  :condition (over all (light))
+  :effect (at end (mended ?f))))
+"""
+CELLAR_PLAN = "0.000: (light-match m) [8.000]\n0.001: (mend-fuse f) [5.000]\n"
+
+
+class Wrong(Exception):
+    """A run is not as it is to be."""
+
+
+def check(holds, what):
+    if not holds:
+        raise Wrong(what)
+
+
+def loosened(bounds, steps, early, late):
+    """The plan's bounds with durations that give: those of the horizon, of the durations, and the orders."""
+    events = 2 * steps
+    loose = [
+        (start, end, max(low - early, 0), min(high + late, plans.HORIZON))
+        for start, end, low, high in bounds[events:events + steps]
+    ]
+    return bounds[:events] + loose + bounds[events + steps:]
+
+
+def latest_times(bounds, done, events):
+    """The latest time of each event, if these took place at these times; None if there is no schedule."""
+    bounds = bounds + [(0, event, time, time) for event, time in done.items()]
+    links = [link for start, end, low, high in bounds for link in ((start, end, high), (end, start, -low))]
+    latest = [0] + [plans.HORIZON] * events
+    for _ in range(events + 1):
+        before = list(latest)
+        for start, end, most in links:
+            latest[end] = min(latest[end], latest[start] + most)
+        if latest == before:
+            return latest if latest[0] == 0 else None
+    return None
+
+
+def check_run(lines, end, bounds, steps):
+    """One run: its events in the order of their times, and how it ended."""
+    done = {}
+    now = 0
+    for line in lines:
+        time, event = line.split()
+        check(plans.read_time(time) >= now, f"{line}: the clock goes back")
+        now = plans.read_time(time)
+        check(plans.EVENTS[event] not in done, f"{line}: a second time")
+        done[plans.EVENTS[event]] = now
+    latest = latest_times(bounds, done, 2 * steps)
+    if end == "all done":
+        check(len(done) == 2 * steps, "all done, and events are left")
+        check(latest is not None, "all done, and a bound is not met")
+    elif end == "conflict":
+        check(latest is None, "a conflict, and there is a schedule")
+    else:
+        event = plans.EVENTS[end.removeprefix("overdue ")]
+        check(latest is not None and event not in done and latest[event] < now, f"{end}: it may still take place")
+
+
+def runs_of(program, domain, plan, early, late):
+    """The lines of each run, and how it ended."""
+    words = [sys.executable, ROOT / "examples/driver.py", program, domain, plan, f"--early={early}", f"--late={late}", f"--seeds={SEEDS}"]
+    printed = subprocess.run(words, capture_output=True, text=True, check=True).stdout.splitlines()
+    lines = []
+    for line in printed[:-1]:
+        if line.startswith("seed "):
+            yield lines, line.partition(": ")[2]
+            lines = []
+        else:
+            lines.append(line)
+
+
+def try_plan(program, domain, plan, early, late):
+    """All runs of a plan with a tolerance: how many came to `all done`."""
+    bounds, planned = plans.lifted(domain.read_bytes(), plan.read_bytes())
+    steps = len(planned) // 2
+    loose = loosened(bounds, steps, plans.read_time(early), plans.read_time(late))
+    ends = []
+    for lines, end in runs_of(program, domain, plan, early, late):
+        check_run(lines, end, loose, steps)
+        ends.append(end)
+    check(len(ends) == SEEDS, "a run is missing")
+    print(f"{plan.stem} --early={early} --late={late}: {ends.count('all done')} of {SEEDS}", flush=True)
+
+
+def main():
+    program = sys.argv[1]
+    examples = ROOT / "examples"
+    with tempfile.TemporaryDirectory() as name:
+        domain, plan = Path(name) / "cellar.pddl", Path(name) / "cellar.plan"
+        domain.write_text(CELLAR_DOMAIN)
+        plan.write_text(CELLAR_PLAN)
+        try:
+            for files in ((domain, plan), *((examples / f"{one}.pddl", examples / f"{one}.plan") for one in ("workshop", "satellites"))):
+                for tolerance in (("0", "0.5"), ("1", "4")):
+                    try_plan(program, *files, *tolerance)
+        except Wrong as wrong:
+            sys.exit(str(wrong))
+    print("passed")
+
+
+if __name__ == "__main__":
+    main()
