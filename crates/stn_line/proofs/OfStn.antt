@@ -41,22 +41,40 @@ all_plain = (
       (
         record { own = refl; again = refl; negates = refl; rules = ((takes_one refl refl refl, refl), ((takes_one refl refl refl, refl), ((takes_one refl refl refl, refl), ((takes_one refl refl refl, refl), ((takes_one refl refl refl, refl), ((takes_one refl refl refl, refl), ((asks refl refl, refl), tt))))))) },
         (
-          record { own = refl; again = refl; negates = refl; rules = ((takes_one refl refl refl, refl), ((takes_one refl refl refl, refl), ((takes_one refl refl refl, refl), ((takes_one refl refl refl, refl), ((takes_one refl refl refl, refl), ((takes_one refl refl refl, refl), ((takes_one refl refl refl, refl), ((asks refl refl, refl), tt)))))))) },
+          record { own = refl; again = refl; negates = refl; rules = ((takes_one refl refl refl, refl), ((takes_one refl refl refl, refl), ((takes_one refl refl refl, refl), ((takes_one refl refl refl, refl), ((takes_one refl refl refl, refl), ((takes_one refl refl refl, refl), ((asks refl refl, refl), tt))))))) },
           (
-            record { own = refl; again = refl; negates = refl; rules = ((takes_one refl refl refl, refl), ((takes_one refl refl refl, refl), ((takes_one refl refl refl, refl), ((asks refl refl, refl), tt)))) },
+            record { own = refl; again = refl; negates = refl; rules = ((takes_one refl refl refl, refl), ((takes_one refl refl refl, refl), ((takes_one refl refl refl, refl), ((takes_one refl refl refl, refl), ((takes_one refl refl refl, refl), ((takes_one refl refl refl, refl), ((takes_one refl refl refl, refl), ((asks refl refl, refl), tt)))))))) },
             (
-              record { own = refl; again = refl; negates = refl; rules = ((takes_one refl refl refl, refl), ((takes_one refl refl refl, refl), ((takes_one refl refl refl, refl), ((takes_one refl refl refl, refl), ((asks refl refl, refl), tt))))) },
+              record { own = refl; again = refl; negates = refl; rules = ((takes_one refl refl refl, refl), ((takes_one refl refl refl, refl), ((takes_one refl refl refl, refl), ((asks refl refl, refl), tt)))) },
               (
-                record { own = refl; again = refl; negates = refl; rules = ((takes_one refl refl refl, refl), ((takes_one refl refl refl, refl), ((takes_one refl refl refl, refl), ((asks refl refl, refl), tt)))) },
+                record { own = refl; again = refl; negates = refl; rules = ((takes_one refl refl refl, refl), ((takes_one refl refl refl, refl), ((takes_one refl refl refl, refl), ((takes_one refl refl refl, refl), ((asks refl refl, refl), tt))))) },
                 (
-                  record { own = refl; again = refl; negates = refl; rules = ((takes_one refl refl refl, refl), ((takes_one refl refl refl, refl), ((asks refl refl, refl), tt))) },
+                  record { own = refl; again = refl; negates = refl; rules = ((takes_one refl refl refl, refl), ((takes_one refl refl refl, refl), ((takes_one refl refl refl, refl), ((asks refl refl, refl), tt)))) },
                   (
-                    record { own = refl; again = refl; negates = refl; rules = ((takes_one refl refl refl, refl), ((takes_one refl refl refl, refl), ((takes_one refl refl refl, refl), ((asks refl refl, refl), tt)))) },
+                    record { own = refl; again = refl; negates = refl; rules = ((takes_one refl refl refl, refl), ((takes_one refl refl refl, refl), ((asks refl refl, refl), tt))) },
                     (
-                      record { own = refl; again = refl; negates = refl; rules = ((takes_one refl refl refl, refl), ((takes_one refl refl refl, refl), ((takes_one refl refl refl, refl), ((takes_one refl refl refl, refl), ((takes_one refl refl refl, refl), ((asks refl refl, refl), tt)))))) },
+                      record { own = refl; again = refl; negates = refl; rules = ((takes_one refl refl refl, refl), ((takes_one refl refl refl, refl), ((takes_one refl refl refl, refl), ((asks refl refl, refl), tt)))) },
                       (
-                        record { own = refl; again = refl; negates = refl; rules = ((takes_one refl refl refl, refl), ((takes_one refl refl refl, refl), ((takes_one refl refl refl, refl), ((takes_one refl refl refl, refl), ((asks refl refl, refl), tt))))) },
-                        tt,
+                        record { own = refl; again = refl; negates = refl; rules = ((takes_one refl refl refl, refl), ((takes_one refl refl refl, refl), ((takes_one refl refl refl, refl), ((asks refl refl, refl), tt)))) },
+                        (
+                          record { own = refl; again = refl; negates = refl; rules = ((takes_one refl refl refl, refl), ((takes_one refl refl refl, refl), ((takes_one refl refl refl, refl), ((asks refl refl, refl), tt)))) },
+                          (
+                            record { own = refl; again = refl; negates = refl; rules = ((takes_one refl refl refl, refl), ((takes_one refl refl refl, refl), ((asks refl refl, refl), tt))) },
+                            (
+                              record { own = refl; again = refl; negates = refl; rules = ((takes_one refl refl refl, refl), ((takes_one refl refl refl, refl), ((asks refl refl, refl), tt))) },
+                              (
+                                record { own = refl; again = refl; negates = refl; rules = ((takes_one refl refl refl, refl), ((takes_one refl refl refl, refl), ((asks refl refl, refl), tt))) },
+                                (
+                                  record { own = refl; again = refl; negates = refl; rules = ((takes_one refl refl refl, refl), ((takes_one refl refl refl, refl), ((takes_one refl refl refl, refl), ((takes_one refl refl refl, refl), ((takes_one refl refl refl, refl), ((asks refl refl, refl), tt)))))) },
+                                  (
+                                    record { own = refl; again = refl; negates = refl; rules = ((takes_one refl refl refl, refl), ((takes_one refl refl refl, refl), ((takes_one refl refl refl, refl), ((takes_one refl refl refl, refl), ((asks refl refl, refl), tt))))) },
+                                    tt,
+                                  ),
+                                ),
+                              ),
+                            ),
+                          ),
+                        ),
                       ),
                     ),
                   ),
@@ -87,6 +105,10 @@ pub init_there : (rows : List Row) → HasWords (codes "init") rows → IsThereO
 unfolding stn
 init_there rows has = (record { log = has.0.needed refl; site = has.1.0.needed refl }, has.1.1.0.needed refl, has.1.1.1.0.needed refl)
 
+pub loosen_there : (rows : List Row) → HasWords (codes "loosen") rows → IsThereOnLog rows × IsThere (codes "DOMAIN") rows × IsThere (codes "PLAN") rows
+unfolding stn
+loosen_there rows has = (record { log = has.0.needed refl; site = has.1.0.needed refl }, has.1.1.0.needed refl, has.1.1.1.0.needed refl)
+
 pub add_there : (rows : List Row) → HasWords (codes "add") rows → IsThereOnLog rows × IsThere (codes "FROM") rows × IsThere (codes "TO") rows
 unfolding stn
 add_there rows has = (record { log = has.0.needed refl; site = has.1.0.needed refl }, has.1.1.0.needed refl, has.1.1.1.0.needed refl)
@@ -114,6 +136,26 @@ report_there rows has = record { log = has.0.needed refl; site = has.1.0.needed 
 pub next_there : (rows : List Row) → HasWords (codes "next") rows → IsThereOnLog rows × IsThere (codes "NOW") rows
 unfolding stn
 next_there rows has = (record { log = has.0.needed refl; site = has.1.0.needed refl }, has.1.1.0.needed refl)
+
+pub ready_there : (rows : List Row) → HasWords (codes "ready") rows → IsThereOnLog rows × IsThere (codes "NOW") rows
+unfolding stn
+ready_there rows has = (record { log = has.0.needed refl; site = has.1.0.needed refl }, has.1.1.0.needed refl)
+
+pub why_there : (rows : List Row) → HasWords (codes "why") rows → IsThereOnLog rows × IsThere (codes "EVENT") rows
+unfolding stn
+why_there rows has = (record { log = has.0.needed refl; site = has.1.0.needed refl }, has.1.1.0.needed refl)
+
+pub records_there : (rows : List Row) → HasWords (codes "records") rows → IsThereOnLog rows
+unfolding stn
+records_there rows has = record { log = has.0.needed refl; site = has.1.0.needed refl }
+
+pub steps_there : (rows : List Row) → HasWords (codes "steps") rows → IsThereOnLog rows
+unfolding stn
+steps_there rows has = record { log = has.0.needed refl; site = has.1.0.needed refl }
+
+pub bounds_there : (rows : List Row) → HasWords (codes "bounds") rows → IsThereOnLog rows
+unfolding stn
+bounds_there rows has = record { log = has.0.needed refl; site = has.1.0.needed refl }
 
 pub serve_there : (rows : List Row) → HasWords (codes "serve") rows → IsThereOnLog rows × IsThere (codes "ADDR") rows × IsNumberThere (codes "COUNT") 1 most_connections rows
     × IsNumberWhereGiven (codes "seconds") 1 most_seconds rows
@@ -149,6 +191,7 @@ pub is_send : (name : Text) (rows : List Row) → HasWords name rows
     → name ≢ codes "run"
     → name ≢ codes "bare"
     → name ≢ codes "init"
+    → name ≢ codes "loosen"
     → name ≢ codes "add"
     → name ≢ codes "amend"
     → name ≢ codes "withdraw"
@@ -156,13 +199,19 @@ pub is_send : (name : Text) (rows : List Row) → HasWords name rows
     → name ≢ codes "merge"
     → name ≢ codes "report"
     → name ≢ codes "next"
+    → name ≢ codes "ready"
+    → name ≢ codes "why"
+    → name ≢ codes "records"
+    → name ≢ codes "steps"
+    → name ≢ codes "bounds"
     → name ≢ codes "serve"
     → name ≡ codes "send"
 unfolding stn IsOneOf
-is_send name rows has run bare init add amend withdraw done merge report next serve =
-    let behind-amend = other (other (other (other (other (is_one_of (built stn).subs name rows has) run) bare) init) add) amend in
-    let behind-next = other (other (other (other (other behind-amend withdraw) done) merge) report) next in
-    let behind-serve = other behind-next serve in
+is_send name rows has run bare init loosen add amend withdraw done merge report next ready why records steps bounds serve =
+    let behind-add = other (other (other (other (other (is_one_of (built stn).subs name rows has) run) bare) init) loosen) add in
+    let behind-report = other (other (other (other (other behind-add amend) withdraw) done) merge) report in
+    let behind-steps = other (other (other (other (other behind-report next) ready) why) records) steps in
+    let behind-serve = other (other behind-steps bounds) serve in
     elim behind-serve [ inl send ↦ send | inr none ↦ absurd none ]
 
 -- what the matches of the entered command hold, by its name

@@ -52,6 +52,9 @@ bare_words = number_rule (codes "STEPS") 0 most_read_steps ∷ []
 abbrev pub init_words : List Rule
 init_words = word_rule (codes "DOMAIN") ∷ word_rule (codes "PLAN") ∷ []
 
+abbrev pub loosen_words : List Rule
+loosen_words = word_rule (codes "DOMAIN") ∷ word_rule (codes "PLAN") ∷ option_rule (codes "early") ∷ option_rule (codes "late") ∷ []
+
 abbrev pub add_words : List Rule
 add_words = word_rule (codes "FROM") ∷ word_rule (codes "TO") ∷ option_rule (codes "lo") ∷ option_rule (codes "hi") ∷ []
 
@@ -70,6 +73,12 @@ merge_words = word_rule (codes "OTHER") ∷ []
 abbrev pub next_words : List Rule
 next_words = word_rule (codes "NOW") ∷ []
 
+abbrev pub ready_words : List Rule
+ready_words = word_rule (codes "NOW") ∷ []
+
+abbrev pub why_words : List Rule
+why_words = word_rule (codes "EVENT") ∷ []
+
 abbrev pub seconds_rule : Rule
 seconds_rule = number_option_rule (codes "seconds") 1 most_seconds
 
@@ -84,6 +93,7 @@ abbrev pub commands : List Shape
 commands = command (codes "run") []
     ∷ on_log (codes "bare") bare_words
     ∷ on_log (codes "init") init_words
+    ∷ on_log (codes "loosen") loosen_words
     ∷ on_log (codes "add") add_words
     ∷ on_log (codes "amend") amend_words
     ∷ on_log (codes "withdraw") withdraw_words
@@ -91,6 +101,11 @@ commands = command (codes "run") []
     ∷ on_log (codes "merge") merge_words
     ∷ on_log (codes "report") []
     ∷ on_log (codes "next") next_words
+    ∷ on_log (codes "ready") ready_words
+    ∷ on_log (codes "why") why_words
+    ∷ on_log (codes "records") []
+    ∷ on_log (codes "steps") []
+    ∷ on_log (codes "bounds") []
     ∷ on_log (codes "serve") serve_words
     ∷ on_log (codes "send") send_words
     ∷ []

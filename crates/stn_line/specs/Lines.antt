@@ -38,6 +38,9 @@ IsLineOf line.Run name rows = name ≡ codes "run"
 IsLineOf (line.Bare log site steps) name rows = (name ≡ codes "bare") × IsOnLog log site rows × IsNumber (codes "STEPS") steps rows
 IsLineOf (line.Init log site domain plan) name rows =
     (name ≡ codes "init") × IsOnLog log site rows × IsWord (codes "DOMAIN") domain rows × IsWord (codes "PLAN") plan rows
+IsLineOf (line.Loosen log site domain plan early late) name rows =
+    (name ≡ codes "loosen") × IsOnLog log site rows × IsWord (codes "DOMAIN") domain rows × IsWord (codes "PLAN") plan rows
+    × IsOption (codes "early") early rows × IsOption (codes "late") late rows
 IsLineOf (line.Add log site from to lo hi) name rows =
     (name ≡ codes "add") × IsOnLog log site rows × IsWord (codes "FROM") from rows × IsWord (codes "TO") to rows
     × IsOption (codes "lo") lo rows × IsOption (codes "hi") hi rows
@@ -50,6 +53,11 @@ IsLineOf (line.Done log site event time) name rows =
 IsLineOf (line.Merge log site other) name rows = (name ≡ codes "merge") × IsOnLog log site rows × IsWord (codes "OTHER") other rows
 IsLineOf (line.Report log site) name rows = (name ≡ codes "report") × IsOnLog log site rows
 IsLineOf (line.Next log site now) name rows = (name ≡ codes "next") × IsOnLog log site rows × IsWord (codes "NOW") now rows
+IsLineOf (line.Ready log site now) name rows = (name ≡ codes "ready") × IsOnLog log site rows × IsWord (codes "NOW") now rows
+IsLineOf (line.Why log site event) name rows = (name ≡ codes "why") × IsOnLog log site rows × IsWord (codes "EVENT") event rows
+IsLineOf (line.Records log site) name rows = (name ≡ codes "records") × IsOnLog log site rows
+IsLineOf (line.Steps log site) name rows = (name ≡ codes "steps") × IsOnLog log site rows
+IsLineOf (line.Bounds log site) name rows = (name ≡ codes "bounds") × IsOnLog log site rows
 IsLineOf (line.Serve log site address count seconds) name rows =
     (name ≡ codes "serve") × IsOnLog log site rows × IsWord (codes "ADDR") address rows
     × IsNumber (codes "COUNT") count rows × (1 ≤ count) × (count ≤ most_connections) × IsSeconds seconds rows

@@ -25,6 +25,7 @@ pub(crate) fn stn<'a>(alloc: Global) -> Result<Command<'a>, AllocError>
         .subcommand(run(alloc))?
         .subcommand(bare(alloc)?)?
         .subcommand(init(alloc)?)?
+        .subcommand(loosen(alloc)?)?
         .subcommand(add(alloc)?)?
         .subcommand(amend(alloc)?)?
         .subcommand(withdraw(alloc)?)?
@@ -32,6 +33,11 @@ pub(crate) fn stn<'a>(alloc: Global) -> Result<Command<'a>, AllocError>
         .subcommand(merge(alloc)?)?
         .subcommand(report(alloc)?)?
         .subcommand(next(alloc)?)?
+        .subcommand(ready(alloc)?)?
+        .subcommand(why(alloc)?)?
+        .subcommand(records(alloc)?)?
+        .subcommand(steps(alloc)?)?
+        .subcommand(bounds(alloc)?)?
         .subcommand(serve(alloc)?)?
         .subcommand(send(alloc)?)
 }
@@ -91,6 +97,40 @@ fn init<'a>(alloc: Global) -> Result<Command<'a>, AllocError>
     on_log(alloc, "init", "Makes the log of a plan over a domain")?
         .arg(domain)?
         .arg(plan)
+}
+
+fn loosen<'a>(alloc: Global) -> Result<Command<'a>, AllocError>
+    ensures is { IfOk result (spec.Reads (spec.on_log (codes "loosen") spec.loosen_words)) }
+{
+    let domain = word(
+        alloc,
+        "DOMAIN",
+        "The file of the domain: durative actions in PDDL",
+    );
+    let plan = word(
+        alloc,
+        "PLAN",
+        "The file of the plan: lines as `0.000: (action a b) [5.000]`",
+    );
+    let early = option(
+        alloc,
+        "early",
+        "A step may take so many seconds less than planned; 0 where it is not given",
+    );
+    let late = option(
+        alloc,
+        "late",
+        "A step may take so many seconds more than planned; 0 where it is not given",
+    );
+    on_log(
+        alloc,
+        "loosen",
+        "Makes the log of a plan over a domain whose steps may end earlier or later",
+    )?
+    .arg(domain)?
+    .arg(plan)?
+    .arg(early)?
+    .arg(late)
 }
 
 fn add<'a>(alloc: Global) -> Result<Command<'a>, AllocError>
@@ -183,6 +223,64 @@ fn next<'a>(alloc: Global) -> Result<Command<'a>, AllocError>
         "Says which event is to take place next, and when",
     )?
     .arg(now)
+}
+
+fn ready<'a>(alloc: Global) -> Result<Command<'a>, AllocError>
+    ensures is { IfOk result (spec.Reads (spec.on_log (codes "ready") spec.ready_words)) }
+{
+    let now = word(alloc, "NOW", "The time now, in seconds after the origin");
+    on_log(
+        alloc,
+        "ready",
+        "Says which events may run from a time on, and until when",
+    )?
+    .arg(now)
+}
+
+fn why<'a>(alloc: Global) -> Result<Command<'a>, AllocError>
+    ensures is { IfOk result (spec.Reads (spec.on_log (codes "why") spec.why_words)) }
+{
+    let event = word(
+        alloc,
+        "EVENT",
+        "The event: `s1`, `e1`, or `z` for the origin",
+    );
+    on_log(
+        alloc,
+        "why",
+        "Says which bounds hold the two ends of an event's window",
+    )?
+    .arg(event)
+}
+
+fn records<'a>(alloc: Global) -> Result<Command<'a>, AllocError>
+    ensures is { IfOk result (spec.Reads (spec.on_log (codes "records") [])) }
+{
+    on_log(
+        alloc,
+        "records",
+        "Prints the records that the log holds, those that no longer count too",
+    )
+}
+
+fn steps<'a>(alloc: Global) -> Result<Command<'a>, AllocError>
+    ensures is { IfOk result (spec.Reads (spec.on_log (codes "steps") [])) }
+{
+    on_log(
+        alloc,
+        "steps",
+        "Prints the steps of the plan: the action, the planned start and the duration of each",
+    )
+}
+
+fn bounds<'a>(alloc: Global) -> Result<Command<'a>, AllocError>
+    ensures is { IfOk result (spec.Reads (spec.on_log (codes "bounds") [])) }
+{
+    on_log(
+        alloc,
+        "bounds",
+        "Prints all bounds that count, those of the plan first",
+    )
 }
 
 fn serve<'a>(alloc: Global) -> Result<Command<'a>, AllocError>

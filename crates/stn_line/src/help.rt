@@ -1,7 +1,7 @@
 /// What stands behind the list of commands in the help of the program.
 pub(crate) const REFUSALS: &str = "\
 Words:
-  LOG    a file that holds what one site knows; only `bare` and `init` make one
+  LOG    a file that holds what one site knows; only `bare`, `init` and `loosen` make one
   SITE   the number of the site whose log it is, 1 to 64, the same each time
   times  in seconds, as 5, 2.5 or 0.001; one below 0 as `--lo=-5`, or behind the word `--`
   events `z` is the origin, `s1` the start of step 1, `e1` its end

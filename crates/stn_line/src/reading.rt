@@ -39,6 +39,7 @@ fn read<'a>(matches: &ArgMatches<'a>) -> Line<'a>
         "run" => Line::Run,
         "bare" => bare(words),
         "init" => init(words),
+        "loosen" => loosen(words),
         "add" => add(words),
         "amend" => amend(words),
         "withdraw" => withdraw(words),
@@ -46,6 +47,11 @@ fn read<'a>(matches: &ArgMatches<'a>) -> Line<'a>
         "merge" => merge(words),
         "report" => report(words),
         "next" => next(words),
+        "ready" => ready(words),
+        "why" => why(words),
+        "records" => records(words),
+        "steps" => steps(words),
+        "bounds" => bounds(words),
         "serve" => serve(words),
         _ => send(words),
     }
@@ -74,6 +80,22 @@ fn init<'a>(words: &ArgMatches<'a>) -> Line<'a>
         site: site(words),
         domain: word(words, "DOMAIN"),
         plan: word(words, "PLAN"),
+    }
+}
+
+fn loosen<'a>(words: &ArgMatches<'a>) -> Line<'a>
+    requires log { IsThereOnLog (rows_of (found_of words.now)) }
+    requires domain { IsThere (codes "DOMAIN") (rows_of (found_of words.now)) }
+    requires plan { IsThere (codes "PLAN") (rows_of (found_of words.now)) }
+    ensures { IsLineOf result (codes "loosen") (rows_of (found_of words.now)) }
+{
+    Line::Loosen {
+        log: word(words, "LOG"),
+        site: site(words),
+        domain: word(words, "DOMAIN"),
+        plan: word(words, "PLAN"),
+        early: option(words, "early"),
+        late: option(words, "late"),
     }
 }
 
@@ -168,6 +190,60 @@ fn next<'a>(words: &ArgMatches<'a>) -> Line<'a>
         log: word(words, "LOG"),
         site: site(words),
         now: word(words, "NOW"),
+    }
+}
+
+fn ready<'a>(words: &ArgMatches<'a>) -> Line<'a>
+    requires log { IsThereOnLog (rows_of (found_of words.now)) }
+    requires now { IsThere (codes "NOW") (rows_of (found_of words.now)) }
+    ensures { IsLineOf result (codes "ready") (rows_of (found_of words.now)) }
+{
+    Line::Ready {
+        log: word(words, "LOG"),
+        site: site(words),
+        now: word(words, "NOW"),
+    }
+}
+
+fn why<'a>(words: &ArgMatches<'a>) -> Line<'a>
+    requires log { IsThereOnLog (rows_of (found_of words.now)) }
+    requires event { IsThere (codes "EVENT") (rows_of (found_of words.now)) }
+    ensures { IsLineOf result (codes "why") (rows_of (found_of words.now)) }
+{
+    Line::Why {
+        log: word(words, "LOG"),
+        site: site(words),
+        event: word(words, "EVENT"),
+    }
+}
+
+fn records<'a>(words: &ArgMatches<'a>) -> Line<'a>
+    requires log { IsThereOnLog (rows_of (found_of words.now)) }
+    ensures { IsLineOf result (codes "records") (rows_of (found_of words.now)) }
+{
+    Line::Records {
+        log: word(words, "LOG"),
+        site: site(words),
+    }
+}
+
+fn steps<'a>(words: &ArgMatches<'a>) -> Line<'a>
+    requires log { IsThereOnLog (rows_of (found_of words.now)) }
+    ensures { IsLineOf result (codes "steps") (rows_of (found_of words.now)) }
+{
+    Line::Steps {
+        log: word(words, "LOG"),
+        site: site(words),
+    }
+}
+
+fn bounds<'a>(words: &ArgMatches<'a>) -> Line<'a>
+    requires log { IsThereOnLog (rows_of (found_of words.now)) }
+    ensures { IsLineOf result (codes "bounds") (rows_of (found_of words.now)) }
+{
+    Line::Bounds {
+        log: word(words, "LOG"),
+        site: site(words),
     }
 }
 

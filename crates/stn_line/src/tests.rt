@@ -54,6 +54,34 @@ fn reads_init(rt: HostRuntime) {
 }
 
 #[test]
+fn reads_loosen(rt: HostRuntime) {
+    let line = read(
+        &rt,
+        rt.alloc(),
+        &[
+            "stn",
+            "loosen",
+            "t.log",
+            "1",
+            "d.pddl",
+            "p.plan",
+            "--late=0.5",
+        ],
+    );
+    let site = Site::new(1).expect(&rt, "a site");
+    assert!(rt;
+        line == Line::Loosen {
+            log: "t.log",
+            site,
+            domain: "d.pddl",
+            plan: "p.plan",
+            early: None,
+            late: Some("0.5")
+        }
+    );
+}
+
+#[test]
 fn reads_add(rt: HostRuntime) {
     let line = read(
         &rt,

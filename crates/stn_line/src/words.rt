@@ -22,6 +22,16 @@ pub enum Line<'a> {
         domain: &'a str,
         plan: &'a str,
     },
+    /// Makes the log of a plan whose steps may end so much earlier and so much later than a plan file over a domain file says; a time
+    /// that is not given is 0.
+    Loosen {
+        log: &'a str,
+        site: Site,
+        domain: &'a str,
+        plan: &'a str,
+        early: Option<&'a str>,
+        late: Option<&'a str>,
+    },
     /// Adds a bound on the time from one event to another; a side that is not given is open.
     Add {
         log: &'a str,
@@ -70,6 +80,33 @@ pub enum Line<'a> {
         log: &'a str,
         site: Site,
         now: &'a str,
+    },
+    /// Which events may run from a time on, and until when.
+    Ready {
+        log: &'a str,
+        site: Site,
+        now: &'a str,
+    },
+    /// Which bounds hold the ends of an event's window.
+    Why {
+        log: &'a str,
+        site: Site,
+        event: &'a str,
+    },
+    /// The records that the log holds.
+    Records {
+        log: &'a str,
+        site: Site,
+    },
+    /// The steps of the plan.
+    Steps {
+        log: &'a str,
+        site: Site,
+    },
+    /// All bounds that count.
+    Bounds {
+        log: &'a str,
+        site: Site,
     },
     /// Serves connections at an address, one after another; each session may take so many seconds.
     Serve {

@@ -1,5 +1,5 @@
 -- Why a call of a replica failed, by the fault that it gave.
-use Rattle.std.proofs.Common.{◌≡◌, Option, Some, None, refl, ap, inl, inr, ◌∙◌}
+use Rattle.std.proofs.Common.{◌≡◌, Option, Some, None, ap, inl, inr, ◌∙◌}
 use Rattle.std.specs.Prelude.{unwrap_or}
 use Rattle.stn_replica.specs.declared.faults.ReplicaFault.{ReplicaFault}
 use Rattle.stn_replica.specs.declared.faults.ReplicaFault.TheVariants.{Memory}

@@ -2,15 +2,22 @@
 use Rattle.std.specs.Prelude.{◌≡◌, ◌≢◌, ◌⊎◌, ℕ, true, false, List, Option, Some, None, option_map, Result, Ok, Err}
 use Rattle.stn_lift.specs.PlanSource.{PlanSource, bare, files, base_of}
 use Rattle.stn_lift.specs.declared.fault.BaseFault.{BaseFault}
+use Rattle.stn_net.specs.Difference.{Difference}
 use Rattle.stn_replica.specs.Held.{Held}
 use Rattle.stn_replica.specs.declared.faults.ReplicaFault.{ReplicaFault}
 use Rattle.stn_replica.specs.Refusals.{add_refusal, amend_refusal, done_refusal, withdraw_refusal, take_refusal}
-use Rattle.stn_store.specs.Causes.{of_base, of_replica, other_plan, log_there}
+use Rattle.stn_net.specs.declared.bound.BoundFault.TheVariants.{NoEvent}
+use Rattle.stn_questions.specs.declared.asked.Question.{Question}
+use Rattle.stn_questions.specs.Answer.{AsksOfNoEvent}
+use Rattle.stn_store.specs.Causes.{of_base, of_bound, of_replica, other_plan, log_there, of_loosening}
 use Rattle.stn_store.specs.Store.{Entry, IsThere, Spells, Opens, IsMissing, IsUnopened}
-use Rattle.stn_shell.specs.Words.{amendment_read, bound_read, execution_read, id_read, time_read}
+use Rattle.stn_shell.specs.Words.{amendment_read, bound_read, execution_read, id_read, time_read, question_read, slack_read}
 use Rattle.stn_shell.specs.declared.command.SiteLog.{SiteLog}
 use Rattle.stn_shell.specs.declared.command.LogCommand.{LogCommand}
-use Rattle.stn_shell.specs.declared.command.LogCommand.TheVariants.{Bare, Init, Add, Amend, Withdraw, Done, Merge, Report, Next}
+use Rattle.stn_shell.specs.declared.command.LogCommand.TheVariants.{Bare, Init, Loosen, Add, Amend, Withdraw, Done, Merge, Report, Next, Ask}
+use Rattle.stn_loosen.specs.declared.fault.LoosenFault.TheVariants.{Full}
+use Rattle.stn_loosen.specs.Slack.{Slack}
+use Rattle.stn_loosen.specs.Loosened.{AreFewLoosened, AreTooMany}
 use Rattle.stn_store.specs.declared.failure.Failure.{Failure}
 use Rattle.stn_store.specs.declared.failure.Failure.TheVariants.{Failed}
 use Rattle.stn_store.specs.declared.failure.Fault.TheVariants.{Memory}
@@ -42,17 +49,31 @@ base_refusal_of (Err fault) = Some (of_base fault)
 abbrev pub IsBaseRefusal : PlanSource → Option Failure → Type 0
 IsBaseRefusal source cause = cause ≡ base_refusal_of (base_of source)
 
+-- so does one whose loosened plan would have more records than a site may know
+abbrev pub IsLooseningRefusal : PlanSource → Slack → Option Failure → Type 0
+IsLooseningRefusal source slack cause = ((fault : BaseFault) × (base_of source ≡ Err fault) × (cause ≡ Some (of_base fault)))
+    ⊎ ((base_of source ≡ Ok source) × AreTooMany source slack × (cause ≡ Some (of_loosening Full)))
+    ⊎ ((base_of source ≡ Ok source) × ((records : List Difference) × AreFewLoosened source slack records) × (cause ≡ None))
+
 -- why a replica takes in nothing of another's: its plan is another one, or its own call refuses it
 abbrev pub IsMergeRefusal : Held → Held → Option Failure → Type 0
 IsMergeRefusal ours theirs cause = ((ours.source ≢ theirs.source) × (cause ≡ Some other_plan))
     ⊎ ((ours.source ≡ theirs.source) × (cause ≡ option_map of_replica (take_refusal ours theirs.state)))
 
--- the first cause: words that can't be read; a log that is there; the texts and the base; the log; the other log; another plan; what the
--- replica refuses
+-- why a question is refused: it is about an event that the plan has not
+abbrev pub IsQuestionRefusal : Held → Question → Option Failure → Type 0
+IsQuestionRefusal held question cause = (AsksOfNoEvent held.source question × (cause ≡ Some (of_bound NoEvent)))
+    ⊎ ((¬ AsksOfNoEvent held.source question) × (cause ≡ None))
+
+-- the first cause: words that can't be read; a log that is there; the texts and the base; too many records; the log; the other log;
+-- another plan; what the replica refuses
 abbrev pub IsRefusalOf : Option (List Entry) → SiteLog → LogCommand → Option Failure → Type 0
 IsRefusalOf entries log (Bare steps) = WhereFree entries log.name.now (IsBaseRefusal (bare steps))
 IsRefusalOf entries log (Init domain plan) = WhereFree entries log.name.now
     (WithText entries domain.now (λ actions. WithText entries plan.now (λ steps. IsBaseRefusal (files actions steps))))
+IsRefusalOf entries log (Loosen domain plan early late) = WithWords (slack_read early late)
+    (λ slack. WhereFree entries log.name.now
+    (WithText entries domain.now (λ actions. WithText entries plan.now (λ steps. IsLooseningRefusal (files actions steps) slack))))
 IsRefusalOf entries log (Add from to lo hi) = WithWords (bound_read from.now to.now lo hi)
     (λ bound. WithLog entries log.name.now log.site (λ held cause. cause ≡ option_map of_replica (add_refusal held bound)))
 IsRefusalOf entries log (Amend id from to lo hi) = WithWords (amendment_read id.now from.now to.now lo hi)
@@ -66,6 +87,8 @@ IsRefusalOf entries log (Merge other) = WithLog entries log.name.now log.site
 IsRefusalOf entries log Report = WithLog entries log.name.now log.site (λ held cause. cause ≡ None)
 IsRefusalOf entries log (Next now) = WithWords (time_read now.now)
     (λ time. WithLog entries log.name.now log.site (λ held cause. cause ≡ None))
+IsRefusalOf entries log (Ask asked) = WithWords (question_read asked)
+    (λ question. WithLog entries log.name.now log.site (λ held. IsQuestionRefusal held question))
 
 -- why a call of a replica failed: memory was wanting, or the first cause that refuses it
 abbrev pub IsCallFailure : Option ReplicaFault → Failure → Type 0
@@ -74,3 +97,7 @@ IsCallFailure refusal failure = (failure ≡ Failed Memory) ⊎ (Some failure �
 -- why a merge did
 abbrev pub IsMergeFailure : Held → Held → Failure → Type 0
 IsMergeFailure ours theirs failure = (failure ≡ Failed Memory) ⊎ IsMergeRefusal ours theirs (Some failure)
+
+-- why a question did
+abbrev pub IsQuestionFailure : Held → Question → Failure → Type 0
+IsQuestionFailure held question failure = (failure ≡ Failed Memory) ⊎ IsQuestionRefusal held question (Some failure)

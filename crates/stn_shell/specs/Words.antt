@@ -1,5 +1,5 @@
 -- What the words of a command say, or why they can't be read: the first word that can't decides, in the order of the words.
-use Rattle.std.specs.Prelude.{ℕ, ℤ, neg_ℤ, List, Option, Some, None, Result, Ok, Err}
+use Rattle.std.specs.Prelude.{ℕ, ℤ, pos, neg_ℤ, int_lt, ◌||◌, if◌then◌else◌, List, Option, Some, None, Result, Ok, Err}
 use Rattle.std.specs.Borrow.{Bor}
 use Rattle.stn_time.specs.Time.{horizon}
 use Rattle.stn_time.specs.TimeOf.{time_of}
@@ -7,10 +7,15 @@ use Rattle.stn_time.specs.declared.reading.TimeFault.{TimeFault}
 use Rattle.stn_net.specs.Difference.{Difference}
 use Rattle.stn_records.specs.Id.{SiteCounter}
 use Rattle.stn_replica.specs.Held.{difference}
+use Rattle.stn_questions.specs.declared.asked.Question.{Question}
+use Rattle.stn_questions.specs.declared.asked.Question.TheVariants as question
+use Rattle.stn_loosen.specs.Slack.{Slack}
 use Rattle.stn_exec.specs.Command.{event_of, id_of}
 use Rattle.stn_exec.specs.Effect.{and_then}
 use Rattle.stn_store.specs.Causes.{of_time, no_such_word}
 use Rattle.stn_store.specs.declared.failure.Failure.{Failure}
+use Rattle.stn_shell.specs.declared.command.Asked.{Asked}
+use Rattle.stn_shell.specs.declared.command.Asked.TheVariants.{Records, Steps, Bounds, Ready, Why}
 
 -- what a word names
 abbrev pub named : {X : Type 0} → Option X → Result X Failure
@@ -52,9 +57,28 @@ amendment_read id from to lo hi =
     and_then (bound_read from to lo hi) (λ bound.
     Ok (old, bound)))
 
+-- by how much durations may differ; neither time may be negative
+abbrev pub slack_of : ℤ → ℤ → Result Slack Failure
+slack_of early late = if int_lt early (pos 0) || int_lt late (pos 0) then Err no_such_word else Ok (record { early = early; late = late })
+
+-- the same by two words, each 0 where it is not given
+unfoldable pub slack_read : Option (Bor (List ℕ)) → Option (Bor (List ℕ)) → Result Slack Failure
+slack_read early late =
+    and_then (side_read (pos 0) early) (λ less.
+    and_then (side_read (pos 0) late) (λ more.
+    slack_of less more))
+
 -- an event, and when it took place
 unfoldable pub execution_read : List ℕ → List ℕ → Result (ℕ × ℤ) Failure
 execution_read event time =
     and_then (event_read event) (λ which.
     and_then (time_read time) (λ when.
     Ok (which, when)))
+
+-- a question
+abbrev pub question_read : Asked → Result Question Failure
+question_read Records = Ok question.Records
+question_read Steps = Ok question.Steps
+question_read Bounds = Ok question.Bounds
+question_read (Ready now) = and_then (time_read now.now) (λ time. Ok (question.Ready time))
+question_read (Why event) = and_then (event_read event.now) (λ which. Ok (question.Why which))

@@ -1,22 +1,28 @@
 //! What a command does to a replica, or asks of it.
 
-ghost use Rattle.std.specs.Prelude.{◌≡◌, ◌++◌, codes, [], ◌∷◌, None, OnOk, OnErr, IfOk, IfErr};
+ghost use Rattle.std.specs.Prelude.{◌≡◌, ◌⊎◌, ◌++◌, codes, [], ◌∷◌, Some, None, OnOk, OnErr, IfOk, IfErr};
+ghost use Rattle.stn_lift.specs.PlanSource.{bare, plan_source, steps_of};
 ghost use Rattle.stn_records.specs.Id.{id_text, SiteCounter};
 ghost use Rattle.stn_replica.specs.Calls.{added, amended, withdrew, took, Leaves};
 ghost use Rattle.stn_replica.specs.Held.{difference, plain, executed};
 ghost use Rattle.stn_replica.specs.Refusals.{add_refusal, amend_refusal, done_refusal, withdraw_refusal, take_refusal};
 ghost use Rattle.stn_replica.specs.Report.{IsReport};
+ghost use Rattle.stn_questions.specs.Answer.{IsAnswer};
 ghost use Rattle.stn_exec.specs.Dispatch.{IsNextText};
-ghost use Rattle.stn_shell.specs.Refusals.{IsCallFailure, IsMergeFailure};
+ghost use Rattle.stn_shell.specs.Refusals.{IsCallFailure, IsMergeFailure, IsQuestionFailure, IsQuestionRefusal, IsLooseningRefusal};
+ghost use Rattle.stn_shell.specs.Commands.{IsLoosened};
 ghost use Rattle.stn_store.specs.declared.failure.Failure.TheVariants.{Failed};
 ghost use Rattle.stn_store.specs.declared.failure.Fault.TheVariants as lack;
 
 use std::alloc::Allocator;
 use stn_exec::append_next;
-use stn_net::Event;
-use stn_records::Id;
+use stn_lift::{Base, Source};
+use stn_loosen::{Tolerance, loosened_replica};
+use stn_net::{BoundFault, Event};
+use stn_questions::{Question, WhyFault, print_answer};
+use stn_records::{Id, Site};
 use stn_replica::Replica;
-use stn_store::Failure;
+use stn_store::{Failure, Fault};
 use stn_time::{Memory, Ms};
 
 /// A bound between two events, as it is asked for: it may not be one.
@@ -26,6 +32,23 @@ pub struct AskedBound {
     pub to: Event,
     pub lo: Ms,
     pub hi: Ms,
+}
+
+/// The replica of a site with the loosened plan of a source.
+pub fn loosen<A: Allocator + Copy>(
+    alloc: A,
+    site: Site,
+    source: &Source<A>,
+    tolerance: Tolerance,
+) -> Result<Replica<A>, Failure>
+    ensures source { IfOk result (λ replica. replica.source ≡ bare (steps_of (plan_source source.now))) }
+    ensures loosened { IfOk result (λ replica. IsLoosened (plan_source source.now) tolerance site replica.state) }
+    ensures accepted { OnOk result (IsLooseningRefusal (plan_source source.now) tolerance None) }
+    ensures refused { IfErr result (λ failure. (failure ≡ Failed lack.Memory)
+        ⊎ IsLooseningRefusal (plan_source source.now) tolerance (Some failure)) }
+{
+    let base = Base::from_source(alloc, source)?;
+    Ok(loosened_replica(alloc, site, &base, tolerance)?)
 }
 
 /// Adds a bound: what is printed for it.
@@ -136,6 +159,24 @@ pub fn report<A: Allocator + Copy>(alloc: A, replica: &Replica<A>) -> Result<Vec
     let mut text = Vec::new(alloc);
     replica.report(&mut text)?;
     Ok(text)
+}
+
+/// The answer to a question.
+pub fn tell<A: Allocator + Copy>(
+    alloc: A,
+    replica: &Replica<A>,
+    question: Question,
+) -> Result<Vec<u8, A>, Failure>
+    ensures told { IfOk result (λ text. IsAnswer replica.now.source replica.now.state question text.items) }
+    ensures accepted { OnOk result (IsQuestionRefusal replica.now question None) }
+    ensures refused { IfErr result (IsQuestionFailure replica.now question) }
+{
+    let mut text = Vec::new(alloc);
+    match print_answer(replica, question, &mut text) {
+        Ok(()) => Ok(text),
+        Err(WhyFault::NoEvent) => Err(Failure::from(BoundFault::NoEvent)),
+        Err(WhyFault::Memory) => Err(Failure::Failed(Fault::Memory)),
+    }
 }
 
 /// What comes next from a time on.

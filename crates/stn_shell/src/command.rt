@@ -15,6 +15,21 @@ pub struct SiteLog<'a> {
     pub site: Site,
 }
 
+/// A question of the plan of a log. Events and times stand as they were written.
+#[derive(Clone, Copy, Debug, PartialEq, Eq)]
+pub enum Asked<'a> {
+    /// Which records the log holds.
+    Records,
+    /// Which steps the plan has.
+    Steps,
+    /// Which bounds count.
+    Bounds,
+    /// Which events may run from a time on, and until when.
+    Ready { now: &'a str },
+    /// Why an event's window ends where it does.
+    Why { event: &'a str },
+}
+
 /// A command of a log. Events, times and ids stand as they were written.
 #[derive(Clone, Copy, Debug, PartialEq, Eq)]
 pub enum LogCommand<'a> {
@@ -26,6 +41,14 @@ pub enum LogCommand<'a> {
     Init {
         domain: &'a str,
         plan: &'a str,
+    },
+    /// Makes the log of a plan whose steps may end so much earlier and so much later than a plan text over a domain text says; a time
+    /// that is not given is 0.
+    Loosen {
+        domain: &'a str,
+        plan: &'a str,
+        early: Option<&'a str>,
+        late: Option<&'a str>,
     },
     /// Adds a bound on the time from one event to another; a side that is not given is open.
     Add {
@@ -60,6 +83,10 @@ pub enum LogCommand<'a> {
     /// Tells which event is to take place next.
     Next {
         now: &'a str,
+    },
+    /// Answers a question of the plan.
+    Ask {
+        asked: Asked<'a>,
     },
 }
 
@@ -128,6 +155,23 @@ impl<'a> Task<'a> {
                 domain,
                 plan,
             } => (log, site, LogCommand::Init { domain, plan }),
+            Line::Loosen {
+                log,
+                site,
+                domain,
+                plan,
+                early,
+                late,
+            } => (
+                log,
+                site,
+                LogCommand::Loosen {
+                    domain,
+                    plan,
+                    early,
+                    late,
+                },
+            ),
             Line::Add {
                 log,
                 site,
@@ -165,6 +209,41 @@ impl<'a> Task<'a> {
             Line::Merge { log, site, other } => (log, site, LogCommand::Merge { other }),
             Line::Report { log, site } => (log, site, LogCommand::Report),
             Line::Next { log, site, now } => (log, site, LogCommand::Next { now }),
+            Line::Ready { log, site, now } => (
+                log,
+                site,
+                LogCommand::Ask {
+                    asked: Asked::Ready { now },
+                },
+            ),
+            Line::Why { log, site, event } => (
+                log,
+                site,
+                LogCommand::Ask {
+                    asked: Asked::Why { event },
+                },
+            ),
+            Line::Records { log, site } => (
+                log,
+                site,
+                LogCommand::Ask {
+                    asked: Asked::Records,
+                },
+            ),
+            Line::Steps { log, site } => (
+                log,
+                site,
+                LogCommand::Ask {
+                    asked: Asked::Steps,
+                },
+            ),
+            Line::Bounds { log, site } => (
+                log,
+                site,
+                LogCommand::Ask {
+                    asked: Asked::Bounds,
+                },
+            ),
         };
         Task::Command {
             log: SiteLog { name, site },

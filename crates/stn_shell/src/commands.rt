@@ -2,17 +2,18 @@
 
 ghost use Rattle.std.specs.Prelude.{◌≡◌, ◌⊎◌, false, Some, None, OnOk, OnErr, IfOk, IfErr};
 ghost use Rattle.stn_lift.specs.PlanSource.{plan_source};
-ghost use Rattle.stn_shell.specs.Commands.{IsAnswered, IsMade};
-ghost use Rattle.stn_shell.specs.Refusals.{IsRefusalOf, IsBaseRefusal};
+ghost use Rattle.stn_shell.specs.Commands.{IsAnswered, IsMade, IsMadeLoose, IsNewLog};
+ghost use Rattle.stn_shell.specs.Refusals.{IsRefusalOf, IsBaseRefusal, IsLooseningRefusal};
 ghost use Rattle.stn_store.specs.Store.{IsThere, IsMissing, IsTaken, IsLack};
 ghost use Rattle.stn_shell.specs.declared.command.LogCommand.TheVariants as of;
 
-use crate::changes::{add, amend, done, merge, next, report, withdraw};
-use crate::command::{LogCommand, SiteLog};
-use crate::words::{read_bound, read_event, read_id, read_time};
+use crate::changes::{add, amend, done, loosen, merge, next, report, tell, withdraw};
+use crate::command::{Asked, LogCommand, SiteLog};
+use crate::words::{read_bound, read_event, read_id, read_question, read_time, read_tolerance};
 use std::alloc::Global;
 use std::rc::Rc;
 use stn_lift::{Base, Source};
+use stn_loosen::Tolerance;
 use stn_replica::Replica;
 use stn_store::{Failure, Fault, Store};
 
@@ -33,6 +34,12 @@ pub fn answer<S: Store>(
     match command {
         LogCommand::Bare { steps } => make_bare(alloc, store, log, *steps),
         LogCommand::Init { domain, plan } => make_of_texts(alloc, store, log, *domain, *plan),
+        LogCommand::Loosen {
+            domain,
+            plan,
+            early,
+            late,
+        } => loosen_texts(alloc, store, log, *domain, *plan, *early, *late),
         LogCommand::Add { from, to, lo, hi } => add_to(alloc, store, log, *from, *to, *lo, *hi),
         LogCommand::Amend {
             id,
@@ -46,6 +53,7 @@ pub fn answer<S: Store>(
         LogCommand::Merge { other } => merge_with(alloc, store, log, *other),
         LogCommand::Report => report_of(alloc, store, log),
         LogCommand::Next { now } => next_of(alloc, store, log, *now),
+        LogCommand::Ask { asked } => tell_of(alloc, store, log, asked),
     }
 }
 
@@ -78,10 +86,44 @@ fn make<S: Store>(
     let base = Base::from_source(alloc, source)?;
     let base = Rc::new(alloc, base)?;
     let replica = Replica::new(alloc, log.site, base)?;
+    save_made(alloc, store, log, &replica)
+}
+
+// Makes the log of the loosened plan of a source, under a name that is free.
+fn make_loose<S: Store>(
+    alloc: Global,
+    store: &mut S,
+    log: &SiteLog<'_>,
+    source: &Source<Global>,
+    tolerance: Tolerance,
+) -> Result<Vec<u8>, Failure>
+    ensures done { IfOk result (λ text. IsMadeLoose (S.entries store.old) (S.entries store.new) log.now
+        (plan_source source.now) tolerance text.items) }
+    ensures accepted { OnOk result (IsLooseningRefusal (plan_source source.now) tolerance None) }
+    ensures refused { IfErr result (λ failure. IsLooseningRefusal (plan_source source.now) tolerance (Some failure)
+        ⊎ IsTaken (S.entries store.old) log.now.name.now failure ⊎ IsLack S.fails failure) }
+    ensures unsaved { OnErr result (S.entries store.new ≡ S.entries store.old) }
+{
+    let replica = loosen(alloc, log.site, source, tolerance)?;
+    save_made(alloc, store, log, &replica)
+}
+
+// Saves a new log, under a name that is free.
+fn save_made<S: Store>(
+    alloc: Global,
+    store: &mut S,
+    log: &SiteLog<'_>,
+    replica: &Replica<Global>,
+) -> Result<Vec<u8>, Failure>
+    ensures saved { IfOk result (λ text. IsNewLog (S.entries store.old) (S.entries store.new) log.now.name.now
+        replica.now.source replica.now.state text.items) }
+    ensures refused { IfErr result (λ failure. IsTaken (S.entries store.old) log.now.name.now failure ⊎ IsLack S.fails failure) }
+    ensures unsaved { OnErr result (S.entries store.new ≡ S.entries store.old) }
+{
     let mut text = Vec::new(alloc);
     text.extend_from_slice(b"made\n")?;
     let _held = store.hold(log.name)?;
-    store.save_new(log.name, &replica)?;
+    store.save_new(log.name, replica)?;
     Ok(text)
 }
 
@@ -122,6 +164,30 @@ fn make_of_texts<S: Store>(
     let domain = store.text(domain)?;
     let plan = store.text(plan)?;
     make(alloc, store, log, &Source::Files(domain, plan))
+}
+
+fn loosen_texts<S: Store>(
+    alloc: Global,
+    store: &mut S,
+    log: &SiteLog<'_>,
+    domain: &str,
+    plan: &str,
+    early: Option<&str>,
+    late: Option<&str>,
+) -> Result<Vec<u8>, Failure>
+    ensures done { IfOk result (λ text. IsAnswered (S.entries store.old) (S.entries store.new) log.now (of.Loosen domain.entry plan.entry early.entry late.entry) text.items) }
+    ensures accepted { OnOk result (IsRefusalOf (S.entries store.old) log.now (of.Loosen domain.entry plan.entry early.entry late.entry) None) }
+    ensures refused { IfErr result (λ failure. IsRefusalOf (S.entries store.old) log.now (of.Loosen domain.entry plan.entry early.entry late.entry) (Some failure)
+        ⊎ IsLack S.fails failure) }
+    ensures unsaved { OnErr result (S.entries store.new ≡ S.entries store.old) }
+{
+    let tolerance = read_tolerance(early, late)?;
+    if store.is_there(log.name)? {
+        return Err(Failure::log_there());
+    }
+    let domain = store.text(domain)?;
+    let plan = store.text(plan)?;
+    make_loose(alloc, store, log, &Source::Files(domain, plan), tolerance)
 }
 
 fn add_to<S: Store>(
@@ -260,4 +326,21 @@ fn next_of<S: Store>(
     let now = read_time(now)?;
     let replica = store.load(log.name, log.site)?;
     next(alloc, &replica, now)
+}
+
+fn tell_of<S: Store>(
+    alloc: Global,
+    store: &mut S,
+    log: &SiteLog<'_>,
+    asked: &Asked<'_>,
+) -> Result<Vec<u8>, Failure>
+    ensures done { IfOk result (λ text. IsAnswered (S.entries store.old) (S.entries store.new) log.now (of.Ask asked.now) text.items) }
+    ensures accepted { OnOk result (IsRefusalOf (S.entries store.old) log.now (of.Ask asked.now) None) }
+    ensures refused { IfErr result (λ failure. IsRefusalOf (S.entries store.old) log.now (of.Ask asked.now) (Some failure)
+        ⊎ IsLack S.fails failure) }
+    ensures unsaved { OnErr result (S.entries store.new ≡ S.entries store.old) }
+{
+    let question = read_question(asked)?;
+    let replica = store.load(log.name, log.site)?;
+    tell(alloc, &replica, question)
 }

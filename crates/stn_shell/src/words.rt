@@ -1,12 +1,17 @@
 //! What the words of a command say.
 
-ghost use Rattle.std.specs.Prelude.{◌≡◌, neg_ℤ, Ok, Err, IfOk, IfErr};
+ghost use Rattle.std.specs.Prelude.{◌≡◌, pos, neg_ℤ, Ok, Err, IfOk, IfErr};
 ghost use Rattle.stn_time.specs.Time.{horizon};
 ghost use Rattle.stn_replica.specs.Held.{difference};
-ghost use Rattle.stn_shell.specs.Words.{bound_read, event_read, id_read, time_read, side_read};
+ghost use Rattle.stn_questions.specs.declared.asked.Question.TheVariants.{Ready, Why};
+ghost use Rattle.stn_exec.specs.Effect.{and_then};
+ghost use Rattle.stn_shell.specs.Words.{bound_read, event_read, id_read, time_read, side_read, question_read, slack_of, slack_read};
 
 use crate::changes::AskedBound;
+use crate::command::Asked;
+use stn_loosen::Tolerance;
 use stn_net::Event;
+use stn_questions::Question;
 use stn_records::Id;
 use stn_store::Failure;
 use stn_time::{HORIZON, Ms};
@@ -77,9 +82,73 @@ pub fn read_bound(
     }
 }
 
+/// The tolerance that the words of two times spell; a time without a word is 0.
+#[tactic(auto, unfolding(crate::specs::Words::slack_read))]
+pub fn read_tolerance(early: Option<&str>, late: Option<&str>) -> Result<Tolerance, Failure>
+    ensures said { IfOk result (λ tolerance. slack_read early.entry late.entry ≡ Ok tolerance) }
+    ensures refused { IfErr result (λ failure. slack_read early.entry late.entry ≡ Err failure) }
+{
+    match (read_side(early, no_time()), read_side(late, no_time())) {
+        (Ok(early), Ok(late)) => tolerance(early, late),
+        (Err(failure), _) => Err(failure),
+        (_, Err(failure)) => Err(failure),
+    }
+}
+
+// The tolerance of two times, neither of which may be below 0.
+fn tolerance(early: Ms, late: Ms) -> Result<Tolerance, Failure>
+    ensures said { IfOk result (λ tolerance. slack_of early late ≡ Ok tolerance) }
+    ensures refused { IfErr result (λ failure. slack_of early late ≡ Err failure) }
+{
+    match Tolerance::new(early, late) {
+        Some(tolerance) => Ok(tolerance),
+        None => Err(Failure::no_such_word()),
+    }
+}
+
+// The time 0.
+fn no_time() -> Ms
+    ensures { result ≡ pos 0 }
+{
+    Ms::new(0).unwrap()
+}
+
 // The least and the greatest difference.
 fn open_sides() -> (Ms, Ms)
     ensures { (result.0 ≡ neg_ℤ horizon) × (result.1 ≡ horizon) }
 {
     (Ms::new(-HORIZON).unwrap(), Ms::new(HORIZON).unwrap())
+}
+
+/// The question that is asked.
+pub fn read_question(asked: &Asked<'_>) -> Result<Question, Failure>
+    ensures { result ≡ question_read asked.now }
+{
+    match asked {
+        Asked::Records => Ok(Question::Records),
+        Asked::Steps => Ok(Question::Steps),
+        Asked::Bounds => Ok(Question::Bounds),
+        Asked::Ready { now } => ready_from(now),
+        Asked::Why { event } => why_of(event),
+    }
+}
+
+// What is ready from a time on.
+fn ready_from(now: &str) -> Result<Question, Failure>
+    ensures { result ≡ and_then (time_read now.now) (λ time. Ok (Ready time)) }
+{
+    match read_time(now) {
+        Ok(time) => Ok(Question::Ready(time)),
+        Err(failure) => Err(failure),
+    }
+}
+
+// Why the window of an event ends where it does.
+fn why_of(event: &str) -> Result<Question, Failure>
+    ensures { result ≡ and_then (event_read event.now) (λ which. Ok (Why which)) }
+{
+    match read_event(event) {
+        Ok(event) => Ok(Question::Why(event)),
+        Err(failure) => Err(failure),
+    }
 }

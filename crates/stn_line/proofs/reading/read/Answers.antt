@@ -1,7 +1,7 @@
 use Rattle.std.proofs.Common.{refl, codes}
 use Rattle.clap.specs.Matches.{found_of}
 use Rattle.clap.specs.Walk.{rows_of}
-use Rattle.stn_line.proofs.OfStn.{bare_there, init_there, add_there, amend_there, withdraw_there, done_there, merge_there, report_there, next_there, serve_there, send_there, entered_has, is_send}
+use Rattle.stn_line.proofs.OfStn.{bare_there, init_there, loosen_there, add_there, amend_there, withdraw_there, done_there, merge_there, report_there, next_there, ready_there, why_there, records_there, steps_there, bounds_there, serve_there, send_there, entered_has, is_send}
 use Rattle.stn_line.proofs.Values.{entered_is}
 use Rattle.stn_line.proofs.reading.read.Goals as goal
 
@@ -24,6 +24,18 @@ init-requires-clause-domain c =
 pub init-requires-clause-plan : goal.init-requires-clause-plan
 init-requires-clause-plan c =
     (init_there (rows_of (found_of c.unwrap.result.1.now)) (entered_has c.args.matches.now c.subcommand.result c.unwrap.result c.subcommand.ensures.name c.subcommand.ensures.rows c.unwrap.ensures c.requires (codes "init") c.in-init.is)).2
+
+pub loosen-requires-clause-log : goal.loosen-requires-clause-log
+loosen-requires-clause-log c =
+    (loosen_there (rows_of (found_of c.unwrap.result.1.now)) (entered_has c.args.matches.now c.subcommand.result c.unwrap.result c.subcommand.ensures.name c.subcommand.ensures.rows c.unwrap.ensures c.requires (codes "loosen") c.in-loosen.is)).0
+
+pub loosen-requires-clause-domain : goal.loosen-requires-clause-domain
+loosen-requires-clause-domain c =
+    (loosen_there (rows_of (found_of c.unwrap.result.1.now)) (entered_has c.args.matches.now c.subcommand.result c.unwrap.result c.subcommand.ensures.name c.subcommand.ensures.rows c.unwrap.ensures c.requires (codes "loosen") c.in-loosen.is)).1
+
+pub loosen-requires-clause-plan : goal.loosen-requires-clause-plan
+loosen-requires-clause-plan c =
+    (loosen_there (rows_of (found_of c.unwrap.result.1.now)) (entered_has c.args.matches.now c.subcommand.result c.unwrap.result c.subcommand.ensures.name c.subcommand.ensures.rows c.unwrap.ensures c.requires (codes "loosen") c.in-loosen.is)).2
 
 pub add-requires-clause-log : goal.add-requires-clause-log
 add-requires-clause-log c =
@@ -92,6 +104,31 @@ pub next-requires-clause-now : goal.next-requires-clause-now
 next-requires-clause-now c =
     (next_there (rows_of (found_of c.unwrap.result.1.now)) (entered_has c.args.matches.now c.subcommand.result c.unwrap.result c.subcommand.ensures.name c.subcommand.ensures.rows c.unwrap.ensures c.requires (codes "next") c.in-next.is)).1
 
+pub ready-requires-clause-log : goal.ready-requires-clause-log
+ready-requires-clause-log c =
+    (ready_there (rows_of (found_of c.unwrap.result.1.now)) (entered_has c.args.matches.now c.subcommand.result c.unwrap.result c.subcommand.ensures.name c.subcommand.ensures.rows c.unwrap.ensures c.requires (codes "ready") c.in-ready.is)).0
+
+pub ready-requires-clause-now : goal.ready-requires-clause-now
+ready-requires-clause-now c =
+    (ready_there (rows_of (found_of c.unwrap.result.1.now)) (entered_has c.args.matches.now c.subcommand.result c.unwrap.result c.subcommand.ensures.name c.subcommand.ensures.rows c.unwrap.ensures c.requires (codes "ready") c.in-ready.is)).1
+
+pub why-requires-clause-log : goal.why-requires-clause-log
+why-requires-clause-log c =
+    (why_there (rows_of (found_of c.unwrap.result.1.now)) (entered_has c.args.matches.now c.subcommand.result c.unwrap.result c.subcommand.ensures.name c.subcommand.ensures.rows c.unwrap.ensures c.requires (codes "why") c.in-why.is)).0
+
+pub why-requires-clause-event : goal.why-requires-clause-event
+why-requires-clause-event c =
+    (why_there (rows_of (found_of c.unwrap.result.1.now)) (entered_has c.args.matches.now c.subcommand.result c.unwrap.result c.subcommand.ensures.name c.subcommand.ensures.rows c.unwrap.ensures c.requires (codes "why") c.in-why.is)).1
+
+pub records-requires : goal.records-requires
+records-requires c = record { log = records_there (rows_of (found_of c.unwrap.result.1.now)) (entered_has c.args.matches.now c.subcommand.result c.unwrap.result c.subcommand.ensures.name c.subcommand.ensures.rows c.unwrap.ensures c.requires (codes "records") c.in-records.is) }
+
+pub steps-requires : goal.steps-requires
+steps-requires c = record { log = steps_there (rows_of (found_of c.unwrap.result.1.now)) (entered_has c.args.matches.now c.subcommand.result c.unwrap.result c.subcommand.ensures.name c.subcommand.ensures.rows c.unwrap.ensures c.requires (codes "steps") c.in-steps.is) }
+
+pub bounds-requires : goal.bounds-requires
+bounds-requires c = record { log = bounds_there (rows_of (found_of c.unwrap.result.1.now)) (entered_has c.args.matches.now c.subcommand.result c.unwrap.result c.subcommand.ensures.name c.subcommand.ensures.rows c.unwrap.ensures c.requires (codes "bounds") c.in-bounds.is) }
+
 pub serve-requires-clause-log : goal.serve-requires-clause-log
 serve-requires-clause-log c =
     (serve_there (rows_of (found_of c.unwrap.result.1.now)) (entered_has c.args.matches.now c.subcommand.result c.unwrap.result c.subcommand.ensures.name c.subcommand.ensures.rows c.unwrap.ensures c.requires (codes "serve") c.in-serve.is)).0
@@ -111,24 +148,24 @@ serve-requires-clause-seconds c =
 pub send-requires-clause-log : goal.send-requires-clause-log
 send-requires-clause-log c =
     let named = is_send c.unwrap.result.0.now (rows_of (found_of c.unwrap.result.1.now)) (entered_has c.args.matches.now c.subcommand.result c.unwrap.result c.subcommand.ensures.name c.subcommand.ensures.rows c.unwrap.ensures c.requires c.unwrap.result.0.now refl)
-    c.in_default.not-run c.in_default.not-bare c.in_default.not-init c.in_default.not-add c.in_default.not-amend c.in_default.not-withdraw c.in_default.not-done c.in_default.not-merge c.in_default.not-report c.in_default.not-next c.in_default.not-serve in
+    c.in_default.not-run c.in_default.not-bare c.in_default.not-init c.in_default.not-loosen c.in_default.not-add c.in_default.not-amend c.in_default.not-withdraw c.in_default.not-done c.in_default.not-merge c.in_default.not-report c.in_default.not-next c.in_default.not-ready c.in_default.not-why c.in_default.not-records c.in_default.not-steps c.in_default.not-bounds c.in_default.not-serve in
     (send_there (rows_of (found_of c.unwrap.result.1.now)) (entered_has c.args.matches.now c.subcommand.result c.unwrap.result c.subcommand.ensures.name c.subcommand.ensures.rows c.unwrap.ensures c.requires (codes "send") named)).0
 
 pub send-requires-clause-address : goal.send-requires-clause-address
 send-requires-clause-address c =
     let named = is_send c.unwrap.result.0.now (rows_of (found_of c.unwrap.result.1.now)) (entered_has c.args.matches.now c.subcommand.result c.unwrap.result c.subcommand.ensures.name c.subcommand.ensures.rows c.unwrap.ensures c.requires c.unwrap.result.0.now refl)
-    c.in_default.not-run c.in_default.not-bare c.in_default.not-init c.in_default.not-add c.in_default.not-amend c.in_default.not-withdraw c.in_default.not-done c.in_default.not-merge c.in_default.not-report c.in_default.not-next c.in_default.not-serve in
+    c.in_default.not-run c.in_default.not-bare c.in_default.not-init c.in_default.not-loosen c.in_default.not-add c.in_default.not-amend c.in_default.not-withdraw c.in_default.not-done c.in_default.not-merge c.in_default.not-report c.in_default.not-next c.in_default.not-ready c.in_default.not-why c.in_default.not-records c.in_default.not-steps c.in_default.not-bounds c.in_default.not-serve in
     (send_there (rows_of (found_of c.unwrap.result.1.now)) (entered_has c.args.matches.now c.subcommand.result c.unwrap.result c.subcommand.ensures.name c.subcommand.ensures.rows c.unwrap.ensures c.requires (codes "send") named)).1
 
 pub send-requires-clause-seconds : goal.send-requires-clause-seconds
 send-requires-clause-seconds c =
     let named = is_send c.unwrap.result.0.now (rows_of (found_of c.unwrap.result.1.now)) (entered_has c.args.matches.now c.subcommand.result c.unwrap.result c.subcommand.ensures.name c.subcommand.ensures.rows c.unwrap.ensures c.requires c.unwrap.result.0.now refl)
-    c.in_default.not-run c.in_default.not-bare c.in_default.not-init c.in_default.not-add c.in_default.not-amend c.in_default.not-withdraw c.in_default.not-done c.in_default.not-merge c.in_default.not-report c.in_default.not-next c.in_default.not-serve in
+    c.in_default.not-run c.in_default.not-bare c.in_default.not-init c.in_default.not-loosen c.in_default.not-add c.in_default.not-amend c.in_default.not-withdraw c.in_default.not-done c.in_default.not-merge c.in_default.not-report c.in_default.not-next c.in_default.not-ready c.in_default.not-why c.in_default.not-records c.in_default.not-steps c.in_default.not-bounds c.in_default.not-serve in
     (send_there (rows_of (found_of c.unwrap.result.1.now)) (entered_has c.args.matches.now c.subcommand.result c.unwrap.result c.subcommand.ensures.name c.subcommand.ensures.rows c.unwrap.ensures c.requires (codes "send") named)).2
 
 pub returns-in_default : goal.returns-in_default
 returns-in_default c =
     let named = is_send c.unwrap.result.0.now (rows_of (found_of c.unwrap.result.1.now)) (entered_has c.args.matches.now c.subcommand.result c.unwrap.result c.subcommand.ensures.name c.subcommand.ensures.rows c.unwrap.ensures c.requires c.unwrap.result.0.now refl)
-    c.in_default.not-run c.in_default.not-bare c.in_default.not-init c.in_default.not-add c.in_default.not-amend c.in_default.not-withdraw c.in_default.not-done c.in_default.not-merge c.in_default.not-report c.in_default.not-next c.in_default.not-serve in
+    c.in_default.not-run c.in_default.not-bare c.in_default.not-init c.in_default.not-loosen c.in_default.not-add c.in_default.not-amend c.in_default.not-withdraw c.in_default.not-done c.in_default.not-merge c.in_default.not-report c.in_default.not-next c.in_default.not-ready c.in_default.not-why c.in_default.not-records c.in_default.not-steps c.in_default.not-bounds c.in_default.not-serve in
     let entered = entered_is c.args.matches.now c.subcommand.result c.unwrap.result c.subcommand.ensures.name c.subcommand.ensures.rows c.unwrap.ensures in
     rw (entered, named) c.send.ensures
