@@ -60,7 +60,7 @@ fn top<'a>(alloc: Global) -> Command<'a>
 fn run<'a>(alloc: Global) -> Command<'a>
     ensures is { spec.Reads (spec.command (codes "run") []) result }
 {
-    Command::new(alloc, "run").about("Runs a script from standard input to standard output")
+    Command::new(alloc, "run").about("Runs the script on standard input")
 }
 
 fn bare<'a>(alloc: Global) -> Result<Command<'a>, AllocError>
@@ -76,7 +76,7 @@ fn bare<'a>(alloc: Global) -> Result<Command<'a>, AllocError>
     on_log(
         alloc,
         "bare",
-        "Makes the log of a plan of so many steps that no bound ties",
+        "Makes the log of a plan of STEPS steps, without bounds between them",
     )?
     .arg(steps)
 }
@@ -94,7 +94,7 @@ fn init<'a>(alloc: Global) -> Result<Command<'a>, AllocError>
         "PLAN",
         "The file of the plan: lines as `0.000: (action a b) [5.000]`",
     );
-    on_log(alloc, "init", "Makes the log of a plan over a domain")?
+    on_log(alloc, "init", "Makes the log of a planner's plan")?
         .arg(domain)?
         .arg(plan)
 }
@@ -115,17 +115,17 @@ fn loosen<'a>(alloc: Global) -> Result<Command<'a>, AllocError>
     let early = option(
         alloc,
         "early",
-        "A step may take so many seconds less than planned; 0 where it is not given",
+        "How many seconds less than planned a step may take; 0 if not given",
     );
     let late = option(
         alloc,
         "late",
-        "A step may take so many seconds more than planned; 0 where it is not given",
+        "How many seconds more than planned a step may take; 0 if not given",
     );
     on_log(
         alloc,
         "loosen",
-        "Makes the log of a plan over a domain whose steps may end earlier or later",
+        "Makes the log of a planner's plan whose steps may end earlier or later",
     )?
     .arg(domain)?
     .arg(plan)?
@@ -138,8 +138,16 @@ fn add<'a>(alloc: Global) -> Result<Command<'a>, AllocError>
 {
     let from = word(alloc, "FROM", "The event to count from: `z`, `s1`, `e1`");
     let to = word(alloc, "TO", "The event to count to");
-    let lo = option(alloc, "lo", "TO comes at least so many seconds after FROM");
-    let hi = option(alloc, "hi", "TO comes at most so many seconds after FROM");
+    let lo = option(
+        alloc,
+        "lo",
+        "TO comes at least T seconds after FROM; open if not given",
+    );
+    let hi = option(
+        alloc,
+        "hi",
+        "TO comes at most T seconds after FROM; open if not given",
+    );
     on_log(
         alloc,
         "add",
@@ -157,12 +165,20 @@ fn amend<'a>(alloc: Global) -> Result<Command<'a>, AllocError>
     let id = word(alloc, "ID", "The id of the record to replace, as `1.2`");
     let from = word(alloc, "FROM", "The event to count from: `z`, `s1`, `e1`");
     let to = word(alloc, "TO", "The event to count to");
-    let lo = option(alloc, "lo", "TO comes at least so many seconds after FROM");
-    let hi = option(alloc, "hi", "TO comes at most so many seconds after FROM");
+    let lo = option(
+        alloc,
+        "lo",
+        "TO comes at least T seconds after FROM; open if not given",
+    );
+    let hi = option(
+        alloc,
+        "hi",
+        "TO comes at most T seconds after FROM; open if not given",
+    );
     on_log(
         alloc,
         "amend",
-        "Replaces a record for good, in one step, by a new bound",
+        "Replaces a record by a new bound, for good and in one step",
     )?
     .arg(id)?
     .arg(from)?
@@ -200,7 +216,7 @@ fn merge<'a>(alloc: Global) -> Result<Command<'a>, AllocError>
     ensures is { IfOk result (spec.Reads (spec.on_log (codes "merge") spec.merge_words)) }
 {
     let other = word(alloc, "OTHER", "Another site's log of the same plan");
-    on_log(alloc, "merge", "Takes all that another site's log holds")?.arg(other)
+    on_log(alloc, "merge", "Takes in everything in another site's log")?.arg(other)
 }
 
 fn report<'a>(alloc: Global) -> Result<Command<'a>, AllocError>
@@ -217,12 +233,7 @@ fn next<'a>(alloc: Global) -> Result<Command<'a>, AllocError>
     ensures is { IfOk result (spec.Reads (spec.on_log (codes "next") spec.next_words)) }
 {
     let now = word(alloc, "NOW", "The time now, in seconds after the origin");
-    on_log(
-        alloc,
-        "next",
-        "Says which event is to take place next, and when",
-    )?
-    .arg(now)
+    on_log(alloc, "next", "Says which event to run next, and when")?.arg(now)
 }
 
 fn ready<'a>(alloc: Global) -> Result<Command<'a>, AllocError>
@@ -232,7 +243,7 @@ fn ready<'a>(alloc: Global) -> Result<Command<'a>, AllocError>
     on_log(
         alloc,
         "ready",
-        "Says which events may run from a time on, and until when",
+        "Says which events may run from NOW on, and until when",
     )?
     .arg(now)
 }
@@ -259,7 +270,7 @@ fn records<'a>(alloc: Global) -> Result<Command<'a>, AllocError>
     on_log(
         alloc,
         "records",
-        "Prints the records that the log holds, those that no longer count too",
+        "Prints the records in the log, also those that no longer count",
     )
 }
 
@@ -279,7 +290,7 @@ fn bounds<'a>(alloc: Global) -> Result<Command<'a>, AllocError>
     on_log(
         alloc,
         "bounds",
-        "Prints all bounds that count, those of the plan first",
+        "Prints all bounds that count, the plan's first",
     )
 }
 
@@ -307,7 +318,7 @@ fn serve<'a>(alloc: Global) -> Result<Command<'a>, AllocError>
     .arg(count)?
     .arg(seconds(
         alloc,
-        "How many seconds a session may take, from 1 to 3600; 60 where it is not given",
+        "How many seconds a session may take, from 1 to 3600; 60 if not given",
     ))
 }
 
@@ -323,7 +334,7 @@ fn send<'a>(alloc: Global) -> Result<Command<'a>, AllocError>
     .arg(address)?
     .arg(seconds(
         alloc,
-        "How many seconds the exchange may take, from 1 to 3600; 60 where it is not given",
+        "How many seconds the exchange may take, from 1 to 3600; 60 if not given",
     ))
 }
 
@@ -335,14 +346,14 @@ fn on_log<'a>(alloc: Global, name: &'a str, about: &'a str) -> Result<Command<'a
     let site = number(
         alloc,
         "SITE",
-        "The number of the site, 1 to 64",
+        "The number of this site, from 1 to 64",
         1,
         u64::from(MOST_SITES),
     );
     Command::new(alloc, name).about(about).arg(log)?.arg(site)
 }
 
-// A word that has to be there.
+// A required word.
 fn word<'a>(alloc: Global, name: &'a str, help: &'a str) -> Arg<'a>
     ensures rule { rule_of result ≡ spec.word_rule name.entry.now }
     ensures own { result.global ≡ false }
