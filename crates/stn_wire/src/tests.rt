@@ -43,37 +43,46 @@ fn states_there_and_back(rt: HostRuntime) -> Result<(), Fail> {
 }
 
 // A frame of the record 1.2, s1 to e1 in 6.000, and of one entry, by which it replaces this id of site 1.
-fn amendment(alloc: Global, kind: u8, counter: u8) -> Result<Vec<u8, Global>, WireFault> {
-    let mut bytes = Vec::new(alloc);
-    bytes.extend_from_slice(&[0, 0, 0, 40, kind])?;
-    bytes.extend_from_slice(b"\x00\x01\x00\x01\x00\x02\x00\x00\x01\x00\x02\x00\x00\x00\x07")?;
-    bytes.extend_from_slice(b"\x57\xb1\x43\x70\x00\x00\x00\x07\x57\xb1\x43\x70\x00\x00")?;
-    bytes.extend_from_slice(&[0, 1, 0, 1, 0, 2, 0, 1, 0, counter])?;
-    Ok(bytes)
+fn amendment(kind: u8, counter: u8) -> [u8; 44] {
+    [
+        0, 0, 0, 40, kind, 0, 1, 0, 1, 0, 2, 0, 0, 1, 0, 2, 0, 0, 0, 7, 0x57, 0xb1, 0x43, 0x70, 0,
+        0, 0, 7, 0x57, 0xb1, 0x43, 0x70, 0, 0, 0, 1, 0, 1, 0, 2, 0, 1, 0, counter,
+    ]
 }
 
-// 1.2 replaces 1.1, and not itself; entries stand in frames of kind 16 alone.
 #[test]
-fn amendments_there_and_back(rt: HostRuntime) -> Result<(), Fail> {
-    let alloc = rt.alloc();
-    assert_eq!(rt; is_spelled(alloc, &amendment(alloc, 16, 1)?), Ok(true));
+fn amendment_there_and_back(rt: HostRuntime) {
+    assert_eq!(rt; is_spelled(rt.alloc(), &amendment(16, 1)), Ok(true));
+}
+
+#[test]
+fn amendment_of_itself(rt: HostRuntime) {
     assert_eq!(rt;
-        fault_of(alloc, &amendment(alloc, 16, 2)?),
+        fault_of(rt.alloc(), &amendment(16, 2)),
         Some(WireFault::Body)
     );
+}
+
+#[test]
+fn entries_in_a_frame_of_kind_8(rt: HostRuntime) {
     assert_eq!(rt;
-        fault_of(alloc, &amendment(alloc, 8, 1)?),
+        fault_of(rt.alloc(), &amendment(8, 1)),
         Some(WireFault::Body)
     );
+}
+
+#[test]
+fn kind_16_without_entries(rt: HostRuntime) {
+    let frame = b"\x00\x00\x00\x07\x10\x00\x00\x00\x00\x00\x00";
+    assert_eq!(rt; fault_of(rt.alloc(), frame), Some(WireFault::Body));
+}
+
+#[test]
+fn kind_17(rt: HostRuntime) {
     assert_eq!(rt;
-        fault_of(alloc, b"\x00\x00\x00\x07\x10\x00\x00\x00\x00\x00\x00"),
-        Some(WireFault::Body)
-    );
-    assert_eq!(rt;
-        fault_of(alloc, b"\x00\x00\x00\x01\x11"),
+        fault_of(rt.alloc(), b"\x00\x00\x00\x01\x11"),
         Some(WireFault::Kind)
     );
-    Ok(())
 }
 
 #[test]
@@ -90,18 +99,33 @@ fn sources_of_two_texts(rt: HostRuntime) -> Result<(), Fail> {
 }
 
 #[test]
-fn old_frames_are_not_spelled(rt: HostRuntime) -> Result<(), Fail> {
-    let alloc = rt.alloc();
-    let mut out = Vec::new(alloc);
+fn old_frames_are_not_spelled(rt: HostRuntime) {
+    let mut out = Vec::new(rt.alloc());
     let frame: Frame<Global> = Frame::OldHello(Source::Bare(1));
     assert_eq!(rt; encode(&frame, &mut out), Err(WireFault::OldFrame));
+    assert!(rt; out.is_empty());
+}
+
+#[test]
+fn long_old_frames_are_not_spelled(rt: HostRuntime) -> Result<(), Fail> {
+    let alloc = rt.alloc();
     let long = vec![in alloc; b'x'; 262_144]?;
     let frame = Frame::OldHello(Source::Files(long, Vec::new(alloc)));
+    let mut out = Vec::new(alloc);
     assert_eq!(rt; encode(&frame, &mut out), Err(WireFault::OldFrame));
-    assert!(rt; out.is_empty());
-    let hello = decode(alloc, b"\x00\x00\x00\x04\x01\x00\x00\x01")?;
-    assert!(rt; matches!(hello, Some((Frame::OldHello(Source::Bare(1)), 8))));
     Ok(())
+}
+
+// Whether the bytes are one old HELLO of a plan of one step.
+fn is_old_hello(alloc: Global, bytes: &[u8]) -> Result<bool, WireFault> {
+    let hello = decode(alloc, bytes)?;
+    Ok(matches!(hello, Some((Frame::OldHello(Source::Bare(1)), 8))))
+}
+
+#[test]
+fn old_frames_are_read(rt: HostRuntime) {
+    let hello = b"\x00\x00\x00\x04\x01\x00\x00\x01";
+    assert_eq!(rt; is_old_hello(rt.alloc(), hello), Ok(true));
 }
 
 // The sides of the only record of an old frame that ends in these two numbers.
