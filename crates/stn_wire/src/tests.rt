@@ -106,12 +106,16 @@ fn old_frames_are_not_spelled(rt: HostRuntime) {
     assert!(rt; out.is_empty());
 }
 
+// An old HELLO of a domain of so many bytes and an empty plan.
+fn long_old_hello(alloc: Global, length: usize) -> Result<Frame<Global>, WireFault> {
+    let domain = vec![in alloc; b'x'; length]?;
+    Ok(Frame::OldHello(Source::Files(domain, Vec::new(alloc))))
+}
+
 #[test]
 fn long_old_frames_are_not_spelled(rt: HostRuntime) -> Result<(), Fail> {
-    let alloc = rt.alloc();
-    let long = vec![in alloc; b'x'; 262_144]?;
-    let frame = Frame::OldHello(Source::Files(long, Vec::new(alloc)));
-    let mut out = Vec::new(alloc);
+    let frame = long_old_hello(rt.alloc(), 262_144)?;
+    let mut out = Vec::new(rt.alloc());
     assert_eq!(rt; encode(&frame, &mut out), Err(WireFault::OldFrame));
     Ok(())
 }
@@ -128,20 +132,35 @@ fn old_frames_are_read(rt: HostRuntime) {
     assert_eq!(rt; is_old_hello(rt.alloc(), hello), Ok(true));
 }
 
-// The sides of the only record of an old frame that ends in these two numbers.
-fn old_sides(alloc: Global, mark: u8, lo: &[u8; 4], hi: &[u8; 4]) -> Result<(i64, i64), WireFault> {
-    let mut bytes = Vec::new(alloc);
-    bytes.extend_from_slice(b"\x00\x00\x00\x16\x02\x00\x01\x00\x02\x00\x01")?;
-    bytes.extend_from_slice(&[mark, 0, 0, 0, 1])?;
-    bytes.extend_from_slice(lo)?;
-    bytes.extend_from_slice(hi)?;
-    bytes.extend_from_slice(&[0, 0])?;
-    match decode(alloc, &bytes)? {
-        Some((Frame::OldRecords(records), 26)) => match records.record_at(0) {
-            Some((_, _, bound)) => Ok((bound.lo().get(), bound.hi().get())),
-            None => Err(WireFault::Memory),
+// An old frame of one record, whose bound has these two numbers.
+fn old_frame(mark: u8, lo: &[u8; 4], hi: &[u8; 4]) -> [u8; 26] {
+    [
+        0, 0, 0, 22, 2, 0, 1, 0, 2, 0, 1, mark, 0, 0, 0, 1, lo[0], lo[1], lo[2], lo[3], hi[0],
+        hi[1], hi[2], hi[3], 0, 0,
+    ]
+}
+
+// The sides of the first record of an old frame.
+fn sides(frame: &Frame<Global>) -> Option<(i64, i64)> {
+    match frame {
+        Frame::OldRecords(records) => match records.record_at(0) {
+            Some((_, _, bound)) => Some((bound.lo().get(), bound.hi().get())),
+            None => None,
         },
-        _ => Err(WireFault::Memory),
+        _ => None,
+    }
+}
+
+// The sides of the only record of an old frame that ends in these two numbers.
+fn old_sides(
+    alloc: Global,
+    mark: u8,
+    lo: &[u8; 4],
+    hi: &[u8; 4],
+) -> Result<Option<(i64, i64)>, WireFault> {
+    match decode(alloc, &old_frame(mark, lo, hi))? {
+        Some((frame, _)) => Ok(sides(&frame)),
+        None => Ok(None),
     }
 }
 
@@ -151,22 +170,22 @@ fn old_sides_are_widened(rt: HostRuntime) -> Result<(), Fail> {
     let alloc = rt.alloc();
     let (least, greatest) = (b"\x00\x00\x00\x00", b"\x77\x35\x94\x00");
     let (two, ten) = (b"\x3b\x9a\xd1\xd0", b"\x3b\x9a\xf1\x10");
-    assert_eq!(rt; old_sides(alloc, 0, two, ten), Ok((2_000, 10_000)));
+    assert_eq!(rt; old_sides(alloc, 0, two, ten), Ok(Some((2_000, 10_000))));
     assert_eq!(rt;
         old_sides(alloc, 0, least, greatest),
-        Ok((-HORIZON, HORIZON))
+        Ok(Some((-HORIZON, HORIZON)))
     );
     assert_eq!(rt;
         old_sides(alloc, 0, greatest, greatest),
-        Ok((1_000_000_000, HORIZON))
+        Ok(Some((1_000_000_000, HORIZON)))
     );
     assert_eq!(rt;
         old_sides(alloc, 0, least, least),
-        Ok((-HORIZON, -1_000_000_000))
+        Ok(Some((-HORIZON, -1_000_000_000)))
     );
     assert_eq!(rt;
         old_sides(alloc, 1, greatest, greatest),
-        Ok((1_000_000_000, 1_000_000_000))
+        Ok(Some((1_000_000_000, 1_000_000_000)))
     );
     assert_eq!(rt;
         old_sides(alloc, 0, two, b"\x77\x35\x94\x01"),
@@ -200,19 +219,28 @@ fn faults_of_frames(rt: HostRuntime) {
     assert_eq!(rt; fault_of(alloc, unordered), Some(WireFault::Body));
 }
 
+// How many bytes a feeder uses, and whether ASK or SAME came of them.
+fn feed(feeder: &mut Feeder<Global>, bytes: &[u8]) -> Result<(usize, bool, bool), WireFault> {
+    let fed = feeder.feed(bytes)?;
+    let is_ask = matches!(&fed.frame, Some(Frame::Ask));
+    let is_same = matches!(&fed.frame, Some(Frame::Same));
+    Ok((fed.used, is_ask, is_same))
+}
+
 #[test]
-fn feeder_pieces(rt: HostRuntime) -> Result<(), Fail> {
+fn feeder_pieces(rt: HostRuntime) {
     let mut feeder = Feeder::new(rt.alloc());
     assert_eq!(rt; feeder.middle(), false);
-    let fed = feeder.feed(b"\x00\x00\x00\x01")?;
-    assert!(rt; fed.used == 4 && fed.frame.is_none() && feeder.middle());
-    let fed = feeder.feed(b"\x03")?;
-    assert!(rt; fed.used == 1 && matches!(&fed.frame, Some(Frame::Ask)) && !feeder.middle());
-    let fed = feeder.feed(b"\x00\x00\x00\x01\x03\x00\x00\x00\x01\x06")?;
-    assert!(rt; fed.used == 5 && matches!(&fed.frame, Some(Frame::Ask)));
-    let fed = feeder.feed(b"\x00\x00\x00\x01\x06")?;
-    assert!(rt; fed.used == 5 && matches!(&fed.frame, Some(Frame::Same)));
-    Ok(())
+    assert_eq!(rt;
+        feed(&mut feeder, b"\x00\x00\x00\x01"),
+        Ok((4, false, false))
+    );
+    assert_eq!(rt; feeder.middle(), true);
+    assert_eq!(rt; feed(&mut feeder, b"\x03"), Ok((1, true, false)));
+    assert_eq!(rt; feeder.middle(), false);
+    let two = b"\x00\x00\x00\x01\x03\x00\x00\x00\x01\x06";
+    assert_eq!(rt; feed(&mut feeder, two), Ok((5, true, false)));
+    assert_eq!(rt; feed(&mut feeder, &two[5..]), Ok((5, false, true)));
 }
 
 #[test]
