@@ -1,0 +1,70 @@
+-- What is drawn grows by one event.
+use Rattle.std.proofs.Common.{◌≡◌, ℕ, ℤ, suc, ◌+◌, ◌*◌, ◌<◌, Bool, List, [], ◌∷◌, ◌++◌, length, take, get_or, unsigned_abs, refl, sym, ap, subst, ◌∙◌, add-one, append_assoc}
+use Rattle.std.proofs.lemmas.List.{append-nil, take_more}
+use Rattle.std.proofs.lemmas.List.Concat.{flat_map-append}
+use Rattle.std.specs.List.{flat_map}
+use Rattle.stn_net.specs.Difference.{Difference}
+use Rattle.stn_windows.specs.Window.{IsWindow}
+use Rattle.stn_picture.specs.declared.span.Span.{Span}
+use Rattle.stn_picture.specs.Axis.{later, last_earliest, last_latest}
+use Rattle.stn_picture.specs.Spans.{AreSpans}
+use Rattle.stn_matrix.specs.Table.{Table}
+use Rattle.stn_matrix.specs.Tightest.{IsExact}
+use Rattle.stn_lift.specs.PlanSource.{PlanSource, events_of}
+use Rattle.stn_records.specs.Content.{Content}
+use Rattle.stn_replica.specs.Bounds.{all_bounds}
+use Rattle.stn_replica.specs.Report.{is_done}
+use Rattle.stn_questions.specs.Steps.{steps_text}
+use Rattle.stn_picture.specs.Axis.{gap_of}
+use Rattle.stn_picture.specs.Picture.{windows_text, IsWindowsPicture}
+
+-- one span more
+pub one_more_span : (bounds : List Difference) (done : ℕ → Bool) (n event : ℕ) (earliest latest : ℤ) (spans : List Span)
+    → AreSpans bounds done n spans → event ≡ n + 1 → IsWindow bounds event earliest latest
+    → AreSpans bounds done (n + 1) (spans ++ record { event = event; earliest = earliest; latest = latest; done = done event } ∷ [])
+one_more_span bounds done n event earliest latest spans before is window =
+    let e : event ≡ suc n = is ∙ add-one n in
+    rw (add-one, e) (spans, earliest, latest, before, subst (λ k. IsWindow bounds k earliest latest) e window, refl)
+
+earliest_push : (time : ℕ) (spans : List Span) (span : Span) → last_earliest time (spans ++ span ∷ []) ≡ later (last_earliest time spans) (unsigned_abs span.earliest)
+earliest_push time [] span = refl
+earliest_push time (first ∷ spans) span = earliest_push (later time (unsigned_abs first.earliest)) spans span
+
+latest_push : (time : ℕ) (spans : List Span) (span : Span) → last_latest time (spans ++ span ∷ []) ≡ later (last_latest time spans) (unsigned_abs span.latest)
+latest_push time [] span = refl
+latest_push time (first ∷ spans) span = latest_push (later time (unsigned_abs first.latest)) spans span
+
+-- the last of one time more
+pub earliest_more : (spans : List Span) (place time : ℕ) (span : Span) → place < length spans → span ≡ get_or spans place span → time ≡ last_earliest 0 (take place spans)
+    → later time (unsigned_abs span.earliest) ≡ last_earliest 0 (take (place + 1) spans)
+earliest_more spans place time span within is was =
+    ap (λ seen. later seen (unsigned_abs span.earliest)) was ∙ sym (earliest_push 0 (take place spans) span)
+    ∙ sym (ap (last_earliest 0) (take_more spans place span within ∙ ap (λ y. take place spans ++ y ∷ []) (sym is)))
+
+pub latest_more : (spans : List Span) (place time : ℕ) (span : Span) → place < length spans → span ≡ get_or spans place span → time ≡ last_latest 0 (take place spans)
+    → later time (unsigned_abs span.latest) ≡ last_latest 0 (take (place + 1) spans)
+latest_more spans place time span within is was =
+    ap (λ seen. later seen (unsigned_abs span.latest)) was ∙ sym (latest_push 0 (take place spans) span)
+    ∙ sym (ap (last_latest 0) (take_more spans place span within ∙ ap (λ y. take place spans ++ y ∷ []) (sym is)))
+
+-- the text of one span more
+pub spans_grown : (f : Span → List ℕ) (spans : List Span) (place : ℕ) (span : Span) (front old new : List ℕ) → place < length spans → span ≡ get_or spans place span
+    → old ≡ front ++ flat_map f (take place spans) → new ≡ old ++ f span → new ≡ front ++ flat_map f (take (place + 1) spans)
+spans_grown f spans place span front old new within is was grown =
+    grown ∙ ap (λ text. text ++ f span) was ∙ append_assoc front (flat_map f (take place spans)) (f span)
+    ∙ ap (λ text. front ++ text) (sym (
+    ap (flat_map f) (take_more spans place span within ∙ ap (λ y. take place spans ++ y ∷ []) (sym is))
+    ∙ flat_map-append f (take place spans) (span ∷ [])
+    ∙ ap (λ last. flat_map f (take place spans) ++ last) (append-nil (f span))))
+
+-- the picture of bounds with a schedule
+pub windows_picture : (source : PlanSource) (state : Content) (table : Table) (spans seen : List Span) (text : List ℕ)
+    → IsExact (all_bounds source state) table → table.events ≡ events_of source
+    → AreSpans (all_bounds source state) (is_done state) table.events spans → seen ≡ spans
+    → text ≡ windows_text (20 * events_of source + 40) (gap_of seen) (steps_text source) seen → IsWindowsPicture source state text
+windows_picture source state table spans seen text exact events windows is whole = record {
+  possible = exact.possible;
+  spans = spans;
+  windows = subst (λ n. AreSpans (all_bounds source state) (is_done state) n spans) events windows;
+  whole = whole ∙ ap (λ drawn. windows_text (20 * events_of source + 40) (gap_of drawn) (steps_text source) drawn) is;
+}

@@ -1,0 +1,3 @@
+pub mod OnePicture
+pub mod Drawing
+pub mod Grown

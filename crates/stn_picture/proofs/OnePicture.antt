@@ -1,0 +1,90 @@
+-- A plan and its live records have one picture.
+use Rattle.std.proofs.Common.{◌≡◌, ℕ, zero, suc, ◌+◌, ◌*◌, Bool, List, [], ◌∷◌, ◌++◌, map, refl, sym, ap, subst, ◌∙◌, ⊎_elim, inl, inr}
+use Rattle.std.proofs.lemmas.List.{append_cancel_left}
+use Rattle.std.specs.List.{flat_map}
+use Rattle.stn_net.specs.Difference.{Difference}
+use Rattle.stn_net.specs.Schedule.{HasSchedule}
+use Rattle.stn_windows.proofs.Windows.{one_window}
+use Rattle.stn_lift.specs.PlanSource.{PlanSource, base_bounds, events_of}
+use Rattle.stn_records.specs.Id.{SiteCounter}
+use Rattle.stn_records.specs.declared.record.Record.{Record}
+use Rattle.stn_records.specs.Content.{Content, live_of}
+use Rattle.stn_conflict.specs.declared.links.Link.{Link}
+use Rattle.stn_conflict.specs.Arcs.{weight_of, IsNegativeCycle}
+use Rattle.stn_conflict.specs.Named.{IsNamedCycle}
+use Rattle.stn_replica.specs.Bounds.{bounds_of, all_bounds}
+use Rattle.stn_replica.specs.Lines.{conflict_line, link_line}
+use Rattle.stn_replica.specs.Report.{says_done, is_done, IsConflictPart, IsReport, heading}
+use Rattle.stn_questions.specs.Steps.{steps_text}
+use Rattle.stn_picture.specs.declared.span.Span.{Span}
+use Rattle.stn_picture.specs.Axis.{gap_of}
+use Rattle.stn_picture.specs.Spans.{AreSpans}
+use Rattle.stn_picture.specs.Picture.{windows_text, cycle_text, IsWindowsPicture, IsCyclePicture, IsPicture}
+
+abbrev Entries : Type 0
+Entries = List (SiteCounter × Record)
+
+abbrev bounds_with : PlanSource → Entries → List Difference
+bounds_with source records = base_bounds source ++ bounds_of records
+
+abbrev ids_of : Entries → List SiteCounter
+ids_of records = map (λ entry. entry.0) records
+
+-- one list of spans
+one_spans : (bounds : List Difference) (done : ℕ → Bool) (n : ℕ) (spans others : List Span) → HasSchedule bounds → AreSpans bounds done n spans → AreSpans bounds done n others → spans ≡ others
+one_spans bounds done zero spans others possible p q = p ∙ sym q
+one_spans bounds done (suc n) spans others possible p q =
+    let before = one_spans bounds done n p.0 q.0 possible p.3 q.3 in
+    let ends = one_window bounds (suc n) p.1 p.2 q.1 q.2 possible p.4 q.4 in
+    p.5 ∙ (λ i. before i ++ record { event = suc n; earliest = ends.0 i; latest = ends.1 i; done = done (suc n) } ∷ []) ∙ sym q.5
+
+abbrev pub OneReport : Type 0
+OneReport = (source : PlanSource) → (state : Content) → (text other : List ℕ) → IsReport source state text → IsReport source state other → text ≡ other
+
+abbrev pub Refutes : Type 0
+Refutes = (bounds : List Difference) → (links : List Link) → IsNegativeCycle bounds links → ¬ HasSchedule bounds
+
+one_conflict : OneReport → (source : PlanSource) (state : Content) (text other : List ℕ) → IsConflictPart source state text → IsConflictPart source state other → text ≡ other
+one_conflict unique source state text other p q =
+    append_cancel_left (heading source state) text other
+    (unique source state (heading source state ++ text) (heading source state ++ other)
+    (record { rest = text; part = inr p; whole = refl }) (record { rest = other; part = inr q; whole = refl }))
+
+-- a plan and a state have one picture
+pub one_picture : OneReport → Refutes → (source : PlanSource) (state : Content) (text other : List ℕ) → IsPicture source state text → IsPicture source state other → text ≡ other
+one_picture reports refutes source state text other p q =
+    ⊎_elim
+    (λ (mine : IsWindowsPicture source state text). ⊎_elim
+    (λ (theirs : IsWindowsPicture source state other).
+    mine.whole
+    ∙ ap (λ spans. windows_text (20 * events_of source + 40) (gap_of spans) (steps_text source) spans)
+    (one_spans (all_bounds source state) (is_done state) (events_of source) mine.spans theirs.spans mine.possible mine.windows theirs.windows)
+    ∙ sym theirs.whole)
+    (λ (theirs : IsCyclePicture source state other). absurd (refutes (all_bounds source state) theirs.part.links theirs.part.negative mine.possible)) q)
+    (λ (mine : IsCyclePicture source state text). ⊎_elim
+    (λ (theirs : IsWindowsPicture source state other). absurd (refutes (all_bounds source state) mine.part.links mine.part.negative theirs.possible))
+    (λ (theirs : IsCyclePicture source state other).
+    mine.whole ∙ ap cycle_text (one_conflict reports source state mine.conflict theirs.conflict mine.part theirs.part) ∙ sym theirs.whole) q)
+    p
+
+module _ (source : PlanSource) (s t : Content) (live : live_of s ≡ live_of t) where
+  same_conflict : (text : List ℕ) → IsConflictPart source s text → IsConflictPart source t text
+  same_conflict text p = record {
+    links = p.links;
+    named = subst (λ (records : Entries). IsNamedCycle (bounds_with source records) p.links) live p.named;
+    negative = subst (λ (records : Entries). IsNegativeCycle (bounds_with source records) p.links) live p.negative;
+    whole = p.whole ∙ (λ i. conflict_line (weight_of (bounds_with source (live i)) p.links)
+        ++ flat_map (link_line (base_bounds source) (ids_of (live i)) (bounds_of (live i))) p.links);
+  }
+
+  -- states with the same live records have the same picture
+  pub counted_picture : (text : List ℕ) → IsPicture source s text → IsPicture source t text
+  counted_picture text p = ⊎_elim
+      (λ (drawn : IsWindowsPicture source s text). inl (record {
+        possible = subst (λ (records : Entries). HasSchedule (bounds_with source records)) live drawn.possible;
+        spans = drawn.spans;
+        windows = subst (λ (records : Entries). AreSpans (bounds_with source records) (says_done records) (events_of source) drawn.spans) live drawn.windows;
+        whole = drawn.whole;
+      }))
+      (λ (drawn : IsCyclePicture source s text). inr (record { conflict = drawn.conflict; part = same_conflict drawn.conflict drawn.part; whole = drawn.whole }))
+      p

@@ -1,0 +1,4 @@
+pub mod Axis
+pub mod Escape
+pub mod Picture
+pub mod Spans
