@@ -21,7 +21,7 @@ digit_no_dot byte e = grind (arith, nat_tests)
 one_more : (n : ℕ) → 1 + n ≡ suc n
 one_more n = omega arith
 
--- the first dot behind digits
+-- the first dot after digits
 dot_behind : (xs ys : List ℕ) → all_ascii_digits xs ≡ true → position_or_len (λ byte. byte == 46) (xs ++ (46 ∷ ys)) ≡ length xs
 dot_behind [] ys e = refl
 dot_behind (x ∷ xs) ys e =

@@ -169,7 +169,7 @@ pub script_outcome-is : (script : List ℕ) (start : Result Start Refusal) → s
 unfolding script_outcome
 script_outcome-is script start e = ap started e
 
--- the lines behind a heading that was read
+-- the lines after a heading that was read
 pub opened_outcome : (script : List ℕ) (start : Start) (world : World) (number : ℕ) (lines : List (List ℕ)) → heading_of (last_line script) (lines_of script) ≡ Ok start
     → world ≡ opening_world start.source start.sites → start.number ≡ number → start.lines ≡ lines → lines_outcome number world lines ≡ script_outcome script
 opened_outcome script start world number lines read opening at behind =

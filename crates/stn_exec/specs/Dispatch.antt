@@ -58,6 +58,10 @@ pub record SaysRuns (source : PlanSource) (state : Content) (now : ℤ) (text : 
   pub rest : IsRestOfPlan source state now runs
   pub lines : text ≡ runs_text runs
 
+-- the text is the rest of the plan from now on, or `conflict`
+abbrev pub IsRestText : PlanSource → Content → ℤ → List ℕ → Type 0
+IsRestText source state now text = SaysRuns source state now text ⊎ SaysConflict source state text
+
 -- all bounds have a schedule, and the event is the one that is overdue
 pub record IsOverdueAt (source : PlanSource) (state : Content) (now : ℤ) (event : ℕ) : Type 0 where
   pub possible : HasSchedule (all_bounds source state)
@@ -71,7 +75,7 @@ pub record SaysOverdue (source : PlanSource) (state : Content) (now : ℤ) (text
 
 -- the text that a site's `rehearse` prints
 abbrev pub IsRehearseText : PlanSource → Content → ℤ → List ℕ → Type 0
-IsRehearseText source state now text = SaysRuns source state now text ⊎ (SaysConflict source state text ⊎ SaysOverdue source state now text)
+IsRehearseText source state now text = IsRestText source state now text ⊎ SaysOverdue source state now text
 
 -- a rehearsal is refused
 abbrev pub IsRefusedRehearsal : PlanSource → Content → ℤ → Type 0

@@ -117,9 +117,13 @@ times_from [] = Ok []
 times_from (word ∷ words) =
     and_then (refusing_time (time_of word)) (λ time. and_then (times_from words) (λ times. Ok (time ∷ times)))
 
--- a check of the times of the events from 1 on, against all bounds; the origin's time is 0
+-- a check of the times of all events against all bounds, the origin's time first
+abbrev pub times_answer : PlanSource → Content → List ℤ → Answer
+times_answer source state times = option_map_or answer.Broken (broken_bound source state (times_of times)) answer.Schedule
+
+-- a check of the times of the events from 1 on, where they can be read; the origin's time is 0
 abbrev pub check_answer : PlanSource → Content → Result (List ℤ) Refusal → Answer
-check_answer source state (Ok times) = option_map_or answer.Broken (broken_bound source state (times_of (pos 0 ∷ times))) answer.Schedule
+check_answer source state (Ok times) = times_answer source state (pos 0 ∷ times)
 check_answer source state (Err cause) = answer.Refused cause
 
 -- a command of a site that is there

@@ -1,18 +1,16 @@
 ghost use Rattle.std.specs.Prelude.{◌≡◌, ℕ, ◌+◌, Some, Ok, Err, length, pos, neg_ℤ, IfOk, IfErr};
-ghost use Rattle.std.specs.Option.{option_map_or};
 ghost use Rattle.stn_time.specs.Time.{horizon};
 ghost use Rattle.stn_time.specs.TimeOf.{time_of};
 ghost use Rattle.stn_net.specs.Schedule.{times_of};
 ghost use Rattle.stn_lift.specs.PlanSource.{events_of};
-ghost use Rattle.stn_replica.specs.Names.{broken_bound};
 ghost use Rattle.stn_text.specs.Lines.{words_of};
 ghost use Rattle.stn_exec.specs.declared.answer.Refusal.{Refusal};
 ghost use Rattle.stn_world.specs.declared.faults.WorldFault.TheVariants.{Replica};
-ghost use Rattle.stn_exec.specs.declared.answer.Answer.TheVariants.{Broken, Schedule, Refused};
+ghost use Rattle.stn_exec.specs.declared.answer.Answer.TheVariants.{Refused};
 ghost use Rattle.stn_exec.specs.Command.{add, done, amend, withdraw, merge, send_all, send, send_items, deliver};
 ghost use Rattle.stn_exec.specs.Refusals.{refusal_of};
 ghost use Rattle.stn_exec.specs.Running.{seen_inquiry};
-ghost use Rattle.stn_exec.specs.Effect.{said, refusing_time, side_of, difference_read, question_asked, action_effect, check_answer, times_from};
+ghost use Rattle.stn_exec.specs.Effect.{said, refusing_time, side_of, difference_read, question_asked, action_effect, check_answer, times_answer, times_from};
 
 use crate::answer::{Answer, Refusal};
 use crate::command::{Inquiry, read_records, read_tombstones};
@@ -196,10 +194,11 @@ pub fn check<A: Allocator + Copy>(
     Ok(check_times(replica, &times))
 }
 
-fn check_times<A: Allocator + Copy>(replica: &SiteReplica<A>, times: &[Ms]) -> Answer
+/// Checks the times of all events, the origin's, 0, first.
+pub fn check_times<A: Allocator + Copy>(replica: &SiteReplica<A>, times: &[Ms]) -> Answer
     requires origin { times_of times.now 0 ≡ pos 0 }
-    requires count { length times.now ≡ events_of replica.now.source + 1 }
-    ensures { result ≡ option_map_or Broken (broken_bound replica.now.source replica.now.state (times_of times.now)) Schedule }
+    requires one_each { length times.now ≡ events_of replica.now.source + 1 }
+    ensures { result ≡ times_answer replica.now.source replica.now.state times.now }
 {
     match replica.check(times) {
         Some(name) => Answer::Broken(name),
@@ -251,7 +250,7 @@ pub fn question_asked(inquiry: &Inquiry<'_>) -> Result<Question, Refusal>
     })
 }
 
-// The answer where a world refused a call; want of memory is none.
+// The answer where a world refused a call; lack of memory is none.
 fn refused(fault: WorldFault) -> Result<Answer, Memory>
     ensures { IfOk result (λ answer. (cause : Refusal) × (refusal_of fault ≡ Some cause) × (answer ≡ Refused cause)) }
 {

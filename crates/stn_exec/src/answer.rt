@@ -21,7 +21,7 @@ pub enum Refusal {
     Bound(BoundFault),
     /// This event is overdue.
     Overdue(Event),
-    /// The plan has no base. Want of memory is no refusal.
+    /// The plan has no base. Lack of memory is no refusal.
     Base(BaseFault),
     /// This id has two different records, or replaces two different ids.
     Clash(Id),

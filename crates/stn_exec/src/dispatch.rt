@@ -1,10 +1,14 @@
-ghost use Rattle.std.specs.Prelude.{◌≡◌, ◌++◌, true, List, ℕ, OnOk, OnErr, IfOk, take, vec_len};
+ghost use Rattle.std.specs.Prelude.{◌≡◌, ◌⊎◌, ◌++◌, ◌+◌, true, List, ℕ, length, pos, OnOk, OnErr, IfOk, IfErr, take, vec_len};
 ghost use Rattle.std.specs.Bool.{Decides};
-ghost use Rattle.stn_windows.specs.declared.answers.RehearseFault.TheVariants.{Overdue};
+ghost use Rattle.stn_net.specs.Schedule.{times_of};
+ghost use Rattle.stn_lift.specs.PlanSource.{events_of};
+ghost use Rattle.stn_windows.specs.declared.answers.RehearseFault.TheVariants.{Overdue, Memory as want_of_memory};
 ghost use Rattle.stn_exec.specs.declared.answer.Refusal.TheVariants as refusal;
-ghost use Rattle.stn_exec.specs.Answer.{refusal_text};
-ghost use Rattle.stn_exec.specs.Dispatch.{run_line, runs_text, next_text, IsNextText, IsRehearseText, IsRefusedRehearsal};
+ghost use Rattle.stn_exec.specs.Answer.{answer_text, refusal_text};
+ghost use Rattle.stn_exec.specs.Dispatch.{run_line, runs_text, next_text, IsNextText, IsRestText, IsRehearseText, IsOverdueAt, IsRefusedRehearsal};
+ghost use Rattle.stn_exec.specs.Effect.{times_answer};
 
+use crate::actions::check_times;
 use crate::answer::{Refusal, append_event_line};
 use std::alloc::{AllocError, Allocator};
 use stn_net::Event;
@@ -12,7 +16,7 @@ use stn_replica::Replica;
 use stn_time::{Memory, Ms};
 use stn_windows::{Next, RehearseFault};
 
-/// Appends what comes next in a replica's plan from now on. For want of memory it appends nothing.
+/// Appends what comes next in a replica's plan from now on. If memory runs out, it appends nothing.
 pub fn append_next<A: Allocator + Copy, B: Allocator>(
     replica: &Replica<A>,
     now: Ms,
@@ -54,6 +58,46 @@ fn append_answer<B: Allocator>(out: &mut Vec<u8, B>, answer: Next) -> Result<(),
     }
 }
 
+/// Appends the rest of a replica's plan from now on, or `conflict`. After an error nothing is appended.
+///
+/// Refused in this order: `Overdue`, where every schedule has an event that is not done before now;
+/// `Memory`.
+pub fn append_rest<A: Allocator + Copy, B: Allocator>(
+    replica: &Replica<A>,
+    now: Ms,
+    out: &mut Vec<u8, B>,
+) -> Result<(), RehearseFault>
+    ensures text { OnOk result ((text : List ℕ) × IsRestText replica.now.source replica.now.state now text × (out.new.items ≡ out.old.items ++ text)) }
+    ensures accepted { OnOk result (¬ IsRefusedRehearsal replica.now.source replica.now.state now) }
+    ensures refused { IfErr result (λ fault. (fault ≡ want_of_memory)
+        ⊎ ((event : ℕ) × (fault ≡ Overdue event) × IsOverdueAt replica.now.source replica.now.state now event)) }
+    ensures kept { OnErr result (out.new.items ≡ out.old.items) }
+{
+    let before = out.len();
+    let outcome = append_rest_lines(replica, now, out);
+    if outcome.is_err() {
+        out.truncate(before);
+    }
+    outcome
+}
+
+fn append_rest_lines<A: Allocator + Copy, B: Allocator>(
+    replica: &Replica<A>,
+    now: Ms,
+    out: &mut Vec<u8, B>,
+) -> Result<(), RehearseFault>
+    ensures text { OnOk result ((text : List ℕ) × IsRestText replica.now.source replica.now.state now text × (out.new.items ≡ out.old.items ++ text)) }
+    ensures refused { IfErr result (λ fault. (fault ≡ want_of_memory)
+        ⊎ ((event : ℕ) × (fault ≡ Overdue event) × IsOverdueAt replica.now.source replica.now.state now event)) }
+    ensures kept { take (vec_len out.old) out.new.items ≡ out.old.items }
+{
+    match replica.rehearse(now)? {
+        Some(runs) => append_runs(out, &runs)?,
+        None => out.extend_from_slice(b"conflict\n")?,
+    }
+    Ok(())
+}
+
 /// Appends the rest of a replica's plan from now on, or the refusal if an event is overdue. Whether it is
 /// refused. After an error a part of it may stand there.
 pub fn append_rehearsal<A: Allocator + Copy, B: Allocator>(
@@ -64,14 +108,8 @@ pub fn append_rehearsal<A: Allocator + Copy, B: Allocator>(
     ensures text { OnOk result ((text : List ℕ) × IsRehearseText replica.now.source replica.now.state now text × (out.new.items ≡ out.old.items ++ text)) }
     ensures refused { IfOk result (λ refused. Decides refused (IsRefusedRehearsal replica.now.source replica.now.state now)) }
 {
-    match replica.rehearse(now) {
-        Ok(found) => {
-            match found {
-                Some(runs) => append_runs(out, &runs)?,
-                None => out.extend_from_slice(b"conflict\n")?,
-            }
-            Ok(false)
-        }
+    match append_rest(replica, now, out) {
+        Ok(()) => Ok(false),
         Err(fault) => append_overdue(fault, out),
     }
 }
@@ -90,9 +128,27 @@ fn append_overdue<B: Allocator>(fault: RehearseFault, out: &mut Vec<u8, B>) -> R
     }
 }
 
+/// Appends whether the times of all events, the origin's, 0, first, are a schedule: `schedule`, or
+/// `broken` and the name of the first bound that they break. If memory runs out, it appends nothing.
+pub fn append_check<A: Allocator + Copy, B: Allocator>(
+    replica: &Replica<A>,
+    times: &[Ms],
+    out: &mut Vec<u8, B>,
+) -> Result<(), Memory>
+    requires origin { times_of times.now 0 ≡ pos 0 }
+    requires one_each { length times.now ≡ events_of replica.now.source + 1 }
+    ensures text { OnOk result (out.new.items ≡ out.old.items ++ answer_text (times_answer replica.now.source replica.now.state times.now)) }
+    ensures kept { OnErr result (out.new.items ≡ out.old.items) }
+{
+    let mut text = Vec::new(replica.alloc());
+    check_times(replica, times).print(&mut text)?;
+    out.extend_from_slice(&text)
+}
+
 // Appends a line for each run, and `all done`.
 fn append_runs<B: Allocator>(out: &mut Vec<u8, B>, runs: &[(Ms, Event)]) -> Result<(), Memory>
-    ensures { OnOk result (out.new.items ≡ out.old.items ++ runs_text runs.now) }
+    ensures text { OnOk result (out.new.items ≡ out.old.items ++ runs_text runs.now) }
+    ensures kept { take (vec_len out.old) out.new.items ≡ out.old.items }
 {
     for run in runs {
         append_run_line(out, run.0, run.1)?;

@@ -1,4 +1,4 @@
--- Want of memory.
+-- Lack of memory.
 use Rattle.std.proofs.Common.{◌≡◌, refl, inl}
 use Rattle.stn_store.specs.Store.{IsLack}
 use Rattle.stn_store.specs.declared.failure.Failure.{Failure}

@@ -15,6 +15,8 @@ use Rattle.stn_lift.specs.declared.fault.BaseFault.TheVariants as base
 use Rattle.stn_records.specs.Id.{SiteCounter}
 use Rattle.stn_replica.specs.declared.faults.ReplicaFault.{ReplicaFault}
 use Rattle.stn_replica.specs.declared.faults.ReplicaFault.TheVariants as replica
+use Rattle.stn_windows.specs.declared.answers.RehearseFault.{RehearseFault}
+use Rattle.stn_windows.specs.declared.answers.RehearseFault.TheVariants as rehearse
 use Rattle.stn_loosen.specs.declared.fault.LoosenFault.{LoosenFault}
 use Rattle.stn_loosen.specs.declared.fault.LoosenFault.TheVariants as loosen
 use Rattle.stn_wire.specs.declared.fault.WireFault.{WireFault}
@@ -33,7 +35,7 @@ use Rattle.stn_session.specs.declared.exchange.SendFault.TheVariants as send
 use Rattle.stn_session.specs.declared.exchange.ReplyFault.{ReplyFault}
 use Rattle.stn_session.specs.declared.exchange.ReplyFault.TheVariants as reply
 use Rattle.stn_exec.specs.BaseRefusals.{domain_code, domain_place, plan_code, plan_place, lift_code, lift_place}
-use Rattle.stn_store.specs.declared.failure.Argument.TheVariants.{Nothing, Number, Name}
+use Rattle.stn_store.specs.declared.failure.Argument.TheVariants.{Nothing, Number, Name, Event}
 use Rattle.stn_store.specs.declared.failure.Failure.{Failure}
 use Rattle.stn_store.specs.declared.failure.Failure.TheVariants.{Refused, Failed}
 use Rattle.stn_store.specs.declared.failure.Fault.TheVariants.{Read, Write, Bound, Memory}
@@ -48,6 +50,10 @@ refused_at code number = Refused (record { code = code; argument = Number number
 -- a refusal that names an id
 abbrev pub refused_for : ℕ → SiteCounter → Failure
 refused_for code id = Refused (record { code = code; argument = Name id })
+
+-- a refusal that names an event
+abbrev pub refused_of : ℕ → ℕ → Failure
+refused_of code event = Refused (record { code = code; argument = Event event })
 
 abbrev pub of_time : TimeFault → Failure
 of_time Malformed = refused 1
@@ -90,6 +96,10 @@ of_replica replica.Full = refused 41
 of_replica replica.Unknown = refused 42
 of_replica replica.CounterSpent = refused 43
 of_replica replica.Memory = Failed Memory
+
+abbrev pub of_rehearsal : RehearseFault → Failure
+of_rehearsal (rehearse.Overdue event) = refused_of 7 event
+of_rehearsal rehearse.Memory = Failed Memory
 
 abbrev pub of_loosening : LoosenFault → Failure
 of_loosening loosen.Full = refused 41

@@ -1,17 +1,19 @@
 -- How a command ends, and what is printed for it.
 use Rattle.std.specs.Prelude.{ℕ, List, [], ◌∷◌, ◌++◌, codes, decimal}
+use Rattle.stn_net.specs.Event.{event_text}
 use Rattle.stn_records.specs.Id.{id_text}
 use Rattle.stn_store.specs.declared.failure.Argument.{Argument}
-use Rattle.stn_store.specs.declared.failure.Argument.TheVariants.{Nothing, Number, Name}
+use Rattle.stn_store.specs.declared.failure.Argument.TheVariants.{Nothing, Number, Name, Event}
 use Rattle.stn_store.specs.declared.failure.Refusal.{Refusal}
 use Rattle.stn_store.specs.declared.failure.Fault.{Fault}
 use Rattle.stn_store.specs.declared.failure.Fault.TheVariants as fault
 
--- what stands behind the number of a refusal
+-- what stands after the number of a refusal
 abbrev pub argument_text : Argument → List ℕ
 argument_text Nothing = []
 argument_text (Number number) = codes " " ++ decimal number
 argument_text (Name id) = codes " " ++ id_text id
+argument_text (Event event) = codes " " ++ event_text event
 
 -- the line that is printed for a refusal
 abbrev pub refusal_text : Refusal → List ℕ

@@ -61,12 +61,12 @@ abbrev pub IsUnopened : Option (List Entry) → List ℕ → Failure → Type 0
 IsUnopened entries name failure = IsMissing entries name failure
     ⊎ ((fault : LoadFault) × Means entries name (Err fault) × (failure ≡ of_load fault))
 
--- memory was wanting, or a device failed as those of the store do
+-- memory ran out, or a device failed as those of the store do
 abbrev pub IsLack : (Fault → Type 0) → Failure → Type 0
 IsLack Fails (Failed fault) = (fault ≡ Memory) ⊎ Fails fault
 IsLack Fails (Refused refusal) = ⊥
 
--- a log was saved, in the place of what stood under its name
+-- a log was saved, in place of what stood under its name
 abbrev pub saved_too : Option (List Entry) → List ℕ → Log → Option (List Entry)
 saved_too entries name log = option_map (λ all. all ++ record { name = name; bytes = log_text log } ∷ []) entries
 

@@ -1,7 +1,7 @@
 //! Why a command ends without its answer.
 
 ghost use Rattle.std.specs.Prelude.{◌≡◌, ◌++◌, OnOk};
-ghost use Rattle.stn_store.specs.Causes.{of_time, of_bound, of_domain, of_plan, of_lifting, of_base, of_replica, of_loosening, of_wire, of_run, of_read, of_load, of_save, of_send, of_reply, other_plan, log_there, no_such_word};
+ghost use Rattle.stn_store.specs.Causes.{of_time, of_bound, of_domain, of_plan, of_lifting, of_base, of_replica, of_rehearsal, of_loosening, of_wire, of_run, of_read, of_load, of_save, of_send, of_reply, other_plan, log_there, no_such_word};
 ghost use Rattle.stn_store.specs.Causes as causes;
 ghost use Rattle.stn_store.specs.Endings.{argument_text, refusal_text, fault_text};
 ghost use Rattle.stn_store.specs.declared.failure.Failure.TheVariants as failure;
@@ -14,16 +14,17 @@ use stn_exec::RunFault;
 use stn_lift::{BaseFault, LiftFault};
 use stn_log::{LoadFault, SaveFault};
 use stn_loosen::LoosenFault;
-use stn_net::BoundFault;
+use stn_net::{BoundFault, Event};
 use stn_pddl::DomainFault;
 use stn_plan::PlanFault;
 use stn_records::Id;
 use stn_replica::ReplicaFault;
 use stn_session::{ReplyFault, SendFault};
 use stn_time::{Memory, TimeFault};
+use stn_windows::RehearseFault;
 use stn_wire::WireFault;
 
-/// What stands behind the number of a refusal.
+/// What stands after the number of a refusal.
 #[derive(Clone, Copy, Debug, PartialEq, Eq)]
 pub enum Argument {
     /// Nothing.
@@ -32,6 +33,8 @@ pub enum Argument {
     Number(u32),
     /// An id.
     Name(Id),
+    /// An event.
+    Event(Event),
 }
 
 /// A refusal: its number, and what it names.
@@ -41,7 +44,7 @@ pub struct Refusal {
     pub argument: Argument,
 }
 
-/// A device that failed, or want of memory.
+/// A device that failed, or lack of memory.
 #[derive(Clone, Copy, Debug, PartialEq, Eq)]
 pub enum Fault {
     /// A read failed.
@@ -90,6 +93,15 @@ impl Failure {
         Failure::Refused(Refusal {
             code,
             argument: Argument::Name(id),
+        })
+    }
+
+    fn refused_of(code: u32, event: Event) -> Failure
+        ensures { result ≡ causes.refused_of code event }
+    {
+        Failure::Refused(Refusal {
+            code,
+            argument: Argument::Event(event),
         })
     }
 
@@ -144,6 +156,10 @@ fn append_argument<A: Allocator>(out: &mut Vec<u8, A>, argument: Argument) -> Re
         Argument::Name(id) => {
             out.extend_from_slice(b" ")?;
             id.print(out)
+        }
+        Argument::Event(event) => {
+            out.extend_from_slice(b" ")?;
+            event.print(out)
         }
     }
 }
@@ -275,6 +291,17 @@ impl From<ReplicaFault> for Failure {
             ReplicaFault::Unknown => Failure::refused(42),
             ReplicaFault::CounterSpent => Failure::refused(43),
             ReplicaFault::Memory => Failure::Failed(Fault::Memory),
+        }
+    }
+}
+
+impl From<RehearseFault> for Failure {
+    ghost from_gives = { λ fault given. given ≡ of_rehearsal fault };
+
+    fn from(fault: RehearseFault) -> Failure {
+        match fault {
+            RehearseFault::Overdue(event) => Failure::refused_of(7, event),
+            RehearseFault::Memory => Failure::Failed(Fault::Memory),
         }
     }
 }

@@ -42,7 +42,7 @@ impl MemoryStore {
         }
     }
 
-    /// Puts bytes under a name, in the place of what stood there. Without memory nothing changes.
+    /// Puts bytes under a name, in place of what stood there. Without memory nothing changes.
     pub fn put(&mut self, name: &str, bytes: Vec<u8>) -> Result<(), Memory>
         ensures put { OnOk result (entries_of self.new ≡ entries_of self.old ++ record { name = name.now; bytes = bytes.items } ∷ []) }
         ensures kept { OnErr result (entries_of self.new ≡ entries_of self.old) }

@@ -117,7 +117,7 @@ impl Place {
         }
     }
 
-    /// Saves the log of a replica in the place of the file that is there.
+    /// Saves the log of a replica in place of the file that is there.
     pub fn replace<T: Files<File = File> + AllocGlobal>(
         &self,
         rt: &T,
