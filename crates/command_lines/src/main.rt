@@ -2,7 +2,7 @@
 //! status. A word `""` is empty. Other lines make and show files:
 //!
 //! - `= FILE` prints the bytes of a file in hex, or `none`;
-//! - `:bytes FILE COUNT HEX` puts so many times these bytes behind a file, which it makes where there is none;
+//! - `:bytes FILE COUNT HEX` puts so many times these bytes after a file, which it makes where there is none;
 //! - `:text FILE LINES` does so with a text whose lines `|` parts;
 //! - `:withdrawn FILE COUNT SITE MANY` does so with a frame of the first so many withdrawn ids of a site;
 //! - `:folder NAME` makes a folder, `:link NAME TARGET` a link;
@@ -64,7 +64,7 @@ fn print_file(rt: &HostRuntime, name: &str) -> io::Result<()> {
     }
 }
 
-// Puts so many times these bytes behind a file.
+// Puts so many times these bytes after a file.
 fn append(rt: &HostRuntime, name: &str, count: u32, bytes: &[u8]) -> io::Result<()> {
     let mut options = fs::OpenOptions::new();
     let mut file = options.create(true).append(true).open(rt, name)?;

@@ -54,7 +54,7 @@ fn run_line(alloc: Global, store: &mut MemoryStore, text: &str) -> Result<Vec<u8
     let Ok(line) = line(alloc, &words) else {
         bail!("no command");
     };
-    match Task::of(&line) {
+    match Task::of(line) {
         Task::Command { log, command } => printed(alloc, answer(alloc, store, &log, &command)),
         _ => bail!("no command of a log"),
     }

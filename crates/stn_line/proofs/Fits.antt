@@ -1,5 +1,5 @@
--- What the rows hold after a parse without a fault, where each argument takes one value or asks for help.
-use Rattle.std.proofs.Common.{◌≡◌, ◌≢◌, ◌⊎◌, ◌∙◌, ℕ, Bool, true, false, not, cond, List, [], ◌∷◌, Option, Some, None, refl, sym, ap, subst, inl, inr, arith, length, zero, suc, is_some, ◌&&◌, ◌||◌, ◌==◌, option_map}
+-- What the rows hold after a parse without a fault, where each argument takes one value, asks for help or takes any number of texts.
+use Rattle.std.proofs.Common.{◌≡◌, ◌≢◌, ◌⊎◌, ◌∙◌, ℕ, Bool, true, false, not, cond, List, [], ◌∷◌, ◌++◌, Option, Some, None, refl, sym, ap, subst, inl, inr, arith, length, zero, suc, is_some, ◌&&◌, ◌==◌, option_map}
 use Rattle.std.specs.Prelude.{IsSomeAnd, IfSome, find, fold, slice_get, option_and_then}
 use Rattle.std.specs.List.{list_any}
 use Rattle.std.specs.Option.{option_map_or}
@@ -12,7 +12,7 @@ use Rattle.clap.specs.Facts.{explicit_source, parser_of_value, unwrap_or_range}
 use Rattle.clap.specs.Values.{Accepts, is_request, refused_kind}
 use Rattle.clap.specs.ValueTests.{accepts}
 use Rattle.clap.proofs.ValueTestLemmas.{accepts-Accepts}
-use Rattle.clap.specs.Walk.{Row, Rule, Text, Held, Names, Outcome, Step, Waiting, Walk, action_of, arg_by_id, arg_by_index, arg_by_long, arg_by_short, at_row, attached_value, after_flag, bundle_met, finished, first_of, has_row, long_met, most_values, nothing_held, option_met, option_word, plain_word, positional_held, reacted, reading_by, rows_after, settled, settled_rows, short_met, subcommand_met, takes_several, takes_values, to_positional, used, values_or_missing, walk, walk_from, walked, with_default, with_values, without, word_met}
+use Rattle.clap.specs.Walk.{Row, Rule, Text, Held, Names, Outcome, Step, Waiting, Walk, action_of, arg_by_id, arg_by_index, arg_by_long, arg_by_short, at_row, attached_value, after_flag, bundle_met, finished, first_of, has_row, long_met, most_values, nothing_held, option_met, option_word, plain_word, positional_held, reacted, reading_by, rows_after, settled, settled_rows, short_met, subcommand_met, takes_several, takes_values, to_positional, used, values_or_missing, walk, walk_from, walked, stronger, with_default, with_values, without, word_met}
 use Rattle.clap.specs.Walk as walk
 use Rattle.stn_line.specs.Given.{Each, HasWordsAmong, IsGiven}
 use Rattle.clap.specs.Simple.{App, Shape, argument_words, built, entered, label_of, names_of, rows_at, subcommand_of}
@@ -22,6 +22,8 @@ use Rattle.clap.specs.Faults.{stray_fault, other_fault, action_fault, bundle_fau
 use Rattle.clap.proofs.FaultLemmas.{request_fault}
 use Rattle.clap.specs.declared.builder.action.ArgAction.{ArgAction}
 use Rattle.clap.specs.declared.builder.action.ArgAction.TheVariants as action
+use Rattle.clap.specs.declared.builder.value_parser.ValueParser.{ValueParser}
+use Rattle.clap.specs.declared.builder.value_parser.ValueParser.TheVariants.{String}
 use Rattle.clap.specs.declared.parser.matches.ValueSource.TheVariants.{CommandLine}
 use Rattle.clap.specs.declared.error.kind.ErrorKind.TheVariants as kind
 
@@ -53,18 +55,37 @@ pub record Asks (a : Rule) : Type 0 where
   pub action : is_request (action_of a) ≡ true
   pub defaults : a.defaults ≡ []
 
--- an argument of one of the two kinds, that no other of the list hides
+-- the argument takes any texts, as many as there are
+pub record TakesMany (a : Rule) : Type 0 where
+  pub action : a.action ≡ Some action.Append
+  pub parser : parser_of_value a.parser ≡ String
+  pub defaults : a.defaults ≡ []
+  pub optional : a.required ≡ false
+
+abbrev pub IsPlain : Rule → Type 0
+IsPlain a = TakesOne a ⊎ Asks a ⊎ TakesMany a
+
+-- an argument of one of the three kinds, that no other of the list hides
 abbrev pub IsPlainIn : List Rule → Rule → Type 0
-IsPlainIn c a = (TakesOne a ⊎ Asks a) × (arg_by_id c a.id ≡ Some a)
+IsPlainIn c a = IsPlain a × (arg_by_id c a.id ≡ Some a)
 
 -- the row has one value, that its argument takes
-pub record RowFits (c : List Rule) (r : Row) : Type 0 where
+pub record HasOne (c : List Rule) (r : Row) : Type 0 where
   pub rule : Rule
   pub value : Text
   pub own : arg_by_id c r.id ≡ Some rule
   pub one : r.values ≡ value ∷ []
   pub reading : r.reading ≡ reading_by rule
   pub passes : value_kinds rule.ignore_case (parser_of_value rule.parser) value ≡ []
+
+-- the row is of an argument that takes any texts
+pub record HasMany (c : List Rule) (r : Row) : Type 0 where
+  pub rule : Rule
+  pub own : arg_by_id c r.id ≡ Some rule
+  pub many : TakesMany rule
+
+abbrev pub RowFits : List Rule → Row → Type 0
+RowFits c r = HasOne c r ⊎ HasMany c r
 
 abbrev pub Fit : List Rule → List Row → Type 0
 Fit c rows = Each (RowFits c) rows
@@ -79,6 +100,16 @@ new_row c id more new (r ∷ rows) none fit fits = go (bytes_eq r.id id) refl (�
         → Fit c (at_row id more (new ∷ []) (without id (r ∷ rows)))
     go true t rest = let bad : true ≡ false = rw t at none in cc
     go false t rest = rw (t, t) (fit.0, rest (rw t at none))
+
+-- a row that is there may change to one that fits, and one that is not there goes to the end
+changed_row : (c : List Rule) (id : Text) (change : Row → Row) (new : Row) (rows : List Row)
+    → ((r : Row) → r.id ≡ id → RowFits c (change r)) → RowFits c new → Fit c rows → Fit c (at_row id (λ r. change r ∷ []) (new ∷ []) rows)
+changed_row c id change new [] changes fits fit = (fits, tt)
+changed_row c id change new (r ∷ rows) changes fits fit = go (bytes_eq r.id id) refl (changed_row c id change new rows changes fits fit.1)
+  where
+    go : (t : Bool) → bytes_eq r.id id ≡ t → Fit c (at_row id (λ x. change x ∷ []) (new ∷ []) rows) → Fit c (at_row id (λ x. change x ∷ []) (new ∷ []) (r ∷ rows))
+    go true t rest = rw t (changes r ((bytes_eq-Decides r.id id).0 t), fit.1)
+    go false t rest = rw t (fit.0, rest)
 
 no_request : (x : ArgAction) → is_request x ≡ true → request_kinds x ≢ []
 no_request action.Set e none = cc
@@ -118,8 +149,20 @@ used_one c a v values rows own one is none fit =
     let fresh = no_first _ (values_fault a (v ∷ [])) faults in
     let passes = no_second (repeat_fault false a.id rows) _ faults in
     let fits : RowFits c (record { id = a.id; values = v ∷ []; count = None; source = Some CommandLine; reading = reading_by a }) =
-    record { rule = a; value = v; own = own; one = refl; reading = refl; passes = no_first _ [] passes } in
+    inl (record { rule = a; value = v; own = own; one = refl; reading = refl; passes = no_first _ [] passes }) in
     rw (one.action, is) (new_row c a.id (walk.more_values CommandLine (v ∷ [])) _ rows (not_there a.id rows fresh) fit fits)
+
+used_many : (c : List Rule) (a : Rule) (values : List Text) (rows : List Row) → arg_by_id c a.id ≡ Some a → TakesMany a → Fit c rows → Fit c (used a values rows)
+used_many c a values rows own many fit = rw many.action (changed_row c a.id change new rows changes (inr (record { rule = a; own = own; many = many })) fit)
+  where
+    change : Row → Row
+    change r = record r { values = r.values ++ values_or_missing a values; source = Some (stronger r.source CommandLine) }
+
+    new : Row
+    new = record { id = a.id; values = values_or_missing a values; count = None; source = Some CommandLine; reading = reading_by a }
+
+    changes : (r : Row) → r.id ≡ a.id → RowFits c (change r)
+    changes r same = inr (record { rule = a; own = ap (arg_by_id c) same ∙ own; many = many })
 
 module _ (c : List Rule) where
   -- a use without a fault leaves rows that fit
@@ -129,8 +172,9 @@ module _ (c : List Rule) where
       own : arg_by_id c a.id ≡ Some a
       own = plain.1
 
-      go : (TakesOne a ⊎ Asks a) → Fit c (used a values rows)
-      go (inr asks) =
+      go : IsPlain a → Fit c (used a values rows)
+      go (inr (inr many)) = used_many c a values rows own many fit
+      go (inr (inl asks)) =
           let acts = no_second (range_kinds (unwrap_or_range a.range).start_inclusive (most_values a) (length values)) _ none in
           absurd (no_request (action_of a) asks.action (no_action (action_of a) a (values_or_missing a values) rows asks.action acts))
       go (inl one) =
@@ -317,50 +361,78 @@ no_defaults c [] rows plain = refl
 no_defaults c (a ∷ rest) rows plain = ap (λ r. fold with_default r rest) (kept (has_row a.id rows)) ∙ no_defaults c rest rows plain.1
   where
     none : a.defaults ≡ []
-    none = elim plain.0.0 [ inl one ↦ one.defaults | inr asks ↦ asks.defaults ]
+    none = defaults plain.0.0
+      where
+        defaults : IsPlain a → a.defaults ≡ []
+        defaults (inl one) = one.defaults
+        defaults (inr (inl asks)) = asks.defaults
+        defaults (inr (inr many)) = many.defaults
 
     kept : (t : Bool) → cond t rows (walk.default_rows a.id (reading_by a) a.defaults rows) ≡ rows
     kept true = refl
     kept false = rw none refl
 
--- the first row of an argument has one value, which the argument takes
+-- the first row of an argument has one value, which the argument takes, or the argument takes any texts
 fits_first : (c : List Rule) (rows : List Row) (a : Rule) (r : Row) → find (λ x. bytes_eq x.id a.id) rows ≡ Some r → Fit c rows → IsPlainIn c a
-    → (value : Text) × (r.values ≡ value ∷ []) × Accepts a.ignore_case (parser_of_value a.parser) value
-fits_first c rows a r found fit plain =
-    let at = find_each (RowFits c) (λ (x : Row). bytes_eq x.id a.id) rows r fit found in
-    let fits = at.0 in
-    let same : r.id ≡ a.id = (bytes_eq-Decides r.id a.id).0 at.1 in
-    let own : arg_by_id c a.id ≡ Some fits.rule = ap (arg_by_id c) (sym same) ∙ fits.own in
-    let rule : fits.rule ≡ a = same_Some _ _ (sym own ∙ plain.1) in
-    let passes = subst (λ (x : Rule). value_kinds x.ignore_case (parser_of_value x.parser) fits.value ≡ []) rule fits.passes in
-    (fits.value, fits.one, accepted a fits.value passes)
+    → ((value : Text) × (r.values ≡ value ∷ []) × Accepts a.ignore_case (parser_of_value a.parser) value) ⊎ TakesMany a
+fits_first c rows a r found fit plain = go at.0
+  where
+    at : RowFits c r × (bytes_eq r.id a.id ≡ true)
+    at = find_each (RowFits c) (λ (x : Row). bytes_eq x.id a.id) rows r fit found
+
+    same : r.id ≡ a.id
+    same = (bytes_eq-Decides r.id a.id).0 at.1
+
+    is_own : (rule : Rule) → arg_by_id c r.id ≡ Some rule → rule ≡ a
+    is_own rule own = let here : arg_by_id c a.id ≡ Some rule = ap (arg_by_id c) (sym same) ∙ own in same_Some _ _ (sym here ∙ plain.1)
+
+    go : RowFits c r → ((value : Text) × (r.values ≡ value ∷ []) × Accepts a.ignore_case (parser_of_value a.parser) value) ⊎ TakesMany a
+    go (inl one) =
+        let passes = subst (λ (x : Rule). value_kinds x.ignore_case (parser_of_value x.parser) one.value ≡ []) (is_own one.rule one.own) one.passes in
+        inl (one.value, one.one, accepted a one.value passes)
+    go (inr has) = inr (subst TakesMany (is_own has.rule has.own) has.many)
 
 -- a required argument that is among the rows has a value that it takes
-given_by_row : (c : List Rule) (rows : List Row) (a : Rule) → Fit c rows → IsPlainIn c a → is_given a.id rows ≡ true
+given_by_row : (c : List Rule) (rows : List Row) (a : Rule) → Fit c rows → IsPlainIn c a → a.required ≡ true → is_given a.id rows ≡ true
     → IsSomeAnd (first_of a.id rows) (Accepts a.ignore_case (parser_of_value a.parser))
-given_by_row c rows a fit plain given = go (find (λ r. bytes_eq r.id a.id) rows) refl given
+given_by_row c rows a fit plain required given = go (find (λ r. bytes_eq r.id a.id) rows) refl given
   where
+    first : (r : Row) → ((value : Text) × (r.values ≡ value ∷ []) × Accepts a.ignore_case (parser_of_value a.parser) value) ⊎ TakesMany a
+        → IsSomeAnd (slice_get r.values 0) (Accepts a.ignore_case (parser_of_value a.parser))
+    first r (inl one) = rw one.1 one.2
+    first r (inr many) = let bad : true ≡ false = sym required ∙ many.optional in cc
+
     go : (o : Option Row) → find (λ r. bytes_eq r.id a.id) rows ≡ o → option_map_or (λ r. explicit_source r.source) o false ≡ true
         → IsSomeAnd (option_and_then (λ r. slice_get r.values 0) o) (Accepts a.ignore_case (parser_of_value a.parser))
     go None found given = cc
-    go (Some r) found given = let first = fits_first c rows a r found fit plain in rw first.1 first.2
+    go (Some r) found given = first r (fits_first c rows a r found fit plain)
 
--- and so has any argument that is among them
+-- any text passes the parser of texts
+any_passes : (ignore_case : Bool) (parser : ValueParser) (o : Option Text) → parser ≡ String → IfSome o (Accepts ignore_case parser)
+any_passes ignore_case parser None is = tt
+any_passes ignore_case parser (Some text) is = rw is tt
+
+-- and what any argument has among them it takes
 taken_by_row : (c : List Rule) (rows : List Row) (a : Rule) → Fit c rows → IsPlainIn c a
     → IfSome (first_of a.id rows) (Accepts a.ignore_case (parser_of_value a.parser))
 taken_by_row c rows a fit plain = go (find (λ r. bytes_eq r.id a.id) rows) refl
   where
+    first : (r : Row) → ((value : Text) × (r.values ≡ value ∷ []) × Accepts a.ignore_case (parser_of_value a.parser) value) ⊎ TakesMany a
+        → IfSome (slice_get r.values 0) (Accepts a.ignore_case (parser_of_value a.parser))
+    first r (inl one) = rw one.1 one.2
+    first r (inr many) = any_passes a.ignore_case (parser_of_value a.parser) (slice_get r.values 0) many.parser
+
     go : (o : Option Row) → find (λ r. bytes_eq r.id a.id) rows ≡ o
         → IfSome (option_and_then (λ r. slice_get r.values 0) o) (Accepts a.ignore_case (parser_of_value a.parser))
     go None found = tt
-    go (Some r) found = let first = fits_first c rows a r found fit plain in rw first.1 first.2
+    go (Some r) found = first r (fits_first c rows a r found fit plain)
 
 all_given : (c : List Rule) (rows : List Row) (rules : List Rule) → Fit c rows → Each (IsPlainIn c) rules
     → list_any (λ a. a.required && not (is_given a.id rows)) rules ≡ false → Each (IsGiven rows) rules
 all_given c rows [] fit plain none = tt
 all_given c rows (a ∷ rest) fit plain none = (
   record {
-    needed = λ required. given_by_row c rows a fit plain.0 (is_there a.required (is_given a.id rows) required (or_parts _ _ none).0);
+    needed = λ required. given_by_row c rows a fit plain.0 required (is_there a.required (is_given a.id rows) required (or_parts _ _ none).0);
     taken = taken_by_row c rows a fit plain.0;
   },
   all_given c rows rest fit plain.1 (or_parts _ _ none).1,

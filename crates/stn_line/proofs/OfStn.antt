@@ -3,6 +3,7 @@ use Rattle.std.proofs.Common.{map, Option, Bor, option_map, subst, false, Bool, 
 use Rattle.std.specs.Prelude.{IsSomeAnd, find}
 use Rattle.std.specs.Str.{bytes_eq}
 use Rattle.std.proofs.lemmas.Slice.Eq.{bytes_eq-Decides}
+use Rattle.clap.specs.Facts.{parser_of_value}
 use Rattle.clap.specs.Values.{is_request}
 use Rattle.clap.specs.Matches.{found_of, subcommand_name_of}
 use Rattle.clap.specs.Simple.{subcommand_rows, subcommand_rows_of}
@@ -10,11 +11,12 @@ use Rattle.clap.specs.declared.parser.matches.ArgMatches.{ArgMatches}
 use Rattle.clap.specs.declared.parser.matches.ArgMatches.TheViews.{out-ArgMatches}
 use Rattle.clap.specs.Walk.{action_of, rows_of}
 use Rattle.clap.specs.Words.{Row, Rule, Shape, Text, built, fault_of, is_simple, is_simple_and_free, subcommand_of}
-use Rattle.clap.specs.declared.builder.action.ArgAction.TheVariants.{Set}
+use Rattle.clap.specs.declared.builder.action.ArgAction.TheVariants.{Append, Set}
+use Rattle.clap.specs.declared.builder.value_parser.ValueParser.TheVariants.{String}
 use Rattle.stn_line.specs.Commands.{most_connections, most_read_steps, most_seconds, stn}
 use Rattle.stn_line.specs.Given.{Each, HasWords, HasWordsAmong, IsGiven, IsNumberThere, IsNumberWhereGiven, IsThere, IsThereOnLog}
 use Rattle.stn_line.proofs.Values.{at_value, entered_is}
-use Rattle.stn_line.proofs.Fits.{Asks, ReadsPlainly, TakesOne, command_given}
+use Rattle.stn_line.proofs.Fits.{IsPlain, ReadsPlainly, command_given}
 
 pub stn_simple : is_simple stn ≡ true
 unfolding stn
@@ -24,11 +26,14 @@ pub stn_free : is_simple_and_free stn ≡ true
 unfolding stn
 stn_free = refl
 
-takes_one : {a : Rule} → a.action ≡ Some Set → a.range ≡ Some (record { start_inclusive = 1; end_inclusive = 1 }) → a.defaults ≡ [] → TakesOne a ⊎ Asks a
+takes_one : {a : Rule} → a.action ≡ Some Set → a.range ≡ Some (record { start_inclusive = 1; end_inclusive = 1 }) → a.defaults ≡ [] → IsPlain a
 takes_one action range defaults = inl (record { action = action; range = range; defaults = defaults })
 
-asks : {a : Rule} → is_request (action_of a) ≡ true → a.defaults ≡ [] → TakesOne a ⊎ Asks a
-asks action defaults = inr (record { action = action; defaults = defaults })
+asks : {a : Rule} → is_request (action_of a) ≡ true → a.defaults ≡ [] → IsPlain a
+asks action defaults = inr (inl (record { action = action; defaults = defaults }))
+
+takes_many : {a : Rule} → a.action ≡ Some Append → parser_of_value a.parser ≡ String → a.defaults ≡ [] → a.required ≡ false → IsPlain a
+takes_many action parser defaults optional = inr (inr (record { action = action; parser = parser; defaults = defaults; optional = optional }))
 
 all_plain : Each (ReadsPlainly (built stn).subs) (built stn).subs
 unfolding stn
@@ -65,10 +70,19 @@ all_plain = (
                               (
                                 record { own = refl; again = refl; negates = refl; rules = ((takes_one refl refl refl, refl), ((takes_one refl refl refl, refl), ((asks refl refl, refl), tt))) },
                                 (
-                                  record { own = refl; again = refl; negates = refl; rules = ((takes_one refl refl refl, refl), ((takes_one refl refl refl, refl), ((takes_one refl refl refl, refl), ((takes_one refl refl refl, refl), ((takes_one refl refl refl, refl), ((asks refl refl, refl), tt)))))) },
+                                  record { own = refl; again = refl; negates = refl; rules = ((takes_one refl refl refl, refl), ((takes_one refl refl refl, refl), ((takes_many refl refl refl refl, refl), ((asks refl refl, refl), tt)))) },
                                   (
-                                    record { own = refl; again = refl; negates = refl; rules = ((takes_one refl refl refl, refl), ((takes_one refl refl refl, refl), ((takes_one refl refl refl, refl), ((takes_one refl refl refl, refl), ((asks refl refl, refl), tt))))) },
-                                    tt,
+                                    record { own = refl; again = refl; negates = refl; rules = ((takes_one refl refl refl, refl), ((takes_one refl refl refl, refl), ((takes_one refl refl refl, refl), ((asks refl refl, refl), tt)))) },
+                                    (
+                                      record { own = refl; again = refl; negates = refl; rules = ((takes_one refl refl refl, refl), ((takes_one refl refl refl, refl), ((asks refl refl, refl), tt))) },
+                                      (
+                                        record { own = refl; again = refl; negates = refl; rules = ((takes_one refl refl refl, refl), ((takes_one refl refl refl, refl), ((takes_one refl refl refl, refl), ((takes_one refl refl refl, refl), ((takes_one refl refl refl, refl), ((asks refl refl, refl), tt)))))) },
+                                        (
+                                          record { own = refl; again = refl; negates = refl; rules = ((takes_one refl refl refl, refl), ((takes_one refl refl refl, refl), ((takes_one refl refl refl, refl), ((takes_one refl refl refl, refl), ((asks refl refl, refl), tt))))) },
+                                          tt,
+                                        ),
+                                      ),
+                                    ),
                                   ),
                                 ),
                               ),
@@ -157,6 +171,18 @@ pub bounds_there : (rows : List Row) → HasWords (codes "bounds") rows → IsTh
 unfolding stn
 bounds_there rows has = record { log = has.0.needed refl; site = has.1.0.needed refl }
 
+pub check_there : (rows : List Row) → HasWords (codes "check") rows → IsThereOnLog rows
+unfolding stn
+check_there rows has = record { log = has.0.needed refl; site = has.1.0.needed refl }
+
+pub rehearse_there : (rows : List Row) → HasWords (codes "rehearse") rows → IsThereOnLog rows × IsThere (codes "NOW") rows
+unfolding stn
+rehearse_there rows has = (record { log = has.0.needed refl; site = has.1.0.needed refl }, has.1.1.0.needed refl)
+
+pub draw_there : (rows : List Row) → HasWords (codes "draw") rows → IsThereOnLog rows
+unfolding stn
+draw_there rows has = record { log = has.0.needed refl; site = has.1.0.needed refl }
+
 pub serve_there : (rows : List Row) → HasWords (codes "serve") rows → IsThereOnLog rows × IsThere (codes "ADDR") rows × IsNumberThere (codes "COUNT") 1 most_connections rows
     × IsNumberWhereGiven (codes "seconds") 1 most_seconds rows
 unfolding stn
@@ -204,14 +230,18 @@ pub is_send : (name : Text) (rows : List Row) → HasWords name rows
     → name ≢ codes "records"
     → name ≢ codes "steps"
     → name ≢ codes "bounds"
+    → name ≢ codes "check"
+    → name ≢ codes "rehearse"
+    → name ≢ codes "draw"
     → name ≢ codes "serve"
     → name ≡ codes "send"
 unfolding stn IsOneOf
-is_send name rows has run bare init loosen add amend withdraw done merge report next ready why records steps bounds serve =
+is_send name rows has run bare init loosen add amend withdraw done merge report next ready why records steps bounds check rehearse draw serve =
     let behind-add = other (other (other (other (other (is_one_of (built stn).subs name rows has) run) bare) init) loosen) add in
     let behind-report = other (other (other (other (other behind-add amend) withdraw) done) merge) report in
     let behind-steps = other (other (other (other (other behind-report next) ready) why) records) steps in
-    let behind-serve = other (other behind-steps bounds) serve in
+    let behind-draw = other (other (other (other behind-steps bounds) check) rehearse) draw in
+    let behind-serve = other behind-draw serve in
     elim behind-serve [ inl send ↦ send | inr none ↦ absurd none ]
 
 -- what the matches of the entered command hold, by its name

@@ -1,6 +1,7 @@
 -- The commands of `stn` and their words, as clap reads them.
 use Rattle.std.specs.Prelude.{◌≡◌, ℕ, List, [], ◌∷◌, Some, true, false, codes}
 use Rattle.stn_records.specs.Id.{most_sites}
+use Rattle.clap.specs.Lexer.{usize_max}
 use Rattle.clap.specs.Simple.{new_shape}
 use Rattle.clap.specs.Words.{App, Rule, Shape, Text, new_rule, shape_of}
 use Rattle.clap.specs.declared.builder.command.Command.{Command}
@@ -29,6 +30,10 @@ word_rule name = record (new_rule name) { required = true }
 -- a word that has to be there, and is a number from `least` to `most`
 abbrev pub number_rule : Text → ℕ → ℕ → Rule
 number_rule name least most = record (word_rule name) { parser = Some (parser.Unsigned least most) }
+
+-- any number of words, none too
+abbrev pub many_rule : Text → Rule
+many_rule name = record (new_rule name) { range = Some (record { start_inclusive = 0; end_inclusive = usize_max }) }
 
 -- an option `--name=T`, which may be left out
 abbrev pub option_rule : Text → Rule
@@ -79,6 +84,12 @@ ready_words = word_rule (codes "NOW") ∷ []
 abbrev pub why_words : List Rule
 why_words = word_rule (codes "EVENT") ∷ []
 
+abbrev pub check_words : List Rule
+check_words = many_rule (codes "TIME") ∷ []
+
+abbrev pub rehearse_words : List Rule
+rehearse_words = word_rule (codes "NOW") ∷ []
+
 abbrev pub seconds_rule : Rule
 seconds_rule = number_option_rule (codes "seconds") 1 most_seconds
 
@@ -106,6 +117,9 @@ commands = command (codes "run") []
     ∷ on_log (codes "records") []
     ∷ on_log (codes "steps") []
     ∷ on_log (codes "bounds") []
+    ∷ on_log (codes "check") check_words
+    ∷ on_log (codes "rehearse") rehearse_words
+    ∷ on_log (codes "draw") []
     ∷ on_log (codes "serve") serve_words
     ∷ on_log (codes "send") send_words
     ∷ []

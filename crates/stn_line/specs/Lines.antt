@@ -1,8 +1,8 @@
 -- What the words of a command line mean, by what clap finds in them: a command, and the value of each of its words.
-use Rattle.std.specs.Prelude.{◌≡◌, ◌≢◌, ◌≤◌, ℕ, List, Option, Some, codes, option_map, unwrap_or, ⊤}
+use Rattle.std.specs.Prelude.{◌≡◌, ◌≢◌, ◌≤◌, ℕ, List, [], Option, Some, codes, map, option_map, unwrap_or, ⊤}
 use Rattle.std.specs.Borrow.{Bor}
 use Rattle.std.specs.Str.Parse.{digits_value, without_leading_plus}
-use Rattle.clap.specs.Words.{IsAmong, Row, Text, fault_of, first_of, kind_of}
+use Rattle.clap.specs.Words.{IsAmong, Row, Text, all_of, fault_of, first_of, kind_of}
 use Rattle.clap.specs.declared.error.kind.ErrorKind.TheVariants.{OutOfMemory}
 use Rattle.stn_line.specs.Commands.{most_connections, most_seconds, usual_seconds, stn}
 use Rattle.stn_line.specs.declared.words.Line.{Line}
@@ -17,6 +17,10 @@ IsWord name word rows = first_of name rows ≡ Some word.now
 -- the value of the option with this name, where it is given
 abbrev pub IsOption : Text → Option (Bor Text) → List Row → Type 0
 IsOption name word rows = first_of name rows ≡ option_map (λ w. w.now) word
+
+-- all values of the word with this name, none where it is not given
+abbrev pub IsWords : Text → List (Bor Text) → List Row → Type 0
+IsWords name words rows = unwrap_or (all_of name rows) [] ≡ map (λ word. word.now) words
 
 -- the number whose decimal digits are the value of the word with this name
 abbrev pub IsNumber : Text → ℕ → List Row → Type 0
@@ -58,6 +62,9 @@ IsLineOf (line.Why log site event) name rows = (name ≡ codes "why") × IsOnLog
 IsLineOf (line.Records log site) name rows = (name ≡ codes "records") × IsOnLog log site rows
 IsLineOf (line.Steps log site) name rows = (name ≡ codes "steps") × IsOnLog log site rows
 IsLineOf (line.Bounds log site) name rows = (name ≡ codes "bounds") × IsOnLog log site rows
+IsLineOf (line.Check log site times) name rows = (name ≡ codes "check") × IsOnLog log site rows × IsWords (codes "TIME") times.items rows
+IsLineOf (line.Rehearse log site now) name rows = (name ≡ codes "rehearse") × IsOnLog log site rows × IsWord (codes "NOW") now rows
+IsLineOf (line.Draw log site) name rows = (name ≡ codes "draw") × IsOnLog log site rows
 IsLineOf (line.Serve log site address count seconds) name rows =
     (name ≡ codes "serve") × IsOnLog log site rows × IsWord (codes "ADDR") address rows
     × IsNumber (codes "COUNT") count rows × (1 ≤ count) × (count ≤ most_connections) × IsSeconds seconds rows

@@ -38,6 +38,9 @@ pub(crate) fn stn<'a>(alloc: Global) -> Result<Command<'a>, AllocError>
         .subcommand(records(alloc)?)?
         .subcommand(steps(alloc)?)?
         .subcommand(bounds(alloc)?)?
+        .subcommand(check(alloc)?)?
+        .subcommand(rehearse(alloc)?)?
+        .subcommand(draw(alloc)?)?
         .subcommand(serve(alloc)?)?
         .subcommand(send(alloc)?)
 }
@@ -294,6 +297,44 @@ fn bounds<'a>(alloc: Global) -> Result<Command<'a>, AllocError>
     )
 }
 
+fn check<'a>(alloc: Global) -> Result<Command<'a>, AllocError>
+    ensures is { IfOk result (spec.Reads (spec.on_log (codes "check") spec.check_words)) }
+{
+    let times = many(
+        alloc,
+        "TIME",
+        "The times of `s1`, `e1`, `s2` .. in seconds, one for each event",
+    );
+    on_log(
+        alloc,
+        "check",
+        "Says whether times, one for each event, are a schedule",
+    )?
+    .arg(times)
+}
+
+fn rehearse<'a>(alloc: Global) -> Result<Command<'a>, AllocError>
+    ensures is { IfOk result (spec.Reads (spec.on_log (codes "rehearse") spec.rehearse_words)) }
+{
+    let now = word(alloc, "NOW", "The time now, in seconds after the origin");
+    on_log(
+        alloc,
+        "rehearse",
+        "Prints the rest of the plan as `next` would run it from NOW on",
+    )?
+    .arg(now)
+}
+
+fn draw<'a>(alloc: Global) -> Result<Command<'a>, AllocError>
+    ensures is { IfOk result (spec.Reads (spec.on_log (codes "draw") [])) }
+{
+    on_log(
+        alloc,
+        "draw",
+        "Draws the plan as a picture (SVG): the window of each event, or the conflict",
+    )
+}
+
 fn serve<'a>(alloc: Global) -> Result<Command<'a>, AllocError>
     ensures is { IfOk result (spec.Reads (spec.on_log (codes "serve") spec.serve_words)) }
 {
@@ -367,6 +408,14 @@ fn number<'a>(alloc: Global, name: &'a str, help: &'a str, least: u64, most: u64
     ensures own { result.global ≡ false }
 {
     word(alloc, name, help).value_parser(ValueParser::unsigned(least, most))
+}
+
+// Any number of words.
+fn many<'a>(alloc: Global, name: &'a str, help: &'a str) -> Arg<'a>
+    ensures rule { rule_of result ≡ spec.many_rule name.entry.now }
+    ensures own { result.global ≡ false }
+{
+    Arg::new(alloc, name).num_args(..).help(help)
 }
 
 // An option with a time, `--name=T`.

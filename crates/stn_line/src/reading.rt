@@ -2,13 +2,13 @@ ghost use Rattle.std.specs.Prelude.{◌≡◌, ◌≤◌, IfErr, IfOk, IsSomeAnd
 ghost use Rattle.clap.specs.Words.{IsUnsignedIn, fault_of, first_of, found_of, rows_of, subcommand_of, subcommand_rows_of};
 ghost use Rattle.stn_line.specs.Commands.{most_connections, most_read_steps, most_seconds, stn as program};
 ghost use Rattle.stn_line.specs.Given.{HasWords, IsThere, IsThereOnLog, IsNumberThere, IsNumberWhereGiven};
-ghost use Rattle.stn_line.specs.Lines.{IsFaultOf, IsLineOf, IsNumber, IsOnLog, IsOption, IsSeconds, IsWord};
+ghost use Rattle.stn_line.specs.Lines.{IsFaultOf, IsLineOf, IsNumber, IsOnLog, IsOption, IsSeconds, IsWord, IsWords};
 
 use crate::commands::stn;
 use crate::words::{Line, LineFault};
 use clap::ArgMatches;
 use clap::error::ErrorKind;
-use std::alloc::Global;
+use std::alloc::{AllocError, Global};
 use stn_records::Site;
 
 // A session or an exchange may take so many seconds where the words say nothing.
@@ -23,37 +23,40 @@ pub fn line<'a>(alloc: Global, words: &'a [&'a str]) -> Result<Line<'a>, LineFau
     ensures refused { IfErr result (λ fault. IsFaultOf fault (map (λ word. word.now) words.entry.now)) }
 {
     match stn(alloc)?.try_get_matches_from(words) {
-        Ok(matches) => Ok(read(&matches)),
+        Ok(matches) => Ok(read(alloc, &matches)?),
         Err(error) if error.kind() == ErrorKind::OutOfMemory => Err(LineFault::Memory),
         Err(error) => Err(LineFault::Words(error)),
     }
 }
 
 // The command that accepted words name, with its words.
-fn read<'a>(matches: &ArgMatches<'a>) -> Line<'a>
+fn read<'a>(alloc: Global, matches: &ArgMatches<'a>) -> Result<Line<'a>, AllocError>
     requires { IsSomeAnd (subcommand_rows_of matches.now) (λ command. HasWords command.0 command.1) }
-    ensures { IsSomeAnd (subcommand_rows_of matches.now) (λ command. IsLineOf result command.0 command.1) }
+    ensures { IfOk result (λ line. IsSomeAnd (subcommand_rows_of matches.now) (λ command. IsLineOf line command.0 command.1)) }
 {
     let (name, words) = matches.subcommand().unwrap();
     match name {
-        "run" => Line::Run,
-        "bare" => bare(words),
-        "init" => init(words),
-        "loosen" => loosen(words),
-        "add" => add(words),
-        "amend" => amend(words),
-        "withdraw" => withdraw(words),
-        "done" => done(words),
-        "merge" => merge(words),
-        "report" => report(words),
-        "next" => next(words),
-        "ready" => ready(words),
-        "why" => why(words),
-        "records" => records(words),
-        "steps" => steps(words),
-        "bounds" => bounds(words),
-        "serve" => serve(words),
-        _ => send(words),
+        "run" => Ok(Line::Run),
+        "bare" => Ok(bare(words)),
+        "init" => Ok(init(words)),
+        "loosen" => Ok(loosen(words)),
+        "add" => Ok(add(words)),
+        "amend" => Ok(amend(words)),
+        "withdraw" => Ok(withdraw(words)),
+        "done" => Ok(done(words)),
+        "merge" => Ok(merge(words)),
+        "report" => Ok(report(words)),
+        "next" => Ok(next(words)),
+        "ready" => Ok(ready(words)),
+        "why" => Ok(why(words)),
+        "records" => Ok(records(words)),
+        "steps" => Ok(steps(words)),
+        "bounds" => Ok(bounds(words)),
+        "check" => check(alloc, words),
+        "rehearse" => Ok(rehearse(words)),
+        "draw" => Ok(draw(words)),
+        "serve" => Ok(serve(words)),
+        _ => Ok(send(words)),
     }
 }
 
@@ -247,6 +250,39 @@ fn bounds<'a>(words: &ArgMatches<'a>) -> Line<'a>
     }
 }
 
+fn check<'a>(alloc: Global, words: &ArgMatches<'a>) -> Result<Line<'a>, AllocError>
+    requires { IsThereOnLog (rows_of (found_of words.now)) }
+    ensures { IfOk result (λ line. IsLineOf line (codes "check") (rows_of (found_of words.now))) }
+{
+    Ok(Line::Check {
+        log: word(words, "LOG"),
+        site: site(words),
+        times: all_words(alloc, words, "TIME")?,
+    })
+}
+
+fn rehearse<'a>(words: &ArgMatches<'a>) -> Line<'a>
+    requires log { IsThereOnLog (rows_of (found_of words.now)) }
+    requires now { IsThere (codes "NOW") (rows_of (found_of words.now)) }
+    ensures { IsLineOf result (codes "rehearse") (rows_of (found_of words.now)) }
+{
+    Line::Rehearse {
+        log: word(words, "LOG"),
+        site: site(words),
+        now: word(words, "NOW"),
+    }
+}
+
+fn draw<'a>(words: &ArgMatches<'a>) -> Line<'a>
+    requires log { IsThereOnLog (rows_of (found_of words.now)) }
+    ensures { IsLineOf result (codes "draw") (rows_of (found_of words.now)) }
+{
+    Line::Draw {
+        log: word(words, "LOG"),
+        site: site(words),
+    }
+}
+
 fn serve<'a>(words: &ArgMatches<'a>) -> Line<'a>
     requires log { IsThereOnLog (rows_of (found_of words.now)) }
     requires address { IsThere (codes "ADDR") (rows_of (found_of words.now)) }
@@ -295,6 +331,20 @@ fn word<'a>(words: &ArgMatches<'a>, name: &str) -> &'a str
     ensures { IsWord name.now result (rows_of (found_of words.now)) }
 {
     words.get_str(name).unwrap()
+}
+
+// All values of a word that may be given any number of times, in their order.
+fn all_words<'a>(
+    alloc: Global,
+    words: &ArgMatches<'a>,
+    name: &str,
+) -> Result<Vec<&'a str, Global>, AllocError>
+    ensures { IfOk result (λ list. IsWords name.now list.items (rows_of (found_of words.now))) }
+{
+    match words.get_strs(name) {
+        Some(values) => values.to_vec(alloc),
+        None => Ok(Vec::new(alloc)),
+    }
 }
 
 // The value of an option, where it is given.

@@ -17,6 +17,14 @@ fn refusal(alloc: Global, words: &[&str]) -> Option<ErrorKind> {
     }
 }
 
+// The times of a line of `check`.
+fn times_of<'a, 'b>(line: &'b Line<'a>) -> Option<&'b [&'a str]> {
+    match line {
+        Line::Check { times, .. } => Some(times.as_slice()),
+        _ => None,
+    }
+}
+
 #[test]
 fn reads_run(rt: HostRuntime) {
     assert!(rt; matches!(line(rt.alloc(), &["stn", "run"]), Ok(Line::Run)));
@@ -180,6 +188,60 @@ fn reads_next(rt: HostRuntime) {
             now: "-5"
         }
     );
+}
+
+#[test]
+fn reads_check_of_no_time(rt: HostRuntime) {
+    let line = read(&rt, rt.alloc(), &["stn", "check", "t.log", "1"]);
+    assert!(rt; times_of(&line).is_some_and(|times| times.is_empty()));
+}
+
+#[test]
+fn reads_check_of_two_times(rt: HostRuntime) {
+    let line = read(&rt, rt.alloc(), &["stn", "check", "t.log", "1", "0", "5.5"]);
+    assert!(rt; times_of(&line) == Some(["0", "5.5"].as_slice()));
+}
+
+#[test]
+fn reads_check_of_a_time_with_a_minus(rt: HostRuntime) {
+    let line = read(
+        &rt,
+        rt.alloc(),
+        &["stn", "check", "t.log", "1", "0", "--", "-5"],
+    );
+    assert!(rt; times_of(&line) == Some(["0", "-5"].as_slice()));
+}
+
+#[test]
+fn reads_rehearse(rt: HostRuntime) {
+    let line = read(&rt, rt.alloc(), &["stn", "rehearse", "t.log", "1", "2.5"]);
+    let site = Site::new(1).expect(&rt, "a site");
+    assert!(rt;
+        line == Line::Rehearse {
+            log: "t.log",
+            site,
+            now: "2.5"
+        }
+    );
+}
+
+#[test]
+fn refuses_rehearse_without_now(rt: HostRuntime) {
+    let missing = Some(ErrorKind::MissingRequiredArgument);
+    assert!(rt; refusal(rt.alloc(), &["stn", "rehearse", "t.log", "1"]) == missing);
+}
+
+#[test]
+fn reads_draw(rt: HostRuntime) {
+    let line = read(&rt, rt.alloc(), &["stn", "draw", "t.log", "1"]);
+    let site = Site::new(1).expect(&rt, "a site");
+    assert!(rt; line == Line::Draw { log: "t.log", site });
+}
+
+#[test]
+fn refuses_draw_with_a_word_too_many(rt: HostRuntime) {
+    let unknown = Some(ErrorKind::UnknownArgument);
+    assert!(rt; refusal(rt.alloc(), &["stn", "draw", "t.log", "1", "s1"]) == unknown);
 }
 
 #[test]

@@ -1,11 +1,11 @@
-use std::alloc::AllocError;
+use std::alloc::{AllocError, Global};
 use stn_records::Site;
 use thiserror::Error;
 
 /// One command with its words. `log` is the file that holds what a site knows, `site` the site's
 /// number. Events (`z`, `s1`, `e1`), times (in seconds), ids (`1.2`), files and addresses stand as
 /// they were written: whoever does the command reads them.
-#[derive(Clone, Copy, Debug, PartialEq, Eq)]
+#[derive(Debug, PartialEq, Eq, Drop)]
 pub enum Line<'a> {
     /// Runs a script from the standard input.
     Run,
@@ -41,7 +41,7 @@ pub enum Line<'a> {
         lo: Option<&'a str>,
         hi: Option<&'a str>,
     },
-    /// Adds a bound in the place of a record, which is replaced for good; a side that is not given is open.
+    /// Adds a bound in place of a record, which is replaced for good; a side that is not given is open.
     Amend {
         log: &'a str,
         site: Site,
@@ -105,6 +105,23 @@ pub enum Line<'a> {
     },
     /// All bounds that count.
     Bounds {
+        log: &'a str,
+        site: Site,
+    },
+    /// Says whether times, one for each event from `s1` on, are a schedule.
+    Check {
+        log: &'a str,
+        site: Site,
+        times: Vec<&'a str, Global>,
+    },
+    /// Prints the rest of the plan as it runs from a time on, where the next event takes place as soon as it may.
+    Rehearse {
+        log: &'a str,
+        site: Site,
+        now: &'a str,
+    },
+    /// Draws the plan: the window of each event, or the bounds that contradict each other.
+    Draw {
         log: &'a str,
         site: Site,
     },

@@ -34,7 +34,7 @@ pub record RunsScript (unread rest old new : Device) (status : ℕ) : Type 0 whe
 abbrev pub PrintsPart : Device → Device → Device → Type 0
 PrintsPart unread old new = IfSome unread.bytes (λ script. WritesOutputPart old.bytes new.bytes (script_outcome script).replies)
 
--- why a script was not run to its end: a read failed, a write did, the script is too long, or memory was wanting
+-- why a script was not run to its end: a read failed, a write did, the script is too long, or memory ran out
 abbrev pub StopsScript : Device → Device → Device → Device → Failure → Type 0
 StopsScript unread rest old new (Failed Read) = (unread.failures < rest.failures) × Keeps old.bytes new.bytes
 StopsScript unread rest old new (Failed Bound) = IfSome unread.bytes (λ script. most_bytes < length script) × Keeps old.bytes new.bytes

@@ -1,5 +1,5 @@
 -- What each command of a log does, and the text that it answers.
-use Rattle.std.specs.Prelude.{◌≡◌, ℕ, ℤ, false, List, [], ◌∷◌, ◌++◌, codes, Option, Ok}
+use Rattle.std.specs.Prelude.{◌≡◌, ℕ, ℤ, ◌+◌, false, List, [], ◌∷◌, ◌++◌, length, codes, Option, Ok}
 use Rattle.std.specs.Borrow.{Bor}
 use Rattle.stn_net.specs.Difference.{Difference}
 use Rattle.stn_net.specs.Schedule.{IsSchedule}
@@ -13,16 +13,19 @@ use Rattle.stn_replica.specs.Bounds.{all_bounds}
 use Rattle.stn_replica.specs.Report.{IsReport}
 use Rattle.stn_questions.specs.declared.asked.Question.{Question}
 use Rattle.stn_questions.specs.Answer.{IsAnswer}
-use Rattle.stn_exec.specs.Dispatch.{IsNextText}
+use Rattle.stn_picture.specs.Picture.{IsPicture}
+use Rattle.stn_exec.specs.Answer.{answer_text}
+use Rattle.stn_exec.specs.Dispatch.{IsNextText, IsRestText}
+use Rattle.stn_exec.specs.Effect.{times_answer}
 use Rattle.stn_store.specs.Store.{Entry, IsThere, Spells, Opens, saved_too, Changes}
-use Rattle.stn_shell.specs.Words.{amendment_read, bound_read, execution_read, id_read, time_read, question_read, slack_read}
+use Rattle.stn_shell.specs.Words.{amendment_read, bound_read, execution_read, id_read, time_read, times_read, question_read, slack_read}
 use Rattle.stn_loosen.specs.Slack.{Slack}
 use Rattle.stn_loosen.specs.Loosened.{AreFewLoosened}
 use Rattle.stn_loosen.specs.Numbered.{HoldsSome}
 use Rattle.stn_shell.specs.declared.command.SiteLog.{SiteLog}
 use Rattle.stn_shell.specs.declared.command.Asked.{Asked}
 use Rattle.stn_shell.specs.declared.command.LogCommand.{LogCommand}
-use Rattle.stn_shell.specs.declared.command.LogCommand.TheVariants.{Bare, Init, Loosen, Add, Amend, Withdraw, Done, Merge, Report, Next, Ask}
+use Rattle.stn_shell.specs.declared.command.LogCommand.TheVariants.{Bare, Init, Loosen, Add, Amend, Withdraw, Done, Merge, Report, Next, Ask, Check, Rehearse, Draw}
 
 -- a log of what a site holds, where none was
 pub record IsNewLog (old new : Option (List Entry)) (log : List ℕ) (source : PlanSource) (state : Content) (text : List ℕ) : Type 0 where
@@ -77,7 +80,7 @@ pub record IsAdded (old new : Option (List Entry)) (log : SiteLog) (from to : Li
   pub change : Changes old new log.name.now log.site (added id (plain bound))
   pub line : text ≡ codes "added " ++ (id_text id ++ 10 ∷ [])
 
--- a bound in the place of a record
+-- a bound in place of a record
 pub record IsAmended (old new : Option (List Entry)) (log : SiteLog) (word from to : List ℕ) (lo hi : Option (Bor (List ℕ)))
     (text : List ℕ) : Type 0 where
   pub replaced : SiteCounter
@@ -135,6 +138,32 @@ pub record IsTold (old new : Option (List Entry)) (log : SiteLog) (asked : Asked
   pub answer : IsAnswer ours.source ours.state question text
   pub unsaved : new ≡ old
 
+-- whether times, one for each event, are a schedule
+pub record IsChecked (old new : Option (List Entry)) (log : SiteLog) (words : List (Bor (List ℕ))) (text : List ℕ) : Type 0 where
+  pub ours : Held
+  pub times : List ℤ
+  pub opened : Opens old log.name.now log.site ours
+  pub read : times_read words ≡ Ok times
+  pub one_each : length times ≡ events_of ours.source + 1
+  pub answer : text ≡ answer_text (times_answer ours.source ours.state times)
+  pub unsaved : new ≡ old
+
+-- the rest of the plan from a time on
+pub record IsRehearsed (old new : Option (List Entry)) (log : SiteLog) (word text : List ℕ) : Type 0 where
+  pub ours : Held
+  pub time : ℤ
+  pub opened : Opens old log.name.now log.site ours
+  pub read : time_read word ≡ Ok time
+  pub answer : IsRestText ours.source ours.state time text
+  pub unsaved : new ≡ old
+
+-- the picture of what the log says
+pub record IsDrawn (old new : Option (List Entry)) (log : SiteLog) (text : List ℕ) : Type 0 where
+  pub ours : Held
+  pub opened : Opens old log.name.now log.site ours
+  pub picture : IsPicture ours.source ours.state text
+  pub unsaved : new ≡ old
+
 -- what a command does over the log of a site, and the text that it answers
 abbrev pub IsAnswered : Option (List Entry) → Option (List Entry) → SiteLog → LogCommand → List ℕ → Type 0
 IsAnswered old new log (Bare steps) text = IsMade old new log.name.now (bare steps) text
@@ -148,3 +177,6 @@ IsAnswered old new log (Merge other) text = IsMerged old new log other.now text
 IsAnswered old new log Report text = IsReported old new log text
 IsAnswered old new log (Next now) text = IsNextSaid old new log now.now text
 IsAnswered old new log (Ask asked) text = IsTold old new log asked text
+IsAnswered old new log (Check times) text = IsChecked old new log times.items text
+IsAnswered old new log (Rehearse now) text = IsRehearsed old new log now.now text
+IsAnswered old new log Draw text = IsDrawn old new log text

@@ -30,7 +30,7 @@ IsLineIn words line = (fault_of stn words ≡ []) × IsSomeAnd (subcommand_of st
 abbrev pub IsMistake : ErrorKind → Type 0
 IsMistake kind = (kind ≢ DisplayHelp) × (kind ≢ DisplayVersion)
 
--- memory was wanting, which was told
+-- memory ran out, which was told
 abbrev pub LacksMemory : Device → Device → Device → Device → ℕ → Type 0
 LacksMemory old new err told status = (status ≡ 1) × (new ≡ old) × TellsFault Memory err told
 
@@ -43,7 +43,7 @@ IsSaid kind old new err told status =
     ⊎ ((text : List ℕ) × (¬ IsMistake kind) × (status ≡ 1) × BreaksOff old new text × TellsFault Write err told)
     ⊎ LacksMemory old new err told status
 
--- over files, of which nothing is known: a task was done or stopped; clap refused the words; or memory was wanting before either
+-- over files, of which nothing is known: a task was done or stopped; clap refused the words; or memory ran out before either
 abbrev pub IsExecuted : List Text → Device → Device → Device → Device → Device → Device → ℕ → Type 0
 IsExecuted words unread rest old new err told status =
     ((line : Line) × IsLineIn words line × Ends (λ _. ⊤) None None (task_of line) unread rest old new err told status)

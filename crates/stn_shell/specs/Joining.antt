@@ -15,7 +15,7 @@ JoinsLog entries log source first last =
     (IsThere entries log.name.now false × (last ≡ first))
     ⊎ ((said : Held) × Opens entries log.name.now log.site said × (said.source ≡ source) × (join_contents first said.state ≡ Some last))
 
--- why it can't be: memory was wanting or a device of the store failed; the log is there and can't be opened; or it is another plan's, or
+-- why it can't be: memory ran out or a device of the store failed; the log is there and can't be opened; or it is another plan's, or
 -- says what can't be taken in
 abbrev pub IsUntaken : (Fault → Type 0) → Option (List Entry) → SiteLog → PlanSource → Content → Failure → Type 0
 IsUntaken Fails entries log source state failure =

@@ -1,6 +1,6 @@
 -- Why a command of a log is refused: the first cause that stands, or none.
-use Rattle.std.specs.Prelude.{◌≡◌, ◌≢◌, ◌⊎◌, ℕ, true, false, List, Option, Some, None, option_map, Result, Ok, Err}
-use Rattle.stn_lift.specs.PlanSource.{PlanSource, bare, files, base_of}
+use Rattle.std.specs.Prelude.{◌≡◌, ◌≢◌, ◌⊎◌, ℕ, ℤ, ◌+◌, length, true, false, List, Option, Some, None, option_map, Result, Ok, Err}
+use Rattle.stn_lift.specs.PlanSource.{PlanSource, bare, files, base_of, events_of}
 use Rattle.stn_lift.specs.declared.fault.BaseFault.{BaseFault}
 use Rattle.stn_net.specs.Difference.{Difference}
 use Rattle.stn_replica.specs.Held.{Held}
@@ -9,12 +9,13 @@ use Rattle.stn_replica.specs.Refusals.{add_refusal, amend_refusal, done_refusal,
 use Rattle.stn_net.specs.declared.bound.BoundFault.TheVariants.{NoEvent}
 use Rattle.stn_questions.specs.declared.asked.Question.{Question}
 use Rattle.stn_questions.specs.Answer.{AsksOfNoEvent}
-use Rattle.stn_store.specs.Causes.{of_base, of_bound, of_replica, other_plan, log_there, of_loosening}
+use Rattle.stn_exec.specs.Dispatch.{IsOverdueAt, IsRefusedRehearsal}
+use Rattle.stn_store.specs.Causes.{of_base, of_bound, of_replica, refused_of, other_plan, log_there, no_such_word, of_loosening}
 use Rattle.stn_store.specs.Store.{Entry, IsThere, Spells, Opens, IsMissing, IsUnopened}
-use Rattle.stn_shell.specs.Words.{amendment_read, bound_read, execution_read, id_read, time_read, question_read, slack_read}
+use Rattle.stn_shell.specs.Words.{amendment_read, bound_read, execution_read, id_read, time_read, times_read, question_read, slack_read}
 use Rattle.stn_shell.specs.declared.command.SiteLog.{SiteLog}
 use Rattle.stn_shell.specs.declared.command.LogCommand.{LogCommand}
-use Rattle.stn_shell.specs.declared.command.LogCommand.TheVariants.{Bare, Init, Loosen, Add, Amend, Withdraw, Done, Merge, Report, Next, Ask}
+use Rattle.stn_shell.specs.declared.command.LogCommand.TheVariants.{Bare, Init, Loosen, Add, Amend, Withdraw, Done, Merge, Report, Next, Ask, Check, Rehearse, Draw}
 use Rattle.stn_loosen.specs.declared.fault.LoosenFault.TheVariants.{Full}
 use Rattle.stn_loosen.specs.Slack.{Slack}
 use Rattle.stn_loosen.specs.Loosened.{AreFewLoosened, AreTooMany}
@@ -65,6 +66,16 @@ abbrev pub IsQuestionRefusal : Held → Question → Option Failure → Type 0
 IsQuestionRefusal held question cause = (AsksOfNoEvent held.source question × (cause ≡ Some (of_bound NoEvent)))
     ⊎ ((¬ AsksOfNoEvent held.source question) × (cause ≡ None))
 
+-- why a rehearsal is: an event is overdue
+abbrev pub IsRehearseRefusal : Held → ℤ → Option Failure → Type 0
+IsRehearseRefusal held now cause = ((event : ℕ) × IsOverdueAt held.source held.state now event × (cause ≡ Some (refused_of 7 event)))
+    ⊎ ((¬ IsRefusedRehearsal held.source held.state now) × (cause ≡ None))
+
+-- why a check of times, the origin's first, is: there is not one time for each event
+abbrev pub IsCheckRefusal : Held → List ℤ → Option Failure → Type 0
+IsCheckRefusal held times cause = ((length times ≢ events_of held.source + 1) × (cause ≡ Some no_such_word))
+    ⊎ ((length times ≡ events_of held.source + 1) × (cause ≡ None))
+
 -- the first cause: words that can't be read; a log that is there; the texts and the base; too many records; the log; the other log;
 -- another plan; what the replica refuses
 abbrev pub IsRefusalOf : Option (List Entry) → SiteLog → LogCommand → Option Failure → Type 0
@@ -89,8 +100,13 @@ IsRefusalOf entries log (Next now) = WithWords (time_read now.now)
     (λ time. WithLog entries log.name.now log.site (λ held cause. cause ≡ None))
 IsRefusalOf entries log (Ask asked) = WithWords (question_read asked)
     (λ question. WithLog entries log.name.now log.site (λ held. IsQuestionRefusal held question))
+IsRefusalOf entries log (Check times) = WithWords (times_read times.items)
+    (λ read. WithLog entries log.name.now log.site (λ held. IsCheckRefusal held read))
+IsRefusalOf entries log (Rehearse now) = WithWords (time_read now.now)
+    (λ time. WithLog entries log.name.now log.site (λ held. IsRehearseRefusal held time))
+IsRefusalOf entries log Draw = WithLog entries log.name.now log.site (λ held cause. cause ≡ None)
 
--- why a call of a replica failed: memory was wanting, or the first cause that refuses it
+-- why a call of a replica failed: memory ran out, or the first cause that refuses it
 abbrev pub IsCallFailure : Option ReplicaFault → Failure → Type 0
 IsCallFailure refusal failure = (failure ≡ Failed Memory) ⊎ (Some failure ≡ option_map of_replica refusal)
 
@@ -101,3 +117,11 @@ IsMergeFailure ours theirs failure = (failure ≡ Failed Memory) ⊎ IsMergeRefu
 -- why a question did
 abbrev pub IsQuestionFailure : Held → Question → Failure → Type 0
 IsQuestionFailure held question failure = (failure ≡ Failed Memory) ⊎ IsQuestionRefusal held question (Some failure)
+
+-- why a rehearsal did
+abbrev pub IsRehearseFailure : Held → ℤ → Failure → Type 0
+IsRehearseFailure held now failure = (failure ≡ Failed Memory) ⊎ IsRehearseRefusal held now (Some failure)
+
+-- why a check did
+abbrev pub IsCheckFailure : Held → List ℤ → Failure → Type 0
+IsCheckFailure held times failure = (failure ≡ Failed Memory) ⊎ IsCheckRefusal held times (Some failure)

@@ -5,7 +5,7 @@ use Rattle.stn_line.specs.declared.words.Line.{Line}
 use Rattle.stn_line.specs.declared.words.Line.TheVariants as line
 use Rattle.stn_shell.specs.declared.command.SiteLog.{SiteLog}
 use Rattle.stn_shell.specs.declared.command.LogCommand.{LogCommand}
-use Rattle.stn_shell.specs.declared.command.LogCommand.TheVariants.{Bare, Init, Loosen, Add, Amend, Withdraw, Done, Merge, Report, Next, Ask}
+use Rattle.stn_shell.specs.declared.command.LogCommand.TheVariants.{Bare, Init, Loosen, Add, Amend, Withdraw, Done, Merge, Report, Next, Ask, Check, Rehearse, Draw}
 use Rattle.stn_shell.specs.declared.command.Asked.TheVariants as asked
 use Rattle.stn_shell.specs.declared.command.Task.{Task}
 use Rattle.stn_shell.specs.declared.command.Task.TheVariants.{Run, Serve, Send, Command}
@@ -37,3 +37,6 @@ task_of (line.Why log site event) = on_log log site (Ask (asked.Why event))
 task_of (line.Records log site) = on_log log site (Ask asked.Records)
 task_of (line.Steps log site) = on_log log site (Ask asked.Steps)
 task_of (line.Bounds log site) = on_log log site (Ask asked.Bounds)
+task_of (line.Check log site times) = on_log log site (Check times)
+task_of (line.Rehearse log site now) = on_log log site (Rehearse now)
+task_of (line.Draw log site) = on_log log site Draw

@@ -1,5 +1,5 @@
 -- What the words of a command say, or why they can't be read: the first word that can't decides, in the order of the words.
-use Rattle.std.specs.Prelude.{ℕ, ℤ, pos, neg_ℤ, int_lt, ◌||◌, if◌then◌else◌, List, Option, Some, None, Result, Ok, Err}
+use Rattle.std.specs.Prelude.{ℕ, ℤ, pos, neg_ℤ, int_lt, ◌||◌, if◌then◌else◌, List, [], ◌∷◌, Option, Some, None, Result, Ok, Err}
 use Rattle.std.specs.Borrow.{Bor}
 use Rattle.stn_time.specs.Time.{horizon}
 use Rattle.stn_time.specs.TimeOf.{time_of}
@@ -74,6 +74,15 @@ execution_read event time =
     and_then (event_read event) (λ which.
     and_then (time_read time) (λ when.
     Ok (which, when)))
+
+-- the times that words spell, or why the first that spells none can't be read
+abbrev pub each_read : List (Bor (List ℕ)) → Result (List ℤ) Failure
+each_read [] = Ok []
+each_read (word ∷ words) = and_then (time_read word.now) (λ time. and_then (each_read words) (λ times. Ok (time ∷ times)))
+
+-- the times of all events: the origin's, 0, and those that words spell for the events from 1 on
+unfoldable pub times_read : List (Bor (List ℕ)) → Result (List ℤ) Failure
+times_read words = and_then (each_read words) (λ times. Ok (pos 0 ∷ times))
 
 -- a question
 abbrev pub question_read : Asked → Result Question Failure

@@ -1,24 +1,29 @@
 //! What a command does to a replica, or asks of it.
 
-ghost use Rattle.std.specs.Prelude.{◌≡◌, ◌⊎◌, ◌++◌, codes, [], ◌∷◌, Some, None, OnOk, OnErr, IfOk, IfErr};
-ghost use Rattle.stn_lift.specs.PlanSource.{bare, plan_source, steps_of};
+ghost use Rattle.std.specs.Prelude.{◌≡◌, ◌⊎◌, ◌+◌, ◌++◌, length, codes, [], ◌∷◌, pos, Some, None, OnOk, OnErr, IfOk, IfErr};
+ghost use Rattle.stn_lift.specs.PlanSource.{bare, plan_source, steps_of, events_of};
 ghost use Rattle.stn_records.specs.Id.{id_text, SiteCounter};
 ghost use Rattle.stn_replica.specs.Calls.{added, amended, withdrew, took, Leaves};
 ghost use Rattle.stn_replica.specs.Held.{difference, plain, executed};
 ghost use Rattle.stn_replica.specs.Refusals.{add_refusal, amend_refusal, done_refusal, withdraw_refusal, take_refusal};
 ghost use Rattle.stn_replica.specs.Report.{IsReport};
 ghost use Rattle.stn_questions.specs.Answer.{IsAnswer};
-ghost use Rattle.stn_exec.specs.Dispatch.{IsNextText};
-ghost use Rattle.stn_shell.specs.Refusals.{IsCallFailure, IsMergeFailure, IsQuestionFailure, IsQuestionRefusal, IsLooseningRefusal};
+ghost use Rattle.stn_net.specs.Schedule.{times_of};
+ghost use Rattle.stn_picture.specs.Picture.{IsPicture};
+ghost use Rattle.stn_exec.specs.Answer.{answer_text};
+ghost use Rattle.stn_exec.specs.Dispatch.{IsNextText, IsRestText};
+ghost use Rattle.stn_exec.specs.Effect.{times_answer};
+ghost use Rattle.stn_shell.specs.Refusals.{IsCallFailure, IsMergeFailure, IsQuestionFailure, IsQuestionRefusal, IsCheckFailure, IsRehearseFailure, IsRehearseRefusal, IsLooseningRefusal};
 ghost use Rattle.stn_shell.specs.Commands.{IsLoosened};
 ghost use Rattle.stn_store.specs.declared.failure.Failure.TheVariants.{Failed};
 ghost use Rattle.stn_store.specs.declared.failure.Fault.TheVariants as lack;
 
 use std::alloc::Allocator;
-use stn_exec::append_next;
+use stn_exec::{append_check, append_next, append_rest};
 use stn_lift::{Base, Source};
 use stn_loosen::{Tolerance, loosened_replica};
 use stn_net::{BoundFault, Event};
+use stn_picture::print_picture;
 use stn_questions::{Question, WhyFault, print_answer};
 use stn_records::{Id, Site};
 use stn_replica::Replica;
@@ -67,7 +72,7 @@ pub fn add<A: Allocator + Copy>(
     Ok(id_line(alloc, b"added ", id)?)
 }
 
-/// Adds a bound in the place of a record: what is printed for it.
+/// Adds a bound in place of a record: what is printed for it.
 pub fn amend<A: Allocator + Copy>(
     alloc: A,
     replica: &mut Replica<A>,
@@ -190,6 +195,50 @@ pub fn next<A: Allocator + Copy>(
 {
     let mut text = Vec::new(alloc);
     append_next(replica, now, &mut text)?;
+    Ok(text)
+}
+
+/// Whether the times of all events, the origin's first, are a schedule.
+pub fn check<A: Allocator + Copy>(
+    alloc: A,
+    replica: &Replica<A>,
+    times: &[Ms],
+) -> Result<Vec<u8, A>, Failure>
+    requires { times_of times.now 0 ≡ pos 0 }
+    ensures told { IfOk result (λ text. text.items ≡ answer_text (times_answer replica.now.source replica.now.state times.now)) }
+    ensures one_each { OnOk result (length times.now ≡ events_of replica.now.source + 1) }
+    ensures refused { IfErr result (IsCheckFailure replica.now times.now) }
+{
+    if times.len() != usize::from(replica.base().events()) + 1 {
+        return Err(Failure::no_such_word());
+    }
+    let mut text = Vec::new(alloc);
+    append_check(replica, times, &mut text)?;
+    Ok(text)
+}
+
+/// The rest of the plan from a time on.
+pub fn rehearse<A: Allocator + Copy>(
+    alloc: A,
+    replica: &Replica<A>,
+    now: Ms,
+) -> Result<Vec<u8, A>, Failure>
+    ensures told { IfOk result (λ text. IsRestText replica.now.source replica.now.state now text.items) }
+    ensures accepted { OnOk result (IsRehearseRefusal replica.now now None) }
+    ensures refused { IfErr result (IsRehearseFailure replica.now now) }
+{
+    let mut text = Vec::new(alloc);
+    append_rest(replica, now, &mut text)?;
+    Ok(text)
+}
+
+/// The picture of the plan.
+pub fn draw<A: Allocator + Copy>(alloc: A, replica: &Replica<A>) -> Result<Vec<u8, A>, Failure>
+    ensures drawn { IfOk result (λ text. IsPicture replica.now.source replica.now.state text.items) }
+    ensures refused { IfErr result (λ failure. failure ≡ Failed lack.Memory) }
+{
+    let mut text = Vec::new(alloc);
+    print_picture(replica, &mut text)?;
     Ok(text)
 }
 

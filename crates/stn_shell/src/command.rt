@@ -1,7 +1,8 @@
 //! The commands, apart from the words that they come from.
 
 ghost use Rattle.std.specs.Prelude.{◌≡◌};
-ghost use Rattle.stn_shell.specs.Tasks.{task_of};
+ghost use Rattle.stn_shell.specs.Tasks.{task_of, on_log as task_on_log};
+ghost use Rattle.stn_shell.specs.declared.command.LogCommand.TheVariants.{Ask};
 
 use stn_line::Line;
 use stn_records::Site;
@@ -31,7 +32,7 @@ pub enum Asked<'a> {
 }
 
 /// A command of a log. Events, times and ids stand as they were written.
-#[derive(Clone, Copy, Debug, PartialEq, Eq)]
+#[derive(Debug, PartialEq, Eq, Drop)]
 pub enum LogCommand<'a> {
     /// Makes the log of a plan of so many steps without a domain.
     Bare {
@@ -57,7 +58,7 @@ pub enum LogCommand<'a> {
         lo: Option<&'a str>,
         hi: Option<&'a str>,
     },
-    /// Adds a bound in the place of a record, which is replaced for good; a side that is not given is open.
+    /// Adds a bound in place of a record, which is replaced for good; a side that is not given is open.
     Amend {
         id: &'a str,
         from: &'a str,
@@ -88,10 +89,20 @@ pub enum LogCommand<'a> {
     Ask {
         asked: Asked<'a>,
     },
+    /// Tells whether times, one for each event from `s1` on, are a schedule.
+    Check {
+        times: Vec<&'a str>,
+    },
+    /// Tells how the rest of the plan runs from a time on.
+    Rehearse {
+        now: &'a str,
+    },
+    /// Draws every event's window, or a cycle of bounds that contradict each other.
+    Draw,
 }
 
 /// What the program is to do.
-#[derive(Clone, Copy, Debug, PartialEq, Eq)]
+#[derive(Debug, PartialEq, Eq, Drop)]
 pub enum Task<'a> {
     /// Runs a script.
     Run,
@@ -117,44 +128,40 @@ pub enum Task<'a> {
 
 impl<'a> Task<'a> {
     /// What a line of words asks for.
-    pub fn of(line: &Line<'a>) -> Task<'a>
-        ensures { result ≡ task_of line.now }
+    pub fn of(line: Line<'a>) -> Task<'a>
+        ensures { result ≡ task_of line.entry }
     {
-        let (name, site, command) = match *line {
-            Line::Run => return Task::Run,
+        match line {
+            Line::Run => Task::Run,
             Line::Serve {
-                log: name,
+                log,
                 site,
                 address,
                 count,
                 seconds,
-            } => {
-                return Task::Serve {
-                    log: SiteLog { name, site },
-                    address,
-                    count,
-                    seconds,
-                };
-            }
+            } => Task::Serve {
+                log: SiteLog { name: log, site },
+                address,
+                count,
+                seconds,
+            },
             Line::Send {
-                log: name,
+                log,
                 site,
                 address,
                 seconds,
-            } => {
-                return Task::Send {
-                    log: SiteLog { name, site },
-                    address,
-                    seconds,
-                };
-            }
-            Line::Bare { log, site, steps } => (log, site, LogCommand::Bare { steps }),
+            } => Task::Send {
+                log: SiteLog { name: log, site },
+                address,
+                seconds,
+            },
+            Line::Bare { log, site, steps } => on_log(log, site, LogCommand::Bare { steps }),
             Line::Init {
                 log,
                 site,
                 domain,
                 plan,
-            } => (log, site, LogCommand::Init { domain, plan }),
+            } => on_log(log, site, LogCommand::Init { domain, plan }),
             Line::Loosen {
                 log,
                 site,
@@ -162,16 +169,15 @@ impl<'a> Task<'a> {
                 plan,
                 early,
                 late,
-            } => (
-                log,
-                site,
-                LogCommand::Loosen {
+            } => {
+                let command = LogCommand::Loosen {
                     domain,
                     plan,
                     early,
                     late,
-                },
-            ),
+                };
+                on_log(log, site, command)
+            }
             Line::Add {
                 log,
                 site,
@@ -179,7 +185,7 @@ impl<'a> Task<'a> {
                 to,
                 lo,
                 hi,
-            } => (log, site, LogCommand::Add { from, to, lo, hi }),
+            } => on_log(log, site, LogCommand::Add { from, to, lo, hi }),
             Line::Amend {
                 log,
                 site,
@@ -188,66 +194,51 @@ impl<'a> Task<'a> {
                 to,
                 lo,
                 hi,
-            } => (
-                log,
-                site,
-                LogCommand::Amend {
+            } => {
+                let command = LogCommand::Amend {
                     id,
                     from,
                     to,
                     lo,
                     hi,
-                },
-            ),
-            Line::Withdraw { log, site, id } => (log, site, LogCommand::Withdraw { id }),
+                };
+                on_log(log, site, command)
+            }
+            Line::Withdraw { log, site, id } => on_log(log, site, LogCommand::Withdraw { id }),
             Line::Done {
                 log,
                 site,
                 event,
                 time,
-            } => (log, site, LogCommand::Done { event, time }),
-            Line::Merge { log, site, other } => (log, site, LogCommand::Merge { other }),
-            Line::Report { log, site } => (log, site, LogCommand::Report),
-            Line::Next { log, site, now } => (log, site, LogCommand::Next { now }),
-            Line::Ready { log, site, now } => (
-                log,
-                site,
-                LogCommand::Ask {
-                    asked: Asked::Ready { now },
-                },
-            ),
-            Line::Why { log, site, event } => (
-                log,
-                site,
-                LogCommand::Ask {
-                    asked: Asked::Why { event },
-                },
-            ),
-            Line::Records { log, site } => (
-                log,
-                site,
-                LogCommand::Ask {
-                    asked: Asked::Records,
-                },
-            ),
-            Line::Steps { log, site } => (
-                log,
-                site,
-                LogCommand::Ask {
-                    asked: Asked::Steps,
-                },
-            ),
-            Line::Bounds { log, site } => (
-                log,
-                site,
-                LogCommand::Ask {
-                    asked: Asked::Bounds,
-                },
-            ),
-        };
-        Task::Command {
-            log: SiteLog { name, site },
-            command,
+            } => on_log(log, site, LogCommand::Done { event, time }),
+            Line::Merge { log, site, other } => on_log(log, site, LogCommand::Merge { other }),
+            Line::Report { log, site } => on_log(log, site, LogCommand::Report),
+            Line::Next { log, site, now } => on_log(log, site, LogCommand::Next { now }),
+            Line::Ready { log, site, now } => asking(log, site, Asked::Ready { now }),
+            Line::Why { log, site, event } => asking(log, site, Asked::Why { event }),
+            Line::Records { log, site } => asking(log, site, Asked::Records),
+            Line::Steps { log, site } => asking(log, site, Asked::Steps),
+            Line::Bounds { log, site } => asking(log, site, Asked::Bounds),
+            Line::Check { log, site, times } => on_log(log, site, LogCommand::Check { times }),
+            Line::Rehearse { log, site, now } => on_log(log, site, LogCommand::Rehearse { now }),
+            Line::Draw { log, site } => on_log(log, site, LogCommand::Draw),
         }
     }
+}
+
+// A command of the log of a site.
+fn on_log<'a>(name: &'a str, site: Site, command: LogCommand<'a>) -> Task<'a>
+    ensures { result ≡ task_on_log name.entry site command.entry }
+{
+    Task::Command {
+        log: SiteLog { name, site },
+        command,
+    }
+}
+
+// A question of the plan of the log of a site.
+fn asking<'a>(name: &'a str, site: Site, asked: Asked<'a>) -> Task<'a>
+    ensures { result ≡ task_on_log name.entry site (Ask asked.entry) }
+{
+    on_log(name, site, LogCommand::Ask { asked })
 }

@@ -2,14 +2,19 @@
 
 ghost use Rattle.std.specs.Prelude.{◌≡◌, ◌⊎◌, false, Some, None, OnOk, OnErr, IfOk, IfErr};
 ghost use Rattle.stn_lift.specs.PlanSource.{plan_source};
-ghost use Rattle.stn_shell.specs.Commands.{IsAnswered, IsMade, IsMadeLoose, IsNewLog};
-ghost use Rattle.stn_shell.specs.Refusals.{IsRefusalOf, IsBaseRefusal, IsLooseningRefusal};
+ghost use Rattle.stn_shell.specs.Words.{times_read};
+ghost use Rattle.stn_shell.specs.Commands.{IsAnswered, IsChecked, IsMade, IsMadeLoose, IsNewLog};
+ghost use Rattle.stn_shell.specs.Refusals.{IsRefusalOf, IsBaseRefusal, IsLooseningRefusal, IsCheckRefusal, WithWords, WithLog};
 ghost use Rattle.stn_store.specs.Store.{IsThere, IsMissing, IsTaken, IsLack};
 ghost use Rattle.stn_shell.specs.declared.command.LogCommand.TheVariants as of;
 
-use crate::changes::{add, amend, done, loosen, merge, next, report, tell, withdraw};
+use crate::changes::{
+    add, amend, check, done, draw, loosen, merge, next, rehearse, report, tell, withdraw,
+};
 use crate::command::{Asked, LogCommand, SiteLog};
-use crate::words::{read_bound, read_event, read_id, read_question, read_time, read_tolerance};
+use crate::words::{
+    read_bound, read_event, read_id, read_question, read_time, read_times, read_tolerance,
+};
 use std::alloc::Global;
 use std::rc::Rc;
 use stn_lift::{Base, Source};
@@ -17,7 +22,7 @@ use stn_loosen::Tolerance;
 use stn_replica::Replica;
 use stn_store::{Failure, Fault, Store};
 
-/// Does a command of a log: the answer. A refused command changes nothing; nor does one for which memory is wanting or a device of
+/// Does a command of a log: the answer. A refused command changes nothing; nor does one for which memory runs out or a device of
 /// the store fails.
 pub fn answer<S: Store>(
     alloc: Global,
@@ -54,6 +59,9 @@ pub fn answer<S: Store>(
         LogCommand::Report => report_of(alloc, store, log),
         LogCommand::Next { now } => next_of(alloc, store, log, *now),
         LogCommand::Ask { asked } => tell_of(alloc, store, log, asked),
+        LogCommand::Check { times } => check_of(alloc, store, log, times),
+        LogCommand::Rehearse { now } => rehearse_of(alloc, store, log, *now),
+        LogCommand::Draw => draw_of(alloc, store, log),
     }
 }
 
@@ -343,4 +351,51 @@ fn tell_of<S: Store>(
     let question = read_question(asked)?;
     let replica = store.load(log.name, log.site)?;
     tell(alloc, &replica, question)
+}
+
+fn check_of<S: Store>(
+    alloc: Global,
+    store: &mut S,
+    log: &SiteLog<'_>,
+    words: &[&str],
+) -> Result<Vec<u8>, Failure>
+    ensures done { IfOk result (λ text. IsChecked (S.entries store.old) (S.entries store.new) log.now words.entry.now text.items) }
+    ensures accepted { OnOk result (WithWords (times_read words.entry.now)
+        (λ times. WithLog (S.entries store.old) log.now.name.now log.now.site (λ held. IsCheckRefusal held times)) None) }
+    ensures refused { IfErr result (λ failure. WithWords (times_read words.entry.now)
+        (λ times. WithLog (S.entries store.old) log.now.name.now log.now.site (λ held. IsCheckRefusal held times)) (Some failure)
+        ⊎ IsLack S.fails failure) }
+    ensures unsaved { OnErr result (S.entries store.new ≡ S.entries store.old) }
+{
+    let times = read_times(alloc, words)?;
+    let replica = store.load(log.name, log.site)?;
+    check(alloc, &replica, &times)
+}
+
+fn rehearse_of<S: Store>(
+    alloc: Global,
+    store: &mut S,
+    log: &SiteLog<'_>,
+    now: &str,
+) -> Result<Vec<u8>, Failure>
+    ensures done { IfOk result (λ text. IsAnswered (S.entries store.old) (S.entries store.new) log.now (of.Rehearse now.entry) text.items) }
+    ensures accepted { OnOk result (IsRefusalOf (S.entries store.old) log.now (of.Rehearse now.entry) None) }
+    ensures refused { IfErr result (λ failure. IsRefusalOf (S.entries store.old) log.now (of.Rehearse now.entry) (Some failure)
+        ⊎ IsLack S.fails failure) }
+    ensures unsaved { OnErr result (S.entries store.new ≡ S.entries store.old) }
+{
+    let time = read_time(now)?;
+    let replica = store.load(log.name, log.site)?;
+    rehearse(alloc, &replica, time)
+}
+
+fn draw_of<S: Store>(alloc: Global, store: &mut S, log: &SiteLog<'_>) -> Result<Vec<u8>, Failure>
+    ensures done { IfOk result (λ text. IsAnswered (S.entries store.old) (S.entries store.new) log.now of.Draw text.items) }
+    ensures accepted { OnOk result (IsRefusalOf (S.entries store.old) log.now of.Draw None) }
+    ensures refused { IfErr result (λ failure. IsRefusalOf (S.entries store.old) log.now of.Draw (Some failure)
+        ⊎ IsLack S.fails failure) }
+    ensures unsaved { OnErr result (S.entries store.new ≡ S.entries store.old) }
+{
+    let replica = store.load(log.name, log.site)?;
+    draw(alloc, &replica)
 }

@@ -39,7 +39,7 @@ pub fn execute<
     requires out_counts { failure_count out.old < 2 ^ 64 - 1 }
     ensures status { result ≤ 2 }
 
-    // A task was done or stopped, the words are refused or ask for help, or memory was wanting. What files hold is not known.
+    // A task was done or stopped, the words are refused or ask for help, or memory ran out. What files hold is not known.
     ensures executed { IsExecuted (map (λ word. word.now) words.entry.now)
         (device_of R.remaining reader.old) (device_of R.remaining reader.new)
         (device_of W.contents out.old) (device_of W.contents out.new)
@@ -47,7 +47,7 @@ pub fn execute<
 {
     let alloc = rt.alloc();
     match line(alloc, words) {
-        Ok(line) => match do_task(rt, &mut FileStore::new(rt), &Task::of(&line), reader, out) {
+        Ok(line) => match do_task(rt, &mut FileStore::new(rt), &Task::of(line), reader, out) {
             Ok(status) => status,
             Err(failure) => {
                 tell_failure(alloc, failure, out, err);

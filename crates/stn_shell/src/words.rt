@@ -1,14 +1,18 @@
 //! What the words of a command say.
 
-ghost use Rattle.std.specs.Prelude.{◌≡◌, pos, neg_ℤ, Ok, Err, IfOk, IfErr};
+ghost use Rattle.std.specs.Prelude.{◌≡◌, ◌⊎◌, pos, neg_ℤ, Ok, Err, IfOk, IfErr};
 ghost use Rattle.stn_time.specs.Time.{horizon};
+ghost use Rattle.stn_net.specs.Schedule.{times_of};
+ghost use Rattle.stn_store.specs.declared.failure.Failure.TheVariants.{Failed};
+ghost use Rattle.stn_store.specs.declared.failure.Fault.TheVariants as lack;
 ghost use Rattle.stn_replica.specs.Held.{difference};
 ghost use Rattle.stn_questions.specs.declared.asked.Question.TheVariants.{Ready, Why};
 ghost use Rattle.stn_exec.specs.Effect.{and_then};
-ghost use Rattle.stn_shell.specs.Words.{bound_read, event_read, id_read, time_read, side_read, question_read, slack_of, slack_read};
+ghost use Rattle.stn_shell.specs.Words.{bound_read, event_read, id_read, time_read, times_read, side_read, question_read, slack_of, slack_read};
 
 use crate::changes::AskedBound;
 use crate::command::Asked;
+use std::alloc::Allocator;
 use stn_loosen::Tolerance;
 use stn_net::Event;
 use stn_questions::Question;
@@ -118,6 +122,22 @@ fn open_sides() -> (Ms, Ms)
     ensures { (result.0 ≡ neg_ℤ horizon) × (result.1 ≡ horizon) }
 {
     (Ms::new(-HORIZON).unwrap(), Ms::new(HORIZON).unwrap())
+}
+
+/// The times of all events: the origin's, 0, and those that words spell.
+#[tactic(auto, unfolding(crate::specs::Words::times_read))]
+pub fn read_times<A: Allocator>(alloc: A, words: &[&str]) -> Result<Vec<Ms, A>, Failure>
+    ensures said { IfOk result (λ times. times_read words.entry.now ≡ Ok times.items) }
+    ensures origin { IfOk result (λ times. times_of times.items 0 ≡ pos 0) }
+    ensures refused { IfErr result (λ failure. (failure ≡ Failed lack.Memory) ⊎ (times_read words.entry.now ≡ Err failure)) }
+{
+    let mut times = Vec::new(alloc);
+    times.push(no_time())?;
+    'words: for word in words {
+        let time = read_time(word)?;
+        times.push(time)?;
+    }
+    Ok(times)
 }
 
 /// The question that is asked.

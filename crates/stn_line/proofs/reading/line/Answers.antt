@@ -15,15 +15,15 @@ read-requires c =
     let none = ap (λ a. fault_of a words) (sym app) ∙ c.in-Ok.ensures.kinds (ap is_simple_and_free app ∙ stn_free) in
     subst (λ o. IsSomeAnd o (λ command. HasWords command.0 command.1)) (sym rows) (stn_given words none)
 
-pub returns-in-Ok-clause-found : goal.returns-in-Ok-clause-found
-returns-in-Ok-clause-found c =
+pub returns-in_ok-read-in-Ok-clause-found : goal.returns-in_ok-read-in-Ok-clause-found
+returns-in_ok-read-in-Ok-clause-found c =
     let words = map (λ word. word.now) c.args.words.now in
     let app = c.in_ok-stn.ensures.app in
     let rows = (c.in-Ok.ensures.matches (ap is_simple app ∙ stn_simple)).1 ∙ ap (λ a. subcommand_of a words) app in
-    subst (λ o. IsSomeAnd o (λ command. IsLineOf c.read.result command.0 command.1)) rows c.read.ensures
+    subst (λ o. IsSomeAnd o (λ command. IsLineOf c.in_ok-read-in-Ok.field-0 command.0 command.1)) rows c.in_ok-read-in-Ok.ensures
 
-pub returns-in-Ok-clause-taken : goal.returns-in-Ok-clause-taken
-returns-in-Ok-clause-taken c =
+pub returns-in_ok-read-in-Ok-clause-taken : goal.returns-in_ok-read-in-Ok-clause-taken
+returns-in_ok-read-in-Ok-clause-taken c =
     let words = map (λ word. word.now) c.args.words.now in
     let app = c.in_ok-stn.ensures.app in
     ap (λ a. fault_of a words) (sym app) ∙ c.in-Ok.ensures.kinds (ap is_simple_and_free app ∙ stn_free)

@@ -1,7 +1,7 @@
 use Rattle.std.proofs.Common.{refl, codes}
 use Rattle.clap.specs.Matches.{found_of}
 use Rattle.clap.specs.Walk.{rows_of}
-use Rattle.stn_line.proofs.OfStn.{bare_there, init_there, loosen_there, add_there, amend_there, withdraw_there, done_there, merge_there, report_there, next_there, ready_there, why_there, records_there, steps_there, bounds_there, serve_there, send_there, entered_has, is_send}
+use Rattle.stn_line.proofs.OfStn.{bare_there, init_there, loosen_there, add_there, amend_there, withdraw_there, done_there, merge_there, report_there, next_there, ready_there, why_there, records_there, steps_there, bounds_there, check_there, rehearse_there, draw_there, serve_there, send_there, entered_has, is_send}
 use Rattle.stn_line.proofs.Values.{entered_is}
 use Rattle.stn_line.proofs.reading.read.Goals as goal
 
@@ -129,6 +129,20 @@ steps-requires c = record { log = steps_there (rows_of (found_of c.unwrap.result
 pub bounds-requires : goal.bounds-requires
 bounds-requires c = record { log = bounds_there (rows_of (found_of c.unwrap.result.1.now)) (entered_has c.args.matches.now c.subcommand.result c.unwrap.result c.subcommand.ensures.name c.subcommand.ensures.rows c.unwrap.ensures c.requires (codes "bounds") c.in-bounds.is) }
 
+pub check-requires : goal.check-requires
+check-requires c = check_there (rows_of (found_of c.unwrap.result.1.now)) (entered_has c.args.matches.now c.subcommand.result c.unwrap.result c.subcommand.ensures.name c.subcommand.ensures.rows c.unwrap.ensures c.requires (codes "check") c.in-check.is)
+
+pub rehearse-requires-clause-log : goal.rehearse-requires-clause-log
+rehearse-requires-clause-log c =
+    (rehearse_there (rows_of (found_of c.unwrap.result.1.now)) (entered_has c.args.matches.now c.subcommand.result c.unwrap.result c.subcommand.ensures.name c.subcommand.ensures.rows c.unwrap.ensures c.requires (codes "rehearse") c.in-rehearse.is)).0
+
+pub rehearse-requires-clause-now : goal.rehearse-requires-clause-now
+rehearse-requires-clause-now c =
+    (rehearse_there (rows_of (found_of c.unwrap.result.1.now)) (entered_has c.args.matches.now c.subcommand.result c.unwrap.result c.subcommand.ensures.name c.subcommand.ensures.rows c.unwrap.ensures c.requires (codes "rehearse") c.in-rehearse.is)).1
+
+pub draw-requires : goal.draw-requires
+draw-requires c = record { log = draw_there (rows_of (found_of c.unwrap.result.1.now)) (entered_has c.args.matches.now c.subcommand.result c.unwrap.result c.subcommand.ensures.name c.subcommand.ensures.rows c.unwrap.ensures c.requires (codes "draw") c.in-draw.is) }
+
 pub serve-requires-clause-log : goal.serve-requires-clause-log
 serve-requires-clause-log c =
     (serve_there (rows_of (found_of c.unwrap.result.1.now)) (entered_has c.args.matches.now c.subcommand.result c.unwrap.result c.subcommand.ensures.name c.subcommand.ensures.rows c.unwrap.ensures c.requires (codes "serve") c.in-serve.is)).0
@@ -148,24 +162,24 @@ serve-requires-clause-seconds c =
 pub send-requires-clause-log : goal.send-requires-clause-log
 send-requires-clause-log c =
     let named = is_send c.unwrap.result.0.now (rows_of (found_of c.unwrap.result.1.now)) (entered_has c.args.matches.now c.subcommand.result c.unwrap.result c.subcommand.ensures.name c.subcommand.ensures.rows c.unwrap.ensures c.requires c.unwrap.result.0.now refl)
-    c.in_default.not-run c.in_default.not-bare c.in_default.not-init c.in_default.not-loosen c.in_default.not-add c.in_default.not-amend c.in_default.not-withdraw c.in_default.not-done c.in_default.not-merge c.in_default.not-report c.in_default.not-next c.in_default.not-ready c.in_default.not-why c.in_default.not-records c.in_default.not-steps c.in_default.not-bounds c.in_default.not-serve in
+    c.in_default.not-run c.in_default.not-bare c.in_default.not-init c.in_default.not-loosen c.in_default.not-add c.in_default.not-amend c.in_default.not-withdraw c.in_default.not-done c.in_default.not-merge c.in_default.not-report c.in_default.not-next c.in_default.not-ready c.in_default.not-why c.in_default.not-records c.in_default.not-steps c.in_default.not-bounds c.in_default.not-check c.in_default.not-rehearse c.in_default.not-draw c.in_default.not-serve in
     (send_there (rows_of (found_of c.unwrap.result.1.now)) (entered_has c.args.matches.now c.subcommand.result c.unwrap.result c.subcommand.ensures.name c.subcommand.ensures.rows c.unwrap.ensures c.requires (codes "send") named)).0
 
 pub send-requires-clause-address : goal.send-requires-clause-address
 send-requires-clause-address c =
     let named = is_send c.unwrap.result.0.now (rows_of (found_of c.unwrap.result.1.now)) (entered_has c.args.matches.now c.subcommand.result c.unwrap.result c.subcommand.ensures.name c.subcommand.ensures.rows c.unwrap.ensures c.requires c.unwrap.result.0.now refl)
-    c.in_default.not-run c.in_default.not-bare c.in_default.not-init c.in_default.not-loosen c.in_default.not-add c.in_default.not-amend c.in_default.not-withdraw c.in_default.not-done c.in_default.not-merge c.in_default.not-report c.in_default.not-next c.in_default.not-ready c.in_default.not-why c.in_default.not-records c.in_default.not-steps c.in_default.not-bounds c.in_default.not-serve in
+    c.in_default.not-run c.in_default.not-bare c.in_default.not-init c.in_default.not-loosen c.in_default.not-add c.in_default.not-amend c.in_default.not-withdraw c.in_default.not-done c.in_default.not-merge c.in_default.not-report c.in_default.not-next c.in_default.not-ready c.in_default.not-why c.in_default.not-records c.in_default.not-steps c.in_default.not-bounds c.in_default.not-check c.in_default.not-rehearse c.in_default.not-draw c.in_default.not-serve in
     (send_there (rows_of (found_of c.unwrap.result.1.now)) (entered_has c.args.matches.now c.subcommand.result c.unwrap.result c.subcommand.ensures.name c.subcommand.ensures.rows c.unwrap.ensures c.requires (codes "send") named)).1
 
 pub send-requires-clause-seconds : goal.send-requires-clause-seconds
 send-requires-clause-seconds c =
     let named = is_send c.unwrap.result.0.now (rows_of (found_of c.unwrap.result.1.now)) (entered_has c.args.matches.now c.subcommand.result c.unwrap.result c.subcommand.ensures.name c.subcommand.ensures.rows c.unwrap.ensures c.requires c.unwrap.result.0.now refl)
-    c.in_default.not-run c.in_default.not-bare c.in_default.not-init c.in_default.not-loosen c.in_default.not-add c.in_default.not-amend c.in_default.not-withdraw c.in_default.not-done c.in_default.not-merge c.in_default.not-report c.in_default.not-next c.in_default.not-ready c.in_default.not-why c.in_default.not-records c.in_default.not-steps c.in_default.not-bounds c.in_default.not-serve in
+    c.in_default.not-run c.in_default.not-bare c.in_default.not-init c.in_default.not-loosen c.in_default.not-add c.in_default.not-amend c.in_default.not-withdraw c.in_default.not-done c.in_default.not-merge c.in_default.not-report c.in_default.not-next c.in_default.not-ready c.in_default.not-why c.in_default.not-records c.in_default.not-steps c.in_default.not-bounds c.in_default.not-check c.in_default.not-rehearse c.in_default.not-draw c.in_default.not-serve in
     (send_there (rows_of (found_of c.unwrap.result.1.now)) (entered_has c.args.matches.now c.subcommand.result c.unwrap.result c.subcommand.ensures.name c.subcommand.ensures.rows c.unwrap.ensures c.requires (codes "send") named)).2
 
 pub returns-in_default : goal.returns-in_default
 returns-in_default c =
     let named = is_send c.unwrap.result.0.now (rows_of (found_of c.unwrap.result.1.now)) (entered_has c.args.matches.now c.subcommand.result c.unwrap.result c.subcommand.ensures.name c.subcommand.ensures.rows c.unwrap.ensures c.requires c.unwrap.result.0.now refl)
-    c.in_default.not-run c.in_default.not-bare c.in_default.not-init c.in_default.not-loosen c.in_default.not-add c.in_default.not-amend c.in_default.not-withdraw c.in_default.not-done c.in_default.not-merge c.in_default.not-report c.in_default.not-next c.in_default.not-ready c.in_default.not-why c.in_default.not-records c.in_default.not-steps c.in_default.not-bounds c.in_default.not-serve in
+    c.in_default.not-run c.in_default.not-bare c.in_default.not-init c.in_default.not-loosen c.in_default.not-add c.in_default.not-amend c.in_default.not-withdraw c.in_default.not-done c.in_default.not-merge c.in_default.not-report c.in_default.not-next c.in_default.not-ready c.in_default.not-why c.in_default.not-records c.in_default.not-steps c.in_default.not-bounds c.in_default.not-check c.in_default.not-rehearse c.in_default.not-draw c.in_default.not-serve in
     let entered = entered_is c.args.matches.now c.subcommand.result c.unwrap.result c.subcommand.ensures.name c.subcommand.ensures.rows c.unwrap.ensures in
     rw (entered, named) c.send.ensures
