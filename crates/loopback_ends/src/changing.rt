@@ -56,7 +56,7 @@ fn send_older(rt: &HostRuntime, listener: &TcpListener) -> Result<(), Error> {
     Ok(())
 }
 
-// The log is gone, and made anew.
+// The log is gone, and made again.
 fn serve_gone(rt: &HostRuntime, listener: &TcpListener) -> Result<(), Error> {
     let mut replica = load_log(rt, "t.log", 1)?;
     fs::remove_file(rt, "t.log")?;

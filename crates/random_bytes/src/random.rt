@@ -31,7 +31,7 @@ fn append_any(random: &mut Pcg32, frames: &[Vec<u8>], bytes: &mut Vec<u8>) -> Re
     Ok(())
 }
 
-// The first frame in seven of eight cases, and up to five frames behind it.
+// The first frame in seven of eight cases, and up to five frames after it.
 fn good(alloc: Global, random: &mut Pcg32, frames: &[Vec<u8>]) -> Result<Vec<u8>, Error> {
     let first = frames.first().context("no frame")?;
     let mut bytes = Vec::new(alloc);

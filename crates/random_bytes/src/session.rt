@@ -58,7 +58,7 @@ fn of_answer(answer: Result<Served, ServeFault>) -> (Case, u32) {
     }
 }
 
-// What a replica holds behind a session, where the session is the same byte by byte.
+// What a replica holds after a session, where the session is the same byte by byte.
 fn held_after(
     alloc: Global,
     replica: &Replica<Global>,

@@ -115,7 +115,7 @@ fn amended(answer: &Result<(), ReplaceFault>) -> Result<(), AmendFault> {
     }
 }
 
-// Makes a call that adds a record in the place of another; none where the call is another.
+// Makes a call that adds a record in place of another; none where the call is another.
 fn supplant(
     call: &str,
     ours: &mut Records<Global>,

@@ -1,6 +1,6 @@
 //! For tests: two sites, `a` and `b`, hold no records at first. Each line of standard input names one of them, a call, and the
 //! ids, events and times that the call takes; the answer is a line of standard output. A line `= <name>` is printed, and
-//! behind it both sites begin anew.
+//! after it both sites begin again.
 #![tactic(auto)]
 
 use anyhow::Error;

@@ -14,7 +14,7 @@ fn append_records(records: &Records<Global>, out: &mut Vec<u8>) -> Result<(), Er
     Ok(())
 }
 
-// Behind a dash the withdrawn ids.
+// After a dash the withdrawn ids.
 fn append_withdrawn(records: &Records<Global>, out: &mut Vec<u8>) -> Result<(), Error> {
     out.extend_from_slice(b" -")?;
     for place in 0..=records.known() {
@@ -25,7 +25,7 @@ fn append_withdrawn(records: &Records<Global>, out: &mut Vec<u8>) -> Result<(), 
     Ok(())
 }
 
-// Behind a dash the entries of amendments, where there are any.
+// After a dash the entries of amendments, where there are any.
 fn append_entries(records: &Records<Global>, out: &mut Vec<u8>) -> Result<(), Error> {
     for place in 0..=records.known() {
         if let Some(entry) = records.entry_at(place) {
@@ -132,7 +132,7 @@ fn next_ids(alloc: Global, words: &mut SplitWhitespace<'_>) -> Result<Vec<Id>, E
     Ok(ids)
 }
 
-// Appends what a copy holds, or a part: the records of ids, and behind a dash withdrawn ids. Whether there is such a call.
+// Appends what a copy holds, or a part: the records of ids, and after a dash withdrawn ids. Whether there is such a call.
 pub fn ask_for_part(
     alloc: Global,
     call: &str,

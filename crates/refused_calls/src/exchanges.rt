@@ -102,7 +102,7 @@ pub struct Replies<'a> {
     pub after: &'a [u8],
 }
 
-// The text of the last reply, behind its length and its kind.
+// The text of the last reply, after its length and its kind.
 fn text_of(frames: &[Vec<u8>]) -> &[u8] {
     match frames.last() {
         Some(frame) => frame.get(5..).unwrap_or(b""),

@@ -10,7 +10,7 @@ use stn_wire::{Fed, Feeder, Frame, WireFault, decode, encode};
 // How many bytes a feeder is fed at once.
 const PIECE: usize = 7;
 
-// Appends a frame, and again where memory was wanting, after which nothing was appended.
+// Appends a frame, and again where memory ran out, after which nothing was appended.
 fn append<B: Allocator + Copy>(
     heap: &Refusing<Global>,
     frame: &Frame<Global>,
@@ -77,7 +77,7 @@ fn renewed<A: Allocator + Copy>(frame: Frame<A>) -> Frame<A> {
     }
 }
 
-// Whether the bytes are one frame, which is renewed as the wanted bytes; or want of memory.
+// Whether the bytes are one frame, which is renewed as the wanted bytes; or lack of memory.
 fn is_read<A: Allocator + Copy>(
     alloc: Global,
     heap: A,
@@ -130,7 +130,7 @@ fn feed_piece<A: Allocator + Copy>(
     Ok(used)
 }
 
-// Feeds a stream in pieces, each again where memory was wanting, and gives how often. Want of memory leaves the feeder in the
+// Feeds a stream in pieces, each again where memory ran out, and gives how often. Lack of memory leaves the feeder in the
 // middle of a frame exactly where it was before.
 fn stream<A: Allocator + Copy>(
     feeder: &mut Feeder<A>,
@@ -170,7 +170,7 @@ fn feed_refused(
 }
 
 /// Whether `Feeder::feed` of the frames with these bytes, in pieces, reads what is written as the wanted bytes, and answers each
-/// refused request: after want of memory no byte was taken, and the same piece goes on.
+/// refused request: after lack of memory no byte was taken, and the same piece goes on.
 pub fn feeds(alloc: Global, bytes: &[u8], wanted: &[u8]) -> Result<bool, Error> {
     each_is_answered(alloc, Kind::Memory, |heap, failing| {
         Ok(feed_refused(alloc, heap, bytes, wanted, failing))

@@ -19,7 +19,7 @@ struct Stage {
     log: Vec<u8>,
 }
 
-// A session of a replica that a log opens, and where it stands behind each of its frames, before the first too.
+// A session of a replica that a log opens, and where it stands after each of its frames, before the first too.
 #[derive(Clone, Copy)]
 struct Talk<'a> {
     log: &'a [u8],

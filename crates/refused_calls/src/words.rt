@@ -11,7 +11,7 @@ pub fn bytes_of(alloc: Global, words: &str) -> Result<Vec<Vec<u8>>, Error> {
     Ok(frames)
 }
 
-/// The bytes of some frames, one behind the other.
+/// The bytes of some frames, one after the other.
 pub fn joined(alloc: Global, frames: &[Vec<u8>]) -> Result<Vec<u8>, Error> {
     let mut bytes = Vec::new(alloc);
     for frame in frames {

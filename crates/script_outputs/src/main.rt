@@ -1,5 +1,5 @@
-//! For tests: runs scripts and prints what each prints and what its run counts, behind a line `= <name>`: first those of
-//! its input, each behind such a line, and then those of the files that its arguments name. Of each script of its input
+//! For tests: runs scripts and prints what each prints and what its run counts, after a line `= <name>`: first those of
+//! its input, each after such a line, and then those of the files that its arguments name. Of each script of its input
 //! that has at most 1,024 bytes and prints at most so many it then has each request for memory, each read and each write
 //! refused in turn, and prints whether all was answered as it must be.
 #![tactic(auto)]

@@ -14,7 +14,7 @@ fn are_same(before: &[u8], ours: &[u8], theirs: &[u8]) -> bool {
     }
 }
 
-// Whether a site reports the same behind the script as site 64, of which the script makes no use, once that has
+// Whether a site reports the same after the script as site 64, of which the script makes no use, once that has
 // merged it.
 fn is_same_at(alloc: Global, script: &str, site: u8) -> io::Result<bool> {
     let ours = format!(in alloc; "{script}{site} report\n")?;

@@ -1,6 +1,6 @@
 //! For tests: what sites report, compared.
 //!
-//! - It reads worked scripts from standard input, each behind a line `= <name>`. Before and after each command of a script
+//! - It reads worked scripts from standard input, each after a line `= <name>`. Before and after each command of a script
 //!   it compares the report of each site with that of a new site that has merged it, and prints how many comparisons of
 //!   the script were the same, or the first that was not. A line `* <number> <command>` stands for so many commands.
 //! - 64 sites of one plan each add a bound, one of them withdraws another of its own, and they merge in a ring until nothing

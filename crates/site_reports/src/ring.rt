@@ -5,7 +5,7 @@ use std::io::Write;
 
 const SITES: u8 = 64;
 
-// What further lines print behind a script.
+// What further lines print after a script.
 fn printed_behind(alloc: Global, script: &str, lines: &str) -> io::Result<Option<Vec<u8>>> {
     let longer = format!(in alloc; "{script}{lines}")?;
     match (output_of(alloc, script), output_of(alloc, &longer)) {
@@ -64,7 +64,7 @@ fn settled(alloc: Global, script: String) -> io::Result<String> {
     Ok(longer)
 }
 
-// How many sites, from the first on, report this text behind the script.
+// How many sites, from the first on, report this text after the script.
 fn alike(alloc: Global, script: &str, text: &[u8]) -> io::Result<u8> {
     let Some(all) = printed_behind(alloc, script, &reports(alloc)?)? else {
         return Ok(0);

@@ -14,7 +14,7 @@ use Rattle.stn_conflict.proofs.Distances.{schedule_before}
 pub known_within : (events : ℕ) (base : List Difference) → take events base ≡ horizon_bounds events → events ≤ length base
 known_within events base begins = omega (arith, ap length begins, length-take events base, length-horizon_bounds events)
 
--- with more bounds behind them they still begin so
+-- with more bounds after them they still begin so
 pub known_first : (events : ℕ) (base extra : List Difference) → take events base ≡ horizon_bounds events → take events (base ++ extra) ≡ horizon_bounds events
 known_first events base extra begins = take-append-le events base extra (known_within events base begins) ∙ begins
 

@@ -90,7 +90,7 @@ impl<'a, A: Allocator + Copy> Search<'a, A> {
         self.settle(bounds);
     }
 
-    // Begins anew from an event, with the estimates that the horizon bounds alone allow.
+    // Begins again from an event, with the estimates that the horizon bounds alone allow.
     pub fn begin(&mut self, start: Event)
         requires tables { HasTables (length self.old.far.items) self.old }
         requires start { start < length self.old.far.items }

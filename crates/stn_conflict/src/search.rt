@@ -21,7 +21,7 @@ use stn_time::Memory;
 /// The named cycle of the bounds of `base` followed by those of `extra`, with places counted from
 /// 0 through both; none exactly where these bounds have a schedule. There are so many `events`
 /// beside the origin, `base` begins with their horizon bounds, and all bounds are about them. It
-/// fails for want of memory alone.
+/// fails only if memory runs out.
 pub fn cycle<A: Allocator + Copy>(
     alloc: A,
     events: u16,

@@ -20,7 +20,7 @@ use stn_time::Memory;
 /// The way from one event to another over the bounds of `base` followed by those of `extra`, with places
 /// counted from 0 through both: the sides of bounds that let `to` come at most `sum` after `from`; none exactly
 /// where these bounds have no schedule. There are so many `events` beside the origin, `base` begins with their
-/// horizon bounds, and all bounds are about them. It fails for want of memory alone.
+/// horizon bounds, and all bounds are about them. It fails only if memory runs out.
 pub fn way<A: Allocator + Copy>(
     alloc: A,
     events: u16,

@@ -9,7 +9,7 @@ use Rattle.stn_device.specs.Bytes.{ConsumesAtMost}
 pub ConsumesAtMost-trans : (a b c : Option (List ℕ)) (bs cs : List ℕ) (n : ℕ) → Consumes a b bs → Consumes b c cs → length bs + length cs ≤ n → ConsumesAtMost a c n
 ConsumesAtMost-trans a b c bs cs n p q le = (bs ++ cs, Consumes-trans a b c bs cs p q, omega (arith, length-append bs cs))
 
--- a write that took n of the rest leaves what stands behind them
+-- a write that took n of the rest leaves what stands after them
 pub AppendsPart-more : (a b c : Option (List ℕ)) (all front rest behind : List ℕ) (n : ℕ) → all ≡ front ++ rest → Appends a b front → Appends b c (take n rest) → behind ≡ drop n rest
     → (more : List ℕ) × (all ≡ more ++ behind) × Appends a c more
 AppendsPart-more a b c all front rest behind n e p q is =

@@ -8,14 +8,14 @@ use stn_refusing::Refusing;
 pub enum Answer {
     /// No request was refused, and the answer and what it left are right.
     Right,
-    /// A request was refused, the answer is want of memory, and all is as before.
+    /// A request was refused, the answer is lack of memory, and all is as before.
     Memory,
     /// Anything else.
     Wrong,
 }
 
 /// What a call answered that has just returned: `right` says that its answer and what it left are those of a call with
-/// memory, `unchanged` that it answered want of memory and left all as before. From here on nothing is refused.
+/// memory, `unchanged` that it answered lack of memory and left all as before. From here on nothing is refused.
 pub fn judged(heap: &Refusing<Global>, right: bool, unchanged: bool) -> Answer {
     let waits = heap.is_waiting();
     heap.refuse(0);

@@ -1,4 +1,4 @@
--- What is printed for the faults of a base: a code, and the line or the step, counted from 1. Want of memory is no refusal and is never
+-- What is printed for the faults of a base: a code, and the line or the step, counted from 1. Lack of memory is no refusal and is never
 -- printed; it has no code, and 0 stands for it here.
 use Rattle.std.specs.Prelude.{ℕ, Option, Some, None}
 use Rattle.stn_pddl.specs.declared.fault.DomainFault.{DomainFault}

@@ -10,7 +10,7 @@ is_alone name [] = false
 is_alone name (word ∷ []) = bytes_eq word name
 is_alone name (word ∷ (other ∷ words)) = false
 
--- a block of lines: its text, which is its lines, each with its LF; and what stands behind the line that ends it: the number of the first
+-- a block of lines: its text, which is its lines, each with its LF; and what stands after the line that ends it: the number of the first
 -- line there, and the lines
 pub record Block : Type 0 where
   pub text : List ℕ

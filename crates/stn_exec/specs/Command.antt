@@ -49,7 +49,7 @@ event_below count word = find (λ event. bytes_eq word (event_text event)) (rang
 abbrev pub event_of : List ℕ → Option ℕ
 event_of word = event_below (most_events + 1) word
 
--- the numbers that stand before the first dot of a word and behind it, as a site and a counter
+-- the numbers that stand before the first dot of a word and after it, as a site and a counter
 abbrev pub around_dot : List ℕ → SiteCounter
 around_dot word = record { site = digits_value 10 (before_first (λ byte. byte == 46) word); counter = digits_value 10 (after_first (λ byte. byte == 46) word) }
 
@@ -61,7 +61,7 @@ is_id id = nat_le 1 id.site && (nat_le id.site most_sites && (nat_le 1 id.counte
 unfoldable pub id_of : List ℕ → Option SiteCounter
 id_of word = if is_id (around_dot word) && bytes_eq word (id_text (around_dot word)) then Some (around_dot word) else None
 
--- the form `add <event> <event> <bound> <bound>`, behind its name
+-- the form `add <event> <event> <bound> <bound>`, after its name
 abbrev pub add_of : List (List ℕ) → Option Action
 add_of (from ∷ (to ∷ (lo ∷ (hi ∷ [])))) =
     option_and_then (λ first. option_map (λ second. add first second lo hi) (event_of to)) (event_of from)
@@ -88,7 +88,7 @@ abbrev pub merge_of : List (List ℕ) → Option Action
 merge_of (word ∷ []) = option_map merge (number_of word)
 merge_of other = None
 
--- the withdrawn id that is printed behind `-`
+-- the withdrawn id that is printed after `-`
 abbrev pub tombstone_of : List ℕ → Option SiteCounter
 tombstone_of [] = None
 tombstone_of (first ∷ word) = if first == 45 then id_of word else None
@@ -101,7 +101,7 @@ is_item word = is_some (id_of word) || is_some (tombstone_of word)
 abbrev pub send_items : List (List ℕ) → Action
 send_items words = send (filter_map id_of words) (filter_map tombstone_of words)
 
--- the forms `send` and `send <item> ..`; an item is the id of a record, or a withdrawn id behind `-`
+-- the forms `send` and `send <item> ..`; an item is the id of a record, or a withdrawn id after `-`
 abbrev pub send_of : List (List ℕ) → Option Action
 send_of [] = Some send_all
 send_of (word ∷ words) = if list_all is_item (word ∷ words) then Some (send_items (word ∷ words)) else None
@@ -116,7 +116,7 @@ abbrev pub report_of : List (List ℕ) → Option Action
 report_of [] = Some report
 report_of other = None
 
--- the form `check <t> ..`, behind its name: one time for each event
+-- the form `check <t> ..`, after its name: one time for each event
 abbrev pub check_of : ℕ → List (List ℕ) → Option Action
 check_of events times = if length times == events then Some (check times) else None
 

@@ -43,7 +43,7 @@ pub record IsOpened (heading : Result Start Refusal) (world : World) (rest : Res
   pub number : start.number ≡ rest.number
   pub lines : start.lines ≡ lines_of rest.text.now
 
--- the refusal is the one wanted; want of memory is none
+-- the refusal is the one wanted; lack of memory is none
 abbrev pub IsHeadingFault : {T : Type 0} → Result T Refusal → HeadingFault → Type 0
 IsHeadingFault wanted (heading_fault.Refused cause) = wanted ≡ Err cause
 IsHeadingFault wanted heading_fault.Memory = ⊤

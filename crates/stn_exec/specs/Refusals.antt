@@ -6,7 +6,7 @@ use Rattle.stn_world.specs.declared.faults.WorldFault.TheVariants as world
 use Rattle.stn_exec.specs.declared.answer.Refusal.{Refusal}
 use Rattle.stn_exec.specs.declared.answer.Refusal.TheVariants as refusal
 
--- the refusal that a fault is; want of memory is none
+-- the refusal that a fault is; lack of memory is none
 abbrev pub refusal_of : WorldFault → Option Refusal
 refusal_of world.NoSite = Some refusal.NoSite
 refusal_of world.NoPacket = Some refusal.NoPacket

@@ -22,7 +22,7 @@ steps_of_lines world (line ∷ lines) =
     let steps = line_steps world (words_of line) in
     steps ++ steps_of_lines (run world steps) lines
 
--- a line of a script: where the commands begin, the lines before it, the line, and those behind it
+-- a line of a script: where the commands begin, the lines before it, the line, and those after it
 pub record LineOf (script : List ℕ) : Type 0 where
   pub start : Start
   pub before : List (List ℕ)
@@ -58,7 +58,7 @@ pub record AsksSite {script : List ℕ} (at : LineOf script) (site : ℕ) (quest
   pub event : is_of_no_event at.start.source question ≡ false
   pub there : HasSite (first_world at) site
 
--- the line prints the text: the output is what the lines before it print, the text, and what the lines behind it print
+-- the line prints the text: the output is what the lines before it print, the text, and what the lines after it print
 pub record PrintsAt {script : List ℕ} (at : LineOf script) (output text : List ℕ) : Type 0 where
   pub first : List ℕ
   pub last : List ℕ

@@ -66,7 +66,7 @@ lines_outcome number world (line ∷ lines) =
     let first = line_outcome number world (words_of line) in
     followed_by first (lines_outcome (number + 1) first.world lines)
 
--- a line that is not skipped: its number, its words, and the lines behind it
+-- a line that is not skipped: its number, its words, and the lines after it
 pub record Found : Type 0 where
   pub number : ℕ
   pub words : List (List ℕ)
@@ -122,7 +122,7 @@ abbrev pub refusing_fault : Result PlanSource BaseFault → Result PlanSource Re
 refusing_fault (Ok source) = Ok source
 refusing_fault (Err fault) = Err (refusal.Base fault)
 
--- the base of a source is made, and the lines from a number on stand behind it
+-- the base of a source is made, and the lines from a number on stand after it
 abbrev pub with_base : PlanSource → ℕ → List (List ℕ) → Result Based Refusal
 with_base source number lines =
     and_then (refusing_fault (base_of source)) (λ made. Ok (record { source = made; number = number; lines = lines }))
@@ -142,13 +142,13 @@ ended_block last (Some block) = Ok block
 abbrev pub block_at : ℕ → ℕ → List (List ℕ) → Result Block Refusal
 block_at last number lines = ended_block last (block_from number lines)
 
--- the block of a name: a line that is its name alone, and the lines behind that
+-- the block of a name: a line that is its name alone, and the lines after that
 abbrev pub named_block : ℕ → List ℕ → Option Found → Result Block Refusal
 named_block last name None = Err (refusal.Line last)
 named_block last name (Some found) =
     if is_alone name found.words then block_at last (found.number + 1) found.behind else Err (refusal.Line found.number)
 
--- the texts of a domain and of a plan, behind the line `domain`
+-- the texts of a domain and of a plan, after the line `domain`
 abbrev pub files_part : ℕ → Found → Result Based Refusal
 files_part last found =
     and_then (block_at last (found.number + 1) found.behind) (λ domain.
@@ -180,7 +180,7 @@ abbrev pub started : Result Start Refusal → Outcome
 started (Ok start) = lines_outcome start.number (opening_world start.source start.sites) start.lines
 started (Err cause) = record { world = opening_world (bare 0) 0; replies = said (answer.Refused cause) ∷ []; commands = 0 }
 
--- the number of the line behind the last LF
+-- the number of the line after the last LF
 abbrev pub last_line : List ℕ → ℕ
 last_line script = count_by is_line_end script + 1
 

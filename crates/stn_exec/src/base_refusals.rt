@@ -1,4 +1,4 @@
-//! What is printed for the faults of a base. Want of memory is no refusal and is never printed; 0 stands for its code.
+//! What is printed for the faults of a base. Lack of memory is no refusal and is never printed; 0 stands for its code.
 
 ghost use Rattle.std.specs.Prelude.{◌≡◌};
 ghost use Rattle.stn_exec.specs.BaseRefusals as spec;

@@ -80,7 +80,7 @@ pub enum Action<'a> {
 }
 
 /// The command that a line is, in a plan of so many events beside the origin, by its first word and
-/// what stands behind it.
+/// what stands after it.
 pub fn read_command<'a>(events: u16, word: &[u8], rest: &'a [u8]) -> Option<Command<'a>>
     ensures command { option_map seen_command result ≡ command_of events (word.now ∷ words_of rest.now) }
     ensures fits { IfSome result (λ command. IsForEvents events (seen_action command.action)) }
@@ -411,7 +411,7 @@ pub fn read_id(word: &[u8]) -> Option<Id>
     Id::read(word)
 }
 
-// A withdrawn id stands behind `-`.
+// A withdrawn id stands after `-`.
 fn read_tombstone(word: &[u8]) -> Option<Id>
     ensures { result ≡ tombstone_of word.now }
 {

@@ -13,8 +13,8 @@ use stn_lift::{Base, BaseFault, Source};
 use stn_text::{first_line, first_word, read_number};
 use stn_world::{SitesFault, World};
 
-/// A line that is not skipped: its number, its first word, what stands behind the word, and the text
-/// behind the line.
+/// A line that is not skipped: its number, its first word, what stands after the word, and the text
+/// after the line.
 #[derive(Clone, Copy)]
 pub struct FoundLine<'a> {
     pub number: u32,
@@ -37,7 +37,7 @@ pub struct Rest<'a> {
     pub text: &'a [u8],
 }
 
-/// A block of a heading: its lines, each with its LF, and what stands behind the line that ends it.
+/// A block of a heading: its lines, each with its LF, and what stands after the line that ends it.
 #[derive(Clone, Copy)]
 pub struct HeadingBlock<'a> {
     pub text: &'a [u8],
@@ -84,7 +84,7 @@ impl<T: Drop> From<AllocFailed<T>> for HeadingFault {
 }
 
 /// Reads the heading of a script: its sites, which hold nothing yet, and its commands; `last` is the
-/// number of the line behind its last LF.
+/// number of the line after its last LF.
 pub fn open<A: Allocator + Copy>(
     alloc: A,
     last: u32,
@@ -115,7 +115,7 @@ fn saturated(number: u32) -> u8
     u8::try_from(number).unwrap_or(u8::MAX)
 }
 
-// The base that the first part of a heading gives, and what stands behind that part.
+// The base that the first part of a heading gives, and what stands after that part.
 fn read_base<A: Allocator + Copy>(
     alloc: A,
     last: u32,
@@ -138,7 +138,7 @@ fn read_base<A: Allocator + Copy>(
     }
 }
 
-// The base of the bare plan that a line names, and what stands behind the line.
+// The base of the bare plan that a line names, and what stands after the line.
 fn read_bare<A: Allocator + Copy>(
     alloc: A,
     found: FoundLine<'_>,
@@ -162,7 +162,7 @@ fn read_bare<A: Allocator + Copy>(
     }
 }
 
-// The base of the domain and the plan behind the line `domain`, and what stands behind both.
+// The base of the domain and the plan after the line `domain`, and what stands after both.
 fn read_files<A: Allocator + Copy>(
     alloc: A,
     last: u32,
@@ -195,7 +195,7 @@ fn make_base<A: Allocator + Copy>(alloc: A, source: &Source<A>) -> Result<Base<A
     }
 }
 
-// The block behind a line that is its name alone.
+// The block after a line that is its name alone.
 fn read_named_block<'a>(
     last: u32,
     name: &[u8],
@@ -265,7 +265,7 @@ fn is_end(line: &[u8]) -> bool
     }
 }
 
-// Whether a line is a name alone, by its first word and what stands behind it.
+// Whether a line is a name alone, by its first word and what stands after it.
 fn stands_alone(name: &[u8], word: &[u8], rest: &[u8]) -> bool
     ensures { result ≡ is_alone name.now (word.now ∷ words_of rest.now) }
 {
@@ -292,7 +292,7 @@ fn read_part<'a>(
     }
 }
 
-// The number of a line that is a name and a number, by its first word and what stands behind it.
+// The number of a line that is a name and a number, by its first word and what stands after it.
 fn read_value(name: &[u8], word: &[u8], rest: &[u8]) -> Option<u32>
     ensures { result ≡ heading_number name.now (word.now ∷ words_of rest.now) }
 {
@@ -327,7 +327,7 @@ fn find_line(number: u32, text: &[u8]) -> Option<FoundLine<'_>>
     None
 }
 
-/// The first word of a line, and what stands behind it; none where the line has no words, or is a
+/// The first word of a line, and what stands after it; none where the line has no words, or is a
 /// comment.
 pub fn opening_word(line: &[u8]) -> Option<(&[u8], &[u8])>
     ensures skipped { IfNone result (is_skipped (words_of line.now) ≡ true) }

@@ -29,7 +29,7 @@ pub fn one_script()
 /// The law that the commands of a script are a run of the world's steps, and what its reports say; it
 /// does nothing. The script's world is the end of the run of its steps, and at each line the end of
 /// the run of the steps before it. The output of the script falls into what the lines before a line
-/// print, what the line prints, and what the lines behind it print. What a site's command `report`
+/// print, what the line prints, and what the lines after it print. What a site's command `report`
 /// prints is the report of what the site holds, which is the union of what it took. So two sites of
 /// one plan, of one script or of two, that took the same additions and withdrawals, in any order, more
 /// than once or merged in any grouping, print the same bytes. An amendment is one addition and one

@@ -31,7 +31,7 @@ use stn_time::Memory;
 use stn_world::World;
 use thiserror::Error;
 
-/// What a run did: how many lines behind the heading are not skipped, and how many refused lines were printed, a
+/// What a run did: how many lines after the heading are not skipped, and how many refused lines were printed, a
 /// refused heading too.
 #[derive(Clone, Copy, Debug, PartialEq, Eq)]
 pub struct Ran {
@@ -130,7 +130,7 @@ fn run_line<W: Write, A: Allocator + Copy>(
     }
 }
 
-// Appends what a line that is not skipped prints, by its first word and what stands behind it.
+// Appends what a line that is not skipped prints, by its first word and what stands after it.
 // Whether it is refused.
 fn reply_line<A: Allocator + Copy>(
     alloc: A,
@@ -335,7 +335,7 @@ fn refuse<W: Write, A: Allocator + Copy>(
     })
 }
 
-// The number of the line behind the last LF.
+// The number of the line after the last LF.
 fn number_behind(script: &[u8]) -> u32
     requires { length script.now ≤ most_bytes }
     ensures { result ≡ last_line script.now }

@@ -9,7 +9,7 @@ use Rattle.std.proofs.lemmas.List.{map-append}
 use Rattle.indexmap.specs.IndexSet.{insert_key}
 use Rattle.stn_lift.specs.Numbering.{AreDifferent}
 
--- more elements behind leave each at its place
+-- more elements after leave each at its place
 pub slice_get-kept : {X : Type 0} (xs ys : List X) (i : ℕ) (x : X) → slice_get xs i ≡ Some x → slice_get (xs ++ ys) i ≡ Some x
 slice_get-kept [] ys i x h = cc
 slice_get-kept (y ∷ xs) ys zero x h = h

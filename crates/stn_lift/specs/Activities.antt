@@ -47,7 +47,7 @@ with_found number step (Some action) = with_action number step action
 unfoldable pub activity_of : List ActionSchema → ℕ → PlannedStep → Result Activity LiftFault
 activity_of actions number step = with_found number step (action_named step.action actions)
 
--- the steps behind so many others, or the fault of the first that has one; steps are counted from 1
+-- the steps after so many others, or the fault of the first that has one; steps are counted from 1
 unfoldable pub activities : List ActionSchema → ℕ → List PlannedStep → Result (List Activity) LiftFault
 activities actions before [] = Ok []
 activities actions before (step ∷ steps) =

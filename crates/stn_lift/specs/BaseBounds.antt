@@ -14,7 +14,7 @@ use Rattle.stn_lift.specs.Activities.{Activity}
 abbrev pub step_of : ℕ → ℕ
 step_of event = (event + 1) / 2
 
--- the step behind so many others lasts so long
+-- the step after so many others lasts so long
 abbrev pub duration_bound : ℕ → ℤ → Difference
 duration_bound before duration = record { from = 2 * before + 1; to = 2 * before + 2; lo = duration; hi = duration }
 
@@ -72,7 +72,7 @@ footprints_behind (step ∷ steps) = step.start ∷ step.end ∷ footprints_behi
 abbrev pub event_footprints : List Activity → List (Footprint GroundAtom)
 event_footprints steps = no_footprint ∷ footprints_behind steps
 
--- how long the step behind so many others lasts
+-- how long the step after so many others lasts
 abbrev pub duration_of : List Activity → ℕ → ℤ
 duration_of steps before = slice_index_or (map (λ step. step.duration) steps) before (pos 0)
 

@@ -1,4 +1,4 @@
--- Why a source has no base, from why its parts have a fault: want of memory is always Memory.
+-- Why a source has no base, from why its parts have a fault: lack of memory is always Memory.
 use Rattle.stn_pddl.specs.declared.fault.DomainFault.{DomainFault}
 use Rattle.stn_pddl.specs.declared.fault.DomainFault.TheVariants as domain
 use Rattle.stn_plan.specs.declared.fault.PlanFault.{PlanFault}

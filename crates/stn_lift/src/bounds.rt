@@ -29,7 +29,7 @@ pub fn horizon_bounds<A: Allocator>(alloc: A, events: u16) -> Result<Vec<Bound, 
     Ok(bounds)
 }
 
-// The bound of the duration of the step behind so many others.
+// The bound of the duration of the step after so many others.
 fn duration_bound(before: u16, duration: Ms) -> Bound
     requires { before < most_steps }
     ensures { result ≡ duration_bound before duration }

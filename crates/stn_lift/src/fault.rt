@@ -23,7 +23,7 @@ pub enum LiftFault {
     /// This step says another duration than its action has.
     #[error("another duration at step {0}")]
     DurationDiffers(u16),
-    /// This step ends behind the horizon.
+    /// This step ends after the horizon.
     #[error("step {0} ends behind the horizon")]
     PastHorizon(u16),
     /// Memory ran out.
@@ -48,7 +48,7 @@ impl<T: Drop> From<AllocFailed<T>> for LiftFault {
 }
 
 /// Why a source has no base: of two texts the domain's faults come first, then the plan's, then those of the plan's steps in the
-/// domain. Want of memory is always `Memory`, wherever it came.
+/// domain. Lack of memory is always `Memory`, wherever it came.
 #[derive(Clone, Copy, Debug, PartialEq, Eq, Hash, Error)]
 pub enum BaseFault {
     /// The text of the domain has a fault.

@@ -34,7 +34,7 @@ module _ (fronts : (bytes : List ℕ) (a b : Front) → IsFront bytes a → IsFr
   nothing : (bytes : List ℕ) → bytes ≡ [] → IsFront bytes unfinished
   nothing bytes e = subst (λ (l : List ℕ). IsFront l unfinished) (sym e) (inl (omega arith))
 
-  -- an ending is behind all whole frames
+  -- an ending is after all whole frames
   no_frame : (more : Bool) (log : Option LogSoFar) (frame : FrameContent) (tail : List ℕ) (meaning : Result Log LoadFault) → IsFrame frame → IsEnding more (spelling frame ++ tail) log meaning → ⊥
   no_frame more log frame tail (Ok log') h e =
       not_unfinished frame _ (fronts (spelling frame ++ tail) (whole frame (length (spelling frame))) unfinished (whole_spelled frame tail h) (nothing (spelling frame ++ tail) e.1))

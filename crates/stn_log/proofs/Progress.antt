@@ -75,14 +75,14 @@ one_more [] log last frame next came is = ap (all_taken_by (λ log. all_taken lo
 one_more (f ∷ frames) log last frame next came is =
     later_taken (taken log f) frames (frame ∷ []) last (Ok (Some next)) (λ log came. one_more frames (Some log) last frame next came is) came
 
--- what stands behind the first frame
+-- what stands after the first frame
 later_rest : (first : Result LogSoFar LoadFault) (more : Bool) (log : Option LogSoFar) (frame : FrameContent) (frames : List FrameContent) (last : Option LogSoFar) (tail : List ℕ) (meaning : Result Log LoadFault)
     → IsFrame frame → taken log frame ≡ first → ((next : LogSoFar) → all_taken (Some next) frames ≡ Ok last → IsRest more (Some next) tail meaning)
     → all_taken_by (λ next. all_taken next frames) first ≡ Ok last → IsRest more log (spelling frame ++ tail) meaning
 later_rest (Ok next) more log frame frames last tail meaning valid is later came = frame_taken more log next frame tail valid is meaning (later next came)
 later_rest (Err fault) more log frame frames last tail meaning valid is later came = absurd cc
 
--- what bytes behind frames that are all taken make of a log
+-- what bytes after frames that are all taken make of a log
 behind_frames : (frames : List FrameContent) (log last : Option LogSoFar) → AllByRecursion IsFrame frames → all_taken log frames ≡ Ok last
     → (more : Bool) (tail : List ℕ) (meaning : Result Log LoadFault) → IsRest more last tail meaning → IsRest more log (flat_map spelling frames ++ tail) meaning
 behind_frames [] log last each came more tail meaning rest = subst (λ log. IsRest more log tail meaning) (sym (same_ok log last came)) rest
@@ -90,7 +90,7 @@ behind_frames (frame ∷ frames) log last each came more tail meaning rest =
     subst (λ l. IsRest more log l meaning) (sym (append_assoc (spelling frame) (flat_map spelling frames) tail))
     (later_rest (taken log frame) more log frame frames last (flat_map spelling frames ++ tail) meaning each.0 refl (λ next came. behind_frames frames (Some next) last each.1 came more tail meaning rest) came)
 
--- ---- how far a log was read: frames that were all taken, and what stands behind them
+-- ---- how far a log was read: frames that were all taken, and what stands after them
 pub record Progress (before after : Option (List ℕ)) (log : Option LogSoFar) (rest : List ℕ) (count : ℕ) : Type 0 where
   pub bytes : List ℕ
   pub frames : List FrameContent
@@ -149,7 +149,7 @@ module _ (before after : Option (List ℕ)) (log : Option LogSoFar) (rest : List
     came = one_more p.frames None log frame next p.came is;
   }
 
-  -- the input ends behind what was read
+  -- the input ends after what was read
   ends : count ≤ 16777216 → IsAtEnd after → (meaning : Result Log LoadFault) → IsEnding false rest log meaning → IsDecided before after meaning
   ends few end meaning ending =
       let long : length p.bytes ≤ most_bytes = omega (arith, few, p.many) in
@@ -166,7 +166,7 @@ module _ (before after : Option (List ℕ)) (log : Option LogSoFar) (rest : List
         ),
       )
 
-  -- what was read decides, whatever stands behind it
+  -- what was read decides, whatever stands after it
   decides : count ≤ 16777216 → (meaning : Result Log LoadFault) → ((more : Bool) (extra : List ℕ) → IsRest more log (rest ++ extra) meaning) → IsDecided before after meaning
   decides few meaning rests = (
     p.bytes,

@@ -1,4 +1,4 @@
--- Why a log is not loaded, from why its stream ends or one of its frames is refused: want of memory is always Memory.
+-- Why a log is not loaded, from why its stream ends or one of its frames is refused: lack of memory is always Memory.
 use Rattle.stn_stream.specs.declared.fault.FrameFault.{FrameFault}
 use Rattle.stn_stream.specs.declared.fault.StreamFault.{StreamFault}
 use Rattle.stn_stream.specs.declared.fault.StreamFault.TheVariants as stream

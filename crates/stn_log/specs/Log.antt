@@ -51,7 +51,7 @@ joined version None log state = Ok (so_far version (record { source = log.source
 abbrev pub taken_in : Version → Log → Content → Result LogSoFar LoadFault
 taken_in version log state = joined version (take_refusal (holding_state log.source log.state) state) log state
 
--- a frame behind the first: RECORDS alone, of the version of the first
+-- a frame after the first: RECORDS alone, of the version of the first
 abbrev pub taken_later : Version → Log → FrameContent → Result LogSoFar LoadFault
 taken_later Old log (old_records state) = taken_in Old log state
 taken_later New log (records state) = taken_in New log state
@@ -73,7 +73,7 @@ abbrev pub all_taken : Option LogSoFar → List FrameContent → Result (Option 
 all_taken log [] = Ok log
 all_taken log (frame ∷ frames) = all_taken_by (λ next. all_taken next frames) (taken log frame)
 
--- what is answered for bytes of which all frames were taken, and behind which more bytes follow or none
+-- what is answered for bytes of which all frames were taken, and after which more bytes follow or none
 abbrev pub IsEnding : Bool → List ℕ → Option LogSoFar → Result Log LoadFault → Type 0
 IsEnding more behind log (Ok whole) = (more ≡ false) × (behind ≡ []) × (option_map (λ begun. begun.log) log ≡ Some whole)
 IsEnding more behind log (Err (Frame fault)) = IsFront behind (faulty fault)
@@ -81,12 +81,12 @@ IsEnding more behind log (Err LogForm) = (more ≡ false) × IsFront behind unfi
 IsEnding more behind log (Err Bound) = (more ≡ true) × IsFront behind unfinished
 IsEnding more behind log (Err other) = ⊥
 
--- the first frame that is refused decides; where none is, what stands behind the last whole one
+-- the first frame that is refused decides; where none is, what stands after the last whole one
 abbrev pub IsAnswer : Bool → List ℕ → Result (Option LogSoFar) LoadFault → Result Log LoadFault → Type 0
 IsAnswer more behind (Err fault) meaning = meaning ≡ Err fault
 IsAnswer more behind (Ok log) meaning = IsEnding more behind log meaning
 
--- what these bytes, behind the frames of a log, make of it
+-- what these bytes, after the frames of a log, make of it
 pub record IsRest (more : Bool) (log : Option LogSoFar) (bytes : List ℕ) (meaning : Result Log LoadFault) : Type 0 where
   pub frames : List FrameContent
   pub behind : List ℕ
@@ -103,7 +103,7 @@ abbrev pub IsDecided : Option (List ℕ) → Option (List ℕ) → Result Log Lo
 IsDecided old new meaning =
     (read : List ℕ) × Consumes old new read × ((IsAtEnd new × IsLog read meaning) ⊎ ((more : List ℕ) → IsLog (read ++ more) meaning))
 
--- what was read leaves a log open: whole frames that are all taken, and less than a frame behind them
+-- what was read leaves a log open: whole frames that are all taken, and less than a frame after them
 pub record IsOpen (old new : Option (List ℕ)) : Type 0 where
   pub frames : List FrameContent
   pub behind : List ℕ

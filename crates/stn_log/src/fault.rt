@@ -38,13 +38,13 @@ impl From<WriteFault> for SaveFault {
     }
 }
 
-/// Why a log was not loaded. The first frame with a fault decides. Want of memory is always `Memory`, wherever it came.
+/// Why a log was not loaded. The first frame with a fault decides. Lack of memory is always `Memory`, wherever it came.
 #[derive(Clone, Copy, Debug, PartialEq, Eq, Hash, Error)]
 pub enum LoadFault {
     /// A call of the reader failed.
     #[error("a read failed")]
     Read,
-    /// The log goes on behind 16,777,216 bytes.
+    /// The log goes on after 16,777,216 bytes.
     #[error("the log is too long")]
     Bound,
     /// The bytes of a frame have a fault.

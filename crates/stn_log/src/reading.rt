@@ -22,7 +22,7 @@ use stn_wire::Frame;
 /// The replica of a site by its log, of which at most 16,777,216 bytes are read. Each frame is taken before more is asked for.
 ///
 /// Faults: `Read`, `Memory`; else those of the frames in their order, and of one frame `Frame`, `LogForm`, `Base`, `Take`; where
-/// all whole frames were taken, `Bound` where the log goes on behind what is read, else `LogForm` where it ends before the first
+/// all whole frames were taken, `Bound` where the log goes on after what is read, else `LogForm` where it ends before the first
 /// frame or within one.
 pub fn load<R: Read, A: Allocator + Copy>(
     alloc: A,
@@ -37,7 +37,7 @@ pub fn load<R: Read, A: Allocator + Copy>(
     ensures end { OnOk result (IsAtEnd (R.remaining (counted_device reader.new))) }
     ensures site { IfOk result (λ replica. replica.site ≡ site) }
 
-    // A read that fails comes behind frames that are all taken.
+    // A read that fails comes after frames that are all taken.
     ensures open { IsErrOf result LoadFault.Read → IsOpen (R.remaining (counted_device reader.old))
         (R.remaining (counted_device reader.new)) }
 
@@ -130,7 +130,7 @@ fn open_by<A: Allocator + Copy>(
     Ok(Opened { version, replica })
 }
 
-// Takes a frame behind the first.
+// Takes a frame after the first.
 fn take_records<A: Allocator + Copy>(
     version: Version,
     replica: &mut Replica<A>,
@@ -151,7 +151,7 @@ fn take_records<A: Allocator + Copy>(
     }
 }
 
-// The records of a frame behind the first, where it is RECORDS of the log's version.
+// The records of a frame after the first, where it is RECORDS of the log's version.
 fn records_of<A: Allocator>(version: Version, frame: &Frame<A>) -> Option<&Records<A>>
     ensures { MatchOption result ((log : Log) → taken_later version log (content frame.now) ≡ Err LoadFault.LogForm)
         (λ records. (log : Log) → taken_later version log (content frame.now) ≡ taken_in version log records.now) }

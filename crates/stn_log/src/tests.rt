@@ -81,7 +81,7 @@ fn faults_of_the_first_frame(rt: HostRuntime) {
 #[test]
 fn faults_of_later_frames(rt: HostRuntime) {
     let rows: [(&[u8], LoadFault); 5] = [
-        // One version behind the other.
+        // One version after the other.
         (
             b"\x00\x00\x00\x04\x01\x00\x00\x01\x00\x00\x00\x05\x08\x00\x00\x00\x00",
             LoadFault::LogForm,

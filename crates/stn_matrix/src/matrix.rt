@@ -33,7 +33,7 @@ impl<A: Allocator> Model for Matrix<A> {
 }
 
 impl<A: Allocator> Matrix<A> {
-    /// The matrix of so many events beside the origin and their horizon bounds alone; for want of
+    /// The matrix of so many events beside the origin and their horizon bounds alone; for lack of
     /// memory none. It asks for memory once, and no other call does.
     pub fn bare(alloc: A, events: u16) -> Result<Matrix<A>, Memory>
         requires { events ≤ most_events }

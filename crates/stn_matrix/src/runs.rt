@@ -142,7 +142,7 @@ fn hubs_of(entries: &[i64], events: usize, arc: &Arc, columns: &[u16]) -> [Hub; 
     hubs
 }
 
-// Puts a hub in the place of the first, and moves it up to where it belongs.
+// Puts a hub in place of the first, and moves it up to where it belongs.
 fn rise(hubs: &mut [Hub; HUBS], hub: Hub) {
     hubs[0] = hub;
     for place in 1..HUBS {

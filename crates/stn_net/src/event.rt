@@ -90,7 +90,7 @@ impl Event {
         }
     }
 
-    /// Appends the printed form; for want of memory it appends nothing.
+    /// Appends the printed form; if memory runs out, it appends nothing.
     pub fn print<A: Allocator>(self, out: &mut Vec<u8, A>) -> Result<(), Memory>
         ensures printed { OnOk result (out.new.items ≡ out.old.items ++ event_text self) }
         ensures kept { OnErr result (out.new.items ≡ out.old.items) }

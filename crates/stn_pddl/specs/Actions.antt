@@ -40,7 +40,7 @@ named_action line name rest = fields rest no_values >>= λ values. action_of_val
 unfoldable pub is_taken : List ℕ → List ActionSchema → Bool
 is_taken name actions = list_any (λ action. is_same_word name action.name) actions
 
--- an action on a line, from what stands behind its head: a name that no earlier action has, and fields
+-- an action on a line, from what stands after its head: a name that no earlier action has, and fields
 unfoldable pub action : ℕ → Trees → List ActionSchema → Result ActionSchema DomainFault
 action line End earlier = Err (Syntax line)
 action line (Group at children next) earlier = Err (Syntax line)

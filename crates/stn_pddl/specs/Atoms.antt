@@ -20,7 +20,7 @@ term parameters line word =
     if is_variable word then parameter_at line (position (is_same_word word) parameters)
     else (if is_key word then Err (Syntax line) else Ok (Constant word))
 
--- terms from left to right, behind those that stood before
+-- terms from left to right, after those that stood before
 unfoldable pub terms : List (List ℕ) → Trees → List TermSchema → Result (List TermSchema) DomainFault
 terms parameters End before = Ok before
 terms parameters (Word line word next) before = term parameters line word >>= λ found. terms parameters next (before ++ found ∷ [])

@@ -25,7 +25,7 @@ is_effect EndEffect = true
 abbrev pub equal_tree : Label → ℕ → Trees → ActionSchema → Result ActionSchema DomainFault
 equal_tree label line rest action = if is_effect label then Err (Unsupported line) else equality line rest action
 
--- the list behind `not`, on its own line: an equality or an atom
+-- the list after `not`, on its own line: an equality or an atom
 unfoldable pub negated_tree : Label → ℕ → Trees → ActionSchema → Result ActionSchema DomainFault
 negated_tree label line End action = Err (Syntax line)
 negated_tree label line (Group at children next) action = Err (Syntax line)
@@ -46,7 +46,7 @@ negated_first label line End action = Err (Syntax line)
 negated_first label line (Word at word next) action = Err (Syntax at)
 negated_first label line (Group at children next) action = negated_tree label at children action
 
--- behind `not`, in a list on a line, stands exactly one tree
+-- after `not`, in a list on a line, stands exactly one tree
 unfoldable pub negation : Label → ℕ → Trees → ActionSchema → Result ActionSchema DomainFault
 negation label line rest action = if how_many rest == 1 then negated_first label line rest action else Err (Syntax line)
 
@@ -83,7 +83,7 @@ end_of Effect = EndEffect
 unfoldable pub labelled : Label → ℕ → Trees → ActionSchema → Result ActionSchema DomainFault
 labelled label line rest action = if how_many rest == 1 then plain_row label rest action else Err (Syntax line)
 
--- behind `at` stands `start` or `end`
+-- after `at` stands `start` or `end`
 unfoldable pub at_tree : Side → ℕ → Trees → ActionSchema → Result ActionSchema DomainFault
 at_tree side line End action = Err (Syntax line)
 at_tree side line (Group at children next) action = Err (Syntax line)
@@ -91,7 +91,7 @@ at_tree side line (Word at word rest) action =
     if is_same_word word (codes "start") then labelled (start_of side) line rest action
     else (if is_same_word word (codes "end") then labelled (end_of side) line rest action else Err (Syntax line))
 
--- behind `over`, in conditions alone, stands `all`
+-- after `over`, in conditions alone, stands `all`
 unfoldable pub over_tree : Side → ℕ → Trees → ActionSchema → Result ActionSchema DomainFault
 over_tree Effect line rest action = Err (Syntax line)
 over_tree Condition line End action = Err (Syntax line)

@@ -13,7 +13,7 @@ use Rattle.stn_pddl.specs.Words.{is_name, section_of}
 use Rattle.stn_pddl.specs.Schemas.{ActionSchema}
 use Rattle.stn_pddl.specs.Actions.{action}
 
--- one part of a domain, a list on a line, behind the actions that stood before
+-- one part of a domain, a list on a line, after the actions that stood before
 unfoldable pub part : ℕ → Trees → List ActionSchema → Result (List ActionSchema) DomainFault
 part line End before = Err (Syntax line)
 part line (Group at children next) before = Err (Syntax line)

@@ -13,7 +13,7 @@ use Rattle.stn_pddl.specs.declared.word.Field.TheVariants as field
 use Rattle.stn_pddl.specs.declared.word.Key.TheVariants as key
 use Rattle.stn_pddl.specs.Words.{item_of, key_of}
 
--- Parameters from left to right, behind those that stood before. Behind `-` one tree, the type, is skipped.
+-- Parameters from left to right, after those that stood before. After `-` one tree, the type, is skipped.
 unfoldable mutual
   pub parameters : Trees → List (List ℕ) → Result (List (List ℕ)) DomainFault
   parameters End before = Ok before
@@ -70,7 +70,7 @@ with_value field.Duration listing values = record values { duration = Some listi
 with_value field.Condition listing values = record values { condition = Some listing }
 with_value field.Effect listing values = record values { effect = Some listing }
 
--- pairs of a key and a value, behind those that stood before; a value is a list
+-- pairs of a key and a value, after those that stood before; a value is a list
 unfoldable mutual
   pub fields : Trees → Values → Result Values DomainFault
   fields End before = Ok before

@@ -52,7 +52,7 @@ head_of word =
     else (if is_other_logic word then head.OtherLogic
     else (if is_name word then head.Name else head.NoName))))))
 
--- a word of the list of parameters: a parameter has a byte behind its `?`
+-- a word of the list of parameters: a parameter has a byte after its `?`
 unfoldable pub item_of : List ℕ → Item
 item_of word =
     if is_variable word && nat_lt 1 (length word) then item.Parameter

@@ -48,7 +48,7 @@ impl<'a, A: Allocator + Copy> Actions<'a, A> {
         self.by_name.contains_key(&name)
     }
 
-    /// Takes an action up behind the others.
+    /// Takes an action up after the others.
     pub fn push(&mut self, action: Action<'a, A>) -> Result<(), AllocError>
         requires { is_taken (action_schema action).name self.old ≡ false }
         ensures { IfOk result (λ _. self.new ≡ self.old ++ action_schema action.entry ∷ []) }

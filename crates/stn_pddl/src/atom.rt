@@ -35,7 +35,7 @@ fn read_term<'a, A: Allocator + Copy>(
     }
 }
 
-/// The terms of a row, and the place behind the row.
+/// The terms of a row, and the place after the row.
 #[tactic(auto, unfolding(crate::specs::Atoms::terms))]
 fn read_terms<'a, A: Allocator + Copy>(
     alloc: A,
@@ -62,7 +62,7 @@ fn read_terms<'a, A: Allocator + Copy>(
 }
 
 impl<'a, A: Allocator + Copy> Action<'a, A> {
-    /// Takes up the atom of a predicate whose terms stand in a row, and gives the place behind the row.
+    /// Takes up the atom of a predicate whose terms stand in a row, and gives the place after the row.
     #[tactic(auto, unfolding(crate::specs::Atoms::atom, crate::specs::Views::action_schema))]
     pub(crate) fn read_atom(
         &mut self,
@@ -83,7 +83,7 @@ impl<'a, A: Allocator + Copy> Action<'a, A> {
         Ok(rest)
     }
 
-    /// Reads the terms of an equality on a line, and gives the place behind them.
+    /// Reads the terms of an equality on a line, and gives the place after them.
     #[tactic(auto, unfolding(crate::specs::Atoms::equality, crate::specs::Views::action_schema))]
     pub(crate) fn read_equality(
         &self,

@@ -61,7 +61,7 @@ impl<'a, A: Allocator + Copy> Action<'a, A> {
         self.read_plain_row(alloc, label, children)
     }
 
-    /// What stands behind `at`, in a list on a line.
+    /// What stands after `at`, in a list on a line.
     #[tactic(auto, unfolding(crate::specs::Conditions::at_tree))]
     fn read_at_tree(
         &mut self,
@@ -90,7 +90,7 @@ impl<'a, A: Allocator + Copy> Action<'a, A> {
         }
     }
 
-    /// What stands behind `over`, in a list on a line.
+    /// What stands after `over`, in a list on a line.
     #[tactic(auto, unfolding(crate::specs::Conditions::over_tree))]
     fn read_over_tree(
         &mut self,
@@ -120,7 +120,7 @@ impl<'a, A: Allocator + Copy> Action<'a, A> {
         }
     }
 
-    /// Takes up the trees of a row with their times, and gives the place behind the row.
+    /// Takes up the trees of a row with their times, and gives the place after the row.
     #[cycle(timed)]
     #[tactic(auto, unfolding(crate::specs::Conditions::timed_row))]
     fn read_timed_row(
@@ -146,7 +146,7 @@ impl<'a, A: Allocator + Copy> Action<'a, A> {
         }
     }
 
-    /// Takes up a list on a line as a condition or an effect with its times, and gives the place behind the list.
+    /// Takes up a list on a line as a condition or an effect with its times, and gives the place after the list.
     #[cycle(timed)]
     #[tactic(auto, unfolding(crate::specs::Conditions::timed_tree))]
     pub(crate) fn read_timed_tree(

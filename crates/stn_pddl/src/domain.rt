@@ -97,7 +97,7 @@ fn read_named_action<'a, A: Allocator + Copy>(
     read_lists(alloc, name, parameters, duration, values)
 }
 
-/// An action on a line, from what stands behind its head.
+/// An action on a line, from what stands after its head.
 #[tactic(auto, unfolding(crate::specs::Actions::action))]
 fn read_action<'a, A: Allocator + Copy>(
     alloc: A,

@@ -42,7 +42,7 @@ impl<'a, A: Allocator + Copy> Action<'a, A> {
         self.read_equality(alloc, line, children)
     }
 
-    /// The list behind `not`, on its own line.
+    /// The list after `not`, on its own line.
     #[tactic(auto, unfolding(crate::specs::Conditions::negated_tree))]
     fn read_negated_tree(
         &mut self,
@@ -70,7 +70,7 @@ impl<'a, A: Allocator + Copy> Action<'a, A> {
         }
     }
 
-    /// What stands behind `not`, in a list on a line.
+    /// What stands after `not`, in a list on a line.
     #[tactic(auto, unfolding(crate::specs::Conditions::negation))]
     fn read_negation(
         &mut self,
@@ -97,7 +97,7 @@ impl<'a, A: Allocator + Copy> Action<'a, A> {
         }
     }
 
-    /// Takes up the plain trees of a row, and gives the place behind the row.
+    /// Takes up the plain trees of a row, and gives the place after the row.
     #[cycle(plain)]
     #[tactic(auto, unfolding(crate::specs::Conditions::plain_row))]
     pub(crate) fn read_plain_row(
@@ -123,7 +123,7 @@ impl<'a, A: Allocator + Copy> Action<'a, A> {
         }
     }
 
-    /// Takes up a list on a line as a plain tree, and gives the place behind the list.
+    /// Takes up a list on a line as a plain tree, and gives the place after the list.
     #[cycle(plain)]
     #[tactic(auto, unfolding(crate::specs::Conditions::plain_tree))]
     fn read_plain_tree(

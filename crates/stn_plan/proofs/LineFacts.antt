@@ -9,7 +9,7 @@ unfolding lines_from text.lines_of
 no_lines number [] e = refl
 no_lines number (byte ∷ bytes) e = cc
 
--- the first line, and the lines behind it
+-- the first line, and the lines after it
 pub lines_cut : (number : ℕ) (bytes line behind : List ℕ) → text.lines_of bytes ≡ line ∷ text.lines_of behind
     → lines_from number bytes ≡ (number, line) ∷ lines_from (number + 1) behind
 unfolding lines_from

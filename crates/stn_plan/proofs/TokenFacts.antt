@@ -6,7 +6,7 @@ use Rattle.stn_plan.specs.declared.bytes.Kind.TheVariants as kind
 use Rattle.stn_plan.specs.Bytes.{kind_of}
 use Rattle.stn_plan.specs.Tokens.{Word, is_letter, is_word_byte, begins_word, before_letter, before_byte, tokens_of}
 
--- a byte of a kind before the tokens behind it
+-- a byte of a kind before the tokens after it
 pub tokens_before : (rest : List ℕ) (b : ℕ) (bytes : List ℕ) (found : Kind) → rest ≡ b ∷ bytes → found ≡ kind_of b
     → tokens_of rest ≡ before_byte found b (begins_word bytes) (tokens_of bytes)
 unfolding tokens_of
@@ -19,16 +19,16 @@ is_letter-Letter (kind.Mark mark) e = cc
 is_letter-Letter kind.Letter e = refl
 is_letter-Letter kind.Stray e = cc
 
--- a letter belongs to the word behind it
+-- a letter belongs to the word after it
 tokens_of-letter : (b : ℕ) (bytes : List ℕ) → is_word_byte b ≡ true → tokens_of (b ∷ bytes) ≡ before_letter b (begins_word bytes) (tokens_of bytes)
 unfolding tokens_of
 tokens_of-letter b bytes e = ap (λ found. before_byte found b (begins_word bytes) (tokens_of bytes)) (is_letter-Letter (kind_of b) e)
 
--- the tokens are one word, which goes up to a place, and the tokens behind it
+-- the tokens are one word, which goes up to a place, and the tokens after it
 abbrev BeginsWith : List ℕ → List ℕ → List ℕ → Type 0
 BeginsWith bytes word behind = tokens_of bytes ≡ Word word ∷ tokens_of behind
 
--- the letters behind the first one belong to its word
+-- the letters after the first one belong to its word
 tokens_of-step : (goes_on : Bool) (b c : ℕ) (bytes : List ℕ) → is_word_byte b ≡ true → is_word_byte c ≡ goes_on
     → (goes_on ≡ true → BeginsWith (c ∷ bytes) (c ∷ take (prefix_len is_word_byte bytes) bytes) (drop (prefix_len is_word_byte bytes) bytes))
     → BeginsWith (b ∷ c ∷ bytes) (b ∷ take (prefix_len is_word_byte (c ∷ bytes)) (c ∷ bytes)) (drop (prefix_len is_word_byte (c ∷ bytes)) (c ∷ bytes))
@@ -48,7 +48,7 @@ unfolding begins_word
 tokens_of-run b [] e = tokens_of-letter b [] e
 tokens_of-run b (c ∷ bytes) e = tokens_of-step (is_word_byte c) b c bytes e refl (λ more. tokens_of-run c bytes more)
 
--- the word that a byte of a word begins, and the tokens behind it
+-- the word that a byte of a word begins, and the tokens after it
 pub tokens_of-letters : (rest : List ℕ) (b : ℕ) (bytes : List ℕ) → rest ≡ b ∷ bytes → is_word_byte b ≡ true
     → tokens_of rest ≡ Word (take (prefix_len is_word_byte rest) rest) ∷ tokens_of (drop (prefix_len is_word_byte rest) rest)
 tokens_of-letters rest b bytes r e =

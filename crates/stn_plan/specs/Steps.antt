@@ -28,7 +28,7 @@ pub record Form : Type 0 where
   pub args : List (List ℕ)
   pub duration : Option (List ℕ)
 
--- `word* )`: the words, and the tokens behind the `)`
+-- `word* )`: the words, and the tokens after the `)`
 unfoldable pub args_of : ℕ → List Lexeme → Result (List (List ℕ) × List Lexeme) PlanFault
 args_of line (Word word ∷ tokens) = args_of line tokens >>= λ found. Ok (word ∷ found.0, found.1)
 args_of line (Sign Close ∷ tokens) = Ok ([], tokens)

@@ -40,12 +40,12 @@ with_letter b (Word word ∷ tokens) = Word (b ∷ word) ∷ tokens
 with_letter b (Sign mark ∷ tokens) = Sign mark ∷ tokens
 with_letter b (Stray ∷ tokens) = Stray ∷ tokens
 
--- a letter belongs to the word that begins behind it, or else is a word
+-- a letter belongs to the word that begins after it, or else is a word
 abbrev pub before_letter : ℕ → Bool → List Lexeme → List Lexeme
 before_letter b true tokens = with_letter b tokens
 before_letter b false tokens = Word (b ∷ []) ∷ tokens
 
--- the tokens with a byte before them, behind which a word begins or not; a comment goes on up to the end of the line
+-- the tokens with a byte before them, after which a word begins or not; a comment goes on up to the end of the line
 abbrev pub before_byte : Kind → ℕ → Bool → List Lexeme → List Lexeme
 before_byte kind.Space b more tokens = tokens
 before_byte kind.Comment b more tokens = []

@@ -8,15 +8,15 @@ use stn_text::{begins_comment, is_space, is_visible};
 /// A token of one byte.
 #[derive(Clone, Copy, Debug, PartialEq, Eq, Hash)]
 pub enum Mark {
-    /// `:`, behind the time of a step.
+    /// `:`, after the time of a step.
     Colon,
     /// `(`, before the action.
     Open,
-    /// `)`, behind the arguments.
+    /// `)`, after the arguments.
     Close,
     /// `[`, before a duration.
     OpenSquare,
-    /// `]`, behind a duration.
+    /// `]`, after a duration.
     CloseSquare,
 }
 

@@ -46,7 +46,7 @@ fn word_len(bytes: &[u8]) -> usize
         .count()
 }
 
-/// The first token of a line, and the bytes behind it.
+/// The first token of a line, and the bytes after it.
 #[tactic(auto, using(crate::proofs::TokenFacts::tokens_before), unfolding(crate::specs::Tokens::tokens_of))]
 fn first_token(line: &[u8]) -> Option<(Token<'_>, &[u8])>
     ensures { MatchOption result (tokens_of line.now ≡ []) (λ found. tokens_of line.now ≡ lexeme_of found.0 ∷ tokens_of found.1.now) }

@@ -8,7 +8,7 @@ use Rattle.stn_lift.specs.BaseBounds.{duration_of}
 use Rattle.stn_lift.specs.PlanSource.{PlanSource, bare, files, activities_of}
 use Rattle.stn_replica.specs.Lines.{line}
 
--- the action, and behind a space each of its arguments
+-- the action, and after a space each of its arguments
 abbrev pub words_text : List ℕ → List (List ℕ) → List ℕ
 words_text action arguments = action ++ flat_map (λ argument. codes " " ++ argument) arguments
 

@@ -10,7 +10,7 @@ use stn_time::{HORIZON, Memory, Ms};
 
 /// Appends a line for each of all bounds, the plan's own first and then those of the live records: its
 /// name in reports, its events, and its sides, each a time or `*` where it is open. The bounds need no
-/// schedule. For want of memory it appends nothing.
+/// schedule. If memory runs out, it appends nothing.
 pub fn print_bounds<A: Allocator + Copy, B: Allocator>(
     replica: &Replica<A>,
     out: &mut Vec<u8, B>,

@@ -21,7 +21,7 @@ use stn_windows::{Next, ready_times};
 /// Appends which events may run from now on: a line for each event that may run at some time from now
 /// on, with the first and the last such time, by first time and then by number. Where all bounds have
 /// no schedule, that is `conflict`; where every event is done, `all done`; and where no event may run
-/// any more, `overdue` and the event that `next` names. For want of memory it appends nothing.
+/// any more, `overdue` and the event that `next` names. If memory runs out, it appends nothing.
 pub fn print_ready<A: Allocator + Copy, B: Allocator>(
     replica: &Replica<A>,
     now: Ms,

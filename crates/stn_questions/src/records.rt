@@ -10,7 +10,7 @@ use stn_time::Memory;
 
 /// Appends a line for each known id, in order: the id; its record's bound, where the record is known,
 /// with `done` where it says that its event is done; `amends` and the old id, where the record replaces
-/// one; `withdrawn` where the id is, and `replaced` where a record replaces it. For want of memory it
+/// one; `withdrawn` where the id is, and `replaced` where a record replaces it. If memory runs out, it
 /// appends nothing.
 pub fn print_records<A: Allocator + Copy, B: Allocator>(
     replica: &Replica<A>,

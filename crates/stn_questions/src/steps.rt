@@ -76,7 +76,7 @@ fn append_planned<A: Allocator + Copy>(
     Ok(())
 }
 
-// The plan of the text of one that was read before, so that nothing but memory can be wanting.
+// The plan of the text of one that was read before, so that nothing but memory can be lacking.
 fn read_again<'a, A: Allocator + Copy>(alloc: A, text: &'a [u8]) -> Result<Plan<'a, A>, Memory>
     ensures { IfOk result (λ plan. plan.steps ≡ planned_steps text.now) }
 {

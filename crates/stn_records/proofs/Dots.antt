@@ -35,7 +35,7 @@ pub dot_there : (xs ys : List ℕ) → All NotDot (xs ++ (46 ∷ ys)) → ⊥
 dot_there [] ys h = All-head NotDot 46 ys h refl
 dot_there (x ∷ xs) ys h = dot_there xs ys (All-tail NotDot x (xs ++ (46 ∷ ys)) h)
 
--- the printed form, as what stands before its dot and behind it
+-- the printed form, as what stands before its dot and after it
 pub text_split : (id : SiteCounter) → id_text id ≡ decimal id.site ++ (46 ∷ decimal id.counter)
 text_split id = append_assoc (decimal id.site) (46 ∷ []) (decimal id.counter)
 

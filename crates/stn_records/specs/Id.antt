@@ -49,7 +49,7 @@ id_text id = decimal id.site ++ codes "." ++ decimal id.counter
 abbrev pub coded_id : Coded SiteCounter
 coded_id = code_by (ℕ × ℕ) (coded× coded_ℕ coded_ℕ) (λ id. (id.site, id.counter)) (λ p. record { site = p.0; counter = p.1 }) (λ _. refl)
 
--- the text is what stands before its first dot, the dot, and what stands behind it
+-- the text is what stands before its first dot, the dot, and what stands after it
 pub record SplitsAtDot (text before behind : List ℕ) : Type 0 where
   pub parts : text ≡ before ++ (46 ∷ behind)
   pub first : All (λ byte. byte ≢ 46) before

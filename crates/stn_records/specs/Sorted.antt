@@ -48,7 +48,7 @@ module _ {K X : Type 0} (R : K → K → Ordering) where
   merge [] ys = ys
   merge (x ∷ xs) ys = merge_from x (merge xs) ys
 
--- the entries behind the first, where that has the id
+-- the entries after the first, where that has the id
 abbrev pub past_id : {X : Type 0} → SiteCounter → List (SiteCounter × X) → List (SiteCounter × X)
 past_id id [] = []
 past_id id (entry ∷ rest) = if eq_by_cmp id_cmp entry.0 id then rest else (entry ∷ rest)

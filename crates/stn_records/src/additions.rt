@@ -71,7 +71,7 @@ impl<A: Allocator + Copy> Additions<A> {
         self.records.get(id)
     }
 
-    /// Adds the record of a new id; for want of memory nothing is changed.
+    /// Adds the record of a new id; if memory runs out, nothing is changed.
     pub fn insert(&mut self, id: Id, entry: Record) -> Result<(), Memory>
         requires proper { IsProper entry.mark entry.bound }
         requires new { map.get self.old id ≡ None }
@@ -81,7 +81,7 @@ impl<A: Allocator + Copy> Additions<A> {
         self.records.insert(id, entry)
     }
 
-    // Adds a record, unless it is there; for want of memory nothing is changed.
+    // Adds a record, unless it is there; if memory runs out, nothing is changed.
     pub(crate) fn put(&mut self, id: Id, entry: Record) -> Result<(), Memory>
         requires proper { IsProper entry.mark entry.bound }
         requires agrees { AgreesAt self.old id entry }

@@ -115,7 +115,7 @@ impl Id {
         }
     }
 
-    /// Appends the printed form; for want of memory it appends nothing.
+    /// Appends the printed form; if memory runs out, it appends nothing.
     pub fn print<A: Allocator>(self, out: &mut Vec<u8, A>) -> Result<(), Memory>
         ensures printed { OnOk result (out.new.items ≡ out.old.items ++ id_text self) }
         ensures kept { OnErr result (out.new.items ≡ out.old.items) }
@@ -154,7 +154,7 @@ fn read_numbers(site: &[u8], counter: &[u8]) -> Option<Id>
     Id::new(site, counter)
 }
 
-// What stands before the first dot, and what behind it.
+// What stands before the first dot, and what after it.
 fn split_at_dot(text: &[u8]) -> Option<(&[u8], &[u8])>
     ensures parts { IfSome result (λ parts. SplitsAtDot text.now parts.0.now parts.1.now) }
     ensures none { IsNone result → All (λ byte. byte ≢ 46) text.now }

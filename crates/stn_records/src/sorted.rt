@@ -188,7 +188,7 @@ pub(crate) fn greatest_counter<X>(entries: &[(Id, X)], site: Site) -> u16
     }
 }
 
-// The place behind the entries of the site and of lesser ones.
+// The place after the entries of the site and of lesser ones.
 fn end_of<X>(entries: &[(Id, X)], site: Site) -> usize
     requires { IsTrue (is_sorted id_cmp entries.now) }
     ensures { IsEndOf entries.now site result }
@@ -242,7 +242,7 @@ pub(crate) fn lesser(a: Option<Id>, b: Option<Id>) -> Option<Id>
     }
 }
 
-// The entries behind the first, where that is the id's.
+// The entries after the first, where that is the id's.
 fn past<X>(entries: &[(Id, X)], id: Id) -> &[(Id, X)]
     ensures { result.now ≡ past_id id entries.now }
 {

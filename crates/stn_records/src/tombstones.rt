@@ -70,7 +70,7 @@ impl<A: Allocator + Copy> Tombstones<A> {
         self.ids.get(id).is_some()
     }
 
-    /// Withdraws an id that was not; for want of memory nothing is changed.
+    /// Withdraws an id that was not; if memory runs out, nothing is changed.
     pub fn insert(&mut self, id: Id) -> Result<(), Memory>
         requires { map.get self.old id ≡ None }
         ensures inserted { OnOk result (self.new ≡ map.insert self.old id tt) }

@@ -23,7 +23,7 @@ module _ {X : Type 0} where
   seen_with P all items place e same within at seen this =
       All-same P (take (place + 1) all) (take place all ++ e ∷ []) (one_more_seen all items place e same within at) (All-push P (take place all) e seen this)
 
-  -- behind the last all have been seen
+  -- after the last all have been seen
   pub all_seen : (all items : List X) (place : ℕ) → items ≡ all → length items ≤ place → take place all ≡ all
   all_seen all items place same past = take_all place all (subst (λ xs. length xs ≤ place) same past)
 

@@ -14,7 +14,7 @@ use Rattle.stn_replica.specs.Invariant.{IsSettled}
 pub schedule_before : (bounds more : List Difference) (time : ℕ → ℤ) → IsSchedule (bounds ++ more) time → IsSchedule bounds time
 schedule_before bounds more time s = record { origin = s.origin; met = All-left (Meets time) bounds more s.met }
 
--- and meets those behind
+-- and meets those after
 pub met_behind : (bounds more : List Difference) (time : ℕ → ℤ) → IsSchedule (bounds ++ more) time → All (Meets time) more
 met_behind bounds more time s = All-right (Meets time) bounds more s.met
 

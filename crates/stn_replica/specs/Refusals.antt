@@ -1,4 +1,4 @@
--- Why a replica refuses a call: the first cause that stands against it. Where there is none, nothing but want of memory can stop it.
+-- Why a replica refuses a call: the first cause that stands against it. Where there is none, nothing but lack of memory can stop it.
 use Rattle.std.specs.Prelude.{ℕ, Bool, not, ◌==◌, ◌&&◌, nat_lt, nat_le, int_lt, Option, option_map}
 use Rattle.std.specs.Bool.{then_some}
 use Rattle.std.specs.Option.{option_or}

@@ -34,8 +34,8 @@ impl<A: Allocator + Copy> Replica<A> {
         Ok(bounds)
     }
 
-    /// Appends what the report says of bounds that have no schedule, from the line `conflict` on. For
-    /// want of memory it appends nothing.
+    /// Appends what the report says of bounds that have no schedule, from the line `conflict` on. If
+    /// memory runs out, it appends nothing.
     pub fn report_conflict<B: Allocator>(&self, out: &mut Vec<u8, B>) -> Result<(), Memory>
         requires { ¬ HasSchedule (all_bounds self.now.source self.now.state) }
         ensures part { OnOk result ((text : List ℕ) × IsConflictPart self.now.source self.now.state text × (out.new.items ≡ out.old.items ++ text)) }

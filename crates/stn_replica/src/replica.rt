@@ -71,7 +71,7 @@ impl<A: Allocator + Copy> Replica<A> {
     }
 
     /// The replica of another site of the same plan that holds nothing yet. What both know of the plan's own bounds is shared, so
-    /// that no bound is taken anew.
+    /// that no bound is taken again.
     pub fn beside(&self, site: Site) -> Result<Replica<A>, Memory>
         ensures site { IfOk result (λ replica. replica.site ≡ site) }
         ensures source { IfOk result (λ replica. replica.source ≡ self.now.source) }

@@ -27,7 +27,7 @@ impl<A: Allocator + Copy> Replica<A> {
     /// Appends the report: how many steps, events, live records and replaced ids there are; then, where
     /// all bounds have a schedule, the window of each event, and else one cycle of bounds that
     /// contradict each other. It depends on the plan and the state alone, and has at most 65,536
-    /// bytes. For want of memory it appends nothing.
+    /// bytes. If memory runs out, it appends nothing.
     pub fn report<B: Allocator>(&self, out: &mut Vec<u8, B>) -> Result<(), Memory>
         ensures reported { OnOk result ((text : List ℕ) × IsReport self.now.source self.now.state text × (out.new.items ≡ out.old.items ++ text)) }
         ensures short { OnOk result (length out.new.items ≤ length out.old.items + most_report) }

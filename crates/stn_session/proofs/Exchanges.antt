@@ -138,7 +138,7 @@ module _ (source : PlanSource) (first : Content) (before mid after : Option (Lis
     pub next_refused : (fault : ReplyFault) → staged source stage state (content frame) ≡ at_stage (failed fault) state → IsReceived source first before after state (Err fault)
     next_refused fault leads = refusal_came source first before after (pending new) new.count fault state (next_came (failed fault) state leads) (omega (arith, f.found.3, f.found.4))
 
-    -- want of memory: the frame is not taken
+    -- lack of memory: the frame is not taken
     pub next_kept : IsWaiting stage → IsReceived source first before after state (Err Memory)
     next_kept waits =
         lost source first before after _ _ stage state (read_on source first before mid (pending old) old.count stage state p after f.bytes f.consumed) waits Memory

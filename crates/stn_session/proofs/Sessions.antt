@@ -100,7 +100,7 @@ module _ (first : Session) (before after old new : Option (List ℕ)) (rest : Li
   reached_all : Reaches first (p.bytes ++ more) p.session (rest ++ more)
   reached_all = reaches_more first p.bytes p.session rest more p.reached
 
-  -- the input ends behind the last frame, or within one
+  -- the input ends after the last frame, or within one
   pub closes : taken + length more ≤ 16777216 → rest ++ more ≡ [] → IsServed first before last old new state (record { frames = count; end = Closed })
   closes few none = record {
     bytes = p.bytes ++ more;
@@ -310,7 +310,7 @@ module _ (first : Session) (before after old new : Option (List ℕ)) (rest : Li
           left = left ∙ sym (ap (λ (s : Session). s.state) next_is);
         }
 
-    -- want of memory: the frame was taken or not
+    -- lack of memory: the frame was taken or not
     pub frame_kept : Appends new then [] → now ≡ state → IsBroken first before last old then now Memory
     frame_kept none same = record {
       bytes = p.bytes ++ more;

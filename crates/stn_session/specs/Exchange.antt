@@ -71,7 +71,7 @@ abbrev pub told_by : Content → FrameContent → Reception
 told_by state (text bytes) = at_stage (told bytes) state
 told_by state other = at_stage (failed (unexpected other)) state
 
--- a frame by the stage; what stands behind the text, or behind what was refused, is not judged
+-- a frame by the stage; what stands after the text, or after what was refused, is not judged
 abbrev pub staged : PlanSource → Stage → Content → FrameContent → Reception
 staged source greeting state frame = greeted_by state frame
 staged source handing state frame = handed source state frame
@@ -91,7 +91,7 @@ IsWaiting telling = ⊤
 IsWaiting (told bytes) = ⊥
 IsWaiting (failed fault) = ⊥
 
--- why no further reply came, of so many bytes that were read, with these behind the frames: the input ended, or the rest shows a fault, or
+-- why no further reply came, of so many bytes that were read, with these after the frames: the input ended, or the rest shows a fault, or
 -- the reader failed; Bound comes with the first byte beyond the limit
 abbrev pub IsLost : List ℕ → ℕ → Option (List ℕ) → ReplyFault → Type 0
 IsLost rest many after Reply = (many ≤ most_bytes) × IsFront rest unfinished × IsAtEnd after

@@ -32,14 +32,14 @@ AreReplies (reply ∷ replies) bytes = (first : List ℕ) × (later : List ℕ) 
 abbrev pub WritesReplies : Option (List ℕ) → Option (List ℕ) → List Reply → Type 0
 WritesReplies old new replies = (bytes : List ℕ) × AreReplies replies bytes × Appends old new bytes
 
--- the bytes are frames and what stands behind them, and with the frames the session came to be what it is
+-- the bytes are frames and what stands after them, and with the frames the session came to be what it is
 pub record Reaches (first : Session) (bytes : List ℕ) (session : Session) (rest : List ℕ) : Type 0 where
   pub frames : List FrameContent
   pub each : AllByRecursion IsFrame frames
   pub cut : bytes ≡ flat_map spelling frames ++ rest
   pub talked : session ≡ talked first frames
 
--- how a session ends, by what stands behind its frames, and what it is then: nothing does; less than a frame does; a reply ended it,
+-- how a session ends, by what stands after its frames, and what it is then: nothing does; less than a frame does; a reply ended it,
 -- or a fault does
 abbrev pub Ends : Session → List ℕ → End → Session → Type 0
 Ends session rest Closed last = (session.ended ≡ None) × (rest ≡ []) × (last ≡ session)
@@ -83,7 +83,7 @@ pub record WritesPart (old new : Option (List ℕ)) (session next : Session) : T
   pub whole : AreReplies next.replies (done ++ (part ++ later))
   pub appended : Appends old new (done ++ part)
 
--- what a fault leaves of a session that answered some frames, with this rest behind them. Read: no whole frame is left. Bound: nor before
+-- what a fault leaves of a session that answered some frames, with this rest after them. Read: no whole frame is left. Bound: nor before
 -- the first byte beyond the limit. Memory: the next frame was taken or not, and is not answered. Write: it was taken, and part of
 -- its reply may be written
 abbrev pub Leaves : ℕ → Session → List ℕ → Option (List ℕ) → Option (List ℕ) → Content → ServeFault → Type 0

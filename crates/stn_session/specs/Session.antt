@@ -16,7 +16,7 @@ same_source (files domain plan) (files other last) = bytes_eq domain other && by
 same_source (bare ours) (files other last) = false
 same_source (files domain plan) (bare theirs) = false
 
--- the code of a refusal; want of memory has none
+-- the code of a refusal; lack of memory has none
 abbrev pub refusal_code : ReplicaFault → Option ℕ
 refusal_code (Bound NoEvent) = Some 4
 refusal_code (Bound SameEvent) = Some 5

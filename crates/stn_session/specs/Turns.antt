@@ -40,7 +40,7 @@ WroteRefused code old new (Err serve.Write) = AppendsPart old new (spelling (ref
 WroteRefused code old new (Err serve.Memory) = Appends old new []
 WroteRefused code old new (Err other) = ⊥
 
--- the next frame of the bytes, behind which the rest is pending; or why there is none
+-- the next frame of the bytes, after which the rest is pending; or why there is none
 abbrev pub IsFound : {A : Type 0} → List ℕ → ℕ → Stream → Option (List ℕ) → Result (Frame A) ReplyFault → Type 0
 IsFound bytes many new after (Ok frame) = IsFrame (content frame) × (bytes ≡ spelling (content frame) ++ pending new) × IsReading new × (new.count ≡ many) × (many ≤ most_bytes)
 IsFound bytes many new after (Err fault) = IsLost bytes many after fault

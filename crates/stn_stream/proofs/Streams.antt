@@ -14,7 +14,7 @@ use Rattle.stn_stream.specs.Pieces.{IsFed, IsFilled}
 use Rattle.stn_stream.specs.declared.fault.StreamFault.{StreamFault}
 use Rattle.stn_stream.specs.declared.fault.StreamFault.TheVariants.{Read, Bound, Memory}
 
--- a frame was taken, and what stands behind it is pending
+-- a frame was taken, and what stands after it is pending
 frame_taken : (held rest : List ℕ) (used : ℕ) (frame : FrameContent) → IsFront (held ++ rest) (whole frame (length held + used)) → held ++ rest ≡ spelling frame ++ drop used rest
 frame_taken held rest used frame h =
     sym (take-append-drop (length held + used) (held ++ rest))
@@ -35,7 +35,7 @@ fed_is old new piece at used None rest feeder behind is h held left =
       none,
     )
 
--- more bytes are pending behind those that were read since the first
+-- more bytes are pending after those that were read since the first
 module _ (first mid new : Stream) (a b c : Option (List ℕ)) (bytes : List ℕ) (read : Consumes a b bytes) (held : pending mid ≡ pending first ++ bytes) (taken : mid.count ≡ first.count + length bytes) where
   pub filled_more : (more : Bool) → more ≡ true → IsFilled mid new b c (Ok more)
       → (all : List ℕ) × Consumes a c all × (pending new ≡ pending first ++ all) × (new.count ≡ first.count + length all)

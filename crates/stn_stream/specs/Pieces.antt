@@ -13,14 +13,14 @@ use Rattle.stn_stream.specs.Stream.{pending}
 use Rattle.stn_stream.specs.declared.fault.StreamFault.{StreamFault}
 use Rattle.stn_stream.specs.declared.fault.StreamFault.TheVariants.{Read, Bound, Memory}
 
--- what taking what was read answers: the first frame that it completes, and the bytes behind it are pending; or none, and all of it is held
+-- what taking what was read answers: the first frame that it completes, and the bytes after it are pending; or none, and all of it is held
 abbrev pub IsFed : {A : Type 0} → Stream → Stream → Result (Option (Frame A)) WireFault → Type 0
 IsFed old new (Ok (Some given)) = IsFrame (content given) × (pending old ≡ spelling (content given) ++ pending new)
 IsFed old new (Ok None) = IsFront (pending old) unfinished × (pending new ≡ pending old) × (new.behind ≡ [])
 IsFed old new (Err wire.Memory) = ⊤
 IsFed old new (Err fault) = IsFront (pending old) (faulty fault)
 
--- what reading one piece more answers: whether there is one, which is pending behind what was held; or a fault. Bound shows a
+-- what reading one piece more answers: whether there is one, which is pending after what was held; or a fault. Bound shows a
 -- byte beyond the limit
 abbrev pub IsFilled : Stream → Stream → Option (List ℕ) → Option (List ℕ) → Result Bool StreamFault → Type 0
 IsFilled old new before after (Ok true) =

@@ -38,7 +38,7 @@ pending stream = stream.held ++ stream.behind
 abbrev pub IsReading : Stream → Type 0
 IsReading stream = stream.broken ≡ None
 
--- what stands in front of some bytes: a frame, and the bytes behind it are pending; a fault; the end between two frames, or
+-- what stands in front of some bytes: a frame, and the bytes after it are pending; a fault; the end between two frames, or
 -- within one. Read and Bound come where no frame was left, Bound with a byte beyond the limit
 abbrev pub IsNext : {A : Type 0} → List ℕ → Stream → Result (Next A) StreamFault → Type 0
 IsNext bytes new (Ok (frame given)) = IsFrame (content given) × (bytes ≡ spelling (content given) ++ pending new) × IsReading new
@@ -55,7 +55,7 @@ IsCounted count new (Ok next) = (new.count ≡ count) × (count ≤ most_bytes)
 IsCounted count new (Err Bound) = count ≡ most_bytes + 1
 IsCounted count new (Err other) = count ≤ most_bytes
 
--- the bytes that were read for an answer, behind those that were pending
+-- the bytes that were read for an answer, after those that were pending
 pub record Gives {A : Type 0} (old new : Stream) (before after : Option (List ℕ)) (answer : Result (Next A) StreamFault) : Type 0 where
   pub bytes : List ℕ
   pub consumed : Consumes before after bytes

@@ -25,7 +25,7 @@ pub enum Next<A: Allocator> {
     Frame(Frame<A>),
     /// Bytes that begin no frame.
     Faulty(FrameFault),
-    /// The end, behind the last frame.
+    /// The end, after the last frame.
     Closed,
     /// The end, within a frame.
     Cut,
@@ -134,7 +134,7 @@ impl<A: Allocator + Copy> FrameReader<A> {
         }
     }
 
-    // The end, which came behind what is held.
+    // The end, which came after what is held.
     fn end(&self) -> Next<A>
         requires { self.now.behind ≡ [] }
         ensures closed { result ≡ Closed → pending self.now ≡ [] }

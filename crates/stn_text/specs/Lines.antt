@@ -21,7 +21,7 @@ without_empty_last (part ∷ parts) = part ∷ without_empty_last parts
 unfoldable pub lines_of : List ℕ → List (List ℕ)
 lines_of text = without_empty_last (slice_split is_line_end text)
 
--- byte for byte the text is a line, the LF behind it, and the rest; or the line alone
+-- byte for byte the text is a line, the LF after it, and the rest; or the line alone
 abbrev pub IsCutBehindLine : List ℕ → List ℕ → List ℕ → Type 0
 IsCutBehindLine text line rest = (text ≡ line ++ line_feed ∷ rest) ⊎ ((text ≡ line) × (rest ≡ []))
 

@@ -3,8 +3,8 @@ ghost use Rattle.stn_text.specs.Lines.{IsCutBehindLine, lines_of, words_of, is_l
 
 use crate::bytes::LINE_FEED;
 
-/// The first line of a text that is not empty, without its LF, and the text behind it: byte for byte the text is the line, the
-/// LF where it has one, and what stands behind.
+/// The first line of a text that is not empty, without its LF, and the text after it: byte for byte the text is the line, the
+/// LF where it has one, and what stands after.
 pub fn first_line(text: &[u8]) -> (&[u8], &[u8])
     requires { 0 < length text.now }
     ensures lines { lines_of text.now ≡ result.0.now ∷ lines_of result.1.now }
@@ -17,7 +17,7 @@ pub fn first_line(text: &[u8]) -> (&[u8], &[u8])
     }
 }
 
-/// The first word of a line, and the line behind it; none where the line has no words.
+/// The first word of a line, and the line after it; none where the line has no words.
 pub fn first_word(line: &[u8]) -> Option<(&[u8], &[u8])>
     ensures words { MatchOption result (words_of line.now ≡ [])
         (λ parts. words_of line.now ≡ parts.0.now ∷ words_of parts.1.now) }

@@ -38,7 +38,7 @@ pub fn read_decimal(text: &[u8]) -> Option<u16>
     }
 }
 
-/// Appends the prefix and the decimal form of the number; for want of memory it appends nothing.
+/// Appends the prefix and the decimal form of the number; if memory runs out, it appends nothing.
 pub fn append_decimal<A: Allocator>(
     out: &mut Vec<u8, A>,
     prefix: &[u8],

@@ -1,4 +1,4 @@
--- What holds of each element of a list holds of the elements of its parts, and of one list behind another.
+-- What holds of each element of a list holds of the elements of its parts, and of one list after another.
 use Rattle.std.proofs.Common.{List, [], ◌∷◌, ◌++◌}
 use Rattle.std.specs.List.{All, AllByRecursion}
 use Rattle.std.proofs.lemmas.List.Elements.{All-from_recursion, recursion_from_All}

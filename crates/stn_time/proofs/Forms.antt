@@ -49,7 +49,7 @@ AllDigits-front : (bytes : List ℕ) → AllDigits 10 (take (prefix_len is_ascii
 AllDigits-front [] = tt
 AllDigits-front (c ∷ cs) = rw (take_while-cons is_ascii_digit c cs) (front-cons c (take (prefix_len is_ascii_digit cs) cs) (is_ascii_digit c) refl (AllDigits-front cs))
 
--- behind the whole digits stands no digit
+-- after the whole digits stands no digit
 prefix_len-point : (fraction : List ℕ) → prefix_len is_ascii_digit (point_text fraction) ≡ 0
 prefix_len-point [] = refl
 prefix_len-point (c ∷ cs) = refl
@@ -59,7 +59,7 @@ fraction_of-point : (fraction : List ℕ) → AllDigits 10 fraction → fraction
 fraction_of-point [] h = refl
 fraction_of-point (c ∷ cs) h = let digits : all_ascii_digits (c ∷ cs) ≡ true = own.from (c ∷ cs) h in rw digits refl
 
--- one digit or more behind a point
+-- one digit or more after a point
 point-numeral : (digits : List ℕ) → is_numeral digits ≡ true → AllDigits 10 digits × (46 ∷ digits ≡ point_text digits)
 point-numeral [] h = absurd (false≢true h)
 point-numeral (digit ∷ digits) h = (own.to (digit ∷ digits) h, refl)
@@ -87,7 +87,7 @@ parts_with-text negative whole fraction numeral digits =
     let some_digits : eqb (length whole) 0 ≡ false = eqb-false-from (length whole) numeral.0 in
     rw end (rw some_digits (rw front (rw back (rw found refl))))
 
--- what parts that were found behind the sign say of the bytes there
+-- what parts that were found after the sign say of the bytes there
 record HasBytes (negative : Bool) (bytes : List ℕ) (parts : Parts) : Type 0 where
   pub sign : parts.negative ≡ negative
   pub whole : IsNumeral 10 parts.whole

@@ -10,7 +10,7 @@ use Rattle.std.specs.List.{list_all}
 use Rattle.std.specs.Str.Parse.{AllDigits, IsNumeral, digits_value}
 use Rattle.stn_time.specs.Time.{IsWithinHorizon}
 
--- the parts of a time text: whether a `-` stands first, the digits of the whole seconds, and the digits behind the
+-- the parts of a time text: whether a `-` stands first, the digits of the whole seconds, and the digits after the
 -- point, none where there is no point
 pub record Parts : Type 0 where
   pub negative : Bool
@@ -21,7 +21,7 @@ pub record Parts : Type 0 where
 abbrev pub these_parts : Bool → List ℕ → List ℕ → Parts
 these_parts negative whole fraction = record { negative = negative; whole = whole; fraction = fraction }
 
--- a point and the digits behind it; nothing where there are no digits
+-- a point and the digits after it; nothing where there are no digits
 abbrev pub point_text : List ℕ → List ℕ
 point_text [] = []
 point_text (digit ∷ digits) = codes "." ++ (digit ∷ digits)
@@ -30,7 +30,7 @@ point_text (digit ∷ digits) = codes "." ++ (digit ∷ digits)
 abbrev pub text_of : Parts → List ℕ
 text_of parts = sign_text parts.negative ++ (parts.whole ++ point_text parts.fraction)
 
--- the text has the form of a time, with these parts: one whole digit or more, and only digits behind the point
+-- the text has the form of a time, with these parts: one whole digit or more, and only digits after the point
 pub record HasParts (text : List ℕ) (parts : Parts) : Type 0 where
   pub whole : IsNumeral 10 parts.whole
   pub fraction : AllDigits 10 parts.fraction
@@ -40,11 +40,11 @@ pub record HasParts (text : List ℕ) (parts : Parts) : Type 0 where
 abbrev pub IsTimeForm : List ℕ → Type 0
 IsTimeForm text = (parts : Parts) × HasParts text parts
 
--- each digit past the third behind the point is `0`
+-- each digit past the third after the point is `0`
 abbrev pub is_fine : Parts → Bool
 is_fine parts = list_all (λ digit. digit == 48) (drop 3 parts.fraction)
 
--- the first three digits behind the point, with zeros in place of those that are missing, as a number
+-- the first three digits after the point, with zeros in place of those that are missing, as a number
 abbrev pub thousandths_of : List ℕ → ℕ
 thousandths_of fraction = digits_value 10 (take 3 (fraction ++ codes "000"))
 
@@ -63,7 +63,7 @@ pub record Spells (text : List ℕ) (millis : ℤ) : Type 0 where
   pub fine : IsTrue (is_fine parts)
   pub number : millis ≡ millis_of parts
 
--- the text has the form of a time, and some digit past the third behind its point is not `0`
+-- the text has the form of a time, and some digit past the third after its point is not `0`
 pub record IsTooFine (text : List ℕ) : Type 0 where
   pub parts : Parts
   pub form : HasParts text parts

@@ -20,7 +20,7 @@ abbrev pub is_numeral : List ℕ → Bool
 is_numeral [] = false
 is_numeral (digit ∷ digits) = all_ascii_digits (digit ∷ digits)
 
--- the digits behind the point, of what follows the whole seconds: nothing, or a point and one digit or more
+-- the digits after the point, of what follows the whole seconds: nothing, or a point and one digit or more
 abbrev pub fraction_of : List ℕ → Option (List ℕ)
 fraction_of [] = Some []
 fraction_of (byte ∷ digits) = if (byte == 46) && is_numeral digits then Some digits else None

@@ -10,7 +10,7 @@ use std::alloc::Allocator;
 
 impl Ms {
     /// Appends the printed form: `-` for a negative time, the whole seconds without leading zeros, a point and exactly
-    /// three digits. Zero has no sign. Want of memory leaves `out` as it was.
+    /// three digits. Zero has no sign. Lack of memory leaves `out` as it was.
     pub fn print<A: Allocator>(self, out: &mut Vec<u8, A>) -> Result<(), Memory>
         ensures ok { OnOk result (out.new.items ≡ out.old.items ++ printed self) }
         ensures kept { OnErr result (out.new.items ≡ out.old.items) }
@@ -37,7 +37,7 @@ pub fn print_millis<A: Allocator>(millis: i64, out: &mut Vec<u8, A>) -> Result<(
     outcome
 }
 
-// Want of memory may leave a part of the printed form.
+// Lack of memory may leave a part of the printed form.
 fn append_printed<A: Allocator>(millis: i64, out: &mut Vec<u8, A>) -> Result<(), Memory>
     ensures ok { OnOk result (out.new.items ≡ out.old.items ++ printed millis) }
     ensures kept { take (vec_len out.old) out.new.items ≡ out.old.items }

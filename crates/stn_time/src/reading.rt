@@ -17,7 +17,7 @@ pub enum TimeFault {
     /// The text has not the form of a time.
     #[error("not a time in seconds, as 7 or -0.250")]
     Malformed,
-    /// A digit past the third behind the point is not 0.
+    /// A digit past the third after the point is not 0.
     #[error("a time finer than a millisecond")]
     TooFine,
     /// The time lies beyond `HORIZON`, on either side of zero.
@@ -28,7 +28,7 @@ pub enum TimeFault {
 /// The least number of whole seconds beyond the horizon.
 const BEYOND: u64 = HORIZON as u64 / 1000 + 1;
 
-/// The parts of a text that has the form of a time; no digits behind the point where there is no point.
+/// The parts of a text that has the form of a time; no digits after the point where there is no point.
 #[derive(Clone, Copy)]
 struct Parts<'a> {
     negative: bool,
@@ -38,7 +38,7 @@ struct Parts<'a> {
 
 impl Ms {
     /// The time that a text spells: an optional `-`, one digit or more for the whole seconds, and optionally a point
-    /// and one digit or more. Leading zeros are accepted, and digits past the third behind the point have to be 0.
+    /// and one digit or more. Leading zeros are accepted, and digits past the third after the point have to be 0.
     ///
     /// The faults come in this order: `Malformed`, `TooFine`, `OutOfRange`.
     pub fn read(text: &[u8]) -> Result<Ms, TimeFault>

@@ -11,7 +11,7 @@ IsShorter-more (child.End behind_row) fewer more le shorter = omega arith
 IsShorter-more (child.Word line word rest) fewer more le shorter = omega arith
 IsShorter-more (child.Group line inside) fewer more le shorter = omega arith
 
--- behind so many more rows
+-- after so many more rows
 unfoldable pub further : ℕ → Rows → Rows
 further zero rows = rows
 further (suc depth) rows = further depth (behind rows)

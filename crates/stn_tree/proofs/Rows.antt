@@ -16,7 +16,7 @@ pub semicolon-blank : (b : ℕ) → kind_of b ≢ Blank → eqb b 59 ≡ false
 unfolding kind_of
 semicolon-blank b h = let other : b ≢ 59 = λ e. h (ap kind_of e) in grind (arith, nat_tests)
 
--- behind a token no comment goes on, and the line is the same
+-- after a token no comment goes on, and the line is the same
 pub comment_after-token : (b : ℕ) → kind_of b ≢ Blank → comment_after false b ≡ false
 unfolding comment_after
 comment_after-token b h = rw (lf-blank b h, semicolon-blank b h) refl
@@ -113,7 +113,7 @@ pub split-word : (line n : ℕ) (bytes word rest : List ℕ) → begins_word byt
     → ((rows_from false line bytes).row ≡ Word line word (rows_from false line rest).row) × (behind (rows_from false line rest) ≡ behind (rows_from false line bytes))
 split-word line n bytes word rest begins len front back = rw (rows-word line bytes begins, front, back, len) (refl, refl)
 
--- what is left behind the byte at i
+-- what is left after the byte at i
 drop-at : (i : ℕ) (bytes rest : List ℕ) → i < length bytes → rest ≡ drop (i + 1) bytes → drop i bytes ≡ get_or bytes i 0 ∷ rest
 drop-at i bytes rest within is = drop-cons bytes i 0 within ∙ ap (λ bs. get_or bytes i 0 ∷ bs) (sym (rw add-one at is))
 

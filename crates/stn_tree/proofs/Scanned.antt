@@ -25,7 +25,7 @@ IsPlace Before = Unit {0}
 IsPlace (Inside depth) = 0 < depth
 IsPlace After = Unit {0}
 
--- as many rows around as brackets are open, and nothing behind the outermost list
+-- as many rows around as brackets are open, and nothing after the outermost list
 abbrev pub Closes : ℕ → List Trees → Type 0
 Closes depth around = (inner : List Trees) × (around ≡ inner ++ End ∷ []) × (length inner + 1 ≡ depth)
 

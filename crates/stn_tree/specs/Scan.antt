@@ -40,7 +40,7 @@ place_after Close line place = place_after_close line place
 place_after Letter line place = place_after_letter line place
 place_after Stray line place = Err (Syntax line)
 
--- The text ends behind its tree.
+-- The text ends after its tree.
 abbrev pub ends_at : ℕ → Place → Result Place TreeFault
 ends_at line Before = Err (Syntax line)
 ends_at line (Inside depth) = Err (Syntax line)
@@ -58,6 +58,6 @@ tree_of text =
     if nat_lt most_text (length text) then Err TooLong
     else (scanned false 1 Before text >>= λ end. Ok (rows_from false 1 text).row)
 
--- one list, and nothing behind it
+-- one list, and nothing after it
 abbrev pub IsOneList : Trees → Type 0
 IsOneList row = (line : ℕ) × (children : Trees) × (row ≡ Group line children End)

@@ -4,7 +4,7 @@ use Rattle.stn_tree.specs.declared.bytes.Kind.{Kind}
 use Rattle.stn_tree.specs.declared.bytes.Kind.TheVariants.{Blank, Open, Close, Letter, Stray}
 use Rattle.stn_tree.specs.Bytes.{kind_of, kind_in, comment_after, line_after}
 
--- A row of trees: the first one and the row behind it. A tree is a word or a list of trees, and stands on a line.
+-- A row of trees: the first one and the row after it. A tree is a word or a list of trees, and stands on a line.
 pub data Trees : Type 0 where
   End : Trees
   Word : (line : ℕ) (word : List ℕ) (next : Trees) → Trees
@@ -29,7 +29,7 @@ abbrev pub outer : List Trees → List Trees
 outer [] = []
 outer (row ∷ rows) = rows
 
--- behind the end of the row that goes on
+-- after the end of the row that goes on
 abbrev pub behind : Rows → Rows
 behind rows = record { row = innermost rows.around; around = outer rows.around }
 

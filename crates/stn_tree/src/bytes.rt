@@ -45,7 +45,7 @@ pub fn kind_in(comment: bool, byte: u8) -> Kind
     if comment { Kind::Blank } else { kind_of(byte) }
 }
 
-/// Whether a comment goes on behind a byte.
+/// Whether a comment goes on after a byte.
 #[tactic(auto, unfolding(crate::specs::Bytes::comment_after))]
 pub fn comment_after(comment: bool, byte: u8) -> bool
     ensures { result ≡ spec.comment_after comment byte }
@@ -53,7 +53,7 @@ pub fn comment_after(comment: bool, byte: u8) -> bool
     byte != LINE_FEED && (comment || begins_comment(byte))
 }
 
-/// The line behind a byte that stands on a line.
+/// The line after a byte that stands on a line.
 #[tactic(auto, unfolding(crate::specs::Bytes::line_after))]
 pub fn line_after(line: u32, byte: u8) -> u32
     requires { line < 2 ^ 32 - 1 }

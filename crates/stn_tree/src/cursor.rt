@@ -16,9 +16,9 @@ pub struct Cursor<'a> {
 /// The first tree of a row, or the row's end.
 #[derive(Clone, Copy, Debug)]
 pub enum Child<'a> {
-    /// The row has ended, and the cursor stands behind it.
+    /// The row has ended, and the cursor stands after it.
     End(Cursor<'a>),
-    /// A word on a line, and the cursor behind it.
+    /// A word on a line, and the cursor after it.
     Word(u32, &'a [u8], Cursor<'a>),
     /// A list on a line, and the cursor before its first child.
     Group(u32, Cursor<'a>),
@@ -41,7 +41,7 @@ impl<'a> Cursor<'a> {
         }
     }
 
-    /// The first tree of the row that goes on here, with the place behind it or inside it; at the end of the row the place behind
+    /// The first tree of the row that goes on here, with the place after it or inside it; at the end of the row the place after
     /// the row.
     pub fn next_child(self) -> Child<'a>
         ensures first { IsFirst result (rows_at self.entry) }
@@ -75,7 +75,7 @@ impl<'a> Cursor<'a> {
         Child::End(Cursor { rest: &[], line })
     }
 
-    /// The place behind the row that goes on here.
+    /// The place after the row that goes on here.
     pub fn skip(self) -> Cursor<'a>
         ensures behind { rows_at result ≡ behind_at self.entry }
         ensures shorter { left_at result ≤ left_at self.entry }

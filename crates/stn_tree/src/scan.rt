@@ -27,7 +27,7 @@ pub enum TreeFault {
     TooDeep(u32),
 }
 
-/// Where a place of a text lies: before its tree, inside as many open brackets, or behind the tree.
+/// Where a place of a text lies: before its tree, inside as many open brackets, or after the tree.
 #[derive(Clone, Copy, Debug, PartialEq, Eq)]
 pub enum Place {
     Before,
@@ -56,7 +56,7 @@ fn place_after_close(line: u32, place: Place) -> Result<Place, TreeFault>
     }
 }
 
-/// The place behind a byte of a kind, or the fault that the byte is there.
+/// The place after a byte of a kind, or the fault that the byte is there.
 #[tactic(auto, unfolding(crate::specs::Scan::place_after))]
 fn place_after(kind: Kind, line: u32, place: Place) -> Result<Place, TreeFault>
     ensures { result ≡ spec.place_after kind line place }

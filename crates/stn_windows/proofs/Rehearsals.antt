@@ -115,7 +115,7 @@ can_wait bounds done now (Run time event) possible next none =
 can_wait bounds done now AllDone possible next none = (possible.0, possible.1, λ event left. absurd (next event left))
 can_wait bounds done now (Overdue event) possible next none = absurd (none event refl)
 
--- where the first answer is no overdue event, want of memory is the first fault that stands
+-- where the first answer is no overdue event, lack of memory is the first fault that stands
 pub want_of_memory : {X : Type 0} (result : Result X RehearseFault) (table : Table) (done : List Bool) (now : ℤ) (answer : Next) → result ≡ Err Memory
     → ((bounds : List Difference) → IsExact bounds table → IsNext bounds done now answer) → ((event : ℕ) → answer ≢ Overdue event)
     → IfErr result (λ fault. (bounds : List Difference) → IsExact bounds table → IsRehearseFault bounds done now fault)

@@ -33,7 +33,7 @@ abbrev pub HasScheduleThrough : List Difference → List (ℤ × ℕ) → Type 0
 HasScheduleThrough bounds runs = (times : ℕ → ℤ) × IsSchedule bounds times × All (λ run. times run.1 ≡ run.0) runs
 
 -- the fault is the first that stands against a rehearsal: the event is overdue, and no schedule has every event that is left from now on;
--- want of memory comes only where some schedule has
+-- lack of memory comes only where some schedule has
 abbrev pub IsRehearseFault : List Difference → List Bool → ℤ → RehearseFault → Type 0
 IsRehearseFault bounds done now (Overdue event) = IsOverdue bounds done now event × ¬ CanWaitUntil bounds done now
 IsRehearseFault bounds done now Memory = CanWaitUntil bounds done now

@@ -68,7 +68,7 @@ fn fix<A: Allocator>(matrix: &mut Matrix<A>, done: &mut [bool], time: Ms, event:
     done[usize::from(event.number())] = true;
 }
 
-// Appends a run; for want of memory it appends nothing.
+// Appends a run; if memory runs out, it appends nothing.
 fn append<A: Allocator>(runs: &mut Vec<(Ms, Event), A>, run: (Ms, Event)) -> Result<(), Memory>
     ensures { OnOk result (runs.new.items ≡ runs.old.items ++ run ∷ []) }
 {

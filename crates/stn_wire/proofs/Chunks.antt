@@ -5,7 +5,7 @@ use Rattle.std.specs.List.{flat_map, AllByRecursion}
 use Rattle.stn_wire.specs.Spelling.{measured, counted, AreCounted}
 use Rattle.stn_wire.specs.Apart.{two_apart, four_apart, cut}
 
--- texts behind their lengths with the same bytes are the same
+-- texts after their lengths with the same bytes are the same
 pub measured_cut : (s t x y : List ℕ) → length s < 2 ^ 32 → length t < 2 ^ 32 → measured s ++ x ≡ measured t ++ y → (s ≡ t) × (x ≡ y)
 measured_cut s t x y p q e = cut s t x y (four_apart (length s) (length t) p q (ap (take 4) e)) (ap (drop 4) e)
 
@@ -19,14 +19,14 @@ module _ {X : Type 0} (Valid : X → Type 0) (spell : X → List ℕ) (wide : �
   length-flat_map [] = omega arith
   length-flat_map (x ∷ xs) = omega (arith, length-append (spell x) (flat_map spell xs), sized x, length-flat_map xs)
 
-  -- what stands behind some items in a text of more valid ones begins with one of these
+  -- what stands after some items in a text of more valid ones begins with one of these
   pub next_spelled : (xs vs : List X) (rest behind : List ℕ) → length xs < length vs → AllByRecursion Valid vs → flat_map spell xs ++ rest ≡ flat_map spell vs ++ behind → (v : X) × Valid v × ((more : List ℕ) × (rest ≡ spell v ++ more))
   next_spelled xs [] rest behind l all e = absurd (omega arith)
   next_spelled [] (v ∷ vs) rest behind l all e = (v, all.0, (flat_map spell vs ++ behind, e ∙ append_assoc (spell v) (flat_map spell vs) behind))
   next_spelled (x ∷ xs) (v ∷ vs) rest behind l all e = next_spelled xs vs rest behind (omega arith) all.1 (next_cut x v xs vs rest behind e).1
 
   module _ (apart : (a b : X) → Valid a → Valid b → spell a ≡ spell b → a ≡ b) where
-    -- as many valid items with the same bytes are the same, and so is what stands behind them
+    -- as many valid items with the same bytes are the same, and so is what stands after them
     pub flat_cut : (xs vs : List X) (rest behind : List ℕ) → length xs ≡ length vs → AllByRecursion Valid xs → AllByRecursion Valid vs → flat_map spell xs ++ rest ≡ flat_map spell vs ++ behind → (xs ≡ vs) × (rest ≡ behind)
     flat_cut [] [] rest behind l p q e = (refl, e)
     flat_cut [] (v ∷ vs) rest behind l p q e = absurd (omega arith)

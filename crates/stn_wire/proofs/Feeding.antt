@@ -1,4 +1,4 @@
--- Bytes of a piece behind those that are held: up to five of them, and then as many as the front wants.
+-- Bytes of a piece after those that are held: up to five of them, and then as many as the front wants.
 use Rattle.std.proofs.Common.{◌≡◌, ℕ, ◌+◌, ◌-◌, ◌<◌, ◌≤◌, min, List, ◌++◌, length, take, drop, Err, IfSome, refl, sym, ap, subst, ◌∙◌, ⊎_elim, arith, append_assoc, length-append, length-take, length-drop, take-append-drop}
 use Rattle.std.proofs.lemmas.Bool.{cases_lt}
 use Rattle.std.proofs.lemmas.List.{take_at, take_rest, drop_all, append-nil}

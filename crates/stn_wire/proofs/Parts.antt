@@ -1,4 +1,4 @@
--- Fields that are read and written one behind the other.
+-- Fields that are read and written one after the other.
 use Rattle.std.proofs.Common.{◌≡◌, ℕ, ℤ, ◌+◌, ◌≤◌, List, ◌++◌, length, take, drop, Option, Some, None, Result, Ok, Err, OnOk, IfOk, IfErr, sym, ap, subst, ◌∙◌, ⊎_elim, append_assoc, arith, length-drop, take-append-drop}
 use Rattle.std.proofs.lemmas.List.{take_all}
 use Rattle.std.proofs.lemmas.Int.{ints}
@@ -13,7 +13,7 @@ use Rattle.stn_wire.specs.Spelling.{two, side_bytes, IsLow, IsHigh, bound_bytes,
 use Rattle.stn_wire.specs.Apart.{IsSpelledBound, spelled_bound, fields_apart}
 use Rattle.stn_wire.specs.Reading.{IsReading}
 
--- what is appended behind a first part
+-- what is appended after a first part
 pub append_then : {T E : Type 0} (r : Result T E) (old mid new a b : List ℕ) → mid ≡ old ++ a → OnOk r (new ≡ mid ++ b) → OnOk r (new ≡ old ++ (a ++ b))
 append_then (Ok x) old mid new a b first second = second ∙ ap (λ l. l ++ b) first ∙ append_assoc old a b
 append_then (Err e) old mid new a b first second = tt

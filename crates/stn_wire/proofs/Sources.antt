@@ -6,11 +6,11 @@ use Rattle.stn_wire.specs.Frame.{source_bytes, IsSaidSource}
 use Rattle.stn_wire.specs.Reading.{IsReading, measured_then}
 use Rattle.stn_wire.proofs.Chunks.{measured_cut}
 
--- what is read as a text behind its length
+-- what is read as a text after its length
 abbrev pub IsTextReading : List ℕ → Option (List ℕ × List ℕ) → Type 0
 IsTextReading = IsReading (λ found. length found.0 < 2 ^ 32) measured_then
 
--- the texts of a source stand behind its form
+-- the texts of a source stand after its form
 abbrev pub NoSource : List ℕ → Type 0
 NoSource texts = (source : PlanSource) → IsSaidSource source → (1 ∷ texts) ≢ source_bytes source
 

@@ -98,7 +98,7 @@ records_unread amended rest none (records s) said e =
     none s (record { said = said; entries = entries_of_kind amended (entries s.replacements) said.replacements (ap (λ l. get_or l 0 0) e) }) (ap (drop 1) e)
 records_unread amended rest none f said e = let kind = ap (λ l. get_or l 0 0) e in absurd (omega (arith, kind, kind_small amended))
 
--- ---- reading a state: its additions, its tombstones, its entries, and nothing behind them
+-- ---- reading a state: its additions, its tombstones, its entries, and nothing after them
 
 abbrev pub Addition : Type 0
 Addition = SiteCounter × Record

@@ -123,7 +123,7 @@ high_apart layout Plain a b p q e =
     (λ also. within_apart layout a b inside.0 (weaker a _ inside.1) also.0 (weaker b _ also.1) e) q)
     p
 
--- equal texts are cut alike behind fronts of one length
+-- equal texts are cut alike after fronts of one length
 pub cut : (a b x y : List ℕ) → length a ≡ length b → a ++ x ≡ b ++ y → (a ≡ b) × (x ≡ y)
 cut [] [] x y l e = (refl, e)
 cut [] (b ∷ bs) x y l e = absurd (omega arith)

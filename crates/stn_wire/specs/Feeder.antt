@@ -24,7 +24,7 @@ abbrev pub IsTaken : {A : Type 0} → List ℕ → List ℕ → ℕ → Option (
 IsTaken held piece used (Some frame) new = IsFront (held ++ piece) (whole (content frame) (length held + used)) × (new ≡ holding [])
 IsTaken held piece used None new = IsFront (held ++ piece) unfinished × (used ≡ length piece) × (new ≡ holding (held ++ piece))
 
--- what a feed answers, and leaves: want of memory leaves all as it was, and a fault is kept
+-- what a feed answers, and leaves: lack of memory leaves all as it was, and a fault is kept
 abbrev pub IsFed : {A : Type 0} → List ℕ → List ℕ → Result (Fed A) WireFault → FeederState → Type 0
 IsFed held piece (Ok fed) new = IsTaken held piece fed.used fed.frame new
 IsFed held piece (Err Memory) new = new ≡ holding held
@@ -33,7 +33,7 @@ IsFed held piece (Err Kind) new = IsFront (held ++ piece) (faulty Kind) × (new 
 IsFed held piece (Err Body) new = IsFront (held ++ piece) (faulty Body) × (new ≡ broken_by Body)
 IsFed held piece (Err OldFrame) new = ⊥
 
--- what is held is unfinished, and nothing is behind a fault
+-- what is held is unfinished, and nothing is after a fault
 abbrev pub IsFeeder : List ℕ → Option WireFault → Type 0
 IsFeeder held None = IsFront held unfinished
 IsFeeder held (Some fault) = (held ≡ []) × (fault ≢ Memory) × (fault ≢ OldFrame)

@@ -87,7 +87,7 @@ kind_of same = 6
 kind_of (hello source) = 7
 kind_of (records state) = records_kind (entries state.replacements)
 
--- what stands behind the kind
+-- what stands after the kind
 abbrev pub rest_of : FrameContent → List ℕ
 rest_of (old_hello source) = source_bytes source
 rest_of (old_records state) = state_bytes Old state

@@ -41,7 +41,7 @@ IsFront bytes unfinished = (length bytes < 4) ⊎ (IsLength (announced bytes)
 abbrev pub BeginsFrame : List ℕ → Type 0
 BeginsFrame bytes = (frame : FrameContent) × (n : ℕ) × IsFront bytes (whole frame n)
 
--- the front that an answer names; none for want of memory
+-- the front that an answer names; none if memory runs out
 abbrev pub answered : {A : Type 0} → Result (Option (Frame A × ℕ)) WireFault → Option Front
 answered (Ok None) = Some unfinished
 answered (Ok (Some found)) = Some (whole (content found.0) found.1)

@@ -19,7 +19,7 @@ abbrev pub IsReading : {V : Type 0} → (V → Type 0) → (V → List ℕ) → 
 IsReading Valid spell bytes (Some value) = Valid value × (bytes ≡ spell value)
 IsReading {V} Valid spell bytes None = (value : V) → Valid value → bytes ≢ spell value
 
--- so many values that each are valid, and what stands behind them
+-- so many values that each are valid, and what stands after them
 pub record AreItems {X : Type 0} (Valid : X → Type 0) (count : ℕ) (values : List X) : Type 0 where
   pub many : length values ≡ count
   pub each : AllByRecursion Valid values
@@ -66,7 +66,7 @@ IsJudged bytes (Err Body) = ⊥
 IsJudged bytes (Err OldFrame) = ⊥
 IsJudged bytes (Err Memory) = ⊥
 
--- what taking bytes of a piece answers, and what is held then; for want of memory more may be held behind the bytes of before
+-- what taking bytes of a piece answers, and what is held then; if memory runs out, more may be held after the bytes of before
 abbrev pub IsFrameTaken : {A : Type 0} → List ℕ → List ℕ → Result (Fed A) WireFault → List ℕ → Type 0
 IsFrameTaken held piece (Ok fed) left = IsTaken held piece fed.used fed.frame (holding left)
 IsFrameTaken held piece (Err Memory) left = take (length held) left ≡ held

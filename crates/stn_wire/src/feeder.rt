@@ -63,7 +63,7 @@ impl<A: Allocator + Copy> Feeder<A> {
         !self.held.is_empty()
     }
 
-    /// Takes the next piece, up to the end of the first frame that it completes; what stands behind
+    /// Takes the next piece, up to the end of the first frame that it completes; what stands after
     /// that frame is to be fed again.
     ///
     /// Faults: those of `decode`, over what is held and the piece. After `Length`, `Kind` and `Body`

@@ -11,7 +11,7 @@ use crate::layout::Layout;
 use std::alloc::Allocator;
 use stn_time::Memory;
 
-// So many items, and what stands behind them.
+// So many items, and what stands after them.
 fn read_items<T: Item, A: Allocator>(
     alloc: A,
     layout: Layout,
@@ -37,7 +37,7 @@ fn read_items<T: Item, A: Allocator>(
     Ok(Some((items, rest)))
 }
 
-// A count and so many items, and what stands behind them.
+// A count and so many items, and what stands after them.
 pub(crate) fn read_counted<T: Item, A: Allocator>(
     alloc: A,
     layout: Layout,

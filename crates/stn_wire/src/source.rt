@@ -1,4 +1,4 @@
-// The body of a HELLO frame behind its kind: the form of a source, and the source.
+// The body of a HELLO frame after its kind: the form of a source, and the source.
 ghost use Rattle.std.specs.Prelude.{◌≡◌, ◌-◌, ◌^◌, ◌<◌, ◌≤◌, List, ℕ, ◌∷◌, ◌++◌, length, min, IfOk, OnOk, option_map};
 ghost use Rattle.stn_lift.specs.PlanSource.{plan_source};
 ghost use Rattle.stn_wire.specs.Spelling.{measured};
@@ -50,7 +50,7 @@ fn read_files<A: Allocator + Copy>(alloc: A, texts: &[u8]) -> Result<Option<Sour
     Ok(Some(Source::Files(domain, plan)))
 }
 
-// A text behind its length, and what stands behind it.
+// A text after its length, and what stands after it.
 fn read_measured(bytes: &[u8]) -> Option<(&[u8], &[u8])>
     ensures { IsReading (λ (found : List ℕ × List ℕ). length found.0 < 2 ^ 32) measured_then bytes.now
         (option_map (λ found. (found.0.now, found.1.now)) result) }

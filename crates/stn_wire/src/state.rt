@@ -1,4 +1,4 @@
-// The body of a RECORDS frame behind its kind: the additions, the withdrawn ids, and the entries of amendments.
+// The body of a RECORDS frame after its kind: the additions, the withdrawn ids, and the entries of amendments.
 ghost use Rattle.std.specs.Prelude.{◌≡◌, ℕ, ◌<◌, ◌^◌, List, ◌++◌, length, IfOk, OnOk, option_map};
 ghost use Rattle.std.specs.FinMap as fin;
 ghost use Rattle.stn_records.specs.Id.{SiteCounter};
@@ -39,7 +39,7 @@ pub(crate) fn read_state<A: Allocator + Copy>(
     }
 }
 
-// Some entries, or none, and what stands behind them.
+// Some entries, or none, and what stands after them.
 fn read_entries<A: Allocator + Copy>(
     alloc: A,
     layout: Layout,

@@ -98,7 +98,7 @@ moved_refusal one other a b e f = ap (λ (h : Held). take_refusal h a) e ∙ ap 
 pub moved_part : (one other : Held) (a b : Content) → one ≡ other → a ≡ b → IsPart b other.state → IsPart a one.state
 moved_part one other a b e f inside = subst (λ (c : Content). IsPart c one.state) (sym f) (subst (λ (h : Held). IsPart b h.state) (sym e) inside)
 
--- the replicas behind a borrowed slice that was given back
+-- the replicas after a borrowed slice that was given back
 back_again : (replicas new : List Held) (len : ℕ) → length new ≡ len → take len (new ++ drop (length new) replicas) ≡ new
 back_again replicas new len lengths = take_all new (drop (length new) replicas) len lengths
 

@@ -47,7 +47,7 @@ module _ (world : World) (site : ℕ) (there : HasSite world site) (room : lengt
       held true e = refl
       held false e = absurd (other (is.1 (λ all. false≢true (sym e ∙ (holds_all-decides theirs records tombstones).1 all))))
 
-  -- a part is refused where not all is held, or for want of memory
+  -- a part is refused where not all is held, or for lack of memory
   pub part_refused : (theirs : Content) (records tombstones : List SiteCounter) (A : Type 0) (fault : PartFault) → theirs ≡ content_at world site
       → ((failed A fault ≡ Err part_fault.Unknown) ↔ ¬ (AllHeld theirs.additions records × AllHeld theirs.tombstones tombstones))
       → of_part_fault fault ≡ unwrap_or (send_refusal world site (holds_all (content_at world site) records tombstones)) Memory

@@ -15,7 +15,7 @@ abbrev pub IsSitesFault : ℕ → SitesFault → Type 0
 IsSitesFault sites sites_fault.NoSite = ¬ IsSite sites
 IsSitesFault sites sites_fault.Memory = IsSite sites
 
--- want of memory at a replica is want of memory
+-- lack of memory at a replica is lack of memory
 abbrev pub of_replica_fault : ReplicaFault → WorldFault
 of_replica_fault replica_fault.Memory = world_fault.Memory
 of_replica_fault fault = world_fault.Replica fault

@@ -31,7 +31,7 @@ abbrev pub missing : World → ℕ → Option WorldFault
 missing world site = then_some (not (has_site world site)) NoSite
 
 -- the first cause that refuses the step: a site is not there, a packet is not there, or the site's replica refuses it; a site may take in
--- what it holds itself, and sends only what it holds. Where there is none, nothing but want of memory can stop it
+-- what it holds itself, and sends only what it holds. Where there is none, nothing but lack of memory can stop it
 abbrev pub step_refusal : World → Step → Option WorldFault
 step_refusal world (added site bound) = option_or (missing world site) (option_map of_replica_fault (add_refusal (held_at world site) bound))
 step_refusal world (finished site event time) = option_or (missing world site) (option_map of_replica_fault (done_refusal (held_at world site) event))
@@ -66,7 +66,7 @@ stepped world step = if is_some (step_refusal world step) then world else after 
 abbrev pub run : World → List Step → World
 run = fold stepped
 
--- a call is a step: it is accepted and leaves what the step leaves, or its fault is what refuses the step, or else want of memory, and
+-- a call is a step: it is accepted and leaves what the step leaves, or its fault is what refuses the step, or else lack of memory, and
 -- nothing has changed
 abbrev pub IsStep : {T : Type 0} → World → Step → Result T WorldFault → World → Type 0
 IsStep old step (Ok value) new = IsAccepted old step × (new ≡ after old step)
@@ -79,7 +79,7 @@ send_refusal world site held =
     (then_some (not held) (Replica replica_fault.Unknown)))
 
 -- a call that sends is a step, but for the limit of packets: no cause stands against it, it is accepted, leaves what the step leaves and
--- gives the number of the new packet; or its fault is the first such cause, or else want of memory, and nothing has changed
+-- gives the number of the new packet; or its fault is the first such cause, or else lack of memory, and nothing has changed
 abbrev pub IsSending : World → Step → Option WorldFault → Result ℕ WorldFault → World → Type 0
 IsSending old step refusal (Ok number) new = (refusal ≡ None) × IsAccepted old step × (new ≡ after old step) × (number ≡ length old.packets + 1)
 IsSending old step refusal (Err fault) new = (fault ≡ unwrap_or refusal Memory) × (new ≡ old)
@@ -110,14 +110,14 @@ TookSameAt world ours site other theirs there = CountAlike (TookAt world ours si
 abbrev pub TookSameItemsAt : World → List Step → ℕ → World → List Step → ℕ → Type 0
 TookSameItemsAt world ours site other theirs there = (item : Item) → TookAt world ours site item ↔ TookAt other theirs there item
 
--- what a merge can be refused for: a site is not there, the site would know too many ids, or want of memory
+-- what a merge can be refused for: a site is not there, the site would know too many ids, or lack of memory
 abbrev pub IsMergeFault : WorldFault → Type 0
 IsMergeFault NoSite = ⊤
 IsMergeFault (Replica replica_fault.Full) = ⊤
 IsMergeFault Memory = ⊤
 IsMergeFault other = ⊥
 
--- what a delivery can be refused for: the site or the packet is not there, the site would know too many ids, or want of memory
+-- what a delivery can be refused for: the site or the packet is not there, the site would know too many ids, or lack of memory
 abbrev pub IsDeliveryFault : WorldFault → Type 0
 IsDeliveryFault NoPacket = ⊤
 IsDeliveryFault fault = IsMergeFault fault

@@ -1,5 +1,5 @@
-//! For tests: reads domain and plan texts from standard input, one a line behind the word `domain` or `plan`; in a text `~`
-//! stands for a line feed. A line `padded <count> ..` has so many spaces behind its text. It prints of each the code and the
+//! For tests: reads domain and plan texts from standard input, one a line after the word `domain` or `plan`; in a text `~`
+//! stands for a line feed. A line `padded <count> ..` has so many spaces after its text. It prints of each the code and the
 //! line of its fault; `0 0` for a domain; of a plan 0 and the number of its steps.
 #![tactic(auto)]
 
@@ -54,7 +54,7 @@ fn answer(alloc: Global, row: &str) -> (u8, usize) {
     }
 }
 
-// How many spaces stand behind the text of a row, and the rest of the row.
+// How many spaces stand after the text of a row, and the rest of the row.
 fn padding(row: &str) -> (usize, &str) {
     match row
         .strip_prefix("padded ")

@@ -45,7 +45,7 @@ use Rattle.stn_refusing.specs.contracts.RefusingAllocator.allocate.Key as key
 use Rattle.stn_refusing.proofs.RefusingAllocator.allocate.Statement as stated
 use Rattle.stn_refusing.proofs.RefusingAllocator.allocate.Code as code
 
--- the code behind the first n statements
+-- the code after the first n statements
 abbrev after : ℕ → Body → Body
 after zero b = b
 after (suc n) (seq a b) = after n b

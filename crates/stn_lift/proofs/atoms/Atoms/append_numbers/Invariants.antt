@@ -5,7 +5,7 @@ use Rattle.stn_lift.specs.Footprints.{GroundAtom, ground}
 use Rattle.stn_lift.specs.Numbering.{Extends, AreNumbersOf}
 use Rattle.stn_lift.proofs.atoms.Atoms.append_numbers.Given as goal
 
--- the first atoms have their numbers behind those that stood before
+-- the first atoms have their numbers after those that stood before
 abbrev pub invariant-loop-atom : goal.invariant-loop-atom
 invariant-loop-atom g l = record {
   kept : Extends l.fn.self l.self;
