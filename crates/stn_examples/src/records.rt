@@ -1,3 +1,5 @@
+ghost use Rattle.std.specs.Prelude.{◌≤◌};
+
 use crate::sweep::{judged, refuse_each};
 use std::alloc::{Allocator, Global};
 use std::test::Fail;
@@ -6,24 +8,27 @@ use stn_records::{BuryFault, Id, Mark, PartFault, Records, RecordsFault, Site, W
 use stn_refusing::Refusing;
 use stn_time::Ms;
 
-fn id(site: u8, counter: u16) -> Result<Id, Fail> {
-    let site = Site::new(site).ok_or("site")?;
-    Ok(Id::new(site, counter).ok_or("counter")?)
+fn id(site: u8, counter: u16) -> Id
+    requires site { (1 ≤ site) × (site ≤ 64) }
+    requires counter { 1 ≤ counter }
+{
+    Id::new(Site::new(site).unwrap(), counter).unwrap()
 }
 
-fn bound() -> Result<Bound, Fail> {
-    let event = Event::new(1).ok_or("event")?;
-    let lo = Ms::new(2_000).ok_or("time")?;
-    let hi = Ms::new(10_000).ok_or("time")?;
-    Ok(Bound::new(1, Event::origin(), event, lo, hi)?)
+fn bound() -> Bound {
+    let lo = Ms::new(2_000).unwrap();
+    let hi = Ms::new(10_000).unwrap();
+    Bound::new(1, Event::origin(), Event::new(1).unwrap(), lo, hi).unwrap()
 }
 
 // The records of site 1 with the counters from the first to the last, and as many withdrawn ids of site 2.
-fn filled<A: Allocator + Copy>(alloc: A, first: u16, last: u16) -> Result<Records<A>, Fail> {
+fn filled<A: Allocator + Copy>(alloc: A, first: u16, last: u16) -> Result<Records<A>, Fail>
+    requires { 1 ≤ first }
+{
     let mut records = Records::new(alloc);
     for counter in first..=last {
-        records.add(id(1, counter)?, Mark::Plain, bound()?)?;
-        records.bury(id(2, counter)?)?;
+        records.add(id(1, counter), Mark::Plain, bound())?;
+        records.bury(id(2, counter))?;
     }
     Ok(records)
 }
@@ -44,11 +49,11 @@ fn adds(rt: HostRuntime) -> Result<(), Fail> {
     let requests = refuse_each(&rt, rt.alloc(), |heap, number| {
         let mut records = filled(heap, 1, 16)?;
         heap.refuse(number);
-        let answer = records.add(id(3, 1)?, Mark::Plain, bound()?);
+        let answer = records.add(id(3, 1), Mark::Plain, bound());
         let right = answer == Ok(()) && records.known() == 33;
         let unchanged = answer == Err(RecordsFault::Memory) && is_same(&records, &before);
         let judged = judged(heap, right, unchanged);
-        records.add(id(3, 1)?, Mark::Plain, bound()?)?;
+        records.add(id(3, 1), Mark::Plain, bound())?;
         Ok(judged)
     })?;
     assert!(rt; requests > 1);
@@ -61,11 +66,11 @@ fn withdrawals(rt: HostRuntime) -> Result<(), Fail> {
     let requests = refuse_each(&rt, rt.alloc(), |heap, number| {
         let mut records = filled(heap, 1, 16)?;
         heap.refuse(number);
-        let answer = records.withdraw(id(1, 1)?);
-        let right = answer == Ok(()) && !records.is_live(id(1, 1)?);
+        let answer = records.withdraw(id(1, 1));
+        let right = answer == Ok(()) && !records.is_live(id(1, 1));
         let unchanged = answer == Err(WithdrawFault::Memory) && is_same(&records, &before);
         let judged = judged(heap, right, unchanged);
-        records.withdraw(id(1, 1)?)?;
+        records.withdraw(id(1, 1))?;
         Ok(judged)
     })?;
     assert!(rt; requests > 1);
@@ -78,11 +83,11 @@ fn burials(rt: HostRuntime) -> Result<(), Fail> {
     let requests = refuse_each(&rt, rt.alloc(), |heap, number| {
         let mut records = filled(heap, 1, 16)?;
         heap.refuse(number);
-        let answer = records.bury(id(3, 1)?);
+        let answer = records.bury(id(3, 1));
         let right = answer == Ok(()) && records.known() == 33;
         let unchanged = answer == Err(BuryFault::Memory) && is_same(&records, &before);
         let judged = judged(heap, right, unchanged);
-        records.bury(id(3, 1)?)?;
+        records.bury(id(3, 1))?;
         Ok(judged)
     })?;
     assert!(rt; requests > 1);
@@ -115,7 +120,7 @@ fn parts(rt: HostRuntime) -> Result<(), Fail> {
     let requests = refuse_each(&rt, rt.alloc(), |heap, number| {
         let records = filled(heap, 1, 12)?;
         heap.refuse(number);
-        let answer = records.part(&[id(1, 6)?, id(1, 5)?], &[id(2, 5)?, id(2, 6)?, id(2, 5)?]);
+        let answer = records.part(&[id(1, 6), id(1, 5)], &[id(2, 5), id(2, 6), id(2, 5)]);
         let (right, memory) = match &answer {
             Ok(part) => (is_same(part, &wanted), false),
             Err(fault) => (false, *fault == PartFault::Memory),
@@ -165,7 +170,7 @@ fn texts_of_ids(rt: HostRuntime) -> Result<(), Fail> {
         let mut text = Vec::new(heap);
         text.push(b' ')?;
         heap.refuse(number);
-        let answer = id(64, 65_535)?.print(&mut text);
+        let answer = id(64, 65_535).print(&mut text);
         let right = answer.is_ok() && text.as_slice() == b" 64.65535".as_slice();
         let unchanged = answer.is_err() && text.as_slice() == b" ".as_slice();
         Ok(judged(heap, right, unchanged))
