@@ -7,7 +7,6 @@ use crate::span::Span;
 use itoa::Buffer;
 use std::alloc::Allocator;
 use stn_replica::append_window_line;
-use stn_text::append_decimal;
 use stn_time::{Memory, Ms};
 
 /// Appends the head of a picture of so many pixels' height.
