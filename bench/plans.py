@@ -436,20 +436,31 @@ def lifted(domain, plan):
 
 
 def text_answer(row):
-    """The code and the line of a text's fault, or of a plan 0 and the number of its steps."""
+    """What is printed of a row: of a time 0, its milliseconds and its printed form; of a domain two zeros; of a plan 0 and the
+    number of its steps; of a fault its code and its line, or 0. A heading stays as it is."""
+    if row.startswith(b"="):
+        return row.decode()
+    if row.startswith(b"millis "):
+        return time_text(int(row.removeprefix(b"millis ")))
     spaces = 0
     if row.startswith(b"padded "):
         _, count, row = row.split(b" ", 2)
         spaces = int(count)
-    kind, text = row.split(b" ", 1)
-    text = text.replace(b"~", b"\n") + b" " * spaces
+    kind, text = row.removeprefix(b"hex ").split(b" ", 1)
+    if row.startswith(b"hex "):
+        text = bytes.fromhex(text.decode())
+    else:
+        text = text.replace(b"~", b"\n") + b" " * spaces
     try:
+        if kind == b"time":
+            millis = read_time(text.decode())
+            return f"0 {millis} {time_text(millis)}"
         if kind == b"plan":
-            return 0, len(plan_of(text))
+            return f"0 {len(plan_of(text))}"
         domain_of(text)
-        return 0, 0
+        return "0 0"
     except Refused as refused:
-        return refused.code, refused.argument or 0
+        return f"{refused.code} {refused.argument or 0}"
 
 
 def lifted_answer(domain, plan):
@@ -466,7 +477,7 @@ def main():
     rows = sys.stdin.buffer.read().removesuffix(b"\n").split(b"\n")
     if sys.argv[1:] == ["texts"]:
         for row in rows:
-            print(*text_answer(row))
+            print(text_answer(row))
     elif sys.argv[1:] == ["lifted"]:
         domain = b""
         for row in rows:

@@ -11,6 +11,4 @@ mod links;
 mod listed;
 mod relaxation;
 mod search;
-#[cfg(test)]
-mod tests;
 mod ways;

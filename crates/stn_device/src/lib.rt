@@ -9,6 +9,4 @@ pub use whole::{MOST_BYTES, ReadFault, WriteFault, drain, read_whole, write_whol
 mod connection;
 mod counted;
 mod deadline;
-#[cfg(test)]
-mod tests;
 mod whole;

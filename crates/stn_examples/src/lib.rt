@@ -1,17 +1,21 @@
-//! Tests that cross crates: the worked examples, devices that fail, and refused memory.
+//! Tests of what no clause says and no stored run shows: devices that fail, refused memory, and worked examples of single calls.
 #![tactic(auto)]
 
 #[cfg(test)]
 mod conflict;
 #[cfg(test)]
+mod devices;
+#[cfg(test)]
+mod events;
+#[cfg(test)]
+mod frames;
+#[cfg(test)]
 mod readers;
 #[cfg(test)]
 mod records;
 #[cfg(test)]
+mod refusals;
+#[cfg(test)]
 mod requests;
-#[cfg(test)]
-mod scripts;
-#[cfg(test)]
-mod sites;
 #[cfg(test)]
 mod sweep;

@@ -192,6 +192,3 @@ impl<A: Allocator> Base<A> {
         self.source.same(&other.source)
     }
 }
-
-#[cfg(test)]
-mod tests;

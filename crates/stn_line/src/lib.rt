@@ -7,6 +7,4 @@ pub use words::{Line, LineFault};
 mod commands;
 mod help;
 mod reading;
-#[cfg(test)]
-mod tests;
 mod words;

@@ -9,7 +9,5 @@ pub use writing::save;
 mod fault;
 mod laws;
 mod reading;
-#[cfg(test)]
-mod tests;
 mod version;
 mod writing;

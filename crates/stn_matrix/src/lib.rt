@@ -6,5 +6,3 @@ pub use matrix::Matrix;
 mod matrix;
 mod runs;
 mod square;
-#[cfg(test)]
-mod tests;

@@ -6,8 +6,6 @@ mod fault;
 mod lines;
 mod plan;
 mod step;
-#[cfg(test)]
-mod tests;
 mod tokens;
 
 pub use fault::PlanFault;

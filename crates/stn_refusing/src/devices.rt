@@ -24,23 +24,6 @@ impl Read for PieceReader<'_> {
     }
 }
 
-/// Hands on so many bytes LF.
-#[derive(Drop)]
-pub struct EmptyLines {
-    pub left: usize,
-}
-
-impl Read for EmptyLines {
-    fn read(&mut self, buf: &mut [u8]) -> io::Result<usize> {
-        let count = self.left.min(buf.len());
-        for byte in buf[..count].iter_mut() {
-            *byte = b'\n';
-        }
-        self.left -= count;
-        Ok(count)
-    }
-}
-
 /// Takes at most `piece` bytes a call, and fails at the call of a number, counted from 1.
 #[derive(Drop)]
 pub struct PieceWriter {

@@ -3,7 +3,7 @@
 
 mod devices;
 
-pub use crate::devices::{EmptyLines, PieceReader, PieceWriter};
+pub use crate::devices::{PieceReader, PieceWriter};
 use std::alloc::{AllocError, Allocator};
 use std::cell::Cell;
 
@@ -58,33 +58,5 @@ unsafe impl<B: Allocator> Allocator for Refusing<B> {
 
     unsafe fn deallocate(&self, ptr: *mut u8, size: usize, align: usize) {
         self.inner.deallocate(ptr, size, align);
-    }
-}
-
-#[cfg(test)]
-mod tests {
-    use super::*;
-
-    #[test]
-    fn refuses_the_request_of_its_number(rt: HostRuntime) {
-        let heap = Refusing::new(rt.alloc(), 2);
-        let mut first = Vec::new(&heap);
-        assert!(rt; first.push(1u8).is_ok());
-        assert!(rt; heap.is_waiting());
-        let mut second = Vec::new(&heap);
-        assert!(rt; second.push(2u8).is_err());
-        assert!(rt; !heap.is_waiting());
-        assert!(rt; second.push(2u8).is_ok());
-
-        heap.refuse(1);
-        let mut third = Vec::new(&heap);
-        assert!(rt; third.push(3u8).is_err());
-        assert!(rt; third.push(3u8).is_ok());
-
-        heap.refuse(0);
-        let mut fourth = Vec::new(&heap);
-        assert!(rt; fourth.push(4u8).is_ok());
-        assert!(rt; first.as_slice() == [1].as_slice() && second.as_slice() == [2].as_slice());
-        assert!(rt; third.as_slice() == [3].as_slice() && fourth.as_slice() == [4].as_slice());
     }
 }

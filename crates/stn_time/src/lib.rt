@@ -9,5 +9,3 @@ pub use std::alloc::AllocError as Memory;
 mod millis;
 mod printing;
 mod reading;
-#[cfg(test)]
-mod tests;

@@ -16,5 +16,3 @@ mod dispatch;
 mod ends;
 mod laws;
 mod rehearsal;
-#[cfg(test)]
-mod tests;

@@ -22,8 +22,6 @@ mod layout;
 mod lists;
 mod source;
 mod state;
-#[cfg(test)]
-mod tests;
 
 /// The greatest number of bytes in the body of a frame.
 pub const MOST_BODY: usize = 262_144;

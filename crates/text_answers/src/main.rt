@@ -1,58 +1,17 @@
-//! For tests: reads domain and plan texts from standard input, one a line after the word `domain` or `plan`; in a text `~`
-//! stands for a line feed. A line `padded <count> ..` has so many spaces after its text. It prints of each the code and the
-//! line of its fault; `0 0` for a domain; of a plan 0 and the number of its steps.
+//! For tests: reads texts from standard input, one a line after the word `time`, `domain` or `plan`, and prints the answer to
+//! each; in a text `~` stands for a line feed. A line `padded <count> ..` has so many spaces after its text; a line
+//! `hex <word> <digits>` has a text in hex.
+//!
+//! Of a time it prints 0, the milliseconds, and the time as it is printed; of a domain two zeros; of a plan 0 and the number of its
+//! steps; of a fault its code and its line, or 0. A line `millis <number>` prints so many milliseconds as a time. A line that
+//! begins with `=` is a heading, and is printed as it is.
 #![tactic(auto)]
 
-use std::alloc::Global;
-use std::io;
-use stn_pddl::{Domain, DomainFault};
-use stn_plan::{Plan, PlanFault};
+mod answers;
 
-fn of_domain_fault(fault: DomainFault) -> (u8, usize) {
-    match fault {
-        DomainFault::TooLong => (10, 0),
-        DomainFault::Syntax(line) => (11, line as usize),
-        DomainFault::TooDeep(line) => (12, line as usize),
-        DomainFault::Unsupported(line) => (13, line as usize),
-        DomainFault::Number(line) => (14, line as usize),
-        DomainFault::Twice(line) => (15, line as usize),
-        DomainFault::Variable(line) => (16, line as usize),
-        DomainFault::Memory => (99, 0),
-    }
-}
-
-fn of_domain(alloc: Global, text: &[u8]) -> (u8, usize) {
-    match Domain::read(alloc, text) {
-        Ok(_) => (0, 0),
-        Err(fault) => of_domain_fault(fault),
-    }
-}
-
-fn of_plan_fault(fault: PlanFault) -> (u8, usize) {
-    match fault {
-        PlanFault::TooLong => (20, 0),
-        PlanFault::Syntax(line) => (21, line as usize),
-        PlanFault::Number(line) => (22, line as usize),
-        PlanFault::Negative(line) => (23, line as usize),
-        PlanFault::TooManySteps => (24, 0),
-        PlanFault::Memory => (99, 0),
-    }
-}
-
-fn of_plan(alloc: Global, text: &[u8]) -> (u8, usize) {
-    match Plan::read(alloc, text) {
-        Ok(plan) => (0, plan.steps().len()),
-        Err(fault) => of_plan_fault(fault),
-    }
-}
-
-fn answer(alloc: Global, row: &str) -> (u8, usize) {
-    match (row.strip_prefix("domain "), row.strip_prefix("plan ")) {
-        (Some(text), _) => of_domain(alloc, text.as_bytes()),
-        (_, Some(text)) => of_plan(alloc, text.as_bytes()),
-        _ => (98, 0),
-    }
-}
+use crate::answers::{print_answer, print_time};
+use anyhow::{Context, Error};
+use std::alloc::{AllocError, Global};
 
 // How many spaces stand after the text of a row, and the rest of the row.
 fn padding(row: &str) -> (usize, &str) {
@@ -65,16 +24,47 @@ fn padding(row: &str) -> (usize, &str) {
     }
 }
 
-fn main(rt: HostRuntime) -> io::Result<()> {
+// A text with a line feed for each `~`, and so many spaces after it.
+fn bytes_of(alloc: Global, text: &str, spaces: usize) -> Result<String, AllocError> {
+    let mut text = text.replace(alloc, "~", "\n")?;
+    for _ in 0..spaces {
+        text.push(' ')?;
+    }
+    Ok(text)
+}
+
+// Prints the answer to the text of a row.
+fn answer_text(rt: &HostRuntime, row: &str) -> Result<(), Error> {
+    let (spaces, rest) = padding(row);
+    let (word, text) = rest.split_once(' ').context("no text")?;
+    let text = bytes_of(rt.alloc(), text, spaces)?;
+    print_answer(rt, word, text.as_bytes())
+}
+
+// Prints the answer to a text in hex.
+fn answer_hex(rt: &HostRuntime, rest: &str) -> Result<(), Error> {
+    let (word, digits) = rest.split_once(' ').context("no text")?;
+    let text = hex::decode(rt.alloc(), digits)?;
+    print_answer(rt, word, &text)
+}
+
+fn print_row(rt: &HostRuntime, row: &str) -> Result<(), Error> {
+    if row.starts_with('=') {
+        println!(rt; "{row}")?;
+        Ok(())
+    } else if let Some(number) = row.strip_prefix("millis ") {
+        print_time(rt, number.parse()?)
+    } else if let Some(rest) = row.strip_prefix("hex ") {
+        answer_hex(rt, rest)
+    } else {
+        answer_text(rt, row)
+    }
+}
+
+fn main(rt: HostRuntime) -> Result<(), Error> {
     for row in rt.lines(rt.alloc()) {
         let row = row?;
-        let (spaces, rest) = padding(row.as_str());
-        let mut text = rest.replace(rt.alloc(), "~", "\n")?;
-        for _ in 0..spaces {
-            text.push(' ')?;
-        }
-        let (code, number) = answer(rt.alloc(), &text);
-        println!(rt; "{code} {number}")?;
+        print_row(&rt, row.as_str())?;
     }
     Ok(())
 }

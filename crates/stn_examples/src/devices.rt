@@ -1,0 +1,182 @@
+use std::alloc::Global;
+use std::io;
+use std::io::{Error, ErrorKind, Read, Write};
+use std::time::Duration;
+use stn_device::{Counted, Deadline, TimedStream, UntilDeadline, WriteFault, drain, write_whole};
+use stn_refusing::{PieceReader, PieceWriter};
+
+const TEXT: &[u8] = b"first\nsecond\n";
+
+fn reader(piece: usize, fails_at: u64) -> Counted<PieceReader<'static>> {
+    Counted::new(PieceReader {
+        rest: TEXT,
+        piece,
+        calls: 0,
+        fails_at,
+    })
+}
+
+fn writer(alloc: Global, piece: usize, fails_at: u64) -> Counted<PieceWriter> {
+    Counted::new(PieceWriter {
+        held: Vec::new(alloc),
+        piece,
+        calls: 0,
+        fails_at,
+    })
+}
+
+// The kind of the error of a call.
+fn kind_of<T>(answer: io::Result<T>) -> Option<ErrorKind>
+where
+    T: Drop,
+{
+    answer.err().map(|error| error.kind())
+}
+
+#[test]
+fn a_write_that_takes_none_is_a_failed_one(rt: HostRuntime) {
+    let mut stuck = writer(rt.alloc(), 0, 0);
+    assert!(rt; write_whole(&mut stuck, b"").is_ok());
+    assert_eq!(rt; stuck.failures(), 0);
+    assert!(rt; write_whole(&mut stuck, TEXT) == Err(WriteFault));
+    assert_eq!(rt; stuck.failures(), 1);
+    assert_eq!(rt; stuck.into_inner().calls, 1);
+}
+
+#[test]
+fn a_failed_read_gives_the_error_of_the_device(rt: HostRuntime) {
+    for room in [0usize, 3] {
+        let mut failing = reader(1, 1);
+        let mut buffer = [0u8; 3];
+        assert!(rt; kind_of(failing.read(&mut buffer[..room])) == Some(ErrorKind::Interrupted));
+        assert_eq!(rt; failing.failures(), 1);
+    }
+}
+
+#[test]
+fn a_failed_write_gives_the_error_of_the_device(rt: HostRuntime) {
+    for piece in [b"".as_slice(), b"abc"] {
+        let mut failing = writer(rt.alloc(), 3, 1);
+        assert!(rt; kind_of(failing.write(piece)) == Some(ErrorKind::Interrupted));
+        assert_eq!(rt; failing.failures(), 1);
+    }
+}
+
+// A writer whose first flush fails.
+#[derive(Drop)]
+struct Unflushed {
+    flushes: u64,
+}
+
+impl Write for Unflushed {
+    fn write(&mut self, buf: &[u8]) -> io::Result<usize> {
+        Ok(buf.len())
+    }
+
+    fn flush(&mut self) -> io::Result<()> {
+        self.flushes = self.flushes.saturating_add(1);
+        if self.flushes == 1 {
+            return Err(Error::from(ErrorKind::Interrupted));
+        }
+        Ok(())
+    }
+}
+
+#[test]
+fn a_failed_flush_gives_the_error_of_the_device(rt: HostRuntime) {
+    let mut failing = Counted::new(Unflushed { flushes: 0 });
+    assert!(rt; kind_of(failing.flush()) == Some(ErrorKind::Interrupted));
+    assert_eq!(rt; failing.failures(), 1);
+    assert!(rt; failing.flush().is_ok());
+}
+
+// A peer that sends one byte every 20 seconds, and takes one.
+#[derive(Drop)]
+struct SlowPeer {
+    clock: Duration,
+}
+
+fn pace() -> Duration {
+    Duration::from_secs(20)
+}
+
+impl SlowPeer {
+    // Waits for the next byte, or as long as the call may take.
+    fn wait(&mut self, limit: Duration) -> io::Result<usize> {
+        self.clock = self.clock.saturating_add(pace().min(limit));
+        if limit < pace() {
+            return Err(Error::from(ErrorKind::WouldBlock));
+        }
+        Ok(1)
+    }
+}
+
+impl TimedStream for SlowPeer {
+    ghost use Rattle.std.specs.Prelude.{None};
+
+    ghost remaining = { λ _. None };
+
+    ghost contents = { λ _. None };
+
+    ghost time = { λ _. None };
+
+    fn now(&self) -> io::Result<Duration> {
+        Ok(self.clock)
+    }
+
+    fn read_within(&mut self, buf: &mut [u8], limit: Duration) -> io::Result<usize> {
+        Ok(self.wait(limit)?.min(buf.len()))
+    }
+
+    fn write_within(&mut self, buf: &[u8], limit: Duration) -> io::Result<usize> {
+        Ok(self.wait(limit)?.min(buf.len()))
+    }
+}
+
+// The peer, met at 7 seconds, for 50 more.
+fn slow_stream() -> Counted<UntilDeadline<SlowPeer>> {
+    let clock = Duration::from_secs(7);
+    let deadline = Deadline::after(clock, Duration::from_secs(50));
+    Counted::new(UntilDeadline::new(SlowPeer { clock }, deadline))
+}
+
+#[test]
+fn reads_end_at_the_deadline(rt: HostRuntime) {
+    let mut reader = slow_stream();
+    let mut buffer = [0u8; 4];
+    assert!(rt; matches!(reader.read(&mut buffer), Ok(1)));
+    assert!(rt; matches!(reader.read(&mut buffer), Ok(1)));
+    assert!(rt; kind_of(reader.read(&mut buffer)) == Some(ErrorKind::WouldBlock));
+    assert!(rt; kind_of(reader.read(&mut buffer)) == Some(ErrorKind::TimedOut));
+    assert_eq!(rt; reader.failures(), 2);
+}
+
+#[test]
+fn writes_end_at_the_deadline(rt: HostRuntime) {
+    let mut writer = slow_stream();
+    assert!(rt; write_whole(&mut writer, b"abc") == Err(WriteFault));
+    assert!(rt; kind_of(writer.write(b"c")) == Some(ErrorKind::TimedOut));
+    assert!(rt; writer.flush().is_ok());
+}
+
+// How many bytes are left after a reader of them all is drained up to a limit.
+fn left_after(limit: usize) -> usize {
+    let mut whole = reader(3, 0);
+    drain(&mut whole, limit);
+    whole.into_inner().rest.len()
+}
+
+#[test]
+fn drains_up_to_its_limit(rt: HostRuntime) {
+    assert_eq!(rt; left_after(0), 13);
+    assert_eq!(rt; left_after(5), 8);
+    assert_eq!(rt; left_after(TEXT.len()), 0);
+    assert_eq!(rt; left_after(4096), 0);
+}
+
+#[test]
+fn drains_no_more_after_a_fault(rt: HostRuntime) {
+    let mut slow = slow_stream();
+    drain(&mut slow, 4096);
+    assert_eq!(rt; slow.failures(), 1);
+}

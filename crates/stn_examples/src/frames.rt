@@ -1,0 +1,72 @@
+use std::alloc::Global;
+use std::test::Fail;
+use stn_lift::Source;
+use stn_wire::{Feeder, Frame, WireFault, encode};
+
+// How many bytes a feeder uses, and the name of the frame that came of them.
+fn feed(feeder: &mut Feeder<Global>, bytes: &[u8]) -> Result<(usize, &'static str), WireFault> {
+    let fed = feeder.feed(bytes)?;
+    let name = match &fed.frame {
+        Some(Frame::Ask) => "ask",
+        Some(Frame::Same) => "same",
+        Some(_) => "another",
+        None => "none",
+    };
+    Ok((fed.used, name))
+}
+
+#[test]
+fn feeder_pieces(rt: HostRuntime) {
+    let mut feeder = Feeder::new(rt.alloc());
+    assert!(rt; !feeder.middle());
+    assert!(rt; feed(&mut feeder, b"\x00\x00\x00\x01") == Ok((4, "none")));
+    assert!(rt; feeder.middle());
+    assert!(rt; feed(&mut feeder, b"\x03") == Ok((1, "ask")));
+    assert!(rt; !feeder.middle());
+}
+
+#[test]
+fn feeder_of_two_frames(rt: HostRuntime) {
+    let mut feeder = Feeder::new(rt.alloc());
+    let two = b"\x00\x00\x00\x01\x03\x00\x00\x00\x01\x06";
+    assert!(rt; feed(&mut feeder, two) == Ok((5, "ask")));
+    assert!(rt; feed(&mut feeder, &two[5..]) == Ok((5, "same")));
+}
+
+#[test]
+fn feeder_keeps_its_fault(rt: HostRuntime) {
+    let mut feeder = Feeder::new(rt.alloc());
+    assert!(rt; feed(&mut feeder, b"\x00\x04\x00\x01") == Err(WireFault::Length));
+    assert!(rt; feed(&mut feeder, b"\x00\x00\x00\x01\x03") == Err(WireFault::Length));
+    assert!(rt; !feeder.middle());
+}
+
+// The fault of a frame that isn't spelled, and how many bytes it leaves; the length of one that is.
+fn spelled(alloc: Global, frame: &Frame<Global>) -> (Option<WireFault>, usize) {
+    let mut out = Vec::new(alloc);
+    let fault = encode(frame, &mut out).err();
+    (fault, out.len())
+}
+
+#[test]
+fn old_frames_are_not_spelled(rt: HostRuntime) {
+    let hello = Frame::OldHello(Source::Bare(1));
+    assert!(rt; spelled(rt.alloc(), &hello) == (Some(WireFault::OldFrame), 0));
+}
+
+#[test]
+fn long_old_frames_are_not_spelled(rt: HostRuntime) -> Result<(), Fail> {
+    let domain = vec![in rt.alloc(); b'x'; 262_144]?;
+    let hello = Frame::OldHello(Source::Files(domain, Vec::new(rt.alloc())));
+    assert!(rt; spelled(rt.alloc(), &hello) == (Some(WireFault::OldFrame), 0));
+    Ok(())
+}
+
+#[test]
+fn longest_body(rt: HostRuntime) -> Result<(), Fail> {
+    let longest = Frame::Text(vec![in rt.alloc(); b'x'; 262_143]?);
+    assert!(rt; spelled(rt.alloc(), &longest) == (None, 262_148));
+    let longer = Frame::Text(vec![in rt.alloc(); b'x'; 262_144]?);
+    assert!(rt; spelled(rt.alloc(), &longer) == (Some(WireFault::Length), 0));
+    Ok(())
+}
