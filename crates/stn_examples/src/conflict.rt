@@ -1,4 +1,3 @@
-ghost use Rattle.std.specs.Prelude.{IfOk};
 ghost use Rattle.stn_net.specs.Difference.{NamesEvents};
 
 use crate::sweep::{judged, refuse_each};
@@ -9,33 +8,54 @@ use stn_lift::Base;
 use stn_net::{Bound, Event};
 use stn_time::{HORIZON, Ms};
 
-// The bound of these events and milliseconds, in a plan of one step.
-fn bound(from: u16, to: u16, lo: i64, hi: i64) -> Result<Bound, Fail>
-    ensures { IfOk result (NamesEvents 2) }
+// The end comes five seconds after the start.
+fn duration() -> Bound
+    ensures { NamesEvents 2 result }
 {
-    let from = Event::new(from).ok_or("no event")?;
-    let to = Event::new(to).ok_or("no event")?;
-    let lo = Ms::new(lo).ok_or("beyond the horizon")?;
-    let hi = Ms::new(hi).ok_or("beyond the horizon")?;
-    Ok(Bound::new(2, from, to, lo, hi)?)
+    let five = Ms::new(5_000).unwrap();
+    Bound::new(
+        2,
+        Event::new(1).unwrap(),
+        Event::new(2).unwrap(),
+        five,
+        five,
+    )
+    .unwrap()
 }
 
-// Whether the cycle is the upper link of the bound at place 3, the lower of that at 2 and the lower of that at 0.
+// The end comes at most four seconds after the origin.
+fn deadline() -> Bound
+    ensures { NamesEvents 2 result }
+{
+    let least = Ms::new(-HORIZON).unwrap();
+    let four = Ms::new(4_000).unwrap();
+    Bound::new(2, Event::origin(), Event::new(2).unwrap(), least, four).unwrap()
+}
+
+// The upper link of the deadline, the lower one of the duration, and the lower one of the start's horizon bound.
+const NAMED: [Link; 3] = [
+    Link {
+        place: 3,
+        side: Side::Upper,
+    },
+    Link {
+        place: 2,
+        side: Side::Lower,
+    },
+    Link {
+        place: 0,
+        side: Side::Lower,
+    },
+];
+
 fn is_named<A: Allocator>(cycle: &Cycle<A>) -> bool {
-    let places = [(3, Side::Upper), (2, Side::Lower), (0, Side::Lower)];
-    cycle.sum == -1_000
-        && cycle.links.len() == 3
-        && cycle
-            .links
-            .iter()
-            .zip(places.iter())
-            .all(|(link, place)| (link.place, link.side) == *place)
+    cycle.sum == -1_000 && cycle.links.as_slice() == NAMED.as_slice()
 }
 
 #[test]
 fn want_of_memory(rt: HostRuntime) -> Result<(), Fail> {
     let base = Base::bare(rt.alloc(), 1)?;
-    let extra = [bound(1, 2, 5_000, 5_000)?, bound(0, 2, -HORIZON, 4_000)?];
+    let extra = [duration(), deadline()];
     let requests = refuse_each(&rt, rt.alloc(), |heap, number| {
         heap.refuse(number);
         let (right, memory) = match cycle(heap, 2, base.bounds(), &extra) {

@@ -1,5 +1,4 @@
-use std::alloc::Global;
-use std::test::Fail;
+use std::alloc::{AllocError, Global};
 use stn_lift::Source;
 use stn_wire::{Feeder, Frame, WireFault, encode};
 
@@ -54,19 +53,30 @@ fn old_frames_are_not_spelled(rt: HostRuntime) {
     assert!(rt; spelled(rt.alloc(), &hello) == (Some(WireFault::OldFrame), 0));
 }
 
-#[test]
-fn long_old_frames_are_not_spelled(rt: HostRuntime) -> Result<(), Fail> {
-    let domain = vec![in rt.alloc(); b'x'; 262_144]?;
-    let hello = Frame::OldHello(Source::Files(domain, Vec::new(rt.alloc())));
-    assert!(rt; spelled(rt.alloc(), &hello) == (Some(WireFault::OldFrame), 0));
-    Ok(())
+// What comes of an old HELLO of a domain of so many bytes and an empty plan.
+fn spelled_old_hello(
+    alloc: Global,
+    length: usize,
+) -> Result<(Option<WireFault>, usize), AllocError> {
+    let domain = vec![in alloc; b'x'; length]?;
+    let hello = Frame::OldHello(Source::Files(domain, Vec::new(alloc)));
+    Ok(spelled(alloc, &hello))
 }
 
 #[test]
-fn longest_body(rt: HostRuntime) -> Result<(), Fail> {
-    let longest = Frame::Text(vec![in rt.alloc(); b'x'; 262_143]?);
-    assert!(rt; spelled(rt.alloc(), &longest) == (None, 262_148));
-    let longer = Frame::Text(vec![in rt.alloc(); b'x'; 262_144]?);
-    assert!(rt; spelled(rt.alloc(), &longer) == (Some(WireFault::Length), 0));
-    Ok(())
+fn long_old_frames_are_not_spelled(rt: HostRuntime) {
+    let old = (Some(WireFault::OldFrame), 0);
+    assert!(rt; spelled_old_hello(rt.alloc(), 262_144) == Ok(old));
+}
+
+// What comes of a TEXT of so many bytes.
+fn spelled_text(alloc: Global, length: usize) -> Result<(Option<WireFault>, usize), AllocError> {
+    let text = Frame::Text(vec![in alloc; b'x'; length]?);
+    Ok(spelled(alloc, &text))
+}
+
+#[test]
+fn longest_body(rt: HostRuntime) {
+    assert!(rt; spelled_text(rt.alloc(), 262_143) == Ok((None, 262_148)));
+    assert!(rt; spelled_text(rt.alloc(), 262_144) == Ok((Some(WireFault::Length), 0)));
 }
