@@ -1,12 +1,12 @@
 ghost use Rattle.std.specs.Prelude.{◌≤◌};
 
-use crate::sweep::{judged, refuse_each};
+use crate::sweep::{Answer, judged, refuse_each};
 use std::alloc::{Allocator, Global};
 use std::test::Fail;
 use stn_net::{Bound, Event};
 use stn_records::{BuryFault, Id, Mark, PartFault, Records, RecordsFault, Site, WithdrawFault};
 use stn_refusing::Refusing;
-use stn_time::Ms;
+use stn_time::{Memory, Ms};
 
 fn id(site: u8, counter: u16) -> Id
     requires site { (1 ≤ site) × (site ≤ 64) }
@@ -82,21 +82,39 @@ fn burials(rt: HostRuntime) -> Result<(), Fail> {
     Ok(())
 }
 
+// What is taken while a request is refused.
+fn take_refused<'a>(
+    heap: &Refusing<Global>,
+    number: u64,
+    ours: &mut Records<&'a Refusing<Global>>,
+    theirs: &Records<&'a Refusing<Global>>,
+) -> Answer {
+    heap.refuse(number);
+    let answer = ours.take(theirs);
+    let right = answer == Ok(()) && ours.known() == 40;
+    let unchanged = answer == Err(RecordsFault::Memory) && ours.known() == 24;
+    judged(heap, right, unchanged)
+}
+
 #[test]
 fn takes(rt: HostRuntime) -> Result<(), Fail> {
     let requests = refuse_each(&rt, rt.alloc(), |heap, number| {
         let mut ours = filled(heap, 1, 12)?;
         let theirs = filled(heap, 9, 20)?;
-        heap.refuse(number);
-        let answer = ours.take(&theirs);
-        let right = answer == Ok(()) && ours.known() == 40;
-        let unchanged = answer == Err(RecordsFault::Memory) && ours.known() == 24;
-        let judged = judged(heap, right, unchanged);
+        let answer = take_refused(heap, number, &mut ours, &theirs);
         ours.take(&theirs)?;
-        Ok(judged)
+        Ok(answer)
     })?;
     assert!(rt; requests > 2);
     Ok(())
+}
+
+// Whether a part was made that knows as many ids, or memory was lacking.
+fn is_made(part: Result<Records<&Refusing<Global>>, PartFault>) -> (bool, bool) {
+    match part {
+        Ok(part) => (part.known() == 4, false),
+        Err(fault) => (false, fault == PartFault::Memory),
+    }
 }
 
 #[test]
@@ -104,15 +122,22 @@ fn parts(rt: HostRuntime) -> Result<(), Fail> {
     let requests = refuse_each(&rt, rt.alloc(), |heap, number| {
         let records = filled(heap, 1, 12)?;
         heap.refuse(number);
-        let answer = records.part(&[id(1, 6), id(1, 5)], &[id(2, 5), id(2, 6), id(2, 5)]);
-        let (right, memory) = match &answer {
-            Ok(part) => (part.known() == 4, false),
-            Err(fault) => (false, *fault == PartFault::Memory),
-        };
+        let (right, memory) = is_made(records.part(
+            &[id(1, 6), id(1, 5)],
+            &[id(2, 5), id(2, 6), id(2, 5)],
+        ));
         Ok(judged(heap, right, memory && records.known() == 24))
     })?;
     assert!(rt; requests > 2);
     Ok(())
+}
+
+// Whether a copy was made that knows as many ids, or memory was lacking.
+fn is_copied(copy: Result<Records<&Refusing<Global>>, Memory>) -> (bool, bool) {
+    match copy {
+        Ok(copy) => (copy.known() == 24, false),
+        Err(_) => (false, true),
+    }
 }
 
 #[test]
@@ -120,12 +145,8 @@ fn copies(rt: HostRuntime) -> Result<(), Fail> {
     let requests = refuse_each(&rt, rt.alloc(), |heap, number| {
         let records = filled(heap, 1, 12)?;
         heap.refuse(number);
-        let answer = records.copy();
-        let right = match &answer {
-            Ok(copy) => copy.known() == 24,
-            Err(_) => false,
-        };
-        Ok(judged(heap, right, answer.is_err() && records.known() == 24))
+        let (right, memory) = is_copied(records.copy());
+        Ok(judged(heap, right, memory && records.known() == 24))
     })?;
     assert!(rt; requests > 2);
     Ok(())
