@@ -1,4 +1,4 @@
-ghost use Rattle.std.specs.Prelude.{◌≡◌, ◌+◌, ◌<◌, ◌≤◌, ◌↔◌, ◌≤ℤ◌, neg_ℤ, pos, ◌*ℤ◌, ◌++◌, length, take, All, IsNone, IfOk, IfNone, IfSome};
+ghost use Rattle.std.specs.Prelude.{◌≡◌, ◌+◌, ◌<◌, ◌≤◌, ◌↔◌, ◌≤ℤ◌, neg_ℤ, pos, ◌*ℤ◌, ◌++◌, length, take, All, IsNone, IfOk, IfSome, MatchOption};
 ghost use Rattle.stn_time.specs.Time.{horizon};
 ghost use Rattle.stn_net.specs.Event.{most_events};
 ghost use Rattle.stn_net.specs.Difference.{NamesEvents};
@@ -8,7 +8,7 @@ ghost use Rattle.stn_conflict.specs.Arcs.{arc, weight_of, IsNegativeCycle};
 ghost use Rattle.stn_conflict.specs.Culprit.{IsRefusedSide};
 ghost use Rattle.stn_conflict.specs.Distances.{AreDistances, HasTables};
 ghost use Rattle.stn_conflict.specs.Named.{IsNamedCycle};
-ghost use Rattle.stn_conflict.specs.Search.{IsCycleOf};
+ghost use Rattle.stn_conflict.specs.Search.{IsCycleOf, IsFirstRefused};
 
 use crate::links::{Cycle, Link, Side};
 use crate::listed::Listed;
@@ -47,10 +47,25 @@ pub fn cycle<A: Allocator + Copy>(
         (λ cycle. length cycle.links.items ≤ events + 1)) }
 {
     let bounds = Listed::new(base, extra);
-    let outgoing = outgoing_links(alloc, events, &bounds)?;
+    cycle_of(alloc, events, &bounds)
+}
+
+// The named cycle of the bounds, or none where they have a schedule.
+fn cycle_of<A: Allocator + Copy>(
+    alloc: A,
+    events: u16,
+    bounds: &Listed<'_>,
+) -> Result<Option<Cycle<A>>, Memory>
+    requires few { events ≤ most_events }
+    requires begins { take events bounds.now ≡ horizon_bounds events }
+    requires named { All (NamesEvents events) bounds.now }
+    ensures { IfOk result (λ found. MatchOption found (HasSchedule bounds.now)
+        (λ cycle. IsCycleOf bounds.now events cycle.links.items cycle.sum)) }
+{
+    let outgoing = outgoing_links(alloc, events, bounds)?;
     let mut search = Search::new(alloc, &outgoing)?;
-    match first_refused(alloc, events, &bounds, &mut search)? {
-        Some(place) => Ok(Some(named(alloc, events, &bounds, &mut search, place)?)),
+    match first_refused(alloc, events, bounds, &mut search)? {
+        Some(place) => Ok(Some(named(alloc, events, bounds, &mut search, place)?)),
         None => Ok(None),
     }
 }
@@ -66,12 +81,8 @@ fn first_refused<A: Allocator + Copy>(
     requires begins { take events bounds.now ≡ horizon_bounds events }
     requires named { All (NamesEvents events) bounds.now }
     requires tables { HasTables (events + 1) search.old }
-    ensures none { IfOk result (λ found. IfNone found (HasSchedule bounds.now)) }
-    ensures there { IfOk result (λ found. IfSome found (λ place. place < length bounds.now)) }
-    ensures past { IfOk result (λ found. IfSome found (λ place. events ≤ place)) }
-    ensures before { IfOk result (λ found. IfSome found (λ place. HasSchedule (take place bounds.now))) }
-    ensures refused { IfOk result (λ found. IfSome found
-        (λ place. ¬ HasSchedule (take (place + 1) bounds.now))) }
+    ensures found { IfOk result (λ found. MatchOption found (HasSchedule bounds.now)
+        (IsFirstRefused bounds.now events)) }
     ensures tables { HasTables (events + 1) search.new }
 {
     search.begin(Event::origin());
@@ -131,10 +142,7 @@ fn named<A: Allocator + Copy>(
     requires begins { take events bounds.now ≡ horizon_bounds events }
     requires named { All (NamesEvents events) bounds.now }
     requires tables { HasTables (events + 1) search.old }
-    requires there { place < length bounds.now }
-    requires past { events ≤ place }
-    requires before { HasSchedule (take place bounds.now) }
-    requires refused { ¬ HasSchedule (take (place + 1) bounds.now) }
+    requires first { IsFirstRefused bounds.now events place }
     ensures { IfOk result (λ cycle. IsCycleOf bounds.now events cycle.links.items cycle.sum) }
 {
     let before = bounds.before(place);

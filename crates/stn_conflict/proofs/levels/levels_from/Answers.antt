@@ -44,16 +44,25 @@ loop-start-preserved g c =
       count = omega (arith, more, h.count, ap (count_by (is_some {T = ℕ})) c.deref_mut.ensures.value);
     })
 
-pub returns-clause-levels : goal.returns-clause-levels
-returns-clause-levels g c =
+pub returns : goal.returns
+returns g c =
     let new = c.mark_level.new.levels in
+    let back = c.mark_level.new.back in
     let h = c.loop-start.invariant in
     let long : length new ≡ c.loop-start.levels.len = search rules in
+    let back_long : length back ≡ c.loop-start.back.len = search rules in
     let whole : length new ≡ length c.args.far.now = search rules in
+    let beside : length back ≡ length c.args.far.now = search rules in
     let e = take_at new (drop (length new) c.loop-start.levels.items) c.loop-start.levels.len long in
+    let f = take_at back (drop (length back) c.loop-start.back.items) c.loop-start.back.len back_long in
     let same = c.mark_level.ensures.same c.loop-start-test.false in
     let kept : new ≡ c.loop-start.levels.items = cc in
-    rw e (levels_all c.args.bounds.now c.args.far.now c.args.start c.loop-start.level new (link_of c.mark_level.new.back) c.requires.far whole
-    (omega (arith, h.count, ap (count_by (is_some {T = ℕ})) kept))
-    (subst (λ l. HasLevelsUpTo c.args.bounds.now c.args.start c.loop-start.level (level_at l)) (sym kept) h.marked)
-    c.mark_level.ensures.marked c.mark_level.ensures.steps)
+    rw (e, f) (record {
+      whole = whole;
+      beside = beside;
+      levels = levels_all c.args.bounds.now c.args.far.now c.args.start c.loop-start.level new (link_of back) c.requires.far whole
+          (omega (arith, h.count, ap (count_by (is_some {T = ℕ})) kept))
+          (subst (λ l. HasLevelsUpTo c.args.bounds.now c.args.start c.loop-start.level (level_at l)) (sym kept) h.marked)
+          c.mark_level.ensures.marked c.mark_level.ensures.steps;
+      steps = c.mark_level.ensures.steps;
+    })
