@@ -2,7 +2,7 @@ use Rattle.std.proofs.Common.{◌≡◌, ◌<◌, ℕ, Some, sym, subst, arith, 
 use Rattle.std.proofs.lemmas.List.{take_at, length-set}
 use Rattle.std.specs.Prelude.{is_some, count_by}
 use Rattle.stn_conflict.specs.Search.{level_at, link_of, HasLevelsUpTo}
-use Rattle.stn_conflict.proofs.Rounds.{levels_none, steps_none, none_in_replicate, count_start, levels_all}
+use Rattle.stn_conflict.proofs.Rounds.{levels_none, steps_none, none_in_replicate, count_start, level_most, levels_all}
 use Rattle.stn_conflict.proofs.levels.levels_from.Goals as goal
 
 pub loop-start-init : goal.loop-start-init
@@ -22,6 +22,28 @@ loop-start-init g c =
       steps = steps_none c.args.bounds.now c.args.start _ (link_of c.in_ok-back.back.items) (none_in_replicate c.in_ok-back.back.items (length c.args.far.now) kept c.args.start) marked;
       count = count_start c.in_ok-levels.levels.items c.args.start there none;
     })
+
+pub mark_level-requires : goal.mark_level-requires
+mark_level-requires g c =
+    let h = c.loop-start.invariant in
+    rw (c.deref_mut.ensures.value, c.deref_mut-in-loop-start.ensures.value) (record {
+      far = c.requires.far;
+      few = omega (arith, level_most c.loop-start.levels.items c.loop-start.level h.count, h.whole, c.requires.few);
+      whole = h.whole;
+      beside = h.beside;
+      marked = h.marked;
+      steps = h.steps;
+    })
+
+pub overflow_add-level : goal.overflow_add-level
+overflow_add-level g c =
+    let h = c.loop-start.invariant in
+    omega (arith, level_most c.loop-start.levels.items c.loop-start.level h.count, h.whole, c.requires.few)
+
+pub loop-start-smaller : goal.loop-start-smaller
+loop-start-smaller g c =
+    let h = c.loop-start.invariant in
+    omega (arith, level_most c.loop-start.levels.items c.loop-start.level h.count, h.whole)
 
 pub loop-start-preserved : goal.loop-start-preserved
 loop-start-preserved g c =

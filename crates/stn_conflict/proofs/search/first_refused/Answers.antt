@@ -5,7 +5,49 @@ use Rattle.stn_net.specs.Schedule.{HasSchedule}
 use Rattle.stn_conflict.specs.Distances.{HasTables}
 use Rattle.stn_conflict.proofs.Known.{more_than_known, begins_before}
 use Rattle.stn_conflict.proofs.Relaxing.{estimates_of_more}
+use Rattle.stn_conflict.proofs.Searches.{tables_of}
 use Rattle.stn_conflict.proofs.search.first_refused.Goals as goal
+
+pub begin-requires : goal.begin-requires
+begin-requires g c = record {
+  tables = tables_of _ _ c.requires.tables;
+  start = omega (arith, c.requires.tables.far, c.origin.ensures);
+}
+
+pub settle-requires : goal.settle-requires
+settle-requires g c = record {
+  tables = tables_of _ _ c.begin.ensures.tables;
+  from = refl;
+  estimates = rw c.begin.ensures.start (c.begin.ensures.estimates c.args.bounds.now c.args.events c.requires.tables.far c.requires.begins c.requires.named);
+}
+
+pub overflow_sub-high : goal.overflow_sub-high
+overflow_sub-high g c = omega (arith, c.loop-high.invariant.apart)
+
+pub overflow_sub-middle : goal.overflow_sub-middle
+overflow_sub-middle g c = omega (arith, c.loop-high.invariant.apart)
+
+pub overflow_add-middle : goal.overflow_add-middle
+overflow_add-middle g c = omega (arith, c.loop-high.invariant.apart)
+
+pub before-requires : goal.before-requires
+before-requires g c = omega (arith, c.loop-high.invariant.apart, c.loop-high.invariant.within)
+
+pub copy_from_slice-requires : goal.copy_from_slice-requires
+copy_from_slice-requires g c =
+    let h = c.loop-high.invariant in
+    omega (arith, h.tables.far, h.long, c.loop-high.search.far.ok.0, ap length c.deref-in-loop-high.ensures.value)
+
+pub copy_from_slice-requires-then-settle-2 : goal.copy_from_slice-requires-then-settle-2
+copy_from_slice-requires-then-settle-2 g c =
+    let items : c.copy_from_slice.new.self.items ≡ c.loop-high.known.items = c.copy_from_slice.ensures.items ∙ c.deref-in-loop-high.ensures.value in
+    omega (arith, c.loop-high.known.ok.0, ap length items, c.settle-in-loop-high.ensures.search.tables.far, ap length c.deref-then-settle-2.ensures.value)
+
+pub loop-high-smaller-then-settle-2 : goal.loop-high-smaller-then-settle-2
+loop-high-smaller-then-settle-2 g c = omega (arith, c.loop-high.invariant.apart)
+
+pub loop-high-smaller : goal.loop-high-smaller
+loop-high-smaller g c = omega (arith, c.loop-high.invariant.apart)
 
 pub loop-high-init : goal.loop-high-init
 loop-high-init g c =

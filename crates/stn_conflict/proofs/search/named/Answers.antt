@@ -45,6 +45,31 @@ refused_side-requires g c =
       bound = c.requires.named c.args.place _ first.there;
     })
 
+pub way_back-requires : goal.way_back-requires
+way_back-requires g c =
+    let bounds = c.args.bounds.now in
+    let far = c.refused_side.new.search.far.items in
+    let link : Link = record { place = c.args.place; side = c.refused_side.result } in
+    let long = c.refused_side.ensures.tables.far in
+    let few = c.refused_side.ensures.tables.few in
+    let exact : AreDistances (take c.args.place bounds) (arc_of bounds link).to far = rw (c.before-before.ensures, c.bound-bound.ensures) at c.refused_side.ensures.distances in
+    let ends = link_among bounds (length far) link (among_events bounds c.args.events (length far) long c.requires.named) c.requires.first.there in
+    rw (c.before-before.ensures, c.deref.ensures.value, c.arc-arc.ensures.to, c.arc-arc.ensures.from) (record {
+      far = exact;
+      few = omega (arith, few, long);
+      end = ends.0;
+    })
+
+pub index-requires : goal.index-requires
+index-requires g c =
+    let bounds = c.args.bounds.now in
+    let far = c.refused_side.new.search.far in
+    let link : Link = record { place = c.args.place; side = c.refused_side.result } in
+    let among = among_events bounds c.args.events (length far.items) c.refused_side.ensures.tables.far c.requires.named in
+    let below = (link_among bounds (length far.items) link among c.requires.first.there).0 in
+    let place : c.from.result ≡ (arc_of bounds link).from = c.from.ensures ∙ c.number.ensures.value ∙ c.arc-arc.ensures.from in
+    omega (arith, below, far.ok.0)
+
 pub overflow_add-result : goal.overflow_add-result
 overflow_add-result g c =
     let link : Link = record { place = c.args.place; side = c.refused_side.result } in

@@ -15,6 +15,22 @@ distances-requires g c = record {
   possible = c.requires.possible;
 }
 
+pub index-requires : goal.index-requires
+index-requires g c =
+    let place : c.from-2.result ≡ c.args.bound.now.from = c.from-2.ensures ∙ c.number.ensures.value ∙ c.from.ensures.value in
+    omega (arith, c.requires.bound.from, c.distances.ensures.tables.far, c.distances.new.self.far.ok.0)
+
+pub overflow_add-index : goal.overflow_add-index
+overflow_add-index g c =
+    let bound = c.args.bound.now in
+    let far = c.distances.new.self.far.items in
+    let place : c.from-2.result ≡ bound.from = c.from-2.ensures ∙ c.number.ensures.value ∙ c.from.ensures.value in
+    let below : bound.from < length far = omega (arith, c.distances.ensures.tables.far, c.requires.bound.from) in
+    let read : c.index.result.now ≡ times_of far bound.from = get_or_read far _ _ (rw place below) c.index.ensures (pos 0) ∙ ap (times_of far) place in
+    let reach = c.distances.ensures.distances.within bound.from below in
+    let within = c.get.ensures.within in
+    omega (arith, ints)
+
 pub distances-requires-2 : goal.distances-requires-2
 distances-requires-2 g c = record {
   tables = c.distances.ensures.tables;

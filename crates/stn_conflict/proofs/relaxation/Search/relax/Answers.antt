@@ -13,6 +13,46 @@ use Rattle.stn_conflict.proofs.relaxation.Search.relax.Given.{Over}
 use Rattle.stn_conflict.proofs.relaxation.Search.relax.Goals as goal
 use Rattle.stn_conflict.proofs.relaxation.Search.relax.Goals.{then-eq-via-then-eq, then-eq-via-else-eq+then-way}
 
+pub index-requires : goal.index-requires
+index-requires g c =
+    let ends = link_among c.args.bounds.now (length c.args.self.now.far.items) c.args.link c.requires.search.estimates.named c.requires.there in
+    let from : c.from.result ≡ (arc_of c.args.bounds.now c.args.link).from = c.from.ensures ∙ c.number-2.ensures.value ∙ c.arc-arc.ensures.from in
+    omega (arith, ends.0, c.args.self.now.far.ok.0)
+
+pub overflow_add-way : goal.overflow_add-way
+overflow_add-way g c =
+    let far = c.args.self.now.far.items in
+    let ends = link_among c.args.bounds.now (length c.args.self.now.far.items) c.args.link c.requires.search.estimates.named c.requires.there in
+    let from : c.from.result ≡ (arc_of c.args.bounds.now c.args.link).from = c.from.ensures ∙ c.number-2.ensures.value ∙ c.arc-arc.ensures.from in
+    let first : c.index.result.now ≡ times_of far (arc_of c.args.bounds.now c.args.link).from = get_or_read far _ _ (rw from ends.0) c.index.ensures (pos 0) ∙ ap (times_of far) from in
+    let begin = c.requires.search.estimates.within (arc_of c.args.bounds.now c.args.link).from ends.0 in
+    let heavy = c.arc-arc.ensures.within in
+    omega (arith, ints)
+
+pub index-requires-2 : goal.index-requires-2
+index-requires-2 g c =
+    let ends = link_among c.args.bounds.now (length c.args.self.now.far.items) c.args.link c.requires.search.estimates.named c.requires.there in
+    let to : c.from-end.result ≡ (arc_of c.args.bounds.now c.args.link).to = c.from-end.ensures ∙ c.number.ensures.value ∙ c.arc-arc.ensures.to in
+    omega (arith, ends.1, c.args.self.now.far.ok.0)
+
+pub index_mut-requires : goal.index_mut-requires
+index_mut-requires g c =
+    let ends = link_among c.args.bounds.now (length c.args.self.now.far.items) c.args.link c.requires.search.estimates.named c.requires.there in
+    let to : c.from-end.result ≡ (arc_of c.args.bounds.now c.args.link).to = c.from-end.ensures ∙ c.number.ensures.value ∙ c.arc-arc.ensures.to in
+    omega (arith, ends.1, c.args.self.now.far.ok.0)
+
+pub index_mut-requires-2 : goal.index_mut-requires-2
+index_mut-requires-2 g c =
+    let ends = link_among c.args.bounds.now (length c.args.self.now.far.items) c.args.link c.requires.search.estimates.named c.requires.there in
+    let to : c.from-end.result ≡ (arc_of c.args.bounds.now c.args.link).to = c.from-end.ensures ∙ c.number.ensures.value ∙ c.arc-arc.ensures.to in
+    omega (arith, ends.1, c.requires.search.tables.by, c.args.self.now.by.ok.0)
+
+pub index_mut-requires-3 : goal.index_mut-requires-3
+index_mut-requires-3 g c =
+    let ends = link_among c.args.bounds.now (length c.args.self.now.far.items) c.args.link c.requires.search.estimates.named c.requires.there in
+    let to : c.from-end.result ≡ (arc_of c.args.bounds.now c.args.link).to = c.from-end.ensures ∙ c.number.ensures.value ∙ c.arc-arc.ensures.to in
+    omega (arith, ends.1, c.requires.search.tables.fresh, c.args.self.now.fresh.ok.0)
+
 pub returns-then-index-way : goal.returns-then-index-way
 returns-then-index-way g c =
     let far = c.args.self.now.far.items in
