@@ -63,7 +63,24 @@ fn cycle_of<A: Allocator + Copy>(
         (λ cycle. IsCycleOf bounds.now events cycle.links.items cycle.sum)) }
 {
     let outgoing = outgoing_links(alloc, events, bounds)?;
-    let mut search = Search::new(alloc, &outgoing)?;
+    searched_cycle(alloc, events, bounds, &outgoing)
+}
+
+// The same, by a search over these rows of links.
+fn searched_cycle<A: Allocator + Copy>(
+    alloc: A,
+    events: u16,
+    bounds: &Listed<'_>,
+    outgoing: &[Vec<Link, A>],
+) -> Result<Option<Cycle<A>>, Memory>
+    requires few { events ≤ most_events }
+    requires rows { length outgoing.now ≡ events + 1 }
+    requires begins { take events bounds.now ≡ horizon_bounds events }
+    requires named { All (NamesEvents events) bounds.now }
+    ensures { IfOk result (λ found. MatchOption found (HasSchedule bounds.now)
+        (λ cycle. IsCycleOf bounds.now events cycle.links.items cycle.sum)) }
+{
+    let mut search = Search::new(alloc, outgoing)?;
     match first_refused(alloc, events, bounds, &mut search)? {
         Some(place) => Ok(Some(named(alloc, events, bounds, &mut search, place)?)),
         None => Ok(None),

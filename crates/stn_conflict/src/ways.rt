@@ -66,7 +66,28 @@ fn way_over<A: Allocator + Copy>(
         (λ way. IsWayOf bounds.now from to (events + 1) way.links.items way.sum)) }
 {
     let outgoing = outgoing_links(alloc, events, bounds)?;
-    let mut search = Search::new(alloc, &outgoing)?;
+    searched_way(alloc, events, bounds, &outgoing, from, to)
+}
+
+// The same, by a search over these rows of links.
+fn searched_way<A: Allocator + Copy>(
+    alloc: A,
+    events: u16,
+    bounds: &Listed<'_>,
+    outgoing: &[Vec<Link, A>],
+    from: Event,
+    to: Event,
+) -> Result<Option<Way<A>>, Memory>
+    requires few { events ≤ most_events }
+    requires rows { length outgoing.now ≡ events + 1 }
+    requires begins { take events bounds.now ≡ horizon_bounds events }
+    requires named { All (NamesEvents events) bounds.now }
+    requires from { from ≤ events }
+    requires to { to ≤ events }
+    ensures { IfOk result (λ found. MatchOption found (¬ HasSchedule bounds.now)
+        (λ way. IsWayOf bounds.now from to (events + 1) way.links.items way.sum)) }
+{
+    let mut search = Search::new(alloc, outgoing)?;
     search.begin(from);
     if search.settle(bounds) {
         Ok(Some(way_to(alloc, bounds, &search.far, from, to)?))
