@@ -6,7 +6,7 @@ ghost use Rattle.stn_net.specs.Schedule.{HasSchedule};
 ghost use Rattle.stn_net.specs.Horizon.{horizon_bounds};
 ghost use Rattle.stn_conflict.specs.Arcs.{arc, weight_of, IsNegativeCycle};
 ghost use Rattle.stn_conflict.specs.Culprit.{IsRefusedSide};
-ghost use Rattle.stn_conflict.specs.Distances.{AreDistances, HasTables};
+ghost use Rattle.stn_conflict.specs.Distances.{AreDistances, AreEstimates, HasTables};
 ghost use Rattle.stn_conflict.specs.Named.{IsNamedCycle};
 ghost use Rattle.stn_conflict.specs.Search.{IsCycleOf, IsFirstRefused};
 
@@ -107,11 +107,30 @@ fn first_refused<A: Allocator + Copy>(
     if search.settle(bounds) {
         return Ok(None);
     }
+    Ok(Some(first_between(events, bounds, search, &mut known)))
+}
+
+// The same place, where the bounds have no schedule, and `known` has estimates for the horizon bounds.
+fn first_between<A: Allocator + Copy>(
+    events: u16,
+    bounds: &Listed<'_>,
+    search: &mut Search<'_, A>,
+    known: &mut [i64],
+) -> usize
+    requires begins { take events bounds.now ≡ horizon_bounds events }
+    requires named { All (NamesEvents events) bounds.now }
+    requires tables { HasTables (events + 1) search.old }
+    requires known { AreEstimates (take events bounds.now) search.old.start known.old }
+    requires long { length known.old ≡ events + 1 }
+    requires none { ¬ HasSchedule bounds.now }
+    ensures first { IsFirstRefused bounds.now events result }
+    ensures tables { HasTables (events + 1) search.new }
+{
     let mut low = usize::from(events);
     let mut high = bounds.len();
     while high - low > 1 {
         let middle = low + (high - low) / 2;
-        search.far.copy_from_slice(&known);
+        search.far.copy_from_slice(known);
         if search.settle(&bounds.before(middle)) {
             known.copy_from_slice(&search.far);
             low = middle;
@@ -119,7 +138,7 @@ fn first_refused<A: Allocator + Copy>(
             high = middle;
         }
     }
-    Ok(Some(low))
+    low
 }
 
 // The side of a bound that other bounds refuse; the search then has the distances over these from the
