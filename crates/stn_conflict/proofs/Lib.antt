@@ -9,3 +9,4 @@ pub mod Steps
 pub mod Known
 pub mod Relaxing
 pub mod Searches
+pub mod Found

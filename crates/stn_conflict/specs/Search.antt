@@ -1,7 +1,8 @@
 -- For proofs alone: no public clause cites these words.
-use Rattle.std.specs.Prelude.{◌≡◌, ◌≢◌, ℕ, ℤ, pos, neg_ℤ, ◌*ℤ◌, ◌≤ℤ◌, suc, ◌+◌, ◌<◌, ◌≤◌, ◌↔◌, List, length, All, Option, Some, None, slice_index_or}
+use Rattle.std.specs.Prelude.{◌≡◌, ◌≢◌, ℕ, ℤ, pos, neg_ℤ, ◌*ℤ◌, ◌≤ℤ◌, suc, ◌+◌, ◌<◌, ◌≤◌, ◌↔◌, List, length, take, All, Option, Some, None, slice_index_or}
 use Rattle.stn_time.specs.Time.{horizon}
 use Rattle.stn_net.specs.Difference.{Difference}
+use Rattle.stn_net.specs.Schedule.{HasSchedule}
 use Rattle.stn_matrix.specs.Tightest.{IsTightest}
 use Rattle.stn_conflict.specs.declared.links.Link.{Link}
 use Rattle.stn_conflict.specs.Arcs.{arc_of, rank, weight_of, IsNegativeCycle}
@@ -43,6 +44,20 @@ pub record HasLevels (bounds : List Difference) (start count : ℕ) (levels : �
   pub level : (x level : ℕ) → (levels x ≡ Some level) ↔ IsLevel bounds start x level
   pub every : (x : ℕ) → x < count → (level : ℕ) × (levels x ≡ Some level)
   pub most : (x level : ℕ) → levels x ≡ Some level → level < count
+
+-- a table of so many events' levels, and beside each level the link that marked it
+pub record IsLevelTable (bounds : List Difference) (start count : ℕ) (table : List (Option ℕ)) (back : List (Option Link)) : Type 0 where
+  pub whole : length table ≡ count
+  pub beside : length back ≡ count
+  pub levels : HasLevels bounds start count (level_at table)
+  pub steps : AreStepsBack bounds start (level_at table) (link_of back)
+
+-- the bounds have a schedule before this place, and none with the bound at it
+pub record IsFirstRefused (bounds : List Difference) (events place : ℕ) : Type 0 where
+  pub there : place < length bounds
+  pub past : events ≤ place
+  pub before : HasSchedule (take place bounds)
+  pub refused : ¬ HasSchedule (take (place + 1) bounds)
 
 -- a named cycle of bounds about so many events, with its sum
 pub record IsCycleOf (bounds : List Difference) (events : ℕ) (links : List Link) (sum : ℤ) : Type 0 where

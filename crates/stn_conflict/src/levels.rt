@@ -2,7 +2,7 @@ ghost use Rattle.std.specs.Prelude.{◌≡◌, suc, ◌+◌, ◌<◌, ◌≤◌,
 ghost use Rattle.stn_net.specs.Event.{most_events};
 ghost use Rattle.stn_conflict.specs.Distances.{AreDistances};
 ghost use Rattle.stn_conflict.specs.Named.{IsTight};
-ghost use Rattle.stn_conflict.specs.Search.{level_at, link_of, LeadsOn, HasLevelsUpTo, HasLevels, AreStepsBack};
+ghost use Rattle.stn_conflict.specs.Search.{level_at, link_of, LeadsOn, HasLevelsUpTo, AreStepsBack, IsLevelTable};
 
 use crate::links::Link;
 use crate::listed::{Listed, link_at};
@@ -93,12 +93,8 @@ pub(crate) fn levels_from<A: Allocator + Copy>(
 ) -> Result<Levels<A>, Memory>
     requires far { AreDistances bounds.now start far.now }
     requires few { length far.now ≤ most_events + 1 }
-    ensures whole { IfOk result (λ table. length table.levels.items ≡ length far.now) }
-    ensures beside { IfOk result (λ table. length table.back.items ≡ length far.now) }
-    ensures levels { IfOk result
-        (λ table. HasLevels bounds.now start (length far.now) (level_at table.levels.items)) }
-    ensures steps { IfOk result
-        (λ table. AreStepsBack bounds.now start (level_at table.levels.items) (link_of table.back.items)) }
+    ensures { IfOk result
+        (λ table. IsLevelTable bounds.now start (length far.now) table.levels.items table.back.items) }
 {
     let mut levels = vec![in alloc; None; far.len()]?;
     let mut back = vec![in alloc; None; far.len()]?;

@@ -1,4 +1,4 @@
-ghost use Rattle.std.specs.Prelude.{◌≡◌, ◌+◌, ◌<◌, ◌≤◌, ◌↔◌, ◌≤ℤ◌, neg_ℤ, pos, ◌*ℤ◌, ◌++◌, length, take, All, IsNone, IfOk, IfNone, IfSome};
+ghost use Rattle.std.specs.Prelude.{◌≡◌, ◌+◌, ◌<◌, ◌≤◌, ◌↔◌, ◌≤ℤ◌, neg_ℤ, pos, ◌*ℤ◌, ◌++◌, length, take, All, IsNone, IfOk, IfSome, MatchOption};
 ghost use Rattle.stn_time.specs.Time.{horizon};
 ghost use Rattle.stn_net.specs.Event.{most_events};
 ghost use Rattle.stn_net.specs.Difference.{NamesEvents};
@@ -6,9 +6,9 @@ ghost use Rattle.stn_net.specs.Schedule.{HasSchedule};
 ghost use Rattle.stn_net.specs.Horizon.{horizon_bounds};
 ghost use Rattle.stn_conflict.specs.Arcs.{arc, weight_of, IsNegativeCycle};
 ghost use Rattle.stn_conflict.specs.Culprit.{IsRefusedSide};
-ghost use Rattle.stn_conflict.specs.Distances.{AreDistances, HasTables};
+ghost use Rattle.stn_conflict.specs.Distances.{AreDistances, AreEstimates, HasTables};
 ghost use Rattle.stn_conflict.specs.Named.{IsNamedCycle};
-ghost use Rattle.stn_conflict.specs.Search.{IsCycleOf};
+ghost use Rattle.stn_conflict.specs.Search.{IsCycleOf, IsFirstRefused};
 
 use crate::links::{Cycle, Link, Side};
 use crate::listed::Listed;
@@ -47,10 +47,42 @@ pub fn cycle<A: Allocator + Copy>(
         (λ cycle. length cycle.links.items ≤ events + 1)) }
 {
     let bounds = Listed::new(base, extra);
-    let outgoing = outgoing_links(alloc, events, &bounds)?;
-    let mut search = Search::new(alloc, &outgoing)?;
-    match first_refused(alloc, events, &bounds, &mut search)? {
-        Some(place) => Ok(Some(named(alloc, events, &bounds, &mut search, place)?)),
+    cycle_of(alloc, events, &bounds)
+}
+
+// The named cycle of the bounds, or none where they have a schedule.
+fn cycle_of<A: Allocator + Copy>(
+    alloc: A,
+    events: u16,
+    bounds: &Listed<'_>,
+) -> Result<Option<Cycle<A>>, Memory>
+    requires few { events ≤ most_events }
+    requires begins { take events bounds.now ≡ horizon_bounds events }
+    requires named { All (NamesEvents events) bounds.now }
+    ensures { IfOk result (λ found. MatchOption found (HasSchedule bounds.now)
+        (λ cycle. IsCycleOf bounds.now events cycle.links.items cycle.sum)) }
+{
+    let outgoing = outgoing_links(alloc, events, bounds)?;
+    searched_cycle(alloc, events, bounds, &outgoing)
+}
+
+// The same, by a search over these rows of links.
+fn searched_cycle<A: Allocator + Copy>(
+    alloc: A,
+    events: u16,
+    bounds: &Listed<'_>,
+    outgoing: &[Vec<Link, A>],
+) -> Result<Option<Cycle<A>>, Memory>
+    requires few { events ≤ most_events }
+    requires rows { length outgoing.now ≡ events + 1 }
+    requires begins { take events bounds.now ≡ horizon_bounds events }
+    requires named { All (NamesEvents events) bounds.now }
+    ensures { IfOk result (λ found. MatchOption found (HasSchedule bounds.now)
+        (λ cycle. IsCycleOf bounds.now events cycle.links.items cycle.sum)) }
+{
+    let mut search = Search::new(alloc, outgoing)?;
+    match first_refused(alloc, events, bounds, &mut search)? {
+        Some(place) => Ok(Some(named(alloc, events, bounds, &mut search, place)?)),
         None => Ok(None),
     }
 }
@@ -66,12 +98,8 @@ fn first_refused<A: Allocator + Copy>(
     requires begins { take events bounds.now ≡ horizon_bounds events }
     requires named { All (NamesEvents events) bounds.now }
     requires tables { HasTables (events + 1) search.old }
-    ensures none { IfOk result (λ found. IfNone found (HasSchedule bounds.now)) }
-    ensures there { IfOk result (λ found. IfSome found (λ place. place < length bounds.now)) }
-    ensures past { IfOk result (λ found. IfSome found (λ place. events ≤ place)) }
-    ensures before { IfOk result (λ found. IfSome found (λ place. HasSchedule (take place bounds.now))) }
-    ensures refused { IfOk result (λ found. IfSome found
-        (λ place. ¬ HasSchedule (take (place + 1) bounds.now))) }
+    ensures found { IfOk result (λ found. MatchOption found (HasSchedule bounds.now)
+        (IsFirstRefused bounds.now events)) }
     ensures tables { HasTables (events + 1) search.new }
 {
     search.begin(Event::origin());
@@ -79,11 +107,30 @@ fn first_refused<A: Allocator + Copy>(
     if search.settle(bounds) {
         return Ok(None);
     }
+    Ok(Some(first_between(events, bounds, search, &mut known)))
+}
+
+// The same place, where the bounds have no schedule, and `known` has estimates for the horizon bounds.
+fn first_between<A: Allocator + Copy>(
+    events: u16,
+    bounds: &Listed<'_>,
+    search: &mut Search<'_, A>,
+    known: &mut [i64],
+) -> usize
+    requires begins { take events bounds.now ≡ horizon_bounds events }
+    requires named { All (NamesEvents events) bounds.now }
+    requires tables { HasTables (events + 1) search.old }
+    requires known { AreEstimates (take events bounds.now) search.old.start known.old }
+    requires long { length known.old ≡ events + 1 }
+    requires none { ¬ HasSchedule bounds.now }
+    ensures first { IsFirstRefused bounds.now events result }
+    ensures tables { HasTables (events + 1) search.new }
+{
     let mut low = usize::from(events);
     let mut high = bounds.len();
     while high - low > 1 {
         let middle = low + (high - low) / 2;
-        search.far.copy_from_slice(&known);
+        search.far.copy_from_slice(known);
         if search.settle(&bounds.before(middle)) {
             known.copy_from_slice(&search.far);
             low = middle;
@@ -91,7 +138,7 @@ fn first_refused<A: Allocator + Copy>(
             high = middle;
         }
     }
-    Ok(Some(low))
+    low
 }
 
 // The side of a bound that other bounds refuse; the search then has the distances over these from the
@@ -131,10 +178,7 @@ fn named<A: Allocator + Copy>(
     requires begins { take events bounds.now ≡ horizon_bounds events }
     requires named { All (NamesEvents events) bounds.now }
     requires tables { HasTables (events + 1) search.old }
-    requires there { place < length bounds.now }
-    requires past { events ≤ place }
-    requires before { HasSchedule (take place bounds.now) }
-    requires refused { ¬ HasSchedule (take (place + 1) bounds.now) }
+    requires first { IsFirstRefused bounds.now events place }
     ensures { IfOk result (λ cycle. IsCycleOf bounds.now events cycle.links.items cycle.sum) }
 {
     let before = bounds.before(place);

@@ -1,4 +1,4 @@
-ghost use Rattle.std.specs.Prelude.{◌≡◌, ◌+◌, ◌<◌, ◌≤◌, ◌↔◌, ◌++◌, length, take, reverse, All, IsNone, IfOk, IfSome};
+ghost use Rattle.std.specs.Prelude.{◌≡◌, ◌+◌, ◌<◌, ◌≤◌, ◌↔◌, ◌++◌, length, take, reverse, All, IsNone, IfOk, IfSome, MatchOption};
 ghost use Rattle.stn_net.specs.Event.{most_events};
 ghost use Rattle.stn_net.specs.Difference.{NamesEvents};
 ghost use Rattle.stn_net.specs.Schedule.{HasSchedule};
@@ -46,11 +46,51 @@ pub fn way<A: Allocator + Copy>(
     ensures empty { IfOk result (λ found. IfSome found (λ way. from ≡ to → length way.links.items ≡ 0)) }
 {
     let bounds = Listed::new(base, extra);
-    let outgoing = outgoing_links(alloc, events, &bounds)?;
-    let mut search = Search::new(alloc, &outgoing)?;
+    way_over(alloc, events, &bounds, from, to)
+}
+
+// The way over the bounds, or none where they have no schedule.
+fn way_over<A: Allocator + Copy>(
+    alloc: A,
+    events: u16,
+    bounds: &Listed<'_>,
+    from: Event,
+    to: Event,
+) -> Result<Option<Way<A>>, Memory>
+    requires few { events ≤ most_events }
+    requires begins { take events bounds.now ≡ horizon_bounds events }
+    requires named { All (NamesEvents events) bounds.now }
+    requires from { from ≤ events }
+    requires to { to ≤ events }
+    ensures { IfOk result (λ found. MatchOption found (¬ HasSchedule bounds.now)
+        (λ way. IsWayOf bounds.now from to (events + 1) way.links.items way.sum)) }
+{
+    let outgoing = outgoing_links(alloc, events, bounds)?;
+    searched_way(alloc, events, bounds, &outgoing, from, to)
+}
+
+// The same, by a search over these rows of links.
+fn searched_way<A: Allocator + Copy>(
+    alloc: A,
+    events: u16,
+    bounds: &Listed<'_>,
+    outgoing: &[Vec<Link, A>],
+    from: Event,
+    to: Event,
+) -> Result<Option<Way<A>>, Memory>
+    requires few { events ≤ most_events }
+    requires rows { length outgoing.now ≡ events + 1 }
+    requires begins { take events bounds.now ≡ horizon_bounds events }
+    requires named { All (NamesEvents events) bounds.now }
+    requires from { from ≤ events }
+    requires to { to ≤ events }
+    ensures { IfOk result (λ found. MatchOption found (¬ HasSchedule bounds.now)
+        (λ way. IsWayOf bounds.now from to (events + 1) way.links.items way.sum)) }
+{
+    let mut search = Search::new(alloc, outgoing)?;
     search.begin(from);
-    if search.settle(&bounds) {
-        Ok(Some(way_to(alloc, &bounds, &search.far, from, to)?))
+    if search.settle(bounds) {
+        Ok(Some(way_to(alloc, bounds, &search.far, from, to)?))
     } else {
         Ok(None)
     }

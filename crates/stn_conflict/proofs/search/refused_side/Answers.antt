@@ -1,4 +1,4 @@
-use Rattle.std.proofs.Common.{◌≡◌, ◌<◌, ◌∙◌, ap, length, arith}
+use Rattle.std.proofs.Common.{◌≡◌, ◌<◌, ◌∙◌, ap, length, arith, rules}
 use Rattle.std.specs.Prelude.{pos, ◌+ℤ◌, ◌≤ℤ◌, ◌<ℤ◌}
 use Rattle.std.proofs.lemmas.Int.{ints}
 use Rattle.std.proofs.lemmas.List.{get_or_read}
@@ -6,8 +6,42 @@ use Rattle.stn_net.specs.Schedule.{times_of}
 use Rattle.stn_conflict.specs.Distances.{AreDistances}
 use Rattle.stn_conflict.proofs.search.refused_side.Goals as goal
 
-pub returns-then-index-get-lt0-clause-side : goal.returns-then-index-get-lt0-clause-side
-returns-then-index-get-lt0-clause-side g c =
+pub distances-requires : goal.distances-requires
+distances-requires g c = record {
+  tables = c.requires.tables;
+  begins = c.requires.begins;
+  named = c.requires.named;
+  start = rw c.to.ensures.value c.requires.bound.to;
+  possible = c.requires.possible;
+}
+
+pub index-requires : goal.index-requires
+index-requires g c =
+    let place : c.from-2.result ≡ c.args.bound.now.from = c.from-2.ensures ∙ c.number.ensures.value ∙ c.from.ensures.value in
+    omega (arith, c.requires.bound.from, c.distances.ensures.tables.far, c.distances.new.self.far.ok.0)
+
+pub overflow_add-index : goal.overflow_add-index
+overflow_add-index g c =
+    let bound = c.args.bound.now in
+    let far = c.distances.new.self.far.items in
+    let place : c.from-2.result ≡ bound.from = c.from-2.ensures ∙ c.number.ensures.value ∙ c.from.ensures.value in
+    let below : bound.from < length far = omega (arith, c.distances.ensures.tables.far, c.requires.bound.from) in
+    let read : c.index.result.now ≡ times_of far bound.from = get_or_read far _ _ (rw place below) c.index.ensures (pos 0) ∙ ap (times_of far) place in
+    let reach = c.distances.ensures.distances.within bound.from below in
+    let within = c.get.ensures.within in
+    omega (arith, ints)
+
+pub distances-requires-2 : goal.distances-requires-2
+distances-requires-2 g c = record {
+  tables = c.distances.ensures.tables;
+  begins = c.requires.begins;
+  named = c.requires.named;
+  start = rw c.from-3.ensures.value c.requires.bound.from;
+  possible = c.requires.possible;
+}
+
+pub returns-then-index-get-lt0 : goal.returns-then-index-get-lt0
+returns-then-index-get-lt0 g c =
     let bound = c.args.bound.now in
     let far = c.distances.new.self.far.items in
     let exact : AreDistances c.args.bounds.now bound.to far = rw c.to.ensures.value at c.distances.ensures.distances in
@@ -20,10 +54,15 @@ returns-then-index-get-lt0-clause-side g c =
     let value = c.get.ensures.value in
     let test = c.if-index-get-lt0.true in
     let less : (times_of far bound.from +ℤ bound.hi) <ℤ pos 0 = omega (arith, ints) in
-    (times_of far bound.from, exact.tightest bound.from below, less)
+    record {
+      side = (times_of far bound.from, exact.tightest bound.from below, less);
+      ordered = search rules;
+      tables = c.distances.ensures.tables;
+      distances = exact;
+    }
 
-pub returns-clause-side : goal.returns-clause-side
-returns-clause-side g c =
+pub returns : goal.returns
+returns g c =
     let bound = c.args.bound.now in
     let far = c.distances.new.self.far.items in
     let exact : AreDistances c.args.bounds.now bound.to far = rw c.to.ensures.value at c.distances.ensures.distances in
@@ -36,4 +75,9 @@ returns-clause-side g c =
     let value = c.get.ensures.value in
     let test = c.if-index-get-lt0.false in
     let more : pos 0 ≤ℤ (times_of far bound.from +ℤ bound.hi) = omega (arith, ints) in
-    (times_of far bound.from, exact.tightest bound.from below, more)
+    record {
+      side = (times_of far bound.from, exact.tightest bound.from below, more);
+      ordered = search rules;
+      tables = c.distances-2.ensures.tables;
+      distances = rw c.from-3.ensures.value at c.distances-2.ensures.distances;
+    }

@@ -1,12 +1,12 @@
 use Rattle.std.proofs.Common.{◌≡◌, ◌<◌, ◌≤◌, ◌+◌, ◌-◌, length, take}
 use Rattle.stn_net.specs.Schedule.{HasSchedule}
 use Rattle.stn_conflict.specs.Distances.{AreEstimates, HasTables}
-use Rattle.stn_conflict.proofs.search.first_refused.Given as goal
+use Rattle.stn_conflict.proofs.search.first_between.Given as goal
 
 abbrev pub invariant-loop-high : goal.invariant-loop-high
 invariant-loop-high g l = record {
-  known : AreEstimates (take l.low l.bounds) l.search.start l.known.items;
-  long : length l.known.items ≡ l.events + 1;
+  known : AreEstimates (take l.low l.bounds) l.search.start l.known;
+  long : length l.known ≡ l.events + 1;
   tables : HasTables (l.events + 1) l.search;
   past : l.events ≤ l.low;
   apart : l.low < l.high;
