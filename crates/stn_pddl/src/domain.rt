@@ -184,22 +184,22 @@ fn read_part<'a, A: Allocator + Copy>(
     }
 }
 
-/// The parts of a domain in a row.
+/// Takes up the parts of a domain in a row.
 #[tactic(auto, unfolding(crate::specs::Domains::parts))]
 fn read_parts<'a, A: Allocator + Copy>(
     alloc: A,
     children: Cursor<'a>,
-) -> Result<Actions<'a, A>, DomainFault>
-    ensures { Gives is_memory (λ actions. actions) result (parts (row_at children.entry) []) }
+    actions: &mut Actions<'a, A>,
+) -> Result<(), DomainFault>
+    ensures { Gives is_memory (λ _. actions.new) result (parts (row_at children.entry) actions.old) }
 {
-    let mut actions = Actions::new(alloc);
     let mut cursor = children;
     'parts: loop {
         match cursor.next_child() {
-            Child::End(_) => return Ok(actions),
+            Child::End(_) => return Ok(()),
             Child::Word(line, _, _) => return Err(DomainFault::Syntax(line)),
             Child::Group(line, inside) => {
-                read_part(alloc, line, inside, &mut actions)?;
+                read_part(alloc, line, inside, actions)?;
                 cursor = inside.skip();
             }
         }
@@ -239,7 +239,9 @@ fn read_root<'a, A: Allocator + Copy>(
         return Err(DomainFault::Syntax(line));
     };
     if is_same_word(define, b"define") && is_title(title) {
-        read_parts(alloc, title.skip())
+        let mut actions = Actions::new(alloc);
+        read_parts(alloc, title.skip(), &mut actions)?;
+        Ok(actions)
     } else {
         Err(DomainFault::Syntax(line))
     }
