@@ -1,11 +1,11 @@
 -- What holds of the bounds of a plan.
-use Rattle.std.proofs.Common.{◌≡◌, ◌≢◌, ℕ, ◌+◌, ◌*◌, ◌<◌, ◌≤◌, ℤ, pos, ◌+ℤ◌, ◌≤ℤ◌, ◌<ℤ◌, zero, suc, Bool, true, false, not, ◌&&◌, eqb, nat_lt, cond, List, [], ◌∷◌, ◌++◌, length, take, Ordering, Less, Equal, Greater, refl, sym, ap, subst, ◌∙◌, arith, append_assoc, length-append}
+use Rattle.std.proofs.Common.{◌≡◌, ◌≢◌, ℕ, ◌+◌, ◌*◌, ◌<◌, ◌≤◌, ℤ, pos, ◌+ℤ◌, ◌≤ℤ◌, ◌<ℤ◌, zero, suc, Bool, true, false, not, ◌&&◌, eqb, nat_lt, cond, List, [], ◌∷◌, ◌++◌, length, get_or, take, Ordering, Less, Equal, Greater, refl, sym, ap, subst, ◌∙◌, arith, append_assoc, length-append}
 use Rattle.std.specs.List.{All, AllByRecursion}
 use Rattle.std.specs.Ordering.{int_cmp, MatchOrdering}
 use Rattle.std.specs.Cmp.{int_ranks}
 use Rattle.std.proofs.lemmas.Bool.Decides.{nat_tests}
 use Rattle.std.proofs.lemmas.Int.{ints}
-use Rattle.std.proofs.lemmas.List.{take-append-le, take_all}
+use Rattle.std.proofs.lemmas.List.{get_or_default, take-append-le, take_all}
 use Rattle.std.proofs.lemmas.List.Elements.{All-from_recursion, recursion_from_All}
 use Rattle.stn_time.specs.Time.{horizon}
 use Rattle.stn_time.proofs.Each.{each_joined, each_parted, each_pushed}
@@ -184,3 +184,27 @@ more_pairs interferes planned one count first old new was is =
     subst (λ n. event_orders interferes planned one n ≡ event_orders interferes planned one count ++ pair_order interferes planned one n) next refl in
     is ∙ ap (λ l. l ++ pair_order interferes planned one (count + 1)) was
     ∙ append_assoc first (event_orders interferes planned one count) (pair_order interferes planned one (count + 1)) ∙ ap (λ l. first ++ l) (sym more)
+
+-- the bounds of one duration more
+pub more_durations : (durations : List ℤ) (before : ℕ) (duration : ℤ) (first old new : List Difference) → before < length durations → duration ≡ get_or durations before duration
+    → old ≡ first ++ duration_bounds (λ step. get_or durations step (pos 0)) before → new ≡ old ++ duration_bound before duration ∷ []
+    → new ≡ first ++ duration_bounds (λ step. get_or durations step (pos 0)) (before + 1)
+unfolding duration_bounds
+more_durations durations before duration first old new within read was is =
+    let of_step : ℕ → ℤ = λ step. get_or durations step (pos 0) in
+    let next : suc before ≡ before + 1 = omega arith in
+    let more : duration_bounds of_step before ++ duration_bound before duration ∷ [] ≡ duration_bounds of_step (before + 1) =
+    ap (λ d. duration_bounds of_step before ++ duration_bound before d ∷ []) (read ∙ get_or_default durations before duration (pos 0) within)
+    ∙ ap (duration_bounds of_step) next in
+    is ∙ ap (λ l. l ++ duration_bound before duration ∷ []) was ∙ append_assoc first (duration_bounds of_step before) (duration_bound before duration ∷ []) ∙ ap (λ l. first ++ l) more
+
+-- the orders of one event more
+pub more_orders : (interferes : ℕ → ℕ → Bool) (planned : ℕ → ℤ) (count before : ℕ) (first old new : List Difference) → old ≡ first ++ orders interferes planned count before
+    → new ≡ old ++ event_orders interferes planned (before + 1) count → new ≡ first ++ orders interferes planned count (before + 1)
+unfolding orders
+more_orders interferes planned count before first old new was is =
+    let next : suc before ≡ before + 1 = omega arith in
+    let more : orders interferes planned count (before + 1) ≡ orders interferes planned count before ++ event_orders interferes planned (before + 1) count =
+    subst (λ n. orders interferes planned count n ≡ orders interferes planned count before ++ event_orders interferes planned n count) next refl in
+    is ∙ ap (λ l. l ++ event_orders interferes planned (before + 1) count) was
+    ∙ append_assoc first (orders interferes planned count before) (event_orders interferes planned (before + 1) count) ∙ ap (λ l. first ++ l) (sym more)

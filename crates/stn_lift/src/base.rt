@@ -2,6 +2,7 @@ ghost use Rattle.std.specs.Prelude.{◌≡◌, ◌*◌, ◌<◌, ◌≤◌, ◌�
 ghost use Rattle.stn_text.specs.Faults.{Gives};
 ghost use Rattle.stn_net.specs.Event.{most_events, most_steps};
 ghost use Rattle.stn_net.specs.Schedule.{IsSchedule};
+ghost use Rattle.stn_pddl.specs.Domains.{domain_of};
 ghost use Rattle.stn_lift.specs.Activities.{activities, IsCause};
 ghost use Rattle.stn_lift.specs.Activities as lifting;
 ghost use Rattle.stn_lift.specs.BaseBounds.{KeepsOrder};
@@ -135,8 +136,23 @@ fn base_of_texts<A: Allocator + Copy>(
     ensures sound { IfOk result IsSoundSource }
 {
     let domain = Domain::read(alloc, domain)?;
+    base_of_plan(alloc, &domain, plan)
+}
+
+// The base of a domain that was read and the text of a plan.
+fn base_of_plan<'a, A: Allocator + Copy>(
+    alloc: A,
+    domain: &Domain<'a, A>,
+    plan: &'a [u8],
+) -> Result<Base<A>, BaseFault>
+    requires { domain_of domain.now.text ≡ Ok domain.now.actions }
+    ensures made { IfOk result (λ base. base ≡ files domain.now.text plan.now) }
+    ensures limit { ¬ IsErrOf result BaseFault.TooManySteps }
+    ensures given { Gives is_memory (λ base. base) result (base_of (files domain.now.text plan.now)) }
+    ensures sound { IfOk result IsSoundSource }
+{
     let plan = Plan::read(alloc, plan)?;
-    let base = lift(alloc, &domain, &plan)?;
+    let base = lift(alloc, domain, &plan)?;
     Ok(base)
 }
 

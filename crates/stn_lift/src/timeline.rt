@@ -171,6 +171,21 @@ impl<A: Allocator + Copy> Timeline<A> {
         })
     }
 
+    // Takes up the times of a step.
+    fn append_times(&mut self, time: Ms, duration: Ms) -> Result<(), AllocError>
+        requires time { pos 0 ≤ℤ time }
+        requires duration { pos 0 ≤ℤ duration }
+        requires last { (time +ℤ duration) ≤ℤ horizon }
+        ensures durations { OnOk result (self.new.durations.items ≡ self.old.durations.items ++ duration ∷ []) }
+        ensures times { OnOk result (self.new.times.items ≡ (self.old.times.items ++ time ∷ []) ++ (time +ℤ duration) ∷ []) }
+        ensures footprints { OnOk result (self.new.footprints.items ≡ self.old.footprints.items) }
+    {
+        self.durations.push(duration)?;
+        self.times.push(time)?;
+        self.times.push(sum(time, duration))?;
+        Ok(())
+    }
+
     // Takes up a step at a time and of a duration, with the footprints of its events.
     fn append(
         &mut self,
@@ -187,9 +202,7 @@ impl<A: Allocator + Copy> Timeline<A> {
         ensures footprints { OnOk result (map numbers_of self.new.footprints.items
             ≡ (map numbers_of self.old.footprints.items ++ numbers_of start ∷ []) ++ numbers_of end ∷ []) }
     {
-        self.durations.push(duration)?;
-        self.times.push(time)?;
-        self.times.push(sum(time, duration))?;
+        self.append_times(time, duration)?;
         self.footprints.push(start)?;
         self.footprints.push(end)?;
         Ok(())
@@ -218,6 +231,30 @@ impl<A: Allocator + Copy> Timeline<A> {
         Ok(())
     }
 
+    // Takes up the steps of a plan in a domain, where there are none yet.
+    fn append_steps<'a>(
+        &mut self,
+        atoms: &mut Atoms<'a, A>,
+        domain: &Domain<'a, A>,
+        steps: &[Step<'a, A>],
+    ) -> Result<(), LiftFault>
+        requires empty { IsTimeline atoms.old [] self.old.durations.items self.old.times.items (map numbers_of self.old.footprints.items) }
+        requires few { length steps.now ≤ most_steps }
+        requires timely { All (λ step. IsTimely (planned_step step)) steps.now }
+        ensures made { OnOk result ((found : List Activity)
+            × (activities domain.now.actions 0 (map planned_step steps.now) ≡ Ok found)
+            × IsLifted found self.new.durations.items self.new.times.items (map numbers_of self.new.footprints.items)) }
+        ensures fault { IfErr result (λ fault. Fails is_memory fault (activities domain.now.actions 0 (map planned_step steps.now))) }
+    {
+        let mut number = 0;
+        for step in steps {
+            number += 1;
+            let action = action_of(domain, number, step)?;
+            self.push(atoms, step, action)?;
+        }
+        Ok(())
+    }
+
     /// The steps of a plan in a domain, or the first fault: of the first step with a cause against it, the first.
     pub fn read<'a>(
         alloc: A,
@@ -231,14 +268,9 @@ impl<A: Allocator + Copy> Timeline<A> {
             × IsLifted found made.durations.items made.times.items (map numbers_of made.footprints.items)) }
         ensures fault { IfErr result (λ fault. Fails is_memory fault (activities domain.now.actions 0 (map planned_step steps.now))) }
     {
-        let mut atoms = Atoms::new(alloc);
         let mut timeline = Timeline::new(alloc)?;
-        let mut number = 0;
-        for step in steps {
-            number += 1;
-            let action = action_of(domain, number, step)?;
-            timeline.push(&mut atoms, step, action)?;
-        }
+        let mut atoms = Atoms::new(alloc);
+        timeline.append_steps(&mut atoms, domain, steps)?;
         Ok(timeline)
     }
 }

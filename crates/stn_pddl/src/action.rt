@@ -57,14 +57,14 @@ pub struct Action<'a, A: Allocator> {
 }
 
 /// Conditions or effects.
-#[derive(Clone, Copy, Debug, PartialEq, Eq)]
+#[derive(Clone, Copy)]
 pub enum Side {
     Condition,
     Effect,
 }
 
 /// When a condition holds or an effect comes.
-#[derive(Clone, Copy, Debug, PartialEq, Eq)]
+#[derive(Clone, Copy)]
 pub enum Label {
     StartCondition,
     OverAll,

@@ -53,7 +53,9 @@ impl<'a, A: Allocator + Copy> Actions<'a, A> {
         requires { is_taken (action_schema action).name self.old ≡ false }
         ensures { IfOk result (λ _. self.new ≡ self.old ++ action_schema action.entry ∷ []) }
     {
-        self.by_name.insert(action.name, action)?;
+        let Ok(_) = self.by_name.insert(action.name, action) else {
+            return Err(AllocError);
+        };
         Ok(())
     }
 

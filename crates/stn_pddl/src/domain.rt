@@ -2,21 +2,25 @@
 
 ghost use Rattle.std.specs.Prelude.{◌≡◌, ◌≤◌, [], false, length, IfOk, IfSome, MatchOption, Some, None, Ok};
 ghost use Rattle.std.specs.Option.{option_map};
-ghost use Rattle.stn_text.specs.Faults.{Gives};
+ghost use Rattle.stn_text.specs.Faults.{Gives, ◌>>=◌ as ◌and_then◌};
 ghost use Rattle.stn_tree.specs.Cursors.{row_at};
 ghost use Rattle.stn_tree.specs.Scan.{most_text};
 ghost use Rattle.stn_pddl.specs.Faults.{is_memory};
 ghost use Rattle.stn_pddl.specs.Actions as rule;
 ghost use Rattle.stn_pddl.specs.Domains.{part, parts, is_title, root, domain_of_tree, domain_of, action_named};
 ghost use Rattle.stn_pddl.specs.Sound.{IsSound};
-ghost use Rattle.stn_pddl.specs.Views.{action_schema, word_of};
+ghost use Rattle.stn_pddl.specs.Fields as field;
+ghost use Rattle.stn_pddl.specs.Schemas.{bare_action};
+ghost use Rattle.stn_pddl.specs.Views.{action_schema, word_of, words_of};
+ghost use Rattle.stn_pddl.specs.declared.action.Side.TheVariants.{Condition, Effect};
 ghost use Rattle.stn_pddl.specs.FieldViews.{listing_of, values_of};
 
-use crate::action::{Action, Side};
+use crate::action::{Action, Names, Side};
 use crate::actions::Actions;
 use crate::fault::DomainFault;
 use crate::fields::{Listing, Values, read_duration, read_parameters};
 use crate::word::{Section, is_name, section_of};
+use indexmap::IndexSet;
 use std::alloc::Allocator;
 use std::marker::Model;
 use stn_tree::{Child, Cursor, Name, is_same_word};
@@ -57,6 +61,39 @@ fn read_timed_value<'a, A: Allocator + Copy>(
     Ok(())
 }
 
+/// Takes up the values of `:condition` and `:effect`.
+fn read_sides<'a, A: Allocator + Copy>(
+    alloc: A,
+    values: Values<'a>,
+    action: &mut Action<'a, A>,
+) -> Result<(), DomainFault>
+    ensures { Gives is_memory (λ _. action_schema action.new) result
+        (rule.timed_value Condition (values_of values.entry).condition (action_schema action.old)
+        and_then rule.timed_value Effect (values_of values.entry).effect) }
+{
+    read_timed_value(alloc, Side::Condition, values.condition, action)?;
+    read_timed_value(alloc, Side::Effect, values.effect, action)
+}
+
+/// The action of a name and its parameters, from its other values.
+fn read_behind_names<'a, A: Allocator + Copy>(
+    alloc: A,
+    name: Name<'a>,
+    names: Names<'a, A>,
+    duration: Listing<'a>,
+    values: Values<'a>,
+) -> Result<Action<'a, A>, DomainFault>
+    ensures { Gives is_memory action_schema result
+        (field.duration (listing_of duration.entry).line (listing_of duration.entry).children and_then λ millis.
+        rule.timed_value Condition (values_of values.entry).condition (bare_action (word_of name.entry) (words_of names.entry.keys) millis)
+        and_then rule.timed_value Effect (values_of values.entry).effect) }
+{
+    let time = read_duration(duration.line, duration.inside)?;
+    let mut action = Action::bare(alloc, name, names, time);
+    read_sides(alloc, values, &mut action)?;
+    Ok(action)
+}
+
 /// The action of a name, from its values.
 #[tactic(auto, unfolding(crate::specs::Actions::action_of_lists))]
 fn read_lists<'a, A: Allocator + Copy>(
@@ -69,12 +106,9 @@ fn read_lists<'a, A: Allocator + Copy>(
     ensures { Gives is_memory action_schema result
         (rule.action_of_lists (word_of name.entry) (listing_of parameters.entry) (listing_of duration.entry) (values_of values.entry)) }
 {
-    let names = read_parameters(alloc, parameters.inside)?;
-    let time = read_duration(duration.line, duration.inside)?;
-    let mut action = Action::bare(alloc, name, names, time);
-    read_timed_value(alloc, Side::Condition, values.condition, &mut action)?;
-    read_timed_value(alloc, Side::Effect, values.effect, &mut action)?;
-    Ok(action)
+    let mut names = IndexSet::new(alloc);
+    read_parameters(parameters.inside, &mut names)?;
+    read_behind_names(alloc, name, names, duration, values)
 }
 
 /// The action of a name on a line, from its fields.
@@ -150,22 +184,22 @@ fn read_part<'a, A: Allocator + Copy>(
     }
 }
 
-/// The parts of a domain in a row.
+/// Takes up the parts of a domain in a row.
 #[tactic(auto, unfolding(crate::specs::Domains::parts))]
 fn read_parts<'a, A: Allocator + Copy>(
     alloc: A,
     children: Cursor<'a>,
-) -> Result<Actions<'a, A>, DomainFault>
-    ensures { Gives is_memory (λ actions. actions) result (parts (row_at children.entry) []) }
+    actions: &mut Actions<'a, A>,
+) -> Result<(), DomainFault>
+    ensures { Gives is_memory (λ _. actions.new) result (parts (row_at children.entry) actions.old) }
 {
-    let mut actions = Actions::new(alloc);
     let mut cursor = children;
     'parts: loop {
         match cursor.next_child() {
-            Child::End(_) => return Ok(actions),
+            Child::End(_) => return Ok(()),
             Child::Word(line, _, _) => return Err(DomainFault::Syntax(line)),
             Child::Group(line, inside) => {
-                read_part(alloc, line, inside, &mut actions)?;
+                read_part(alloc, line, inside, actions)?;
                 cursor = inside.skip();
             }
         }
@@ -205,7 +239,9 @@ fn read_root<'a, A: Allocator + Copy>(
         return Err(DomainFault::Syntax(line));
     };
     if is_same_word(define, b"define") && is_title(title) {
-        read_parts(alloc, title.skip())
+        let mut actions = Actions::new(alloc);
+        read_parts(alloc, title.skip(), &mut actions)?;
+        Ok(actions)
     } else {
         Err(DomainFault::Syntax(line))
     }

@@ -10,24 +10,23 @@ ghost use Rattle.stn_pddl.specs.Fields as spec;
 use crate::action::Names;
 use crate::fault::DomainFault;
 use crate::word::{Field, Item, Key, item_of, key_of};
-use indexmap::IndexSet;
 use std::alloc::Allocator;
 use stn_time::Ms;
 use stn_tree::{Child, Cursor, Name, is_same_word};
 
-/// The parameters of a row.
+/// Takes up the parameters of a row after those that stood before.
 #[tactic(auto, unfolding(crate::specs::Fields::parameters, crate::specs::Fields::parameters_behind_type))]
 pub fn read_parameters<'a, A: Allocator + Copy>(
-    alloc: A,
     children: Cursor<'a>,
-) -> Result<Names<'a, A>, DomainFault>
-    ensures { Gives is_memory (λ names. words_of names.keys) result (spec.parameters (row_at children.entry) []) }
+    names: &mut Names<'a, A>,
+) -> Result<(), DomainFault>
+    ensures { Gives is_memory (λ _. words_of names.new.keys) result
+        (spec.parameters (row_at children.entry) (words_of names.old.keys)) }
 {
-    let mut names = IndexSet::new(alloc);
     let mut cursor = children;
     'parameters: loop {
         match cursor.next_child() {
-            Child::End(_) => return Ok(names),
+            Child::End(_) => return Ok(()),
             Child::Group(line, _) => return Err(DomainFault::Syntax(line)),
             Child::Word(line, word, rest) => match item_of(word) {
                 Item::Parameter => {

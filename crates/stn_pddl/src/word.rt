@@ -8,7 +8,7 @@ ghost use Rattle.stn_pddl.specs.Words as spec;
 use stn_tree::is_same_word as same;
 
 /// The head of a condition or an effect.
-#[derive(Clone, Copy, Debug, PartialEq, Eq)]
+#[derive(Clone, Copy)]
 pub enum Head {
     And,
     Not,
@@ -24,7 +24,7 @@ pub enum Head {
 }
 
 /// A word of a list of parameters.
-#[derive(Clone, Copy, Debug, PartialEq, Eq)]
+#[derive(Clone, Copy)]
 pub enum Item {
     Parameter,
     /// The word before a type.
@@ -33,7 +33,7 @@ pub enum Item {
 }
 
 /// A key of an action.
-#[derive(Clone, Copy, Debug, PartialEq, Eq)]
+#[derive(Clone, Copy)]
 pub enum Field {
     Parameters,
     Duration,
@@ -42,7 +42,7 @@ pub enum Field {
 }
 
 /// A word where a key is wanted.
-#[derive(Clone, Copy, Debug, PartialEq, Eq)]
+#[derive(Clone, Copy)]
 pub enum Key {
     Known(Field),
     /// Another word that begins with `:`.
@@ -51,7 +51,7 @@ pub enum Key {
 }
 
 /// The head of a part of a domain.
-#[derive(Clone, Copy, Debug, PartialEq, Eq)]
+#[derive(Clone, Copy)]
 pub enum Section {
     Skipped,
     Action,

@@ -1,5 +1,5 @@
 -- How the steps of a text are read one after another.
-use Rattle.std.proofs.Common.{◌≡◌, ℕ, ℤ, pos, negsuc, ◌≤ℤ◌, Bool, true, false, ◌||◌, cond, ◌≤◌, nat_lt, length, List, [], ◌∷◌, ◌++◌, Option, Some, None, IfSome, Result, Ok, Err, refl, subst, arith, rules}
+use Rattle.std.proofs.Common.{◌≡◌, ℕ, ℤ, pos, negsuc, ◌≤ℤ◌, Bool, true, false, ◌||◌, cond, ◌≤◌, nat_lt, length, List, [], ◌∷◌, ◌++◌, Option, Some, None, IfSome, Result, Ok, Err, refl, sym, ap, ◌∙◌, append_assoc, subst, arith, rules}
 use Rattle.std.specs.Int.{is_negative}
 use Rattle.std.specs.List.{All}
 use Rattle.std.specs.Option.{option_to_list, option_map_or}
@@ -78,6 +78,18 @@ steps_of-timely (line ∷ lines) steps e =
     let all : option_to_list step.0 ++ behind.0 ≡ steps = let given = behind.2 in cc in
     subst (All IsTimely) all
     (All-append IsTimely (option_to_list step.0) behind.0 (All-option step.0 (step_of-timely line.0 (tokens_of line.1) step.0 step.1)) (steps_of-timely lines behind.0 behind.1))
+
+-- one line more, which gives a step or none
+pub steps_more : (before after : List PlannedStep) (lines rest : List (ℕ × List ℕ)) (line : ℕ × List ℕ) (found : Option PlannedStep) → lines ≡ line ∷ rest → line_step line ≡ Ok found
+    → after ≡ before ++ option_to_list found → behind_steps after (steps_of rest) ≡ behind_steps before (steps_of lines)
+unfolding steps_of
+steps_more before after lines rest line found here is more =
+    by (steps_of rest)
+    ∙ sym (ap (λ all. behind_steps before (steps_of all)) here ∙ ap (λ first. behind_steps before (first >>= λ step. steps_of rest >>= λ steps. Ok (option_to_list step ++ steps))) is)
+  where
+    by : (behind : Result (List PlannedStep) PlanFault) → behind_steps after behind ≡ behind_steps before (behind >>= λ steps. Ok (option_to_list found ++ steps))
+    by (Ok steps) = ap Ok (ap (λ all. all ++ steps) more ∙ append_assoc before (option_to_list found) steps)
+    by (Err fault) = refl
 
 -- a text that is short enough, and whose lines give few enough steps, gives these
 plan_of-Ok : (text : List ℕ) (steps : List PlannedStep) → length text ≤ most_text → length steps ≤ most_steps → steps_of (lines_of text) ≡ Ok steps

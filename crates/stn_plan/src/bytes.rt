@@ -6,7 +6,7 @@ ghost use Rattle.stn_plan.specs.Bytes as spec;
 use stn_text::{begins_comment, is_space, is_visible};
 
 /// A token of one byte.
-#[derive(Clone, Copy, Debug, PartialEq, Eq, Hash)]
+#[derive(Clone, Copy)]
 pub enum Mark {
     /// `:`, after the time of a step.
     Colon,
@@ -21,7 +21,7 @@ pub enum Mark {
 }
 
 /// What a byte of a line is, outside comments.
-#[derive(Clone, Copy, Debug, PartialEq, Eq, Hash)]
+#[derive(Clone, Copy)]
 pub enum Kind {
     /// A space, a tab, or another blank.
     Space,

@@ -8,7 +8,7 @@ use crate::bytes::{Kind, Mark, kind_of};
 use std::marker::Model;
 
 /// A token of a line.
-#[derive(Clone, Copy, Debug)]
+#[derive(Clone, Copy)]
 pub enum Token<'a> {
     /// A longest run of letters.
     Word(&'a [u8]),

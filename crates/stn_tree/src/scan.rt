@@ -28,7 +28,7 @@ pub enum TreeFault {
 }
 
 /// Where a place of a text lies: before its tree, inside as many open brackets, or after the tree.
-#[derive(Clone, Copy, Debug, PartialEq, Eq)]
+#[derive(Clone, Copy)]
 pub enum Place {
     Before,
     Inside(u8),

@@ -4,7 +4,7 @@ use Rattle.stn_lift.specs.Activities.{Activity, activities}
 use Rattle.stn_lift.specs.Timelines.{IsTimeline}
 use Rattle.stn_lift.specs.Views.{numbers_of}
 use Rattle.stn_lift.proofs.TimelineFacts.{behind}
-use Rattle.stn_lift.proofs.timeline.Timeline.read.Given as goal
+use Rattle.stn_lift.proofs.timeline.Timeline.append_steps.Given as goal
 
 -- the first steps are taken up, and the steps as a whole are these and what is left
 abbrev pub invariant-loop-step : goal.invariant-loop-step
@@ -12,5 +12,5 @@ invariant-loop-step g l = record {
   number : l.number ≡ l.step-index;
   found : List Activity;
   whole : activities l.domain.actions 0 (map planned_step l.steps) ≡ behind l.domain.actions found (activities l.domain.actions l.step-index (drop l.step-index (map planned_step l.steps)));
-  timeline : IsTimeline l.atoms found l.timeline.durations.items l.timeline.times.items (map numbers_of l.timeline.footprints.items);
+  timeline : IsTimeline l.atoms found l.self.durations.items l.self.times.items (map numbers_of l.self.footprints.items);
 }

@@ -1,0 +1,60 @@
+use Rattle.std.proofs.Common.{◌≡◌, ◌+◌, ◌<◌, ◌≤◌, ◌++◌, ◌∷◌, [], ◌∙◌, map, length, get_or, drop, sym, ap, subst, refl}
+use Rattle.std.proofs.lemmas.List.{get_or-map, length-map, drop_all}
+use Rattle.std.proofs.lemmas.Result.{err_from_is_err_and}
+use Rattle.stn_pddl.specs.Views.{action_schema}
+use Rattle.stn_plan.specs.Steps.{IsTimely}
+use Rattle.stn_plan.specs.Views.{planned_step}
+use Rattle.stn_lift.specs.Activities.{activity, activities}
+use Rattle.stn_lift.proofs.TimelineFacts.{behind, behind_none, behind_all, fails_at, found_at, all_lifted}
+use Rattle.stn_lift.proofs.timeline.Timeline.append_steps.Goals as goal
+
+pub loop-step-init : goal.loop-step-init
+loop-step-init g c = record {
+  number = refl;
+  found = [];
+  whole = sym (behind_none c.args.domain.now.actions (activities c.args.domain.now.actions 0 (map planned_step c.args.steps.now)));
+  timeline = c.requires.empty;
+}
+
+pub returns-in_err-action-clause-fault : goal.returns-in_err-action-clause-fault
+returns-in_err-action-clause-fault g c =
+    let all = map planned_step c.args.steps.now in
+    let step = planned_step c.step-item.result in
+    let place = c.loop-step.step-index in
+    let mapped : place < length all = rw length-map c.loop-step-test.true in
+    let here : step ≡ get_or all place step = ap planned_step c.step-item.is ∙ sym (get_or-map planned_step c.args.steps.now place c.step-item.result step c.loop-step-test.true) in
+    let returned = err_from_is_err_and c.from_residual.result c.from_residual.ensures.1 in
+    rw (returned.1, returned.2)
+    (fails_at c.args.domain.now.actions all place c.loop-step.invariant.found step mapped here c.loop-step.invariant.whole (c.loop-step.number + 1) c.in_err-action.field-0.0
+    (ap (λ n. n + 1) c.loop-step.invariant.number) c.in_err-action.ensures.given)
+
+pub push-requires-clause-timely : goal.push-requires-clause-timely
+push-requires-clause-timely g c =
+    subst (λ step. IsTimely (planned_step step)) (sym c.step-item.is) (c.requires.timely c.loop-step.step-index c.step-item.result c.loop-step-test.true)
+
+pub loop-step-preserved : goal.loop-step-preserved
+loop-step-preserved g c =
+    let all = map planned_step c.args.steps.now in
+    let step = planned_step c.step-item.result in
+    let place = c.loop-step.step-index in
+    let one = activity step (action_schema c.in_ok-action.action.now) in
+    let mapped : place < length all = rw length-map c.loop-step-test.true in
+    let here : step ≡ get_or all place step = ap planned_step c.step-item.is ∙ sym (get_or-map planned_step c.args.steps.now place c.step-item.result step c.loop-step-test.true) in
+    record {
+      number = ap (λ n. n + 1) c.loop-step.invariant.number;
+      found = c.loop-step.invariant.found ++ one ∷ [];
+      whole = found_at c.args.domain.now.actions all place c.loop-step.invariant.found step mapped here c.loop-step.invariant.whole (c.loop-step.number + 1) one
+          (ap (λ n. n + 1) c.loop-step.invariant.number) c.in_ok-action.ensures.given;
+      timeline = c.in_ok-push.ensures c.loop-step.invariant.found c.loop-step.invariant.timeline;
+    }
+
+pub returns-clause-made : goal.returns-clause-made
+returns-clause-made g c =
+    let all = map planned_step c.args.steps.now in
+    let past : length all ≤ c.loop-step.step-index = rw length-map c.loop-step-test.false in
+    let none : drop c.loop-step.step-index all ≡ [] = drop_all c.loop-step.step-index all past in (
+      c.loop-step.invariant.found,
+      c.loop-step.invariant.whole ∙ ap (λ l. behind c.args.domain.now.actions c.loop-step.invariant.found (activities c.args.domain.now.actions c.loop-step.step-index l)) none
+          ∙ behind_all c.args.domain.now.actions c.loop-step.step-index c.loop-step.invariant.found,
+      all_lifted c.loop-step.atoms c.loop-step.invariant.found _ _ _ c.loop-step.invariant.timeline,
+    )
