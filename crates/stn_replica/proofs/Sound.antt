@@ -13,8 +13,9 @@ use Rattle.stn_records.specs.Content.{Content, is_live, no_content, with_tombsto
 use Rattle.stn_replica.specs.Bounds.{all_bounds, live_bounds, bounds_of, RecordsName}
 use Rattle.stn_replica.specs.Held.{Held}
 use Rattle.stn_replica.specs.Invariant.{IsSettled, IsSoundReplica}
+use Rattle.stn_replica.specs.Walk.{Extends}
 use Rattle.stn_replica.specs.Work.{risen, KeepsLive, SparesWork}
-use Rattle.stn_replica.proofs.Changes.{IsGrown, one_risen, settled_added, extends_joined, named_joined, withdrawn_dead, same_live, none_named, settled_at_first}
+use Rattle.stn_replica.proofs.Changes.{IsGrown, one_risen, settled_added, named_joined, withdrawn_dead, same_live, none_named, settled_at_first}
 use Rattle.stn_replica.proofs.Live.{live_named, settled_alike, settled_grown, conflict_stays}
 use Rattle.stn_replica.proofs.Schedules.{settled_tightened}
 
@@ -110,34 +111,31 @@ sound_rebuilt source state new opening current next possible result p named sett
 }
 
 -- after a take by which no live record stops being live
-pub sound_taken : (source : PlanSource) (state other new : Content) (opening current next : Table) (possible result : Bool)
-    → IsSoundReplica source state opening current possible → possible ≡ true → KeepsLive state new → join_contents state other ≡ Some new → RecordsName (events_of source) other
+pub sound_taken : (source : PlanSource) (state new : Content) (opening current next : Table) (possible result : Bool)
+    → IsSoundReplica source state opening current possible → possible ≡ true → KeepsLive state new → Extends state new → RecordsName (events_of source) new
     → ((bounds : List Difference) → IsExact bounds current → IsSettled (bounds ++ bounds_of (risen state new)) next result)
     → next.events ≡ current.events → next.steps ≤ 18446744073709551615
     → IsSoundReplica source new opening next result
-sound_taken source state other new opening current next possible result p t keeps joined theirs settled events counted =
-    let named = named_joined (events_of source) state other new joined p.named theirs in
-    record {
-      named = named;
-      opening_events = p.opening_events;
-      current_events = events ∙ p.current_events;
-      opening_exact = p.opening_exact;
-      settled = settled_grown (base_bounds source) state new next result (extends_joined state other new joined) keeps
-          (all_named source new opening next p.opening_exact p.opening_events (events ∙ p.current_events) named)
-          (settled (all_bounds source state) (settled_exact (all_bounds source state) current possible t p.settled));
-      counted = counted;
-    }
+sound_taken source state new opening current next possible result p t keeps more named settled events counted = record {
+  named = named;
+  opening_events = p.opening_events;
+  current_events = events ∙ p.current_events;
+  opening_exact = p.opening_exact;
+  settled = settled_grown (base_bounds source) state new next result more keeps
+      (all_named source new opening next p.opening_exact p.opening_events (events ∙ p.current_events) named)
+      (settled (all_bounds source state) (settled_exact (all_bounds source state) current possible t p.settled));
+  counted = counted;
+}
 
-pub sound_taken_in_conflict : (source : PlanSource) (state other new : Content) (opening current : Table) (possible : Bool)
-    → IsSoundReplica source state opening current possible → possible ≡ false → KeepsLive state new → join_contents state other ≡ Some new → RecordsName (events_of source) other
-    → IsSoundReplica source new opening current possible
-sound_taken_in_conflict source state other new opening current possible p t keeps joined theirs = record {
-  named = named_joined (events_of source) state other new joined p.named theirs;
+pub sound_taken_in_conflict : (source : PlanSource) (state new : Content) (opening current : Table) (possible : Bool)
+    → IsSoundReplica source state opening current possible → possible ≡ false → KeepsLive state new → Extends state new → RecordsName (events_of source) new
+    → IsSoundReplica source new opening current false
+sound_taken_in_conflict source state new opening current possible p t keeps more named = record {
+  named = named;
   opening_events = p.opening_events;
   current_events = p.current_events;
   opening_exact = p.opening_exact;
-  settled = subst (λ b. IsSettled (all_bounds source new) current b) (sym t)
-      (conflict_stays (base_bounds source) state new (extends_joined state other new joined) keeps (settled_conflict (all_bounds source state) current possible t p.settled));
+  settled = conflict_stays (base_bounds source) state new more keeps (settled_conflict (all_bounds source state) current possible t p.settled);
   counted = p.counted;
 }
 

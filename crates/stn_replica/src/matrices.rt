@@ -1,9 +1,9 @@
 ghost use Rattle.std.specs.Prelude.{◌≡◌, ◌+◌, ◌≤◌, ◌++◌, ◌↔◌, ◌&&◌, not, List, length, IsTrue, IfOk};
 ghost use Rattle.stn_net.specs.Difference.{Difference, NamesEvents};
 ghost use Rattle.stn_matrix.specs.Tightest.{IsExact};
-ghost use Rattle.stn_lift.specs.PlanSource.{base_bounds, events_of};
+ghost use Rattle.stn_lift.specs.PlanSource.{PlanSource, base_bounds, events_of};
 ghost use Rattle.stn_replica.specs.Bounds.{bounds_of, live_bounds, RecordsName};
-ghost use Rattle.stn_replica.specs.Invariant.{IsSettled};
+ghost use Rattle.stn_replica.specs.Invariant.{IsSettled, IsSoundReplica};
 ghost use Rattle.stn_replica.specs.Work.{risen, KeepsLive};
 ghost use Rattle.stn_replica.specs.Walk as walk;
 ghost use Rattle.stn_replica.specs.Walk.{Extends};
@@ -70,7 +70,7 @@ fn tighten_live<A: Allocator + Copy>(matrix: &mut Matrix<A>, records: &Records<A
 
 // Takes the bounds of the records that have become live, up to one with which the bounds have no
 // schedule. Whether there is no such bound.
-pub fn tighten_risen<A: Allocator + Copy>(
+fn tighten_risen<A: Allocator + Copy>(
     matrix: &mut Matrix<A>,
     before: &Records<A>,
     after: &Records<A>,
@@ -98,6 +98,32 @@ pub fn tighten_risen<A: Allocator + Copy>(
     true
 }
 
+// Brings the current matrix up to records that hold all that was held before. Whether all bounds have a schedule then.
+pub fn catch_up<A: Allocator + Copy>(
+    opening: &PlanMatrix<A>,
+    current: &mut Matrix<A>,
+    possible: bool,
+    before: &Records<A>,
+    after: &Records<A>,
+) -> bool
+    requires extends { Extends before.now after.now }
+    requires events { current.old.events ≡ opening.now.events }
+    requires named { RecordsName current.old.events after.now }
+    requires counted { current.old.steps ≤ u64.MAX }
+    ensures sound { (source : PlanSource) → IsSoundReplica source before.now opening.now current.old possible
+        → IsSoundReplica source after.now opening.now current.new result }
+    ensures least { KeepsLive before.now after.now → current.old.steps ≤ current.new.steps }
+    ensures most { KeepsLive before.now after.now → current.new.steps ≤ current.old.steps + length (risen before.now after.now) }
+{
+    if !keeps_live(before, after) {
+        rebuild(opening, current, after)
+    } else if possible {
+        tighten_risen(current, before, after)
+    } else {
+        false
+    }
+}
+
 // Whether the record of an id has become live, by what walks have left of the records and the replaced ids of before and
 // of the ids replaced now.
 fn has_risen(added: &[(Id, Record)], fallen: &[(Id, ())], replaced: &[(Id, ())], id: Id) -> bool
@@ -107,7 +133,7 @@ fn has_risen(added: &[(Id, Record)], fallen: &[(Id, ())], replaced: &[(Id, ())],
 }
 
 // Whether each record that was live still is: none of those that are replaced now was.
-pub fn keeps_live<A: Allocator + Copy>(before: &Records<A>, after: &Records<A>) -> bool
+fn keeps_live<A: Allocator + Copy>(before: &Records<A>, after: &Records<A>) -> bool
     requires { Extends before.now after.now }
     ensures { IsTrue result ↔ KeepsLive before.now after.now }
 {

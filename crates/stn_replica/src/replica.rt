@@ -17,7 +17,7 @@ ghost use Rattle.stn_replica.specs.Calls.{added, amended, withdrew, took, Leaves
 ghost use Rattle.stn_replica.specs.Refusals.{next_refusal, add_refusal, amend_refusal, done_refusal, withdraw_refusal, take_refusal};
 
 use crate::faults::ReplicaFault;
-use crate::matrices::{all_name_events, keeps_live, rebuild, tighten_risen};
+use crate::matrices::{all_name_events, catch_up, rebuild};
 use crate::names::BoundName;
 use crate::plan_matrix::PlanMatrix;
 use std::alloc::Allocator;
@@ -254,11 +254,13 @@ impl<A: Allocator + Copy> Replica<A> {
             return Err(ReplicaFault::Bound(BoundFault::NoEvent));
         }
         let records = self.records.joined(other)?;
-        if !keeps_live(&self.records, &records) {
-            self.possible = rebuild(&self.opening, &mut self.current, &records);
-        } else if self.possible {
-            self.possible = tighten_risen(&mut self.current, &self.records, &records);
-        }
+        self.possible = catch_up(
+            &self.opening,
+            &mut self.current,
+            self.possible,
+            &self.records,
+            &records,
+        );
         self.records = records;
         Ok(())
     }

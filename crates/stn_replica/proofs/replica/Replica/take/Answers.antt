@@ -10,9 +10,8 @@ use Rattle.stn_replica.proofs.Changes.{extends_joined, named_held}
 use Rattle.stn_replica.proofs.Refused.{take_fault, can_take, can_hold, unnamed_take}
 use Rattle.std.specs.Prelude.{unwrap_or}
 use Rattle.stn_replica.specs.declared.faults.ReplicaFault.TheVariants.{Memory}
-use Rattle.stn_replica.proofs.Sound.{named_taken, sound_rebuilt, sound_taken, sound_taken_in_conflict}
+use Rattle.stn_replica.proofs.Sound.{named_taken}
 use Rattle.stn_replica.proofs.replica.Replica.take.Goals as goal
-use Rattle.stn_replica.proofs.replica.Replica.take.Goals.{then-not-keeps_live, else-not-keeps_live+then-self, else-not-keeps_live+else-self}
 
 pub returns-then-not-all_name_events-clause-fault : goal.returns-then-not-all_name_events-clause-fault
 returns-then-not-all_name_events-clause-fault g c =
@@ -42,55 +41,25 @@ returns-clause-accepted g c =
     let held : Held = record { site = c.self.inside.site; source = rc_value c.self.inside.base; state = c.self.inside.records; steps = c.self.inside.current.steps } in
     rw (← c.self.view_is) (can_take held c.args.other.now _ c.in_ok-records.records theirs c.in_ok-records.ensures.clash c.in_ok-records.ensures.full)
 
-pub rebuild-self-inside-requires-clause-named : goal.rebuild-self-inside-requires-clause-named
-rebuild-self-inside-requires-clause-named g c =
+pub catch_up-self-inside-requires-clause-extends : goal.catch_up-self-inside-requires-clause-extends
+catch_up-self-inside-requires-clause-extends g c = extends_joined c.self.inside.records c.args.other.now c.in_ok-records.records c.in_ok-records.ensures.joined
+
+pub catch_up-self-inside-requires-clause-named : goal.catch_up-self-inside-requires-clause-named
+catch_up-self-inside-requires-clause-named g c =
     let theirs : RecordsName (events_of (rc_value c.self.inside.base)) c.args.other.now =
     subst (λ n. RecordsName n c.args.other.now) (c.events.ensures.value ∙ ap events_of c.deref.ensures) (c.if-not-all_name_events.ensures.0 refl) in
     subst (λ n. RecordsName n c.in_ok-records.records) (sym c.self.invariant.current_events)
     (named_taken (rc_value c.self.inside.base) c.self.inside.records c.args.other.now c.in_ok-records.records c.self.inside.opening c.self.inside.current c.self.inside.possible c.self.invariant c.in_ok-records.ensures.joined theirs)
-
-pub tighten_risen-self-inside-requires-clause-named : goal.tighten_risen-self-inside-requires-clause-named
-tighten_risen-self-inside-requires-clause-named g c =
-    let theirs : RecordsName (events_of (rc_value c.self.inside.base)) c.args.other.now =
-    subst (λ n. RecordsName n c.args.other.now) (c.events.ensures.value ∙ ap events_of c.deref.ensures) (c.if-not-all_name_events.ensures.0 refl) in
-    subst (λ n. RecordsName n c.in_ok-records.records) (sym c.self.invariant.current_events)
-    (named_taken (rc_value c.self.inside.base) c.self.inside.records c.args.other.now c.in_ok-records.records c.self.inside.opening c.self.inside.current c.self.inside.possible c.self.invariant c.in_ok-records.ensures.joined theirs)
-
-pub keeps_live-requires : goal.keeps_live-requires
-keeps_live-requires g c = extends_joined c.self.inside.records c.args.other.now c.in_ok-records.records c.in_ok-records.ensures.joined
 
 pub invariant_of-self : goal.invariant_of-self
-invariant_of-self g c =
-    let theirs : RecordsName (events_of (rc_value c.self.inside.base)) c.args.other.now =
-    subst (λ n. RecordsName n c.args.other.now) (c.events.ensures.value ∙ ap events_of c.deref.ensures) (c.if-not-all_name_events.ensures.0 refl) in
-    let named = named_taken (rc_value c.self.inside.base) c.self.inside.records c.args.other.now c.in_ok-records.records c.self.inside.opening c.self.inside.current c.self.inside.possible c.self.invariant c.in_ok-records.ensures.joined theirs in
-    elim c.if-not-keeps_live.branch [
-      | then-not-keeps_live w ↦
-          rw w.self-inside-is
-          (sound_rebuilt (rc_value c.self.inside.base) c.self.inside.records c.in_ok-records.records c.self.inside.opening c.self.inside.current w.rebuild-self-inside.new.current c.self.inside.possible w.rebuild-self-inside.result
-          c.self.invariant named w.rebuild-self-inside.ensures.settled w.rebuild-self-inside.ensures.events w.rebuild-self-inside.ensures.counted)
-      | else-not-keeps_live+then-self w ↦
-          rw w.self-inside-is
-          (sound_taken (rc_value c.self.inside.base) c.self.inside.records c.args.other.now c.in_ok-records.records c.self.inside.opening c.self.inside.current w.tighten_risen-self-inside.new.matrix c.self.inside.possible w.tighten_risen-self-inside.result
-          c.self.invariant w.if-self.true (w.if-not-keeps_live.ensures.0 refl) c.in_ok-records.ensures.joined theirs
-          w.tighten_risen-self-inside.ensures.settled w.tighten_risen-self-inside.ensures.events w.tighten_risen-self-inside.ensures.counted)
-      | else-not-keeps_live+else-self w ↦
-          rw w.self-inside-is
-          (sound_taken_in_conflict (rc_value c.self.inside.base) c.self.inside.records c.args.other.now c.in_ok-records.records c.self.inside.opening c.self.inside.current c.self.inside.possible
-          c.self.invariant w.if-self.false (w.if-not-keeps_live.ensures.0 refl) c.in_ok-records.ensures.joined theirs)
-    ]
+invariant_of-self g c = c.catch_up-self-inside.ensures.sound (rc_value c.self.inside.base) c.self.invariant
 
 pub returns-clause-work : goal.returns-clause-work
 returns-clause-work g c =
     let before = ap (λ (h : Held). h.steps) c.self.view_is in
-    elim c.if-not-keeps_live.branch [
-      | then-not-keeps_live w ↦ λ keeps has.
-          absurd (false≢true (w.if-not-keeps_live.ensures.1 (subst (λ (h : Held). KeepsLive h.state c.in_ok-records.records) (sym c.self.view_is) keeps)))
-      | else-not-keeps_live+then-self w ↦ λ keeps has.
-          let after = ap (λ x. x.current.steps) w.self-inside-is in
-          let rose = ap (λ (h : Held). length (risen h.state c.in_ok-records.records)) c.self.view_is in
-          (omega (arith, before, after, w.tighten_risen-self-inside.ensures.least), omega (arith, before, after, rose, w.tighten_risen-self-inside.ensures.most))
-      | else-not-keeps_live+else-self w ↦ λ keeps has.
-          let after = ap (λ x. x.current.steps) w.self-inside-is in
-          (omega (arith, before, after), omega (arith, before, after))
-    ]
+    let rose = ap (λ (h : Held). length (risen h.state c.in_ok-records.records)) c.self.view_is in
+    λ keeps _.
+    let kept : KeepsLive c.self.inside.records c.in_ok-records.records = subst (λ (h : Held). KeepsLive h.state c.in_ok-records.records) (sym c.self.view_is) keeps in
+    let least = c.catch_up-self-inside.ensures.least kept in
+    let most = c.catch_up-self-inside.ensures.most kept in
+    (omega (arith, before, least), omega (arith, before, rose, most))
