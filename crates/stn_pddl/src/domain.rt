@@ -76,7 +76,7 @@ fn read_sides<'a, A: Allocator + Copy>(
 }
 
 /// The action of a name and its parameters, from its other values.
-fn read_behind_names<'a, A: Allocator + Copy>(
+fn read_after_names<'a, A: Allocator + Copy>(
     alloc: A,
     name: Name<'a>,
     names: Names<'a, A>,
@@ -108,7 +108,7 @@ fn read_lists<'a, A: Allocator + Copy>(
 {
     let mut names = IndexSet::new(alloc);
     read_parameters(parameters.inside, &mut names)?;
-    read_behind_names(alloc, name, names, duration, values)
+    read_after_names(alloc, name, names, duration, values)
 }
 
 /// The action of a name on a line, from its fields.
