@@ -1,10 +1,10 @@
 -- How a command grows, word by word.
-use Rattle.std.proofs.Common.{◌≡◌, ◌∙◌, List, ap, ap₂, false, [], ◌∷◌, ◌++◌, ◌||◌}
+use Rattle.std.proofs.Common.{◌≡◌, ◌∙◌, ap, ap₂, false, [], ◌∷◌, ◌++◌, ◌||◌}
 use Rattle.clap.specs.Built.{AddsArg}
 use Rattle.clap.specs.Words.{App, Rule, Shape, rule_of, with_subcommand}
 use Rattle.clap.specs.declared.builder.arg.Arg.{Arg}
 use Rattle.clap.specs.declared.builder.command.Command.{Command}
-use Rattle.stn_line.specs.Commands.{Reads, top}
+use Rattle.stn_line.specs.Commands.{Reads, program, top}
 
 -- the shape with one rule more, the last
 abbrev pub with_word : Shape → Rule → Shape
@@ -18,15 +18,6 @@ reads_word reads own is adds = record {
   own = adds.globals ∙ ap₂ (λ a b. a || b) reads.own own;
 }
 
--- the program with these commands
-abbrev pub program : List Shape → App
-program commands = record { top = record top.top { is_leaf = false }; subs = commands }
-
 -- the first command that is added
 pub reads_first : {old new : App} {s shape : Shape} → old ≡ top → s ≡ shape → new ≡ with_subcommand old s → new ≡ program (shape ∷ [])
 reads_first is same adds = adds ∙ ap₂ with_subcommand is same
-
--- a further command is the last of the program's
-pub reads_command : {old new : App} {s shape : Shape} (commands : List Shape) → old ≡ program commands → s ≡ shape → new ≡ with_subcommand old s
-    → new ≡ program (commands ++ shape ∷ [])
-reads_command commands is same adds = adds ∙ ap₂ with_subcommand is same

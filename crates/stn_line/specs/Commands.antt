@@ -136,8 +136,12 @@ top = record {
   subs = [];
 }
 
+-- the program with these commands
+abbrev pub program : List Shape → App
+program shapes = record { top = record top.top { is_leaf = false }; subs = shapes }
+
 unfoldable pub stn : App
-stn = record { top = record top.top { is_leaf = false }; subs = commands }
+stn = program commands
 
 -- clap reads the command's words by this shape
 pub record Reads (shape : Shape) (command : Command) : Type 0 where

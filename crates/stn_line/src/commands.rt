@@ -1,5 +1,5 @@
-ghost use Rattle.std.specs.Prelude.{◌≡◌, false, codes, IfOk, [], ◌∷◌};
-ghost use Rattle.clap.specs.Words.{app_of, rule_of};
+ghost use Rattle.std.specs.Prelude.{◌≡◌, false, codes, IfOk, List, [], ◌∷◌, ◌++◌};
+ghost use Rattle.clap.specs.Words.{Shape, app_of, rule_of};
 ghost use Rattle.stn_line.specs.Commands as spec;
 
 use crate::help::REFUSALS;
@@ -21,28 +21,38 @@ const MOST_SECONDS: u64 = 3_600;
 pub(crate) fn stn<'a>(alloc: Global) -> Result<Command<'a>, AllocError>
     ensures app { IfOk result (λ command. app_of command ≡ spec.stn) }
 {
-    top(alloc)
-        .subcommand(run(alloc))?
-        .subcommand(bare(alloc)?)?
-        .subcommand(init(alloc)?)?
-        .subcommand(loosen(alloc)?)?
-        .subcommand(add(alloc)?)?
-        .subcommand(amend(alloc)?)?
-        .subcommand(withdraw(alloc)?)?
-        .subcommand(done(alloc)?)?
-        .subcommand(merge(alloc)?)?
-        .subcommand(report(alloc)?)?
-        .subcommand(next(alloc)?)?
-        .subcommand(ready(alloc)?)?
-        .subcommand(why(alloc)?)?
-        .subcommand(records(alloc)?)?
-        .subcommand(steps(alloc)?)?
-        .subcommand(bounds(alloc)?)?
-        .subcommand(check(alloc)?)?
-        .subcommand(rehearse(alloc)?)?
-        .subcommand(draw(alloc)?)?
-        .subcommand(serve(alloc)?)?
-        .subcommand(send(alloc)?)
+    let program = top(alloc).subcommand(run(alloc))?;
+    let program = with_command(program, bare(alloc))?;
+    let program = with_command(program, init(alloc))?;
+    let program = with_command(program, loosen(alloc))?;
+    let program = with_command(program, add(alloc))?;
+    let program = with_command(program, amend(alloc))?;
+    let program = with_command(program, withdraw(alloc))?;
+    let program = with_command(program, done(alloc))?;
+    let program = with_command(program, merge(alloc))?;
+    let program = with_command(program, report(alloc))?;
+    let program = with_command(program, next(alloc))?;
+    let program = with_command(program, ready(alloc))?;
+    let program = with_command(program, why(alloc))?;
+    let program = with_command(program, records(alloc))?;
+    let program = with_command(program, steps(alloc))?;
+    let program = with_command(program, bounds(alloc))?;
+    let program = with_command(program, check(alloc))?;
+    let program = with_command(program, rehearse(alloc))?;
+    let program = with_command(program, draw(alloc))?;
+    let program = with_command(program, serve(alloc))?;
+    with_command(program, send(alloc))
+}
+
+// The program with one command more, the last.
+fn with_command<'a>(
+    program: Command<'a>,
+    command: Result<Command<'a>, AllocError>,
+) -> Result<Command<'a>, AllocError>
+    ensures more { (commands : List Shape) → (shape : Shape) → app_of program.entry ≡ spec.program commands
+        → IfOk command.entry (spec.Reads shape) → IfOk result (λ new. app_of new ≡ spec.program (commands ++ shape ∷ [])) }
+{
+    program.subcommand(command?)
 }
 
 // The program before its commands are added.
@@ -69,157 +79,141 @@ fn run<'a>(alloc: Global) -> Command<'a>
 fn bare<'a>(alloc: Global) -> Result<Command<'a>, AllocError>
     ensures is { IfOk result (spec.Reads (spec.on_log (codes "bare") spec.bare_words)) }
 {
-    let steps = number(
-        alloc,
-        "STEPS",
-        "How many steps, each with a start and an end",
-        0,
-        MOST_READ_STEPS,
-    );
     on_log(
         alloc,
         "bare",
         "Makes the log of a plan of STEPS steps, without bounds between them",
     )?
-    .arg(steps)
+    .arg(number(
+        alloc,
+        "STEPS",
+        "How many steps, each with a start and an end",
+        0,
+        MOST_READ_STEPS,
+    ))
 }
 
 fn init<'a>(alloc: Global) -> Result<Command<'a>, AllocError>
     ensures is { IfOk result (spec.Reads (spec.on_log (codes "init") spec.init_words)) }
 {
-    let domain = word(
-        alloc,
-        "DOMAIN",
-        "The file of the domain: durative actions in PDDL",
-    );
-    let plan = word(
-        alloc,
-        "PLAN",
-        "The file of the plan: lines as `0.000: (action a b) [5.000]`",
-    );
     on_log(alloc, "init", "Makes the log of a planner's plan")?
-        .arg(domain)?
-        .arg(plan)
+        .arg(word(
+            alloc,
+            "DOMAIN",
+            "The file of the domain: durative actions in PDDL",
+        ))?
+        .arg(word(
+            alloc,
+            "PLAN",
+            "The file of the plan: lines as `0.000: (action a b) [5.000]`",
+        ))
 }
 
 fn loosen<'a>(alloc: Global) -> Result<Command<'a>, AllocError>
     ensures is { IfOk result (spec.Reads (spec.on_log (codes "loosen") spec.loosen_words)) }
 {
-    let domain = word(
-        alloc,
-        "DOMAIN",
-        "The file of the domain: durative actions in PDDL",
-    );
-    let plan = word(
-        alloc,
-        "PLAN",
-        "The file of the plan: lines as `0.000: (action a b) [5.000]`",
-    );
-    let early = option(
-        alloc,
-        "early",
-        "How many seconds less than planned a step may take; 0 if not given",
-    );
-    let late = option(
-        alloc,
-        "late",
-        "How many seconds more than planned a step may take; 0 if not given",
-    );
     on_log(
         alloc,
         "loosen",
         "Makes the log of a planner's plan whose steps may end earlier or later",
     )?
-    .arg(domain)?
-    .arg(plan)?
-    .arg(early)?
-    .arg(late)
+    .arg(word(
+        alloc,
+        "DOMAIN",
+        "The file of the domain: durative actions in PDDL",
+    ))?
+    .arg(word(
+        alloc,
+        "PLAN",
+        "The file of the plan: lines as `0.000: (action a b) [5.000]`",
+    ))?
+    .arg(option(
+        alloc,
+        "early",
+        "How many seconds less than planned a step may take; 0 if not given",
+    ))?
+    .arg(option(
+        alloc,
+        "late",
+        "How many seconds more than planned a step may take; 0 if not given",
+    ))
 }
 
 fn add<'a>(alloc: Global) -> Result<Command<'a>, AllocError>
     ensures is { IfOk result (spec.Reads (spec.on_log (codes "add") spec.add_words)) }
 {
-    let from = word(alloc, "FROM", "The event to count from: `z`, `s1`, `e1`");
-    let to = word(alloc, "TO", "The event to count to");
-    let lo = option(
-        alloc,
-        "lo",
-        "TO comes at least T seconds after FROM; open if not given",
-    );
-    let hi = option(
-        alloc,
-        "hi",
-        "TO comes at most T seconds after FROM; open if not given",
-    );
     on_log(
         alloc,
         "add",
         "Adds a bound on the time from one event to another",
     )?
-    .arg(from)?
-    .arg(to)?
-    .arg(lo)?
-    .arg(hi)
+    .arg(word(alloc, "FROM", "The event to count from: `z`, `s1`, `e1`"))?
+    .arg(word(alloc, "TO", "The event to count to"))?
+    .arg(option(
+        alloc,
+        "lo",
+        "TO comes at least T seconds after FROM; open if not given",
+    ))?
+    .arg(option(
+        alloc,
+        "hi",
+        "TO comes at most T seconds after FROM; open if not given",
+    ))
 }
 
 fn amend<'a>(alloc: Global) -> Result<Command<'a>, AllocError>
     ensures is { IfOk result (spec.Reads (spec.on_log (codes "amend") spec.amend_words)) }
 {
-    let id = word(alloc, "ID", "The id of the record to replace, as `1.2`");
-    let from = word(alloc, "FROM", "The event to count from: `z`, `s1`, `e1`");
-    let to = word(alloc, "TO", "The event to count to");
-    let lo = option(
-        alloc,
-        "lo",
-        "TO comes at least T seconds after FROM; open if not given",
-    );
-    let hi = option(
-        alloc,
-        "hi",
-        "TO comes at most T seconds after FROM; open if not given",
-    );
     on_log(
         alloc,
         "amend",
         "Replaces a record by a new bound, for good and in one step",
     )?
-    .arg(id)?
-    .arg(from)?
-    .arg(to)?
-    .arg(lo)?
-    .arg(hi)
+    .arg(word(alloc, "ID", "The id of the record to replace, as `1.2`"))?
+    .arg(word(alloc, "FROM", "The event to count from: `z`, `s1`, `e1`"))?
+    .arg(word(alloc, "TO", "The event to count to"))?
+    .arg(option(
+        alloc,
+        "lo",
+        "TO comes at least T seconds after FROM; open if not given",
+    ))?
+    .arg(option(
+        alloc,
+        "hi",
+        "TO comes at most T seconds after FROM; open if not given",
+    ))
 }
 
 fn withdraw<'a>(alloc: Global) -> Result<Command<'a>, AllocError>
     ensures is { IfOk result (spec.Reads (spec.on_log (codes "withdraw") spec.withdraw_words)) }
 {
-    let id = word(
+    on_log(alloc, "withdraw", "Withdraws a record for good")?.arg(word(
         alloc,
         "ID",
         "The id that `add`, `amend` or `done` printed, as `1.2`",
-    );
-    on_log(alloc, "withdraw", "Withdraws a record for good")?.arg(id)
+    ))
 }
 
 fn done<'a>(alloc: Global) -> Result<Command<'a>, AllocError>
     ensures is { IfOk result (spec.Reads (spec.on_log (codes "done") spec.done_words)) }
 {
-    let event = word(alloc, "EVENT", "The event that took place: `s1`, `e1`");
-    let time = word(
-        alloc,
-        "TIME",
-        "When it took place, in seconds after the origin",
-    );
     on_log(alloc, "done", "Records that an event took place")?
-        .arg(event)?
-        .arg(time)
+        .arg(word(alloc, "EVENT", "The event that took place: `s1`, `e1`"))?
+        .arg(word(
+            alloc,
+            "TIME",
+            "When it took place, in seconds after the origin",
+        ))
 }
 
 fn merge<'a>(alloc: Global) -> Result<Command<'a>, AllocError>
     ensures is { IfOk result (spec.Reads (spec.on_log (codes "merge") spec.merge_words)) }
 {
-    let other = word(alloc, "OTHER", "Another site's log of the same plan");
-    on_log(alloc, "merge", "Takes in everything in another site's log")?.arg(other)
+    on_log(alloc, "merge", "Takes in everything in another site's log")?.arg(word(
+        alloc,
+        "OTHER",
+        "Another site's log of the same plan",
+    ))
 }
 
 fn report<'a>(alloc: Global) -> Result<Command<'a>, AllocError>
@@ -235,36 +229,37 @@ fn report<'a>(alloc: Global) -> Result<Command<'a>, AllocError>
 fn next<'a>(alloc: Global) -> Result<Command<'a>, AllocError>
     ensures is { IfOk result (spec.Reads (spec.on_log (codes "next") spec.next_words)) }
 {
-    let now = word(alloc, "NOW", "The time now, in seconds after the origin");
-    on_log(alloc, "next", "Says which event to run next, and when")?.arg(now)
+    on_log(alloc, "next", "Says which event to run next, and when")?.arg(word(
+        alloc,
+        "NOW",
+        "The time now, in seconds after the origin",
+    ))
 }
 
 fn ready<'a>(alloc: Global) -> Result<Command<'a>, AllocError>
     ensures is { IfOk result (spec.Reads (spec.on_log (codes "ready") spec.ready_words)) }
 {
-    let now = word(alloc, "NOW", "The time now, in seconds after the origin");
     on_log(
         alloc,
         "ready",
         "Says which events may run from NOW on, and until when",
     )?
-    .arg(now)
+    .arg(word(alloc, "NOW", "The time now, in seconds after the origin"))
 }
 
 fn why<'a>(alloc: Global) -> Result<Command<'a>, AllocError>
     ensures is { IfOk result (spec.Reads (spec.on_log (codes "why") spec.why_words)) }
 {
-    let event = word(
-        alloc,
-        "EVENT",
-        "The event: `s1`, `e1`, or `z` for the origin",
-    );
     on_log(
         alloc,
         "why",
         "Says which bounds hold the two ends of an event's window",
     )?
-    .arg(event)
+    .arg(word(
+        alloc,
+        "EVENT",
+        "The event: `s1`, `e1`, or `z` for the origin",
+    ))
 }
 
 fn records<'a>(alloc: Global) -> Result<Command<'a>, AllocError>
@@ -300,29 +295,27 @@ fn bounds<'a>(alloc: Global) -> Result<Command<'a>, AllocError>
 fn check<'a>(alloc: Global) -> Result<Command<'a>, AllocError>
     ensures is { IfOk result (spec.Reads (spec.on_log (codes "check") spec.check_words)) }
 {
-    let times = many(
-        alloc,
-        "TIME",
-        "The times of `s1`, `e1`, `s2` .. in seconds, one for each event",
-    );
     on_log(
         alloc,
         "check",
         "Says whether times, one for each event, are a schedule",
     )?
-    .arg(times)
+    .arg(many(
+        alloc,
+        "TIME",
+        "The times of `s1`, `e1`, `s2` .. in seconds, one for each event",
+    ))
 }
 
 fn rehearse<'a>(alloc: Global) -> Result<Command<'a>, AllocError>
     ensures is { IfOk result (spec.Reads (spec.on_log (codes "rehearse") spec.rehearse_words)) }
 {
-    let now = word(alloc, "NOW", "The time now, in seconds after the origin");
     on_log(
         alloc,
         "rehearse",
         "Prints the rest of the plan as `next` would run it from NOW on",
     )?
-    .arg(now)
+    .arg(word(alloc, "NOW", "The time now, in seconds after the origin"))
 }
 
 fn draw<'a>(alloc: Global) -> Result<Command<'a>, AllocError>
@@ -338,25 +331,23 @@ fn draw<'a>(alloc: Global) -> Result<Command<'a>, AllocError>
 fn serve<'a>(alloc: Global) -> Result<Command<'a>, AllocError>
     ensures is { IfOk result (spec.Reads (spec.on_log (codes "serve") spec.serve_words)) }
 {
-    let address = word(
-        alloc,
-        "ADDR",
-        "The address to listen at, as `127.0.0.1:7000`",
-    );
-    let count = number(
-        alloc,
-        "COUNT",
-        "How many connections to serve, one after another",
-        1,
-        MOST_CONNECTIONS,
-    );
     on_log(
         alloc,
         "serve",
         "Exchanges records with the sites that connect",
     )?
-    .arg(address)?
-    .arg(count)?
+    .arg(word(
+        alloc,
+        "ADDR",
+        "The address to listen at, as `127.0.0.1:7000`",
+    ))?
+    .arg(number(
+        alloc,
+        "COUNT",
+        "How many connections to serve, one after another",
+        1,
+        MOST_CONNECTIONS,
+    ))?
     .arg(seconds(
         alloc,
         "How many seconds a session may take, from 1 to 3600; 60 if not given",
@@ -366,13 +357,12 @@ fn serve<'a>(alloc: Global) -> Result<Command<'a>, AllocError>
 fn send<'a>(alloc: Global) -> Result<Command<'a>, AllocError>
     ensures is { IfOk result (spec.Reads (spec.on_log (codes "send") spec.send_words)) }
 {
-    let address = word(alloc, "ADDR", "The address at which the other site serves");
     on_log(
         alloc,
         "send",
         "Exchanges records with the site that serves at an address",
     )?
-    .arg(address)?
+    .arg(word(alloc, "ADDR", "The address at which the other site serves"))?
     .arg(seconds(
         alloc,
         "How many seconds the exchange may take, from 1 to 3600; 60 if not given",

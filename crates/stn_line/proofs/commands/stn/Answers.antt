@@ -1,29 +1,28 @@
-use Rattle.std.proofs.lemmas.Result.{IfOk-weaker}
 use Rattle.stn_line.specs.Commands as spec
-use Rattle.stn_line.proofs.Shapes.{reads_command, reads_first}
+use Rattle.stn_line.proofs.Shapes.{reads_first}
 use Rattle.stn_line.proofs.commands.stn.Goals as goal
 
 pub returns : goal.returns
 unfolding spec.stn
 returns c =
-    let program-1 = reads_first c.top.ensures.app c.run.ensures.is.is (c.in_ok-subcommand.ensures.shape c.run.ensures.is.own) in
-    let program-2 = reads_command _ program-1 c.in_ok-bare.ensures.is.is (c.in_ok-subcommand-2.ensures.shape c.in_ok-bare.ensures.is.own) in
-    let program-3 = reads_command _ program-2 c.in_ok-init.ensures.is.is (c.in_ok-subcommand-3.ensures.shape c.in_ok-init.ensures.is.own) in
-    let program-4 = reads_command _ program-3 c.in_ok-loosen.ensures.is.is (c.in_ok-subcommand-4.ensures.shape c.in_ok-loosen.ensures.is.own) in
-    let program-5 = reads_command _ program-4 c.in_ok-add.ensures.is.is (c.in_ok-subcommand-5.ensures.shape c.in_ok-add.ensures.is.own) in
-    let program-6 = reads_command _ program-5 c.in_ok-amend.ensures.is.is (c.in_ok-subcommand-6.ensures.shape c.in_ok-amend.ensures.is.own) in
-    let program-7 = reads_command _ program-6 c.in_ok-withdraw.ensures.is.is (c.in_ok-subcommand-7.ensures.shape c.in_ok-withdraw.ensures.is.own) in
-    let program-8 = reads_command _ program-7 c.in_ok-done.ensures.is.is (c.in_ok-subcommand-8.ensures.shape c.in_ok-done.ensures.is.own) in
-    let program-9 = reads_command _ program-8 c.in_ok-merge.ensures.is.is (c.in_ok-subcommand-9.ensures.shape c.in_ok-merge.ensures.is.own) in
-    let program-10 = reads_command _ program-9 c.in_ok-report.ensures.is.is (c.in_ok-subcommand-10.ensures.shape c.in_ok-report.ensures.is.own) in
-    let program-11 = reads_command _ program-10 c.in_ok-next.ensures.is.is (c.in_ok-subcommand-11.ensures.shape c.in_ok-next.ensures.is.own) in
-    let program-12 = reads_command _ program-11 c.in_ok-ready.ensures.is.is (c.in_ok-subcommand-12.ensures.shape c.in_ok-ready.ensures.is.own) in
-    let program-13 = reads_command _ program-12 c.in_ok-why.ensures.is.is (c.in_ok-subcommand-13.ensures.shape c.in_ok-why.ensures.is.own) in
-    let program-14 = reads_command _ program-13 c.in_ok-records.ensures.is.is (c.in_ok-subcommand-14.ensures.shape c.in_ok-records.ensures.is.own) in
-    let program-15 = reads_command _ program-14 c.in_ok-steps.ensures.is.is (c.in_ok-subcommand-15.ensures.shape c.in_ok-steps.ensures.is.own) in
-    let program-16 = reads_command _ program-15 c.in_ok-bounds.ensures.is.is (c.in_ok-subcommand-16.ensures.shape c.in_ok-bounds.ensures.is.own) in
-    let program-17 = reads_command _ program-16 c.in_ok-check.ensures.is.is (c.in_ok-subcommand-17.ensures.shape c.in_ok-check.ensures.is.own) in
-    let program-18 = reads_command _ program-17 c.in_ok-rehearse.ensures.is.is (c.in_ok-subcommand-18.ensures.shape c.in_ok-rehearse.ensures.is.own) in
-    let program-19 = reads_command _ program-18 c.in_ok-draw.ensures.is.is (c.in_ok-subcommand-19.ensures.shape c.in_ok-draw.ensures.is.own) in
-    let program-20 = reads_command _ program-19 c.in_ok-serve.ensures.is.is (c.in_ok-subcommand-20.ensures.shape c.in_ok-serve.ensures.is.own) in
-    record { app = IfOk-weaker c.subcommand-21.result _ _ (λ r h. reads_command _ program-20 c.in_ok-send.ensures.is.is (h.shape c.in_ok-send.ensures.is.own)) c.subcommand-21.ensures }
+    let with-1 = reads_first c.top.ensures.app c.run.ensures.is.is (c.in_ok-program.ensures.shape c.run.ensures.is.own) in
+    let with-2 = c.in_ok-program-2.ensures.more _ _ with-1 c.bare.ensures.is in
+    let with-3 = c.in_ok-program-3.ensures.more _ _ with-2 c.init.ensures.is in
+    let with-4 = c.in_ok-program-4.ensures.more _ _ with-3 c.loosen.ensures.is in
+    let with-5 = c.in_ok-program-5.ensures.more _ _ with-4 c.add.ensures.is in
+    let with-6 = c.in_ok-program-6.ensures.more _ _ with-5 c.amend.ensures.is in
+    let with-7 = c.in_ok-program-7.ensures.more _ _ with-6 c.withdraw.ensures.is in
+    let with-8 = c.in_ok-program-8.ensures.more _ _ with-7 c.done.ensures.is in
+    let with-9 = c.in_ok-program-9.ensures.more _ _ with-8 c.merge.ensures.is in
+    let with-10 = c.in_ok-program-10.ensures.more _ _ with-9 c.report.ensures.is in
+    let with-11 = c.in_ok-program-11.ensures.more _ _ with-10 c.next.ensures.is in
+    let with-12 = c.in_ok-program-12.ensures.more _ _ with-11 c.ready.ensures.is in
+    let with-13 = c.in_ok-program-13.ensures.more _ _ with-12 c.why.ensures.is in
+    let with-14 = c.in_ok-program-14.ensures.more _ _ with-13 c.records.ensures.is in
+    let with-15 = c.in_ok-program-15.ensures.more _ _ with-14 c.steps.ensures.is in
+    let with-16 = c.in_ok-program-16.ensures.more _ _ with-15 c.bounds.ensures.is in
+    let with-17 = c.in_ok-program-17.ensures.more _ _ with-16 c.check.ensures.is in
+    let with-18 = c.in_ok-program-18.ensures.more _ _ with-17 c.rehearse.ensures.is in
+    let with-19 = c.in_ok-program-19.ensures.more _ _ with-18 c.draw.ensures.is in
+    let with-20 = c.in_ok-program-20.ensures.more _ _ with-19 c.serve.ensures.is in
+    record { app = c.with_command-20.ensures.more _ _ with-20 c.send.ensures.is }
