@@ -1,11 +1,12 @@
 -- A log that is read frame by frame.
 use Rattle.std.proofs.Common.{◌≡◌, ℕ, ◌+◌, ◌-◌, ◌<◌, ◌≤◌, Bool, true, false, ltb, List, [], ◌∷◌, ◌++◌, length, take, Option, Some, None, Result, Ok, Err, IfSome, inl, inr, refl, sym, ap, subst, ◌∙◌, arith, append_assoc, append-nil, length-append}
-use Rattle.std.specs.Prelude.{nat_lt, option_map}
+use Rattle.std.specs.Prelude.{nat_lt, is_some, option_map}
 use Rattle.std.specs.Io.KnownBytes.{Consumes, IsAtEnd}
 use Rattle.std.specs.List.{flat_map, AllByRecursion}
 use Rattle.std.proofs.KnownBytes.{Consumes-nil, Consumes-trans}
 use Rattle.std.proofs.Math.Seq.{take-append-add}
 use Rattle.std.proofs.lemmas.List.{take_all, take_at}
+use Rattle.std.proofs.lemmas.Bool.{false≢true}
 use Rattle.std.proofs.lemmas.Bool.Decides.{nat_tests}
 use Rattle.std.proofs.lemmas.Grind.{flat_map-append}
 use Rattle.stn_device.specs.Bytes.{most_bytes, ConsumesAtMost}
@@ -19,7 +20,7 @@ use Rattle.stn_stream.specs.Held.{Stream}
 use Rattle.stn_stream.specs.declared.fault.StreamFault.{StreamFault}
 use Rattle.stn_stream.specs.declared.fault.StreamFault.TheVariants as stream
 use Rattle.stn_log.specs.Faults.{of_stream}
-use Rattle.stn_log.specs.Opening.{opened_so_far, IsRefused}
+use Rattle.stn_log.specs.Opening.{opened_so_far, closed_log, IsRefused}
 use Rattle.stn_log.specs.declared.reading.Opened.{Opened}
 use Rattle.stn_log.specs.Log.{Log, LogSoFar, log_held, taken, all_taken, all_taken_by, meaning_of, IsEnding, IsAnswer, IsRest, IsDecided, IsOpen}
 use Rattle.stn_log.specs.declared.fault.LoadFault.{LoadFault}
@@ -149,6 +150,12 @@ module _ (before after : Option (List ℕ)) (log : Option LogSoFar) (rest : List
     came = one_more p.frames None log frame next p.came is;
   }
 
+  -- the same, of an option that holds what the frame made
+  pub next_held : (frame : FrameContent) (later : List ℕ) → IsFrame frame → rest ≡ spelling frame ++ later → (now : ℕ) → now ≡ count → (next : Option LogSoFar)
+      → is_some next ≡ true → IfSome next (λ held. taken log frame ≡ Ok held) → Progress before after next later now
+  next_held frame later valid front now same None there is = absurd (false≢true there)
+  next_held frame later valid front now same (Some next) there is = next_taken frame later valid front now same next is
+
   -- the input ends after what was read
   ends : count ≤ 16777216 → IsAtEnd after → (meaning : Result Log LoadFault) → IsEnding false rest log meaning → IsDecided before after meaning
   ends few end meaning ending =
@@ -203,13 +210,19 @@ module _ (before after : Option (List ℕ)) (log : Option LogSoFar) (rest : List
   shows_fault few fault front =
       decides few (Err (Frame fault)) (λ more extra. bytes_end more log (rest ++ extra) (Err (Frame fault)) (fault_more rest extra fault front))
 
-  -- the input ends between two frames, or within one
-  pub closes : {A : Type 0} → count ≤ 16777216 → IsAtEnd after → rest ≡ [] → (opened : Opened A) → log ≡ Some (opened_so_far opened) → IsDecided before after (Ok (log_held opened.replica))
+  -- the input ends between two frames, where a log was opened, or none
+  closes : {A : Type 0} → count ≤ 16777216 → IsAtEnd after → rest ≡ [] → (opened : Opened A) → log ≡ Some (opened_so_far opened) → IsDecided before after (Ok (log_held opened.replica))
   closes few end none opened is = ends few end (Ok (log_held opened.replica)) (refl, none, ap (option_map (λ (begun : LogSoFar). begun.log)) is)
 
-  pub closes_empty : count ≤ 16777216 → IsAtEnd after → rest ≡ [] → log ≡ None → IsDecided before after (Err LogForm)
+  closes_empty : count ≤ 16777216 → IsAtEnd after → rest ≡ [] → log ≡ None → IsDecided before after (Err LogForm)
   closes_empty few end none is = ends few end (Err LogForm) (refl, subst (λ l. IsFront l unfinished) (sym none) (inl (omega arith)), inl is)
 
+  -- the input ends between two frames
+  pub closed : {A : Type 0} → count ≤ 16777216 → IsAtEnd after → rest ≡ [] → (opened : Option (Opened A)) → log ≡ option_map opened_so_far opened → IsDecided before after (closed_log opened)
+  closed few end none None is = closes_empty few end none is
+  closed few end none (Some opened) is = closes few end none opened is
+
+  -- the input ends within a frame
   pub cuts : count ≤ 16777216 → IsAtEnd after → IsFront rest unfinished → 0 < length rest → IsDecided before after (Err LogForm)
   cuts few end front some = ends few end (Err LogForm) (refl, front, inr some)
 

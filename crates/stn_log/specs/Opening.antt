@@ -1,9 +1,10 @@
 -- For proofs alone: no public clause cites these words.
 -- A log that is being read, as the code has it.
-use Rattle.std.specs.Prelude.{◌≡◌, Result, Err, IfSome, option_map}
-use Rattle.stn_log.specs.Log.{LogSoFar, log_held, so_far, told_by}
+use Rattle.std.specs.Prelude.{◌≡◌, Option, Some, None, Result, Ok, Err, IfSome, option_map}
+use Rattle.stn_log.specs.Log.{Log, LogSoFar, log_held, so_far, told_by}
 use Rattle.stn_log.specs.declared.reading.Opened.{Opened}
 use Rattle.stn_log.specs.declared.fault.LoadFault.{LoadFault}
+use Rattle.stn_log.specs.declared.fault.LoadFault.TheVariants.{LogForm}
 
 -- what an opened log says
 abbrev pub opened_so_far : {A : Type 0} → Opened A → LogSoFar
@@ -12,3 +13,8 @@ opened_so_far opened = so_far opened.version (log_held opened.replica)
 -- where a fault is told, this is what the log comes to
 abbrev pub IsRefused : Result LogSoFar LoadFault → LoadFault → Type 0
 IsRefused log fault = IfSome (option_map Err (told_by fault)) (λ meaning. log ≡ meaning)
+
+-- what a log comes to that ends after whole frames, by what they opened
+abbrev pub closed_log : {A : Type 0} → Option (Opened A) → Result Log LoadFault
+closed_log None = Err LogForm
+closed_log (Some opened) = Ok (log_held opened.replica)

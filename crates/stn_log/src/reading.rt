@@ -1,11 +1,12 @@
-ghost use Rattle.std.specs.Prelude.{◌≡◌, ◌≢◌, ◌+◌, ◌-◌, ◌^◌, ◌<◌, option_map, Some, None, Ok, Err, length, IfOk, IfErr, IfSome, OnOk, IsErrOf, MatchOption};
+ghost use Rattle.std.specs.Prelude.{is_some, true, ◌≡◌, ◌≢◌, ◌+◌, ◌-◌, ◌^◌, ◌<◌, option_map, Some, None, Ok, Err, length, IfOk, IfErr, IfSome, OnOk, IsErrOf, MatchOption};
 ghost use Rattle.std.specs.Io.KnownBytes.{IsAtEnd};
 ghost use Rattle.stn_device.specs.Counted.{counted_device, failure_count, KeepsCount};
 ghost use Rattle.stn_device.specs.Bytes.{most_bytes, ConsumesAtMost};
 ghost use Rattle.stn_wire.specs.Frame.{content};
+ghost use Rattle.stn_stream.specs.Stream.{unread};
 ghost use Rattle.stn_lift.specs.PlanSource.{plan_source, base_of};
 ghost use Rattle.stn_log.specs.Log.{Log, log_held, so_far, opened, taken, taken_in, taken_later, meaning_by, meaning_of, IsDecided, IsOpen};
-ghost use Rattle.stn_log.specs.Opening.{opened_so_far, IsRefused};
+ghost use Rattle.stn_log.specs.Opening.{opened_so_far, closed_log, IsRefused};
 
 use crate::fault::LoadFault;
 use crate::version::Version;
@@ -49,18 +50,52 @@ pub fn load<R: Read, A: Allocator + Copy>(
         (R.remaining (counted_device reader.new)) (most_bytes + 1) }
 {
     let mut frames = FrameReader::new(alloc);
-    let mut opened = None;
+    let mut log = None;
+    let read = read_frames(alloc, reader, site, &mut frames, &mut log);
+    drop(frames);
+    read?;
+    match log {
+        Some(opened) => Ok(opened.replica),
+        None => Err(LoadFault::LogForm),
+    }
+}
+
+// Reads the frames of a log to its end, and takes each before it asks for more.
+fn read_frames<R: Read, A: Allocator + Copy>(
+    alloc: A,
+    reader: &mut Counted<R>,
+    site: Site,
+    frames: &mut FrameReader<A>,
+    log: &mut Option<Opened<A>>,
+) -> Result<(), LoadFault>
+    requires reader_counts { failure_count reader.old < 2 ^ 64 - 1 }
+    requires unread { frames.old ≡ unread }
+    requires unopened { log.old ≡ None }
+    ensures meaning { IfErr result (λ fault. IfSome (meaning_of (Err fault)) (IsDecided (R.remaining (counted_device reader.old))
+        (R.remaining (counted_device reader.new)))) }
+    ensures closed { OnOk result (IsDecided (R.remaining (counted_device reader.old))
+        (R.remaining (counted_device reader.new)) (closed_log log.new)) }
+    ensures end { OnOk result (IsAtEnd (R.remaining (counted_device reader.new))) }
+    ensures site { OnOk result (IfSome log.new (λ opened. opened.replica.site ≡ site)) }
+    ensures open { IsErrOf result LoadFault.Read → IsOpen (R.remaining (counted_device reader.old))
+        (R.remaining (counted_device reader.new)) }
+    ensures read { IsErrOf result LoadFault.Read → failure_count reader.old < failure_count reader.new }
+    ensures bound { IsErrOf result LoadFault.Bound
+        → IfSome (R.remaining (counted_device reader.old)) (λ input. most_bytes < length input) }
+    ensures kept { result ≢ Err LoadFault.Read → KeepsCount reader.old reader.new }
+    ensures used { ConsumesAtMost (R.remaining (counted_device reader.old))
+        (R.remaining (counted_device reader.new)) (most_bytes + 1) }
+{
     'frames: loop {
         match frames.next(reader)? {
-            Next::Frame(frame) => opened = Some(take(alloc, site, opened, frame)?),
+            Next::Frame(frame) => {
+                let taken = take(alloc, site, log, &frame);
+                drop(frame);
+                taken?;
+            }
             Next::Faulty(fault) => return Err(LoadFault::from(fault)),
             Next::Cut => return Err(LoadFault::LogForm),
-            Next::Closed => {
-                let Some(opened) = opened else {
-                    return Err(LoadFault::LogForm);
-                };
-                return Ok(opened.replica);
-            }
+            Next::Closed => return Ok(()),
         }
     }
 }
@@ -72,29 +107,26 @@ struct Opened<A: Allocator> {
     replica: Replica<A>,
 }
 
-// The log when one more frame is taken.
+// Takes one more frame of a log.
 fn take<A: Allocator + Copy>(
     alloc: A,
     site: Site,
-    opened: Option<Opened<A>>,
-    frame: Frame<A>,
-) -> Result<Opened<A>, LoadFault>
-    requires { IfSome opened (λ opened. opened.replica.site ≡ site) }
-    ensures meaning { IfSome (meaning_by opened_so_far result) (λ meaning. taken (option_map opened_so_far opened) (content frame) ≡ meaning) }
+    log: &mut Option<Opened<A>>,
+    frame: &Frame<A>,
+) -> Result<(), LoadFault>
+    requires { IfSome log.old (λ opened. opened.replica.site ≡ site) }
+    ensures taken { OnOk result (IfSome (option_map opened_so_far log.new) (λ next. taken (option_map opened_so_far log.old) (content frame.now) ≡ Ok next)) }
+    ensures opened { OnOk result (is_some (option_map opened_so_far log.new) ≡ true) }
+    ensures refused { IfErr result (IsRefused (taken (option_map opened_so_far log.old) (content frame.now))) }
     ensures bound { result ≢ Err LoadFault.Bound }
     ensures unread { result ≢ Err LoadFault.Read }
-    ensures site { IfOk result (λ opened. opened.replica.site ≡ site) }
+    ensures site { OnOk result (IfSome log.new (λ opened. opened.replica.site ≡ site)) }
 {
-    match opened {
-        None => open(alloc, site, &frame),
-        Some(
-            Opened {
-                version,
-                mut replica,
-            },
-        ) => {
-            take_records(version, &mut replica, &frame)?;
-            Ok(Opened { version, replica })
+    match log {
+        Some(opened) => take_records(opened.version, &mut opened.replica, frame),
+        None => {
+            *log = Some(open(alloc, site, frame)?);
+            Ok(())
         }
     }
 }

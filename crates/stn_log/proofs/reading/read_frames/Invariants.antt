@@ -4,14 +4,14 @@ use Rattle.stn_device.specs.Counted.{counted_device, KeepsCount}
 use Rattle.stn_stream.specs.Stream.{pending, IsReading}
 use Rattle.stn_log.specs.Opening.{opened_so_far}
 use Rattle.stn_log.proofs.Progress.{Progress}
-use Rattle.stn_log.proofs.reading.load.Given as goal
+use Rattle.stn_log.proofs.reading.read_frames.Given as goal
 
 abbrev pub invariant-frames : goal.invariant-frames
 invariant-frames g l = record {
   reading : IsReading l.frames;
   progress : Progress (g.R.Read.remaining (counted_device l.fn.reader)) (g.R.Read.remaining (counted_device l.reader))
-      (option_map opened_so_far l.opened) (pending l.frames) l.frames.count;
-  site : IfSome l.opened (λ opened. opened.replica.site ≡ l.site);
+      (option_map opened_so_far l.log) (pending l.frames) l.frames.count;
+  site : IfSome l.log (λ opened. opened.replica.site ≡ l.site);
   kept : KeepsCount l.fn.reader l.reader;
 }
 
