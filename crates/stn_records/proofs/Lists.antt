@@ -37,14 +37,13 @@ found_proper (entry ∷ es) all id r e =
     ] e
 
 -- the Done records of a map are proper where those of its entries are, and only there
-pub proper_of_entries : (m : RecordMap) (seen es : List (SiteCounter × Record)) → seen ≡ es → All IsProperEntry seen → fin.entries m ≡ es → AllProper m
-proper_of_entries m seen es same all is id r e =
-    found_proper (fin.entries m) (recursion_from_All IsProperEntry (fin.entries m) (All-same IsProperEntry (fin.entries m) seen (is ∙ sym same) all)) id r (sym (get-entries m id) ∙ e)
+pub proper_of_entries : (m : RecordMap) (es : List (SiteCounter × Record)) → All IsProperEntry es → fin.entries m ≡ es → AllProper m
+proper_of_entries m es all is id r e = found_proper (fin.entries m) (recursion_from_All IsProperEntry (fin.entries m) (All-same IsProperEntry (fin.entries m) es is all)) id r (sym (get-entries m id) ∙ e)
 
-pub entries_of_proper : (m : RecordMap) (seen es : List (SiteCounter × Record)) → seen ≡ es → AllProper m → fin.entries m ≡ es → All IsProperEntry seen
-entries_of_proper m seen es same proper is k d within =
-    let there = entry_at m seen k (get_or seen k d) (same ∙ sym is) within (get_or_default seen k d (get_or seen k d) within) in
-    proper (get_or seen k d).0 (get_or seen k d).1 there
+pub entries_of_proper : (m : RecordMap) (es : List (SiteCounter × Record)) → AllProper m → fin.entries m ≡ es → All IsProperEntry es
+entries_of_proper m es proper is k d within =
+    let there = entry_at m es k (get_or es k d) (sym is) within (get_or_default es k d (get_or es k d) within) in
+    proper (get_or es k d).0 (get_or es k d).1 there
 
 -- the entries of a content are amendments where those of the list are, and only there
 pub amends_of_entries : (s : Content) (es : List (SiteCounter × SiteCounter)) → es ≡ fin.entries s.replacements → All (λ e. IsAmendment s.additions e.0 e.1) es → AllAmend s

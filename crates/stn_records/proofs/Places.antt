@@ -51,12 +51,12 @@ module _ {X : Type 0} where
   entries_of_sorted es m sorted is = ap fin.entries (sym is) ∙ entries-from_sorted id_cmp es (holds _ sorted)
 
   -- the map of the entries, where they are in order
-  pub map_of_sorted : (es seen : List (SiteCounter × X)) → seen ≡ es → is_sorted id_cmp seen ≡ true → fin.entries (fin.from_sorted {R = id_cmp} es) ≡ es
-  map_of_sorted es seen same sorted = entries-from_sorted id_cmp es (holds _ (ap (is_sorted id_cmp) (sym same) ∙ sorted))
+  pub map_of_sorted : (es : List (SiteCounter × X)) → is_sorted id_cmp es ≡ true → fin.entries (fin.from_sorted {R = id_cmp} es) ≡ es
+  map_of_sorted es sorted = entries-from_sorted id_cmp es (holds _ sorted)
 
-  -- and no map has them where they are not
-  pub no_map : (es seen : List (SiteCounter × X)) → seen ≡ es → (b : Bool) → (b ≡ true ↔ is_sorted id_cmp seen ≡ true) → b ≡ false → (m : FinMap id_cmp X) → fin.entries m ≡ es → ⊥
-  no_map es seen same b tells f m is = false≢true (sym f ∙ tells.1 (ap (is_sorted id_cmp) (same ∙ sym is) ∙ T_true _ (entries_sorted m)))
+  -- the entries of a map are in order
+  pub entries_rise : (m : FinMap id_cmp X) (es : List (SiteCounter × X)) → fin.entries m ≡ es → is_sorted id_cmp es ≡ true
+  entries_rise m es is = ap (is_sorted id_cmp) (sym is) ∙ T_true _ (entries_sorted m)
 
   -- what the map has of an id is what is found in the list
   pub get_of_sorted : (es : List (SiteCounter × X)) (m : FinMap id_cmp X) (id : SiteCounter) → is_sorted id_cmp es ≡ true → fin.from_sorted es ≡ m → fin.get m id ≡ fin.find id_cmp id es

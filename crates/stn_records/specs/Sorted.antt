@@ -1,12 +1,14 @@
 -- For proofs alone: no public clause cites these words.
 -- Lists of entries in the order of their ids.
-use Rattle.std.specs.Prelude.{◌≡◌, ℕ, ◌<◌, ◌≤◌, Bool, false, List, [], ◌∷◌, length, insert, slice_index_or, Option, Some, None, is_some, if◌then◌else◌}
+use Rattle.std.specs.Prelude.{◌≡◌, ℕ, ◌<◌, ◌≤◌, Bool, false, List, [], ◌∷◌, length, insert, slice_index_or, Option, Some, None, is_some, All, IsTrue, if◌then◌else◌}
 use Rattle.std.specs.List.{list_all}
 use Rattle.std.specs.declared.cmp.Ordering.{Ordering}
 use Rattle.std.specs.Ordering.{eq_by_cmp}
-use Rattle.std.specs.FinMap.{find, put}
+use Rattle.std.specs.FinMap.{find, put, is_sorted}
 use Rattle.std.specs.FinMap.Entries.{by_order}
 use Rattle.stn_records.specs.Id.{SiteCounter, id_cmp}
+use Rattle.stn_records.specs.Record.{IsProper}
+use Rattle.stn_records.specs.declared.record.Record.{Record}
 
 -- each id of theirs is one of ours
 abbrev pub has_keys : {X : Type 0} → List (SiteCounter × X) → List (SiteCounter × X) → Bool
@@ -19,6 +21,11 @@ is_there same (Some there) one = same there one
 
 abbrev pub has_entries : {X : Type 0} → (X → X → Bool) → List (SiteCounter × X) → List (SiteCounter × X) → Bool
 has_entries same ours theirs = list_all (λ entry. is_there same (find id_cmp entry.0 ours) entry.1) theirs
+
+-- the ids of each list rise, and each Done record is proper
+abbrev pub AreLists : List (SiteCounter × Record) → List (SiteCounter × Unit {0}) → List (SiteCounter × SiteCounter) → Type 0
+AreLists additions tombstones replacements =
+    All (λ entry. IsProper entry.1.mark entry.1.bound) additions × IsTrue (is_sorted id_cmp additions) × IsTrue (is_sorted id_cmp tombstones) × IsTrue (is_sorted id_cmp replacements)
 
 -- the entry at the place has the id
 pub record IsPlaceOf {X : Type 0} (entries : List (SiteCounter × X)) (id : SiteCounter) (place : ℕ) : Type 0 where

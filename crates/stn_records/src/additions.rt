@@ -1,4 +1,4 @@
-ghost use Rattle.std.specs.Prelude.{◌≡◌, ◌↔◌, Some, None, IfSome, IfOk, OnOk, OnErr, IsTrue, All};
+ghost use Rattle.std.specs.Prelude.{◌≡◌, ◌↔◌, None, IfOk, OnOk, OnErr, IsTrue, All};
 ghost use Rattle.std.specs.FinMap as map;
 ghost use Rattle.stn_records.specs.Maps.{union as union_of, AgreesAt};
 ghost use Rattle.stn_records.specs.Id.{id_cmp};
@@ -43,16 +43,15 @@ impl<A: Allocator + Copy> Additions<A> {
         }
     }
 
-    // The records of these entries, where their ids rise and each Done record is proper.
-    pub(crate) fn from_entries(entries: Vec<(Id, Record), A>) -> Option<Self>
-        ensures made { IfSome result (λ made. map.entries made ≡ entries.items) }
-        ensures all { (m : RecordMap) → AllProper m → map.entries m ≡ entries.items → result ≡ Some m }
+    // The records of these entries, whose ids rise, and of which each Done record is proper.
+    pub(crate) fn from_entries(entries: Vec<(Id, Record), A>) -> Self
+        requires rising { IsTrue (map.is_sorted id_cmp entries.items) }
+        requires proper { All (λ entry. IsProper entry.1.mark entry.1.bound) entries.items }
+        ensures { map.entries result ≡ entries.items }
     {
-        if !are_proper(&entries) {
-            return None;
+        Additions {
+            records: IdMap::from_entries(entries),
         }
-        let records = IdMap::from_entries(entries)?;
-        Some(Additions { records })
     }
 
     /// The entries, in order of id.
@@ -137,7 +136,8 @@ impl<A: Allocator + Copy> Additions<A> {
     }
 }
 
-fn are_proper(entries: &[(Id, Record)]) -> bool
+// Whether each Done record is proper.
+pub(crate) fn are_proper(entries: &[(Id, Record)]) -> bool
     ensures { IsTrue result ↔ All (λ entry. IsProper entry.1.mark entry.1.bound) entries.now }
 {
     entries.iter().all(|entry| is_proper(&entry.1))

@@ -1,4 +1,4 @@
-ghost use Rattle.std.specs.Prelude.{◌≡◌, Some, None, IfSome, IfOk, IsTrue};
+ghost use Rattle.std.specs.Prelude.{◌≡◌, None, IfOk, IsTrue};
 ghost use Rattle.std.specs.Set.{is_member};
 ghost use Rattle.std.specs.FinMap as map;
 ghost use Rattle.stn_records.specs.Maps.{union as union_of};
@@ -39,14 +39,14 @@ impl<A: Allocator + Copy> Amendments<A> {
         }
     }
 
-    // The map of these entries, where their new ids rise.
-    pub(crate) fn from_entries(entries: Vec<(Id, Id), A>) -> Option<Self>
-        ensures made { IfSome result (λ made. map.entries made ≡ entries.items) }
-        ensures all { (m : ReplacementMap) → map.entries m ≡ entries.items → result ≡ Some m }
+    // The map of these entries, whose new ids rise.
+    pub(crate) fn from_entries(entries: Vec<(Id, Id), A>) -> Self
+        requires { IsTrue (map.is_sorted id_cmp entries.items) }
+        ensures { map.entries result ≡ entries.items }
     {
-        Some(Amendments {
-            replaced: IdMap::from_entries(entries)?,
-        })
+        Amendments {
+            replaced: IdMap::from_entries(entries),
+        }
     }
 
     /// The entries, in order of the new id: the new id, and the id that it replaces.

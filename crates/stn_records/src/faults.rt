@@ -3,7 +3,7 @@ use std::alloc::AllocError;
 use thiserror::Error;
 
 /// Why an addition, or what another site holds, was refused. The faults come in this order.
-#[derive(Clone, Copy, Debug, PartialEq, Eq, Hash, Error)]
+#[derive(Clone, Copy, Debug, PartialEq, Eq, Error)]
 pub enum RecordsFault {
     /// The id has another record, or replaces another id; the least such id, where there are several.
     #[error("an id has two different records")]
@@ -28,7 +28,7 @@ impl From<AllocError> for RecordsFault {
 }
 
 /// Why an id that need not be known was not withdrawn. The faults come in this order.
-#[derive(Clone, Copy, Debug, PartialEq, Eq, Hash, Error)]
+#[derive(Clone, Copy, Debug, PartialEq, Eq, Error)]
 pub enum BuryFault {
     /// More than 4,096 ids would be known.
     #[error("too many ids")]
@@ -50,7 +50,7 @@ impl From<AllocError> for BuryFault {
 }
 
 /// Why a record was not withdrawn. The faults come in this order.
-#[derive(Clone, Copy, Debug, PartialEq, Eq, Hash, Error)]
+#[derive(Clone, Copy, Debug, PartialEq, Eq, Error)]
 pub enum WithdrawFault {
     /// The id is not known.
     #[error("no such record")]
@@ -72,7 +72,7 @@ impl From<AllocError> for WithdrawFault {
 }
 
 /// Why a record was not amended. The faults come in this order.
-#[derive(Clone, Copy, Debug, PartialEq, Eq, Hash, Error)]
+#[derive(Clone, Copy, Debug, Error)]
 pub enum AmendFault {
     /// The record would replace itself.
     #[error("a record cannot replace itself")]
@@ -103,7 +103,7 @@ impl From<AllocError> for AmendFault {
 }
 
 /// Why an id that need not be known was not replaced. The faults come in this order.
-#[derive(Clone, Copy, Debug, PartialEq, Eq, Hash, Error)]
+#[derive(Clone, Copy, Debug, Error)]
 pub enum ReplaceFault {
     /// The record would replace itself.
     #[error("a record cannot replace itself")]
@@ -131,7 +131,7 @@ impl From<AllocError> for ReplaceFault {
 }
 
 /// Why a part could not be made. The faults come in this order.
-#[derive(Clone, Copy, Debug, PartialEq, Eq, Hash, Error)]
+#[derive(Clone, Copy, Debug, PartialEq, Eq, Error)]
 pub enum PartFault {
     /// A record or a withdrawn id of the part is not held.
     #[error("no such record")]
@@ -153,6 +153,6 @@ impl From<AllocError> for PartFault {
 }
 
 /// The counter of a site would pass 65,535.
-#[derive(Clone, Copy, Debug, PartialEq, Eq, Hash, Error)]
+#[derive(Clone, Copy, Debug, Error)]
 #[error("the counter is spent")]
 pub struct CounterSpent;

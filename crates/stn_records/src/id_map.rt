@@ -1,4 +1,4 @@
-ghost use Rattle.std.specs.Prelude.{◌≡◌, ◌↔◌, IsTrue, Some, None, IfSome, IfOk, OnOk, OnErr};
+ghost use Rattle.std.specs.Prelude.{◌≡◌, ◌↔◌, IsTrue, IfOk, OnOk, OnErr};
 ghost use Rattle.std.specs.Set.{is_member};
 ghost use Rattle.std.specs.FinMap.{is_sorted};
 ghost use Rattle.std.specs.FinMap as map;
@@ -7,7 +7,7 @@ ghost use Rattle.stn_records.specs.Maps.{union as union_of, AgreesAt};
 ghost use Rattle.stn_records.specs.Content.{same_ids, AllHeld};
 
 use crate::id::Id;
-use crate::sorted::{is_rising, kept, merged, place_of};
+use crate::sorted::{kept, merged, place_of};
 use std::alloc::Allocator;
 use std::marker::Model;
 use stn_time::Memory;
@@ -41,16 +41,12 @@ impl<X: Copy, A: Allocator + Copy> IdMap<X, A> {
         }
     }
 
-    // The map with these entries, where their ids rise.
-    pub(crate) fn from_entries(entries: Vec<(Id, X), A>) -> Option<Self>
-        ensures made { IfSome result (λ made. map.entries made ≡ entries.items) }
-        ensures all { (m : map.FinMap id_cmp X) → map.entries m ≡ entries.items → result ≡ Some m }
+    // The map with these entries, whose ids rise.
+    pub(crate) fn from_entries(entries: Vec<(Id, X), A>) -> Self
+        requires { IsTrue (is_sorted id_cmp entries.items) }
+        ensures { map.entries result ≡ entries.items }
     {
-        if is_rising(&entries) {
-            Some(IdMap { entries })
-        } else {
-            None
-        }
+        IdMap { entries }
     }
 
     pub(crate) fn allocator(&self) -> A {

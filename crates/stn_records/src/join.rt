@@ -6,7 +6,7 @@ use std::alloc::AllocError;
 use thiserror::Error;
 
 /// Why there is no join.
-#[derive(Clone, Copy, Debug, PartialEq, Eq, Hash, Error)]
+#[derive(Clone, Copy, Debug, Error)]
 pub enum JoinFault {
     /// This id has two different records, or replaces two different ids, and on each id before it the
     /// two agree.

@@ -6,7 +6,7 @@ use crate::id::Id;
 use stn_net::{Bound, Event};
 
 /// What a record says of its bound.
-#[derive(Clone, Copy, Debug, PartialEq, Eq, Hash)]
+#[derive(Clone, Copy, Debug, PartialEq, Eq)]
 pub enum Mark {
     /// A bound that a site added.
     Plain,
@@ -15,7 +15,7 @@ pub enum Mark {
 }
 
 /// A bound that a site added, with its mark.
-#[derive(Clone, Copy, Debug, PartialEq, Eq, Hash)]
+#[derive(Clone, Copy, Debug, PartialEq, Eq)]
 pub struct Record {
     /// The mark.
     pub mark: Mark,

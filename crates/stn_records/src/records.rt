@@ -4,17 +4,18 @@ ghost use Rattle.stn_records.specs.Id.{most_counter, SiteCounter, id_cmp};
 ghost use Rattle.stn_records.specs.Record.{IsProper};
 ghost use Rattle.stn_records.specs.Content.{most_known, Content, IsSound, IsPart, AllHeld, no_content, one_record, one_tombstone, one_amendment, with_record, with_tombstone, with_amendment, plain, is_known as is_known_in, is_live as is_live_in, known_count, known_in_either, live_of, listed, next_counter as next_counter_of, part_of, replaced_set, dispute_contents, join_contents, taken as taken_of, HasAnother};
 ghost use Rattle.stn_records.specs.Maps.{differ};
+ghost use Rattle.stn_records.specs.Sorted.{AreLists};
 ghost use Rattle.stn_records.specs.Refusals.{amend_refusal as amend_refusal_of, replace_refusal as replace_refusal_of, clashes as clashes_in, is_too_much};
 
 use crate::MOST_KNOWN;
-use crate::additions::Additions;
+use crate::additions::{Additions, are_proper};
 use crate::amendments::Amendments;
 use crate::faults::{
     AmendFault, BuryFault, CounterSpent, PartFault, RecordsFault, ReplaceFault, WithdrawFault,
 };
 use crate::id::{Id, Site};
 use crate::record::{Mark, Record, Value};
-use crate::sorted::{count_ids, greatest_counter};
+use crate::sorted::{count_ids, greatest_counter, is_rising};
 use crate::state::State;
 use crate::tombstones::Tombstones;
 use std::alloc::Allocator;
@@ -69,16 +70,14 @@ impl<A: Allocator + Copy> Records<A> {
         ensures sound { IfOk result (λ made. IfSome made IsSound) }
         ensures all { (s : Content) → IsSound s → fin.entries s.additions ≡ additions.items → fin.entries s.tombstones ≡ tombstones.items → fin.entries s.replacements ≡ replacements.items → IfOk result (λ made. made ≡ Some s) }
     {
-        let Some(additions) = Additions::from_entries(additions) else {
+        if !are_lists(&additions, &tombstones, &replacements) {
             return Ok(None);
-        };
-        let Some(tombstones) = Tombstones::from_entries(tombstones) else {
-            return Ok(None);
-        };
-        let Some(replacements) = Amendments::from_entries(replacements) else {
-            return Ok(None);
-        };
-        let state = State::of(additions, tombstones, replacements)?;
+        }
+        let state = State::of(
+            Additions::from_entries(additions),
+            Tombstones::from_entries(tombstones),
+            Amendments::from_entries(replacements),
+        )?;
         if !state.all_amend() || state.known() > MOST_KNOWN {
             return Ok(None);
         }
@@ -486,6 +485,16 @@ impl<A: Allocator + Copy> Records<A> {
         let entry = *self.state.replacements().entries().get(place)?;
         Some(entry)
     }
+}
+
+// Whether the ids of each list rise, and each Done record is proper.
+fn are_lists(additions: &[(Id, Record)], tombstones: &[(Id, ())], replacements: &[(Id, Id)]) -> bool
+    ensures { IsTrue result ↔ AreLists additions.now tombstones.now replacements.now }
+{
+    are_proper(additions)
+        && is_rising(additions)
+        && is_rising(tombstones)
+        && is_rising(replacements)
 }
 
 // Whether a value is there, and is another.

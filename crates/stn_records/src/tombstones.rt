@@ -1,4 +1,4 @@
-ghost use Rattle.std.specs.Prelude.{◌≡◌, ◌↔◌, Some, None, IfSome, IfOk, OnOk, OnErr, IsTrue};
+ghost use Rattle.std.specs.Prelude.{◌≡◌, ◌↔◌, None, IfOk, OnOk, OnErr, IsTrue};
 ghost use Rattle.std.specs.Set.{is_member};
 ghost use Rattle.std.specs.FinMap as map;
 ghost use Rattle.stn_records.specs.Maps.{union as union_of};
@@ -38,14 +38,14 @@ impl<A: Allocator + Copy> Tombstones<A> {
         }
     }
 
-    // The ids of these entries, where they rise.
-    pub(crate) fn from_entries(entries: Vec<(Id, ()), A>) -> Option<Self>
-        ensures made { IfSome result (λ made. map.entries made ≡ entries.items) }
-        ensures all { (m : IdSet) → map.entries m ≡ entries.items → result ≡ Some m }
+    // The ids of these entries, which rise.
+    pub(crate) fn from_entries(entries: Vec<(Id, ()), A>) -> Self
+        requires { IsTrue (map.is_sorted id_cmp entries.items) }
+        ensures { map.entries result ≡ entries.items }
     {
-        Some(Tombstones {
-            ids: IdMap::from_entries(entries)?,
-        })
+        Tombstones {
+            ids: IdMap::from_entries(entries),
+        }
     }
 
     /// The ids, in their order.
