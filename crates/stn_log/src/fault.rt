@@ -12,7 +12,7 @@ use stn_wire::WireFault;
 use thiserror::Error;
 
 /// Why a log was not saved.
-#[derive(Clone, Copy, Debug, PartialEq, Eq, Hash, Error)]
+#[derive(Clone, Copy, Debug, PartialEq, Eq, Error)]
 pub enum SaveFault {
     /// A call of the writer failed, or took nothing.
     #[error("a write failed")]
@@ -39,7 +39,7 @@ impl From<WriteFault> for SaveFault {
 }
 
 /// Why a log was not loaded. The first frame with a fault decides. Lack of memory is always `Memory`, wherever it came.
-#[derive(Clone, Copy, Debug, PartialEq, Eq, Hash, Error)]
+#[derive(Clone, Copy, Debug, PartialEq, Eq, Error)]
 pub enum LoadFault {
     /// A call of the reader failed.
     #[error("a read failed")]

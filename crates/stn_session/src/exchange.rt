@@ -23,7 +23,7 @@ use stn_wire::{Frame, Said, say};
 use thiserror::Error;
 
 /// Why nothing was asked.
-#[derive(Clone, Copy, Debug, PartialEq, Eq, Hash, Error)]
+#[derive(Clone, Copy, Debug, PartialEq, Eq, Error)]
 pub enum SendFault {
     /// A call of the writer failed, or took nothing.
     #[error("a write failed")]
@@ -76,7 +76,7 @@ pub fn send_requests<W: Write, A: Allocator + Copy>(
 }
 
 /// Why replies were not taken, or not all of them.
-#[derive(Clone, Copy, Debug, PartialEq, Eq, Hash, Error)]
+#[derive(Clone, Copy, Debug, PartialEq, Eq, Error)]
 pub enum ReplyFault {
     /// The other site refused what was said, with this code.
     #[error("refused")]

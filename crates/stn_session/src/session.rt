@@ -16,7 +16,7 @@ use stn_wire::Frame;
 use thiserror::Error;
 
 /// How a session ended.
-#[derive(Clone, Copy, Debug, PartialEq, Eq, Hash)]
+#[derive(Clone, Copy, Debug, PartialEq, Eq)]
 pub enum End {
     /// The input ended between two frames.
     Closed,
@@ -27,14 +27,14 @@ pub enum End {
 }
 
 /// What a session did: how many frames were answered, and how it ended.
-#[derive(Clone, Copy, Debug, PartialEq, Eq, Hash)]
+#[derive(Clone, Copy, Debug, PartialEq, Eq)]
 pub struct Served {
     pub frames: u32,
     pub end: End,
 }
 
 /// Why a session broke off.
-#[derive(Clone, Copy, Debug, PartialEq, Eq, Hash, Error)]
+#[derive(Clone, Copy, Debug, PartialEq, Eq, Error)]
 pub enum ServeFault {
     /// A call of the reader failed.
     #[error("a read failed")]
