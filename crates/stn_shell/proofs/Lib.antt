@@ -2,3 +2,4 @@ pub mod Served
 pub mod Chains
 pub mod Joined
 mod Failed
+mod Made

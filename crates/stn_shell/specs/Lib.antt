@@ -7,3 +7,6 @@ pub mod Joining
 pub mod Connections
 pub mod Carried
 pub mod Executed
+pub mod Changes
+pub mod Endings
+pub mod Queries

@@ -4,7 +4,6 @@ use Rattle.stn_lift.specs.PlanSource.{PlanSource, bare, files, base_of, events_o
 use Rattle.stn_lift.specs.declared.fault.BaseFault.{BaseFault}
 use Rattle.stn_net.specs.Difference.{Difference}
 use Rattle.stn_replica.specs.Held.{Held}
-use Rattle.stn_replica.specs.declared.faults.ReplicaFault.{ReplicaFault}
 use Rattle.stn_replica.specs.Refusals.{add_refusal, amend_refusal, done_refusal, withdraw_refusal, take_refusal}
 use Rattle.stn_net.specs.declared.bound.BoundFault.TheVariants.{NoEvent}
 use Rattle.stn_questions.specs.declared.asked.Question.{Question}
@@ -106,11 +105,7 @@ IsRefusalOf entries log (Rehearse now) = WithWords (time_read now.now)
     (λ time. WithLog entries log.name.now log.site (λ held. IsRehearseRefusal held time))
 IsRefusalOf entries log Draw = WithLog entries log.name.now log.site (λ held cause. cause ≡ None)
 
--- why a call of a replica failed: memory ran out, or the first cause that refuses it
-abbrev pub IsCallFailure : Option ReplicaFault → Failure → Type 0
-IsCallFailure refusal failure = (failure ≡ Failed Memory) ⊎ (Some failure ≡ option_map of_replica refusal)
-
--- why a merge did
+-- why a merge failed: memory ran out, or the first cause that refuses it
 abbrev pub IsMergeFailure : Held → Held → Failure → Type 0
 IsMergeFailure ours theirs failure = (failure ≡ Failed Memory) ⊎ IsMergeRefusal ours theirs (Some failure)
 

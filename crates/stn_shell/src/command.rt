@@ -8,7 +8,7 @@ use stn_line::Line;
 use stn_records::Site;
 
 /// The log of a site.
-#[derive(Clone, Copy, Debug, PartialEq, Eq)]
+#[derive(Clone, Copy)]
 pub struct SiteLog<'a> {
     /// The name that the log stands under.
     pub name: &'a str,
@@ -17,7 +17,7 @@ pub struct SiteLog<'a> {
 }
 
 /// A question of the plan of a log. Events and times stand as they were written.
-#[derive(Clone, Copy, Debug, PartialEq, Eq)]
+#[derive(Drop)]
 pub enum Asked<'a> {
     /// Which records the log holds.
     Records,
@@ -32,7 +32,7 @@ pub enum Asked<'a> {
 }
 
 /// A command of a log. Events, times and ids stand as they were written.
-#[derive(Debug, PartialEq, Eq, Drop)]
+#[derive(Drop)]
 pub enum LogCommand<'a> {
     /// Makes the log of a plan of so many steps without a domain.
     Bare {
@@ -102,7 +102,7 @@ pub enum LogCommand<'a> {
 }
 
 /// What the program is to do.
-#[derive(Debug, PartialEq, Eq, Drop)]
+#[derive(Drop)]
 pub enum Task<'a> {
     /// Runs a script.
     Run,

@@ -1,23 +1,24 @@
 //! The commands of a log.
 
-ghost use Rattle.std.specs.Prelude.{◌≡◌, ◌⊎◌, false, Some, None, OnOk, OnErr, IfOk, IfErr};
+ghost use Rattle.std.specs.Prelude.{◌≡◌, ◌⊎◌, false, Some, None, OnOk, OnErr, IfOk, IfErr, MatchResult};
 ghost use Rattle.stn_lift.specs.PlanSource.{plan_source};
 ghost use Rattle.stn_shell.specs.Words.{times_read};
+ghost use Rattle.stn_shell.specs.Changes.{IsChanged, IsUnchanged};
 ghost use Rattle.stn_shell.specs.Commands.{IsAnswered, IsChecked, IsMade, IsMadeLoose, IsNewLog};
+ghost use Rattle.stn_shell.specs.Endings.{Succeeds, IsUndone, SavesNew, IsUnsaved, IsUnmade, IsOfTexts, MissesText};
+ghost use Rattle.stn_shell.specs.Queries.{SaysOf, IsQueryRefusal};
 ghost use Rattle.stn_shell.specs.Refusals.{IsRefusalOf, IsBaseRefusal, IsLooseningRefusal, IsCheckRefusal, WithWords, WithLog};
-ghost use Rattle.stn_store.specs.Store.{IsThere, IsMissing, IsTaken, IsLack};
+ghost use Rattle.stn_store.specs.Store.{IsThere, IsMissing, IsTaken, IsLack, Opens};
 ghost use Rattle.stn_shell.specs.declared.command.LogCommand.TheVariants as of;
 
-use crate::changes::{
-    add, amend, check, done, draw, loosen, merge, next, rehearse, report, tell, withdraw,
-};
+use crate::changes::{Change, copied, loosen, make_change, opened};
 use crate::command::{Asked, LogCommand, SiteLog};
+use crate::queries::{Query, check, say};
 use crate::words::{
     read_bound, read_event, read_id, read_question, read_time, read_times, read_tolerance,
 };
 use std::alloc::Global;
-use std::rc::Rc;
-use stn_lift::{Base, Source};
+use stn_lift::Source;
 use stn_loosen::Tolerance;
 use stn_replica::Replica;
 use stn_store::{Failure, Fault, Store};
@@ -35,6 +36,20 @@ pub fn answer<S: Store>(
     ensures refused { IfErr result (λ failure. IsRefusalOf (S.entries store.old) log.now command.now (Some failure)
         ⊎ IsLack S.fails failure) }
     ensures unsaved { OnErr result (S.entries store.new ≡ S.entries store.old) }
+{
+    do_command(alloc, store, log, command)
+}
+
+// Does a command of a log.
+fn do_command<S: Store>(
+    alloc: Global,
+    store: &mut S,
+    log: &SiteLog<'_>,
+    command: &LogCommand<'_>,
+) -> Result<Vec<u8>, Failure>
+    ensures { MatchResult result
+        (λ text. Succeeds (S.entries store.old) (S.entries store.new) log.now command.now text.items)
+        (IsUndone (IsRefusalOf (S.entries store.old) log.now command.now) S.fails (S.entries store.old) (S.entries store.new)) }
 {
     match command {
         LogCommand::Bare { steps } => make_bare(alloc, store, log, *steps),
@@ -76,6 +91,18 @@ fn hold_log<S: Store>(store: &S, name: &str) -> Result<S::Held, Failure>
     }
 }
 
+// Finds that nothing stands under a name.
+fn find_free<S: Store>(store: &S, name: &str) -> Result<(), Failure>
+    ensures { MatchResult result (λ _. IsThere (S.entries store.now) name.now false)
+        (λ failure. IsTaken (S.entries store.now) name.now failure ⊎ IsLack S.fails failure) }
+{
+    if store.is_there(name)? {
+        Err(Failure::log_there())
+    } else {
+        Ok(())
+    }
+}
+
 // Makes the log of a source, under a name that is free.
 fn make<S: Store>(
     alloc: Global,
@@ -83,18 +110,14 @@ fn make<S: Store>(
     log: &SiteLog<'_>,
     source: &Source<Global>,
 ) -> Result<Vec<u8>, Failure>
-    requires { IsThere (S.entries store.old) log.now.name.now false }
-    ensures done { IfOk result (λ text. IsMade (S.entries store.old) (S.entries store.new) log.now.name.now
-        (plan_source source.now) text.items) }
-    ensures accepted { OnOk result (IsBaseRefusal (plan_source source.now) None) }
-    ensures refused { IfErr result (λ failure. IsBaseRefusal (plan_source source.now) (Some failure)
-        ⊎ IsTaken (S.entries store.old) log.now.name.now failure ⊎ IsLack S.fails failure) }
-    ensures unsaved { OnErr result (S.entries store.new ≡ S.entries store.old) }
+    ensures { MatchResult result
+        (λ text. IsMade (S.entries store.old) (S.entries store.new) log.now.name.now (plan_source source.now) text.items
+        × IsBaseRefusal (plan_source source.now) None)
+        (IsUnmade (IsBaseRefusal (plan_source source.now)) S.fails
+        (S.entries store.old) (S.entries store.new) log.now.name.now) }
 {
-    let base = Base::from_source(alloc, source)?;
-    let base = Rc::new(alloc, base)?;
-    let replica = Replica::new(alloc, log.site, base)?;
-    save_made(alloc, store, log, &replica)
+    let replica = opened(alloc, log.site, source)?;
+    save_made(alloc, store, log.name, &replica)
 }
 
 // Makes the log of the loosened plan of a source, under a name that is free.
@@ -105,34 +128,51 @@ fn make_loose<S: Store>(
     source: &Source<Global>,
     tolerance: Tolerance,
 ) -> Result<Vec<u8>, Failure>
-    ensures done { IfOk result (λ text. IsMadeLoose (S.entries store.old) (S.entries store.new) log.now
-        (plan_source source.now) tolerance text.items) }
-    ensures accepted { OnOk result (IsLooseningRefusal (plan_source source.now) tolerance None) }
-    ensures refused { IfErr result (λ failure. IsLooseningRefusal (plan_source source.now) tolerance (Some failure)
-        ⊎ IsTaken (S.entries store.old) log.now.name.now failure ⊎ IsLack S.fails failure) }
-    ensures unsaved { OnErr result (S.entries store.new ≡ S.entries store.old) }
+    ensures { MatchResult result
+        (λ text. IsMadeLoose (S.entries store.old) (S.entries store.new) log.now (plan_source source.now) tolerance text.items
+        × IsLooseningRefusal (plan_source source.now) tolerance None)
+        (IsUnmade (IsLooseningRefusal (plan_source source.now) tolerance) S.fails
+        (S.entries store.old) (S.entries store.new) log.now.name.now) }
 {
     let replica = loosen(alloc, log.site, source, tolerance)?;
-    save_made(alloc, store, log, &replica)
+    save_made(alloc, store, log.name, &replica)
 }
 
-// Saves a new log, under a name that is free.
+// Saves a new log, under a name that is free: what is printed for it.
 fn save_made<S: Store>(
     alloc: Global,
     store: &mut S,
-    log: &SiteLog<'_>,
+    name: &str,
     replica: &Replica<Global>,
 ) -> Result<Vec<u8>, Failure>
-    ensures saved { IfOk result (λ text. IsNewLog (S.entries store.old) (S.entries store.new) log.now.name.now
-        replica.now.source replica.now.state text.items) }
-    ensures refused { IfErr result (λ failure. IsTaken (S.entries store.old) log.now.name.now failure ⊎ IsLack S.fails failure) }
-    ensures unsaved { OnErr result (S.entries store.new ≡ S.entries store.old) }
+    ensures { MatchResult result
+        (λ text. IsNewLog (S.entries store.old) (S.entries store.new) name.now replica.now.source replica.now.state text.items)
+        (IsUnsaved S.fails (S.entries store.old) (S.entries store.new) name.now) }
 {
-    let mut text = Vec::new(alloc);
-    text.extend_from_slice(b"made\n")?;
-    let _held = store.hold(log.name)?;
-    store.save_new(log.name, replica)?;
+    let text = copied(alloc, b"made\n")?;
+    save_new(store, name, replica)?;
     Ok(text)
+}
+
+// Saves a new log, under a name that is free. No other program changes it meanwhile.
+fn save_new<S: Store>(store: &mut S, name: &str, replica: &Replica<Global>) -> Result<(), Failure>
+    ensures { MatchResult result
+        (λ _. SavesNew (S.entries store.old) (S.entries store.new) name.now replica.now.source replica.now.state)
+        (IsUnsaved S.fails (S.entries store.old) (S.entries store.new) name.now) }
+{
+    let _held = store.hold(name)?;
+    store.save_new(name, replica)
+}
+
+// The source of the texts of a domain and of a plan.
+fn source_of_texts<S: Store>(store: &S, domain: &str, plan: &str) -> Result<Source<Global>, Failure>
+    ensures { MatchResult result
+        (λ source. IsOfTexts (S.entries store.now) domain.now plan.now (plan_source source))
+        (λ failure. MissesText (S.entries store.now) domain.now plan.now failure ⊎ IsLack S.fails failure) }
+{
+    let domain = store.text(domain)?;
+    let plan = store.text(plan)?;
+    Ok(Source::Files(domain, plan))
 }
 
 fn make_bare<S: Store>(
@@ -141,15 +181,11 @@ fn make_bare<S: Store>(
     log: &SiteLog<'_>,
     steps: u16,
 ) -> Result<Vec<u8>, Failure>
-    ensures done { IfOk result (λ text. IsAnswered (S.entries store.old) (S.entries store.new) log.now (of.Bare steps) text.items) }
-    ensures accepted { OnOk result (IsRefusalOf (S.entries store.old) log.now (of.Bare steps) None) }
-    ensures refused { IfErr result (λ failure. IsRefusalOf (S.entries store.old) log.now (of.Bare steps) (Some failure)
-        ⊎ IsLack S.fails failure) }
-    ensures unsaved { OnErr result (S.entries store.new ≡ S.entries store.old) }
+    ensures { MatchResult result
+        (λ text. Succeeds (S.entries store.old) (S.entries store.new) log.now (of.Bare steps) text.items)
+        (IsUndone (IsRefusalOf (S.entries store.old) log.now (of.Bare steps)) S.fails (S.entries store.old) (S.entries store.new)) }
 {
-    if store.is_there(log.name)? {
-        return Err(Failure::log_there());
-    }
+    find_free(store, log.name)?;
     make(alloc, store, log, &Source::Bare(steps))
 }
 
@@ -160,18 +196,13 @@ fn make_of_texts<S: Store>(
     domain: &str,
     plan: &str,
 ) -> Result<Vec<u8>, Failure>
-    ensures done { IfOk result (λ text. IsAnswered (S.entries store.old) (S.entries store.new) log.now (of.Init domain.entry plan.entry) text.items) }
-    ensures accepted { OnOk result (IsRefusalOf (S.entries store.old) log.now (of.Init domain.entry plan.entry) None) }
-    ensures refused { IfErr result (λ failure. IsRefusalOf (S.entries store.old) log.now (of.Init domain.entry plan.entry) (Some failure)
-        ⊎ IsLack S.fails failure) }
-    ensures unsaved { OnErr result (S.entries store.new ≡ S.entries store.old) }
+    ensures { MatchResult result
+        (λ text. Succeeds (S.entries store.old) (S.entries store.new) log.now (of.Init domain.entry plan.entry) text.items)
+        (IsUndone (IsRefusalOf (S.entries store.old) log.now (of.Init domain.entry plan.entry)) S.fails (S.entries store.old) (S.entries store.new)) }
 {
-    if store.is_there(log.name)? {
-        return Err(Failure::log_there());
-    }
-    let domain = store.text(domain)?;
-    let plan = store.text(plan)?;
-    make(alloc, store, log, &Source::Files(domain, plan))
+    find_free(store, log.name)?;
+    let source = source_of_texts(store, domain, plan)?;
+    make(alloc, store, log, &source)
 }
 
 fn loosen_texts<S: Store>(
@@ -183,19 +214,62 @@ fn loosen_texts<S: Store>(
     early: Option<&str>,
     late: Option<&str>,
 ) -> Result<Vec<u8>, Failure>
-    ensures done { IfOk result (λ text. IsAnswered (S.entries store.old) (S.entries store.new) log.now (of.Loosen domain.entry plan.entry early.entry late.entry) text.items) }
-    ensures accepted { OnOk result (IsRefusalOf (S.entries store.old) log.now (of.Loosen domain.entry plan.entry early.entry late.entry) None) }
-    ensures refused { IfErr result (λ failure. IsRefusalOf (S.entries store.old) log.now (of.Loosen domain.entry plan.entry early.entry late.entry) (Some failure)
-        ⊎ IsLack S.fails failure) }
-    ensures unsaved { OnErr result (S.entries store.new ≡ S.entries store.old) }
+    ensures { MatchResult result
+        (λ text. Succeeds (S.entries store.old) (S.entries store.new) log.now (of.Loosen domain.entry plan.entry early.entry late.entry) text.items)
+        (IsUndone (IsRefusalOf (S.entries store.old) log.now (of.Loosen domain.entry plan.entry early.entry late.entry)) S.fails (S.entries store.old) (S.entries store.new)) }
 {
     let tolerance = read_tolerance(early, late)?;
-    if store.is_there(log.name)? {
-        return Err(Failure::log_there());
-    }
-    let domain = store.text(domain)?;
-    let plan = store.text(plan)?;
-    make_loose(alloc, store, log, &Source::Files(domain, plan), tolerance)
+    find_free(store, log.name)?;
+    let source = source_of_texts(store, domain, plan)?;
+    make_loose(alloc, store, log, &source, tolerance)
+}
+
+// Changes a log that is there. No other program changes it meanwhile.
+fn change_log<S: Store>(
+    alloc: Global,
+    store: &mut S,
+    log: &SiteLog<'_>,
+    asked: &Change<'_>,
+) -> Result<Vec<u8>, Failure>
+    ensures { MatchResult result
+        (λ text. IsChanged (S.entries store.old) (S.entries store.new) log.now asked.now text.items)
+        (IsUnchanged S.fails (S.entries store.old) (S.entries store.new) log.now asked.now) }
+{
+    let _held = hold_log(store, log.name)?;
+    change_held(alloc, store, log, asked)
+}
+
+// Changes a log that is held.
+fn change_held<S: Store>(
+    alloc: Global,
+    store: &mut S,
+    log: &SiteLog<'_>,
+    asked: &Change<'_>,
+) -> Result<Vec<u8>, Failure>
+    ensures { MatchResult result
+        (λ text. IsChanged (S.entries store.old) (S.entries store.new) log.now asked.now text.items)
+        (IsUnchanged S.fails (S.entries store.old) (S.entries store.new) log.now asked.now) }
+{
+    let mut replica = store.load(log.name, log.site)?;
+    save_changed(alloc, store, log, &mut replica, asked)
+}
+
+// Changes the replica of a log, and saves the log.
+fn save_changed<S: Store>(
+    alloc: Global,
+    store: &mut S,
+    log: &SiteLog<'_>,
+    replica: &mut Replica<Global>,
+    asked: &Change<'_>,
+) -> Result<Vec<u8>, Failure>
+    requires { Opens (S.entries store.old) log.now.name.now log.now.site replica.old }
+    ensures { MatchResult result
+        (λ text. IsChanged (S.entries store.old) (S.entries store.new) log.now asked.now text.items)
+        (IsUnchanged S.fails (S.entries store.old) (S.entries store.new) log.now asked.now) }
+{
+    let text = make_change(alloc, store, log.site, replica, asked)?;
+    store.save(log.name, replica)?;
+    Ok(text)
 }
 
 fn add_to<S: Store>(
@@ -207,18 +281,12 @@ fn add_to<S: Store>(
     lo: Option<&str>,
     hi: Option<&str>,
 ) -> Result<Vec<u8>, Failure>
-    ensures done { IfOk result (λ text. IsAnswered (S.entries store.old) (S.entries store.new) log.now (of.Add from.entry to.entry lo.entry hi.entry) text.items) }
-    ensures accepted { OnOk result (IsRefusalOf (S.entries store.old) log.now (of.Add from.entry to.entry lo.entry hi.entry) None) }
-    ensures refused { IfErr result (λ failure. IsRefusalOf (S.entries store.old) log.now (of.Add from.entry to.entry lo.entry hi.entry) (Some failure)
-        ⊎ IsLack S.fails failure) }
-    ensures unsaved { OnErr result (S.entries store.new ≡ S.entries store.old) }
+    ensures { MatchResult result
+        (λ text. Succeeds (S.entries store.old) (S.entries store.new) log.now (of.Add from.entry to.entry lo.entry hi.entry) text.items)
+        (IsUndone (IsRefusalOf (S.entries store.old) log.now (of.Add from.entry to.entry lo.entry hi.entry)) S.fails (S.entries store.old) (S.entries store.new)) }
 {
     let bound = read_bound(from, to, lo, hi)?;
-    let _held = hold_log(store, log.name)?;
-    let mut replica = store.load(log.name, log.site)?;
-    let text = add(alloc, &mut replica, bound)?;
-    store.save(log.name, &replica)?;
-    Ok(text)
+    change_log(alloc, store, log, &Change::Add(bound))
 }
 
 fn amend_in<S: Store>(
@@ -231,19 +299,13 @@ fn amend_in<S: Store>(
     lo: Option<&str>,
     hi: Option<&str>,
 ) -> Result<Vec<u8>, Failure>
-    ensures done { IfOk result (λ text. IsAnswered (S.entries store.old) (S.entries store.new) log.now (of.Amend id.entry from.entry to.entry lo.entry hi.entry) text.items) }
-    ensures accepted { OnOk result (IsRefusalOf (S.entries store.old) log.now (of.Amend id.entry from.entry to.entry lo.entry hi.entry) None) }
-    ensures refused { IfErr result (λ failure. IsRefusalOf (S.entries store.old) log.now (of.Amend id.entry from.entry to.entry lo.entry hi.entry) (Some failure)
-        ⊎ IsLack S.fails failure) }
-    ensures unsaved { OnErr result (S.entries store.new ≡ S.entries store.old) }
+    ensures { MatchResult result
+        (λ text. Succeeds (S.entries store.old) (S.entries store.new) log.now (of.Amend id.entry from.entry to.entry lo.entry hi.entry) text.items)
+        (IsUndone (IsRefusalOf (S.entries store.old) log.now (of.Amend id.entry from.entry to.entry lo.entry hi.entry)) S.fails (S.entries store.old) (S.entries store.new)) }
 {
     let old = read_id(id)?;
     let bound = read_bound(from, to, lo, hi)?;
-    let _held = hold_log(store, log.name)?;
-    let mut replica = store.load(log.name, log.site)?;
-    let text = amend(alloc, &mut replica, old, bound)?;
-    store.save(log.name, &replica)?;
-    Ok(text)
+    change_log(alloc, store, log, &Change::Amend(old, bound))
 }
 
 fn withdraw_from<S: Store>(
@@ -252,18 +314,12 @@ fn withdraw_from<S: Store>(
     log: &SiteLog<'_>,
     id: &str,
 ) -> Result<Vec<u8>, Failure>
-    ensures done { IfOk result (λ text. IsAnswered (S.entries store.old) (S.entries store.new) log.now (of.Withdraw id.entry) text.items) }
-    ensures accepted { OnOk result (IsRefusalOf (S.entries store.old) log.now (of.Withdraw id.entry) None) }
-    ensures refused { IfErr result (λ failure. IsRefusalOf (S.entries store.old) log.now (of.Withdraw id.entry) (Some failure)
-        ⊎ IsLack S.fails failure) }
-    ensures unsaved { OnErr result (S.entries store.new ≡ S.entries store.old) }
+    ensures { MatchResult result
+        (λ text. Succeeds (S.entries store.old) (S.entries store.new) log.now (of.Withdraw id.entry) text.items)
+        (IsUndone (IsRefusalOf (S.entries store.old) log.now (of.Withdraw id.entry)) S.fails (S.entries store.old) (S.entries store.new)) }
 {
     let id = read_id(id)?;
-    let _held = hold_log(store, log.name)?;
-    let mut replica = store.load(log.name, log.site)?;
-    let text = withdraw(alloc, &mut replica, id)?;
-    store.save(log.name, &replica)?;
-    Ok(text)
+    change_log(alloc, store, log, &Change::Withdraw(id))
 }
 
 fn done_at<S: Store>(
@@ -273,19 +329,13 @@ fn done_at<S: Store>(
     event: &str,
     time: &str,
 ) -> Result<Vec<u8>, Failure>
-    ensures done { IfOk result (λ text. IsAnswered (S.entries store.old) (S.entries store.new) log.now (of.Done event.entry time.entry) text.items) }
-    ensures accepted { OnOk result (IsRefusalOf (S.entries store.old) log.now (of.Done event.entry time.entry) None) }
-    ensures refused { IfErr result (λ failure. IsRefusalOf (S.entries store.old) log.now (of.Done event.entry time.entry) (Some failure)
-        ⊎ IsLack S.fails failure) }
-    ensures unsaved { OnErr result (S.entries store.new ≡ S.entries store.old) }
+    ensures { MatchResult result
+        (λ text. Succeeds (S.entries store.old) (S.entries store.new) log.now (of.Done event.entry time.entry) text.items)
+        (IsUndone (IsRefusalOf (S.entries store.old) log.now (of.Done event.entry time.entry)) S.fails (S.entries store.old) (S.entries store.new)) }
 {
     let event = read_event(event)?;
     let time = read_time(time)?;
-    let _held = hold_log(store, log.name)?;
-    let mut replica = store.load(log.name, log.site)?;
-    let text = done(alloc, &mut replica, event, time)?;
-    store.save(log.name, &replica)?;
-    Ok(text)
+    change_log(alloc, store, log, &Change::Done(event, time))
 }
 
 fn merge_with<S: Store>(
@@ -294,29 +344,33 @@ fn merge_with<S: Store>(
     log: &SiteLog<'_>,
     other: &str,
 ) -> Result<Vec<u8>, Failure>
-    ensures done { IfOk result (λ text. IsAnswered (S.entries store.old) (S.entries store.new) log.now (of.Merge other.entry) text.items) }
-    ensures accepted { OnOk result (IsRefusalOf (S.entries store.old) log.now (of.Merge other.entry) None) }
-    ensures refused { IfErr result (λ failure. IsRefusalOf (S.entries store.old) log.now (of.Merge other.entry) (Some failure)
-        ⊎ IsLack S.fails failure) }
-    ensures unsaved { OnErr result (S.entries store.new ≡ S.entries store.old) }
+    ensures { MatchResult result
+        (λ text. Succeeds (S.entries store.old) (S.entries store.new) log.now (of.Merge other.entry) text.items)
+        (IsUndone (IsRefusalOf (S.entries store.old) log.now (of.Merge other.entry)) S.fails (S.entries store.old) (S.entries store.new)) }
 {
-    let _held = hold_log(store, log.name)?;
-    let mut replica = store.load(log.name, log.site)?;
-    let other = store.load(other, log.site)?;
-    let text = merge(alloc, &mut replica, &other)?;
-    store.save(log.name, &replica)?;
-    Ok(text)
+    change_log(alloc, store, log, &Change::Merge(other))
+}
+
+// What is said of a log.
+fn say_of<S: Store>(
+    alloc: Global,
+    store: &S,
+    log: &SiteLog<'_>,
+    query: &Query,
+) -> Result<Vec<u8>, Failure>
+    ensures { MatchResult result (λ text. SaysOf (S.entries store.now) log.now query.now text.items)
+        (λ failure. WithLog (S.entries store.now) log.now.name.now log.now.site (IsQueryRefusal query.now) (Some failure) ⊎ IsLack S.fails failure) }
+{
+    let replica = store.load(log.name, log.site)?;
+    say(alloc, &replica, query)
 }
 
 fn report_of<S: Store>(alloc: Global, store: &mut S, log: &SiteLog<'_>) -> Result<Vec<u8>, Failure>
-    ensures done { IfOk result (λ text. IsAnswered (S.entries store.old) (S.entries store.new) log.now of.Report text.items) }
-    ensures accepted { OnOk result (IsRefusalOf (S.entries store.old) log.now of.Report None) }
-    ensures refused { IfErr result (λ failure. IsRefusalOf (S.entries store.old) log.now of.Report (Some failure)
-        ⊎ IsLack S.fails failure) }
-    ensures unsaved { OnErr result (S.entries store.new ≡ S.entries store.old) }
+    ensures { MatchResult result
+        (λ text. Succeeds (S.entries store.old) (S.entries store.new) log.now of.Report text.items)
+        (IsUndone (IsRefusalOf (S.entries store.old) log.now of.Report) S.fails (S.entries store.old) (S.entries store.new)) }
 {
-    let replica = store.load(log.name, log.site)?;
-    report(alloc, &replica)
+    say_of(alloc, store, log, &Query::Report)
 }
 
 fn next_of<S: Store>(
@@ -325,15 +379,12 @@ fn next_of<S: Store>(
     log: &SiteLog<'_>,
     now: &str,
 ) -> Result<Vec<u8>, Failure>
-    ensures done { IfOk result (λ text. IsAnswered (S.entries store.old) (S.entries store.new) log.now (of.Next now.entry) text.items) }
-    ensures accepted { OnOk result (IsRefusalOf (S.entries store.old) log.now (of.Next now.entry) None) }
-    ensures refused { IfErr result (λ failure. IsRefusalOf (S.entries store.old) log.now (of.Next now.entry) (Some failure)
-        ⊎ IsLack S.fails failure) }
-    ensures unsaved { OnErr result (S.entries store.new ≡ S.entries store.old) }
+    ensures { MatchResult result
+        (λ text. Succeeds (S.entries store.old) (S.entries store.new) log.now (of.Next now.entry) text.items)
+        (IsUndone (IsRefusalOf (S.entries store.old) log.now (of.Next now.entry)) S.fails (S.entries store.old) (S.entries store.new)) }
 {
     let now = read_time(now)?;
-    let replica = store.load(log.name, log.site)?;
-    next(alloc, &replica, now)
+    say_of(alloc, store, log, &Query::Next(now))
 }
 
 fn tell_of<S: Store>(
@@ -342,15 +393,12 @@ fn tell_of<S: Store>(
     log: &SiteLog<'_>,
     asked: &Asked<'_>,
 ) -> Result<Vec<u8>, Failure>
-    ensures done { IfOk result (λ text. IsAnswered (S.entries store.old) (S.entries store.new) log.now (of.Ask asked.now) text.items) }
-    ensures accepted { OnOk result (IsRefusalOf (S.entries store.old) log.now (of.Ask asked.now) None) }
-    ensures refused { IfErr result (λ failure. IsRefusalOf (S.entries store.old) log.now (of.Ask asked.now) (Some failure)
-        ⊎ IsLack S.fails failure) }
-    ensures unsaved { OnErr result (S.entries store.new ≡ S.entries store.old) }
+    ensures { MatchResult result
+        (λ text. Succeeds (S.entries store.old) (S.entries store.new) log.now (of.Ask asked.now) text.items)
+        (IsUndone (IsRefusalOf (S.entries store.old) log.now (of.Ask asked.now)) S.fails (S.entries store.old) (S.entries store.new)) }
 {
     let question = read_question(asked)?;
-    let replica = store.load(log.name, log.site)?;
-    tell(alloc, &replica, question)
+    say_of(alloc, store, log, &Query::Tell(question))
 }
 
 fn check_of<S: Store>(
@@ -359,13 +407,13 @@ fn check_of<S: Store>(
     log: &SiteLog<'_>,
     words: &[&str],
 ) -> Result<Vec<u8>, Failure>
-    ensures done { IfOk result (λ text. IsChecked (S.entries store.old) (S.entries store.new) log.now words.entry.now text.items) }
-    ensures accepted { OnOk result (WithWords (times_read words.entry.now)
-        (λ times. WithLog (S.entries store.old) log.now.name.now log.now.site (λ held. IsCheckRefusal held times)) None) }
-    ensures refused { IfErr result (λ failure. WithWords (times_read words.entry.now)
-        (λ times. WithLog (S.entries store.old) log.now.name.now log.now.site (λ held. IsCheckRefusal held times)) (Some failure)
-        ⊎ IsLack S.fails failure) }
-    ensures unsaved { OnErr result (S.entries store.new ≡ S.entries store.old) }
+    ensures { MatchResult result
+        (λ text. IsChecked (S.entries store.old) (S.entries store.new) log.now words.entry.now text.items
+        × WithWords (times_read words.entry.now)
+        (λ times. WithLog (S.entries store.old) log.now.name.now log.now.site (λ held. IsCheckRefusal held times)) None)
+        (IsUndone (WithWords (times_read words.entry.now)
+        (λ times. WithLog (S.entries store.old) log.now.name.now log.now.site (λ held. IsCheckRefusal held times))) S.fails
+        (S.entries store.old) (S.entries store.new)) }
 {
     let times = read_times(alloc, words)?;
     let replica = store.load(log.name, log.site)?;
@@ -378,24 +426,18 @@ fn rehearse_of<S: Store>(
     log: &SiteLog<'_>,
     now: &str,
 ) -> Result<Vec<u8>, Failure>
-    ensures done { IfOk result (λ text. IsAnswered (S.entries store.old) (S.entries store.new) log.now (of.Rehearse now.entry) text.items) }
-    ensures accepted { OnOk result (IsRefusalOf (S.entries store.old) log.now (of.Rehearse now.entry) None) }
-    ensures refused { IfErr result (λ failure. IsRefusalOf (S.entries store.old) log.now (of.Rehearse now.entry) (Some failure)
-        ⊎ IsLack S.fails failure) }
-    ensures unsaved { OnErr result (S.entries store.new ≡ S.entries store.old) }
+    ensures { MatchResult result
+        (λ text. Succeeds (S.entries store.old) (S.entries store.new) log.now (of.Rehearse now.entry) text.items)
+        (IsUndone (IsRefusalOf (S.entries store.old) log.now (of.Rehearse now.entry)) S.fails (S.entries store.old) (S.entries store.new)) }
 {
     let time = read_time(now)?;
-    let replica = store.load(log.name, log.site)?;
-    rehearse(alloc, &replica, time)
+    say_of(alloc, store, log, &Query::Rehearse(time))
 }
 
 fn draw_of<S: Store>(alloc: Global, store: &mut S, log: &SiteLog<'_>) -> Result<Vec<u8>, Failure>
-    ensures done { IfOk result (λ text. IsAnswered (S.entries store.old) (S.entries store.new) log.now of.Draw text.items) }
-    ensures accepted { OnOk result (IsRefusalOf (S.entries store.old) log.now of.Draw None) }
-    ensures refused { IfErr result (λ failure. IsRefusalOf (S.entries store.old) log.now of.Draw (Some failure)
-        ⊎ IsLack S.fails failure) }
-    ensures unsaved { OnErr result (S.entries store.new ≡ S.entries store.old) }
+    ensures { MatchResult result
+        (λ text. Succeeds (S.entries store.old) (S.entries store.new) log.now of.Draw text.items)
+        (IsUndone (IsRefusalOf (S.entries store.old) log.now of.Draw) S.fails (S.entries store.old) (S.entries store.new)) }
 {
-    let replica = store.load(log.name, log.site)?;
-    draw(alloc, &replica)
+    say_of(alloc, store, log, &Query::Draw)
 }

@@ -17,4 +17,5 @@ mod joining;
 mod peer;
 mod printing;
 mod process;
+mod queries;
 mod words;

@@ -1,44 +1,40 @@
-use Rattle.std.proofs.Common.{true, false, Some, refl, ap, subst, inl, inr, ⊎_elim}
-use Rattle.std.proofs.lemmas.Result.{err_from_is_err_and, on_ok_weaker, IfErr-weaker}
-use Rattle.stn_store.specs.Store.{IsThere}
+use Rattle.std.proofs.Common.{Some, refl, ap, subst, inl, inr, ⊎_elim}
+use Rattle.std.proofs.lemmas.Result.{err_from_is_err_and, MatchResult-weaker}
+use Rattle.stn_shell.specs.Commands.{IsMade}
+use Rattle.stn_shell.specs.Refusals.{IsBaseRefusal}
+use Rattle.stn_shell.proofs.Made.{texts_say, text_missing}
 use Rattle.stn_shell.proofs.commands.make_of_texts.Goals as goal
 
-pub returns-then-branch-clause-refused : goal.returns-then-branch-clause-refused
-returns-then-branch-clause-refused g c =
-    let free : IsThere (g.S.Store.entries c.args.store.now) c.args.log.now.name.now true =
-    subst (IsThere (g.S.Store.entries c.args.store.now) c.args.log.now.name.now) c.if-branch.true c.in_ok-is_there.ensures.found in
-    inl (inl (free, ap Some c.log_there.ensures))
+pub returns-in_err-find_free : goal.returns-in_err-find_free
+returns-in_err-find_free g c =
+    let p = err_from_is_err_and c.from_residual.result c.from_residual.ensures.1 in
+    rw (p.1, p.2) (record { cause = ⊎_elim (λ taken. inl (inl (taken.0, ap Some taken.1))) inr c.in_err-find_free.ensures; unsaved = refl })
 
-pub returns-in_err-domain-clause-refused : goal.returns-in_err-domain-clause-refused
-returns-in_err-domain-clause-refused g c =
-    let free : IsThere (g.S.Store.entries c.args.store.now) c.args.log.now.name.now false =
-    subst (IsThere (g.S.Store.entries c.args.store.now) c.args.log.now.name.now) c.if-branch.false c.in_ok-is_there.ensures.found in
-    let p = err_from_is_err_and c.from_residual-in_err-domain.result c.from_residual-in_err-domain.ensures.1 in
-    rw (p.1, p.2) (⊎_elim (λ missing. inl (inr (free, inl (_, missing, refl)))) inr c.in_err-domain.ensures.failed)
+pub returns-in_err-source : goal.returns-in_err-source
+returns-in_err-source g c =
+    let p = err_from_is_err_and c.from_residual-in_err-source.result c.from_residual-in_err-source.ensures.1 in
+    rw (p.1, p.2) (record {
+      cause = ⊎_elim (λ missing. inl (inr (c.in_ok-find_free.ensures, text_missing _ _ _ IsBaseRefusal _ missing))) inr c.in_err-source.ensures;
+      unsaved = refl;
+    })
 
-pub returns-in_err-plan-clause-refused : goal.returns-in_err-plan-clause-refused
-returns-in_err-plan-clause-refused g c =
-    let free : IsThere (g.S.Store.entries c.args.store.now) c.args.log.now.name.now false =
-    subst (IsThere (g.S.Store.entries c.args.store.now) c.args.log.now.name.now) c.if-branch.false c.in_ok-is_there.ensures.found in
-    let p = err_from_is_err_and c.from_residual-in_err-plan.result c.from_residual-in_err-plan.ensures.1 in
-    rw (p.1, p.2)
-    (⊎_elim (λ missing. inl (inr (free, inr (c.in_ok-domain.domain.items, c.in_ok-domain.ensures.spelled, inl (_, missing, refl))))) inr
-    c.in_err-plan.ensures.failed)
-
-pub returns-clause-accepted : goal.returns-clause-accepted
-returns-clause-accepted g c =
-    let free : IsThere (g.S.Store.entries c.args.store.now) c.args.log.now.name.now false =
-    subst (IsThere (g.S.Store.entries c.args.store.now) c.args.log.now.name.now) c.if-branch.false c.in_ok-is_there.ensures.found in
-    on_ok_weaker c.make.result
-    (λ based. inr (free, inr (c.in_ok-domain.domain.items, c.in_ok-domain.ensures.spelled, inr (c.in_ok-plan.plan.items, c.in_ok-plan.ensures.spelled, based))))
-    c.make.ensures.accepted
-
-pub returns-clause-refused : goal.returns-clause-refused
-returns-clause-refused g c =
-    let free : IsThere (g.S.Store.entries c.args.store.now) c.args.log.now.name.now false =
-    subst (IsThere (g.S.Store.entries c.args.store.now) c.args.log.now.name.now) c.if-branch.false c.in_ok-is_there.ensures.found in
-    IfErr-weaker c.make.result _ _
-    (λ failure why. ⊎_elim
-    (λ cause. inl (inr (free, inr (c.in_ok-domain.domain.items, c.in_ok-domain.ensures.spelled, inr (c.in_ok-plan.plan.items, c.in_ok-plan.ensures.spelled, cause)))))
-    (⊎_elim (λ taken. inl (inl (taken.0, ap Some taken.1))) inr) why)
-    c.make.ensures.refused
+pub returns : goal.returns
+returns g c =
+    let free = c.in_ok-find_free.ensures in
+    let said = c.in_ok-source.ensures in
+    MatchResult-weaker c.make.result c.make.ensures
+    (λ text made. record {
+      answered = record {
+        actions = said.actions;
+        steps = said.steps;
+        first = said.first;
+        second = said.second;
+        made = subst (λ source. IsMade (g.S.Store.entries c.args.store.now) (g.S.Store.entries c.make.new.store) c.args.log.now.name.now source text.items) said.is made.0;
+      };
+      accepted = inr (free, texts_say _ _ _ _ IsBaseRefusal _ said made.1);
+    })
+    (λ failure unmade. record {
+      cause = ⊎_elim (λ refusal. inl (inr (free, texts_say _ _ _ _ IsBaseRefusal _ said refusal)))
+          (⊎_elim (λ taken. inl (inl (taken.0, ap Some taken.1))) inr) unmade.cause;
+      unsaved = unmade.unsaved;
+    })

@@ -1,0 +1,14 @@
+use Rattle.std.proofs.Common.{refl, inl, inr, ⊎_elim}
+use Rattle.std.proofs.lemmas.Result.{err_from_is_err_and}
+use Rattle.stn_shell.proofs.commands.change_held.Goals as goal
+
+pub returns-in_err-replica : goal.returns-in_err-replica
+returns-in_err-replica g c =
+    let p = err_from_is_err_and c.from_residual.result c.from_residual.ensures.1 in
+    rw (p.1, p.2) (⊎_elim (λ unopened. inl (inl (_, unopened, refl))) inr c.in_err-replica.ensures.failed, refl)
+
+pub save_changed-requires : goal.save_changed-requires
+save_changed-requires g c = c.in_ok-replica.ensures.opened
+
+pub returns : goal.returns
+returns g c = c.save_changed.ensures

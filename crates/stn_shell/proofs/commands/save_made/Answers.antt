@@ -1,0 +1,17 @@
+use Rattle.std.proofs.Common.{refl, inr}
+use Rattle.std.proofs.lemmas.Result.{err_from_is_err_and}
+use Rattle.stn_store.proofs.Lacks.{lack_of_memory}
+use Rattle.stn_shell.proofs.commands.save_made.Goals as goal
+
+pub returns-in_err-text : goal.returns-in_err-text
+returns-in_err-text g c =
+    let p = err_from_is_err_and c.from_residual.result c.from_residual.ensures.1 in
+    rw (p.1, p.2) (record { cause = inr (lack_of_memory g.S.Store.fails _ refl); unsaved = refl })
+
+pub returns-in_err-save_new : goal.returns-in_err-save_new
+returns-in_err-save_new g c =
+    let p = err_from_is_err_and c.from_residual-in_err-save_new.result c.from_residual-in_err-save_new.ensures.1 in
+    rw (p.1, p.2) c.in_err-save_new.ensures
+
+pub returns : goal.returns
+returns g c = record { free = c.in_ok-save_new.ensures.free; saved = c.in_ok-save_new.ensures.saved; line = c.in_ok-text.ensures }

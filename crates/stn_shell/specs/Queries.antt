@@ -1,0 +1,34 @@
+-- What is said of a log, and what refuses it.
+use Rattle.std.specs.Prelude.{◌≡◌, ℕ, List, Option, None}
+use Rattle.stn_replica.specs.Held.{Held}
+use Rattle.stn_replica.specs.Report.{IsReport}
+use Rattle.stn_questions.specs.Answer.{IsAnswer}
+use Rattle.stn_picture.specs.Picture.{IsPicture}
+use Rattle.stn_exec.specs.Dispatch.{IsNextText, IsRestText}
+use Rattle.stn_store.specs.Store.{Entry, Opens}
+use Rattle.stn_store.specs.declared.failure.Failure.{Failure}
+use Rattle.stn_shell.specs.Refusals.{IsQuestionRefusal, IsRehearseRefusal}
+use Rattle.stn_shell.specs.declared.command.SiteLog.{SiteLog}
+use Rattle.stn_shell.specs.declared.queries.Query.{Query}
+use Rattle.stn_shell.specs.declared.queries.Query.TheVariants.{Report, Next, Tell, Rehearse, Draw}
+
+abbrev pub IsSaid : Query → Held → List ℕ → Type 0
+IsSaid Report held text = IsReport held.source held.state text
+IsSaid (Next now) held text = IsNextText held.source held.state now text
+IsSaid (Tell question) held text = IsAnswer held.source held.state question text
+IsSaid (Rehearse now) held text = IsRestText held.source held.state now text
+IsSaid Draw held text = IsPicture held.source held.state text
+
+abbrev pub IsQueryRefusal : Query → Held → Option Failure → Type 0
+IsQueryRefusal Report held cause = cause ≡ None
+IsQueryRefusal (Next now) held cause = cause ≡ None
+IsQueryRefusal (Tell question) held cause = IsQuestionRefusal held question cause
+IsQueryRefusal (Rehearse now) held cause = IsRehearseRefusal held now cause
+IsQueryRefusal Draw held cause = cause ≡ None
+
+-- what is said of what the log says
+pub record SaysOf (entries : Option (List Entry)) (log : SiteLog) (query : Query) (text : List ℕ) : Type 0 where
+  pub ours : Held
+  pub opened : Opens entries log.name.now log.site ours
+  pub said : IsSaid query ours text
+  pub accepted : IsQueryRefusal query ours None

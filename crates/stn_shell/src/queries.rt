@@ -1,0 +1,138 @@
+//! What a command asks of a replica.
+
+ghost use Rattle.std.specs.Prelude.{◌≡◌, ◌⊎◌, ◌+◌, length, pos, Some, None, MatchResult};
+ghost use Rattle.stn_lift.specs.PlanSource.{events_of};
+ghost use Rattle.stn_replica.specs.Report.{IsReport};
+ghost use Rattle.stn_questions.specs.Answer.{IsAnswer};
+ghost use Rattle.stn_net.specs.Schedule.{times_of};
+ghost use Rattle.stn_picture.specs.Picture.{IsPicture};
+ghost use Rattle.stn_exec.specs.Answer.{answer_text};
+ghost use Rattle.stn_exec.specs.Dispatch.{IsNextText, IsRestText};
+ghost use Rattle.stn_exec.specs.Effect.{times_answer};
+ghost use Rattle.stn_shell.specs.Queries.{IsSaid, IsQueryRefusal};
+ghost use Rattle.stn_shell.specs.Refusals.{IsQuestionFailure, IsQuestionRefusal, IsCheckFailure, IsRehearseFailure, IsRehearseRefusal};
+ghost use Rattle.stn_store.specs.declared.failure.Failure.TheVariants.{Failed};
+ghost use Rattle.stn_store.specs.declared.failure.Fault.TheVariants as lack;
+
+use std::alloc::Allocator;
+use stn_exec::{append_check, append_next, append_rest};
+use stn_net::BoundFault;
+use stn_picture::print_picture;
+use stn_questions::{Question, WhyFault, print_answer};
+use stn_replica::Replica;
+use stn_store::{Failure, Fault};
+use stn_time::Ms;
+
+/// What is asked of a log, as its words say.
+#[derive(Drop)]
+pub enum Query {
+    /// The report.
+    Report,
+    /// What comes next from a time on.
+    Next(Ms),
+    /// The answer to a question.
+    Tell(Question),
+    /// The rest of the plan from a time on.
+    Rehearse(Ms),
+    /// The picture of the plan.
+    Draw,
+}
+
+/// What is said of a replica.
+pub fn say<A: Allocator + Copy>(
+    alloc: A,
+    replica: &Replica<A>,
+    query: &Query,
+) -> Result<Vec<u8, A>, Failure>
+    ensures { MatchResult result
+        (λ text. IsSaid query.now replica.now text.items × IsQueryRefusal query.now replica.now None)
+        (λ failure. (failure ≡ Failed lack.Memory) ⊎ IsQueryRefusal query.now replica.now (Some failure)) }
+{
+    match query {
+        Query::Report => report(alloc, replica),
+        Query::Next(now) => next(alloc, replica, *now),
+        Query::Tell(question) => tell(alloc, replica, *question),
+        Query::Rehearse(now) => rehearse(alloc, replica, *now),
+        Query::Draw => draw(alloc, replica),
+    }
+}
+
+// The report.
+fn report<A: Allocator + Copy>(alloc: A, replica: &Replica<A>) -> Result<Vec<u8, A>, Failure>
+    ensures { MatchResult result (λ text. IsReport replica.now.source replica.now.state text.items) (λ failure. failure ≡ Failed lack.Memory) }
+{
+    let mut text = Vec::new(alloc);
+    replica.report(&mut text)?;
+    Ok(text)
+}
+
+// The answer to a question.
+fn tell<A: Allocator + Copy>(
+    alloc: A,
+    replica: &Replica<A>,
+    question: Question,
+) -> Result<Vec<u8, A>, Failure>
+    ensures { MatchResult result
+        (λ text. IsAnswer replica.now.source replica.now.state question text.items × IsQuestionRefusal replica.now question None)
+        (IsQuestionFailure replica.now question) }
+{
+    let mut text = Vec::new(alloc);
+    match print_answer(replica, question, &mut text) {
+        Ok(()) => Ok(text),
+        Err(WhyFault::NoEvent) => Err(Failure::from(BoundFault::NoEvent)),
+        Err(WhyFault::Memory) => Err(Failure::Failed(Fault::Memory)),
+    }
+}
+
+// What comes next from a time on.
+fn next<A: Allocator + Copy>(alloc: A, replica: &Replica<A>, now: Ms) -> Result<Vec<u8, A>, Failure>
+    ensures { MatchResult result (λ text. IsNextText replica.now.source replica.now.state now text.items) (λ failure. failure ≡ Failed lack.Memory) }
+{
+    let mut text = Vec::new(alloc);
+    append_next(replica, now, &mut text)?;
+    Ok(text)
+}
+
+/// Whether the times of all events, the origin's first, are a schedule.
+pub fn check<A: Allocator + Copy>(
+    alloc: A,
+    replica: &Replica<A>,
+    times: &[Ms],
+) -> Result<Vec<u8, A>, Failure>
+    requires { times_of times.now 0 ≡ pos 0 }
+    ensures { MatchResult result
+        (λ text. (text.items ≡ answer_text (times_answer replica.now.source replica.now.state times.now))
+        × (length times.now ≡ events_of replica.now.source + 1))
+        (IsCheckFailure replica.now times.now) }
+{
+    if times.len() != usize::from(replica.base().events()) + 1 {
+        return Err(Failure::no_such_word());
+    }
+    let mut text = Vec::new(alloc);
+    append_check(replica, times, &mut text)?;
+    Ok(text)
+}
+
+// The rest of the plan from a time on.
+fn rehearse<A: Allocator + Copy>(
+    alloc: A,
+    replica: &Replica<A>,
+    now: Ms,
+) -> Result<Vec<u8, A>, Failure>
+    ensures { MatchResult result
+        (λ text. IsRestText replica.now.source replica.now.state now text.items × IsRehearseRefusal replica.now now None)
+        (IsRehearseFailure replica.now now) }
+{
+    let mut text = Vec::new(alloc);
+    append_rest(replica, now, &mut text)?;
+    Ok(text)
+}
+
+// The picture of the plan.
+fn draw<A: Allocator + Copy>(alloc: A, replica: &Replica<A>) -> Result<Vec<u8, A>, Failure>
+    ensures { MatchResult result (λ text. IsPicture replica.now.source replica.now.state text.items) (λ failure. failure ≡ Failed lack.Memory) }
+{
+    let mut text = Vec::new(alloc);
+    print_picture(replica, &mut text)?;
+    Ok(text)
+}
