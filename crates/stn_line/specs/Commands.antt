@@ -1,5 +1,5 @@
 -- The commands of `stn` and their words, as clap reads them.
-use Rattle.std.specs.Prelude.{◌≡◌, ℕ, List, [], ◌∷◌, Some, true, false, codes}
+use Rattle.std.specs.Prelude.{◌≡◌, ℕ, List, [], ◌∷◌, ◌++◌, Some, Result, IfOk, true, false, codes}
 use Rattle.stn_records.specs.Id.{most_sites}
 use Rattle.clap.specs.Lexer.{usize_max}
 use Rattle.clap.specs.Simple.{new_shape}
@@ -147,3 +147,7 @@ stn = program commands
 pub record Reads (shape : Shape) (command : Command) : Type 0 where
   pub is : shape_of command ≡ shape
   pub own : (fields_of command).has_globals ≡ false
+
+-- where clap reads the words of the one command, it reads those and one more of the other
+abbrev pub Grows : {E : Type 0} → Rule → Result Command E → Result Command E → Type 0
+Grows rule old new = (name : Text) (words : List Rule) → IfOk old (Reads (command name words)) → IfOk new (Reads (command name (words ++ rule ∷ [])))

@@ -21,38 +21,38 @@ const MOST_SECONDS: u64 = 3_600;
 pub(crate) fn stn<'a>(alloc: Global) -> Result<Command<'a>, AllocError>
     ensures app { IfOk result (λ command. app_of command ≡ spec.stn) }
 {
-    let program = top(alloc).subcommand(run(alloc))?;
-    let program = with_command(program, bare(alloc))?;
-    let program = with_command(program, init(alloc))?;
-    let program = with_command(program, loosen(alloc))?;
-    let program = with_command(program, add(alloc))?;
-    let program = with_command(program, amend(alloc))?;
-    let program = with_command(program, withdraw(alloc))?;
-    let program = with_command(program, done(alloc))?;
-    let program = with_command(program, merge(alloc))?;
-    let program = with_command(program, report(alloc))?;
-    let program = with_command(program, next(alloc))?;
-    let program = with_command(program, ready(alloc))?;
-    let program = with_command(program, why(alloc))?;
-    let program = with_command(program, records(alloc))?;
-    let program = with_command(program, steps(alloc))?;
-    let program = with_command(program, bounds(alloc))?;
-    let program = with_command(program, check(alloc))?;
-    let program = with_command(program, rehearse(alloc))?;
-    let program = with_command(program, draw(alloc))?;
-    let program = with_command(program, serve(alloc))?;
+    let program = top(alloc).subcommand(run(alloc));
+    let program = with_command(program, bare(alloc));
+    let program = with_command(program, init(alloc));
+    let program = with_command(program, loosen(alloc));
+    let program = with_command(program, add(alloc));
+    let program = with_command(program, amend(alloc));
+    let program = with_command(program, withdraw(alloc));
+    let program = with_command(program, done(alloc));
+    let program = with_command(program, merge(alloc));
+    let program = with_command(program, report(alloc));
+    let program = with_command(program, next(alloc));
+    let program = with_command(program, ready(alloc));
+    let program = with_command(program, why(alloc));
+    let program = with_command(program, records(alloc));
+    let program = with_command(program, steps(alloc));
+    let program = with_command(program, bounds(alloc));
+    let program = with_command(program, check(alloc));
+    let program = with_command(program, rehearse(alloc));
+    let program = with_command(program, draw(alloc));
+    let program = with_command(program, serve(alloc));
     with_command(program, send(alloc))
 }
 
 // The program with one command more, the last.
 fn with_command<'a>(
-    program: Command<'a>,
+    program: Result<Command<'a>, AllocError>,
     command: Result<Command<'a>, AllocError>,
 ) -> Result<Command<'a>, AllocError>
-    ensures more { (commands : List Shape) → (shape : Shape) → app_of program.entry ≡ spec.program commands
+    ensures more { (commands : List Shape) → (shape : Shape) → IfOk program.entry (λ old. app_of old ≡ spec.program commands)
         → IfOk command.entry (spec.Reads shape) → IfOk result (λ new. app_of new ≡ spec.program (commands ++ shape ∷ [])) }
 {
-    program.subcommand(command?)
+    program?.subcommand(command?)
 }
 
 // The program before its commands are added.
@@ -73,147 +73,183 @@ fn top<'a>(alloc: Global) -> Command<'a>
 fn run<'a>(alloc: Global) -> Command<'a>
     ensures is { spec.Reads (spec.command (codes "run") []) result }
 {
-    Command::new(alloc, "run").about("Runs the script on standard input")
+    command(alloc, "run", "Runs the script on standard input")
 }
 
 fn bare<'a>(alloc: Global) -> Result<Command<'a>, AllocError>
     ensures is { IfOk result (spec.Reads (spec.on_log (codes "bare") spec.bare_words)) }
 {
-    on_log(
+    let command = on_log(
         alloc,
         "bare",
         "Makes the log of a plan of STEPS steps, without bounds between them",
-    )?
-    .arg(number(
+    );
+    with_number(
         alloc,
+        command,
         "STEPS",
         "How many steps, each with a start and an end",
         0,
         MOST_READ_STEPS,
-    ))
+    )
 }
 
 fn init<'a>(alloc: Global) -> Result<Command<'a>, AllocError>
     ensures is { IfOk result (spec.Reads (spec.on_log (codes "init") spec.init_words)) }
 {
-    on_log(alloc, "init", "Makes the log of a planner's plan")?
-        .arg(word(
-            alloc,
-            "DOMAIN",
-            "The file of the domain: durative actions in PDDL",
-        ))?
-        .arg(word(
-            alloc,
-            "PLAN",
-            "The file of the plan: lines as `0.000: (action a b) [5.000]`",
-        ))
+    let command = on_log(alloc, "init", "Makes the log of a planner's plan");
+    let command = with_word(
+        alloc,
+        command,
+        "DOMAIN",
+        "The file of the domain: durative actions in PDDL",
+    );
+    with_word(
+        alloc,
+        command,
+        "PLAN",
+        "The file of the plan: lines as `0.000: (action a b) [5.000]`",
+    )
 }
 
 fn loosen<'a>(alloc: Global) -> Result<Command<'a>, AllocError>
     ensures is { IfOk result (spec.Reads (spec.on_log (codes "loosen") spec.loosen_words)) }
 {
-    on_log(
+    let command = on_log(
         alloc,
         "loosen",
         "Makes the log of a planner's plan whose steps may end earlier or later",
-    )?
-    .arg(word(
+    );
+    let command = with_word(
         alloc,
+        command,
         "DOMAIN",
         "The file of the domain: durative actions in PDDL",
-    ))?
-    .arg(word(
+    );
+    let command = with_word(
         alloc,
+        command,
         "PLAN",
         "The file of the plan: lines as `0.000: (action a b) [5.000]`",
-    ))?
-    .arg(option(
+    );
+    let command = with_time(
         alloc,
+        command,
         "early",
         "How many seconds less than planned a step may take; 0 if not given",
-    ))?
-    .arg(option(
+    );
+    with_time(
         alloc,
+        command,
         "late",
         "How many seconds more than planned a step may take; 0 if not given",
-    ))
+    )
 }
 
 fn add<'a>(alloc: Global) -> Result<Command<'a>, AllocError>
     ensures is { IfOk result (spec.Reads (spec.on_log (codes "add") spec.add_words)) }
 {
-    on_log(
+    let command = on_log(
         alloc,
         "add",
         "Adds a bound on the time from one event to another",
-    )?
-    .arg(word(alloc, "FROM", "The event to count from: `z`, `s1`, `e1`"))?
-    .arg(word(alloc, "TO", "The event to count to"))?
-    .arg(option(
+    );
+    let command = with_word(
         alloc,
+        command,
+        "FROM",
+        "The event to count from: `z`, `s1`, `e1`",
+    );
+    let command = with_word(alloc, command, "TO", "The event to count to");
+    let command = with_time(
+        alloc,
+        command,
         "lo",
         "TO comes at least T seconds after FROM; open if not given",
-    ))?
-    .arg(option(
+    );
+    with_time(
         alloc,
+        command,
         "hi",
         "TO comes at most T seconds after FROM; open if not given",
-    ))
+    )
 }
 
 fn amend<'a>(alloc: Global) -> Result<Command<'a>, AllocError>
     ensures is { IfOk result (spec.Reads (spec.on_log (codes "amend") spec.amend_words)) }
 {
-    on_log(
+    let command = on_log(
         alloc,
         "amend",
         "Replaces a record by a new bound, for good and in one step",
-    )?
-    .arg(word(alloc, "ID", "The id of the record to replace, as `1.2`"))?
-    .arg(word(alloc, "FROM", "The event to count from: `z`, `s1`, `e1`"))?
-    .arg(word(alloc, "TO", "The event to count to"))?
-    .arg(option(
+    );
+    let command = with_word(
         alloc,
+        command,
+        "ID",
+        "The id of the record to replace, as `1.2`",
+    );
+    let command = with_word(
+        alloc,
+        command,
+        "FROM",
+        "The event to count from: `z`, `s1`, `e1`",
+    );
+    let command = with_word(alloc, command, "TO", "The event to count to");
+    let command = with_time(
+        alloc,
+        command,
         "lo",
         "TO comes at least T seconds after FROM; open if not given",
-    ))?
-    .arg(option(
+    );
+    with_time(
         alloc,
+        command,
         "hi",
         "TO comes at most T seconds after FROM; open if not given",
-    ))
+    )
 }
 
 fn withdraw<'a>(alloc: Global) -> Result<Command<'a>, AllocError>
     ensures is { IfOk result (spec.Reads (spec.on_log (codes "withdraw") spec.withdraw_words)) }
 {
-    on_log(alloc, "withdraw", "Withdraws a record for good")?.arg(word(
+    let command = on_log(alloc, "withdraw", "Withdraws a record for good");
+    with_word(
         alloc,
+        command,
         "ID",
         "The id that `add`, `amend` or `done` printed, as `1.2`",
-    ))
+    )
 }
 
 fn done<'a>(alloc: Global) -> Result<Command<'a>, AllocError>
     ensures is { IfOk result (spec.Reads (spec.on_log (codes "done") spec.done_words)) }
 {
-    on_log(alloc, "done", "Records that an event took place")?
-        .arg(word(alloc, "EVENT", "The event that took place: `s1`, `e1`"))?
-        .arg(word(
-            alloc,
-            "TIME",
-            "When it took place, in seconds after the origin",
-        ))
+    let command = on_log(alloc, "done", "Records that an event took place");
+    let command = with_word(
+        alloc,
+        command,
+        "EVENT",
+        "The event that took place: `s1`, `e1`",
+    );
+    with_word(
+        alloc,
+        command,
+        "TIME",
+        "When it took place, in seconds after the origin",
+    )
 }
 
 fn merge<'a>(alloc: Global) -> Result<Command<'a>, AllocError>
     ensures is { IfOk result (spec.Reads (spec.on_log (codes "merge") spec.merge_words)) }
 {
-    on_log(alloc, "merge", "Takes in everything in another site's log")?.arg(word(
+    let command = on_log(alloc, "merge", "Takes in everything in another site's log");
+    with_word(
         alloc,
+        command,
         "OTHER",
         "Another site's log of the same plan",
-    ))
+    )
 }
 
 fn report<'a>(alloc: Global) -> Result<Command<'a>, AllocError>
@@ -229,37 +265,45 @@ fn report<'a>(alloc: Global) -> Result<Command<'a>, AllocError>
 fn next<'a>(alloc: Global) -> Result<Command<'a>, AllocError>
     ensures is { IfOk result (spec.Reads (spec.on_log (codes "next") spec.next_words)) }
 {
-    on_log(alloc, "next", "Says which event to run next, and when")?.arg(word(
+    let command = on_log(alloc, "next", "Says which event to run next, and when");
+    with_word(
         alloc,
+        command,
         "NOW",
         "The time now, in seconds after the origin",
-    ))
+    )
 }
 
 fn ready<'a>(alloc: Global) -> Result<Command<'a>, AllocError>
     ensures is { IfOk result (spec.Reads (spec.on_log (codes "ready") spec.ready_words)) }
 {
-    on_log(
+    let command = on_log(
         alloc,
         "ready",
         "Says which events may run from NOW on, and until when",
-    )?
-    .arg(word(alloc, "NOW", "The time now, in seconds after the origin"))
+    );
+    with_word(
+        alloc,
+        command,
+        "NOW",
+        "The time now, in seconds after the origin",
+    )
 }
 
 fn why<'a>(alloc: Global) -> Result<Command<'a>, AllocError>
     ensures is { IfOk result (spec.Reads (spec.on_log (codes "why") spec.why_words)) }
 {
-    on_log(
+    let command = on_log(
         alloc,
         "why",
         "Says which bounds hold the two ends of an event's window",
-    )?
-    .arg(word(
+    );
+    with_word(
         alloc,
+        command,
         "EVENT",
         "The event: `s1`, `e1`, or `z` for the origin",
-    ))
+    )
 }
 
 fn records<'a>(alloc: Global) -> Result<Command<'a>, AllocError>
@@ -295,27 +339,33 @@ fn bounds<'a>(alloc: Global) -> Result<Command<'a>, AllocError>
 fn check<'a>(alloc: Global) -> Result<Command<'a>, AllocError>
     ensures is { IfOk result (spec.Reads (spec.on_log (codes "check") spec.check_words)) }
 {
-    on_log(
+    let command = on_log(
         alloc,
         "check",
         "Says whether times, one for each event, are a schedule",
-    )?
-    .arg(many(
+    );
+    with_words(
         alloc,
+        command,
         "TIME",
         "The times of `s1`, `e1`, `s2` .. in seconds, one for each event",
-    ))
+    )
 }
 
 fn rehearse<'a>(alloc: Global) -> Result<Command<'a>, AllocError>
     ensures is { IfOk result (spec.Reads (spec.on_log (codes "rehearse") spec.rehearse_words)) }
 {
-    on_log(
+    let command = on_log(
         alloc,
         "rehearse",
         "Prints the rest of the plan as `next` would run it from NOW on",
-    )?
-    .arg(word(alloc, "NOW", "The time now, in seconds after the origin"))
+    );
+    with_word(
+        alloc,
+        command,
+        "NOW",
+        "The time now, in seconds after the origin",
+    )
 }
 
 fn draw<'a>(alloc: Global) -> Result<Command<'a>, AllocError>
@@ -331,57 +381,158 @@ fn draw<'a>(alloc: Global) -> Result<Command<'a>, AllocError>
 fn serve<'a>(alloc: Global) -> Result<Command<'a>, AllocError>
     ensures is { IfOk result (spec.Reads (spec.on_log (codes "serve") spec.serve_words)) }
 {
-    on_log(
+    let command = on_log(
         alloc,
         "serve",
         "Exchanges records with the sites that connect",
-    )?
-    .arg(word(
+    );
+    let command = with_word(
         alloc,
+        command,
         "ADDR",
         "The address to listen at, as `127.0.0.1:7000`",
-    ))?
-    .arg(number(
+    );
+    let command = with_number(
         alloc,
+        command,
         "COUNT",
         "How many connections to serve, one after another",
         1,
         MOST_CONNECTIONS,
-    ))?
-    .arg(seconds(
+    );
+    with_seconds(
         alloc,
+        command,
         "How many seconds a session may take, from 1 to 3600; 60 if not given",
-    ))
+    )
 }
 
 fn send<'a>(alloc: Global) -> Result<Command<'a>, AllocError>
     ensures is { IfOk result (spec.Reads (spec.on_log (codes "send") spec.send_words)) }
 {
-    on_log(
+    let command = on_log(
         alloc,
         "send",
         "Exchanges records with the site that serves at an address",
-    )?
-    .arg(word(alloc, "ADDR", "The address at which the other site serves"))?
-    .arg(seconds(
+    );
+    let command = with_word(
         alloc,
+        command,
+        "ADDR",
+        "The address at which the other site serves",
+    );
+    with_seconds(
+        alloc,
+        command,
         "How many seconds the exchange may take, from 1 to 3600; 60 if not given",
-    ))
+    )
 }
 
 // A command on the log of a site.
 fn on_log<'a>(alloc: Global, name: &'a str, about: &'a str) -> Result<Command<'a>, AllocError>
     ensures is { IfOk result (spec.Reads (spec.on_log name.entry.now [])) }
 {
-    let log = word(alloc, "LOG", "The file that holds what the site knows");
-    let site = number(
+    let command = with_word(
         alloc,
+        Ok(command(alloc, name, about)),
+        "LOG",
+        "The file that holds what the site knows",
+    );
+    with_number(
+        alloc,
+        command,
         "SITE",
         "The number of this site, from 1 to 64",
         1,
         u64::from(MOST_SITES),
-    );
-    Command::new(alloc, name).about(about).arg(log)?.arg(site)
+    )
+}
+
+// A command without words.
+fn command<'a>(alloc: Global, name: &'a str, about: &'a str) -> Command<'a>
+    ensures is { spec.Reads (spec.command name.entry.now []) result }
+{
+    Command::new(alloc, name).about(about)
+}
+
+// The command with a required word more.
+fn with_word<'a>(
+    alloc: Global,
+    command: Result<Command<'a>, AllocError>,
+    name: &'a str,
+    help: &'a str,
+) -> Result<Command<'a>, AllocError>
+    ensures more { spec.Grows (spec.word_rule name.entry.now) command.entry result }
+{
+    with_argument(command, word(alloc, name, help))
+}
+
+// The command with a word more that is a number from `least` to `most`.
+fn with_number<'a>(
+    alloc: Global,
+    command: Result<Command<'a>, AllocError>,
+    name: &'a str,
+    help: &'a str,
+    least: u64,
+    most: u64,
+) -> Result<Command<'a>, AllocError>
+    ensures more { spec.Grows (spec.number_rule name.entry.now least most) command.entry result }
+{
+    let number = word(alloc, name, help).value_parser(ValueParser::unsigned(least, most));
+    with_argument(command, number)
+}
+
+// The command with any number of words more.
+fn with_words<'a>(
+    alloc: Global,
+    command: Result<Command<'a>, AllocError>,
+    name: &'a str,
+    help: &'a str,
+) -> Result<Command<'a>, AllocError>
+    ensures more { spec.Grows (spec.many_rule name.entry.now) command.entry result }
+{
+    with_argument(command, Arg::new(alloc, name).num_args(..).help(help))
+}
+
+// The command with an option more that is a time, `--name=T`.
+fn with_time<'a>(
+    alloc: Global,
+    command: Result<Command<'a>, AllocError>,
+    name: &'a str,
+    help: &'a str,
+) -> Result<Command<'a>, AllocError>
+    ensures more { spec.Grows (spec.option_rule name.entry.now) command.entry result }
+{
+    with_argument(
+        command,
+        Arg::new(alloc, name).long(name).value_name("T").help(help),
+    )
+}
+
+// The command with an option more, the seconds of a session or an exchange.
+fn with_seconds<'a>(
+    alloc: Global,
+    command: Result<Command<'a>, AllocError>,
+    help: &'a str,
+) -> Result<Command<'a>, AllocError>
+    ensures more { spec.Grows spec.seconds_rule command.entry result }
+{
+    let seconds = Arg::new(alloc, "seconds")
+        .long("seconds")
+        .value_name("N")
+        .value_parser(ValueParser::unsigned(1, MOST_SECONDS))
+        .help(help);
+    with_argument(command, seconds)
+}
+
+// The command with one argument more, the last.
+fn with_argument<'a>(
+    command: Result<Command<'a>, AllocError>,
+    argument: Arg<'a>,
+) -> Result<Command<'a>, AllocError>
+    ensures more { argument.entry.global ≡ false → spec.Grows (rule_of argument.entry) command.entry result }
+{
+    command?.arg(argument)
 }
 
 // A required word.
@@ -390,40 +541,4 @@ fn word<'a>(alloc: Global, name: &'a str, help: &'a str) -> Arg<'a>
     ensures own { result.global ≡ false }
 {
     Arg::new(alloc, name).required(true).help(help)
-}
-
-// A word that is a number from `least` to `most`.
-fn number<'a>(alloc: Global, name: &'a str, help: &'a str, least: u64, most: u64) -> Arg<'a>
-    ensures rule { rule_of result ≡ spec.number_rule name.entry.now least most }
-    ensures own { result.global ≡ false }
-{
-    word(alloc, name, help).value_parser(ValueParser::unsigned(least, most))
-}
-
-// Any number of words.
-fn many<'a>(alloc: Global, name: &'a str, help: &'a str) -> Arg<'a>
-    ensures rule { rule_of result ≡ spec.many_rule name.entry.now }
-    ensures own { result.global ≡ false }
-{
-    Arg::new(alloc, name).num_args(..).help(help)
-}
-
-// An option with a time, `--name=T`.
-fn option<'a>(alloc: Global, name: &'a str, help: &'a str) -> Arg<'a>
-    ensures rule { rule_of result ≡ spec.option_rule name.entry.now }
-    ensures own { result.global ≡ false }
-{
-    Arg::new(alloc, name).long(name).value_name("T").help(help)
-}
-
-// The option with the seconds of a session or an exchange.
-fn seconds<'a>(alloc: Global, help: &'a str) -> Arg<'a>
-    ensures rule { rule_of result ≡ spec.seconds_rule }
-    ensures own { result.global ≡ false }
-{
-    Arg::new(alloc, "seconds")
-        .long("seconds")
-        .value_name("N")
-        .value_parser(ValueParser::unsigned(1, MOST_SECONDS))
-        .help(help)
 }

@@ -5,7 +5,7 @@ use thiserror::Error;
 /// One command with its words. `log` is the file that holds what a site knows, `site` the site's
 /// number. Events (`z`, `s1`, `e1`), times (in seconds), ids (`1.2`), files and addresses stand as
 /// they were written: whoever does the command reads them.
-#[derive(Debug, PartialEq, Eq, Drop)]
+#[derive(Drop)]
 pub enum Line<'a> {
     /// Runs a script from the standard input.
     Run,

@@ -1,11 +1,9 @@
-use Rattle.std.proofs.lemmas.Result.{IfOk-weaker}
-use Rattle.stn_line.proofs.Shapes.{reads_word}
 use Rattle.stn_line.proofs.commands.amend.Goals as goal
 
 pub returns : goal.returns
 returns c =
-    let with-id = reads_word c.in_ok-on_log.ensures.is c.word.ensures.own c.word.ensures.rule c.in_ok-arg.ensures in
-    let with-from = reads_word with-id c.word-2.ensures.own c.word-2.ensures.rule c.in_ok-arg-2.ensures in
-    let with-to = reads_word with-from c.word-3.ensures.own c.word-3.ensures.rule c.in_ok-arg-3.ensures in
-    let with-lo = reads_word with-to c.option.ensures.own c.option.ensures.rule c.in_ok-arg-4.ensures in
-    record { is = IfOk-weaker c.arg-5.result _ _ (λ r h. reads_word with-lo c.option-2.ensures.own c.option-2.ensures.rule h) c.arg-5.ensures }
+    let with-1 = c.with_word-command.ensures.more _ _ c.on_log-command.ensures.is in
+    let with-2 = c.with_word-command-2.ensures.more _ _ with-1 in
+    let with-3 = c.with_word-command-3.ensures.more _ _ with-2 in
+    let with-4 = c.with_time-command.ensures.more _ _ with-3 in
+    record { is = c.with_time.ensures.more _ _ with-4 }

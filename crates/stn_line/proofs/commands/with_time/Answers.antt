@@ -1,0 +1,10 @@
+use Rattle.std.proofs.Common.{◌≡◌, false, rules, subst}
+use Rattle.clap.specs.Words.{rule_of}
+use Rattle.stn_line.specs.Commands.{Grows, option_rule}
+use Rattle.stn_line.proofs.commands.with_time.Goals as goal
+
+pub returns : goal.returns
+returns c =
+    let rule : rule_of c.help.result ≡ option_rule c.args.name.now = search rules in
+    let own : c.help.result.global ≡ false = search rules in
+    record { more = subst (λ r. Grows r c.args.command c.with_argument.result) rule (c.with_argument.ensures.more own) }
