@@ -5,6 +5,7 @@ pub mod Dispatch
 pub mod Refusals
 pub mod Effect
 pub mod Blocks
+pub mod Saying
 pub mod Script
 pub mod Heading
 pub mod Output

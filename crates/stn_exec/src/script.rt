@@ -6,10 +6,11 @@ ghost use Rattle.stn_lift.specs.PlanSource.{events_of};
 ghost use Rattle.stn_text.specs.Lines.{lines_of, words_of};
 ghost use Rattle.stn_exec.specs.Answer.{answer_text, is_refusal};
 ghost use Rattle.stn_world.specs.World.{HasSite, content_at};
-ghost use Rattle.stn_exec.specs.Command.{report, next, rehearse, ask};
+ghost use Rattle.stn_exec.specs.Command.{report, check, next, rehearse, ask};
 ghost use Rattle.stn_exec.specs.Effect.{action_effect, asking, command_effect};
 ghost use Rattle.stn_exec.specs.Output.{CountsRefusals, WritesOutput, WritesOutputPart};
 ghost use Rattle.stn_exec.specs.Running.{seen_inquiry, seen_action, seen_command, IsForEvents, IsReplied, IsRun};
+ghost use Rattle.stn_exec.specs.Saying.{Says};
 ghost use Rattle.stn_exec.specs.Script.{line_effect, line_outcome, lines_outcome, started, script_outcome, last_line};
 ghost use Rattle.stn_exec.specs.declared.script.RunFault.TheVariants.{Read, Write, Bound, Memory};
 
@@ -177,22 +178,22 @@ fn reply_action<A: Allocator + Copy>(
     ensures { IfOk result (IsReplied world.new out.old.items out.new.items (action_effect world.old site (seen_action action.now))) }
 {
     match action {
-        Action::Add { from, to, lo, hi } => say(&add(world, site, *from, *to, lo, hi)?, out),
-        Action::Done { event, time } => say(&done(world, site, *event, time)?, out),
+        Action::Add { from, to, lo, hi } => say_outcome(add(world, site, *from, *to, lo, hi), out),
+        Action::Done { event, time } => say_outcome(done(world, site, *event, time), out),
         Action::Amend {
             old,
             from,
             to,
             lo,
             hi,
-        } => say(&amend(world, site, *old, *from, *to, lo, hi)?, out),
-        Action::Withdraw(id) => say(&withdraw(world, site, *id)?, out),
-        Action::Merge(other) => say(&merge(world, site, *other)?, out),
-        Action::SendAll => say(&send_all(world, site)?, out),
-        Action::Send(items) => say(&send(alloc, world, site, items)?, out),
-        Action::Deliver(packet) => say(&deliver(world, site, *packet)?, out),
+        } => say_outcome(amend(world, site, *old, *from, *to, lo, hi), out),
+        Action::Withdraw(id) => say_outcome(withdraw(world, site, *id), out),
+        Action::Merge(other) => say_outcome(merge(world, site, *other), out),
+        Action::SendAll => say_outcome(send_all(world, site), out),
+        Action::Send(items) => say_outcome(send(alloc, world, site, items), out),
+        Action::Deliver(packet) => say_outcome(deliver(world, site, *packet), out),
         Action::Report => report_at(world, site, out),
-        Action::Check(times) => say(&check(alloc, replica_at(world, site), times)?, out),
+        Action::Check(times) => check_at(alloc, world, site, times, out),
         Action::Next(now) => next_at(world, site, now, out),
         Action::Rehearse(now) => rehearse_at(world, site, now, out),
         Action::Ask(inquiry) => ask_at(world, site, inquiry, out),
@@ -219,6 +220,21 @@ fn report_at<A: Allocator + Copy>(
 {
     replica_at(world, site).report(out)?;
     Ok(false)
+}
+
+// Appends whether the times of all events, which are the words of a line, are a schedule of a site. Whether it is refused.
+fn check_at<A: Allocator + Copy>(
+    alloc: A,
+    world: &World<A>,
+    site: u32,
+    times: &[u8],
+    out: &mut Vec<u8, A>,
+) -> Result<bool, Memory>
+    requires there { HasSite world.now site }
+    requires fits { length (words_of times.now) ≡ events_of world.now.source }
+    ensures { IfOk result (IsReplied world.now out.old.items out.new.items (action_effect world.now site (check (words_of times.now)))) }
+{
+    say_outcome(check(alloc, replica_at(world, site), times), out)
 }
 
 // Appends what comes next at a site from a time on, which is a word of a line. Whether it is refused.
@@ -287,6 +303,16 @@ fn answer_at<A: Allocator + Copy>(
         Err(WhyFault::NoEvent) => say(&Answer::Refused(Refusal::Bound(BoundFault::NoEvent)), out),
         Err(WhyFault::Memory) => Err(AllocError),
     }
+}
+
+// Appends what a command answered. Whether it is a refusal.
+fn say_outcome<A: Allocator>(
+    outcome: Result<Answer, Memory>,
+    out: &mut Vec<u8, A>,
+) -> Result<bool, Memory>
+    ensures { Says outcome out.old.items out.new.items result }
+{
+    say(&outcome?, out)
 }
 
 // Appends an answer. Whether it is a refusal.
