@@ -83,6 +83,16 @@ fn join_amendments(
     append_amendments(&all, out)
 }
 
+fn append_state(all: &State<Global>, out: &mut Vec<u8>) -> Result<(), Error> {
+    append_additions(all.additions(), out)?;
+    out.extend_from_slice(b" -")?;
+    append_tombstones(all.tombstones(), out)?;
+    if !all.replacements().entries().is_empty() {
+        out.extend_from_slice(b" -")?;
+    }
+    append_amendments(all.replacements(), out)
+}
+
 fn join_states(
     alloc: Global,
     ours: &State<Global>,
@@ -93,13 +103,7 @@ fn join_states(
     all.take(ours)?;
     let answer = all.take(theirs);
     append_said(word_of_join(&answer), clash_of_join(&answer), out)?;
-    append_additions(all.additions(), out)?;
-    out.extend_from_slice(b" -")?;
-    append_tombstones(all.tombstones(), out)?;
-    if !all.replacements().entries().is_empty() {
-        out.extend_from_slice(b" -")?;
-    }
-    append_amendments(all.replacements(), out)
+    append_state(&all, out)
 }
 
 // Appends a join of what both sites hold, or of a part of it. Whether there is such a call.

@@ -33,23 +33,52 @@ fn answer(
     }
 }
 
+// Appends the answer to a line; a line that names no site is its own answer, and both sites begin again.
+fn append_answer(
+    alloc: Global,
+    a: &mut Records<Global>,
+    b: &mut Records<Global>,
+    line: &str,
+    out: &mut Vec<u8>,
+) -> Result<(), Error> {
+    let mut words = line.split_whitespace();
+    match words.next() {
+        Some("a") => answer(alloc, a, b, words, out),
+        Some("b") => answer(alloc, b, a, words, out),
+        _ => {
+            *a = Records::new(alloc);
+            *b = Records::new(alloc);
+            Ok(out.extend_from_slice(line.as_bytes())?)
+        }
+    }
+}
+
+fn print_answer(
+    rt: &HostRuntime,
+    a: &mut Records<Global>,
+    b: &mut Records<Global>,
+    line: &str,
+) -> Result<(), Error> {
+    let mut out = Vec::new(rt.alloc());
+    append_answer(rt.alloc(), a, b, line, &mut out)?;
+    println!(rt; "{}", String::from_utf8(out)?)?;
+    Ok(())
+}
+
+fn print_answers(
+    rt: &HostRuntime,
+    a: &mut Records<Global>,
+    b: &mut Records<Global>,
+) -> Result<(), Error> {
+    for line in rt.lines(rt.alloc()) {
+        let line = line?;
+        print_answer(rt, a, b, &line)?;
+    }
+    Ok(())
+}
+
 fn main(rt: HostRuntime) -> Result<(), Error> {
     let mut a = Records::new(rt.alloc());
     let mut b = Records::new(rt.alloc());
-    for row in rt.lines(rt.alloc()) {
-        let row = row?;
-        let mut words = row.split_whitespace();
-        let mut out = Vec::new(rt.alloc());
-        match words.next() {
-            Some("a") => answer(rt.alloc(), &mut a, &b, words, &mut out)?,
-            Some("b") => answer(rt.alloc(), &mut b, &a, words, &mut out)?,
-            _ => {
-                a = Records::new(rt.alloc());
-                b = Records::new(rt.alloc());
-                out.extend_from_slice(row.as_bytes())?;
-            }
-        }
-        println!(rt; "{}", String::from_utf8(out)?)?;
-    }
-    Ok(())
+    print_answers(&rt, &mut a, &mut b)
 }

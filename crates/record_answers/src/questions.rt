@@ -121,18 +121,47 @@ pub fn ask(
     Ok(true)
 }
 
-// The ids up to a dash, or all.
-fn next_ids(alloc: Global, words: &mut SplitWhitespace<'_>) -> Result<Vec<Id>, Error> {
-    let mut ids = Vec::new(alloc);
-    for word in words.take_while(|word| *word != "-") {
+// Takes in the ids up to a dash, or all.
+fn take_ids(words: &mut SplitWhitespace<'_>, ids: &mut Vec<Id>) -> Result<(), Error> {
+    for word in words {
+        if word == "-" {
+            return Ok(());
+        }
         if let Some(id) = Id::read(word.as_bytes()) {
             ids.push(id)?;
         }
     }
-    Ok(ids)
+    Ok(())
 }
 
-// Appends what a copy holds, or a part: the records of ids, and after a dash withdrawn ids. Whether there is such a call.
+fn append_part(
+    ours: &Records<Global>,
+    records: &[Id],
+    tombstones: &[Id],
+    out: &mut Vec<u8>,
+) -> Result<(), Error> {
+    match ours.part(records, tombstones) {
+        Ok(part) => append_held(&part, out),
+        Err(PartFault::Unknown) => Ok(out.extend_from_slice(b"unknown")?),
+        Err(PartFault::Memory) => Ok(out.extend_from_slice(b"memory")?),
+    }
+}
+
+// The part of the records of ids, and after a dash withdrawn ids.
+fn append_part_of(
+    alloc: Global,
+    ours: &Records<Global>,
+    words: &mut SplitWhitespace<'_>,
+    out: &mut Vec<u8>,
+) -> Result<(), Error> {
+    let mut records = Vec::new(alloc);
+    let mut tombstones = Vec::new(alloc);
+    take_ids(words, &mut records)?;
+    take_ids(words, &mut tombstones)?;
+    append_part(ours, &records, &tombstones, out)
+}
+
+// Appends what a copy holds, or a part. Whether there is such a call.
 pub fn ask_for_part(
     alloc: Global,
     call: &str,
@@ -140,19 +169,10 @@ pub fn ask_for_part(
     words: &mut SplitWhitespace<'_>,
     out: &mut Vec<u8>,
 ) -> Result<bool, Error> {
-    if call == "copy" {
-        append_held(&ours.copy()?, out)?;
-        return Ok(true);
-    }
-    if call != "part" {
-        return Ok(false);
-    }
-    let records = next_ids(alloc, words)?;
-    let tombstones = next_ids(alloc, words)?;
-    match ours.part(&records, &tombstones) {
-        Ok(part) => append_held(&part, out)?,
-        Err(PartFault::Unknown) => out.extend_from_slice(b"unknown")?,
-        Err(PartFault::Memory) => out.extend_from_slice(b"memory")?,
+    match call {
+        "copy" => append_held(&ours.copy()?, out)?,
+        "part" => append_part_of(alloc, ours, words, out)?,
+        _ => return Ok(false),
     }
     Ok(true)
 }
