@@ -1,7 +1,8 @@
 ghost use Rattle.std.specs.Prelude.{◌≤◌};
 
 use crate::sweep::{Answer, judged, refuse_each};
-use std::alloc::{Allocator, Global};
+use std::alloc::Global;
+use std::process::Abort;
 use std::test::Fail;
 use stn_net::{Bound, Event};
 use stn_records::{BuryFault, Id, Mark, PartFault, Records, RecordsFault, Site, WithdrawFault};
@@ -21,68 +22,109 @@ fn bound() -> Bound {
     Bound::new(1, Event::origin(), Event::new(1).unwrap(), lo, hi).unwrap()
 }
 
-// The records of site 1 with the counters from the first to the last, and as many withdrawn ids of site 2.
-fn filled<A: Allocator + Copy>(alloc: A, first: u16, last: u16) -> Result<Records<A>, Fail>
+fn put(records: &mut Records<&Refusing<Global>>, id: Id) -> Result<(), Fail> {
+    Ok(records.add(id, Mark::Plain, bound())?)
+}
+
+fn bury(records: &mut Records<&Refusing<Global>>, id: Id) -> Result<(), Fail> {
+    Ok(records.bury(id)?)
+}
+
+// Adds records of site 1 with the counters from the first to the last, and as many withdrawn ids of site 2.
+fn fill(records: &mut Records<&Refusing<Global>>, first: u16, last: u16) -> Result<(), Fail>
     requires { 1 ≤ first }
 {
-    let mut records = Records::new(alloc);
     for counter in first..=last {
-        records.add(id(1, counter), Mark::Plain, bound())?;
-        records.bury(id(2, counter))?;
+        put(records, id(1, counter))?;
+        bury(records, id(2, counter))?;
     }
-    Ok(records)
+    Ok(())
+}
+
+// A call that changes what is held.
+#[derive(Clone, Copy)]
+enum Change {
+    Add,
+    Withdraw,
+    Bury,
+}
+
+// Whether the record was added, or memory was lacking.
+fn added(records: &mut Records<&Refusing<Global>>) -> (bool, bool) {
+    let answer = records.add(id(3, 1), Mark::Plain, bound());
+    (answer == Ok(()), answer == Err(RecordsFault::Memory))
+}
+
+fn withdrawn(records: &mut Records<&Refusing<Global>>) -> (bool, bool) {
+    let answer = records.withdraw(id(1, 1));
+    (answer == Ok(()), answer == Err(WithdrawFault::Memory))
+}
+
+fn buried(records: &mut Records<&Refusing<Global>>) -> (bool, bool) {
+    let answer = records.bury(id(3, 1));
+    (answer == Ok(()), answer == Err(BuryFault::Memory))
+}
+
+// Whether the call was accepted, or memory was lacking.
+fn changed(records: &mut Records<&Refusing<Global>>, change: Change) -> (bool, bool) {
+    match change {
+        Change::Add => added(records),
+        Change::Withdraw => withdrawn(records),
+        Change::Bury => buried(records),
+    }
+}
+
+// Whether so many ids are known, and the first record is live or not.
+fn holds(records: &Records<&Refusing<Global>>, known: usize, live: bool) -> bool {
+    records.known() == known && records.is_live(id(1, 1)) == live
+}
+
+// Whether all is as it must be after the call.
+fn is_changed(records: &Records<&Refusing<Global>>, change: Change) -> bool {
+    match change {
+        Change::Add | Change::Bury => holds(records, 33, true),
+        Change::Withdraw => holds(records, 32, false),
+    }
+}
+
+// What the call answers one of whose requests is refused. The same call is then accepted.
+fn change_refused(
+    heap: &Refusing<Global>,
+    number: u64,
+    records: &mut Records<&Refusing<Global>>,
+    change: Change,
+) -> Answer {
+    heap.refuse(number);
+    let (done, memory) = changed(records, change);
+    let right = done && is_changed(records, change);
+    let unchanged = memory && holds(records, 32, true);
+    let answer = judged(heap, right, unchanged);
+    if changed(records, change).0 {
+        answer
+    } else {
+        Answer::Wrong
+    }
 }
 
 // Sixteen of each: one more asks for memory.
-#[test]
-fn adds(rt: HostRuntime) -> Result<(), Fail> {
-    let requests = refuse_each(&rt, rt.alloc(), |heap, number| {
-        let mut records = filled(heap, 1, 16)?;
-        heap.refuse(number);
-        let answer = records.add(id(3, 1), Mark::Plain, bound());
-        let right = answer == Ok(()) && records.known() == 33;
-        let unchanged = answer == Err(RecordsFault::Memory) && records.known() == 32;
-        let judged = judged(heap, right, unchanged);
-        records.add(id(3, 1), Mark::Plain, bound())?;
-        Ok(judged)
-    })?;
-    assert!(rt; requests > 1);
-    Ok(())
+fn changes(rt: &impl Abort, alloc: Global, change: Change) -> Result<u64, Fail> {
+    refuse_each(rt, alloc, |heap, number| {
+        let mut records = Records::new(heap);
+        fill(&mut records, 1, 16)?;
+        Ok(change_refused(heap, number, &mut records, change))
+    })
 }
 
 #[test]
-fn withdrawals(rt: HostRuntime) -> Result<(), Fail> {
-    let requests = refuse_each(&rt, rt.alloc(), |heap, number| {
-        let mut records = filled(heap, 1, 16)?;
-        heap.refuse(number);
-        let answer = records.withdraw(id(1, 1));
-        let right = answer == Ok(()) && !records.is_live(id(1, 1));
-        let unchanged = answer == Err(WithdrawFault::Memory) && records.is_live(id(1, 1));
-        let judged = judged(heap, right, unchanged);
-        records.withdraw(id(1, 1))?;
-        Ok(judged)
-    })?;
-    assert!(rt; requests > 1);
+fn changes_of_records(rt: HostRuntime) -> Result<(), Fail> {
+    for change in [Change::Add, Change::Withdraw, Change::Bury] {
+        let requests = changes(&rt, rt.alloc(), change)?;
+        assert!(rt; requests > 1);
+    }
     Ok(())
 }
 
-#[test]
-fn burials(rt: HostRuntime) -> Result<(), Fail> {
-    let requests = refuse_each(&rt, rt.alloc(), |heap, number| {
-        let mut records = filled(heap, 1, 16)?;
-        heap.refuse(number);
-        let answer = records.bury(id(3, 1));
-        let right = answer == Ok(()) && records.known() == 33;
-        let unchanged = answer == Err(BuryFault::Memory) && records.known() == 32;
-        let judged = judged(heap, right, unchanged);
-        records.bury(id(3, 1))?;
-        Ok(judged)
-    })?;
-    assert!(rt; requests > 1);
-    Ok(())
-}
-
-// What is taken while a request is refused.
+// What is taken while a request is refused. All is then taken.
 fn take_refused<'a>(
     heap: &Refusing<Global>,
     number: u64,
@@ -96,17 +138,49 @@ fn take_refused<'a>(
     judged(heap, right, unchanged)
 }
 
+// The same call is then accepted.
+fn take_twice<'a>(
+    heap: &Refusing<Global>,
+    number: u64,
+    ours: &mut Records<&'a Refusing<Global>>,
+    theirs: &Records<&'a Refusing<Global>>,
+) -> Answer {
+    let answer = take_refused(heap, number, ours, theirs);
+    if ours.take(theirs).is_ok() {
+        answer
+    } else {
+        Answer::Wrong
+    }
+}
+
+// What another site takes of the records.
+fn taken<'a>(
+    heap: &'a Refusing<Global>,
+    number: u64,
+    theirs: &Records<&'a Refusing<Global>>,
+) -> Result<Answer, Fail> {
+    let mut ours = Records::new(heap);
+    fill(&mut ours, 1, 12)?;
+    Ok(take_twice(heap, number, &mut ours, theirs))
+}
+
 #[test]
 fn takes(rt: HostRuntime) -> Result<(), Fail> {
     let requests = refuse_each(&rt, rt.alloc(), |heap, number| {
-        let mut ours = filled(heap, 1, 12)?;
-        let theirs = filled(heap, 9, 20)?;
-        let answer = take_refused(heap, number, &mut ours, &theirs);
-        ours.take(&theirs)?;
-        Ok(answer)
+        let mut theirs = Records::new(heap);
+        fill(&mut theirs, 9, 20)?;
+        taken(heap, number, &theirs)
     })?;
     assert!(rt; requests > 2);
     Ok(())
+}
+
+// A call that makes a value of what is held.
+#[derive(Clone, Copy)]
+enum Reading {
+    Part,
+    Copy,
+    Live,
 }
 
 // Whether a part was made that knows as many ids, or memory was lacking.
@@ -117,21 +191,6 @@ fn is_made(part: Result<Records<&Refusing<Global>>, PartFault>) -> (bool, bool) 
     }
 }
 
-#[test]
-fn parts(rt: HostRuntime) -> Result<(), Fail> {
-    let requests = refuse_each(&rt, rt.alloc(), |heap, number| {
-        let records = filled(heap, 1, 12)?;
-        heap.refuse(number);
-        let (right, memory) = is_made(records.part(
-            &[id(1, 6), id(1, 5)],
-            &[id(2, 5), id(2, 6), id(2, 5)],
-        ));
-        Ok(judged(heap, right, memory && records.known() == 24))
-    })?;
-    assert!(rt; requests > 2);
-    Ok(())
-}
-
 // Whether a copy was made that knows as many ids, or memory was lacking.
 fn is_copied(copy: Result<Records<&Refusing<Global>>, Memory>) -> (bool, bool) {
     match copy {
@@ -140,45 +199,66 @@ fn is_copied(copy: Result<Records<&Refusing<Global>>, Memory>) -> (bool, bool) {
     }
 }
 
-#[test]
-fn copies(rt: HostRuntime) -> Result<(), Fail> {
-    let requests = refuse_each(&rt, rt.alloc(), |heap, number| {
-        let records = filled(heap, 1, 12)?;
-        heap.refuse(number);
-        let (right, memory) = is_copied(records.copy());
-        Ok(judged(heap, right, memory && records.known() == 24))
-    })?;
-    assert!(rt; requests > 2);
-    Ok(())
+// Whether all records are listed, or memory was lacking.
+fn is_listed(live: Result<Vec<(Id, Mark, Bound), &Refusing<Global>>, Memory>) -> (bool, bool) {
+    match live {
+        Ok(live) => (live.len() == 12, false),
+        Err(_) => (false, true),
+    }
+}
+
+fn is_read(records: &Records<&Refusing<Global>>, reading: Reading) -> (bool, bool) {
+    match reading {
+        Reading::Part => {
+            is_made(records.part(&[id(1, 6), id(1, 5)], &[id(2, 5), id(2, 6), id(2, 5)]))
+        }
+        Reading::Copy => is_copied(records.copy()),
+        Reading::Live => is_listed(records.live()),
+    }
+}
+
+fn read_refused(
+    heap: &Refusing<Global>,
+    number: u64,
+    records: &Records<&Refusing<Global>>,
+    reading: Reading,
+) -> Answer {
+    heap.refuse(number);
+    let (right, memory) = is_read(records, reading);
+    judged(heap, right, memory && records.known() == 24)
+}
+
+fn readings(rt: &impl Abort, alloc: Global, reading: Reading) -> Result<u64, Fail> {
+    refuse_each(rt, alloc, |heap, number| {
+        let mut records = Records::new(heap);
+        fill(&mut records, 1, 12)?;
+        Ok(read_refused(heap, number, &records, reading))
+    })
 }
 
 #[test]
-fn lists_of_live_records(rt: HostRuntime) -> Result<(), Fail> {
-    let requests = refuse_each(&rt, rt.alloc(), |heap, number| {
-        let records = filled(heap, 1, 12)?;
-        heap.refuse(number);
-        let answer = records.live();
-        let right = match &answer {
-            Ok(live) => live.len() == 12,
-            Err(_) => false,
-        };
-        Ok(judged(heap, right, answer.is_err()))
-    })?;
-    assert!(rt; requests > 1);
+fn readings_of_records(rt: HostRuntime) -> Result<(), Fail> {
+    for (reading, least) in [(Reading::Part, 3), (Reading::Copy, 3), (Reading::Live, 2)] {
+        let requests = readings(&rt, rt.alloc(), reading)?;
+        assert!(rt; requests >= least);
+    }
     Ok(())
+}
+
+// What an id is printed as after a blank while a request is refused.
+fn print_refused(heap: &Refusing<Global>, number: u64) -> Result<Answer, Fail> {
+    let mut text = Vec::new(heap);
+    text.push(b' ')?;
+    heap.refuse(number);
+    let printed = id(64, 65_535).print(&mut text).is_ok();
+    let right = printed && text.as_slice() == b" 64.65535".as_slice();
+    let unchanged = !printed && text.as_slice() == b" ".as_slice();
+    Ok(judged(heap, right, unchanged))
 }
 
 #[test]
 fn texts_of_ids(rt: HostRuntime) -> Result<(), Fail> {
-    let requests = refuse_each(&rt, rt.alloc(), |heap, number| {
-        let mut text = Vec::new(heap);
-        text.push(b' ')?;
-        heap.refuse(number);
-        let answer = id(64, 65_535).print(&mut text);
-        let right = answer.is_ok() && text.as_slice() == b" 64.65535".as_slice();
-        let unchanged = answer.is_err() && text.as_slice() == b" ".as_slice();
-        Ok(judged(heap, right, unchanged))
-    })?;
+    let requests = refuse_each(&rt, rt.alloc(), |heap, number| print_refused(heap, number))?;
     assert!(rt; requests > 1);
     Ok(())
 }

@@ -1,3 +1,4 @@
+use std::alloc::Global;
 use std::rc::Rc;
 use std::test::Fail;
 use stn_lift::Base;
@@ -17,20 +18,26 @@ fn one_request(rt: HostRuntime) {
     assert!(rt; Matrix::bare(&first, 512).is_err());
 }
 
+// Adds bounds between the two events of a step, each at most a millisecond shorter than the one before.
+fn add_bounds(replica: &mut Replica<&Refusing<Global>>) -> Result<(), Fail> {
+    let start = Event::new(1).ok_or("no event")?;
+    let end = Event::new(2).ok_or("no event")?;
+    let least = Ms::new(0).ok_or("no time")?;
+    for number in 0..256u16 {
+        let most = Ms::new(1_000 - i64::from(number)).ok_or("no time")?;
+        replica.add(start, end, least, most)?;
+    }
+    Ok(())
+}
+
 // The additions of a replica ask for memory for their records alone, not for a matrix each.
 #[test]
 fn few_requests(rt: HostRuntime) -> Result<(), Fail> {
     let heap = Refusing::new(rt.alloc(), 256);
-    let base = Rc::new(&heap, Base::bare(&heap, 1)?)?;
     let site = Site::new(1).ok_or("no site")?;
-    let start = Event::new(1).ok_or("no event")?;
-    let end = Event::new(2).ok_or("no event")?;
-    let least = Ms::new(0).ok_or("no time")?;
+    let base = Rc::new(&heap, Base::bare(&heap, 1)?)?;
     let mut replica = Replica::new(&heap, site, base)?;
-    for number in 0..256u16 {
-        let most = Ms::new(1_000 - i64::from(number)).ok_or("no time")?;
-        assert!(rt; replica.add(start, end, least, most).is_ok());
-    }
+    add_bounds(&mut replica)?;
     assert!(rt; heap.is_waiting());
     Ok(())
 }
