@@ -11,6 +11,7 @@ use std::alloc::Global;
 use std::io;
 use std::io::{ErrorKind, Read};
 use std::rc::Rc;
+use std::str::Split;
 use stn_lift::Base;
 use stn_net::BoundFault;
 use stn_records::Site;
@@ -170,25 +171,34 @@ fn answer_row(rt: &HostRuntime, kind: &str, reader: PieceReader<'_>) -> Result<(
     }
 }
 
+fn append_bytes(words: Split<'_, char>, bytes: &mut Vec<u8>) -> Result<(), Error> {
+    let alloc = *bytes.allocator();
+    for word in words {
+        bytes.extend_from_slice(&hex::decode(alloc, word)?)?;
+    }
+    Ok(())
+}
+
+fn answer_line(rt: &HostRuntime, line: &str) -> Result<(), Error> {
+    let mut words = line.split(' ');
+    let kind = words.next().unwrap_or("");
+    let piece = words.next().unwrap_or("").parse::<usize>().unwrap_or(0);
+    let fails_at = words.next().unwrap_or("").parse::<u64>().unwrap_or(0);
+    let mut bytes = Vec::new(rt.alloc());
+    append_bytes(words, &mut bytes)?;
+    let reader = PieceReader {
+        rest: &bytes,
+        piece,
+        calls: 0,
+        fails_at,
+    };
+    answer_row(rt, kind, reader)
+}
+
 fn main(rt: HostRuntime) -> Result<(), Error> {
     for line in rt.lines(rt.alloc()) {
         let line = line?;
-        let mut words = line.split(' ');
-        let kind = words.next().unwrap_or("");
-        let piece = words.next().unwrap_or("").parse::<usize>().unwrap_or(0);
-        let fails_at = words.next().unwrap_or("").parse::<u64>().unwrap_or(0);
-        let mut bytes = Vec::new(rt.alloc());
-        for word in words {
-            let more = hex::decode(rt.alloc(), word)?;
-            bytes.extend_from_slice(&more)?;
-        }
-        let reader = PieceReader {
-            rest: &bytes,
-            piece,
-            calls: 0,
-            fails_at,
-        };
-        answer_row(&rt, kind, reader)?;
+        answer_line(&rt, &line)?;
     }
     Ok(())
 }
