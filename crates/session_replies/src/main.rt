@@ -145,14 +145,34 @@ fn print_hex(rt: &HostRuntime, bytes: &[u8]) -> Result<(), Error> {
     Ok(())
 }
 
+fn print_requests(rt: &HostRuntime, replica: &Replica<Global>) -> Result<(), Error> {
+    let asked = requests(rt.alloc(), replica)?;
+    print_hex(rt, &asked)
+}
+
+fn print_answer(
+    rt: &HostRuntime,
+    reader: PieceReader<'_>,
+    replica: &mut Replica<Global>,
+) -> Result<(), Error> {
+    let (answer, code, text) = replies(rt.alloc(), reader, replica);
+    print!(rt; " {answer} {code} ")?;
+    print_hex(rt, &text)
+}
+
+fn print_exchange(
+    rt: &HostRuntime,
+    reader: PieceReader<'_>,
+    replica: &mut Replica<Global>,
+) -> Result<(), Error> {
+    print_requests(rt, replica)?;
+    print_answer(rt, reader, replica)?;
+    print_report(rt, replica)
+}
+
 fn receive_row(rt: &HostRuntime, reader: PieceReader<'_>) -> Result<(), Error> {
     let mut replica = new_replica(rt.alloc(), Site::new(2).unwrap())?;
-    let asked = requests(rt.alloc(), &replica)?;
-    let (answer, code, text) = replies(rt.alloc(), reader, &mut replica);
-    print_hex(rt, &asked)?;
-    print!(rt; " {answer} {code} ")?;
-    print_hex(rt, &text)?;
-    print_report(rt, &replica)
+    print_exchange(rt, reader, &mut replica)
 }
 
 fn print_report(rt: &HostRuntime, replica: &Replica<Global>) -> Result<(), Error> {
