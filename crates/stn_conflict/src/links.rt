@@ -7,7 +7,7 @@ ghost use Rattle.stn_conflict.specs.Named.{IsNamedCycle, IsWay};
 use std::alloc::Allocator;
 
 /// One of the two sides of a bound.
-#[derive(Clone, Copy, Debug, PartialEq, Eq, Hash)]
+#[derive(Clone, Copy, Debug, PartialEq, Eq)]
 pub enum Side {
     /// `to` comes at most `hi` after `from`.
     Upper,
@@ -16,7 +16,7 @@ pub enum Side {
 }
 
 /// A side of the bound at a place of a list, counted from 0.
-#[derive(Clone, Copy, Debug, PartialEq, Eq, Hash)]
+#[derive(Clone, Copy, Debug, PartialEq, Eq)]
 pub struct Link {
     /// The place of the bound.
     pub place: usize,

@@ -41,7 +41,7 @@ pub struct Ran {
 }
 
 /// Why a run ended before the end of its script.
-#[derive(Clone, Copy, Debug, PartialEq, Eq, Hash, Error)]
+#[derive(Clone, Copy, Debug, PartialEq, Eq, Error)]
 pub enum RunFault {
     /// A call of the reader failed.
     #[error("a read failed")]

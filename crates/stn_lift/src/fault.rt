@@ -12,7 +12,7 @@ use thiserror::Error;
 
 /// Why a plan has no base in a domain. The first step with a cause decides, by the first of its causes in this order.
 /// Steps are counted from 1.
-#[derive(Clone, Copy, Debug, PartialEq, Eq, Hash, Error)]
+#[derive(Clone, Copy, Debug, PartialEq, Eq, Error)]
 pub enum LiftFault {
     /// The domain has no action of this step's name.
     #[error("unknown action of step {0}")]
@@ -49,7 +49,7 @@ impl<T: Drop> From<AllocFailed<T>> for LiftFault {
 
 /// Why a source has no base: of two texts the domain's faults come first, then the plan's, then those of the plan's steps in the
 /// domain. Lack of memory is always `Memory`, wherever it came.
-#[derive(Clone, Copy, Debug, PartialEq, Eq, Hash, Error)]
+#[derive(Clone, Copy, Debug, PartialEq, Eq, Error)]
 pub enum BaseFault {
     /// The text of the domain has a fault.
     #[error("the domain has a fault")]

@@ -8,7 +8,7 @@ use stn_time::{HORIZON, Ms};
 use thiserror::Error;
 
 /// Why two events and two times are no bound.
-#[derive(Clone, Copy, Debug, PartialEq, Eq, Hash, Error)]
+#[derive(Clone, Copy, Debug, PartialEq, Eq, Error)]
 pub enum BoundFault {
     /// An event is not one of the plan's.
     #[error("no such event")]
@@ -23,7 +23,7 @@ pub enum BoundFault {
 
 /// A bound on the difference of two events' times: `lo <= time of to - time of from <= hi`
 /// (Dechter, Meiri and Pearl, 1991).
-#[derive(Clone, Copy, Debug, PartialEq, Eq, Hash)]
+#[derive(Clone, Copy, Debug, PartialEq, Eq)]
 pub struct Bound {
     from: Event,
     to: Event,

@@ -14,7 +14,7 @@ pub const MOST_EVENTS: u16 = 2 * MOST_STEPS;
 
 /// An event of a plan, by its number: 0 is the origin, at which all times begin; step k, counted
 /// from 1, starts at event 2k - 1 and ends at event 2k.
-#[derive(Clone, Copy, Debug, PartialEq, Eq, Hash, PartialOrd, Ord)]
+#[derive(Clone, Copy, Debug, PartialEq, Eq, PartialOrd, Ord)]
 pub struct Event {
     number: u16,
 }

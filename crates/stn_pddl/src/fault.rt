@@ -9,7 +9,7 @@ use stn_tree::TreeFault;
 use thiserror::Error;
 
 /// The first fault of a text, with its line, counted from 1.
-#[derive(Clone, Copy, Debug, PartialEq, Eq, Hash, Error)]
+#[derive(Clone, Copy, Debug, PartialEq, Eq, Error)]
 pub enum DomainFault {
     /// The text has more than 65,536 bytes.
     #[error("the domain is too long")]

@@ -2,7 +2,7 @@ use stn_net::Event;
 use stn_time::Ms;
 
 /// What is drawn of an event: the window of its times, and whether it is done.
-#[derive(Clone, Copy, Debug, PartialEq, Eq, Hash)]
+#[derive(Clone, Copy, Debug, PartialEq, Eq)]
 pub struct Span {
     /// The event.
     pub event: Event,

@@ -8,7 +8,7 @@ use thiserror::Error;
 
 /// Why a text is no plan. The first line with a fault decides, and on one line `Syntax`, then `Number`, then
 /// `Negative`.
-#[derive(Clone, Copy, Debug, PartialEq, Eq, Hash, Error)]
+#[derive(Clone, Copy, Debug, PartialEq, Eq, Error)]
 pub enum PlanFault {
     /// The text has more than 65,536 bytes.
     #[error("the plan is too long")]

@@ -2,7 +2,7 @@ use stn_net::Event;
 use stn_time::Ms;
 
 /// A question about a plan.
-#[derive(Clone, Copy, Debug, PartialEq, Eq, Hash)]
+#[derive(Clone, Copy, Debug, PartialEq, Eq)]
 pub enum Question {
     /// Which records are known, and what became of them?
     Records,

@@ -22,7 +22,7 @@ use stn_time::{Memory, Ms};
 use thiserror::Error;
 
 /// Why a question about an event has no answer.
-#[derive(Clone, Copy, Debug, PartialEq, Eq, Hash, Error)]
+#[derive(Clone, Copy, Debug, PartialEq, Eq, Error)]
 pub enum WhyFault {
     /// The event is not one of the plan.
     #[error("no such event")]

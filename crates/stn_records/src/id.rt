@@ -10,7 +10,7 @@ use stn_time::Memory;
 pub const MOST_SITES: u8 = 64;
 
 /// A site, by its number from 1 to 64.
-#[derive(Clone, Copy, Debug, PartialEq, Eq, Hash, PartialOrd, Ord)]
+#[derive(Clone, Copy, Debug, PartialEq, Eq, PartialOrd, Ord)]
 pub struct Site {
     number: u8,
 }
@@ -52,7 +52,7 @@ impl Site {
 
 /// The id of a record: the site that made it, and a counter from 1 to 65,535. Ids are ordered by
 /// site, and then by counter.
-#[derive(Clone, Copy, Debug, PartialEq, Eq, Hash, PartialOrd, Ord)]
+#[derive(Clone, Copy, Debug, PartialEq, Eq, PartialOrd, Ord)]
 pub struct Id {
     site: Site,
     counter: u16,

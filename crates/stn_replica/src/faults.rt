@@ -6,7 +6,7 @@ use stn_records::{AmendFault, CounterSpent, Id, RecordsFault, WithdrawFault};
 use thiserror::Error;
 
 /// Why a replica refused a change. Each call gives those that it lists.
-#[derive(Clone, Copy, Debug, PartialEq, Eq, Hash, Error)]
+#[derive(Clone, Copy, Debug, PartialEq, Eq, Error)]
 pub enum ReplicaFault {
     /// The events and sides are no bound of the plan.
     #[error("{0}")]

@@ -8,7 +8,7 @@ use stn_records::{Id, MOST_SITES};
 use stn_time::Memory;
 
 /// The name of a bound.
-#[derive(Clone, Copy, Debug, PartialEq, Eq, Hash)]
+#[derive(Clone, Copy, Debug, PartialEq, Eq)]
 pub enum BoundName {
     /// One that the plan itself sets, by its number from 1 on.
     Plan(u32),

@@ -7,7 +7,7 @@ use stn_wire::WireFault;
 use thiserror::Error;
 
 /// Why bytes begin no frame.
-#[derive(Clone, Copy, Debug, PartialEq, Eq, Hash, Error)]
+#[derive(Clone, Copy, Debug, PartialEq, Eq, Error)]
 pub enum FrameFault {
     /// The length of a body lies outside 1 to 262,144.
     #[error("a frame of a wrong length")]
@@ -46,7 +46,7 @@ impl From<FrameFault> for WireFault {
 }
 
 /// Why nothing more comes of a stream.
-#[derive(Clone, Copy, Debug, PartialEq, Eq, Hash, Error)]
+#[derive(Clone, Copy, Debug, PartialEq, Eq, Error)]
 pub enum StreamFault {
     /// A call of the reader failed.
     #[error("a read failed")]

@@ -8,7 +8,7 @@ use std::ops::Neg;
 pub const HORIZON: i64 = 31_536_000_000;
 
 /// A time, or a difference of two times, in whole milliseconds from `-HORIZON` to `HORIZON`.
-#[derive(Clone, Copy, Debug, PartialEq, Eq, Hash, PartialOrd, Ord)]
+#[derive(Clone, Copy, Debug, PartialEq, Eq, PartialOrd, Ord)]
 pub struct Ms {
     millis: i64,
 }

@@ -12,7 +12,7 @@ use crate::millis::{HORIZON, Ms};
 use thiserror::Error;
 
 /// Why a text is no time, in the order in which the faults are looked for.
-#[derive(Clone, Copy, Debug, PartialEq, Eq, Hash, Error)]
+#[derive(Clone, Copy, Debug, PartialEq, Eq, Error)]
 pub enum TimeFault {
     /// The text has not the form of a time.
     #[error("not a time in seconds, as 7 or -0.250")]

@@ -14,7 +14,7 @@ use thiserror::Error;
 const MOST_DEPTH: u8 = 32;
 
 /// Why the bytes of a text are not one tree: the first fault from left to right.
-#[derive(Clone, Copy, Debug, PartialEq, Eq, Hash, Error)]
+#[derive(Clone, Copy, Debug, PartialEq, Eq, Error)]
 pub enum TreeFault {
     /// The text has more than 65,536 bytes.
     #[error("the text is too long")]

@@ -7,7 +7,7 @@ use stn_time::Ms;
 use thiserror::Error;
 
 /// What comes next in a plan.
-#[derive(Clone, Copy, Debug, PartialEq, Eq, Hash)]
+#[derive(Clone, Copy, Debug, PartialEq, Eq)]
 pub enum Next {
     /// The event runs at the time.
     Run(Ms, Event),
@@ -19,7 +19,7 @@ pub enum Next {
 }
 
 /// Why a plan can't be rehearsed.
-#[derive(Clone, Copy, Debug, PartialEq, Eq, Hash, Error)]
+#[derive(Clone, Copy, Debug, PartialEq, Eq, Error)]
 pub enum RehearseFault {
     /// The window of this event has passed; the least such event.
     #[error("an event is overdue")]

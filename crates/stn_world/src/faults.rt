@@ -8,7 +8,7 @@ use stn_replica::ReplicaFault;
 use thiserror::Error;
 
 /// Why there is no world of so many sites. The faults come in this order.
-#[derive(Clone, Copy, Debug, PartialEq, Eq, Hash, Error)]
+#[derive(Clone, Copy, Debug, PartialEq, Eq, Error)]
 pub enum SitesFault {
     /// No site, or more than 64.
     #[error("no such number of sites")]
@@ -35,7 +35,7 @@ impl<T: Drop> From<AllocFailed<T>> for SitesFault {
 }
 
 /// Why a world refused a call. The faults come in this order.
-#[derive(Clone, Copy, Debug, PartialEq, Eq, Hash, Error)]
+#[derive(Clone, Copy, Debug, PartialEq, Eq, Error)]
 pub enum WorldFault {
     /// The world has no such site.
     #[error("no such site")]
