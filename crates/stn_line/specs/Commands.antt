@@ -3,7 +3,7 @@ use Rattle.std.specs.Prelude.{◌≡◌, ℕ, List, [], ◌∷◌, ◌++◌, Som
 use Rattle.stn_records.specs.Id.{most_sites}
 use Rattle.clap.specs.Lexer.{usize_max}
 use Rattle.clap.specs.Simple.{new_shape}
-use Rattle.clap.specs.Words.{App, Rule, Shape, Text, new_rule, shape_of}
+use Rattle.clap.specs.Words.{App, Rule, Shape, Text, app_of, new_rule, shape_of}
 use Rattle.clap.specs.declared.builder.command.Command.{Command}
 use Rattle.clap.specs.declared.builder.command.Command.TheViews.{out-Command as fields_of}
 use Rattle.clap.specs.declared.builder.value_parser.ValueParser.TheVariants as parser
@@ -151,3 +151,7 @@ pub record Reads (shape : Shape) (command : Command) : Type 0 where
 -- where clap reads the words of the one command, it reads those and one more of the other
 abbrev pub Grows : {E : Type 0} → Rule → Result Command E → Result Command E → Type 0
 Grows rule old new = (name : Text) (words : List Rule) → IfOk old (Reads (command name words)) → IfOk new (Reads (command name (words ++ rule ∷ [])))
+
+-- where clap reads the program with some commands, it reads it with these too, as the last
+abbrev pub Adds : {E : Type 0} → List Shape → Result Command E → Result Command E → Type 0
+Adds more old new = (before : List Shape) → IfOk old (λ o. app_of o ≡ program before) → IfOk new (λ n. app_of n ≡ program (before ++ more))

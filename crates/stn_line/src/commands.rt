@@ -1,4 +1,4 @@
-ghost use Rattle.std.specs.Prelude.{◌≡◌, false, codes, IfOk, List, [], ◌∷◌, ◌++◌};
+ghost use Rattle.std.specs.Prelude.{◌≡◌, false, codes, IfOk, [], ◌∷◌};
 ghost use Rattle.clap.specs.Words.{Shape, app_of, rule_of};
 ghost use Rattle.stn_line.specs.Commands as spec;
 
@@ -21,25 +21,109 @@ const MOST_SECONDS: u64 = 3_600;
 pub(crate) fn stn<'a>(alloc: Global) -> Result<Command<'a>, AllocError>
     ensures app { IfOk result (λ command. app_of command ≡ spec.stn) }
 {
+    let program = plans(alloc);
+    let program = with_changes(alloc, program);
+    let program = with_windows(alloc, program);
+    let program = with_lists(alloc, program);
+    let program = with_schedules(alloc, program);
+    with_exchange(alloc, program)
+}
+
+// The program with the commands that run a script or make a log.
+fn plans<'a>(alloc: Global) -> Result<Command<'a>, AllocError>
+    ensures app { IfOk result (λ command. app_of command ≡ spec.program (
+        spec.command (codes "run") []
+        ∷ spec.on_log (codes "bare") spec.bare_words
+        ∷ spec.on_log (codes "init") spec.init_words
+        ∷ spec.on_log (codes "loosen") spec.loosen_words
+        ∷ [])) }
+{
     let program = top(alloc).subcommand(run(alloc));
     let program = with_command(program, bare(alloc));
     let program = with_command(program, init(alloc));
-    let program = with_command(program, loosen(alloc));
+    with_command(program, loosen(alloc))
+}
+
+// The program with the commands that change what a log holds.
+fn with_changes<'a>(
+    alloc: Global,
+    program: Result<Command<'a>, AllocError>,
+) -> Result<Command<'a>, AllocError>
+    ensures more { spec.Adds (
+        spec.on_log (codes "add") spec.add_words
+        ∷ spec.on_log (codes "amend") spec.amend_words
+        ∷ spec.on_log (codes "withdraw") spec.withdraw_words
+        ∷ spec.on_log (codes "done") spec.done_words
+        ∷ spec.on_log (codes "merge") spec.merge_words
+        ∷ []) program.entry result }
+{
     let program = with_command(program, add(alloc));
     let program = with_command(program, amend(alloc));
     let program = with_command(program, withdraw(alloc));
     let program = with_command(program, done(alloc));
-    let program = with_command(program, merge(alloc));
+    with_command(program, merge(alloc))
+}
+
+// The program with the commands that ask when events may take place, and why.
+fn with_windows<'a>(
+    alloc: Global,
+    program: Result<Command<'a>, AllocError>,
+) -> Result<Command<'a>, AllocError>
+    ensures more { spec.Adds (
+        spec.on_log (codes "report") []
+        ∷ spec.on_log (codes "next") spec.next_words
+        ∷ spec.on_log (codes "ready") spec.ready_words
+        ∷ spec.on_log (codes "why") spec.why_words
+        ∷ []) program.entry result }
+{
     let program = with_command(program, report(alloc));
     let program = with_command(program, next(alloc));
     let program = with_command(program, ready(alloc));
-    let program = with_command(program, why(alloc));
+    with_command(program, why(alloc))
+}
+
+// The program with the commands that list what a log holds.
+fn with_lists<'a>(
+    alloc: Global,
+    program: Result<Command<'a>, AllocError>,
+) -> Result<Command<'a>, AllocError>
+    ensures more { spec.Adds (
+        spec.on_log (codes "records") []
+        ∷ spec.on_log (codes "steps") []
+        ∷ spec.on_log (codes "bounds") []
+        ∷ []) program.entry result }
+{
     let program = with_command(program, records(alloc));
     let program = with_command(program, steps(alloc));
-    let program = with_command(program, bounds(alloc));
+    with_command(program, bounds(alloc))
+}
+
+// The program with the commands that take the plan as a whole.
+fn with_schedules<'a>(
+    alloc: Global,
+    program: Result<Command<'a>, AllocError>,
+) -> Result<Command<'a>, AllocError>
+    ensures more { spec.Adds (
+        spec.on_log (codes "check") spec.check_words
+        ∷ spec.on_log (codes "rehearse") spec.rehearse_words
+        ∷ spec.on_log (codes "draw") []
+        ∷ []) program.entry result }
+{
     let program = with_command(program, check(alloc));
     let program = with_command(program, rehearse(alloc));
-    let program = with_command(program, draw(alloc));
+    with_command(program, draw(alloc))
+}
+
+// The program with the commands that exchange records with other sites.
+fn with_exchange<'a>(
+    alloc: Global,
+    program: Result<Command<'a>, AllocError>,
+) -> Result<Command<'a>, AllocError>
+    ensures more { spec.Adds (
+        spec.on_log (codes "serve") spec.serve_words
+        ∷ spec.on_log (codes "send") spec.send_words
+        ∷ []) program.entry result }
+{
     let program = with_command(program, serve(alloc));
     with_command(program, send(alloc))
 }
@@ -49,8 +133,7 @@ fn with_command<'a>(
     program: Result<Command<'a>, AllocError>,
     command: Result<Command<'a>, AllocError>,
 ) -> Result<Command<'a>, AllocError>
-    ensures more { (commands : List Shape) → (shape : Shape) → IfOk program.entry (λ old. app_of old ≡ spec.program commands)
-        → IfOk command.entry (spec.Reads shape) → IfOk result (λ new. app_of new ≡ spec.program (commands ++ shape ∷ [])) }
+    ensures more { (shape : Shape) → IfOk command.entry (spec.Reads shape) → spec.Adds (shape ∷ []) program.entry result }
 {
     program?.subcommand(command?)
 }
