@@ -142,11 +142,17 @@ fn append_broken<A: Allocator>(out: &mut Vec<u8, A>, name: BoundName) -> Result<
 fn append_line<A: Allocator>(out: &mut Vec<u8, A>, words: &[u8], number: u32) -> Result<(), Memory>
     ensures { OnOk result (out.new.items ≡ out.old.items ++ (words.now ++ (decimal number ++ 10 ∷ []))) }
 {
-    let mut buffer = Buffer::new();
-    let digits = buffer.format(number).as_bytes();
     out.extend_from_slice(words)?;
-    out.extend_from_slice(digits)?;
+    append_number(out, number)?;
     out.extend_from_slice(b"\n")
+}
+
+// Appends the number's decimal form.
+fn append_number<A: Allocator>(out: &mut Vec<u8, A>, number: u32) -> Result<(), Memory>
+    ensures { OnOk result (out.new.items ≡ out.old.items ++ decimal number) }
+{
+    let mut buffer = Buffer::new();
+    out.extend_from_slice(buffer.format(number).as_bytes())
 }
 
 // Appends the line of a code, and of the line or the step, where there is one.
@@ -159,10 +165,8 @@ fn append_placed<A: Allocator>(
 {
     match place {
         Some(place) => {
-            let mut buffer = Buffer::new();
-            let digits = buffer.format(code).as_bytes();
             out.extend_from_slice(b"refused ")?;
-            out.extend_from_slice(digits)?;
+            append_number(out, code)?;
             append_line(out, b" ", place)
         }
         None => append_line(out, b"refused ", code),

@@ -1,7 +1,7 @@
 ghost use Rattle.std.specs.Prelude.{◌≡◌, ◌+◌, ◌^◌, ◌<◌, ◌≤◌, ◌∷◌, true, false, length, min, Ok, IfSome, IfNone, IfOk, IfErr, codes};
 ghost use Rattle.std.specs.Option.{option_map};
 ghost use Rattle.stn_text.specs.Lines.{lines_of, words_of};
-ghost use Rattle.stn_lift.specs.PlanSource.{plan_source, base_of};
+ghost use Rattle.stn_lift.specs.PlanSource.{files, plan_source, base_of};
 ghost use Rattle.stn_exec.specs.Blocks.{is_alone, block_from};
 ghost use Rattle.stn_exec.specs.Heading.{seen_found, seen_part, seen_block, seen_base, result_seen, IsOpened, IsHeadingFault};
 ghost use Rattle.stn_exec.specs.Script.{is_skipped, next_line, heading_number, part_of, refusing_fault, block_at, named_block, bare_part, files_part, based, heading_of};
@@ -175,12 +175,22 @@ fn read_files<A: Allocator + Copy>(
 {
     let domain = read_block(last, found.number + 1, found.behind)?;
     let plan = read_named_block(last, b"plan", domain.behind.number, domain.behind.text)?;
-    let source = Source::Files(
-        Vec::from_slice(alloc, domain.text)?,
-        Vec::from_slice(alloc, plan.text)?,
-    );
-    let base = make_base(alloc, &source)?;
+    let base = base_of_files(alloc, domain.text, plan.text)?;
     Ok((base, plan.behind))
+}
+
+// The base of a domain and a plan, or the refusal of their first fault.
+fn base_of_files<A: Allocator + Copy>(
+    alloc: A,
+    domain: &[u8],
+    plan: &[u8],
+) -> Result<Base<A>, HeadingFault>
+    ensures made { IfOk result (λ base. refusing_fault (base_of (files domain.now plan.now)) ≡ Ok base) }
+    ensures refused { IfErr result (IsHeadingFault (refusing_fault (base_of (files domain.now plan.now)))) }
+{
+    let domain = Vec::from_slice(alloc, domain)?;
+    let plan = Vec::from_slice(alloc, plan)?;
+    make_base(alloc, &Source::Files(domain, plan))
 }
 
 // The base of a source, or the refusal of the source's first fault.
