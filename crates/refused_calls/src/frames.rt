@@ -117,6 +117,16 @@ pub fn decodes(alloc: Global, bytes: &[u8], wanted: &[u8]) -> Result<bool, Error
     })
 }
 
+fn append_renewed<A: Allocator + Copy>(
+    frame: Option<Frame<A>>,
+    spelled: &mut Vec<u8>,
+) -> Result<(), WireFault> {
+    match frame {
+        Some(frame) => encode(&renewed(frame), spelled),
+        None => Ok(()),
+    }
+}
+
 // Feeds a piece, and appends what is written of the frame that it completes. It gives how many bytes were taken.
 fn feed_piece<A: Allocator + Copy>(
     feeder: &mut Feeder<A>,
@@ -124,9 +134,7 @@ fn feed_piece<A: Allocator + Copy>(
     spelled: &mut Vec<u8>,
 ) -> Result<usize, WireFault> {
     let Fed { used, frame } = feeder.feed(piece)?;
-    if let Some(frame) = frame {
-        encode(&renewed(frame), spelled)?;
-    }
+    append_renewed(frame, spelled)?;
     Ok(used)
 }
 

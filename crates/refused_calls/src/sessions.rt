@@ -53,24 +53,39 @@ fn served<A: Allocator + Copy>(
     }
 }
 
-fn stage_after(alloc: Global, log: &[u8], frames: &[Vec<u8>]) -> Result<Stage, Error> {
-    let bytes = joined(alloc, frames)?;
-    let mut replica = opened(alloc, log)?;
-    let Serving {
-        answer: _,
-        failed: _,
-        replies,
-    } = served(alloc, alloc, &mut replica, &bytes, NOTHING);
-    let log = log_of(alloc, alloc, &replica)?;
+// Where the session stands after these bytes.
+fn stage_of(alloc: Global, replica: &mut Replica<Global>, bytes: &[u8]) -> Result<Stage, Error> {
+    let replies = served(alloc, alloc, replica, bytes, NOTHING).replies;
+    let log = log_of(alloc, alloc, replica)?;
     Ok(Stage { replies, log })
 }
 
-fn stages(alloc: Global, log: &[u8], frames: &[Vec<u8>]) -> Result<Vec<Stage>, Error> {
-    let mut stages = Vec::new(alloc);
+fn stage_after(alloc: Global, log: &[u8], bytes: &[u8]) -> Result<Stage, Error> {
+    let mut replica = opened(alloc, log)?;
+    stage_of(alloc, &mut replica, bytes)
+}
+
+fn add_stage(
+    alloc: Global,
+    log: &[u8],
+    frames: &[Vec<u8>],
+    stages: &mut Vec<Stage>,
+) -> Result<(), Error> {
+    let bytes = joined(alloc, frames)?;
+    stages.push(stage_after(alloc, log, &bytes)?)?;
+    Ok(())
+}
+
+fn add_stages(
+    alloc: Global,
+    log: &[u8],
+    frames: &[Vec<u8>],
+    stages: &mut Vec<Stage>,
+) -> Result<(), Error> {
     for count in 0..=frames.len() {
-        stages.push(stage_after(alloc, log, frames.get(..count).unwrap_or(frames))?)?;
+        add_stage(alloc, log, frames.get(..count).unwrap_or(frames), stages)?;
     }
-    Ok(stages)
+    Ok(())
 }
 
 fn is_held(known: Option<&Stage>, log: &[u8]) -> bool {
@@ -128,6 +143,33 @@ fn is_right(talk: Talk, serving: &Serving, log: &[u8], failing: Failing) -> bool
     }
 }
 
+// Whether the session and what the replica then holds are as they must be.
+fn is_right_with<A: Allocator + Copy>(
+    alloc: Global,
+    heap: A,
+    replica: &Replica<A>,
+    talk: Talk,
+    serving: &Serving,
+    failing: Failing,
+) -> Result<bool, Error> {
+    let log = log_of(alloc, heap, replica)?;
+    Ok(is_right(talk, serving, &log, failing))
+}
+
+fn serve_failing<'a>(
+    alloc: Global,
+    heap: &'a Refusing<Global>,
+    replica: &mut Replica<&'a Refusing<Global>>,
+    talk: Talk,
+    failing: Failing,
+) -> Result<Outcome, Error> {
+    begin_refusing(heap, failing);
+    let serving = served(alloc, heap, replica, talk.bytes, failing);
+    let refused = end_refusing(heap, failing) || serving.failed;
+    let right = is_right_with(alloc, heap, replica, talk, &serving, failing)?;
+    Ok(outcome_of(refused, (refused || serving.answer.is_ok()) && right))
+}
+
 fn serve_refused(
     alloc: Global,
     heap: &Refusing<Global>,
@@ -135,12 +177,7 @@ fn serve_refused(
     failing: Failing,
 ) -> Result<Outcome, Error> {
     let mut replica = opened(heap, talk.log)?;
-    begin_refusing(heap, failing);
-    let serving = served(alloc, heap, &mut replica, talk.bytes, failing);
-    let refused = end_refusing(heap, failing) || serving.failed;
-    let log = log_of(alloc, heap, &replica)?;
-    let right = (refused || serving.answer.is_ok()) && is_right(talk, &serving, &log, failing);
-    Ok(outcome_of(refused, right))
+    serve_failing(alloc, heap, &mut replica, talk, failing)
 }
 
 fn each_serve(alloc: Global, talk: Talk, kind: Kind) -> Result<bool, Error> {
@@ -159,28 +196,28 @@ fn serve_to_none(alloc: Global, talk: Talk) -> Result<bool, Error> {
 /// How a session ends of a replica that this log opens.
 pub fn end_of(alloc: Global, log: &[u8], bytes: &[u8]) -> Result<Served, Error> {
     let mut replica = opened(alloc, log)?;
-    let Serving {
-        answer,
-        failed: _,
-        replies: _,
-    } = served(alloc, alloc, &mut replica, bytes, NOTHING);
-    Ok(answer?)
+    Ok(served(alloc, alloc, &mut replica, bytes, NOTHING).answer?)
 }
 
-/// Whether the session answers each refused call: the fault is that of the call, and the replica holds what it held after the
-/// frames that were answered, or after one more; where a read failed, just the former.
-pub fn serves(alloc: Global, log: &[u8], frames: &[Vec<u8>], bytes: &[u8]) -> Result<bool, Error> {
-    let stages = stages(alloc, log, frames)?;
-    let talk = Talk {
-        log,
-        frames,
-        bytes,
-        stages: &stages,
-    };
+fn is_served(alloc: Global, talk: Talk) -> Result<bool, Error> {
     Ok(
         each_serve(alloc, talk, Kind::Memory)?
             && each_serve(alloc, talk, Kind::Read)?
             && each_serve(alloc, talk, Kind::Write)?
             && serve_to_none(alloc, talk)?,
     )
+}
+
+/// Whether the session answers each refused call: the fault is that of the call, and the replica holds what it held after the
+/// frames that were answered, or after one more; where a read failed, just the former.
+pub fn serves(alloc: Global, log: &[u8], frames: &[Vec<u8>], bytes: &[u8]) -> Result<bool, Error> {
+    let mut stages = Vec::new(alloc);
+    add_stages(alloc, log, frames, &mut stages)?;
+    let talk = Talk {
+        log,
+        frames,
+        bytes,
+        stages: &stages,
+    };
+    is_served(alloc, talk)
 }

@@ -7,7 +7,7 @@ use stn_refusing::{PieceReader, PieceWriter, Refusing};
 const MOST_CALLS: u64 = 10_000;
 
 /// What is refused.
-#[derive(Clone, Copy, PartialEq, Eq)]
+#[derive(Clone, Copy, PartialEq)]
 pub enum Kind {
     Nothing,
     Memory,
@@ -18,7 +18,7 @@ pub enum Kind {
 }
 
 /// What is refused, and which request, read or write it is, counted from 1.
-#[derive(Clone, Copy, PartialEq, Eq)]
+#[derive(Clone, Copy)]
 pub struct Failing {
     pub kind: Kind,
     pub number: u64,
@@ -62,7 +62,7 @@ pub fn writer(alloc: Global, failing: Failing) -> PieceWriter {
 }
 
 /// What came of a call.
-#[derive(Clone, Copy, PartialEq, Eq)]
+#[derive(Clone, Copy, PartialEq)]
 pub enum Outcome {
     /// Nothing was refused, and all is as it must be.
     Right,
