@@ -30,7 +30,7 @@ fn bury(records: &mut Records<&Refusing<Global>>, id: Id) -> Result<(), Fail> {
     Ok(records.bury(id)?)
 }
 
-// Adds records of site 1 with the counters from the first to the last, and as many withdrawn ids of site 2.
+// Adds records of site 1 with the counters from the first to the last, and buries as many ids of site 2.
 fn fill(records: &mut Records<&Refusing<Global>>, first: u16, last: u16) -> Result<(), Fail>
     requires { 1 ≤ first }
 {
@@ -39,6 +39,19 @@ fn fill(records: &mut Records<&Refusing<Global>>, first: u16, last: u16) -> Resu
         bury(records, id(2, counter))?;
     }
     Ok(())
+}
+
+// So many records and withdrawn ids.
+fn filled(
+    heap: &Refusing<Global>,
+    first: u16,
+    last: u16,
+) -> Result<Records<&Refusing<Global>>, Fail>
+    requires { 1 ≤ first }
+{
+    let mut records = Records::new(heap);
+    fill(&mut records, first, last)?;
+    Ok(records)
 }
 
 // A call that changes what is held.
@@ -109,8 +122,7 @@ fn change_refused(
 // Sixteen of each: one more asks for memory.
 fn changes(rt: &impl Abort, alloc: Global, change: Change) -> Result<u64, Fail> {
     refuse_each(rt, alloc, |heap, number| {
-        let mut records = Records::new(heap);
-        fill(&mut records, 1, 16)?;
+        let mut records = filled(heap, 1, 16)?;
         Ok(change_refused(heap, number, &mut records, change))
     })
 }
@@ -159,16 +171,14 @@ fn taken<'a>(
     number: u64,
     theirs: &Records<&'a Refusing<Global>>,
 ) -> Result<Answer, Fail> {
-    let mut ours = Records::new(heap);
-    fill(&mut ours, 1, 12)?;
+    let mut ours = filled(heap, 1, 12)?;
     Ok(take_twice(heap, number, &mut ours, theirs))
 }
 
 #[test]
 fn takes(rt: HostRuntime) -> Result<(), Fail> {
     let requests = refuse_each(&rt, rt.alloc(), |heap, number| {
-        let mut theirs = Records::new(heap);
-        fill(&mut theirs, 9, 20)?;
+        let theirs = filled(heap, 9, 20)?;
         taken(heap, number, &theirs)
     })?;
     assert!(rt; requests > 2);
@@ -230,8 +240,7 @@ fn read_refused(
 
 fn readings(rt: &impl Abort, alloc: Global, reading: Reading) -> Result<u64, Fail> {
     refuse_each(rt, alloc, |heap, number| {
-        let mut records = Records::new(heap);
-        fill(&mut records, 1, 12)?;
+        let records = filled(heap, 1, 12)?;
         Ok(read_refused(heap, number, &records, reading))
     })
 }

@@ -30,14 +30,22 @@ fn add_bounds(replica: &mut Replica<&Refusing<Global>>) -> Result<(), Fail> {
     Ok(())
 }
 
+fn new_replica(heap: &Refusing<Global>) -> Result<Replica<&Refusing<Global>>, Fail> {
+    let site = Site::new(1).ok_or("no site")?;
+    let base = Rc::new(heap, Base::bare(heap, 1)?)?;
+    Ok(Replica::new(heap, site, base)?)
+}
+
+fn add_to_new(heap: &Refusing<Global>) -> Result<(), Fail> {
+    let mut replica = new_replica(heap)?;
+    add_bounds(&mut replica)
+}
+
 // The additions of a replica ask for memory for their records alone, not for a matrix each.
 #[test]
 fn few_requests(rt: HostRuntime) -> Result<(), Fail> {
     let heap = Refusing::new(rt.alloc(), 256);
-    let site = Site::new(1).ok_or("no site")?;
-    let base = Rc::new(&heap, Base::bare(&heap, 1)?)?;
-    let mut replica = Replica::new(&heap, site, base)?;
-    add_bounds(&mut replica)?;
+    add_to_new(&heap)?;
     assert!(rt; heap.is_waiting());
     Ok(())
 }
