@@ -56,6 +56,37 @@ fn asks_then<A: Allocator + Copy>(
     asking.answer == Ok(()) && asking.written.as_slice() == requests
 }
 
+fn ask_failing<'a>(
+    alloc: Global,
+    heap: &'a Refusing<Global>,
+    replica: &Replica<&'a Refusing<Global>>,
+    requests: &[u8],
+    failing: Failing,
+) -> Outcome {
+    begin_refusing(heap, failing);
+    let asking = asked(alloc, heap, replica, failing);
+    let refused = end_refusing(heap, failing);
+    let right = is_asked(&asking, requests, refused) && asks_then(alloc, heap, replica, requests);
+    outcome_of(refused || asking.failed, right)
+}
+
+// The replica is then as before.
+fn ask_unchanged<'a>(
+    alloc: Global,
+    heap: &'a Refusing<Global>,
+    replica: &Replica<&'a Refusing<Global>>,
+    log: &[u8],
+    requests: &[u8],
+    failing: Failing,
+) -> Outcome {
+    let outcome = ask_failing(alloc, heap, replica, requests, failing);
+    if is_log(alloc, heap, replica, log) {
+        outcome
+    } else {
+        Outcome::Wrong
+    }
+}
+
 fn ask_refused(
     alloc: Global,
     heap: &Refusing<Global>,
@@ -64,13 +95,7 @@ fn ask_refused(
     failing: Failing,
 ) -> Result<Outcome, Error> {
     let replica = opened(heap, log)?;
-    begin_refusing(heap, failing);
-    let asking = asked(alloc, heap, &replica, failing);
-    let refused = end_refusing(heap, failing);
-    let right = is_asked(&asking, requests, refused)
-        && asks_then(alloc, heap, &replica, requests)
-        && is_log(alloc, heap, &replica, log);
-    Ok(outcome_of(refused || asking.failed, right))
+    Ok(ask_unchanged(alloc, heap, &replica, log, requests, failing))
 }
 
 fn each_ask(alloc: Global, log: &[u8], requests: &[u8], kind: Kind) -> Result<bool, Error> {
@@ -177,6 +202,22 @@ fn receives_then<A: Allocator + Copy>(
     receiving.answer == Ok(true) && is_log(alloc, heap, replica, replies.after)
 }
 
+fn receive_failing<'a>(
+    alloc: Global,
+    heap: &'a Refusing<Global>,
+    replica: &mut Replica<&'a Refusing<Global>>,
+    replies: Replies,
+    failing: Failing,
+) -> Outcome {
+    begin_refusing(heap, failing);
+    let Receiving { answer, failed } = received(heap, replica, replies, failing);
+    let refused = end_refusing(heap, failing) || failed;
+    let right = (refused || answer.is_ok())
+        && is_received(alloc, heap, replica, replies, answer, failing)
+        && receives_then(alloc, heap, replica, replies);
+    outcome_of(refused, right)
+}
+
 fn receive_refused(
     alloc: Global,
     heap: &Refusing<Global>,
@@ -184,13 +225,7 @@ fn receive_refused(
     failing: Failing,
 ) -> Result<Outcome, Error> {
     let mut replica = opened(heap, replies.log)?;
-    begin_refusing(heap, failing);
-    let Receiving { answer, failed } = received(heap, &mut replica, replies, failing);
-    let refused = end_refusing(heap, failing) || failed;
-    let right = (refused || answer.is_ok())
-        && is_received(alloc, heap, &replica, replies, answer, failing)
-        && receives_then(alloc, heap, &mut replica, replies);
-    Ok(outcome_of(refused, right))
+    Ok(receive_failing(alloc, heap, &mut replica, replies, failing))
 }
 
 fn each_receive(alloc: Global, replies: Replies, kind: Kind) -> Result<bool, Error> {

@@ -57,17 +57,6 @@ pub fn encodes(alloc: Global, bytes: &[u8]) -> Result<bool, Error> {
     })
 }
 
-// Whether the spelling of a frame is these bytes.
-fn is_spelled<A: Allocator + Copy>(
-    alloc: Global,
-    frame: &Frame<A>,
-    bytes: &[u8],
-) -> Result<bool, WireFault> {
-    let mut out = Vec::new(alloc);
-    encode(frame, &mut out)?;
-    Ok(out.as_slice() == bytes)
-}
-
 // What an old frame holds, as a frame that can be written; any other frame itself.
 fn renewed<A: Allocator + Copy>(frame: Frame<A>) -> Frame<A> {
     match frame {
@@ -75,6 +64,28 @@ fn renewed<A: Allocator + Copy>(frame: Frame<A>) -> Frame<A> {
         Frame::OldRecords(records) => Frame::Records(records),
         other => other,
     }
+}
+
+// Appends what is written of a frame, where there is one.
+fn append_renewed<A: Allocator + Copy>(
+    frame: Option<Frame<A>>,
+    spelled: &mut Vec<u8>,
+) -> Result<(), WireFault> {
+    match frame {
+        Some(frame) => encode(&renewed(frame), spelled),
+        None => Ok(()),
+    }
+}
+
+// Whether a frame is renewed as these bytes.
+fn is_spelled<A: Allocator + Copy>(
+    alloc: Global,
+    frame: Frame<A>,
+    bytes: &[u8],
+) -> Result<bool, WireFault> {
+    let mut out = Vec::new(alloc);
+    append_renewed(Some(frame), &mut out)?;
+    Ok(out.as_slice() == bytes)
 }
 
 // Whether the bytes are one frame, which is renewed as the wanted bytes; or lack of memory.
@@ -86,7 +97,8 @@ fn is_read<A: Allocator + Copy>(
 ) -> Result<bool, WireFault> {
     match decode(heap, bytes)? {
         Some((frame, length)) => {
-            Ok(length == bytes.len() && is_spelled(alloc, &renewed(frame), wanted)?)
+            let spelled = is_spelled(alloc, frame, wanted)?;
+            Ok(spelled && length == bytes.len())
         }
         None => Ok(false),
     }
@@ -115,16 +127,6 @@ pub fn decodes(alloc: Global, bytes: &[u8], wanted: &[u8]) -> Result<bool, Error
     each_is_answered(alloc, Kind::Memory, |heap, failing| {
         Ok(decode_refused(alloc, heap, bytes, wanted, failing))
     })
-}
-
-fn append_renewed<A: Allocator + Copy>(
-    frame: Option<Frame<A>>,
-    spelled: &mut Vec<u8>,
-) -> Result<(), WireFault> {
-    match frame {
-        Some(frame) => encode(&renewed(frame), spelled),
-        None => Ok(()),
-    }
 }
 
 // Feeds a piece, and appends what is written of the frame that it completes. It gives how many bytes were taken.

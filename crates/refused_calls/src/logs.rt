@@ -77,6 +77,20 @@ fn is_saved(saving: &Saving, log: &[u8], refused: bool) -> bool {
 }
 
 // The same call then writes all.
+fn save_failing<'a>(
+    alloc: Global,
+    heap: &'a Refusing<Global>,
+    replica: &Replica<&'a Refusing<Global>>,
+    log: &[u8],
+    failing: Failing,
+) -> Outcome {
+    begin_refusing(heap, failing);
+    let saving = saved(alloc, heap, replica, failing);
+    let refused = end_refusing(heap, failing);
+    let right = is_saved(&saving, log, refused) && is_log(alloc, heap, replica, log);
+    outcome_of(refused || saving.failed, right)
+}
+
 fn save_refused(
     alloc: Global,
     heap: &Refusing<Global>,
@@ -84,11 +98,7 @@ fn save_refused(
     failing: Failing,
 ) -> Result<Outcome, Error> {
     let replica = opened(heap, log)?;
-    begin_refusing(heap, failing);
-    let saving = saved(alloc, heap, &replica, failing);
-    let refused = end_refusing(heap, failing);
-    let right = is_saved(&saving, log, refused) && is_log(alloc, heap, &replica, log);
-    Ok(outcome_of(refused || saving.failed, right))
+    Ok(save_failing(alloc, heap, &replica, log, failing))
 }
 
 fn each_save(alloc: Global, log: &[u8], kind: Kind) -> Result<bool, Error> {
@@ -117,14 +127,14 @@ pub fn saves(alloc: Global, log: &[u8]) -> Result<bool, Error> {
 fn is_loaded<A: Allocator + Copy>(
     alloc: Global,
     heap: A,
-    answer: &Result<Replica<A>, LoadFault>,
+    answer: Result<Replica<A>, LoadFault>,
     log: &[u8],
-    kind: Kind,
+    refused: Option<Kind>,
 ) -> bool {
     match answer {
-        Ok(replica) => is_log(alloc, heap, replica, log),
-        Err(LoadFault::Read) => kind == Kind::Read,
-        Err(LoadFault::Memory) => kind == Kind::Memory,
+        Ok(replica) => is_log(alloc, heap, &replica, log),
+        Err(LoadFault::Read) => refused == Some(Kind::Read),
+        Err(LoadFault::Memory) => refused == Some(Kind::Memory),
         Err(_) => false,
     }
 }
@@ -141,10 +151,8 @@ fn load_refused(
     begin_refusing(heap, failing);
     let answer = load(heap, &mut input, site);
     let refused = end_refusing(heap, failing) || input.failures() > 0;
-    Ok(outcome_of(
-        refused,
-        (refused || answer.is_ok()) && is_loaded(alloc, heap, &answer, wanted, failing.kind),
-    ))
+    let kind = if refused { Some(failing.kind) } else { None };
+    Ok(outcome_of(refused, is_loaded(alloc, heap, answer, wanted, kind)))
 }
 
 // The same call, over the same log, then opens the replica.

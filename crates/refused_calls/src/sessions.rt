@@ -193,10 +193,18 @@ fn serve_to_none(alloc: Global, talk: Talk) -> Result<bool, Error> {
     Ok(serve_refused(alloc, &heap, talk, EACH_BYTE)? != Outcome::Wrong)
 }
 
+fn answer_of(
+    alloc: Global,
+    replica: &mut Replica<Global>,
+    bytes: &[u8],
+) -> Result<Served, ServeFault> {
+    served(alloc, alloc, replica, bytes, NOTHING).answer
+}
+
 /// How a session ends of a replica that this log opens.
 pub fn end_of(alloc: Global, log: &[u8], bytes: &[u8]) -> Result<Served, Error> {
     let mut replica = opened(alloc, log)?;
-    Ok(served(alloc, alloc, &mut replica, bytes, NOTHING).answer?)
+    Ok(answer_of(alloc, &mut replica, bytes)?)
 }
 
 fn is_served(alloc: Global, talk: Talk) -> Result<bool, Error> {
