@@ -1,6 +1,6 @@
 -- Replies that come one after the other.
 use Rattle.std.proofs.Common.{◌≡◌, ℕ, ◌+◌, ◌≤◌, List, [], ◌∷◌, ◌++◌, length, ◌⊎◌, Option, Result, Ok, Err, refl, sym, ap, subst, ◌∙◌, inl, inr, ⊎_elim, arith, append_assoc, append-nil, length-append}
-use Rattle.std.specs.Prelude.{flat_map, IfOk, IfErr}
+use Rattle.std.specs.Prelude.{flat_map, IfOk, IfErr, OnOk, OnErr}
 use Rattle.std.specs.List.{AllByRecursion}
 use Rattle.std.specs.Io.KnownBytes.{Consumes}
 use Rattle.std.proofs.KnownBytes.{Consumes-nil, Consumes-trans}
@@ -9,12 +9,12 @@ use Rattle.std.proofs.lemmas.List.Sums.{fold-append}
 use Rattle.stn_time.proofs.Each.{each_pushed}
 use Rattle.stn_lift.specs.PlanSource.{PlanSource}
 use Rattle.stn_records.specs.Content.{Content}
-use Rattle.stn_wire.specs.Frame.{FrameContent, content, text, spelling, IsFrame}
+use Rattle.stn_wire.specs.Frame.{FrameContent, content, same, records, text, spelling, IsFrame}
 use Rattle.stn_wire.specs.declared.frame.Frame.{Frame}
 use Rattle.stn_stream.specs.Held.{Stream}
-use Rattle.stn_stream.specs.Stream.{pending}
-use Rattle.stn_session.specs.Exchange.{Stage, greeting, telling, told, failed, Reception, at_stage, expecting, told_by, staged, replied, IsWaiting, IsLost, IsReceived, seen}
-use Rattle.stn_session.specs.Turns.{Finds}
+use Rattle.stn_stream.specs.Stream.{unread, pending}
+use Rattle.stn_session.specs.Exchange.{Stage, greeting, handing, telling, told, failed, Reception, at_stage, expecting, greeted_by, handed, told_by, staged, replied, IsWaiting, IsLost, IsReceived, seen}
+use Rattle.stn_session.specs.Turns.{Finds, Came, Leads}
 use Rattle.stn_session.specs.declared.exchange.ReplyFault.{ReplyFault}
 use Rattle.stn_session.specs.declared.exchange.ReplyFault.TheVariants.{Memory}
 
@@ -22,24 +22,14 @@ use Rattle.stn_session.specs.declared.exchange.ReplyFault.TheVariants.{Memory}
 abbrev received : PlanSource → Reception → FrameContent → Reception
 received source reception frame = staged source reception.stage reception.state frame
 
--- the frames that were read led to a stage, and this is the rest
-pub record Came (source : PlanSource) (first : Content) (before after : Option (List ℕ)) (rest : List ℕ) (taken : ℕ) (stage : Stage) (state : Content) : Type 0 where
-  pub bytes : List ℕ
-  pub frames : List FrameContent
-  pub consumed : Consumes before after bytes
-  pub many : taken ≡ length bytes
-  pub each : AllByRecursion IsFrame frames
-  pub cut : bytes ≡ flat_map spelling frames ++ rest
-  pub came : at_stage stage state ≡ replied source (expecting first) frames
-
-pub nothing_came : (source : PlanSource) (first : Content) (before : Option (List ℕ)) (rest : List ℕ) (taken : ℕ) → rest ≡ [] → taken ≡ 0 → Came source first before before rest taken greeting first
-nothing_came source first before rest taken none zero = record {
+pub nothing_came : (source : PlanSource) (first : Content) (before : Option (List ℕ)) (frames : Stream) → frames ≡ unread → Came source first before before (pending frames) frames.count greeting first
+nothing_came source first before frames fresh = record {
   bytes = [];
   frames = [];
   consumed = Consumes-nil before;
-  many = zero;
+  many = ap (λ (s : Stream). s.count) fresh;
   each = tt;
-  cut = sym none;
+  cut = sym (ap pending fresh);
   came = refl;
 }
 
@@ -159,3 +149,23 @@ text_answered source first before mid after old new state p frame f view (Ok giv
     (next_came source first before mid after old new telling state p frame f (told (view given)) state (ap (told_by state) is))
     (omega (arith, f.found.3, f.found.4))
 text_answered source first before mid after old new state p frame f view (Err fault) is why = next_refused source first before mid after old new telling state p frame f fault (why state)
+
+-- ---- a reply that was read leads on, or refuses
+pub same_answered : {A : Type 0} (source : PlanSource) (first : Content) (before mid after : Option (List ℕ)) (old new : Stream) (state : Content)
+    → Came source first before mid (pending old) old.count greeting state → (frame : Frame A) → Finds old new mid after (Ok frame)
+    → (answer : Result (Unit {0}) ReplyFault) → OnOk answer (content frame ≡ same)
+    → IfErr answer (λ fault. (s : Content) → greeted_by s (content frame) ≡ at_stage (failed fault) s) → Leads source first before after new handing state answer
+same_answered source first before mid after old new state p frame f (Ok done) is why =
+    (f.found.2, next_came source first before mid after old new greeting state p frame f handing state (ap (greeted_by state) is))
+same_answered source first before mid after old new state p frame f (Err fault) is why = next_refused source first before mid after old new greeting state p frame f fault (why state)
+
+pub records_answered : {A : Type 0} (source : PlanSource) (first : Content) (before mid after : Option (List ℕ)) (old new : Stream) (state : Content)
+    → Came source first before mid (pending old) old.count handing state → (frame : Frame A) → Finds old new mid after (Ok frame)
+    → (theirs now : Content) → content frame ≡ records theirs → (answer : Result (Unit {0}) ReplyFault)
+    → OnOk answer (handed source state (records theirs) ≡ at_stage telling now)
+    → IfErr answer (λ fault. (fault ≡ Memory) ⊎ (handed source state (records theirs) ≡ at_stage (failed fault) state))
+    → OnErr answer (now ≡ state) → Leads source first before after new telling now answer
+records_answered source first before mid after old new state p frame f theirs now is (Ok done) taken why kept =
+    (f.found.2, next_came source first before mid after old new handing state p frame f telling now (ap (handed source state) is ∙ taken))
+records_answered source first before mid after old new state p frame f theirs now is (Err fault) taken why kept =
+    next_taken source first before mid after old new handing state p frame f tt now kept fault (⊎_elim inl (λ e. inr (ap (handed source state) is ∙ e)) why)

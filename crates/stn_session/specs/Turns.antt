@@ -1,16 +1,18 @@
 -- For proofs alone: no public clause cites these words.
 -- What one frame of a session or an exchange brings, as the code has it.
-use Rattle.std.specs.Prelude.{◌≡◌, ◌⊎◌, ℕ, ◌+◌, ◌≤◌, List, [], ◌++◌, length, Option, Result, Ok, Err}
+use Rattle.std.specs.Prelude.{◌≡◌, ◌⊎◌, ℕ, ◌+◌, ◌≤◌, List, [], ◌++◌, length, flat_map, Option, Result, Ok, Err}
+use Rattle.std.specs.List.{AllByRecursion}
 use Rattle.std.specs.Io.KnownBytes.{Consumes, Appends}
 use Rattle.stn_device.specs.Bytes.{most_bytes, AppendsPart}
+use Rattle.stn_lift.specs.PlanSource.{PlanSource}
 use Rattle.stn_records.specs.Content.{Content}
-use Rattle.stn_wire.specs.Frame.{content, spelling, refused, IsFrame}
+use Rattle.stn_wire.specs.Frame.{FrameContent, content, spelling, refused, IsFrame}
 use Rattle.stn_wire.specs.declared.frame.Frame.{Frame}
 use Rattle.stn_stream.specs.Held.{Stream}
 use Rattle.stn_stream.specs.Stream.{pending, IsReading}
 use Rattle.stn_session.specs.Session.{Answer}
 use Rattle.stn_session.specs.Serving.{IsReplyBytes}
-use Rattle.stn_session.specs.Exchange.{IsLost}
+use Rattle.stn_session.specs.Exchange.{Stage, at_stage, expecting, replied, IsLost, IsReceived}
 use Rattle.stn_session.specs.declared.replies.Turn.{Turn}
 use Rattle.stn_session.specs.declared.session.ServeFault.{ServeFault}
 use Rattle.stn_session.specs.declared.session.ServeFault.TheVariants as serve
@@ -50,3 +52,18 @@ pub record Finds {A : Type 0} (old new : Stream) (before after : Option (List �
   pub bytes : List ℕ
   pub consumed : Consumes before after bytes
   pub found : IsFound (pending old ++ bytes) (old.count + length bytes) new after answer
+
+-- the frames that were read led to a stage, and this is the rest
+pub record Came (source : PlanSource) (first : Content) (before after : Option (List ℕ)) (rest : List ℕ) (taken : ℕ) (stage : Stage) (state : Content) : Type 0 where
+  pub bytes : List ℕ
+  pub frames : List FrameContent
+  pub consumed : Consumes before after bytes
+  pub many : taken ≡ length bytes
+  pub each : AllByRecursion IsFrame frames
+  pub cut : bytes ≡ flat_map spelling frames ++ rest
+  pub came : at_stage stage state ≡ replied source (expecting first) frames
+
+-- one reply more was read: the session goes on at this stage; or the fault is the answer
+abbrev pub Leads : PlanSource → Content → Option (List ℕ) → Option (List ℕ) → Stream → Stage → Content → Result (Unit {0}) ReplyFault → Type 0
+Leads source first before after new stage state (Ok done) = IsReading new × Came source first before after (pending new) new.count stage state
+Leads source first before after new stage state (Err fault) = IsReceived source first before after state (Err fault)

@@ -1,14 +1,14 @@
 // What a site asks of another, and what it makes of the replies.
-ghost use Rattle.std.specs.Prelude.{◌≡◌, ◌≢◌, ◌⊎◌, ◌-◌, ◌^◌, ◌<◌, Err, IfOk, IfErr, OnOk, OnErr, IsErrOf};
+ghost use Rattle.std.specs.Prelude.{◌≡◌, ◌≢◌, ◌⊎◌, ◌-◌, ◌^◌, ◌<◌, ◌++◌, ℕ, List, Option, Err, IfOk, IfErr, OnOk, OnErr, IsErrOf};
 ghost use Rattle.std.specs.Io.KnownBytes.{Appends};
 ghost use Rattle.stn_device.specs.Bytes.{AppendsPart};
 ghost use Rattle.stn_device.specs.Counted.{counted_device, failure_count, CountsFailure, KeepsCount};
 ghost use Rattle.stn_lift.specs.PlanSource.{PlanSource};
 ghost use Rattle.stn_records.specs.Content.{Content};
 ghost use Rattle.stn_wire.specs.Frame.{content, same, records, text};
-ghost use Rattle.stn_stream.specs.Stream.{IsReading};
-ghost use Rattle.stn_session.specs.Exchange.{request_bytes, at_stage, telling, failed, greeted_by, handed, told_by, reply_fault, IsReceived, seen};
-ghost use Rattle.stn_session.specs.Turns.{Finds};
+ghost use Rattle.stn_stream.specs.Stream.{unread, pending, IsReading};
+ghost use Rattle.stn_session.specs.Exchange.{request_bytes, at_stage, greeting, handing, telling, failed, greeted_by, handed, told_by, reply_fault, IsReceived, seen};
+ghost use Rattle.stn_session.specs.Turns.{Finds, Came, Leads};
 ghost use Rattle.stn_session.specs.declared.exchange.SendFault.TheVariants as send;
 ghost use Rattle.stn_session.specs.declared.exchange.ReplyFault.TheVariants.{Read, Memory};
 
@@ -68,11 +68,21 @@ pub fn send_requests<W: Write, A: Allocator + Copy>(
     ensures kept { result ≢ Err send.Write → KeepsCount writer.old writer.new }
 {
     let mut out = Vec::new(alloc);
-    say(&Said::Hello(replica.base().source()), &mut out)?;
-    append_state(replica.records(), &mut out)?;
-    say::<A, A>(&Said::Ask, &mut out)?;
+    append_requests(replica, &mut out)?;
     write_whole(writer, &out)?;
     Ok(())
+}
+
+// Appends HELLO, RECORDS and ASK.
+fn append_requests<A: Allocator + Copy>(
+    replica: &Replica<A>,
+    out: &mut Vec<u8, A>,
+) -> Result<(), AllocError>
+    ensures { OnOk result (out.new.items ≡ out.old.items ++ request_bytes replica.now.source replica.now.state) }
+{
+    say(&Said::Hello(replica.base().source()), out)?;
+    append_state(replica.records(), out)?;
+    say::<A, A>(&Said::Ask, out)
 }
 
 /// Why replies were not taken, or not all of them.
@@ -134,13 +144,78 @@ pub fn receive_replies<R: Read, A: Allocator + Copy>(
     ensures kept { result ≢ Err Read → KeepsCount reader.old reader.new }
 {
     let mut frames = FrameReader::new(alloc);
-    let first = next_reply(&mut frames, reader)?;
-    same_of(first)?;
-    let second = next_reply(&mut frames, reader)?;
-    let theirs = records_of(second)?;
-    take_in(replica, &theirs)?;
-    let third = next_reply(&mut frames, reader)?;
-    text_of(third)
+    take_replies(&mut frames, reader, replica)
+}
+
+// The three replies, one after the other.
+fn take_replies<R: Read, A: Allocator + Copy>(
+    frames: &mut FrameReader<A>,
+    reader: &mut Counted<R>,
+    replica: &mut Replica<A>,
+) -> Result<Vec<u8, A>, ReplyFault>
+    requires { frames.old ≡ unread }
+    ensures received { IsReceived replica.old.source replica.old.state (R.remaining (counted_device reader.old))
+        (R.remaining (counted_device reader.new)) replica.new.state (seen (λ bytes. bytes.items) result) }
+    ensures source { replica.new.source ≡ replica.old.source }
+    ensures site { replica.new.site ≡ replica.old.site }
+    ensures read { IsErrOf result Read → CountsFailure reader.old reader.new }
+    ensures kept { result ≢ Err Read → KeepsCount reader.old reader.new }
+{
+    take_same(frames, reader)?;
+    take_records(frames, reader, replica)?;
+    take_text(frames, reader)
+}
+
+// The first reply.
+fn take_same<R: Read, A: Allocator + Copy>(
+    frames: &mut FrameReader<A>,
+    reader: &mut Counted<R>,
+) -> Result<(), ReplyFault>
+    requires { IsReading frames.old }
+    ensures leads { (source : PlanSource) → (first : Content) → (before : Option (List ℕ))
+        → Came source first before (R.remaining (counted_device reader.old)) (pending frames.old) frames.old.count greeting first
+        → Leads source first before (R.remaining (counted_device reader.new)) frames.new handing first result }
+    ensures read { IsErrOf result Read → CountsFailure reader.old reader.new }
+    ensures kept { result ≢ Err Read → KeepsCount reader.old reader.new }
+{
+    let frame = next_reply(frames, reader)?;
+    same_of(frame)
+}
+
+// The second reply.
+fn take_records<R: Read, A: Allocator + Copy>(
+    frames: &mut FrameReader<A>,
+    reader: &mut Counted<R>,
+    replica: &mut Replica<A>,
+) -> Result<(), ReplyFault>
+    requires { IsReading frames.old }
+    ensures leads { (first : Content) → (before : Option (List ℕ))
+        → Came replica.old.source first before (R.remaining (counted_device reader.old)) (pending frames.old) frames.old.count handing replica.old.state
+        → Leads replica.old.source first before (R.remaining (counted_device reader.new)) frames.new telling replica.new.state result }
+    ensures source { replica.new.source ≡ replica.old.source }
+    ensures site { replica.new.site ≡ replica.old.site }
+    ensures read { IsErrOf result Read → CountsFailure reader.old reader.new }
+    ensures kept { result ≢ Err Read → KeepsCount reader.old reader.new }
+{
+    let frame = next_reply(frames, reader)?;
+    let theirs = records_of(frame)?;
+    take_in(replica, &theirs)
+}
+
+// The third reply.
+fn take_text<R: Read, A: Allocator + Copy>(
+    frames: &mut FrameReader<A>,
+    reader: &mut Counted<R>,
+) -> Result<Vec<u8, A>, ReplyFault>
+    requires { IsReading frames.old }
+    ensures received { (source : PlanSource) → (first : Content) → (before : Option (List ℕ)) → (state : Content)
+        → Came source first before (R.remaining (counted_device reader.old)) (pending frames.old) frames.old.count telling state
+        → IsReceived source first before (R.remaining (counted_device reader.new)) state (seen (λ bytes. bytes.items) result) }
+    ensures read { IsErrOf result Read → CountsFailure reader.old reader.new }
+    ensures kept { result ≢ Err Read → KeepsCount reader.old reader.new }
+{
+    let frame = next_reply(frames, reader)?;
+    text_of(frame)
 }
 
 // The next frame.

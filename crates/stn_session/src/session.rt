@@ -1,6 +1,7 @@
 ghost use Rattle.std.specs.Prelude.{◌≡◌, ◌≢◌, ◌-◌, ◌^◌, ◌<◌, Err, IfOk, IfErr, IsErrOf};
 ghost use Rattle.stn_device.specs.Counted.{counted_device, failure_count, CountsFailure, KeepsCount};
 ghost use Rattle.stn_wire.specs.Frame.{content};
+ghost use Rattle.stn_stream.specs.Stream.{unread};
 ghost use Rattle.stn_session.specs.Session.{opening, answer};
 ghost use Rattle.stn_session.specs.Serving.{IsServed, IsBroken, IsInputEnd, serve_fault};
 ghost use Rattle.stn_session.specs.Turns.{Wrote, WroteRefused};
@@ -81,20 +82,20 @@ impl From<StreamFault> for ServeFault {
 // Answers a frame.
 fn answer_frame<W: Write, A: Allocator + Copy>(
     alloc: A,
-    frame: Frame<A>,
+    frame: &Frame<A>,
     greeted: bool,
     replica: &mut Replica<A>,
     writer: &mut Counted<W>,
 ) -> Result<Turn, ServeFault>
     ensures source { replica.new.source ≡ replica.old.source }
     ensures site { replica.new.site ≡ replica.old.site }
-    ensures wrote { Wrote (answer replica.old.source replica.old.state greeted (content frame))
+    ensures wrote { Wrote (answer replica.old.source replica.old.state greeted (content frame.now))
         (W.contents (counted_device writer.old)) (W.contents (counted_device writer.new)) replica.old.state replica.new.state result }
     ensures write { IsErrOf result Write → CountsFailure writer.old writer.new }
     ensures kept { result ≢ Err Write → KeepsCount writer.old writer.new }
 {
     let mut out = Vec::new(alloc);
-    let turn = reply_to(alloc, &frame, greeted, replica, &mut out)?;
+    let turn = reply_to(alloc, frame, greeted, replica, &mut out)?;
     write_whole(writer, &out)?;
     Ok(turn)
 }
@@ -151,12 +152,42 @@ pub fn serve<R: Read, W: Write, A: Allocator + Copy>(
     ensures writer_kept { result ≢ Err Write → KeepsCount writer.old writer.new }
 {
     let mut frames = FrameReader::new(alloc);
+    serve_frames(alloc, &mut frames, reader, writer, replica)
+}
+
+// Answers frames to the end.
+fn serve_frames<R: Read, W: Write, A: Allocator + Copy>(
+    alloc: A,
+    frames: &mut FrameReader<A>,
+    reader: &mut Counted<R>,
+    writer: &mut Counted<W>,
+    replica: &mut Replica<A>,
+) -> Result<Served, ServeFault>
+    requires fresh { frames.old ≡ unread }
+    requires reader_counts { failure_count reader.old < 2 ^ 64 - 1 }
+    requires writer_counts { failure_count writer.old < 2 ^ 64 - 1 }
+    ensures served { IfOk result (IsServed (opening replica.old.source replica.old.state)
+        (R.remaining (counted_device reader.old)) (R.remaining (counted_device reader.new))
+        (W.contents (counted_device writer.old)) (W.contents (counted_device writer.new)) replica.new.state) }
+    ensures end { IfOk result (λ served. IsInputEnd served.end (R.remaining (counted_device reader.new))) }
+    ensures broken { IfErr result (IsBroken (opening replica.old.source replica.old.state)
+        (R.remaining (counted_device reader.old)) (R.remaining (counted_device reader.new))
+        (W.contents (counted_device writer.old)) (W.contents (counted_device writer.new)) replica.new.state) }
+    ensures source { replica.new.source ≡ replica.old.source }
+    ensures site { replica.new.site ≡ replica.old.site }
+    ensures read { IsErrOf result Read → failure_count reader.old < failure_count reader.new }
+    ensures write { IsErrOf result Write → failure_count writer.old < failure_count writer.new }
+    ensures reader_kept { result ≢ Err Read → KeepsCount reader.old reader.new }
+    ensures writer_kept { result ≢ Err Write → KeepsCount writer.old writer.new }
+{
     let mut greeted = false;
     let mut count = 0;
     'frames: loop {
         match frames.next(reader)? {
             Next::Frame(frame) => {
-                let turn = answer_frame(alloc, frame, greeted, replica, writer)?;
+                let answered = answer_frame(alloc, &frame, greeted, replica, writer);
+                drop(frame);
+                let turn = answered?;
                 count += 1;
                 greeted = turn.greeted;
                 match turn.ended {

@@ -3,7 +3,7 @@ use Rattle.stn_device.specs.Counted.{counted_device, KeepsCount}
 use Rattle.stn_session.specs.Session.{opening}
 use Rattle.stn_stream.specs.Stream.{pending, IsReading}
 use Rattle.stn_session.proofs.Sessions.{Progress}
-use Rattle.stn_session.proofs.session.serve.Given as goal
+use Rattle.stn_session.proofs.session.serve_frames.Given as goal
 
 abbrev pub invariant-frames : goal.invariant-frames
 invariant-frames g l = record {

@@ -1,0 +1,20 @@
+use Rattle.std.proofs.lemmas.Result.{err_from_is_err_and}
+use Rattle.stn_session.proofs.Exchanges.{next_lost, next_refused, records_answered}
+use Rattle.stn_session.proofs.exchange.take_records.Goals as goal
+
+pub returns-in_err-frame-clause-leads : goal.returns-in_err-frame-clause-leads
+returns-in_err-frame-clause-leads g c = λ first before came.
+    let p = err_from_is_err_and c.from_residual.result c.from_residual.ensures.1 in
+    rw (p.1, p.2) (next_lost _ _ _ _ _ c.args.frames.now c.next_reply.new.frames _ _ came tt c.in_err-frame.field-0.0 c.in_err-frame.ensures.finds)
+
+pub returns-in_err-theirs-clause-leads : goal.returns-in_err-theirs-clause-leads
+returns-in_err-theirs-clause-leads g c = λ first before came.
+    let p = err_from_is_err_and c.from_residual-in_err-theirs.result c.from_residual-in_err-theirs.ensures.1 in
+    rw (p.1, p.2)
+    (next_refused _ _ _ _ _ c.args.frames.now c.next_reply.new.frames _ _ came c.in_ok-frame.frame c.in_ok-frame.ensures.finds c.in_err-theirs.field-0.0
+    (c.in_err-theirs.ensures.refused c.args.replica.now.source c.args.replica.now.state))
+
+pub returns-clause-leads : goal.returns-clause-leads
+returns-clause-leads g c = λ first before came.
+    records_answered _ _ _ _ _ c.args.frames.now c.next_reply.new.frames _ came c.in_ok-frame.frame c.in_ok-frame.ensures.finds c.in_ok-theirs.theirs c.take_in.new.replica.state
+    c.in_ok-theirs.ensures.records c.take_in.result c.take_in.ensures.taken c.take_in.ensures.refused c.take_in.ensures.kept

@@ -1,0 +1,85 @@
+use Rattle.std.proofs.Common.{◌+◌, ◌≤◌, length, refl, sym, ap, subst, ◌∙◌, arith}
+use Rattle.std.proofs.lemmas.Result.{err_from_is_err_and}
+use Rattle.stn_wire.specs.Frame.{content}
+use Rattle.stn_stream.specs.Held.{Stream}
+use Rattle.stn_stream.specs.Stream.{pending}
+use Rattle.stn_session.proofs.Sessions.{begun, closes, cuts, stream_fails, refuses, refusal_fails, frame_fails, frame_answered, frame_ends}
+use Rattle.stn_stream.proofs.Streams.{count_fits, measure_falls}
+use Rattle.stn_session.proofs.session.serve_frames.Goals as goal
+
+pub frames-init : goal.frames-init
+frames-init g c = record {
+  reading = ap (λ (s : Stream). s.broken) c.requires.fresh;
+  progress = begun c.args.replica.now.source c.args.replica.now.state _ _ (pending c.args.frames.now) c.args.frames.now.count (ap pending c.requires.fresh) (ap (λ (s : Stream). s.count) c.requires.fresh);
+  source = refl;
+  site = refl;
+  few = subst (λ (s : Stream). 0 + length (pending s) ≤ s.count) (sym c.requires.fresh) (omega arith);
+  reader_kept = refl;
+  writer_kept = refl;
+}
+
+pub returns-in_err-frame-clause-broken : goal.returns-in_err-frame-clause-broken
+returns-in_err-frame-clause-broken g c =
+    let p = err_from_is_err_and c.from_residual.result c.from_residual.ensures.1 in
+    let gave = c.in_err-frame.ensures.gives in
+    rw (p.1, p.2) (stream_fails _ _ _ _ _ _ _ _ _ _ _ c.frames.invariant.progress _ gave.bytes gave.consumed g.row.A.Denot c.next.new.self c.in_err-frame.field-0.0 gave.next gave.counted)
+
+pub returns-in_err-turn-in-Frame-clause-broken : goal.returns-in_err-turn-in-Frame-clause-broken
+returns-in_err-turn-in-Frame-clause-broken g c =
+    let p = err_from_is_err_and c.from_residual-in_err-turn-in-Frame.result c.from_residual-in_err-turn-in-Frame.ensures.1 in
+    let gave = rw c.in-Frame.is at c.in_ok-frame.ensures.gives in
+    rw (p.1, p.2)
+    (frame_fails _ _ _ _ _ _ _ _ _ _ _ c.frames.invariant.progress _ gave.bytes gave.consumed gave.counted.1 (content c.in-Frame.frame) (pending c.next.new.self) gave.next.0 gave.next.1 _
+    c.answer_frame-answered.new.replica.state c.in_err-turn-in-Frame.field-0.0 c.in_err-turn-in-Frame.ensures.wrote)
+
+pub frames-smaller : goal.frames-smaller
+frames-smaller g c =
+    let gave = rw c.in-Frame.is at c.in_ok-frame.ensures.gives in
+    measure_falls (pending c.frames.frames) gave.bytes (pending c.next.new.self) (content c.in-Frame.frame) gave.next.1 c.frames.frames.count c.next.new.self.count gave.counted.0 gave.counted.1
+
+pub frames-preserved : goal.frames-preserved
+frames-preserved g c =
+    let gave = rw c.in-Frame.is at c.in_ok-frame.ensures.gives in
+    let wrote = c.in_ok-turn-in-Frame.ensures.wrote in
+    let i = c.frames.invariant in
+    record {
+      reading = gave.next.2;
+      progress = frame_answered _ _ _ _ _ _ _ _ _ _ _ i.progress _ gave.bytes gave.consumed gave.counted.1 (content c.in-Frame.frame) (pending c.next.new.self) gave.next.0 gave.next.1 _
+          c.answer_frame-answered.new.replica.state wrote.0 wrote.1 wrote.3 wrote.2 c.in_ok-turn-in-Frame.turn.greeted wrote.4 (sym wrote.5 ∙ c.in-None.is)
+          c.next.new.self.count gave.counted.0 c.answer_frame-answered.new.replica.source c.in_ok-turn-in-Frame.ensures.source;
+      source = c.in_ok-turn-in-Frame.ensures.source ∙ i.source;
+      site = c.in_ok-turn-in-Frame.ensures.site ∙ i.site;
+      few = count_fits (pending c.frames.frames) gave.bytes (pending c.next.new.self) (content c.in-Frame.frame) gave.next.1 c.frames.frames.count c.next.new.self.count gave.counted.0 c.frames.count i.few;
+      reader_kept = c.in_ok-frame.ensures.kept (λ e. cc) ∙ i.reader_kept;
+      writer_kept = c.in_ok-turn-in-Frame.ensures.kept (λ e. cc) ∙ i.writer_kept;
+    }
+
+pub returns-in-Some-clause-served : goal.returns-in-Some-clause-served
+returns-in-Some-clause-served g c =
+    let gave = rw c.in-Frame.is at c.in_ok-frame.ensures.gives in
+    let wrote = c.in_ok-turn-in-Frame.ensures.wrote in
+    frame_ends _ _ _ _ _ _ _ _ _ _ _ c.frames.invariant.progress _ gave.bytes gave.consumed gave.counted.1 (content c.in-Frame.frame) (pending c.next.new.self) gave.next.0 gave.next.1 _
+    c.answer_frame-answered.new.replica.state wrote.0 wrote.1 wrote.3 wrote.2 c.in_ok-turn-in-Frame.turn.greeted wrote.4 c.in-Some.code (sym wrote.5 ∙ c.in-Some.is)
+
+pub returns-in_err-refuse-in-Faulty-clause-broken : goal.returns-in_err-refuse-in-Faulty-clause-broken
+returns-in_err-refuse-in-Faulty-clause-broken g c =
+    let p = err_from_is_err_and c.from_residual-in_err-refuse-in-Faulty.result c.from_residual-in_err-refuse-in-Faulty.ensures.1 in
+    let gave = rw c.in-Faulty.is at c.in_ok-frame.ensures.gives in
+    rw (p.1, p.2)
+    (refusal_fails _ _ _ _ _ _ _ _ _ _ _ c.frames.invariant.progress _ gave.bytes gave.consumed gave.counted.1 c.in-Faulty.fault gave.next _ c.code-code.result c.code-code.ensures
+    c.in_err-refuse-in-Faulty.field-0.0 c.in_err-refuse-in-Faulty.ensures.wrote)
+
+pub returns-in-Faulty-clause-served : goal.returns-in-Faulty-clause-served
+returns-in-Faulty-clause-served g c =
+    let gave = rw c.in-Faulty.is at c.in_ok-frame.ensures.gives in
+    refuses _ _ _ _ _ _ _ _ _ _ _ c.frames.invariant.progress _ gave.bytes gave.consumed gave.counted.1 c.in-Faulty.fault gave.next _ c.code-code.result c.code-code.ensures c.in_ok-refuse-in-Faulty.ensures.wrote
+
+pub returns-in-Closed-clause-served : goal.returns-in-Closed-clause-served
+returns-in-Closed-clause-served g c =
+    let gave = rw c.in-Closed.is at c.in_ok-frame.ensures.gives in
+    closes _ _ _ _ _ _ _ _ _ _ _ c.frames.invariant.progress _ gave.bytes gave.consumed gave.counted.1 gave.next
+
+pub returns-in-Cut-clause-served : goal.returns-in-Cut-clause-served
+returns-in-Cut-clause-served g c =
+    let gave = rw c.in-Cut.is at c.in_ok-frame.ensures.gives in
+    cuts _ _ _ _ _ _ _ _ _ _ _ c.frames.invariant.progress _ gave.bytes gave.consumed gave.counted.1 gave.next.0 gave.next.1
