@@ -179,7 +179,7 @@ fn take_same<R: Read, A: Allocator + Copy>(
     ensures kept { result ≢ Err Read → KeepsCount reader.old reader.new }
 {
     let frame = next_reply(frames, reader)?;
-    same_of(frame)
+    same_of(&frame)
 }
 
 // The second reply.
@@ -237,14 +237,14 @@ fn next_reply<R: Read, A: Allocator + Copy>(
 }
 
 // SAME, or why another frame is refused.
-fn same_of<A: Allocator>(frame: Frame<A>) -> Result<(), ReplyFault>
-    ensures same { OnOk result (content frame ≡ same) }
-    ensures refused { IfErr result (λ fault. (state : Content) → greeted_by state (content frame) ≡ at_stage (failed fault) state) }
+fn same_of<A: Allocator>(frame: &Frame<A>) -> Result<(), ReplyFault>
+    ensures same { OnOk result (content frame.now ≡ same) }
+    ensures refused { IfErr result (λ fault. (state : Content) → greeted_by state (content frame.now) ≡ at_stage (failed fault) state) }
     ensures read { result ≢ Err Read }
 {
     match frame {
         Frame::Same => Ok(()),
-        Frame::Refused(code) => Err(ReplyFault::Refused(code)),
+        Frame::Refused(code) => Err(ReplyFault::Refused(*code)),
         _ => Err(ReplyFault::Reply),
     }
 }
