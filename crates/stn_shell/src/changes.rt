@@ -175,7 +175,9 @@ fn take_other<S: Store>(
         (λ failure. WithLog (S.entries store.now) other.now site (IsMergeRefusal replica.old) (Some failure) ⊎ IsLack S.fails failure) }
 {
     let theirs = store.load(other, site)?;
-    take_in(replica, &theirs)
+    let taken = take_in(replica, &theirs);
+    drop(theirs);
+    taken
 }
 
 /// A copy of a text.

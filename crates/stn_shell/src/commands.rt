@@ -117,7 +117,9 @@ fn make<S: Store>(
         (S.entries store.old) (S.entries store.new) log.now.name.now) }
 {
     let replica = opened(alloc, log.site, source)?;
-    save_made(alloc, store, log.name, &replica)
+    let text = save_made(alloc, store, log.name, &replica);
+    drop(replica);
+    text
 }
 
 // Makes the log of the loosened plan of a source, under a name that is free.
@@ -135,7 +137,9 @@ fn make_loose<S: Store>(
         (S.entries store.old) (S.entries store.new) log.now.name.now) }
 {
     let replica = loosen(alloc, log.site, source, tolerance)?;
-    save_made(alloc, store, log.name, &replica)
+    let text = save_made(alloc, store, log.name, &replica);
+    drop(replica);
+    text
 }
 
 // Saves a new log, under a name that is free: what is printed for it.
@@ -251,7 +255,9 @@ fn change_held<S: Store>(
         (IsUnchanged S.fails (S.entries store.old) (S.entries store.new) log.now asked.now) }
 {
     let mut replica = store.load(log.name, log.site)?;
-    save_changed(alloc, store, log, &mut replica, asked)
+    let text = save_changed(alloc, store, log, &mut replica, asked);
+    drop(replica);
+    text
 }
 
 // Changes the replica of a log, and saves the log.
@@ -362,7 +368,9 @@ fn say_of<S: Store>(
         (λ failure. WithLog (S.entries store.now) log.now.name.now log.now.site (IsQueryRefusal query.now) (Some failure) ⊎ IsLack S.fails failure) }
 {
     let replica = store.load(log.name, log.site)?;
-    say(alloc, &replica, query)
+    let text = say(alloc, &replica, query);
+    drop(replica);
+    text
 }
 
 fn report_of<S: Store>(alloc: Global, store: &mut S, log: &SiteLog<'_>) -> Result<Vec<u8>, Failure>
@@ -417,7 +425,9 @@ fn check_of<S: Store>(
 {
     let times = read_times(alloc, words)?;
     let replica = store.load(log.name, log.site)?;
-    check(alloc, &replica, &times)
+    let text = check(alloc, &replica, &times);
+    drop(replica);
+    text
 }
 
 fn rehearse_of<S: Store>(

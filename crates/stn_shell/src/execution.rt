@@ -1,12 +1,17 @@
 //! A task, from its words to its status.
 
-ghost use Rattle.std.specs.Prelude.{◌≡◌, ◌⊎◌, ◌<◌, ◌≤◌, ◌-◌, ◌*◌, ◌^◌, ◌++◌, [], ◌∷◌, map, codes, IfOk, IfErr, OnOk};
+ghost use Rattle.std.specs.Prelude.{◌≡◌, ◌⊎◌, ◌<◌, ◌≤◌, ◌-◌, ◌*◌, ◌^◌, ◌++◌, [], ◌∷◌, map, codes, None, Ok, ⊤, IfOk, IfErr, OnOk, MatchResult};
 ghost use Rattle.clap.specs.Words.{kind_of};
 ghost use Rattle.stn_device.specs.Counted.{failure_count};
+ghost use Rattle.stn_exec.specs.Effect.{and_then};
 ghost use Rattle.stn_shell.specs.Carried.{RunsScript, StopsScript, ServesAt, StopsAt, SendsFrom, StopsFrom, Answers, StopsCommand, IsCarriedOut, Stops, StopsListening};
-ghost use Rattle.stn_shell.specs.Executed.{IsSaid, IsExecuted};
-ghost use Rattle.stn_shell.specs.Printing.{device_of, Prints};
-ghost use Rattle.stn_store.specs.Store.{Opens, IsUnopened, IsLack};
+ghost use Rattle.stn_shell.specs.Connections.{Serves, StopsServing, Sends, StopsSending};
+ghost use Rattle.stn_shell.specs.Executed.{IsSaid, IsExecuted, Ends};
+ghost use Rattle.stn_shell.specs.Printing.{Device, device_of, Prints};
+ghost use Rattle.stn_shell.specs.Tasks.{task_of};
+ghost use Rattle.stn_store.specs.Store.{IsLack};
+ghost use Rattle.stn_store.specs.declared.failure.Failure.TheVariants.{Failed};
+ghost use Rattle.stn_store.specs.declared.failure.Fault.TheVariants as fault;
 ghost use Rattle.std.specs.Duration.{as_nanos};
 
 use crate::command::{LogCommand, SiteLog, Task};
@@ -22,7 +27,7 @@ use std::rt::Files;
 use std::time::{Clock, Duration};
 use stn_device::{Counted, write_whole};
 use stn_exec::run;
-use stn_line::{LineFault, line};
+use stn_line::{Line, LineFault, line};
 use stn_replica::Replica;
 use stn_store::{Failure, Fault, FileStore, Store};
 
@@ -47,16 +52,37 @@ pub fn execute<
 {
     let alloc = rt.alloc();
     match line(alloc, words) {
-        Ok(line) => match do_task(rt, &mut FileStore::new(rt), &Task::of(line), reader, out) {
-            Ok(status) => status,
-            Err(failure) => {
-                tell_failure(alloc, failure, out, err);
-                1
-            }
-        },
+        Ok(line) => do_line(rt, line, reader, out, err),
         Err(LineFault::Words(error)) => tell_words(alloc, &error, out, err),
         Err(LineFault::Memory) => {
             tell_fault(Fault::Memory, err);
+            1
+        }
+    }
+}
+
+// Does what a line asks for, and says the status.
+fn do_line<
+    T: Files<File = File> + AllocGlobal + Clock + Net<Listener = TcpListener, Stream = TcpStream>,
+    R: Read,
+    W: Write,
+    E: Write,
+>(rt: &T, line: Line<'_>, reader: &mut Counted<R>, out: &mut Counted<W>, err: &mut Counted<E>) -> u8
+    requires reader_counts { failure_count reader.old < 2 ^ 64 - 1 }
+    requires out_counts { failure_count out.old < 2 ^ 64 - 1 }
+    ensures status { result ≤ 1 }
+    ensures ended { Ends (λ _. ⊤) None None (task_of line.entry)
+        (device_of R.remaining reader.old) (device_of R.remaining reader.new)
+        (device_of W.contents out.old) (device_of W.contents out.new)
+        (device_of E.contents err.old) (device_of E.contents err.new) result }
+{
+    let task = Task::of(line);
+    let done = do_task(rt, &mut FileStore::new(rt), &task, reader, out);
+    drop(task);
+    match done {
+        Ok(status) => status,
+        Err(failure) => {
+            tell_failure(rt.alloc(), failure, out, err);
             1
         }
     }
@@ -107,11 +133,11 @@ fn do_task<
 ) -> Result<u8, Failure>
     requires reader_counts { failure_count reader.old < 2 ^ 64 - 1 }
     requires out_counts { failure_count out.old < 2 ^ 64 - 1 }
-    ensures status { IfOk result (λ status. status ≤ 1) }
-    ensures done { IfOk result (IsCarriedOut (S.entries store.old) (S.entries store.new) task.now
+    ensures { MatchResult result
+        (λ status. (status ≤ 1) × IsCarriedOut (S.entries store.old) (S.entries store.new) task.now
         (device_of R.remaining reader.old) (device_of R.remaining reader.new)
-        (device_of W.contents out.old) (device_of W.contents out.new)) }
-    ensures stopped { IfErr result (Stops S.fails (S.entries store.old) (S.entries store.new) task.now
+        (device_of W.contents out.old) (device_of W.contents out.new) status)
+        (Stops S.fails (S.entries store.old) (S.entries store.new) task.now
         (device_of R.remaining reader.old) (device_of R.remaining reader.new)
         (device_of W.contents out.old) (device_of W.contents out.new)) }
 {
@@ -122,22 +148,25 @@ fn do_task<
             address,
             count,
             seconds,
-        } => {
-            serve_at(rt, store, log, *address, *count, limit(*seconds), out)?;
-            Ok(0)
-        }
+        } => status_of(serve_at(rt, store, log, *address, *count, limit(*seconds), out)),
         Task::Send {
             log,
             address,
             seconds,
-        } => {
-            send_to(rt, store, log, *address, limit(*seconds), out)?;
-            Ok(0)
-        }
+        } => status_of(send_to(rt, store, log, *address, limit(*seconds), out)),
         Task::Command { log, command } => {
-            do_command(rt.alloc(), store, log, command, out)?;
-            Ok(0)
+            status_of(do_command(rt.alloc(), store, log, command, out))
         }
+    }
+}
+
+// The status of what was done: 0.
+fn status_of(done: Result<(), Failure>) -> Result<u8, Failure>
+    ensures { result ≡ and_then done (λ _. Ok 0) }
+{
+    match done {
+        Ok(()) => Ok(0),
+        Err(failure) => Err(failure),
     }
 }
 
@@ -197,29 +226,53 @@ fn serve_at<
     limit: Duration,
     out: &mut Counted<W>,
 ) -> Result<(), Failure>
-    ensures done { OnOk result (ServesAt (S.entries store.old) (S.entries store.new) log.now count
-        (device_of W.contents out.old) (device_of W.contents out.new)) }
-    ensures stopped { IfErr result (StopsAt S.fails (S.entries store.old) (S.entries store.new) log.now count
+    ensures { MatchResult result
+        (λ _. ServesAt (S.entries store.old) (S.entries store.new) log.now count
+        (device_of W.contents out.old) (device_of W.contents out.new))
+        (StopsAt S.fails (S.entries store.old) (S.entries store.new) log.now count
         (device_of W.contents out.old) (device_of W.contents out.new)) }
 {
-    let mut replica = open(store, log)?;
+    let mut replica = store.load(log.name, log.site)?;
+    let served = serve_replica(rt, store, log, address, count, limit, &mut replica, out);
+    drop(replica);
+    served
+}
+
+// Serves the replica of a log that can be saved.
+fn serve_replica<
+    S: Store,
+    T: AllocGlobal + Clock + Net<Listener = TcpListener, Stream = TcpStream>,
+    W: Write,
+>(
+    rt: &T,
+    store: &mut S,
+    log: &SiteLog<'_>,
+    address: &str,
+    count: u16,
+    limit: Duration,
+    replica: &mut Replica<Global>,
+    out: &mut Counted<W>,
+) -> Result<(), Failure>
+    ensures { MatchResult result
+        (λ _. (bound : Device) × Prints (device_of W.contents out.old) bound (codes "listening" ++ 10 ∷ [])
+        × Serves count replica.old.source log.now replica.old.state replica.new.state
+        (S.entries store.old) (S.entries store.new) bound (device_of W.contents out.new))
+        (λ failure. (IsLack S.fails failure × (S.entries store.new ≡ S.entries store.old)
+        × (device_of W.contents out.new ≡ device_of W.contents out.old))
+        ⊎ ((S.entries store.new ≡ S.entries store.old)
+        × StopsListening (device_of W.contents out.old) (device_of W.contents out.new) failure)
+        ⊎ ((bound : Device) × Prints (device_of W.contents out.old) bound (codes "listening" ++ 10 ∷ [])
+        × StopsServing S.fails count replica.old.source log.now replica.old.state replica.new.state
+        (S.entries store.old) (S.entries store.new) bound (device_of W.contents out.new) failure)) }
+{
+    store.can_save(log.name)?;
     let listener = listen(rt, address, out)?;
     let service = Service {
         listener: &listener,
         count,
         limit,
     };
-    serve_each(rt, store, &service, log, &mut replica, out)
-}
-
-// The replica of a log that can be saved.
-fn open<S: Store>(store: &S, log: &SiteLog<'_>) -> Result<Replica<Global>, Failure>
-    ensures opened { IfOk result (λ replica. Opens (S.entries store.now) log.now.name.now log.now.site replica) }
-    ensures failed { IfErr result (λ failure. IsUnopened (S.entries store.now) log.now.name.now failure ⊎ IsLack S.fails failure) }
-{
-    let replica = store.load(log.name, log.site)?;
-    store.can_save(log.name)?;
-    Ok(replica)
+    serve_each(rt, store, &service, log, replica, out)
 }
 
 // Binds an address, and says so.
@@ -250,12 +303,36 @@ fn send_to<S: Store, T: AllocGlobal + Clock + Net<Stream = TcpStream>, W: Write>
     limit: Duration,
     out: &mut Counted<W>,
 ) -> Result<(), Failure>
-    ensures done { OnOk result (SendsFrom (S.entries store.old) (S.entries store.new) log.now
-        (device_of W.contents out.old) (device_of W.contents out.new)) }
-    ensures stopped { IfErr result (StopsFrom S.fails (S.entries store.old) (S.entries store.new) log.now
+    ensures { MatchResult result
+        (λ _. SendsFrom (S.entries store.old) (S.entries store.new) log.now
+        (device_of W.contents out.old) (device_of W.contents out.new))
+        (StopsFrom S.fails (S.entries store.old) (S.entries store.new) log.now
         (device_of W.contents out.old) (device_of W.contents out.new)) }
 {
     let mut replica = store.load(log.name, log.site)?;
+    let sent = send_replica(rt, store, log, address, limit, &mut replica, out);
+    drop(replica);
+    sent
+}
+
+// Exchanges what the replica of a log holds with the site that serves at an address.
+fn send_replica<S: Store, T: AllocGlobal + Clock + Net<Stream = TcpStream>, W: Write>(
+    rt: &T,
+    store: &mut S,
+    log: &SiteLog<'_>,
+    address: &str,
+    limit: Duration,
+    replica: &mut Replica<Global>,
+    out: &mut Counted<W>,
+) -> Result<(), Failure>
+    ensures { MatchResult result
+        (λ _. Sends replica.old.source log.now replica.old.state replica.new.state
+        (S.entries store.old) (S.entries store.new) (device_of W.contents out.old) (device_of W.contents out.new))
+        (λ failure. ((S.entries store.new ≡ S.entries store.old) × (failure ≡ Failed fault.Net)
+        × (device_of W.contents out.new ≡ device_of W.contents out.old))
+        ⊎ StopsSending S.fails replica.old.source log.now replica.old.state replica.new.state
+        (S.entries store.old) (S.entries store.new) (device_of W.contents out.old) (device_of W.contents out.new) failure) }
+{
     let peer = Peer::connect(rt, address, limit)?;
-    exchange(rt, store, &peer, log, &mut replica, out)
+    exchange(rt, store, &peer, log, replica, out)
 }

@@ -24,7 +24,9 @@ pub fn take_log<S: Store>(
 {
     if store.is_there(log.name)? {
         let said = store.load(log.name, log.site)?;
-        take_in(replica, &said)
+        let taken = take_in(replica, &said);
+        drop(said);
+        taken
     } else {
         Ok(())
     }

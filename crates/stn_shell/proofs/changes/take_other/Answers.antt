@@ -10,5 +10,5 @@ returns-in_err-theirs g c =
 
 pub returns : goal.returns
 returns g c =
-    let taken = c.take_in.ensures in
-    taken_in _ _ _ _ _ c.in_ok-theirs.theirs _ c.take_in.result c.in_ok-theirs.ensures.opened taken.same taken.left taken.accepted taken.refused
+    let taken = c.take_in-taken.ensures in
+    taken_in _ _ _ _ _ c.in_ok-theirs.theirs _ c.take_in-taken.result c.in_ok-theirs.ensures.opened taken.same taken.left taken.accepted taken.refused

@@ -7,8 +7,8 @@ returns-in_err-replica g c =
     let p = err_from_is_err_and c.from_residual.result c.from_residual.ensures.1 in
     rw (p.1, p.2) (⊎_elim (λ unopened. inl (inl (_, unopened, refl))) inr c.in_err-replica.ensures.failed, refl)
 
-pub save_changed-requires : goal.save_changed-requires
-save_changed-requires g c = c.in_ok-replica.ensures.opened
+pub save_changed-text-requires : goal.save_changed-text-requires
+save_changed-text-requires g c = c.in_ok-replica.ensures.opened
 
 pub returns : goal.returns
-returns g c = c.save_changed.ensures
+returns g c = c.save_changed-text.ensures

@@ -14,7 +14,7 @@ returns-in_err-replica g c =
     rw (p.1, p.2) (record { cause = ⊎_elim (λ unopened. inl (rw c.in_ok-times.ensures.said (inl (_, unopened, refl)))) inr c.in_err-replica.ensures.failed; unsaved = refl })
 
 pub returns : goal.returns
-returns g c = MatchResult-weaker c.check.result (rw c.deref.ensures.value at c.check.ensures)
+returns g c = MatchResult-weaker c.check-text.result (rw c.deref.ensures.value at c.check-text.ensures)
     (λ text told. (
       record {
         ours = c.in_ok-replica.replica;

@@ -12,6 +12,6 @@ returns-in_err-replica g c =
 pub returns : goal.returns
 returns g c =
     let is = c.in_ok-replica.ensures in
-    MatchResult-weaker c.save_made.result c.save_made.ensures
+    MatchResult-weaker c.save_made-text.result c.save_made-text.ensures
     (λ text saved. made_log _ _ _ _ c.in_ok-replica.replica _ is.source is.empty is.accepted saved)
     (λ failure unsaved. record { cause = inr unsaved.cause; unsaved = unsaved.unsaved })

@@ -13,12 +13,12 @@ pub returns : goal.returns
 returns g c =
     let is = c.in_ok-replica.ensures in
     let state = c.in_ok-replica.replica.state in
-    MatchResult-weaker c.save_made.result c.save_made.ensures
+    MatchResult-weaker c.save_made-text.result c.save_made-text.ensures
     (λ text saved. (
       record {
         state = state;
         loosened = is.loosened;
-        saved = subst (λ source. IsNewLog (g.S.Store.entries c.args.store.now) (g.S.Store.entries c.save_made.new.store) c.args.log.now.name.now source state text.items) is.source saved;
+        saved = subst (λ source. IsNewLog (g.S.Store.entries c.args.store.now) (g.S.Store.entries c.save_made-text.new.store) c.args.log.now.name.now source state text.items) is.source saved;
       },
       is.accepted,
     ))

@@ -12,6 +12,6 @@ pub returns : goal.returns
 returns g c =
     let ours = c.in_ok-replica.replica in
     let opened = c.in_ok-replica.ensures.opened in
-    MatchResult-weaker c.say.result c.say.ensures
+    MatchResult-weaker c.say-text.result c.say-text.ensures
     (λ text said. record { ours = ours; opened = opened; said = said.0; accepted = said.1 })
     (λ failure why. ⊎_elim (λ memory. inr (lack_of_memory _ _ memory)) (λ refusal. inl (inr (ours, opened, refusal))) why)

@@ -1,31 +1,19 @@
-use Rattle.std.proofs.Common.{refl, inl, inr}
-use Rattle.std.proofs.lemmas.Result.{on_ok_weaker, IfErr-weaker, err_from_is_err_and}
-use Rattle.stn_shell.specs.Printing.{device_of}
+use Rattle.std.proofs.Common.{refl, inl, inr, ⊎_elim}
+use Rattle.std.proofs.lemmas.Result.{err_from_is_err_and, MatchResult-weaker}
 use Rattle.stn_shell.proofs.execution.serve_at.Goals as goal
 
-pub returns-in_err-listener-clause-stopped : goal.returns-in_err-listener-clause-stopped
-returns-in_err-listener-clause-stopped g c =
-    let p = err_from_is_err_and c.from_residual-in_err-listener.result c.from_residual-in_err-listener.ensures.1 in
-    rw (p.1, p.2) (inr (inl (c.in_ok-replica.replica, c.in_ok-replica.ensures.opened, refl, c.in_err-listener.ensures.failed)))
+pub returns-in_err-replica : goal.returns-in_err-replica
+returns-in_err-replica g c =
+    let p = err_from_is_err_and c.from_residual.result c.from_residual.ensures.1 in
+    rw (p.1, p.2) (inl (c.in_err-replica.ensures.failed, refl, refl))
 
-pub returns-clause-done : goal.returns-clause-done
-returns-clause-done g c = on_ok_weaker c.serve_each.result (λ served. record {
-  found = c.in_ok-replica.replica;
-  left = c.serve_each.new.replica.state;
-  bound = device_of g.W.Write.contents c.listen.new.out;
-  opened = c.in_ok-replica.ensures.opened;
-  listens = c.in_ok-listener.ensures.said;
-  served = served;
-}) c.serve_each.ensures.served
-
-pub returns-clause-stopped : goal.returns-clause-stopped
-returns-clause-stopped g c = IfErr-weaker c.serve_each.result _ _
-    (λ failure stopped. inr (inr (
-      c.in_ok-replica.replica,
-      c.serve_each.new.replica.state,
-      device_of g.W.Write.contents c.listen.new.out,
-      c.in_ok-replica.ensures.opened,
-      c.in_ok-listener.ensures.said,
-      stopped,
-    )))
-    c.serve_each.ensures.stopped
+pub returns : goal.returns
+returns g c =
+    let found = c.in_ok-replica.replica in
+    let left = c.serve_replica-served.new.replica.state in
+    let opened = c.in_ok-replica.ensures.opened in
+    MatchResult-weaker c.serve_replica-served.result c.serve_replica-served.ensures
+    (λ _ all. record { found = found; left = left; bound = all.0; opened = opened; listens = all.1; served = all.2 })
+    (λ failure why. ⊎_elim (λ lack. inl (inr lack.0, lack.1, lack.2))
+    (λ rest. ⊎_elim (λ unheard. inr (inl (found, opened, unheard.0, unheard.1)))
+    (λ stop. inr (inr (found, left, stop.0, opened, stop.1, stop.2))) rest) why)

@@ -6,10 +6,10 @@ use Rattle.stn_shell.proofs.joining.take_log.Goals as goal
 
 pub returns-in_ok-said-clause-taken : goal.returns-in_ok-said-clause-taken
 returns-in_ok-said-clause-taken g c =
-    join_taken c.take_in.result _ c.args.log.now _ _ _ c.in_ok-said.ensures.opened c.take_in.ensures.same c.take_in.ensures.left
+    join_taken c.take_in-taken.result _ c.args.log.now _ _ _ c.in_ok-said.ensures.opened c.take_in-taken.ensures.same c.take_in-taken.ensures.left
 
 pub returns-in_ok-said-clause-untaken : goal.returns-in_ok-said-clause-untaken
-returns-in_ok-said-clause-untaken g c = IfErr-weaker c.take_in.result _ _
+returns-in_ok-said-clause-untaken g c = IfErr-weaker c.take_in-taken.result _ _
     (λ failure refused. ⊎_elim (λ memory. inl (lack_of_memory _ _ memory))
     (λ refusal. inr (inr (c.in_ok-said.said, c.in_ok-said.ensures.opened, refusal))) refused)
-    c.take_in.ensures.refused
+    c.take_in-taken.ensures.refused

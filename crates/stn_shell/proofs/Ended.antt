@@ -1,0 +1,19 @@
+-- How a call ended, of what is known of it where it did its work and where it did not.
+use Rattle.std.proofs.Common.{◌≡◌, Result, Ok, Err, OnOk, IfOk, IfErr, MatchResult}
+use Rattle.stn_exec.specs.Effect.{and_then}
+
+pub ended : {T E : Type 0} (call : Result T E) {Done Does : Type 0} {Stopped Stops : E → Type 0} → OnOk call Done → IfErr call Stopped
+    → (Done → Does) → ((fault : E) → Stopped fault → Stops fault) → MatchResult call (λ _. Does) Stops
+ended (Ok value) done stopped does stops = does done
+ended (Err fault) done stopped does stops = stops fault stopped
+
+pub both : {T E : Type 0} (call : Result T E) (First Second : T → Type 0) (Stops : E → Type 0) → IfOk call First → IfOk call Second
+    → IfErr call Stops → MatchResult call (λ value. First value × Second value) Stops
+both (Ok value) First Second Stops first second stops = (first, second)
+both (Err fault) First Second Stops first second stops = stops
+
+-- the value that stands for what was done
+pub told_as : {T V E : Type 0} (value : V) (call : Result T E) (told : Result V E) (Does : V → Type 0) (Stops : E → Type 0)
+    → told ≡ and_then call (λ _. Ok value) → MatchResult call (λ _. Does value) Stops → MatchResult told Does Stops
+told_as value (Ok done) told Does Stops is all = rw is all
+told_as value (Err fault) told Does Stops is all = rw is all
