@@ -1,0 +1,37 @@
+use Rattle.stn_lift.proofs.timeline.action_of.Goals as goal
+
+pub returns-in_default-clause-arity : goal.returns-in_default-clause-arity
+returns-in_default-clause-arity g c = tt
+
+pub returns-in_default-clause-sound : goal.returns-in_default-clause-sound
+returns-in_default-clause-sound g c = tt
+
+pub returns-in_default-clause-last : goal.returns-in_default-clause-last
+returns-in_default-clause-last g c = tt
+
+pub returns-then-len-clause-arity : goal.returns-then-len-clause-arity
+returns-then-len-clause-arity g c = tt
+
+pub returns-then-len-clause-sound : goal.returns-then-len-clause-sound
+returns-then-len-clause-sound g c = tt
+
+pub returns-then-len-clause-last : goal.returns-then-len-clause-last
+returns-then-len-clause-last g c = tt
+
+pub returns-then-differs-clause-arity : goal.returns-then-differs-clause-arity
+returns-then-differs-clause-arity g c = tt
+
+pub returns-then-differs-clause-sound : goal.returns-then-differs-clause-sound
+returns-then-differs-clause-sound g c = tt
+
+pub returns-then-differs-clause-last : goal.returns-then-differs-clause-last
+returns-then-differs-clause-last g c = tt
+
+pub returns-then-get-gt-HORIZON-clause-arity : goal.returns-then-get-gt-HORIZON-clause-arity
+returns-then-get-gt-HORIZON-clause-arity g c = tt
+
+pub returns-then-get-gt-HORIZON-clause-sound : goal.returns-then-get-gt-HORIZON-clause-sound
+returns-then-get-gt-HORIZON-clause-sound g c = tt
+
+pub returns-then-get-gt-HORIZON-clause-last : goal.returns-then-get-gt-HORIZON-clause-last
+returns-then-get-gt-HORIZON-clause-last g c = tt
