@@ -13,11 +13,12 @@ use std::net::{Shutdown, TcpListener, TcpStream};
 use std::time::Duration;
 use std::{fs, io};
 use stn_device::Counted;
+use stn_line::SiteLog;
 use stn_log::load;
 use stn_records::Site;
 use stn_replica::Replica;
 use stn_session::{receive_replies, send_requests, serve};
-use stn_shell::{Peer, Service, SiteLog, execute, send_on, serve_on};
+use stn_shell::{Peer, Service, execute, send_on, serve_on};
 use stn_store::FileStore;
 
 // How many milliseconds a session or an exchange may take.

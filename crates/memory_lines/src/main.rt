@@ -5,8 +5,8 @@
 use anyhow::{Context, Error, bail};
 use std::alloc::Global;
 use std::io;
-use stn_line::line;
-use stn_shell::{Task, answer};
+use stn_line::{Task, task};
+use stn_shell::answer;
 use stn_store::{Failure, MemoryStore};
 
 // The words of a command line.
@@ -51,10 +51,10 @@ fn printed(alloc: Global, answered: Result<Vec<u8>, Failure>) -> Result<Vec<u8>,
 // Does the command of a line.
 fn run_line(alloc: Global, store: &mut MemoryStore, text: &str) -> Result<Vec<u8>, Error> {
     let words = words_of(alloc, text)?;
-    let Ok(line) = line(alloc, &words) else {
+    let Ok(task) = task(alloc, &words) else {
         bail!("no command");
     };
-    match Task::of(line) {
+    match task {
         Task::Command { log, command } => printed(alloc, answer(alloc, store, &log, &command)),
         _ => bail!("no command of a log"),
     }

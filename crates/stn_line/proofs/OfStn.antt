@@ -14,7 +14,7 @@ use Rattle.clap.specs.Words.{Row, Rule, Shape, Text, built, fault_of, is_simple,
 use Rattle.clap.specs.declared.builder.action.ArgAction.TheVariants.{Append, Set}
 use Rattle.clap.specs.declared.builder.value_parser.ValueParser.TheVariants.{String}
 use Rattle.stn_line.specs.Commands.{most_connections, most_read_steps, most_seconds, stn}
-use Rattle.stn_line.specs.Given.{Each, HasWords, HasWordsAmong, IsGiven, IsNumberThere, IsNumberWhereGiven, IsThere, IsThereOnLog}
+use Rattle.stn_line.specs.Given.{Each, HasWords, HasWordsAmong, IsForLog, IsGiven, IsNumberThere, IsNumberWhereGiven, IsThere, IsThereOnLog}
 use Rattle.stn_line.proofs.Values.{at_value, entered_is}
 use Rattle.stn_line.proofs.Fits.{IsPlain, ReadsPlainly, command_given}
 
@@ -111,77 +111,53 @@ pub stn_given : (words : List Text) → fault_of stn words ≡ [] → IsSomeAnd 
 stn_given words none = command_given stn words is_required all_plain none
 
 -- what each command's words hold
-pub bare_there : (rows : List Row) → HasWords (codes "bare") rows → IsThereOnLog rows × IsNumberThere (codes "STEPS") 0 most_read_steps rows
+pub bare_there : (rows : List Row) → HasWords (codes "bare") rows → IsNumberThere (codes "STEPS") 0 most_read_steps rows
 unfolding stn
-bare_there rows has = (record { log = has.0.needed refl; site = has.1.0.needed refl }, has.1.1.0.needed refl)
+bare_there rows has = has.1.1.0.needed refl
 
-pub init_there : (rows : List Row) → HasWords (codes "init") rows → IsThereOnLog rows × IsThere (codes "DOMAIN") rows × IsThere (codes "PLAN") rows
+pub init_there : (rows : List Row) → HasWords (codes "init") rows → IsThere (codes "DOMAIN") rows × IsThere (codes "PLAN") rows
 unfolding stn
-init_there rows has = (record { log = has.0.needed refl; site = has.1.0.needed refl }, has.1.1.0.needed refl, has.1.1.1.0.needed refl)
+init_there rows has = (has.1.1.0.needed refl, has.1.1.1.0.needed refl)
 
-pub loosen_there : (rows : List Row) → HasWords (codes "loosen") rows → IsThereOnLog rows × IsThere (codes "DOMAIN") rows × IsThere (codes "PLAN") rows
+pub loosen_there : (rows : List Row) → HasWords (codes "loosen") rows → IsThere (codes "DOMAIN") rows × IsThere (codes "PLAN") rows
 unfolding stn
-loosen_there rows has = (record { log = has.0.needed refl; site = has.1.0.needed refl }, has.1.1.0.needed refl, has.1.1.1.0.needed refl)
+loosen_there rows has = (has.1.1.0.needed refl, has.1.1.1.0.needed refl)
 
-pub add_there : (rows : List Row) → HasWords (codes "add") rows → IsThereOnLog rows × IsThere (codes "FROM") rows × IsThere (codes "TO") rows
+pub add_there : (rows : List Row) → HasWords (codes "add") rows → IsThere (codes "FROM") rows × IsThere (codes "TO") rows
 unfolding stn
-add_there rows has = (record { log = has.0.needed refl; site = has.1.0.needed refl }, has.1.1.0.needed refl, has.1.1.1.0.needed refl)
+add_there rows has = (has.1.1.0.needed refl, has.1.1.1.0.needed refl)
 
-pub amend_there : (rows : List Row) → HasWords (codes "amend") rows → IsThereOnLog rows × IsThere (codes "ID") rows × IsThere (codes "FROM") rows × IsThere (codes "TO") rows
+pub amend_there : (rows : List Row) → HasWords (codes "amend") rows → IsThere (codes "ID") rows × IsThere (codes "FROM") rows × IsThere (codes "TO") rows
 unfolding stn
-amend_there rows has = (record { log = has.0.needed refl; site = has.1.0.needed refl }, has.1.1.0.needed refl, has.1.1.1.0.needed refl, has.1.1.1.1.0.needed refl)
+amend_there rows has = (has.1.1.0.needed refl, has.1.1.1.0.needed refl, has.1.1.1.1.0.needed refl)
 
-pub withdraw_there : (rows : List Row) → HasWords (codes "withdraw") rows → IsThereOnLog rows × IsThere (codes "ID") rows
+pub withdraw_there : (rows : List Row) → HasWords (codes "withdraw") rows → IsThere (codes "ID") rows
 unfolding stn
-withdraw_there rows has = (record { log = has.0.needed refl; site = has.1.0.needed refl }, has.1.1.0.needed refl)
+withdraw_there rows has = has.1.1.0.needed refl
 
-pub done_there : (rows : List Row) → HasWords (codes "done") rows → IsThereOnLog rows × IsThere (codes "EVENT") rows × IsThere (codes "TIME") rows
+pub done_there : (rows : List Row) → HasWords (codes "done") rows → IsThere (codes "EVENT") rows × IsThere (codes "TIME") rows
 unfolding stn
-done_there rows has = (record { log = has.0.needed refl; site = has.1.0.needed refl }, has.1.1.0.needed refl, has.1.1.1.0.needed refl)
+done_there rows has = (has.1.1.0.needed refl, has.1.1.1.0.needed refl)
 
-pub merge_there : (rows : List Row) → HasWords (codes "merge") rows → IsThereOnLog rows × IsThere (codes "OTHER") rows
+pub merge_there : (rows : List Row) → HasWords (codes "merge") rows → IsThere (codes "OTHER") rows
 unfolding stn
-merge_there rows has = (record { log = has.0.needed refl; site = has.1.0.needed refl }, has.1.1.0.needed refl)
+merge_there rows has = has.1.1.0.needed refl
 
-pub report_there : (rows : List Row) → HasWords (codes "report") rows → IsThereOnLog rows
+pub next_there : (rows : List Row) → HasWords (codes "next") rows → IsThere (codes "NOW") rows
 unfolding stn
-report_there rows has = record { log = has.0.needed refl; site = has.1.0.needed refl }
+next_there rows has = has.1.1.0.needed refl
 
-pub next_there : (rows : List Row) → HasWords (codes "next") rows → IsThereOnLog rows × IsThere (codes "NOW") rows
+pub ready_there : (rows : List Row) → HasWords (codes "ready") rows → IsThere (codes "NOW") rows
 unfolding stn
-next_there rows has = (record { log = has.0.needed refl; site = has.1.0.needed refl }, has.1.1.0.needed refl)
+ready_there rows has = has.1.1.0.needed refl
 
-pub ready_there : (rows : List Row) → HasWords (codes "ready") rows → IsThereOnLog rows × IsThere (codes "NOW") rows
+pub why_there : (rows : List Row) → HasWords (codes "why") rows → IsThere (codes "EVENT") rows
 unfolding stn
-ready_there rows has = (record { log = has.0.needed refl; site = has.1.0.needed refl }, has.1.1.0.needed refl)
+why_there rows has = has.1.1.0.needed refl
 
-pub why_there : (rows : List Row) → HasWords (codes "why") rows → IsThereOnLog rows × IsThere (codes "EVENT") rows
+pub rehearse_there : (rows : List Row) → HasWords (codes "rehearse") rows → IsThere (codes "NOW") rows
 unfolding stn
-why_there rows has = (record { log = has.0.needed refl; site = has.1.0.needed refl }, has.1.1.0.needed refl)
-
-pub records_there : (rows : List Row) → HasWords (codes "records") rows → IsThereOnLog rows
-unfolding stn
-records_there rows has = record { log = has.0.needed refl; site = has.1.0.needed refl }
-
-pub steps_there : (rows : List Row) → HasWords (codes "steps") rows → IsThereOnLog rows
-unfolding stn
-steps_there rows has = record { log = has.0.needed refl; site = has.1.0.needed refl }
-
-pub bounds_there : (rows : List Row) → HasWords (codes "bounds") rows → IsThereOnLog rows
-unfolding stn
-bounds_there rows has = record { log = has.0.needed refl; site = has.1.0.needed refl }
-
-pub check_there : (rows : List Row) → HasWords (codes "check") rows → IsThereOnLog rows
-unfolding stn
-check_there rows has = record { log = has.0.needed refl; site = has.1.0.needed refl }
-
-pub rehearse_there : (rows : List Row) → HasWords (codes "rehearse") rows → IsThereOnLog rows × IsThere (codes "NOW") rows
-unfolding stn
-rehearse_there rows has = (record { log = has.0.needed refl; site = has.1.0.needed refl }, has.1.1.0.needed refl)
-
-pub draw_there : (rows : List Row) → HasWords (codes "draw") rows → IsThereOnLog rows
-unfolding stn
-draw_there rows has = record { log = has.0.needed refl; site = has.1.0.needed refl }
+rehearse_there rows has = has.1.1.0.needed refl
 
 pub serve_there : (rows : List Row) → HasWords (codes "serve") rows → IsThereOnLog rows × IsThere (codes "ADDR") rows × IsNumberThere (codes "COUNT") 1 most_connections rows
     × IsNumberWhereGiven (codes "seconds") 1 most_seconds rows
@@ -192,6 +168,86 @@ pub send_there : (rows : List Row) → HasWords (codes "send") rows → IsThereO
     × IsNumberWhereGiven (codes "seconds") 1 most_seconds rows
 unfolding stn
 send_there rows has = (record { log = has.0.needed refl; site = has.1.0.needed refl }, has.1.1.0.needed refl, has.1.1.1.0.taken)
+
+-- where the words of each of some commands that has a name hold a log and a site, those of the command of this name do
+log_among : (commands : List Shape) (name : Text) (rows : List Row)
+    → Each (λ s. name ≡ s.name → Each (IsGiven rows) s.rules → IsThereOnLog rows) commands → HasWordsAmong commands name rows → IsThereOnLog rows
+log_among [] name rows each has = absurd has
+log_among (s ∷ rest) name rows each has = go (bytes_eq s.name name) refl has (log_among rest name rows each.1)
+  where
+    go : (t : Bool) → bytes_eq s.name name ≡ t → IsSomeAnd (cond t (Some s) (find (λ x. bytes_eq x.name name) rest)) (λ x. Each (IsGiven rows) x.rules)
+        → (HasWordsAmong rest name rows → IsThereOnLog rows) → IsThereOnLog rows
+    go true t given more = each.0 (sym ((bytes_eq-Decides s.name name).0 t)) given
+    go false t given more = more given
+
+-- the words of each command but `run` hold a log and a site
+pub log_there : (name : Text) (rows : List Row) → HasWords name rows → name ≢ codes "run" → IsThereOnLog rows
+unfolding stn
+log_there name rows has run = log_among (built stn).subs name rows (
+  λ is _. absurd (run is),
+  (
+    λ _ given. record { log = given.0.needed refl; site = given.1.0.needed refl },
+    (
+      λ _ given. record { log = given.0.needed refl; site = given.1.0.needed refl },
+      (
+        λ _ given. record { log = given.0.needed refl; site = given.1.0.needed refl },
+        (
+          λ _ given. record { log = given.0.needed refl; site = given.1.0.needed refl },
+          (
+            λ _ given. record { log = given.0.needed refl; site = given.1.0.needed refl },
+            (
+              λ _ given. record { log = given.0.needed refl; site = given.1.0.needed refl },
+              (
+                λ _ given. record { log = given.0.needed refl; site = given.1.0.needed refl },
+                (
+                  λ _ given. record { log = given.0.needed refl; site = given.1.0.needed refl },
+                  (
+                    λ _ given. record { log = given.0.needed refl; site = given.1.0.needed refl },
+                    (
+                      λ _ given. record { log = given.0.needed refl; site = given.1.0.needed refl },
+                      (
+                        λ _ given. record { log = given.0.needed refl; site = given.1.0.needed refl },
+                        (
+                          λ _ given. record { log = given.0.needed refl; site = given.1.0.needed refl },
+                          (
+                            λ _ given. record { log = given.0.needed refl; site = given.1.0.needed refl },
+                            (
+                              λ _ given. record { log = given.0.needed refl; site = given.1.0.needed refl },
+                              (
+                                λ _ given. record { log = given.0.needed refl; site = given.1.0.needed refl },
+                                (
+                                  λ _ given. record { log = given.0.needed refl; site = given.1.0.needed refl },
+                                  (
+                                    λ _ given. record { log = given.0.needed refl; site = given.1.0.needed refl },
+                                    (
+                                      λ _ given. record { log = given.0.needed refl; site = given.1.0.needed refl },
+                                      (
+                                        λ _ given. record { log = given.0.needed refl; site = given.1.0.needed refl },
+                                        (
+                                          λ _ given. record { log = given.0.needed refl; site = given.1.0.needed refl },
+                                          tt,
+                                        ),
+                                      ),
+                                    ),
+                                  ),
+                                ),
+                              ),
+                            ),
+                          ),
+                        ),
+                      ),
+                    ),
+                  ),
+                ),
+              ),
+            ),
+          ),
+        ),
+      ),
+    ),
+  ),
+)
+    has
 
 -- the name is one of these
 IsOneOf : Text → List Text → Type 0
@@ -212,9 +268,8 @@ other : {A B : Type 0} → A ⊎ B → ¬ A → B
 other (inl a) none = absurd (none a)
 other (inr b) none = b
 
--- what is none of the other commands is the last
-pub is_send : (name : Text) (rows : List Row) → HasWords name rows
-    → name ≢ codes "run"
+-- what is none of the other commands is `draw`
+pub is_draw : (name : Text) (rows : List Row) → HasWords name rows → IsForLog name
     → name ≢ codes "bare"
     → name ≢ codes "init"
     → name ≢ codes "loosen"
@@ -232,17 +287,14 @@ pub is_send : (name : Text) (rows : List Row) → HasWords name rows
     → name ≢ codes "bounds"
     → name ≢ codes "check"
     → name ≢ codes "rehearse"
-    → name ≢ codes "draw"
-    → name ≢ codes "serve"
-    → name ≡ codes "send"
+    → name ≡ codes "draw"
 unfolding stn IsOneOf
-is_send name rows has run bare init loosen add amend withdraw done merge report next ready why records steps bounds check rehearse draw serve =
-    let behind-add = other (other (other (other (other (is_one_of (built stn).subs name rows has) run) bare) init) loosen) add in
-    let behind-report = other (other (other (other (other behind-add amend) withdraw) done) merge) report in
-    let behind-steps = other (other (other (other (other behind-report next) ready) why) records) steps in
-    let behind-draw = other (other (other (other behind-steps bounds) check) rehearse) draw in
-    let behind-serve = other behind-draw serve in
-    elim behind-serve [ inl send ↦ send | inr none ↦ absurd none ]
+is_draw name rows has is bare init loosen add amend withdraw done merge report next ready why records steps bounds check rehearse =
+    let after-add = other (other (other (other (other (is_one_of (built stn).subs name rows has) is.run) bare) init) loosen) add in
+    let after-report = other (other (other (other (other after-add amend) withdraw) done) merge) report in
+    let after-steps = other (other (other (other (other after-report next) ready) why) records) steps in
+    let after-rehearse = other (other (other after-steps bounds) check) rehearse in
+    elim after-rehearse [ inl draw ↦ draw | inr rest ↦ absurd (other (other rest is.serve) is.send) ]
 
 -- what the matches of the entered command hold, by its name
 pub entered_has : (m : ArgMatches) (r : Option (Bor Text × Bor ArgMatches)) (x : Bor Text × Bor ArgMatches) → option_map (λ p. p.0.now) r ≡ subcommand_name_of m

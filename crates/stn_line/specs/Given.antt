@@ -1,6 +1,6 @@
 -- For proofs alone: no public clause cites these words.
 -- What the words of an accepted command hold.
-use Rattle.std.specs.Prelude.{◌≡◌, true, List, [], ◌∷◌, IsSomeAnd, IfSome, ℕ, codes, ⊤, find}
+use Rattle.std.specs.Prelude.{◌≡◌, ◌≢◌, true, List, [], ◌∷◌, IsSomeAnd, IfSome, ℕ, codes, ⊤, find}
 use Rattle.std.specs.Str.{bytes_eq}
 use Rattle.clap.specs.Facts.{parser_of_value}
 use Rattle.clap.specs.Words.{Accepts, IsUnsignedIn, Row, Rule, Shape, Text, built, first_of}
@@ -42,3 +42,9 @@ IsNumberWhereGiven name least most rows = IfSome (first_of name rows) (IsUnsigne
 pub record IsThereOnLog (rows : List Row) : Type 0 where
   pub log : IsThere (codes "LOG") rows
   pub site : IsNumberThere (codes "SITE") 1 most_sites rows
+
+-- if the name is a command's, that command works on a log
+pub record IsForLog (name : Text) : Type 0 where
+  pub run : name ≢ codes "run"
+  pub serve : name ≢ codes "serve"
+  pub send : name ≢ codes "send"

@@ -1,3 +1,3 @@
 pub mod Commands
 pub mod Given
-pub mod Lines
+pub mod Tasks

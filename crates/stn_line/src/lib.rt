@@ -1,8 +1,8 @@
-//! The words of the command line: which command `stn` is to do, on which log and for which site.
+//! The words of the command line: what `stn` is asked to do, on which log and for which site.
 #![tactic(auto)]
 
-pub use reading::line;
-pub use words::{Line, LineFault};
+pub use reading::task;
+pub use words::{Asked, LineFault, LogCommand, SiteLog, Task};
 
 mod commands;
 mod help;

@@ -1,11 +1,12 @@
 ghost use Rattle.std.specs.Prelude.{◌≡◌, ◌≤◌, IfErr, IfOk, IsSomeAnd, Some, [], ℕ, codes, map, option_map};
 ghost use Rattle.clap.specs.Words.{IsUnsignedIn, fault_of, first_of, found_of, rows_of, subcommand_of, subcommand_rows_of};
 ghost use Rattle.stn_line.specs.Commands.{most_connections, most_read_steps, most_seconds, stn as program};
-ghost use Rattle.stn_line.specs.Given.{HasWords, IsThere, IsThereOnLog, IsNumberThere, IsNumberWhereGiven};
-ghost use Rattle.stn_line.specs.Lines.{IsFaultOf, IsLineOf, IsNumber, IsOnLog, IsOption, IsSeconds, IsWord, IsWords};
+ghost use Rattle.stn_line.specs.Given.{HasWords, IsForLog, IsThere, IsThereOnLog, IsNumberThere, IsNumberWhereGiven};
+ghost use Rattle.stn_line.specs.Tasks.{IsCommandOf, IsFaultOf, IsNumber, IsOnLog, IsOption, IsSeconds, IsTaskOf, IsWord, IsWords};
+ghost use Rattle.stn_line.specs.declared.words.LogCommand.TheVariants.{Ask};
 
 use crate::commands::stn;
-use crate::words::{Line, LineFault};
+use crate::words::{Asked, LineFault, LogCommand, SiteLog, Task};
 use clap::ArgMatches;
 use clap::error::ErrorKind;
 use std::alloc::{AllocError, Global};
@@ -14,11 +15,11 @@ use stn_records::Site;
 // A session or an exchange may take so many seconds where the words say nothing.
 const USUAL_SECONDS: u16 = 60;
 
-/// The command that the words ask for; the first word is the program's name. Where clap takes the
+/// The task that the words ask for; the first word is the program's name. Where clap takes the
 /// words, only memory can fail.
-pub fn line<'a>(alloc: Global, words: &'a [&'a str]) -> Result<Line<'a>, LineFault>
-    ensures found { IfOk result (λ line. IsSomeAnd (subcommand_of program (map (λ word. word.now) words.entry.now))
-        (λ command. IsLineOf line command.0 command.1)) }
+pub fn task<'a>(alloc: Global, words: &'a [&'a str]) -> Result<Task<'a>, LineFault>
+    ensures found { IfOk result (λ task. IsSomeAnd (subcommand_of program (map (λ word. word.now) words.entry.now))
+        (λ command. IsTaskOf task command.0 command.1)) }
     ensures taken { IfOk result (λ _. fault_of program (map (λ word. word.now) words.entry.now) ≡ []) }
     ensures refused { IfErr result (λ fault. IsFaultOf fault (map (λ word. word.now) words.entry.now)) }
 {
@@ -29,14 +30,72 @@ pub fn line<'a>(alloc: Global, words: &'a [&'a str]) -> Result<Line<'a>, LineFau
     }
 }
 
-// The command that accepted words name, with its words.
-fn read<'a>(alloc: Global, matches: &ArgMatches<'a>) -> Result<Line<'a>, AllocError>
+// The task that accepted words name, with its words.
+fn read<'a>(alloc: Global, matches: &ArgMatches<'a>) -> Result<Task<'a>, AllocError>
     requires { IsSomeAnd (subcommand_rows_of matches.now) (λ command. HasWords command.0 command.1) }
-    ensures { IfOk result (λ line. IsSomeAnd (subcommand_rows_of matches.now) (λ command. IsLineOf line command.0 command.1)) }
+    ensures { IfOk result (λ task. IsSomeAnd (subcommand_rows_of matches.now) (λ command. IsTaskOf task command.0 command.1)) }
 {
     let (name, words) = matches.subcommand().unwrap();
     match name {
-        "run" => Ok(Line::Run),
+        "run" => Ok(Task::Run),
+        "serve" => Ok(serve(words)),
+        "send" => Ok(send(words)),
+        _ => on_log(alloc, name, words),
+    }
+}
+
+fn serve<'a>(words: &ArgMatches<'a>) -> Task<'a>
+    requires log { IsThereOnLog (rows_of (found_of words.now)) }
+    requires address { IsThere (codes "ADDR") (rows_of (found_of words.now)) }
+    requires count { IsNumberThere (codes "COUNT") 1 most_connections (rows_of (found_of words.now)) }
+    requires seconds { IsNumberWhereGiven (codes "seconds") 1 most_seconds (rows_of (found_of words.now)) }
+    ensures { IsTaskOf result (codes "serve") (rows_of (found_of words.now)) }
+{
+    Task::Serve {
+        log: site_log(words),
+        address: word(words, "ADDR"),
+        count: number(words, "COUNT"),
+        seconds: seconds(words),
+    }
+}
+
+fn send<'a>(words: &ArgMatches<'a>) -> Task<'a>
+    requires log { IsThereOnLog (rows_of (found_of words.now)) }
+    requires address { IsThere (codes "ADDR") (rows_of (found_of words.now)) }
+    requires seconds { IsNumberWhereGiven (codes "seconds") 1 most_seconds (rows_of (found_of words.now)) }
+    ensures { IsTaskOf result (codes "send") (rows_of (found_of words.now)) }
+{
+    Task::Send {
+        log: site_log(words),
+        address: word(words, "ADDR"),
+        seconds: seconds(words),
+    }
+}
+
+// A command that works on a log.
+fn on_log<'a>(alloc: Global, name: &str, words: &ArgMatches<'a>) -> Result<Task<'a>, AllocError>
+    requires has { HasWords name.now (rows_of (found_of words.now)) }
+    requires is { IsForLog name.now }
+    ensures { IfOk result (λ task. IsTaskOf task name.now (rows_of (found_of words.now))) }
+{
+    let log = site_log(words);
+    match command(alloc, name, words) {
+        Ok(command) => Ok(Task::Command { log, command }),
+        Err(fault) => Err(fault),
+    }
+}
+
+// The command of a name, for any log.
+fn command<'a>(
+    alloc: Global,
+    name: &str,
+    words: &ArgMatches<'a>,
+) -> Result<LogCommand<'a>, AllocError>
+    requires has { HasWords name.now (rows_of (found_of words.now)) }
+    requires is { IsForLog name.now }
+    ensures { IfOk result (λ command. IsCommandOf command name.now (rows_of (found_of words.now))) }
+{
+    match name {
         "bare" => Ok(bare(words)),
         "init" => Ok(init(words)),
         "loosen" => Ok(loosen(words)),
@@ -45,56 +104,45 @@ fn read<'a>(alloc: Global, matches: &ArgMatches<'a>) -> Result<Line<'a>, AllocEr
         "withdraw" => Ok(withdraw(words)),
         "done" => Ok(done(words)),
         "merge" => Ok(merge(words)),
-        "report" => Ok(report(words)),
+        "report" => Ok(LogCommand::Report),
         "next" => Ok(next(words)),
         "ready" => Ok(ready(words)),
         "why" => Ok(why(words)),
-        "records" => Ok(records(words)),
-        "steps" => Ok(steps(words)),
-        "bounds" => Ok(bounds(words)),
+        "records" => Ok(asking(Asked::Records)),
+        "steps" => Ok(asking(Asked::Steps)),
+        "bounds" => Ok(asking(Asked::Bounds)),
         "check" => check(alloc, words),
         "rehearse" => Ok(rehearse(words)),
-        "draw" => Ok(draw(words)),
-        "serve" => Ok(serve(words)),
-        _ => Ok(send(words)),
+        _ => Ok(LogCommand::Draw),
     }
 }
 
-fn bare<'a>(words: &ArgMatches<'a>) -> Line<'a>
-    requires log { IsThereOnLog (rows_of (found_of words.now)) }
-    requires steps { IsNumberThere (codes "STEPS") 0 most_read_steps (rows_of (found_of words.now)) }
-    ensures { IsLineOf result (codes "bare") (rows_of (found_of words.now)) }
+fn bare<'a>(words: &ArgMatches<'a>) -> LogCommand<'a>
+    requires { IsNumberThere (codes "STEPS") 0 most_read_steps (rows_of (found_of words.now)) }
+    ensures { IsCommandOf result (codes "bare") (rows_of (found_of words.now)) }
 {
-    Line::Bare {
-        log: word(words, "LOG"),
-        site: site(words),
+    LogCommand::Bare {
         steps: number(words, "STEPS"),
     }
 }
 
-fn init<'a>(words: &ArgMatches<'a>) -> Line<'a>
-    requires log { IsThereOnLog (rows_of (found_of words.now)) }
+fn init<'a>(words: &ArgMatches<'a>) -> LogCommand<'a>
     requires domain { IsThere (codes "DOMAIN") (rows_of (found_of words.now)) }
     requires plan { IsThere (codes "PLAN") (rows_of (found_of words.now)) }
-    ensures { IsLineOf result (codes "init") (rows_of (found_of words.now)) }
+    ensures { IsCommandOf result (codes "init") (rows_of (found_of words.now)) }
 {
-    Line::Init {
-        log: word(words, "LOG"),
-        site: site(words),
+    LogCommand::Init {
         domain: word(words, "DOMAIN"),
         plan: word(words, "PLAN"),
     }
 }
 
-fn loosen<'a>(words: &ArgMatches<'a>) -> Line<'a>
-    requires log { IsThereOnLog (rows_of (found_of words.now)) }
+fn loosen<'a>(words: &ArgMatches<'a>) -> LogCommand<'a>
     requires domain { IsThere (codes "DOMAIN") (rows_of (found_of words.now)) }
     requires plan { IsThere (codes "PLAN") (rows_of (found_of words.now)) }
-    ensures { IsLineOf result (codes "loosen") (rows_of (found_of words.now)) }
+    ensures { IsCommandOf result (codes "loosen") (rows_of (found_of words.now)) }
 {
-    Line::Loosen {
-        log: word(words, "LOG"),
-        site: site(words),
+    LogCommand::Loosen {
         domain: word(words, "DOMAIN"),
         plan: word(words, "PLAN"),
         early: option(words, "early"),
@@ -102,15 +150,12 @@ fn loosen<'a>(words: &ArgMatches<'a>) -> Line<'a>
     }
 }
 
-fn add<'a>(words: &ArgMatches<'a>) -> Line<'a>
-    requires log { IsThereOnLog (rows_of (found_of words.now)) }
+fn add<'a>(words: &ArgMatches<'a>) -> LogCommand<'a>
     requires from { IsThere (codes "FROM") (rows_of (found_of words.now)) }
     requires to { IsThere (codes "TO") (rows_of (found_of words.now)) }
-    ensures { IsLineOf result (codes "add") (rows_of (found_of words.now)) }
+    ensures { IsCommandOf result (codes "add") (rows_of (found_of words.now)) }
 {
-    Line::Add {
-        log: word(words, "LOG"),
-        site: site(words),
+    LogCommand::Add {
         from: word(words, "FROM"),
         to: word(words, "TO"),
         lo: option(words, "lo"),
@@ -118,16 +163,13 @@ fn add<'a>(words: &ArgMatches<'a>) -> Line<'a>
     }
 }
 
-fn amend<'a>(words: &ArgMatches<'a>) -> Line<'a>
-    requires log { IsThereOnLog (rows_of (found_of words.now)) }
+fn amend<'a>(words: &ArgMatches<'a>) -> LogCommand<'a>
     requires id { IsThere (codes "ID") (rows_of (found_of words.now)) }
     requires from { IsThere (codes "FROM") (rows_of (found_of words.now)) }
     requires to { IsThere (codes "TO") (rows_of (found_of words.now)) }
-    ensures { IsLineOf result (codes "amend") (rows_of (found_of words.now)) }
+    ensures { IsCommandOf result (codes "amend") (rows_of (found_of words.now)) }
 {
-    Line::Amend {
-        log: word(words, "LOG"),
-        site: site(words),
+    LogCommand::Amend {
         id: word(words, "ID"),
         from: word(words, "FROM"),
         to: word(words, "TO"),
@@ -136,180 +178,79 @@ fn amend<'a>(words: &ArgMatches<'a>) -> Line<'a>
     }
 }
 
-fn withdraw<'a>(words: &ArgMatches<'a>) -> Line<'a>
-    requires log { IsThereOnLog (rows_of (found_of words.now)) }
-    requires id { IsThere (codes "ID") (rows_of (found_of words.now)) }
-    ensures { IsLineOf result (codes "withdraw") (rows_of (found_of words.now)) }
+fn withdraw<'a>(words: &ArgMatches<'a>) -> LogCommand<'a>
+    requires { IsThere (codes "ID") (rows_of (found_of words.now)) }
+    ensures { IsCommandOf result (codes "withdraw") (rows_of (found_of words.now)) }
 {
-    Line::Withdraw {
-        log: word(words, "LOG"),
-        site: site(words),
+    LogCommand::Withdraw {
         id: word(words, "ID"),
     }
 }
 
-fn done<'a>(words: &ArgMatches<'a>) -> Line<'a>
-    requires log { IsThereOnLog (rows_of (found_of words.now)) }
+fn done<'a>(words: &ArgMatches<'a>) -> LogCommand<'a>
     requires event { IsThere (codes "EVENT") (rows_of (found_of words.now)) }
     requires time { IsThere (codes "TIME") (rows_of (found_of words.now)) }
-    ensures { IsLineOf result (codes "done") (rows_of (found_of words.now)) }
+    ensures { IsCommandOf result (codes "done") (rows_of (found_of words.now)) }
 {
-    Line::Done {
-        log: word(words, "LOG"),
-        site: site(words),
+    LogCommand::Done {
         event: word(words, "EVENT"),
         time: word(words, "TIME"),
     }
 }
 
-fn merge<'a>(words: &ArgMatches<'a>) -> Line<'a>
-    requires log { IsThereOnLog (rows_of (found_of words.now)) }
-    requires other { IsThere (codes "OTHER") (rows_of (found_of words.now)) }
-    ensures { IsLineOf result (codes "merge") (rows_of (found_of words.now)) }
+fn merge<'a>(words: &ArgMatches<'a>) -> LogCommand<'a>
+    requires { IsThere (codes "OTHER") (rows_of (found_of words.now)) }
+    ensures { IsCommandOf result (codes "merge") (rows_of (found_of words.now)) }
 {
-    Line::Merge {
-        log: word(words, "LOG"),
-        site: site(words),
+    LogCommand::Merge {
         other: word(words, "OTHER"),
     }
 }
 
-fn report<'a>(words: &ArgMatches<'a>) -> Line<'a>
-    requires log { IsThereOnLog (rows_of (found_of words.now)) }
-    ensures { IsLineOf result (codes "report") (rows_of (found_of words.now)) }
+fn next<'a>(words: &ArgMatches<'a>) -> LogCommand<'a>
+    requires { IsThere (codes "NOW") (rows_of (found_of words.now)) }
+    ensures { IsCommandOf result (codes "next") (rows_of (found_of words.now)) }
 {
-    Line::Report {
-        log: word(words, "LOG"),
-        site: site(words),
-    }
-}
-
-fn next<'a>(words: &ArgMatches<'a>) -> Line<'a>
-    requires log { IsThereOnLog (rows_of (found_of words.now)) }
-    requires now { IsThere (codes "NOW") (rows_of (found_of words.now)) }
-    ensures { IsLineOf result (codes "next") (rows_of (found_of words.now)) }
-{
-    Line::Next {
-        log: word(words, "LOG"),
-        site: site(words),
+    LogCommand::Next {
         now: word(words, "NOW"),
     }
 }
 
-fn ready<'a>(words: &ArgMatches<'a>) -> Line<'a>
-    requires log { IsThereOnLog (rows_of (found_of words.now)) }
-    requires now { IsThere (codes "NOW") (rows_of (found_of words.now)) }
-    ensures { IsLineOf result (codes "ready") (rows_of (found_of words.now)) }
+fn ready<'a>(words: &ArgMatches<'a>) -> LogCommand<'a>
+    requires { IsThere (codes "NOW") (rows_of (found_of words.now)) }
+    ensures { IsCommandOf result (codes "ready") (rows_of (found_of words.now)) }
 {
-    Line::Ready {
-        log: word(words, "LOG"),
-        site: site(words),
+    let now = word(words, "NOW");
+    asking(Asked::Ready { now })
+}
+
+fn why<'a>(words: &ArgMatches<'a>) -> LogCommand<'a>
+    requires { IsThere (codes "EVENT") (rows_of (found_of words.now)) }
+    ensures { IsCommandOf result (codes "why") (rows_of (found_of words.now)) }
+{
+    let event = word(words, "EVENT");
+    asking(Asked::Why { event })
+}
+
+fn asking<'a>(asked: Asked<'a>) -> LogCommand<'a>
+    ensures { result ≡ Ask asked.entry }
+{
+    LogCommand::Ask { asked }
+}
+
+fn check<'a>(alloc: Global, words: &ArgMatches<'a>) -> Result<LogCommand<'a>, AllocError>
+    ensures { IfOk result (λ command. IsCommandOf command (codes "check") (rows_of (found_of words.now))) }
+{
+    let times = all_words(alloc, words, "TIME")?;
+    Ok(LogCommand::Check { times })
+}
+
+fn rehearse<'a>(words: &ArgMatches<'a>) -> LogCommand<'a>
+    requires { IsThere (codes "NOW") (rows_of (found_of words.now)) }
+    ensures { IsCommandOf result (codes "rehearse") (rows_of (found_of words.now)) }
+{
+    LogCommand::Rehearse {
         now: word(words, "NOW"),
-    }
-}
-
-fn why<'a>(words: &ArgMatches<'a>) -> Line<'a>
-    requires log { IsThereOnLog (rows_of (found_of words.now)) }
-    requires event { IsThere (codes "EVENT") (rows_of (found_of words.now)) }
-    ensures { IsLineOf result (codes "why") (rows_of (found_of words.now)) }
-{
-    Line::Why {
-        log: word(words, "LOG"),
-        site: site(words),
-        event: word(words, "EVENT"),
-    }
-}
-
-fn records<'a>(words: &ArgMatches<'a>) -> Line<'a>
-    requires log { IsThereOnLog (rows_of (found_of words.now)) }
-    ensures { IsLineOf result (codes "records") (rows_of (found_of words.now)) }
-{
-    Line::Records {
-        log: word(words, "LOG"),
-        site: site(words),
-    }
-}
-
-fn steps<'a>(words: &ArgMatches<'a>) -> Line<'a>
-    requires log { IsThereOnLog (rows_of (found_of words.now)) }
-    ensures { IsLineOf result (codes "steps") (rows_of (found_of words.now)) }
-{
-    Line::Steps {
-        log: word(words, "LOG"),
-        site: site(words),
-    }
-}
-
-fn bounds<'a>(words: &ArgMatches<'a>) -> Line<'a>
-    requires log { IsThereOnLog (rows_of (found_of words.now)) }
-    ensures { IsLineOf result (codes "bounds") (rows_of (found_of words.now)) }
-{
-    Line::Bounds {
-        log: word(words, "LOG"),
-        site: site(words),
-    }
-}
-
-fn check<'a>(alloc: Global, words: &ArgMatches<'a>) -> Result<Line<'a>, AllocError>
-    requires { IsThereOnLog (rows_of (found_of words.now)) }
-    ensures { IfOk result (λ line. IsLineOf line (codes "check") (rows_of (found_of words.now))) }
-{
-    Ok(Line::Check {
-        log: word(words, "LOG"),
-        site: site(words),
-        times: all_words(alloc, words, "TIME")?,
-    })
-}
-
-fn rehearse<'a>(words: &ArgMatches<'a>) -> Line<'a>
-    requires log { IsThereOnLog (rows_of (found_of words.now)) }
-    requires now { IsThere (codes "NOW") (rows_of (found_of words.now)) }
-    ensures { IsLineOf result (codes "rehearse") (rows_of (found_of words.now)) }
-{
-    Line::Rehearse {
-        log: word(words, "LOG"),
-        site: site(words),
-        now: word(words, "NOW"),
-    }
-}
-
-fn draw<'a>(words: &ArgMatches<'a>) -> Line<'a>
-    requires log { IsThereOnLog (rows_of (found_of words.now)) }
-    ensures { IsLineOf result (codes "draw") (rows_of (found_of words.now)) }
-{
-    Line::Draw {
-        log: word(words, "LOG"),
-        site: site(words),
-    }
-}
-
-fn serve<'a>(words: &ArgMatches<'a>) -> Line<'a>
-    requires log { IsThereOnLog (rows_of (found_of words.now)) }
-    requires address { IsThere (codes "ADDR") (rows_of (found_of words.now)) }
-    requires count { IsNumberThere (codes "COUNT") 1 most_connections (rows_of (found_of words.now)) }
-    requires seconds { IsNumberWhereGiven (codes "seconds") 1 most_seconds (rows_of (found_of words.now)) }
-    ensures { IsLineOf result (codes "serve") (rows_of (found_of words.now)) }
-{
-    Line::Serve {
-        log: word(words, "LOG"),
-        site: site(words),
-        address: word(words, "ADDR"),
-        count: number(words, "COUNT"),
-        seconds: seconds(words),
-    }
-}
-
-fn send<'a>(words: &ArgMatches<'a>) -> Line<'a>
-    requires log { IsThereOnLog (rows_of (found_of words.now)) }
-    requires address { IsThere (codes "ADDR") (rows_of (found_of words.now)) }
-    requires seconds { IsNumberWhereGiven (codes "seconds") 1 most_seconds (rows_of (found_of words.now)) }
-    ensures { IsLineOf result (codes "send") (rows_of (found_of words.now)) }
-{
-    Line::Send {
-        log: word(words, "LOG"),
-        site: site(words),
-        address: word(words, "ADDR"),
-        seconds: seconds(words),
     }
 }
 
@@ -352,6 +293,17 @@ fn option<'a>(words: &ArgMatches<'a>, name: &str) -> Option<&'a str>
     ensures { IsOption name.now result (rows_of (found_of words.now)) }
 {
     words.get_str(name)
+}
+
+// The log, and its site.
+fn site_log<'a>(words: &ArgMatches<'a>) -> SiteLog<'a>
+    requires { IsThereOnLog (rows_of (found_of words.now)) }
+    ensures { IsOnLog result (rows_of (found_of words.now)) }
+{
+    SiteLog {
+        name: word(words, "LOG"),
+        site: site(words),
+    }
 }
 
 // The site of the log.

@@ -2,31 +2,46 @@ use std::alloc::{AllocError, Global};
 use stn_records::Site;
 use thiserror::Error;
 
-/// One command with its words. `log` is the file that holds what a site knows, `site` the site's
-/// number. Events (`z`, `s1`, `e1`), times (in seconds), ids (`1.2`), files and addresses stand as
-/// they were written: whoever does the command reads them.
+/// The log of a site.
+#[derive(Clone, Copy)]
+pub struct SiteLog<'a> {
+    /// The name of the log.
+    pub name: &'a str,
+    /// The site. The log itself doesn't say which one it is.
+    pub site: Site,
+}
+
+/// A question about the plan of a log. Events (`z`, `s1`, `e1`) and times (in seconds) are given as they were written.
 #[derive(Drop)]
-pub enum Line<'a> {
-    /// Runs a script from the standard input.
-    Run,
+pub enum Asked<'a> {
+    /// Which records the log holds.
+    Records,
+    /// Which steps the plan has.
+    Steps,
+    /// Which bounds count.
+    Bounds,
+    /// Which events may run from a time on, and until when.
+    Ready { now: &'a str },
+    /// Why an event's window ends where it does.
+    Why { event: &'a str },
+}
+
+/// A command that works on a log. Events (`z`, `s1`, `e1`), times (in seconds), ids (`1.2`) and the names of texts and logs
+/// are given as they were written: whoever does the command reads them.
+#[derive(Drop)]
+pub enum LogCommand<'a> {
     /// Makes the log of a plan of so many steps without a domain.
     Bare {
-        log: &'a str,
-        site: Site,
         steps: u16,
     },
-    /// Makes the log of a plan file over a domain file.
+    /// Makes the log of a plan text over a domain text.
     Init {
-        log: &'a str,
-        site: Site,
         domain: &'a str,
         plan: &'a str,
     },
-    /// Makes the log of a plan whose steps may end so much earlier and so much later than a plan file over a domain file says; a time
+    /// Makes the log of a plan whose steps may end so much earlier and so much later than a plan text over a domain text says; a time
     /// that is not given is 0.
     Loosen {
-        log: &'a str,
-        site: Site,
         domain: &'a str,
         plan: &'a str,
         early: Option<&'a str>,
@@ -34,8 +49,6 @@ pub enum Line<'a> {
     },
     /// Adds a bound on the time from one event to another; a side that is not given is open.
     Add {
-        log: &'a str,
-        site: Site,
         from: &'a str,
         to: &'a str,
         lo: Option<&'a str>,
@@ -43,8 +56,6 @@ pub enum Line<'a> {
     },
     /// Adds a bound in place of a record, which is replaced for good; a side that is not given is open.
     Amend {
-        log: &'a str,
-        site: Site,
         id: &'a str,
         from: &'a str,
         to: &'a str,
@@ -53,96 +64,65 @@ pub enum Line<'a> {
     },
     /// Withdraws a record.
     Withdraw {
-        log: &'a str,
-        site: Site,
         id: &'a str,
     },
     /// Records that an event took place at a time.
     Done {
-        log: &'a str,
-        site: Site,
         event: &'a str,
         time: &'a str,
     },
     /// Takes all that another log holds.
     Merge {
-        log: &'a str,
-        site: Site,
         other: &'a str,
     },
-    /// Prints every event's window, or a cycle of bounds that contradict each other.
-    Report {
-        log: &'a str,
-        site: Site,
-    },
-    /// Says which event is to take place next.
+    /// Tells every event's window, or a cycle of bounds that contradict each other.
+    Report,
+    /// Tells which event is to take place next.
     Next {
-        log: &'a str,
-        site: Site,
         now: &'a str,
     },
-    /// Which events may run from a time on, and until when.
-    Ready {
-        log: &'a str,
-        site: Site,
-        now: &'a str,
+    /// Answers a question about the plan.
+    Ask {
+        asked: Asked<'a>,
     },
-    /// Which bounds hold the ends of an event's window.
-    Why {
-        log: &'a str,
-        site: Site,
-        event: &'a str,
-    },
-    /// The records that the log holds.
-    Records {
-        log: &'a str,
-        site: Site,
-    },
-    /// The steps of the plan.
-    Steps {
-        log: &'a str,
-        site: Site,
-    },
-    /// All bounds that count.
-    Bounds {
-        log: &'a str,
-        site: Site,
-    },
-    /// Says whether times, one for each event from `s1` on, are a schedule.
+    /// Tells whether times, one for each event from `s1` on, are a schedule.
     Check {
-        log: &'a str,
-        site: Site,
         times: Vec<&'a str, Global>,
     },
-    /// Prints the rest of the plan as it runs from a time on, where the next event takes place as soon as it may.
+    /// Tells how the rest of the plan runs from a time on.
     Rehearse {
-        log: &'a str,
-        site: Site,
         now: &'a str,
     },
-    /// Draws the plan: the window of each event, or the bounds that contradict each other.
-    Draw {
-        log: &'a str,
-        site: Site,
-    },
+    /// Draws every event's window, or a cycle of bounds that contradict each other.
+    Draw,
+}
+
+/// What the words of a command line ask for.
+#[derive(Drop)]
+pub enum Task<'a> {
+    /// Runs a script from the standard input.
+    Run,
     /// Serves connections at an address, one after another; each session may take so many seconds.
     Serve {
-        log: &'a str,
-        site: Site,
+        log: SiteLog<'a>,
         address: &'a str,
         count: u16,
         seconds: u16,
     },
     /// Exchanges records with the site that serves at an address, for so many seconds at most.
     Send {
-        log: &'a str,
-        site: Site,
+        log: SiteLog<'a>,
         address: &'a str,
         seconds: u16,
     },
+    /// Does a command that works on a log.
+    Command {
+        log: SiteLog<'a>,
+        command: LogCommand<'a>,
+    },
 }
 
-/// Why words gave no command.
+/// Why words ask for no task.
 #[derive(Debug, Error, Drop)]
 pub enum LineFault {
     /// The words are no command's, or ask for help or the version: the text for the user, and

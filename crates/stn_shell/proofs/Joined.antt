@@ -11,7 +11,7 @@ use Rattle.stn_store.specs.declared.failure.Failure.{Failure}
 use Rattle.stn_store.specs.declared.failure.Fault.{Fault}
 use Rattle.stn_shell.specs.Connections.{IsSessionBetween, IsSavedSession, IsUnservedSession, Exchanges, IsSavedExchange}
 use Rattle.stn_shell.specs.Joining.{JoinsLog, SavesJoin, IsUnkept}
-use Rattle.stn_shell.specs.declared.command.SiteLog.{SiteLog}
+use Rattle.stn_line.specs.declared.words.SiteLog.{SiteLog}
 
 -- a state that was taken in
 pub join_taken : {T E : Type 0} (answer : Result T E) (entries : Option (List Entry)) (log : SiteLog) (old said new : Held)

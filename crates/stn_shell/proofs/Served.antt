@@ -10,7 +10,7 @@ use Rattle.stn_session.specs.declared.session.Served.{Served}
 use Rattle.stn_session.specs.declared.session.ServeFault.{ServeFault}
 use Rattle.stn_shell.specs.Printing.{Device, Prints}
 use Rattle.stn_store.specs.Store.{Entry}
-use Rattle.stn_shell.specs.declared.command.SiteLog.{SiteLog}
+use Rattle.stn_line.specs.declared.words.SiteLog.{SiteLog}
 use Rattle.stn_shell.specs.Connections.{session_text, IsSavedSession, AreSessionsBetween, Serves, StopsAtSession, StopsServing}
 use Rattle.stn_store.specs.declared.failure.Failure.{Failure}
 use Rattle.stn_store.specs.declared.failure.Fault.{Fault}

@@ -11,10 +11,10 @@ use Rattle.stn_shell.specs.Connections.{Serves, StopsServing, Sends, StopsSendin
 use Rattle.stn_shell.specs.Printing.{Device, Prints, IsUnprinted}
 use Rattle.stn_shell.specs.Refusals.{IsRefusalOf}
 use Rattle.stn_store.specs.Store.{Entry, Opens, IsUnopened, IsLack}
-use Rattle.stn_shell.specs.declared.command.SiteLog.{SiteLog}
-use Rattle.stn_shell.specs.declared.command.LogCommand.{LogCommand}
-use Rattle.stn_shell.specs.declared.command.Task.{Task}
-use Rattle.stn_shell.specs.declared.command.Task.TheVariants.{Run, Serve, Send, Command}
+use Rattle.stn_line.specs.declared.words.SiteLog.{SiteLog}
+use Rattle.stn_line.specs.declared.words.LogCommand.{LogCommand}
+use Rattle.stn_line.specs.declared.words.Task.{Task}
+use Rattle.stn_line.specs.declared.words.Task.TheVariants.{Run, Serve, Send, Command}
 use Rattle.stn_store.specs.declared.failure.Failure.{Failure}
 use Rattle.stn_store.specs.declared.failure.Failure.TheVariants.{Failed}
 use Rattle.stn_store.specs.declared.failure.Fault.{Fault}

@@ -10,7 +10,7 @@ use Rattle.stn_store.specs.Store.{Entry, Opens, IsLack, saved_too}
 use Rattle.stn_store.specs.declared.failure.Failure.{Failure}
 use Rattle.stn_store.specs.declared.failure.Fault.{Fault}
 use Rattle.stn_shell.specs.Refusals.{WithLog, IsMergeRefusal}
-use Rattle.stn_shell.specs.declared.command.SiteLog.{SiteLog}
+use Rattle.stn_line.specs.declared.words.SiteLog.{SiteLog}
 use Rattle.stn_shell.specs.declared.changes.AskedBound.{AskedBound}
 use Rattle.stn_shell.specs.declared.changes.Change.{Change}
 use Rattle.stn_shell.specs.declared.changes.Change.TheVariants.{Add, Amend, Withdraw, Done, Merge}

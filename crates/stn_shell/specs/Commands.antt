@@ -22,10 +22,10 @@ use Rattle.stn_shell.specs.Words.{amendment_read, bound_read, execution_read, id
 use Rattle.stn_loosen.specs.Slack.{Slack}
 use Rattle.stn_loosen.specs.Loosened.{AreFewLoosened}
 use Rattle.stn_loosen.specs.Numbered.{HoldsSome}
-use Rattle.stn_shell.specs.declared.command.SiteLog.{SiteLog}
-use Rattle.stn_shell.specs.declared.command.Asked.{Asked}
-use Rattle.stn_shell.specs.declared.command.LogCommand.{LogCommand}
-use Rattle.stn_shell.specs.declared.command.LogCommand.TheVariants.{Bare, Init, Loosen, Add, Amend, Withdraw, Done, Merge, Report, Next, Ask, Check, Rehearse, Draw}
+use Rattle.stn_line.specs.declared.words.SiteLog.{SiteLog}
+use Rattle.stn_line.specs.declared.words.Asked.{Asked}
+use Rattle.stn_line.specs.declared.words.LogCommand.{LogCommand}
+use Rattle.stn_line.specs.declared.words.LogCommand.TheVariants.{Bare, Init, Loosen, Add, Amend, Withdraw, Done, Merge, Report, Next, Ask, Check, Rehearse, Draw}
 
 -- a log of what a site holds, where none was
 pub record IsNewLog (old new : Option (List Entry)) (log : List ℕ) (source : PlanSource) (state : Content) (text : List ℕ) : Type 0 where

@@ -6,7 +6,7 @@ use Rattle.stn_store.specs.Causes.{of_reply}
 use Rattle.stn_shell.specs.Printing.{Device, Prints, IsUnprinted}
 use Rattle.stn_store.specs.Store.{Entry}
 use Rattle.stn_shell.specs.Joining.{JoinsLog, IsUntaken, SavesJoin, IsUnkept}
-use Rattle.stn_shell.specs.declared.command.SiteLog.{SiteLog}
+use Rattle.stn_line.specs.declared.words.SiteLog.{SiteLog}
 use Rattle.stn_store.specs.declared.failure.Failure.{Failure}
 use Rattle.stn_store.specs.declared.failure.Failure.TheVariants.{Failed}
 use Rattle.stn_store.specs.declared.failure.Fault.{Fault}

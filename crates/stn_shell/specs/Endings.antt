@@ -7,8 +7,8 @@ use Rattle.stn_shell.specs.Refusals.{IsRefusalOf}
 use Rattle.stn_store.specs.Store.{Entry, IsThere, IsMissing, IsTaken, IsLack, Spells, saved_too}
 use Rattle.stn_store.specs.declared.failure.Failure.{Failure}
 use Rattle.stn_store.specs.declared.failure.Fault.{Fault}
-use Rattle.stn_shell.specs.declared.command.SiteLog.{SiteLog}
-use Rattle.stn_shell.specs.declared.command.LogCommand.{LogCommand}
+use Rattle.stn_line.specs.declared.words.SiteLog.{SiteLog}
+use Rattle.stn_line.specs.declared.words.LogCommand.{LogCommand}
 
 -- a command that was done, and that nothing refuses
 pub record Succeeds (old new : Option (List Entry)) (log : SiteLog) (command : LogCommand) (text : List ℕ) : Type 0 where

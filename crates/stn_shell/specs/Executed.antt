@@ -4,13 +4,11 @@ use Rattle.clap.specs.Words.{IsAmong, Text, fault_of, subcommand_of}
 use Rattle.clap.specs.declared.error.kind.ErrorKind.{ErrorKind}
 use Rattle.clap.specs.declared.error.kind.ErrorKind.TheVariants.{DisplayHelp, DisplayVersion}
 use Rattle.stn_line.specs.Commands.{stn}
-use Rattle.stn_line.specs.Lines.{IsLineOf}
-use Rattle.stn_line.specs.declared.words.Line.{Line}
+use Rattle.stn_line.specs.Tasks.{IsTaskOf}
+use Rattle.stn_line.specs.declared.words.Task.{Task}
 use Rattle.stn_shell.specs.Carried.{IsCarriedOut, Stops}
 use Rattle.stn_shell.specs.Printing.{Device, Prints, BreaksOff, TellsFault, Tells}
 use Rattle.stn_store.specs.Store.{Entry}
-use Rattle.stn_shell.specs.Tasks.{task_of}
-use Rattle.stn_shell.specs.declared.command.Task.{Task}
 use Rattle.stn_store.specs.declared.failure.Failure.{Failure}
 use Rattle.stn_store.specs.declared.failure.Fault.{Fault}
 use Rattle.stn_store.specs.declared.failure.Fault.TheVariants.{Write, Memory}
@@ -22,9 +20,9 @@ Ends Fails before after task unread rest old new err told status =
     ⊎ ((failure : Failure) × (between : Device) × Stops Fails before after task unread rest old between failure
     × Tells failure between new err told × (status ≡ 1))
 
--- the words are a line
-abbrev pub IsLineIn : List Text → Line → Type 0
-IsLineIn words line = (fault_of stn words ≡ []) × IsSomeAnd (subcommand_of stn words) (λ command. IsLineOf line command.0 command.1)
+-- the words ask for a task
+abbrev pub AskFor : List Text → Task → Type 0
+AskFor words task = (fault_of stn words ≡ []) × IsSomeAnd (subcommand_of stn words) (λ command. IsTaskOf task command.0 command.1)
 
 -- what clap says of words is a mistake, no help and no version
 abbrev pub IsMistake : ErrorKind → Type 0
@@ -46,6 +44,6 @@ IsSaid kind old new err told status =
 -- over files, of which nothing is known: a task was done or stopped; clap refused the words; or memory ran out before either
 abbrev pub IsExecuted : List Text → Device → Device → Device → Device → Device → Device → ℕ → Type 0
 IsExecuted words unread rest old new err told status =
-    ((line : Line) × IsLineIn words line × Ends (λ _. ⊤) None None (task_of line) unread rest old new err told status)
+    ((task : Task) × AskFor words task × Ends (λ _. ⊤) None None task unread rest old new err told status)
     ⊎ ((kind : ErrorKind) × IsAmong kind (fault_of stn words) × IsSaid kind old new err told status)
     ⊎ LacksMemory old new err told status

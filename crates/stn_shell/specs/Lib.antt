@@ -1,4 +1,3 @@
-pub mod Tasks
 pub mod Words
 pub mod Refusals
 pub mod Commands

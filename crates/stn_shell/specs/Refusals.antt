@@ -12,9 +12,9 @@ use Rattle.stn_exec.specs.Dispatch.{IsOverdueAt, IsRefusedRehearsal}
 use Rattle.stn_store.specs.Causes.{of_base, of_bound, of_replica, refused_of, other_plan, log_there, no_such_word, of_loosening}
 use Rattle.stn_store.specs.Store.{Entry, IsThere, Spells, Opens, IsMissing, IsUnopened}
 use Rattle.stn_shell.specs.Words.{amendment_read, bound_read, execution_read, id_read, time_read, times_read, question_read, slack_read}
-use Rattle.stn_shell.specs.declared.command.SiteLog.{SiteLog}
-use Rattle.stn_shell.specs.declared.command.LogCommand.{LogCommand}
-use Rattle.stn_shell.specs.declared.command.LogCommand.TheVariants.{Bare, Init, Loosen, Add, Amend, Withdraw, Done, Merge, Report, Next, Ask, Check, Rehearse, Draw}
+use Rattle.stn_line.specs.declared.words.SiteLog.{SiteLog}
+use Rattle.stn_line.specs.declared.words.LogCommand.{LogCommand}
+use Rattle.stn_line.specs.declared.words.LogCommand.TheVariants.{Bare, Init, Loosen, Add, Amend, Withdraw, Done, Merge, Report, Next, Ask, Check, Rehearse, Draw}
 use Rattle.stn_loosen.specs.declared.fault.LoosenFault.TheVariants.{Full}
 use Rattle.stn_loosen.specs.Slack.{Slack}
 use Rattle.stn_loosen.specs.Loosened.{AreFewLoosened, AreTooMany}

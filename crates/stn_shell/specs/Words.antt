@@ -14,8 +14,8 @@ use Rattle.stn_exec.specs.Command.{event_of, id_of}
 use Rattle.stn_exec.specs.Effect.{and_then}
 use Rattle.stn_store.specs.Causes.{of_time, no_such_word}
 use Rattle.stn_store.specs.declared.failure.Failure.{Failure}
-use Rattle.stn_shell.specs.declared.command.Asked.{Asked}
-use Rattle.stn_shell.specs.declared.command.Asked.TheVariants.{Records, Steps, Bounds, Ready, Why}
+use Rattle.stn_line.specs.declared.words.Asked.{Asked}
+use Rattle.stn_line.specs.declared.words.Asked.TheVariants.{Records, Steps, Bounds, Ready, Why}
 
 -- what a word names
 abbrev pub named : {X : Type 0} → Option X → Result X Failure

@@ -9,16 +9,16 @@ ghost use Rattle.stn_shell.specs.Endings.{Succeeds, IsUndone, SavesNew, IsUnsave
 ghost use Rattle.stn_shell.specs.Queries.{SaysOf, IsQueryRefusal};
 ghost use Rattle.stn_shell.specs.Refusals.{IsRefusalOf, IsBaseRefusal, IsLooseningRefusal, IsCheckRefusal, WithWords, WithLog};
 ghost use Rattle.stn_store.specs.Store.{IsThere, IsMissing, IsTaken, IsLack, Opens};
-ghost use Rattle.stn_shell.specs.declared.command.LogCommand.TheVariants as of;
+ghost use Rattle.stn_line.specs.declared.words.LogCommand.TheVariants as of;
 
 use crate::changes::{Change, copied, loosen, make_change, opened};
-use crate::command::{Asked, LogCommand, SiteLog};
 use crate::queries::{Query, check, say};
 use crate::words::{
     read_bound, read_event, read_id, read_question, read_time, read_times, read_tolerance,
 };
 use std::alloc::Global;
 use stn_lift::Source;
+use stn_line::{Asked, LogCommand, SiteLog};
 use stn_loosen::Tolerance;
 use stn_replica::Replica;
 use stn_store::{Failure, Fault, Store};

@@ -8,7 +8,6 @@ ghost use Rattle.stn_store.specs.declared.failure.Failure.{Failure as FailureVie
 ghost use Rattle.stn_session.specs.declared.session.Served.{Served as ServedView};
 ghost use Rattle.stn_session.specs.declared.session.ServeFault.{ServeFault as ServeFaultView};
 
-use crate::command::SiteLog;
 use crate::joining::{save_join, take_log};
 use crate::peer::Peer;
 use crate::printing::{print, print_now, tell_failure};
@@ -18,6 +17,7 @@ use std::io::Write;
 use std::net::TcpListener;
 use std::time::{Clock, Duration};
 use stn_device::Counted;
+use stn_line::SiteLog;
 use stn_replica::Replica;
 use stn_session::{End, ServeFault, Served, receive_replies, send_requests, serve};
 use stn_store::{Failure, Store};

@@ -8,13 +8,11 @@ ghost use Rattle.stn_shell.specs.Carried.{RunsScript, StopsScript, ServesAt, Sto
 ghost use Rattle.stn_shell.specs.Connections.{Serves, StopsServing, Sends, StopsSending};
 ghost use Rattle.stn_shell.specs.Executed.{IsSaid, IsExecuted, Ends};
 ghost use Rattle.stn_shell.specs.Printing.{Device, device_of, Prints};
-ghost use Rattle.stn_shell.specs.Tasks.{task_of};
 ghost use Rattle.stn_store.specs.Store.{IsLack};
 ghost use Rattle.stn_store.specs.declared.failure.Failure.TheVariants.{Failed};
 ghost use Rattle.stn_store.specs.declared.failure.Fault.TheVariants as fault;
 ghost use Rattle.std.specs.Duration.{as_nanos};
 
-use crate::command::{LogCommand, SiteLog, Task};
 use crate::commands::answer;
 use crate::connections::{Service, exchange, serve_each};
 use crate::peer::Peer;
@@ -27,7 +25,7 @@ use std::rt::Files;
 use std::time::{Clock, Duration};
 use stn_device::{Counted, write_whole};
 use stn_exec::run;
-use stn_line::{Line, LineFault, line};
+use stn_line::{LineFault, LogCommand, SiteLog, Task, task};
 use stn_replica::Replica;
 use stn_store::{Failure, Fault, FileStore, Store};
 
@@ -51,8 +49,8 @@ pub fn execute<
         (device_of E.contents err.old) (device_of E.contents err.new) result }
 {
     let alloc = rt.alloc();
-    match line(alloc, words) {
-        Ok(line) => do_line(rt, line, reader, out, err),
+    match task(alloc, words) {
+        Ok(task) => end(rt, task, reader, out, err),
         Err(LineFault::Words(error)) => tell_words(alloc, &error, out, err),
         Err(LineFault::Memory) => {
             tell_fault(Fault::Memory, err);
@@ -61,22 +59,21 @@ pub fn execute<
     }
 }
 
-// Does what a line asks for, and says the status.
-fn do_line<
+// Does a task to its end, and says the status. Why it stopped is told.
+fn end<
     T: Files<File = File> + AllocGlobal + Clock + Net<Listener = TcpListener, Stream = TcpStream>,
     R: Read,
     W: Write,
     E: Write,
->(rt: &T, line: Line<'_>, reader: &mut Counted<R>, out: &mut Counted<W>, err: &mut Counted<E>) -> u8
+>(rt: &T, task: Task<'_>, reader: &mut Counted<R>, out: &mut Counted<W>, err: &mut Counted<E>) -> u8
     requires reader_counts { failure_count reader.old < 2 ^ 64 - 1 }
     requires out_counts { failure_count out.old < 2 ^ 64 - 1 }
     ensures status { result ≤ 1 }
-    ensures ended { Ends (λ _. ⊤) None None (task_of line.entry)
+    ensures ended { Ends (λ _. ⊤) None None task.entry
         (device_of R.remaining reader.old) (device_of R.remaining reader.new)
         (device_of W.contents out.old) (device_of W.contents out.new)
         (device_of E.contents err.old) (device_of E.contents err.new) result }
 {
-    let task = Task::of(line);
     let done = do_task(rt, &mut FileStore::new(rt), &task, reader, out);
     drop(task);
     match done {

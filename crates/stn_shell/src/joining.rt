@@ -5,8 +5,8 @@ ghost use Rattle.stn_shell.specs.Joining.{JoinsLog, IsUntaken, SavesJoin, IsUnke
 ghost use Rattle.stn_store.specs.Store.{Opens};
 
 use crate::changes::take_in;
-use crate::command::SiteLog;
 use std::alloc::Global;
+use stn_line::SiteLog;
 use stn_replica::Replica;
 use stn_store::{Failure, Store};
 

@@ -1,7 +1,6 @@
 //! The commands of the program over log files, and its sessions and exchanges over connections.
 #![tactic(auto)]
 
-pub use command::{LogCommand, SiteLog, Task};
 pub use commands::answer;
 pub use connections::{Service, send_on, serve_on};
 pub use execution::execute;
@@ -9,7 +8,6 @@ pub use peer::Peer;
 pub use process::program;
 
 mod changes;
-mod command;
 mod commands;
 mod connections;
 mod execution;

@@ -11,8 +11,8 @@ ghost use Rattle.stn_exec.specs.Effect.{and_then};
 ghost use Rattle.stn_shell.specs.Words.{bound_read, event_read, id_read, time_read, times_read, side_read, question_read, slack_of, slack_read};
 
 use crate::changes::AskedBound;
-use crate::command::Asked;
 use std::alloc::Allocator;
+use stn_line::Asked;
 use stn_loosen::Tolerance;
 use stn_net::Event;
 use stn_questions::Question;

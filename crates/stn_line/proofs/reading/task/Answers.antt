@@ -3,9 +3,9 @@ use Rattle.clap.specs.Kinds.{HasKind}
 use Rattle.clap.specs.declared.error.kind.ErrorKind.TheVariants.{OutOfMemory}
 use Rattle.clap.specs.Words.{fault_of, kind_of, is_simple, is_simple_and_free, subcommand_of}
 use Rattle.stn_line.specs.Given.{HasWords}
-use Rattle.stn_line.specs.Lines.{IsLineOf}
+use Rattle.stn_line.specs.Tasks.{IsTaskOf}
 use Rattle.stn_line.proofs.OfStn.{stn_free, stn_given, stn_simple}
-use Rattle.stn_line.proofs.reading.line.Goals as goal
+use Rattle.stn_line.proofs.reading.task.Goals as goal
 
 pub read-requires : goal.read-requires
 read-requires c =
@@ -20,7 +20,7 @@ returns-in_ok-read-in-Ok-clause-found c =
     let words = map (λ word. word.now) c.args.words.now in
     let app = c.in_ok-stn.ensures.app in
     let rows = (c.in-Ok.ensures.matches (ap is_simple app ∙ stn_simple)).1 ∙ ap (λ a. subcommand_of a words) app in
-    subst (λ o. IsSomeAnd o (λ command. IsLineOf c.in_ok-read-in-Ok.field-0 command.0 command.1)) rows c.in_ok-read-in-Ok.ensures
+    subst (λ o. IsSomeAnd o (λ command. IsTaskOf c.in_ok-read-in-Ok.field-0 command.0 command.1)) rows c.in_ok-read-in-Ok.ensures
 
 pub returns-in_ok-read-in-Ok-clause-taken : goal.returns-in_ok-read-in-Ok-clause-taken
 returns-in_ok-read-in-Ok-clause-taken c =
