@@ -14,7 +14,7 @@ const NO_TEXT: &[u8] = b"error: a word of the command line is not UTF-8\n";
 /// Does the command of the program's words over its standard input, output and error: the exit status.
 pub fn program(rt: &HostRuntime) -> ExitCode {
     let mut err = Counted::new(rt.stderr());
-    let status = match do_words(rt, &mut err) {
+    let status = match do_texts(rt, &mut err) {
         Ok(status) => status,
         Err(error) => tell_words_fault(&error, &mut err),
     };
@@ -22,15 +22,16 @@ pub fn program(rt: &HostRuntime) -> ExitCode {
 }
 
 // Does the command of the program's words: the status.
-fn do_words<E: Write>(rt: &HostRuntime, err: &mut Counted<E>) -> io::Result<u8> {
-    let mut texts = Vec::new(rt.alloc());
-    for text in env::args(rt)? {
-        texts.push(text)?;
-    }
-    let mut words = Vec::new(rt.alloc());
-    for text in &texts {
-        words.push(text.as_str())?;
-    }
+fn do_texts<E: Write>(rt: &HostRuntime, err: &mut Counted<E>) -> io::Result<u8> {
+    let texts = env::args(rt)?.collect(rt.alloc())?;
+    let status = do_words(rt, &texts, err);
+    drop(texts);
+    status
+}
+
+// Does the command of these words: the status.
+fn do_words<E: Write>(rt: &HostRuntime, texts: &[String], err: &mut Counted<E>) -> io::Result<u8> {
+    let words = texts.iter().map(|text| text.as_str()).collect(rt.alloc())?;
     let mut reader = Counted::new(rt.reader());
     let mut out = Counted::new(io::writer(rt));
     Ok(execute(rt, &words, &mut reader, &mut out, err))
