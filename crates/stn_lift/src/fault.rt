@@ -24,7 +24,7 @@ pub enum LiftFault {
     #[error("another duration at step {0}")]
     DurationDiffers(u16),
     /// This step ends after the horizon.
-    #[error("step {0} ends behind the horizon")]
+    #[error("step {0} ends after the horizon")]
     PastHorizon(u16),
     /// Memory ran out.
     #[error("out of memory")]

@@ -16,8 +16,8 @@ use stn_text::append_decimal;
 use stn_time::{Memory, Ms};
 
 /// Appends a line for each step, from 1 on: its number; of a plan in a domain also its action and the
-/// arguments as the plan's text spells them, its planned start and its duration in the domain. For want
-/// of memory it appends nothing.
+/// arguments as the plan's text spells them, its planned start and its duration in the domain. If memory
+/// runs out, it appends nothing.
 pub fn print_steps<A: Allocator + Copy, B: Allocator>(
     replica: &Replica<A>,
     out: &mut Vec<u8, B>,
