@@ -23,7 +23,7 @@ pub fn program(rt: &HostRuntime) -> ExitCode {
 
 // Does the command of the program's words: the status.
 fn do_texts<E: Write>(rt: &HostRuntime, err: &mut Counted<E>) -> io::Result<u8> {
-    let texts = env::args(rt)?.collect(rt.alloc())?;
+    let texts: Vec<String> = env::args(rt)?.collect(rt.alloc())?;
     let status = do_words(rt, &texts, err);
     drop(texts);
     status
@@ -31,7 +31,7 @@ fn do_texts<E: Write>(rt: &HostRuntime, err: &mut Counted<E>) -> io::Result<u8> 
 
 // Does the command of these words: the status.
 fn do_words<E: Write>(rt: &HostRuntime, texts: &[String], err: &mut Counted<E>) -> io::Result<u8> {
-    let words = texts.iter().map(|text| text.as_str()).collect(rt.alloc())?;
+    let words: Vec<&str> = texts.iter().map(|text| text.as_str()).collect(rt.alloc())?;
     let mut reader = Counted::new(rt.reader());
     let mut out = Counted::new(io::writer(rt));
     Ok(execute(rt, &words, &mut reader, &mut out, err))
