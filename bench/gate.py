@@ -1,5 +1,6 @@
 #!/usr/bin/env python3
-"""Runs the gate, rt ci, and prints where its time went: in all, the dearest parts, and the longest chain of crates.
+"""Runs the gate, rt ci, with nothing kept of earlier runs, and prints where its time went: in all, the dearest parts (ten, or
+as many as an argument says), and the longest chain of crates.
 
 Once a second it asks the system how long each process of the prover has run. A part is a crate's proof, its tests, or its
 must-fail edits. A process that begins and ends within a second is missed; the line `in all` counts everything.
@@ -14,7 +15,7 @@ import time
 
 TOP = os.path.dirname(os.path.dirname(os.path.realpath(__file__)))
 TICK = os.sysconf("SC_CLK_TCK")
-DEAREST = 10
+DEAREST = int(sys.argv[1]) if len(sys.argv) > 1 else 10
 
 
 def read(path):
@@ -80,7 +81,7 @@ def chain(proofs):
 
 def main():
     seen, ended, began = {}, threading.Event(), time.time()
-    gate = subprocess.Popen(["rt", "ci"], cwd=TOP, stdin=subprocess.DEVNULL)
+    gate = subprocess.Popen(["rt", "ci", "--anew"], cwd=TOP, stdin=subprocess.DEVNULL)
     watcher = threading.Thread(target=watch, args=(seen, gate.pid, ended))
     watcher.start()
     status = gate.wait()
