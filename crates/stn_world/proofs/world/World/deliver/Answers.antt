@@ -18,26 +18,24 @@ use Rattle.stn_world.proofs.world.World.deliver.Goals as goal
 pub invariant_of-self : goal.invariant_of-self
 invariant_of-self g c = sound_stayed _ c.self.inside.replicas.items c.in_ok-place.place c.index_mut.result.now c.take.new.self c.self.invariant c.index_mut.ensures.value c.in_err-take.ensures.kept
 
-pub returns-in_err-take-clause-step : goal.returns-in_err-take-clause-step
-returns-in_err-take-clause-step g c =
+pub returns-in_err-take : goal.returns-in_err-take
+returns-in_err-take g c =
     let p = err_from_is_err_and c.from_residual-in_err-take.result c.from_residual-in_err-take.ensures.1 in
     let held = held_there c.args.self.now _ _ _ c.args.site c.index_mut.result.now c.self.view_is c.self.invariant.sites c.in_ok-place.ensures.place c.in_ok-place.ensures.there c.index_mut.ensures.value in
     let packet = packet_there c.args.self.now _ c.self.inside.replicas.items c.in_ok-from.from c.args.packet c.index.result.now c.self.view_is c.in_ok-from.ensures.place c.in_ok-from.ensures.there c.index.ensures in
     let fault : c.in_err-take.field-0.0 ≡ unwrap_or (take_refusal (held_at c.args.self.now c.args.site) (packet_at c.args.self.now c.args.packet)) replica_fault.Memory =
     c.in_err-take.ensures.fault ∙ ap (λ o. unwrap_or o replica_fault.Memory) (take_refusal_at c.args.self.now c.args.site c.index_mut.result.now c.index.result.now (packet_at c.args.self.now c.args.packet) held packet) in
-    rw (p.1, p.2) (
-      refused_by (take_refusal (held_at c.args.self.now c.args.site) (packet_at c.args.self.now c.args.packet)) c.in_err-take.field-0.0 fault
-          ∙ ap (λ o. unwrap_or o Memory) (sym (delivery_refusal c.args.self.now c.args.site c.args.packet c.in_ok-place.ensures.there c.in_ok-from.ensures.there)),
-      world_stayed c.args.self.now _ c.self.inside.replicas.items c.in_ok-place.place c.index_mut.result.now c.take.new.self c.self.view_is c.index_mut.ensures.value c.in_err-take.ensures.kept,
-    )
-
-pub returns-in_err-take-clause-agreed : goal.returns-in_err-take-clause-agreed
-returns-in_err-take-clause-agreed g c =
-    let p = err_from_is_err_and c.from_residual-in_err-take.result c.from_residual-in_err-take.ensures.1 in
-    let held = held_there c.args.self.now _ _ _ c.args.site c.index_mut.result.now c.self.view_is c.self.invariant.sites c.in_ok-place.ensures.place c.in_ok-place.ensures.there c.index_mut.ensures.value in
-    let packet = packet_there c.args.self.now _ c.self.inside.replicas.items c.in_ok-from.from c.args.packet c.index.result.now c.self.view_is c.in_ok-from.ensures.place c.in_ok-from.ensures.there c.index.ensures in
-    rw (p.1, p.2) (delivery_agrees c.args.self.now c.args.site c.args.packet c.in_err-take.field-0.0 (subst IsCoherent c.self.view_is c.self.invariant.coherent)
-    (c.in_err-take.ensures.fault ∙ ap (λ o. unwrap_or o replica_fault.Memory) (take_refusal_at c.args.self.now c.args.site c.index_mut.result.now c.index.result.now (packet_at c.args.self.now c.args.packet) held packet)))
+    rw (p.1, p.2) (record {
+      step = (
+        refused_by (take_refusal (held_at c.args.self.now c.args.site) (packet_at c.args.self.now c.args.packet)) c.in_err-take.field-0.0 fault
+            ∙ ap (λ o. unwrap_or o Memory) (sym (delivery_refusal c.args.self.now c.args.site c.args.packet c.in_ok-place.ensures.there c.in_ok-from.ensures.there)),
+        world_stayed c.args.self.now _ c.self.inside.replicas.items c.in_ok-place.place c.index_mut.result.now c.take.new.self c.self.view_is c.index_mut.ensures.value c.in_err-take.ensures.kept,
+      );
+      again = λ there sent inside. absurd (false≢true (c.in_err-take.ensures.again (part_there c.args.self.now c.args.site c.index_mut.result.now c.index.result.now (packet_at c.args.self.now c.args.packet) held packet inside)).0);
+      agreed =
+          delivery_agrees c.args.self.now c.args.site c.args.packet c.in_err-take.field-0.0 (subst IsCoherent c.self.view_is c.self.invariant.coherent)
+          (c.in_err-take.ensures.fault ∙ ap (λ o. unwrap_or o replica_fault.Memory) (take_refusal_at c.args.self.now c.args.site c.index_mut.result.now c.index.result.now (packet_at c.args.self.now c.args.packet) held packet));
+    })
 
 pub invariant_of-self-2 : goal.invariant_of-self-2
 invariant_of-self-2 g c =
@@ -50,26 +48,20 @@ invariant_of-self-2 g c =
     sound_changed c.args.self.now _ _ c.self.inside.replicas.items c.in_ok-place.place c.index_mut.result.now c.take.new.self _ c.self.view_is c.self.invariant c.index_mut.ensures.value c.in_ok-take.ensures.leaves made
     (coherent_after c.args.self.now (delivered c.args.site c.args.packet) accepted (subst IsCoherent c.self.view_is c.self.invariant.coherent))
 
-pub returns-clause-step : goal.returns-clause-step
-returns-clause-step g c =
-    let held = held_there c.args.self.now _ _ _ c.args.site c.index_mut.result.now c.self.view_is c.self.invariant.sites c.in_ok-place.ensures.place c.in_ok-place.ensures.there c.index_mut.ensures.value in
-    let packet = packet_there c.args.self.now _ c.self.inside.replicas.items c.in_ok-from.from c.args.packet c.index.result.now c.self.view_is c.in_ok-from.ensures.place c.in_ok-from.ensures.there c.index.ensures in (
-      delivery_refusal c.args.self.now c.args.site c.args.packet c.in_ok-place.ensures.there c.in_ok-from.ensures.there
-          ∙ ap (option_map of_replica_fault) (sym (take_refusal_at c.args.self.now c.args.site c.index_mut.result.now c.index.result.now (packet_at c.args.self.now c.args.packet) held packet) ∙ c.in_ok-take.ensures.accepted),
-      delivered_there c.args.self.now _ c.self.inside.replicas.items c.in_ok-place.place c.args.site c.args.packet c.index_mut.result.now c.take.new.self c.index.result.now c.self.view_is c.in_ok-place.ensures.place held packet c.in_ok-take.ensures.leaves,
-    )
-
-pub returns-in_err-take-clause-again : goal.returns-in_err-take-clause-again
-returns-in_err-take-clause-again g c =
+pub returns : goal.returns
+returns g c =
     let held = held_there c.args.self.now _ _ _ c.args.site c.index_mut.result.now c.self.view_is c.self.invariant.sites c.in_ok-place.ensures.place c.in_ok-place.ensures.there c.index_mut.ensures.value in
     let packet = packet_there c.args.self.now _ c.self.inside.replicas.items c.in_ok-from.from c.args.packet c.index.result.now c.self.view_is c.in_ok-from.ensures.place c.in_ok-from.ensures.there c.index.ensures in
-    λ there sent inside. absurd (false≢true (c.in_err-take.ensures.again (part_there c.args.self.now c.args.site c.index_mut.result.now c.index.result.now (packet_at c.args.self.now c.args.packet) held packet inside)).0)
-
-pub returns-clause-again : goal.returns-clause-again
-returns-clause-again g c = λ there sent inside.
-    let held = held_there c.args.self.now _ _ _ c.args.site c.index_mut.result.now c.self.view_is c.self.invariant.sites c.in_ok-place.ensures.place c.in_ok-place.ensures.there c.index_mut.ensures.value in
-    let packet = packet_there c.args.self.now _ c.self.inside.replicas.items c.in_ok-from.from c.args.packet c.index.result.now c.self.view_is c.in_ok-from.ensures.place c.in_ok-from.ensures.there c.index.ensures in (
-      refl,
-      world_stayed c.args.self.now _ c.self.inside.replicas.items c.in_ok-place.place c.index_mut.result.now c.take.new.self c.self.view_is c.index_mut.ensures.value
-          (c.in_ok-take.ensures.again (part_there c.args.self.now c.args.site c.index_mut.result.now c.index.result.now (packet_at c.args.self.now c.args.packet) held packet inside)).1,
-    )
+    record {
+      step = (
+        delivery_refusal c.args.self.now c.args.site c.args.packet c.in_ok-place.ensures.there c.in_ok-from.ensures.there
+            ∙ ap (option_map of_replica_fault) (sym (take_refusal_at c.args.self.now c.args.site c.index_mut.result.now c.index.result.now (packet_at c.args.self.now c.args.packet) held packet) ∙ c.in_ok-take.ensures.accepted),
+        delivered_there c.args.self.now _ c.self.inside.replicas.items c.in_ok-place.place c.args.site c.args.packet c.index_mut.result.now c.take.new.self c.index.result.now c.self.view_is c.in_ok-place.ensures.place held packet c.in_ok-take.ensures.leaves,
+      );
+      again = λ there sent inside. (
+        refl,
+        world_stayed c.args.self.now _ c.self.inside.replicas.items c.in_ok-place.place c.index_mut.result.now c.take.new.self c.self.view_is c.index_mut.ensures.value
+            (c.in_ok-take.ensures.again (part_there c.args.self.now c.args.site c.index_mut.result.now c.index.result.now (packet_at c.args.self.now c.args.packet) held packet inside)).1,
+      );
+      agreed = tt;
+    }

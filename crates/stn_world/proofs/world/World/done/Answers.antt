@@ -17,17 +17,20 @@ use Rattle.stn_world.proofs.world.World.done.Goals as goal
 pub invariant_of-self : goal.invariant_of-self
 invariant_of-self g c = sound_stayed _ c.self.inside.replicas.items c.in_ok-place.place c.index_mut.result.now c.done.new.self c.self.invariant c.index_mut.ensures.value c.in_err-id.ensures.kept
 
-pub returns-in_err-id-clause-step : goal.returns-in_err-id-clause-step
-returns-in_err-id-clause-step g c =
+pub returns-in_err-id : goal.returns-in_err-id
+returns-in_err-id g c =
     let p = err_from_is_err_and c.from_residual-in_err-id.result c.from_residual-in_err-id.ensures.1 in
     let held = held_there c.args.self.now _ _ _ c.args.site c.index_mut.result.now c.self.view_is c.self.invariant.sites c.in_ok-place.ensures.place c.in_ok-place.ensures.there c.index_mut.ensures.value in
     let fault : c.in_err-id.field-0.0 ≡ unwrap_or (done_refusal (held_at c.args.self.now c.args.site) c.args.event) replica_fault.Memory =
     c.in_err-id.ensures.fault ∙ ap (λ o. unwrap_or o replica_fault.Memory) (done_refusal_at c.args.self.now c.args.site c.index_mut.result.now c.args.event held) in
-    rw (p.1, p.2) (
-      refused_by (done_refusal (held_at c.args.self.now c.args.site) c.args.event) c.in_err-id.field-0.0 fault
-          ∙ ap (λ o. unwrap_or o Memory) (sym (at_site c.args.self.now c.args.site (option_map of_replica_fault (done_refusal (held_at c.args.self.now c.args.site) c.args.event)) c.in_ok-place.ensures.there)),
-      world_stayed c.args.self.now _ c.self.inside.replicas.items c.in_ok-place.place c.index_mut.result.now c.done.new.self c.self.view_is c.index_mut.ensures.value c.in_err-id.ensures.kept,
-    )
+    rw (p.1, p.2) (record {
+      id = tt;
+      step = (
+        refused_by (done_refusal (held_at c.args.self.now c.args.site) c.args.event) c.in_err-id.field-0.0 fault
+            ∙ ap (λ o. unwrap_or o Memory) (sym (at_site c.args.self.now c.args.site (option_map of_replica_fault (done_refusal (held_at c.args.self.now c.args.site) c.args.event)) c.in_ok-place.ensures.there)),
+        world_stayed c.args.self.now _ c.self.inside.replicas.items c.in_ok-place.place c.index_mut.result.now c.done.new.self c.self.view_is c.index_mut.ensures.value c.in_err-id.ensures.kept,
+      );
+    })
 
 pub invariant_of-self-2 : goal.invariant_of-self-2
 invariant_of-self-2 g c =
@@ -39,15 +42,14 @@ invariant_of-self-2 g c =
     sound_changed c.args.self.now _ _ c.self.inside.replicas.items c.in_ok-place.place c.index_mut.result.now c.done.new.self _ c.self.view_is c.self.invariant c.index_mut.ensures.value c.in_ok-id.ensures.leaves made
     (coherent_after c.args.self.now (finished c.args.site c.args.event c.args.time) accepted (subst IsCoherent c.self.view_is c.self.invariant.coherent))
 
-pub returns-clause-id : goal.returns-clause-id
-returns-clause-id g c =
-    c.in_ok-id.ensures.leaves.state.0 ∙ next_id_at-held c.args.self.now c.args.site c.index_mut.result.now
-    (held_there c.args.self.now _ _ _ c.args.site c.index_mut.result.now c.self.view_is c.self.invariant.sites c.in_ok-place.ensures.place c.in_ok-place.ensures.there c.index_mut.ensures.value)
-
-pub returns-clause-step : goal.returns-clause-step
-returns-clause-step g c =
-    let held = held_there c.args.self.now _ _ _ c.args.site c.index_mut.result.now c.self.view_is c.self.invariant.sites c.in_ok-place.ensures.place c.in_ok-place.ensures.there c.index_mut.ensures.value in (
-      at_site c.args.self.now c.args.site (option_map of_replica_fault (done_refusal (held_at c.args.self.now c.args.site) c.args.event)) c.in_ok-place.ensures.there
-          ∙ ap (option_map of_replica_fault) (sym (done_refusal_at c.args.self.now c.args.site c.index_mut.result.now c.args.event held) ∙ c.in_ok-id.ensures.accepted),
-      made_there c.args.self.now _ c.self.inside.replicas.items c.in_ok-place.place c.args.site c.index_mut.result.now c.done.new.self _ (executed c.args.time c.args.event) c.self.view_is c.in_ok-place.ensures.place held c.in_ok-id.ensures.leaves,
-    )
+pub returns : goal.returns
+returns g c =
+    let held = held_there c.args.self.now _ _ _ c.args.site c.index_mut.result.now c.self.view_is c.self.invariant.sites c.in_ok-place.ensures.place c.in_ok-place.ensures.there c.index_mut.ensures.value in
+    record {
+      id = c.in_ok-id.ensures.leaves.state.0 ∙ next_id_at-held c.args.self.now c.args.site c.index_mut.result.now held;
+      step = (
+        at_site c.args.self.now c.args.site (option_map of_replica_fault (done_refusal (held_at c.args.self.now c.args.site) c.args.event)) c.in_ok-place.ensures.there
+            ∙ ap (option_map of_replica_fault) (sym (done_refusal_at c.args.self.now c.args.site c.index_mut.result.now c.args.event held) ∙ c.in_ok-id.ensures.accepted),
+        made_there c.args.self.now _ c.self.inside.replicas.items c.in_ok-place.place c.args.site c.index_mut.result.now c.done.new.self _ (executed c.args.time c.args.event) c.self.view_is c.in_ok-place.ensures.place held c.in_ok-id.ensures.leaves,
+      );
+    }
