@@ -1,7 +1,6 @@
 pub mod Effects
 pub mod Events
 pub mod Ids
-pub mod Fronts
 pub mod Foresight
 pub mod Blocks
 pub mod Outputs

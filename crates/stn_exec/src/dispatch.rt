@@ -1,4 +1,4 @@
-ghost use Rattle.std.specs.Prelude.{◌≡◌, ◌⊎◌, ◌++◌, ◌+◌, true, List, ℕ, length, pos, OnOk, OnErr, IfOk, IfErr, take, vec_len};
+ghost use Rattle.std.specs.Prelude.{◌≡◌, ◌⊎◌, ◌++◌, ◌+◌, true, List, ℕ, length, pos, OnOk, OnErr, IfOk, IfErr};
 ghost use Rattle.std.specs.Bool.{Decides};
 ghost use Rattle.stn_net.specs.Schedule.{times_of};
 ghost use Rattle.stn_lift.specs.PlanSource.{events_of};
@@ -25,12 +25,10 @@ pub fn append_next<A: Allocator + Copy, B: Allocator>(
     ensures text { OnOk result ((text : List ℕ) × IsNextText replica.now.source replica.now.state now text × (out.new.items ≡ out.old.items ++ text)) }
     ensures kept { OnErr result (out.new.items ≡ out.old.items) }
 {
-    let before = out.len();
-    let outcome = append_next_line(replica, now, out);
-    if outcome.is_err() {
-        out.truncate(before);
-    }
-    outcome
+    let mut text = Vec::new(replica.alloc());
+    append_next_line(replica, now, &mut text)?;
+    out.extend_from_slice(&text)?;
+    Ok(())
 }
 
 fn append_next_line<A: Allocator + Copy, B: Allocator>(
@@ -38,8 +36,7 @@ fn append_next_line<A: Allocator + Copy, B: Allocator>(
     now: Ms,
     out: &mut Vec<u8, B>,
 ) -> Result<(), Memory>
-    ensures text { OnOk result ((text : List ℕ) × IsNextText replica.now.source replica.now.state now text × (out.new.items ≡ out.old.items ++ text)) }
-    ensures kept { take (vec_len out.old) out.new.items ≡ out.old.items }
+    ensures { OnOk result ((text : List ℕ) × IsNextText replica.now.source replica.now.state now text × (out.new.items ≡ out.old.items ++ text)) }
 {
     match replica.next(now) {
         Some(answer) => append_answer(out, answer),
@@ -48,8 +45,7 @@ fn append_next_line<A: Allocator + Copy, B: Allocator>(
 }
 
 fn append_answer<B: Allocator>(out: &mut Vec<u8, B>, answer: Next) -> Result<(), Memory>
-    ensures text { OnOk result (out.new.items ≡ out.old.items ++ next_text answer) }
-    ensures kept { take (vec_len out.old) out.new.items ≡ out.old.items }
+    ensures { OnOk result (out.new.items ≡ out.old.items ++ next_text answer) }
 {
     match answer {
         Next::Run(time, event) => append_run_line(out, time, event),
@@ -73,12 +69,10 @@ pub fn append_rest<A: Allocator + Copy, B: Allocator>(
         ⊎ ((event : ℕ) × (fault ≡ Overdue event) × IsOverdueAt replica.now.source replica.now.state now event)) }
     ensures kept { OnErr result (out.new.items ≡ out.old.items) }
 {
-    let before = out.len();
-    let outcome = append_rest_lines(replica, now, out);
-    if outcome.is_err() {
-        out.truncate(before);
-    }
-    outcome
+    let mut text = Vec::new(replica.alloc());
+    append_rest_lines(replica, now, &mut text)?;
+    out.extend_from_slice(&text)?;
+    Ok(())
 }
 
 fn append_rest_lines<A: Allocator + Copy, B: Allocator>(
@@ -89,7 +83,6 @@ fn append_rest_lines<A: Allocator + Copy, B: Allocator>(
     ensures text { OnOk result ((text : List ℕ) × IsRestText replica.now.source replica.now.state now text × (out.new.items ≡ out.old.items ++ text)) }
     ensures refused { IfErr result (λ fault. (fault ≡ want_of_memory)
         ⊎ ((event : ℕ) × (fault ≡ Overdue event) × IsOverdueAt replica.now.source replica.now.state now event)) }
-    ensures kept { take (vec_len out.old) out.new.items ≡ out.old.items }
 {
     match replica.rehearse(now)? {
         Some(runs) => append_runs(out, &runs)?,
@@ -147,8 +140,7 @@ pub fn append_check<A: Allocator + Copy, B: Allocator>(
 
 // Appends a line for each run, and `all done`.
 fn append_runs<B: Allocator>(out: &mut Vec<u8, B>, runs: &[(Ms, Event)]) -> Result<(), Memory>
-    ensures text { OnOk result (out.new.items ≡ out.old.items ++ runs_text runs.now) }
-    ensures kept { take (vec_len out.old) out.new.items ≡ out.old.items }
+    ensures { OnOk result (out.new.items ≡ out.old.items ++ runs_text runs.now) }
 {
     for run in runs {
         append_run_line(out, run.0, run.1)?;
@@ -158,12 +150,9 @@ fn append_runs<B: Allocator>(out: &mut Vec<u8, B>, runs: &[(Ms, Event)]) -> Resu
 
 // Appends the line `run <time> <event>`.
 fn append_run_line<B: Allocator>(out: &mut Vec<u8, B>, time: Ms, event: Event) -> Result<(), Memory>
-    ensures text { OnOk result (out.new.items ≡ out.old.items ++ run_line time event) }
-    ensures kept { take (vec_len out.old) out.new.items ≡ out.old.items }
+    ensures { OnOk result (out.new.items ≡ out.old.items ++ run_line time event) }
 {
     out.extend_from_slice(b"run ")?;
     time.print(out)?;
-    out.extend_from_slice(b" ")?;
-    event.print(out)?;
-    out.extend_from_slice(b"\n")
+    append_event_line(out, b" ", event)
 }

@@ -1,7 +1,7 @@
 ghost use Rattle.std.specs.Prelude.{◌≡◌, ◌+◌, ◌^◌, ◌<◌, ◌≤◌, ◌∷◌, true, false, length, min, Ok, IfSome, IfNone, IfOk, IfErr, codes};
 ghost use Rattle.std.specs.Option.{option_map};
 ghost use Rattle.stn_text.specs.Lines.{lines_of, words_of};
-ghost use Rattle.stn_lift.specs.PlanSource.{files, plan_source, base_of};
+ghost use Rattle.stn_lift.specs.PlanSource.{bare, files, plan_source, base_of};
 ghost use Rattle.stn_exec.specs.Blocks.{is_alone, block_from};
 ghost use Rattle.stn_exec.specs.Heading.{seen_found, seen_part, seen_block, seen_base, result_seen, IsOpened, IsHeadingFault};
 ghost use Rattle.stn_exec.specs.Script.{is_skipped, next_line, heading_number, part_of, refusing_fault, block_at, named_block, bare_part, files_part, based, heading_of};
@@ -150,8 +150,7 @@ fn read_bare<A: Allocator + Copy>(
 {
     match read_value(b"steps", found.word, found.rest) {
         Some(steps) => {
-            let source = Source::Bare(u16::try_from(steps).unwrap_or(u16::MAX));
-            let base = make_base(alloc, &source)?;
+            let base = bare_base(alloc, u16::try_from(steps).unwrap_or(u16::MAX))?;
             let rest = Rest {
                 number: found.number + 1,
                 text: found.behind,
@@ -160,6 +159,14 @@ fn read_bare<A: Allocator + Copy>(
         }
         None => Err(HeadingFault::Refused(Refusal::Line(found.number))),
     }
+}
+
+// The base of a bare plan of so many steps, or its refusal.
+fn bare_base<A: Allocator + Copy>(alloc: A, steps: u16) -> Result<Base<A>, HeadingFault>
+    ensures made { IfOk result (λ base. refusing_fault (base_of (bare steps)) ≡ Ok base) }
+    ensures refused { IfErr result (IsHeadingFault (refusing_fault (base_of (bare steps)))) }
+{
+    make_base(alloc, &Source::Bare(steps))
 }
 
 // The base of the domain and the plan after the line `domain`, and what stands after both.
