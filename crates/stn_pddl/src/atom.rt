@@ -44,8 +44,7 @@ fn read_terms<'a, A: Allocator + Copy>(
 ) -> Result<(Vec<Term<'a>, A>, Cursor<'a>), DomainFault>
     ensures given { Gives is_memory (λ found. terms_schema found.0.items) result
         (spec.terms (words_of parameters.now.keys) (row_at children.entry) []) }
-    ensures behind { IfOk result (λ found. rows_at found.1 ≡ behind_at children.entry) }
-    ensures shorter { IfOk result (λ found. left_at found.1 ≤ left_at children.entry) }
+    ensures passed { IfOk result (λ found. (rows_at found.1 ≡ behind_at children.entry) × (left_at found.1 ≤ left_at children.entry)) }
 {
     let mut terms = Vec::new(alloc);
     let mut cursor = children;
@@ -74,8 +73,7 @@ impl<'a, A: Allocator + Copy> Action<'a, A> {
     ) -> Result<Cursor<'a>, DomainFault>
         ensures given { Gives is_memory (λ _. action_schema self.new) result
             (spec.atom label negated predicate.now (row_at children.entry) (action_schema self.old)) }
-        ensures behind { IfOk result (λ rest. rows_at rest ≡ behind_at children.entry) }
-        ensures shorter { IfOk result (λ rest. left_at rest ≤ left_at children.entry) }
+        ensures passed { IfOk result (λ rest. (rows_at rest ≡ behind_at children.entry) × (left_at rest ≤ left_at children.entry)) }
     {
         let (terms, rest) = read_terms(alloc, &self.parameters, children)?;
         let predicate = Name { bytes: predicate };
@@ -93,8 +91,7 @@ impl<'a, A: Allocator + Copy> Action<'a, A> {
     ) -> Result<Cursor<'a>, DomainFault>
         ensures given { Gives is_memory (λ _. action_schema self.now) result
             (spec.equality line (row_at children.entry) (action_schema self.now)) }
-        ensures behind { IfOk result (λ rest. rows_at rest ≡ behind_at children.entry) }
-        ensures shorter { IfOk result (λ rest. left_at rest ≤ left_at children.entry) }
+        ensures passed { IfOk result (λ rest. (rows_at rest ≡ behind_at children.entry) × (left_at rest ≤ left_at children.entry)) }
     {
         if children.count_children() != 2 {
             return Err(DomainFault::Syntax(line));

@@ -52,8 +52,7 @@ impl<'a, A: Allocator + Copy> Action<'a, A> {
     ) -> Result<Cursor<'a>, DomainFault>
         ensures given { Gives is_memory (λ _. action_schema self.new) result
             (spec.labelled label line (row_at children.entry) (action_schema self.old)) }
-        ensures behind { IfOk result (λ rest. rows_at rest ≡ behind_at children.entry) }
-        ensures shorter { IfOk result (λ rest. left_at rest ≤ left_at children.entry) }
+        ensures passed { IfOk result (λ rest. (rows_at rest ≡ behind_at children.entry) × (left_at rest ≤ left_at children.entry)) }
     {
         if children.count_children() != 1 {
             return Err(DomainFault::Syntax(line));
@@ -72,8 +71,7 @@ impl<'a, A: Allocator + Copy> Action<'a, A> {
     ) -> Result<Cursor<'a>, DomainFault>
         ensures given { Gives is_memory (λ _. action_schema self.new) result
             (spec.at_tree side line (row_at children.entry) (action_schema self.old)) }
-        ensures behind { IfOk result (λ rest. rows_at rest ≡ behind_at children.entry) }
-        ensures shorter { IfOk result (λ rest. left_at rest ≤ left_at children.entry) }
+        ensures passed { IfOk result (λ rest. (rows_at rest ≡ behind_at children.entry) × (left_at rest ≤ left_at children.entry)) }
     {
         match children.next_child() {
             Child::End(_) => Err(DomainFault::Syntax(line)),
@@ -101,8 +99,7 @@ impl<'a, A: Allocator + Copy> Action<'a, A> {
     ) -> Result<Cursor<'a>, DomainFault>
         ensures given { Gives is_memory (λ _. action_schema self.new) result
             (spec.over_tree side line (row_at children.entry) (action_schema self.old)) }
-        ensures behind { IfOk result (λ rest. rows_at rest ≡ behind_at children.entry) }
-        ensures shorter { IfOk result (λ rest. left_at rest ≤ left_at children.entry) }
+        ensures passed { IfOk result (λ rest. (rows_at rest ≡ behind_at children.entry) × (left_at rest ≤ left_at children.entry)) }
     {
         match side {
             Side::Effect => Err(DomainFault::Syntax(line)),
@@ -131,8 +128,7 @@ impl<'a, A: Allocator + Copy> Action<'a, A> {
     ) -> Result<Cursor<'a>, DomainFault>
         ensures given { Gives is_memory (λ _. action_schema self.new) result
             (spec.timed_row side (row_at children.entry) (action_schema self.old)) }
-        ensures behind { IfOk result (λ rest. rows_at rest ≡ behind_at children.entry) }
-        ensures shorter { IfOk result (λ rest. left_at rest ≤ left_at children.entry) }
+        ensures passed { IfOk result (λ rest. (rows_at rest ≡ behind_at children.entry) × (left_at rest ≤ left_at children.entry)) }
     {
         let mut cursor = children;
         'trees: loop {
@@ -158,8 +154,7 @@ impl<'a, A: Allocator + Copy> Action<'a, A> {
     ) -> Result<Cursor<'a>, DomainFault>
         ensures given { Gives is_memory (λ _. action_schema self.new) result
             (spec.timed_tree side line (row_at children.entry) (action_schema self.old)) }
-        ensures behind { IfOk result (λ rest. rows_at rest ≡ behind_at children.entry) }
-        ensures shorter { IfOk result (λ rest. left_at rest ≤ left_at children.entry) }
+        ensures passed { IfOk result (λ rest. (rows_at rest ≡ behind_at children.entry) × (left_at rest ≤ left_at children.entry)) }
     {
         match children.next_child() {
             Child::End(behind) => Ok(behind),

@@ -33,8 +33,7 @@ impl<'a, A: Allocator + Copy> Action<'a, A> {
     ) -> Result<Cursor<'a>, DomainFault>
         ensures given { Gives is_memory (λ _. action_schema self.now) result
             (spec.equal_tree label line (row_at children.entry) (action_schema self.now)) }
-        ensures behind { IfOk result (λ rest. rows_at rest ≡ behind_at children.entry) }
-        ensures shorter { IfOk result (λ rest. left_at rest ≤ left_at children.entry) }
+        ensures passed { IfOk result (λ rest. (rows_at rest ≡ behind_at children.entry) × (left_at rest ≤ left_at children.entry)) }
     {
         if is_effect(label) {
             return Err(DomainFault::Unsupported(line));
@@ -53,8 +52,7 @@ impl<'a, A: Allocator + Copy> Action<'a, A> {
     ) -> Result<Cursor<'a>, DomainFault>
         ensures given { Gives is_memory (λ _. action_schema self.new) result
             (spec.negated_tree label line (row_at children.entry) (action_schema self.old)) }
-        ensures behind { IfOk result (λ rest. rows_at rest ≡ behind_at children.entry) }
-        ensures shorter { IfOk result (λ rest. left_at rest ≤ left_at children.entry) }
+        ensures passed { IfOk result (λ rest. (rows_at rest ≡ behind_at children.entry) × (left_at rest ≤ left_at children.entry)) }
     {
         match children.next_child() {
             Child::End(_) => Err(DomainFault::Syntax(line)),
@@ -81,8 +79,7 @@ impl<'a, A: Allocator + Copy> Action<'a, A> {
     ) -> Result<Cursor<'a>, DomainFault>
         ensures given { Gives is_memory (λ _. action_schema self.new) result
             (spec.negation label line (row_at children.entry) (action_schema self.old)) }
-        ensures behind { IfOk result (λ rest. rows_at rest ≡ behind_at children.entry) }
-        ensures shorter { IfOk result (λ rest. left_at rest ≤ left_at children.entry) }
+        ensures passed { IfOk result (λ rest. (rows_at rest ≡ behind_at children.entry) × (left_at rest ≤ left_at children.entry)) }
     {
         if children.count_children() != 1 {
             return Err(DomainFault::Syntax(line));
@@ -108,8 +105,7 @@ impl<'a, A: Allocator + Copy> Action<'a, A> {
     ) -> Result<Cursor<'a>, DomainFault>
         ensures given { Gives is_memory (λ _. action_schema self.new) result
             (spec.plain_row label (row_at children.entry) (action_schema self.old)) }
-        ensures behind { IfOk result (λ rest. rows_at rest ≡ behind_at children.entry) }
-        ensures shorter { IfOk result (λ rest. left_at rest ≤ left_at children.entry) }
+        ensures passed { IfOk result (λ rest. (rows_at rest ≡ behind_at children.entry) × (left_at rest ≤ left_at children.entry)) }
     {
         let mut cursor = children;
         'trees: loop {
@@ -135,8 +131,7 @@ impl<'a, A: Allocator + Copy> Action<'a, A> {
     ) -> Result<Cursor<'a>, DomainFault>
         ensures given { Gives is_memory (λ _. action_schema self.new) result
             (spec.plain_tree label line (row_at children.entry) (action_schema self.old)) }
-        ensures behind { IfOk result (λ rest. rows_at rest ≡ behind_at children.entry) }
-        ensures shorter { IfOk result (λ rest. left_at rest ≤ left_at children.entry) }
+        ensures passed { IfOk result (λ rest. (rows_at rest ≡ behind_at children.entry) × (left_at rest ≤ left_at children.entry)) }
     {
         match children.next_child() {
             Child::End(behind) => Ok(behind),
