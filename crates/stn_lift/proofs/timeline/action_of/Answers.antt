@@ -1,3 +1,6 @@
+use Rattle.std.proofs.Common.{arith, rules}
+use Rattle.std.proofs.lemmas.Grind.{common_steps}
+use Rattle.stn_pddl.specs.Views.{action_schema}
 use Rattle.stn_lift.proofs.timeline.action_of.Goals as goal
 
 pub returns-in_default-clause-arity : goal.returns-in_default-clause-arity
@@ -35,3 +38,14 @@ returns-then-get-gt-HORIZON-clause-sound g c = tt
 
 pub returns-then-get-gt-HORIZON-clause-last : goal.returns-then-get-gt-HORIZON-clause-last
 returns-then-get-gt-HORIZON-clause-last g c = tt
+
+pub returns-clause-arity : goal.returns-clause-arity
+unfolding action_schema
+returns-clause-arity g c = grind (arith, common_steps)
+
+pub returns-clause-sound : goal.returns-clause-sound
+returns-clause-sound g c = search rules
+
+pub returns-clause-last : goal.returns-clause-last
+unfolding action_schema
+returns-clause-last g c = grind (arith, common_steps)
