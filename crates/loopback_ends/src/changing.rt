@@ -1,10 +1,13 @@
 // Logs that change while a site serves or sends.
-use super::{REPLIES, REPORT, add, command, load_log, reply, send_replica, serve_log};
-use anyhow::{Error, bail};
+use super::{
+    add, command, connect, is_as_before, print_report, replies_of_two, send_replica, serve_log,
+    with_log,
+};
+use anyhow::Error;
 use std::alloc::Global;
 use std::fs;
 use std::io::Write;
-use std::net::{TcpListener, TcpStream};
+use std::net::TcpListener;
 use stn_replica::Replica;
 
 /// A log that gains a bound before a session and during an exchange; one that is gone; one that another plan's has replaced, and one
@@ -13,8 +16,7 @@ pub fn serve_and_send(rt: &HostRuntime, listener: &TcpListener) -> Result<(), Er
     serve_older(rt, listener)?;
     send_older(rt, listener)?;
     serve_gone(rt, listener)?;
-    let other = fs::read(rt, "big.log")?;
-    serve_replaced(rt, listener, &other)?;
+    serve_other_plan(rt, listener)?;
     serve_replaced(rt, listener, b"no log")
 }
 
@@ -25,53 +27,57 @@ fn serve_closed(
     log: &str,
     replica: &mut Replica<Global>,
 ) -> Result<(), Error> {
-    drop(TcpStream::connect(rt, listener.local_addr()?)?);
+    drop(connect(rt, listener)?);
     serve_log(rt, listener, 1, log, replica)
 }
 
 // The log has a bound more than the replica that is served.
 fn serve_older(rt: &HostRuntime, listener: &TcpListener) -> Result<(), Error> {
-    let mut replica = load_log(rt, "t.log", 1)?;
-    add(rt, "z", "e1", "--lo=7.000", "--hi=9.000")?;
-    serve_closed(rt, listener, "t.log", &mut replica)?;
-    let mut report = Vec::new(rt.alloc());
-    replica.report(&mut report)?;
-    print!(rt; "{}", String::from_utf8_lossy(rt.alloc(), &report)?)?;
-    command(rt, &["stn", "report", "t.log", "1"])?;
-    Ok(())
+    with_log(rt, "t.log", 1, |replica| {
+        add(rt, "z", "e1", "--lo=7.000", "--hi=9.000")?;
+        serve_closed(rt, listener, "t.log", replica)?;
+        print_report(rt, replica)?;
+        command(rt, &["stn", "report", "t.log", "1"])
+    })
 }
 
 // The log has a bound more than the replica that was sent.
 fn send_older(rt: &HostRuntime, listener: &TcpListener) -> Result<(), Error> {
-    let mut replica = load_log(rt, "u.log", 2)?;
-    command(rt, &["stn", "add", "u.log", "2", "z", "e1", "--hi=14.000"])?;
-    let stream = TcpStream::connect(rt, listener.local_addr()?)?;
-    let (other, _) = listener.accept()?;
-    let mut replies = Vec::new(rt.alloc());
-    replies.extend_from_slice(&REPLIES)?;
-    replies.extend_from_slice(REPORT)?;
-    reply(&other, &replies)?;
-    send_replica(rt, stream, &mut replica)?;
-    command(rt, &["stn", "report", "u.log", "2"])?;
-    Ok(())
+    with_log(rt, "u.log", 2, |replica| {
+        command(rt, &["stn", "add", "u.log", "2", "z", "e1", "--hi=14.000"])?;
+        let replies = replies_of_two(rt.alloc())?;
+        send_replica(rt, listener, &replies, replica)?;
+        command(rt, &["stn", "report", "u.log", "2"])
+    })
 }
 
 // The log is gone, and made again.
 fn serve_gone(rt: &HostRuntime, listener: &TcpListener) -> Result<(), Error> {
-    let mut replica = load_log(rt, "t.log", 1)?;
-    fs::remove_file(rt, "t.log")?;
-    serve_closed(rt, listener, "t.log", &mut replica)?;
-    command(rt, &["stn", "report", "t.log", "1"])?;
-    Ok(())
+    with_log(rt, "t.log", 1, |replica| {
+        fs::remove_file(rt, "t.log")?;
+        serve_closed(rt, listener, "t.log", replica)?;
+        command(rt, &["stn", "report", "t.log", "1"])
+    })
+}
+
+// The log of another plan stands in the log's place.
+fn serve_other_plan(rt: &HostRuntime, listener: &TcpListener) -> Result<(), Error> {
+    let other = fs::read(rt, "big.log")?;
+    serve_replaced(rt, listener, &other)
 }
 
 // Other bytes stand in the log's place, and stay.
 fn serve_replaced(rt: &HostRuntime, listener: &TcpListener, bytes: &[u8]) -> Result<(), Error> {
-    let mut replica = load_log(rt, "t.log", 1)?;
     (&fs::create(rt, "x.log")?).write_all(bytes)?;
-    serve_closed(rt, listener, "x.log", &mut replica)?;
-    if fs::read(rt, "x.log")?.as_slice() != bytes {
-        bail!("the log was saved");
-    }
-    Ok(())
+    serve_in_place(rt, listener)?;
+    is_as_before(rt, "x.log", bytes)
+}
+
+fn serve_in_place(rt: &HostRuntime, listener: &TcpListener) -> Result<(), Error> {
+    with_log(
+        rt,
+        "t.log",
+        1,
+        |replica| serve_closed(rt, listener, "x.log", replica),
+    )
 }

@@ -52,27 +52,57 @@ fn load_log(rt: &HostRuntime, log: &str, site: u8) -> Result<Replica<Global>, Er
     Ok(load(rt.alloc(), &mut reader, site)?)
 }
 
+// Works on the replica of a site by its log.
+fn with_log<F: Fn(&mut Replica<Global>) -> Result<(), Error>>(
+    rt: &HostRuntime,
+    log: &str,
+    site: u8,
+    work: F,
+) -> Result<(), Error>
+    requires { F.IsAlwaysCallable work }
+{
+    let mut replica = load_log(rt, log, site)?;
+    work(&mut replica)
+}
+
 // Does a command, and prints its status.
-fn command(rt: &HostRuntime, words: &[&str]) -> io::Result<()> {
+fn command(rt: &HostRuntime, words: &[&str]) -> Result<(), Error> {
     let mut reader = Counted::new(b"".as_slice());
     let mut out = Counted::new(io::writer(rt));
     let mut err = Counted::new(io::writer(rt));
     let status = execute(rt, words, &mut reader, &mut out, &mut err);
-    println!(rt; "status {status}")
+    print_status(rt, status)
+}
+
+fn print_status(rt: &HostRuntime, status: u8) -> Result<(), Error> {
+    println!(rt; "status {status}")?;
+    Ok(())
 }
 
 // Adds a bound to the log of site 1.
-fn add(rt: &HostRuntime, from: &str, to: &str, lo: &str, hi: &str) -> io::Result<()> {
+fn add(rt: &HostRuntime, from: &str, to: &str, lo: &str, hi: &str) -> Result<(), Error> {
     command(rt, &["stn", "add", "t.log", "1", from, to, lo, hi])
 }
 
-// Connects, and writes the requests of a replica.
+// A connection to the listener.
+fn connect(rt: &HostRuntime, listener: &TcpListener) -> Result<TcpStream, Error> {
+    Ok(TcpStream::connect(rt, listener.local_addr()?)?)
+}
+
+// A connection on which these bytes wait.
+fn begin(rt: &HostRuntime, listener: &TcpListener, bytes: &[u8]) -> Result<TcpStream, Error> {
+    let stream = connect(rt, listener)?;
+    (&stream).write_all(bytes)?;
+    Ok(stream)
+}
+
+// A connection on which the requests of a replica wait.
 fn ask(
     rt: &HostRuntime,
     listener: &TcpListener,
     replica: &Replica<Global>,
 ) -> Result<TcpStream, Error> {
-    let stream = TcpStream::connect(rt, listener.local_addr()?)?;
+    let stream = connect(rt, listener)?;
     let mut writer = Counted::new(&stream);
     send_requests(rt.alloc(), replica, &mut writer)?;
     Ok(stream)
@@ -84,32 +114,73 @@ fn receive(
     stream: &TcpStream,
     replica: &mut Replica<Global>,
 ) -> Result<(), Error> {
+    receive_text(rt, stream, replica)?;
+    print_report(rt, replica)
+}
+
+fn receive_text(
+    rt: &HostRuntime,
+    stream: &TcpStream,
+    replica: &mut Replica<Global>,
+) -> Result<(), Error> {
     let mut reader = Counted::new(stream);
     let text = receive_replies(rt.alloc(), &mut reader, replica)?;
+    print_text(rt, &text)
+}
+
+fn print_report(rt: &HostRuntime, replica: &Replica<Global>) -> Result<(), Error> {
     let mut report = Vec::new(rt.alloc());
     replica.report(&mut report)?;
-    print!(rt; "{}", String::from_utf8_lossy(rt.alloc(), &text)?)?;
-    print!(rt; "{}", String::from_utf8_lossy(rt.alloc(), &report)?)?;
+    print_text(rt, &report)
+}
+
+fn print_text(rt: &HostRuntime, text: &[u8]) -> Result<(), Error> {
+    print!(rt; "{}", String::from_utf8_lossy(rt.alloc(), text)?)?;
     Ok(())
 }
 
 // A session over a connection whose other end stays.
 fn session(rt: &HostRuntime, listener: &TcpListener) -> Result<(), Error> {
-    let mut first = load_log(rt, "t.log", 1)?;
-    let mut second = load_log(rt, "u.log", 2)?;
-    let other = ask(rt, listener, &second)?;
-    let (stream, _) = listener.accept()?;
-    let mut reader = Counted::new((&stream).take(REQUESTS_LENGTH));
-    let mut writer = Counted::new(&stream);
-    let served = serve(rt.alloc(), &mut reader, &mut writer, &mut first)?;
-    println!(rt; "{} frames, {:?}", served.frames, served.end)?;
-    receive(rt, &other, &mut second)
+    with_log(rt, "u.log", 2, |replica| {
+        let other = ask(rt, listener, replica)?;
+        serve_next(rt, listener)?;
+        receive(rt, &other, replica)
+    })
 }
 
-// Serves the connections that wait, and prints the status.
-fn serve_waiting(rt: &HostRuntime, listener: &TcpListener, count: u16) -> Result<(), Error> {
-    let mut replica = load_log(rt, "t.log", 1)?;
-    serve_log(rt, listener, count, "t.log", &mut replica)
+// Serves the next connection as far as the requests go.
+fn serve_next(rt: &HostRuntime, listener: &TcpListener) -> Result<(), Error> {
+    with_log(rt, "t.log", 1, |replica| {
+        let (stream, _) = listener.accept()?;
+        serve_requested(rt, &stream, replica)
+    })
+}
+
+fn serve_requested(
+    rt: &HostRuntime,
+    stream: &TcpStream,
+    replica: &mut Replica<Global>,
+) -> Result<(), Error> {
+    let mut reader = Counted::new(stream.take(REQUESTS_LENGTH));
+    let mut writer = Counted::new(stream);
+    let served = serve(rt.alloc(), &mut reader, &mut writer, replica)?;
+    println!(rt; "{} frames, {:?}", served.frames, served.end)?;
+    Ok(())
+}
+
+// Serves the connections that wait by a log of site 1, and prints the status.
+fn serve_waiting(
+    rt: &HostRuntime,
+    listener: &TcpListener,
+    count: u16,
+    log: &str,
+) -> Result<(), Error> {
+    with_log(
+        rt,
+        log,
+        1,
+        |replica| serve_log(rt, listener, count, log, replica),
+    )
 }
 
 // The same for a replica that was loaded before.
@@ -120,51 +191,62 @@ fn serve_log(
     log: &str,
     replica: &mut Replica<Global>,
 ) -> Result<(), Error> {
-    let mut out = Counted::new(io::writer(rt));
-    let mut err = Counted::new(io::writer(rt));
     let service = Service {
         listener,
         count,
         limit: Duration::from_millis(LIMIT),
     };
     let site = Site::new(1).context("no site")?;
-    let status = serve_on(
+    let status = status_of_serving(rt, &service, &SiteLog { name: log, site }, replica);
+    print_status(rt, status)
+}
+
+fn status_of_serving(
+    rt: &HostRuntime,
+    service: &Service<'_>,
+    log: &SiteLog<'_>,
+    replica: &mut Replica<Global>,
+) -> u8 {
+    let mut out = Counted::new(io::writer(rt));
+    let mut err = Counted::new(io::writer(rt));
+    serve_on(
         rt,
         &mut FileStore::new(rt),
-        &service,
-        &SiteLog { name: log, site },
+        service,
+        log,
         replica,
         &mut out,
         &mut err,
-    );
-    println!(rt; "status {status}")?;
-    Ok(())
+    )
 }
 
 // A connection whose requests end in bytes that are no frame.
 fn serve_refused(rt: &HostRuntime, listener: &TcpListener) -> Result<(), Error> {
-    let mut replica = load_log(rt, "u.log", 2)?;
-    let other = ask(rt, listener, &replica)?;
-    (&other).write_all(&[0, 4, 0, 1])?;
-    serve_waiting(rt, listener, 1)?;
-    receive(rt, &other, &mut replica)
+    with_log(rt, "u.log", 2, |replica| {
+        let other = ask(rt, listener, replica)?;
+        (&other).write_all(&[0, 4, 0, 1])?;
+        serve_waiting(rt, listener, 1, "t.log")?;
+        receive(rt, &other, replica)
+    })
 }
 
 // A connection that ends within a frame, and one that says nothing.
 fn serve_broken(rt: &HostRuntime, listener: &TcpListener) -> Result<(), Error> {
-    let stream = TcpStream::connect(rt, listener.local_addr()?)?;
-    (&stream).write_all(&[0, 0, 0, 4, 7])?;
-    drop(stream);
-    drop(TcpStream::connect(rt, listener.local_addr()?)?);
-    serve_waiting(rt, listener, 2)
+    drop(begin(rt, listener, &[0, 0, 0, 4, 7])?);
+    drop(connect(rt, listener)?);
+    serve_waiting(rt, listener, 2, "t.log")
 }
 
-// Sends over a connection on which the replies wait.
+// Sends over a connection on which the replies of a site with two records wait.
 fn send(rt: &HostRuntime, listener: &TcpListener) -> Result<(), Error> {
-    let mut replies = Vec::new(rt.alloc());
-    replies.extend_from_slice(&REPLIES)?;
-    replies.extend_from_slice(REPORT)?;
+    let replies = replies_of_two(rt.alloc())?;
     send_waiting(rt, listener, &replies)
+}
+
+fn replies_of_two(alloc: Global) -> Result<Vec<u8>, Error> {
+    let mut replies = Vec::from_slice(alloc, &REPLIES)?;
+    replies.extend_from_slice(REPORT)?;
+    Ok(replies)
 }
 
 // Requests that site 1 answers, each over a connection of its own whose other end says nothing more: a HELLO of another plan, ASK
@@ -182,20 +264,24 @@ const REQUESTS: [&str; 7] = [
 
 // Sends requests, and says that nothing more comes.
 fn send_bytes(rt: &HostRuntime, listener: &TcpListener, digits: &str) -> Result<TcpStream, Error> {
-    let stream = TcpStream::connect(rt, listener.local_addr()?)?;
-    (&stream).write_all(&hex::decode(rt.alloc(), digits)?)?;
-    stream.shutdown(Shutdown::Write)?;
+    let bytes = hex::decode(rt.alloc(), digits)?;
+    let stream = connect(rt, listener)?;
+    write_all_of(&stream, &bytes)?;
     Ok(stream)
 }
 
 // Serves each of the requests, and prints the replies.
 fn serve_requests(rt: &HostRuntime, listener: &TcpListener) -> Result<(), Error> {
     for digits in REQUESTS {
-        let other = send_bytes(rt, listener, digits)?;
-        serve_waiting(rt, listener, 1)?;
-        print_replies(rt, &other)?;
+        serve_request(rt, listener, digits)?;
     }
     Ok(())
+}
+
+fn serve_request(rt: &HostRuntime, listener: &TcpListener, digits: &str) -> Result<(), Error> {
+    let other = send_bytes(rt, listener, digits)?;
+    serve_waiting(rt, listener, 1, "t.log")?;
+    print_replies(rt, &other)
 }
 
 fn print_replies(rt: &HostRuntime, other: &TcpStream) -> Result<(), Error> {
@@ -219,14 +305,19 @@ const BEFORE_ASKING: [u8; 42] = [
 // These, and 100 times ASK, from a site that goes away before it is answered.
 fn serve_gone(rt: &HostRuntime, listener: &TcpListener) -> Result<(), Error> {
     ask_and_go(rt, listener)?;
-    serve_waiting(rt, listener, 1)
+    serve_waiting(rt, listener, 1, "t.log")
 }
 
 fn ask_and_go(rt: &HostRuntime, listener: &TcpListener) -> Result<(), Error> {
-    let stream = TcpStream::connect(rt, listener.local_addr()?)?;
-    (&stream).write_all(&BEFORE_ASKING)?;
+    let stream = begin(rt, listener, &BEFORE_ASKING)?;
+    ask_often(&stream)?;
+    Ok(())
+}
+
+fn ask_often(stream: &TcpStream) -> io::Result<()> {
+    let mut writer = stream;
     for _ in 0..100 {
-        (&stream).write_all(&[0, 0, 0, 1, 3])?;
+        writer.write_all(&[0, 0, 0, 1, 3])?;
     }
     Ok(())
 }
@@ -235,8 +326,8 @@ fn ask_and_go(rt: &HostRuntime, listener: &TcpListener) -> Result<(), Error> {
 fn serve_unsaved(rt: &HostRuntime, listener: &TcpListener) -> Result<(), Error> {
     fs::remove_file(rt, "t.log.lock")?;
     fs::create_dir(rt, "t.log.lock")?;
-    drop(TcpStream::connect(rt, listener.local_addr()?)?);
-    serve_waiting(rt, listener, 1)?;
+    drop(connect(rt, listener)?);
+    serve_waiting(rt, listener, 1, "t.log")?;
     fs::remove_dir(rt, "t.log.lock")?;
     Ok(())
 }
@@ -257,41 +348,61 @@ const REFUSED_REPLIES: [&str; 9] = [
 
 // Sends over a connection on which these replies wait.
 fn send_waiting(rt: &HostRuntime, listener: &TcpListener, replies: &[u8]) -> Result<(), Error> {
-    let stream = TcpStream::connect(rt, listener.local_addr()?)?;
-    let (other, _) = listener.accept()?;
-    reply(&other, replies)?;
-    send_over(rt, stream)
-}
-
-// Writes replies, and says that nothing more comes.
-fn reply(other: &TcpStream, replies: &[u8]) -> io::Result<()> {
-    let mut writer = other;
-    writer.write_all(replies)?;
-    other.shutdown(Shutdown::Write)
-}
-
-// Sends over a connection, and prints the status.
-fn send_over(rt: &HostRuntime, stream: TcpStream) -> Result<(), Error> {
-    let mut replica = load_log(rt, "u.log", 2)?;
-    send_replica(rt, stream, &mut replica)
+    with_log(
+        rt,
+        "u.log",
+        2,
+        |replica| send_replica(rt, listener, replies, replica),
+    )
 }
 
 // The same for a replica that was loaded before.
 fn send_replica(
     rt: &HostRuntime,
+    listener: &TcpListener,
+    replies: &[u8],
+    replica: &mut Replica<Global>,
+) -> Result<(), Error> {
+    let stream = connect(rt, listener)?;
+    let (other, _) = listener.accept()?;
+    write_all_of(&other, replies)?;
+    send_over(rt, stream, replica)
+}
+
+// Writes these bytes, and says that nothing more comes.
+fn write_all_of(stream: &TcpStream, bytes: &[u8]) -> io::Result<()> {
+    let mut writer = stream;
+    writer.write_all(bytes)?;
+    stream.shutdown(Shutdown::Write)
+}
+
+// Sends over a connection, and prints the status.
+fn send_over(
+    rt: &HostRuntime,
     stream: TcpStream,
     replica: &mut Replica<Global>,
 ) -> Result<(), Error> {
+    let site = Site::new(2).context("no site")?;
     let Ok(peer) = Peer::of(rt, stream, Duration::from_millis(LIMIT)) else {
         bail!("no clock");
     };
+    let status = status_of_sending(rt, &peer, site, replica);
+    drop(peer);
+    print_status(rt, status)
+}
+
+fn status_of_sending(
+    rt: &HostRuntime,
+    peer: &Peer,
+    site: Site,
+    replica: &mut Replica<Global>,
+) -> u8 {
     let mut out = Counted::new(io::writer(rt));
     let mut err = Counted::new(io::writer(rt));
-    let site = Site::new(2).context("no site")?;
-    let status = send_on(
+    send_on(
         rt,
         &mut FileStore::new(rt),
-        &peer,
+        peer,
         &SiteLog {
             name: "u.log",
             site,
@@ -299,9 +410,7 @@ fn send_replica(
         replica,
         &mut out,
         &mut err,
-    );
-    println!(rt; "status {status}")?;
-    Ok(())
+    )
 }
 
 // Each of the refused replies, after which the log is as before.
@@ -314,9 +423,13 @@ fn send_refused(rt: &HostRuntime, listener: &TcpListener) -> Result<(), Error> {
 
 fn send_refused_one(rt: &HostRuntime, listener: &TcpListener, digits: &str) -> Result<(), Error> {
     let before = fs::read(rt, "u.log")?;
-    let replies = hex::decode(rt.alloc(), digits)?;
-    send_waiting(rt, listener, &replies)?;
+    send_digits(rt, listener, digits)?;
     is_as_before(rt, "u.log", &before)
+}
+
+fn send_digits(rt: &HostRuntime, listener: &TcpListener, digits: &str) -> Result<(), Error> {
+    let replies = hex::decode(rt.alloc(), digits)?;
+    send_waiting(rt, listener, &replies)
 }
 
 fn is_as_before(rt: &HostRuntime, log: &str, before: &[u8]) -> Result<(), Error> {
@@ -330,15 +443,18 @@ fn is_as_before(rt: &HostRuntime, log: &str, before: &[u8]) -> Result<(), Error>
 fn reach_nothing(rt: &HostRuntime, listener: &TcpListener) -> Result<(), Error> {
     let before = fs::read(rt, "t.log")?;
     serve_at_taken(rt, listener)?;
-    let free = free_address(rt)?;
-    command(rt, &["stn", "send", "t.log", "1", &free])?;
+    send_to_free(rt)?;
     is_as_before(rt, "t.log", &before)
 }
 
 fn serve_at_taken(rt: &HostRuntime, listener: &TcpListener) -> Result<(), Error> {
     let taken = format!(in rt.alloc(); "{}", listener.local_addr()?)?;
-    command(rt, &["stn", "serve", "t.log", "1", &taken, "1"])?;
-    Ok(())
+    command(rt, &["stn", "serve", "t.log", "1", &taken, "1"])
+}
+
+fn send_to_free(rt: &HostRuntime) -> Result<(), Error> {
+    let free = free_address(rt)?;
+    command(rt, &["stn", "send", "t.log", "1", &free])
 }
 
 fn free_address(rt: &HostRuntime) -> Result<String, Error> {
@@ -346,26 +462,43 @@ fn free_address(rt: &HostRuntime) -> Result<String, Error> {
     Ok(format!(in rt.alloc(); "{}", other.local_addr()?)?)
 }
 
+fn make_logs(rt: &HostRuntime) -> Result<(), Error> {
+    command(rt, &["stn", "bare", "t.log", "1", "1"])?;
+    add(rt, "s1", "e1", "--lo=5.000", "--hi=5.000")?;
+    add(rt, "z", "s1", "--lo=2.000", "--hi=10.000")?;
+    command(rt, &["stn", "bare", "u.log", "2", "1"])
+}
+
+fn serve_and_send(rt: &HostRuntime, listener: &TcpListener) -> Result<(), Error> {
+    session(rt, listener)?;
+    serve_refused(rt, listener)?;
+    serve_broken(rt, listener)?;
+    send(rt, listener)?;
+    command(rt, &["stn", "report", "u.log", "2"])?;
+    serve_requests(rt, listener)?;
+    send_refused(rt, listener)?;
+    serve_gone(rt, listener)?;
+    command(rt, &["stn", "report", "t.log", "1"])?;
+    serve_unsaved(rt, listener)?;
+    reach_nothing(rt, listener)
+}
+
+// An address, and a log, that are not there.
+fn find_nothing(rt: &HostRuntime) -> Result<(), Error> {
+    command(rt, &["stn", "send", "u.log", "2", "nowhere"])?;
+    command(rt, &["stn", "serve", "t.log", "1", "nowhere", "1"])?;
+    command(rt, &["stn", "serve", "none.log", "1", "127.0.0.1:0", "1"])
+}
+
+fn run(rt: &HostRuntime, listener: &TcpListener) -> Result<(), Error> {
+    serve_and_send(rt, listener)?;
+    find_nothing(rt)?;
+    untrusted::serve_peers(rt, listener)?;
+    changing::serve_and_send(rt, listener)
+}
+
 fn main(rt: HostRuntime) -> Result<(), Error> {
-    command(&rt, &["stn", "bare", "t.log", "1", "1"])?;
-    add(&rt, "s1", "e1", "--lo=5.000", "--hi=5.000")?;
-    add(&rt, "z", "s1", "--lo=2.000", "--hi=10.000")?;
-    command(&rt, &["stn", "bare", "u.log", "2", "1"])?;
+    make_logs(&rt)?;
     let listener = TcpListener::bind(&rt, "127.0.0.1:0")?;
-    session(&rt, &listener)?;
-    serve_refused(&rt, &listener)?;
-    serve_broken(&rt, &listener)?;
-    send(&rt, &listener)?;
-    command(&rt, &["stn", "report", "u.log", "2"])?;
-    serve_requests(&rt, &listener)?;
-    send_refused(&rt, &listener)?;
-    serve_gone(&rt, &listener)?;
-    command(&rt, &["stn", "report", "t.log", "1"])?;
-    serve_unsaved(&rt, &listener)?;
-    reach_nothing(&rt, &listener)?;
-    command(&rt, &["stn", "send", "u.log", "2", "nowhere"])?;
-    command(&rt, &["stn", "serve", "t.log", "1", "nowhere", "1"])?;
-    command(&rt, &["stn", "serve", "none.log", "1", "127.0.0.1:0", "1"])?;
-    untrusted::serve_peers(&rt, &listener)?;
-    changing::serve_and_send(&rt, &listener)
+    run(&rt, &listener)
 }

@@ -1,9 +1,8 @@
 // Peers that keep a site waiting, each with an honest one after it.
-use super::{BEFORE_ASKING, command, load_log, serve_log, serve_waiting};
+use super::{BEFORE_ASKING, ask, begin, command, serve_waiting, with_log};
 use anyhow::{Error, bail};
 use std::alloc::Global;
-use std::io::{Read, Write};
-use std::net::{Shutdown, TcpListener, TcpStream};
+use std::net::{Shutdown, SocketAddr, TcpListener, TcpStream};
 use std::time::Duration;
 use stn_device::Counted;
 use stn_net::Event;
@@ -22,22 +21,13 @@ pub fn serve_peers(rt: &HostRuntime, listener: &TcpListener) -> Result<(), Error
     reach_no_answer(rt)
 }
 
-// A connection on which these bytes wait, and which stays open.
-fn begin(rt: &HostRuntime, listener: &TcpListener, bytes: &[u8]) -> Result<TcpStream, Error> {
-    let stream = TcpStream::connect(rt, listener.local_addr()?)?;
-    (&stream).write_all(bytes)?;
-    Ok(stream)
-}
-
 // A connection with the requests of a replica, and nothing after them.
-fn ask(
+fn ask_alone(
     rt: &HostRuntime,
     listener: &TcpListener,
     replica: &Replica<Global>,
 ) -> Result<TcpStream, Error> {
-    let stream = TcpStream::connect(rt, listener.local_addr()?)?;
-    let mut writer = Counted::new(&stream);
-    send_requests(rt.alloc(), replica, &mut writer)?;
+    let stream = ask(rt, listener, replica)?;
     stream.shutdown(Shutdown::Write)?;
     Ok(stream)
 }
@@ -50,42 +40,71 @@ fn print_first_line(
 ) -> Result<(), Error> {
     let mut reader = Counted::new(stream);
     let text = receive_replies(rt.alloc(), &mut reader, replica)?;
-    let text = String::from_utf8_lossy(rt.alloc(), &text)?;
+    print_first_line_of(rt, &text)
+}
+
+fn print_first_line_of(rt: &HostRuntime, text: &[u8]) -> Result<(), Error> {
+    let text = String::from_utf8_lossy(rt.alloc(), text)?;
     println!(rt; "{}", text.lines().next().unwrap_or(""))?;
     Ok(())
 }
 
 // A peer that says this and no more, and the honest one.
 fn serve_after(rt: &HostRuntime, listener: &TcpListener, said: &[u8]) -> Result<(), Error> {
-    let mut honest = load_log(rt, "u.log", 2)?;
+    with_log(
+        rt,
+        "u.log",
+        2,
+        |honest| serve_both(rt, listener, "t.log", said, honest),
+    )
+}
+
+fn serve_both(
+    rt: &HostRuntime,
+    listener: &TcpListener,
+    log: &str,
+    said: &[u8],
+    honest: &mut Replica<Global>,
+) -> Result<(), Error> {
     let silent = begin(rt, listener, said)?;
-    let asking = ask(rt, listener, &honest)?;
-    serve_waiting(rt, listener, 2)?;
+    let answer = serve_honest(rt, listener, log, honest);
     drop(silent);
-    print_first_line(rt, &asking, &mut honest)
+    answer
+}
+
+// Serves the peer that waits, and an honest one.
+fn serve_honest(
+    rt: &HostRuntime,
+    listener: &TcpListener,
+    log: &str,
+    honest: &mut Replica<Global>,
+) -> Result<(), Error> {
+    let asking = ask_alone(rt, listener, honest)?;
+    serve_waiting(rt, listener, 2, log)?;
+    print_first_line(rt, &asking, honest)
 }
 
 // A peer that hands on its record and then says nothing: the record is kept.
 fn serve_records(rt: &HostRuntime, listener: &TcpListener) -> Result<(), Error> {
     command(rt, &["stn", "bare", "v.log", "1", "1"])?;
-    let mut replica = load_log(rt, "v.log", 1)?;
+    serve_silent(rt, listener)?;
+    command(rt, &["stn", "report", "v.log", "1"])
+}
+
+fn serve_silent(rt: &HostRuntime, listener: &TcpListener) -> Result<(), Error> {
     let silent = begin(rt, listener, &BEFORE_ASKING)?;
-    serve_log(rt, listener, 1, "v.log", &mut replica)?;
+    let answer = serve_waiting(rt, listener, 1, "v.log");
     drop(silent);
-    command(rt, &["stn", "report", "v.log", "1"])?;
-    Ok(())
+    answer
 }
 
 // A peer that asks for 800 reports of 256 steps and reads none of them: more bytes than a connection holds.
 fn serve_unread(rt: &HostRuntime, listener: &TcpListener) -> Result<(), Error> {
     command(rt, &["stn", "bare", "big.log", "1", "256"])?;
-    let mut replica = load_log(rt, "big.log", 1)?;
-    let mut honest = load_log(rt, "big.log", 2)?;
-    let unread = begin(rt, listener, &asking_on(rt, &honest)?)?;
-    let asking = ask(rt, listener, &honest)?;
-    serve_log(rt, listener, 2, "big.log", &mut replica)?;
-    drop(unread);
-    print_first_line(rt, &asking, &mut honest)
+    with_log(rt, "big.log", 2, |honest| {
+        let requests = asking_on(rt, honest)?;
+        serve_both(rt, listener, "big.log", &requests, honest)
+    })
 }
 
 // The requests of a replica, and ASK, which ends them, many times more.
@@ -93,26 +112,43 @@ fn asking_on(rt: &HostRuntime, replica: &Replica<Global>) -> Result<Vec<u8>, Err
     let mut writer = Counted::new(Vec::new(rt.alloc()));
     send_requests(rt.alloc(), replica, &mut writer)?;
     let mut bytes = writer.into_inner();
+    append_asks(&mut bytes)?;
+    Ok(bytes)
+}
+
+fn append_asks(bytes: &mut Vec<u8>) -> Result<(), Error> {
     for _ in 0..799 {
         bytes.extend_from_slice(&[0, 0, 0, 1, 3])?;
     }
-    Ok(bytes)
+    Ok(())
 }
 
 // A site of another plan with 400 records: it has more to say after it is refused, and is told why.
 fn serve_other_plan(rt: &HostRuntime, listener: &TcpListener) -> Result<(), Error> {
-    let mut other = load_log(rt, "big.log", 2)?;
-    for event in 1..401 {
-        add(&mut other, event)?;
-    }
-    let stream = TcpStream::connect(rt, listener.local_addr()?)?;
-    let mut writer = Counted::new(&stream);
-    send_requests(rt.alloc(), &other, &mut writer)?;
-    serve_waiting(rt, listener, 1)?;
-    let mut reader = Counted::new(&stream);
-    match receive_replies(rt.alloc(), &mut reader, &mut other) {
+    with_log(rt, "big.log", 2, |other| {
+        add_all(other)?;
+        let stream = ask(rt, listener, other)?;
+        serve_waiting(rt, listener, 1, "t.log")?;
+        print_refusal(rt, &stream, other)
+    })
+}
+
+fn print_refusal(
+    rt: &HostRuntime,
+    stream: &TcpStream,
+    replica: &mut Replica<Global>,
+) -> Result<(), Error> {
+    let mut reader = Counted::new(stream);
+    match receive_replies(rt.alloc(), &mut reader, replica) {
         Ok(_) => bail!("no refusal"),
         Err(fault) => println!(rt; "{fault:?}")?,
+    }
+    Ok(())
+}
+
+fn add_all(replica: &mut Replica<Global>) -> Result<(), Error> {
+    for event in 1..401 {
+        add(replica, event)?;
     }
     Ok(())
 }
@@ -134,13 +170,25 @@ fn reach_no_answer(rt: &HostRuntime) -> Result<(), Error> {
     let listener = TcpListener::bind(rt, "127.0.0.1:0")?;
     let address = listener.local_addr()?;
     let mut waiting = Vec::new(rt.alloc());
+    fill_and_send(rt, address, &mut waiting)
+}
+
+fn fill_and_send(
+    rt: &HostRuntime,
+    address: SocketAddr,
+    waiting: &mut Vec<TcpStream>,
+) -> Result<(), Error> {
+    fill(rt, address, waiting)?;
+    let address = format!(in rt.alloc(); "{address}")?;
+    command(rt, &["stn", "send", "u.log", "2", &address, "--seconds=1"])
+}
+
+fn fill(rt: &HostRuntime, address: SocketAddr, waiting: &mut Vec<TcpStream>) -> Result<(), Error> {
     for _ in 0..1_000 {
         match TcpStream::connect_timeout(rt, &address, Duration::from_millis(200)) {
             Ok(stream) => waiting.push(stream)?,
             Err(_) => break,
         }
     }
-    let address = format!(in rt.alloc(); "{address}")?;
-    command(rt, &["stn", "send", "u.log", "2", &address, "--seconds=1"])?;
     Ok(())
 }
