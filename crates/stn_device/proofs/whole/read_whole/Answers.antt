@@ -1,5 +1,6 @@
 use Rattle.std.proofs.Common.{arith}
 use Rattle.std.proofs.lemmas.Grind.{common_steps}
+use Rattle.std.proofs.lemmas.Result.{err_from_is_err_and}
 use Rattle.stn_device.proofs.Known.{ConsumesAtMost-trans}
 use Rattle.stn_device.proofs.whole.read_whole.Goals as goal
 
@@ -13,3 +14,27 @@ pub returns-in-Ok-read-clause-used : goal.returns-in-Ok-read-clause-used
 returns-in-Ok-read-clause-used g c =
     ConsumesAtMost-trans _ _ _ _ _ _ c.loop-piece.invariant.bytes c.in-Ok-read.ensures.bytes.0
     (grind (arith, common_steps))
+
+pub returns-in_err-extend_from_slice-in-Ok-clause-bytes : goal.returns-in_err-extend_from_slice-in-Ok-clause-bytes
+returns-in_err-extend_from_slice-in-Ok-clause-bytes g c =
+    let p = err_from_is_err_and c.from_residual.result c.from_residual.ensures.1 in
+    rw p.1 tt
+
+pub returns-in_err-extend_from_slice-in-Ok-clause-within : goal.returns-in_err-extend_from_slice-in-Ok-clause-within
+returns-in_err-extend_from_slice-in-Ok-clause-within g c =
+    let p = err_from_is_err_and c.from_residual.result c.from_residual.ensures.1 in
+    rw p.1 tt
+
+pub returns-in_err-extend_from_slice-in-Ok-clause-end : goal.returns-in_err-extend_from_slice-in-Ok-clause-end
+returns-in_err-extend_from_slice-in-Ok-clause-end g c =
+    let p = err_from_is_err_and c.from_residual.result c.from_residual.ensures.1 in
+    rw p.1 tt
+
+pub returns-in-Ok-read-clause-bytes : goal.returns-in-Ok-read-clause-bytes
+returns-in-Ok-read-clause-bytes g c = tt
+
+pub returns-in-Ok-read-clause-within : goal.returns-in-Ok-read-clause-within
+returns-in-Ok-read-clause-within g c = tt
+
+pub returns-in-Ok-read-clause-end : goal.returns-in-Ok-read-clause-end
+returns-in-Ok-read-clause-end g c = tt
