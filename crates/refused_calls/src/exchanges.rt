@@ -95,7 +95,9 @@ fn ask_refused(
     failing: Failing,
 ) -> Result<Outcome, Error> {
     let replica = opened(heap, log)?;
-    Ok(ask_unchanged(alloc, heap, &replica, log, requests, failing))
+    let outcome = ask_unchanged(alloc, heap, &replica, log, requests, failing);
+    drop(replica);
+    Ok(outcome)
 }
 
 fn each_ask(alloc: Global, log: &[u8], requests: &[u8], kind: Kind) -> Result<bool, Error> {
@@ -225,7 +227,9 @@ fn receive_refused(
     failing: Failing,
 ) -> Result<Outcome, Error> {
     let mut replica = opened(heap, replies.log)?;
-    Ok(receive_failing(alloc, heap, &mut replica, replies, failing))
+    let outcome = receive_failing(alloc, heap, &mut replica, replies, failing);
+    drop(replica);
+    Ok(outcome)
 }
 
 fn each_receive(alloc: Global, replies: Replies, kind: Kind) -> Result<bool, Error> {

@@ -52,8 +52,14 @@ fn encode_refused(
 /// Whether `encode` of the frame with these bytes answers each refused request.
 pub fn encodes(alloc: Global, bytes: &[u8]) -> Result<bool, Error> {
     let frame = frame_of(alloc, bytes)?;
+    let answered = each_encode(alloc, &frame, bytes);
+    drop(frame);
+    answered
+}
+
+fn each_encode(alloc: Global, frame: &Frame<Global>, bytes: &[u8]) -> Result<bool, Error> {
     each_is_answered(alloc, Kind::Memory, |heap, failing| {
-        encode_refused(heap, &frame, bytes, failing)
+        encode_refused(heap, frame, bytes, failing)
     })
 }
 
@@ -66,15 +72,15 @@ fn renewed<A: Allocator + Copy>(frame: Frame<A>) -> Frame<A> {
     }
 }
 
-// Appends what is written of a frame, where there is one.
+// Appends what is written of a frame.
 fn append_renewed<A: Allocator + Copy>(
-    frame: Option<Frame<A>>,
+    frame: Frame<A>,
     spelled: &mut Vec<u8>,
 ) -> Result<(), WireFault> {
-    match frame {
-        Some(frame) => encode(&renewed(frame), spelled),
-        None => Ok(()),
-    }
+    let frame = renewed(frame);
+    let answer = encode(&frame, spelled);
+    drop(frame);
+    answer
 }
 
 // Whether a frame is renewed as these bytes.
@@ -84,7 +90,7 @@ fn is_spelled<A: Allocator + Copy>(
     bytes: &[u8],
 ) -> Result<bool, WireFault> {
     let mut out = Vec::new(alloc);
-    append_renewed(Some(frame), &mut out)?;
+    append_renewed(frame, &mut out)?;
     Ok(out.as_slice() == bytes)
 }
 
@@ -136,7 +142,10 @@ fn feed_piece<A: Allocator + Copy>(
     spelled: &mut Vec<u8>,
 ) -> Result<usize, WireFault> {
     let Fed { used, frame } = feeder.feed(piece)?;
-    append_renewed(frame, spelled)?;
+    match frame {
+        Some(frame) => append_renewed(frame, spelled)?,
+        None => {}
+    }
     Ok(used)
 }
 

@@ -98,7 +98,9 @@ fn save_refused(
     failing: Failing,
 ) -> Result<Outcome, Error> {
     let replica = opened(heap, log)?;
-    Ok(save_failing(alloc, heap, &replica, log, failing))
+    let outcome = save_failing(alloc, heap, &replica, log, failing);
+    drop(replica);
+    Ok(outcome)
 }
 
 fn each_save(alloc: Global, log: &[u8], kind: Kind) -> Result<bool, Error> {
@@ -132,10 +134,20 @@ fn is_loaded<A: Allocator + Copy>(
     refused: Option<Kind>,
 ) -> bool {
     match answer {
-        Ok(replica) => is_log(alloc, heap, &replica, log),
-        Err(LoadFault::Read) => refused == Some(Kind::Read),
-        Err(LoadFault::Memory) => refused == Some(Kind::Memory),
-        Err(_) => false,
+        Ok(replica) => {
+            let right = is_log(alloc, heap, &replica, log);
+            drop(replica);
+            right
+        }
+        Err(fault) => is_fault(fault, refused),
+    }
+}
+
+fn is_fault(fault: LoadFault, refused: Option<Kind>) -> bool {
+    match fault {
+        LoadFault::Read => refused == Some(Kind::Read),
+        LoadFault::Memory => refused == Some(Kind::Memory),
+        _ => false,
     }
 }
 

@@ -57,6 +57,10 @@ fn is_received(alloc: Global, log: &[u8], rest: &[Vec<u8>]) -> Result<bool, Erro
 // Whether a call that works on a log and frames answers each refused call.
 fn is_exchanged(rt: &HostRuntime, call: &str, words: &str) -> Result<bool, Error> {
     let words = bytes_of(rt.alloc(), words)?;
+    is_exchanged_of(rt, call, &words)
+}
+
+fn is_exchanged_of(rt: &HostRuntime, call: &str, words: &[Vec<u8>]) -> Result<bool, Error> {
     let (log, frames) = words.split_first().context("no log")?;
     match call {
         "serve" => print_session(rt, log, frames),
@@ -77,21 +81,42 @@ fn is_answered(rt: &HostRuntime, call: &str, words: &str) -> Result<bool, Error>
     let (words, wanted) = words.split_once(" = ").unwrap_or((words, words));
     let bytes = bytes_of_all(rt.alloc(), words)?;
     let wanted = bytes_of_all(rt.alloc(), wanted)?;
+    is_call_answered(rt, call, words, &bytes, &wanted)
+}
+
+fn is_call_answered(
+    rt: &HostRuntime,
+    call: &str,
+    words: &str,
+    bytes: &[u8],
+    wanted: &[u8],
+) -> Result<bool, Error> {
     match call {
-        "encode" => encodes(rt.alloc(), &bytes),
-        "decode" => decodes(rt.alloc(), &bytes, &wanted),
-        "feed" => feeds(rt.alloc(), &bytes, &wanted),
-        "save" => saves(rt.alloc(), &bytes),
-        "load" => loads(rt.alloc(), &bytes, &wanted),
+        "encode" => encodes(rt.alloc(), bytes),
+        "decode" => decodes(rt.alloc(), bytes, wanted),
+        "feed" => feeds(rt.alloc(), bytes, wanted),
+        "save" => saves(rt.alloc(), bytes),
+        "load" => loads(rt.alloc(), bytes, wanted),
         _ => is_exchanged(rt, call, words),
     }
 }
 
 fn print_row(rt: &HostRuntime, line: &str) -> Result<(), Error> {
+    let (name, call, words) = parts(line)?;
+    print!(rt; "{name}: ")?;
+    let answered = is_answered(rt, call, words)?;
+    print_answer(rt, answered)
+}
+
+// The name of a test, the call, and its words.
+fn parts(line: &str) -> Result<(&str, &str, &str), Error> {
     let (name, rest) = line.split_once(' ').context("no call")?;
     let (call, words) = rest.split_once(' ').context("no words")?;
-    print!(rt; "{name}: ")?;
-    let answer = if is_answered(rt, call, words)? {
+    Ok((name, call, words))
+}
+
+fn print_answer(rt: &HostRuntime, answered: bool) -> Result<(), Error> {
+    let answer = if answered {
         "each refused call is answered"
     } else {
         "a refused call is not answered"

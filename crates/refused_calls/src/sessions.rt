@@ -62,7 +62,9 @@ fn stage_of(alloc: Global, replica: &mut Replica<Global>, bytes: &[u8]) -> Resul
 
 fn stage_after(alloc: Global, log: &[u8], bytes: &[u8]) -> Result<Stage, Error> {
     let mut replica = opened(alloc, log)?;
-    stage_of(alloc, &mut replica, bytes)
+    let stage = stage_of(alloc, &mut replica, bytes);
+    drop(replica);
+    stage
 }
 
 fn add_stage(
@@ -177,7 +179,9 @@ fn serve_refused(
     failing: Failing,
 ) -> Result<Outcome, Error> {
     let mut replica = opened(heap, talk.log)?;
-    serve_failing(alloc, heap, &mut replica, talk, failing)
+    let outcome = serve_failing(alloc, heap, &mut replica, talk, failing);
+    drop(replica);
+    outcome
 }
 
 fn each_serve(alloc: Global, talk: Talk, kind: Kind) -> Result<bool, Error> {
@@ -204,7 +208,9 @@ fn answer_of(
 /// How a session ends of a replica that this log opens.
 pub fn end_of(alloc: Global, log: &[u8], bytes: &[u8]) -> Result<Served, Error> {
     let mut replica = opened(alloc, log)?;
-    Ok(answer_of(alloc, &mut replica, bytes)?)
+    let answer = answer_of(alloc, &mut replica, bytes);
+    drop(replica);
+    Ok(answer?)
 }
 
 fn is_served(alloc: Global, talk: Talk) -> Result<bool, Error> {
