@@ -59,12 +59,17 @@ fn want_of_memory(rt: HostRuntime) -> Result<(), Fail> {
     let requests = refuse_each(&rt, rt.alloc(), |heap, number| {
         heap.refuse(number);
         let (right, memory) = match cycle(heap, 2, base.bounds(), &extra) {
-            Ok(Some(cycle)) => (is_named(&cycle), false),
+            Ok(Some(cycle)) => {
+                let right = is_named(&cycle);
+                drop(cycle);
+                (right, false)
+            }
             Ok(None) => (false, false),
             Err(_) => (false, true),
         };
         Ok(judged(heap, right, memory))
-    })?;
-    assert!(rt; requests > 2);
+    });
+    drop(base);
+    assert!(rt; requests? > 2);
     Ok(())
 }

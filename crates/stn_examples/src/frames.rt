@@ -60,7 +60,9 @@ fn spelled_old_hello(
 ) -> Result<(Option<WireFault>, usize), AllocError> {
     let domain = vec![in alloc; b'x'; length]?;
     let hello = Frame::OldHello(Source::Files(domain, Vec::new(alloc)));
-    Ok(spelled(alloc, &hello))
+    let answer = spelled(alloc, &hello);
+    drop(hello);
+    Ok(answer)
 }
 
 #[test]
@@ -72,7 +74,9 @@ fn long_old_frames_are_not_spelled(rt: HostRuntime) {
 // What comes of a TEXT of so many bytes.
 fn spelled_text(alloc: Global, length: usize) -> Result<(Option<WireFault>, usize), AllocError> {
     let text = Frame::Text(vec![in alloc; b'x'; length]?);
-    Ok(spelled(alloc, &text))
+    let answer = spelled(alloc, &text);
+    drop(text);
+    Ok(answer)
 }
 
 #[test]

@@ -14,7 +14,11 @@ const PLAN: &[u8] = b"0: (mend f) [5]\n6: (mend g)\n";
 fn domain_refused(heap: &Refusing<Global>, number: u64) -> Answer {
     heap.refuse(number);
     let (right, memory) = match Domain::read(heap, DOMAIN) {
-        Ok(domain) => (domain.action(b"mend").is_some(), false),
+        Ok(domain) => {
+            let right = domain.action(b"mend").is_some();
+            drop(domain);
+            (right, false)
+        }
         Err(fault) => (false, fault == DomainFault::Memory),
     };
     judged(heap, right, memory)
@@ -35,7 +39,11 @@ fn domains(rt: HostRuntime) -> Result<(), Fail> {
 fn plan_refused(heap: &Refusing<Global>, number: u64) -> Answer {
     heap.refuse(number);
     let (right, memory) = match Plan::read(heap, PLAN) {
-        Ok(plan) => (plan.steps().len() == 2, false),
+        Ok(plan) => {
+            let right = plan.steps().len() == 2;
+            drop(plan);
+            (right, false)
+        }
         Err(fault) => (false, fault == PlanFault::Memory),
     };
     judged(heap, right, memory)

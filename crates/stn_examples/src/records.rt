@@ -123,7 +123,9 @@ fn change_refused(
 fn changes(rt: &impl Abort, alloc: Global, change: Change) -> Result<u64, Fail> {
     refuse_each(rt, alloc, |heap, number| {
         let mut records = filled(heap, 1, 16)?;
-        Ok(change_refused(heap, number, &mut records, change))
+        let answer = change_refused(heap, number, &mut records, change);
+        drop(records);
+        Ok(answer)
     })
 }
 
@@ -172,14 +174,18 @@ fn taken<'a>(
     theirs: &Records<&'a Refusing<Global>>,
 ) -> Result<Answer, Fail> {
     let mut ours = filled(heap, 1, 12)?;
-    Ok(take_twice(heap, number, &mut ours, theirs))
+    let answer = take_twice(heap, number, &mut ours, theirs);
+    drop(ours);
+    Ok(answer)
 }
 
 #[test]
 fn takes(rt: HostRuntime) -> Result<(), Fail> {
     let requests = refuse_each(&rt, rt.alloc(), |heap, number| {
         let theirs = filled(heap, 9, 20)?;
-        taken(heap, number, &theirs)
+        let answer = taken(heap, number, &theirs);
+        drop(theirs);
+        answer
     })?;
     assert!(rt; requests > 2);
     Ok(())
@@ -196,7 +202,11 @@ enum Reading {
 // Whether a part was made that knows as many ids, or memory was lacking.
 fn is_made(part: Result<Records<&Refusing<Global>>, PartFault>) -> (bool, bool) {
     match part {
-        Ok(part) => (part.known() == 4, false),
+        Ok(part) => {
+            let right = part.known() == 4;
+            drop(part);
+            (right, false)
+        }
         Err(fault) => (false, fault == PartFault::Memory),
     }
 }
@@ -204,7 +214,11 @@ fn is_made(part: Result<Records<&Refusing<Global>>, PartFault>) -> (bool, bool) 
 // Whether a copy was made that knows as many ids, or memory was lacking.
 fn is_copied(copy: Result<Records<&Refusing<Global>>, Memory>) -> (bool, bool) {
     match copy {
-        Ok(copy) => (copy.known() == 24, false),
+        Ok(copy) => {
+            let right = copy.known() == 24;
+            drop(copy);
+            (right, false)
+        }
         Err(_) => (false, true),
     }
 }
@@ -212,7 +226,11 @@ fn is_copied(copy: Result<Records<&Refusing<Global>>, Memory>) -> (bool, bool) {
 // Whether all records are listed, or memory was lacking.
 fn is_listed(live: Result<Vec<(Id, Mark, Bound), &Refusing<Global>>, Memory>) -> (bool, bool) {
     match live {
-        Ok(live) => (live.len() == 12, false),
+        Ok(live) => {
+            let right = live.len() == 12;
+            drop(live);
+            (right, false)
+        }
         Err(_) => (false, true),
     }
 }
@@ -241,7 +259,9 @@ fn read_refused(
 fn readings(rt: &impl Abort, alloc: Global, reading: Reading) -> Result<u64, Fail> {
     refuse_each(rt, alloc, |heap, number| {
         let records = filled(heap, 1, 12)?;
-        Ok(read_refused(heap, number, &records, reading))
+        let answer = read_refused(heap, number, &records, reading);
+        drop(records);
+        Ok(answer)
     })
 }
 

@@ -38,7 +38,9 @@ fn new_replica(heap: &Refusing<Global>) -> Result<Replica<&Refusing<Global>>, Fa
 
 fn add_to_new(heap: &Refusing<Global>) -> Result<(), Fail> {
     let mut replica = new_replica(heap)?;
-    add_bounds(&mut replica)
+    let answer = add_bounds(&mut replica);
+    drop(replica);
+    answer
 }
 
 // The additions of a replica ask for memory for their records alone, not for a matrix each.
