@@ -1,5 +1,5 @@
 // Lists of entries in the order of their ids.
-ghost use Rattle.std.specs.Prelude.{◌≡◌, ◌↔◌, ◌+◌, ◌^◌, ◌<◌, ◌++◌, IsTrue, IfOk, IfErr, Some, None, length, filter, find, slice_get};
+ghost use Rattle.std.specs.Prelude.{◌≡◌, ◌↔◌, ◌+◌, ◌^◌, ◌<◌, ◌++◌, IsTrue, IfOk, IfErr, OnOk, [], Some, None, length, filter, find, slice_get};
 ghost use Rattle.std.specs.Set.{distinct_count, is_member};
 ghost use Rattle.std.specs.List.Sorted.{IsSorted};
 ghost use Rattle.std.specs.FinMap.{is_sorted};
@@ -41,6 +41,19 @@ pub(crate) fn merged<X: Copy, A: Allocator + Copy>(
     ensures { IfOk result (λ all. all.items ≡ merge id_cmp ours.now theirs.now) }
 {
     let mut all = Vec::with_capacity(alloc, ours.len().saturating_add(theirs.len()))?;
+    append_merged(&mut all, ours, theirs)?;
+    Ok(all)
+}
+
+// Puts the entries of both into an empty list.
+fn append_merged<X: Copy, A: Allocator>(
+    all: &mut Vec<(Id, X), A>,
+    ours: &[(Id, X)],
+    theirs: &[(Id, X)],
+) -> Result<(), Memory>
+    requires { all.old.items ≡ [] }
+    ensures { OnOk result (all.new.items ≡ merge id_cmp ours.now theirs.now) }
+{
     let mut i = 0;
     let mut j = 0;
     while i < ours.len() && j < theirs.len() {
@@ -62,7 +75,7 @@ pub(crate) fn merged<X: Copy, A: Allocator + Copy>(
     }
     all.extend_from_slice(&ours[i..])?;
     all.extend_from_slice(&theirs[j..])?;
-    Ok(all)
+    Ok(())
 }
 
 // The least id at which both have a value, and the values differ.

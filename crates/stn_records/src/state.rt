@@ -2,7 +2,7 @@ ghost use Rattle.std.specs.Prelude.{◌≡◌, ◌↔◌, None, All, IfOk, IsTru
 ghost use Rattle.std.specs.FinMap as map;
 ghost use Rattle.stn_records.specs.Id.{id_cmp};
 ghost use Rattle.stn_records.specs.Record.{IsProper};
-ghost use Rattle.stn_records.specs.Maps.{AgreesAt};
+ghost use Rattle.stn_records.specs.Maps.{union as union_of, AgreesAt};
 ghost use Rattle.stn_records.specs.Content.{Content, no_content, dispute_contents, join_contents, joined_contents, is_known as is_known_in, is_replaced as is_replaced_in, known_count, part_of, replaced_set, with_amendment, with_record, with_tombstone, with_ids, plain, AllAmend, IsAmendment, IsPart};
 
 use crate::additions::Additions;
@@ -191,12 +191,25 @@ impl<A: Allocator + Copy> State<A> {
         requires { dispute_contents self.now other.now ≡ None }
         ensures { IfOk result (λ all. all ≡ joined_contents self.now other.now) }
     {
+        let additions = self.additions.union(&other.additions)?;
+        let replacements = self.replacements.union(&other.replacements)?;
+        let (tombstones, replaced) = self.united_ids(other)?;
         Ok(State {
-            additions: self.additions.union(&other.additions)?,
-            tombstones: self.tombstones.union(&other.tombstones)?,
-            replacements: self.replacements.union(&other.replacements)?,
-            replaced: self.replaced.union(&other.replaced)?,
+            additions,
+            tombstones,
+            replacements,
+            replaced,
         })
+    }
+
+    // The ids that were withdrawn in either, and all that are replaced in either.
+    fn united_ids(&self, other: &Self) -> Result<(Tombstones<A>, IdMap<(), A>), Memory>
+        ensures tombstones { IfOk result (λ ids. ids.0 ≡ union_of self.now.tombstones other.now.tombstones) }
+        ensures replaced { IfOk result (λ ids. ids.1 ≡ union_of (replaced_set self.now) (replaced_set other.now)) }
+    {
+        let tombstones = self.tombstones.union(&other.tombstones)?;
+        let replaced = self.replaced.union(&other.replaced)?;
+        Ok((tombstones, replaced))
     }
 
     // The records of the first list with what they replace, and the withdrawn ids of the second.
@@ -214,12 +227,25 @@ impl<A: Allocator + Copy> State<A> {
     pub(crate) fn copy(&self) -> Result<Self, Memory>
         ensures { IfOk result (λ copy. copy ≡ self.now) }
     {
+        let additions = self.additions.copy()?;
+        let replacements = self.replacements.copy()?;
+        let (tombstones, replaced) = self.copied_ids()?;
         Ok(State {
-            additions: self.additions.copy()?,
-            tombstones: self.tombstones.copy()?,
-            replacements: self.replacements.copy()?,
-            replaced: self.replaced.copy()?,
+            additions,
+            tombstones,
+            replacements,
+            replaced,
         })
+    }
+
+    // The withdrawn ids again, and all that are replaced.
+    fn copied_ids(&self) -> Result<(Tombstones<A>, IdMap<(), A>), Memory>
+        ensures tombstones { IfOk result (λ ids. ids.0 ≡ self.now.tombstones) }
+        ensures replaced { IfOk result (λ ids. ids.1 ≡ replaced_set self.now) }
+    {
+        let tombstones = self.tombstones.copy()?;
+        let replaced = self.replaced.copy()?;
+        Ok((tombstones, replaced))
     }
 }
 

@@ -1,10 +1,10 @@
-use Rattle.std.proofs.Common.{◌∙◌}
-use Rattle.stn_records.specs.Content.{dispute_contents}
+use Rattle.std.proofs.Common.{refl, ◌∙◌}
+use Rattle.stn_records.specs.Maps.{union}
+use Rattle.stn_records.specs.Content.{replaced_set}
 use Rattle.stn_records.proofs.Replaced.{kept_by_union}
 use Rattle.stn_records.proofs.state.State.union.Goals as goal
 
 pub invariant_of-result : goal.invariant_of-result
 invariant_of-result g c =
-    kept_by_union (record { additions = c.self.inside.additions; tombstones = c.self.inside.tombstones; replacements = c.self.inside.replacements }) (record { additions = c.other.inside.additions; tombstones = c.other.inside.tombstones; replacements = c.other.inside.replacements })
-    c.self.inside.replaced c.other.inside.replaced c.in_ok-union-2.field-0 c.in_ok-union-4.field-0 c.in_ok-union-3.field-0 c.self.invariant c.other.invariant
-    ((λ i. dispute_contents (c.self.view_is i) (c.other.view_is i)) ∙ c.requires) c.in_ok-union-2.ensures c.in_ok-union-3.ensures c.in_ok-union-4.ensures
+    kept_by_union c.args.self.now c.args.other.now (replaced_set c.args.self.now) (replaced_set c.args.other.now) c.in_ok-tombstones.tombstones c.in_ok-tombstones.replaced c.in_ok-replacements.replacements refl refl c.requires
+    c.in_ok-tombstones.ensures.tombstones (c.in_ok-replacements.ensures ∙ (λ i. union (c.self.view_is i).replacements (c.other.view_is i).replacements)) c.in_ok-tombstones.ensures.replaced

@@ -1,7 +1,7 @@
 use Rattle.std.proofs.Common.{◌≡◌, ◌≤◌, ◌+◌, ◌-◌, ◌++◌, length, drop}
 use Rattle.stn_records.specs.Id.{id_cmp}
 use Rattle.stn_records.specs.Sorted.{merge}
-use Rattle.stn_records.proofs.sorted.merged.Given as goal
+use Rattle.stn_records.proofs.sorted.append_merged.Given as goal
 
 abbrev pub invariant-loop-i : goal.invariant-loop-i
 invariant-loop-i g l = record {

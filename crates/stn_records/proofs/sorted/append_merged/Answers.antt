@@ -2,8 +2,8 @@ use Rattle.std.proofs.Common.{inl, inr, ◌++◌, ap, ◌∙◌, drop, drop_of_l
 use Rattle.stn_records.specs.Id.{id_cmp}
 use Rattle.stn_records.specs.Sorted.{merge}
 use Rattle.stn_records.proofs.Entries.{merge_ends, rest_taken}
-use Rattle.stn_records.proofs.sorted.merged.Goals as goal
-use Rattle.stn_records.proofs.sorted.merged.Goals.{then-loop-i-test+else-j-theirs, else-loop-i-test}
+use Rattle.stn_records.proofs.sorted.append_merged.Goals as goal
+use Rattle.stn_records.proofs.sorted.append_merged.Goals.{then-loop-i-test+else-j-theirs, else-loop-i-test}
 
 -- one of the lists is at its end
 pub returns : goal.returns
