@@ -79,9 +79,15 @@ def chain(proofs):
     return max(longest(it) for it in below)
 
 
+def from_nothing():
+    """Returns the words by which this rt takes over nothing of earlier runs: none, if it never does."""
+    helped = subprocess.run(["rt", "help"], stdout=subprocess.PIPE, stderr=subprocess.STDOUT, errors="replace")
+    return ["--anew"] if "--anew" in helped.stdout else []
+
+
 def main():
     seen, ended, began = {}, threading.Event(), time.time()
-    gate = subprocess.Popen(["rt", "ci", "--anew"], cwd=TOP, stdin=subprocess.DEVNULL)
+    gate = subprocess.Popen(["rt", "ci", *from_nothing()], cwd=TOP, stdin=subprocess.DEVNULL)
     watcher = threading.Thread(target=watch, args=(seen, gate.pid, ended))
     watcher.start()
     status = gate.wait()
