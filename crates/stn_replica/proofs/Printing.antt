@@ -1,5 +1,7 @@
 -- The parts of a report, from what was appended.
-use Rattle.std.proofs.Common.{◌≡◌, ℕ, ℤ, suc, ◌+◌, Bool, List, [], ◌∷◌, ◌++◌, map, codes, Option, Some, IfSome, refl, sym, ap, subst, ◌∙◌, inl, inr, add-one, All}
+use Rattle.std.proofs.Common.{◌≡◌, ℕ, ℤ, suc, ◌+◌, Bool, List, [], ◌∷◌, ◌++◌, length, map, codes, Option, Some, IfSome, refl, sym, ap, subst, ◌∙◌, add-one, All}
+use Rattle.std.specs.Prelude.{Result, Ok, Err, is_ok, OnOk, OnErr, if◌then◌else◌}
+use Rattle.std.proofs.lemmas.List.{length-map}
 use Rattle.std.specs.List.{flat_map}
 use Rattle.stn_net.specs.Difference.{Difference, NamesEvents}
 use Rattle.stn_matrix.specs.Table.{Table}
@@ -16,7 +18,7 @@ use Rattle.stn_conflict.specs.Named.{IsNamedCycle}
 use Rattle.stn_replica.specs.Bounds.{all_bounds, live_bounds, RecordsName}
 use Rattle.stn_replica.specs.Names.{live_ids}
 use Rattle.stn_replica.specs.Lines.{line, window_line, conflict_line, link_line}
-use Rattle.stn_replica.specs.Report.{is_done, IsWindowLines, IsConflictPart, IsReport, heading}
+use Rattle.stn_replica.specs.Report.{is_done, IsWindowLines, IsWindowsPart, IsConflictPart}
 use Rattle.stn_replica.proofs.Live.{live_named}
 
 abbrev pub Listed : Type 0
@@ -48,6 +50,11 @@ bounds_are state live bounds is e = e ∙ ap (map (λ (entry : Listed). entry.2)
 pub bounds_named : (state : Content) (events n : ℕ) (bounds : List Difference) → n ≡ events → bounds ≡ live_bounds state → RecordsName events state → All (NamesEvents n) bounds
 bounds_named state events n bounds e is named = subst (λ k. All (NamesEvents k) bounds) (sym e) (subst (All (NamesEvents events)) (sym is) (live_named events state named))
 
+-- there are as many ids as bounds
+pub one_each : (state : Content) (ids : List SiteCounter) (bounds : List Difference) → ids ≡ live_ids state → bounds ≡ live_bounds state → length ids ≡ length bounds
+one_each state ids bounds i b =
+    ap length i ∙ length-map (live_of state) (λ (entry : SiteCounter × Record). entry.0) ∙ sym (ap length b ∙ length-map (live_of state) (λ (entry : SiteCounter × Record). entry.1.bound))
+
 -- the conflict part
 pub conflict_part : (source : PlanSource) (state : Content) (base others : List Difference) (ids : List SiteCounter) (links : List Link) (sum : ℤ)
     → base ≡ base_bounds source → ids ≡ live_ids state → others ≡ live_bounds state
@@ -62,25 +69,26 @@ conflict_part source state base others ids links sum b i o named negative s =
       whole = λ k. conflict_line ((s ∙ ap (λ bounds. weight_of bounds links) all) k) ++ flat_map (link_line (b k) (i k) (o k)) links;
     }
 
--- the report of bounds with a schedule
-pub windows_report : (source : PlanSource) (state : Content) (table : Table) (text lines : List ℕ)
+-- the part of bounds with a schedule
+pub windows_part : (source : PlanSource) (state : Content) (table : Table) (lines : List ℕ)
     → IsExact (all_bounds source state) table → table.events ≡ events_of source
     → IsWindowLines (all_bounds source state) (is_done state) table.events lines
-    → text ≡ heading source state ++ (line (codes "ok") ++ lines) → IsReport source state text
-windows_report source state table text lines exact events windows whole = record {
-  rest = line (codes "ok") ++ lines;
-  part = inl (record {
-    possible = exact.possible;
-    lines = lines;
-    windows = subst (λ n. IsWindowLines (all_bounds source state) (is_done state) n lines) events windows;
-    whole = refl;
-  });
-  whole = whole;
+    → IsWindowsPart source state (line (codes "ok") ++ lines)
+windows_part source state table lines exact events windows = record {
+  possible = exact.possible;
+  lines = lines;
+  windows = subst (λ n. IsWindowLines (all_bounds source state) (is_done state) n lines) events windows;
+  whole = refl;
 }
 
--- the report of bounds without one
-pub conflict_report : (source : PlanSource) (state : Content) (text rest : List ℕ) → IsConflictPart source state rest → text ≡ heading source state ++ rest → IsReport source state text
-conflict_report source state text rest part whole = record { rest = rest; part = inr part; whole = whole }
+-- what a text that is appended whole or not at all leaves
+pub appended_ok : {T E : Type 0} (r : Result T E) (new old text : List ℕ) → new ≡ (if is_ok r then old ++ text else old) → OnOk r (new ≡ old ++ text)
+appended_ok (Ok _) new old text is = is
+appended_ok (Err _) new old text is = tt
+
+pub kept_err : {T E : Type 0} (r : Result T E) (new old text : List ℕ) → new ≡ (if is_ok r then old ++ text else old) → OnErr r (new ≡ old)
+kept_err (Ok _) new old text is = tt
+kept_err (Err _) new old text is = is
 
 -- what holds of the value that an option holds
 pub if_some : {X : Type 0} (o : Option X) (x : X) (P : X → Type 0) → o ≡ Some x → IfSome o P → P x

@@ -1,5 +1,5 @@
 -- The first cause that refuses each call, from what its parts answer.
-use Rattle.std.proofs.Common.{◌≡◌, ◌≢◌, ℕ, ℤ, subst, ◌<◌, ◌≤◌, Bool, true, false, not, ◌&&◌, ◌↔◌, leb, ltb, Option, Some, None, is_some, Result, Ok, Err, refl, sym, ap, ◌∙◌, arith}
+use Rattle.std.proofs.Common.{◌≡◌, ◌≢◌, ℕ, ℤ, subst, ◌<◌, ◌≤◌, ◌<ℤ◌, ◌≤ℤ◌, int_lt, ⊎_elim, Bool, true, false, not, ◌&&◌, ◌↔◌, leb, ltb, Option, Some, None, is_some, Result, Ok, Err, refl, sym, ap, ◌∙◌, arith}
 use Rattle.std.specs.Prelude.{unwrap_or, ◌==◌, option_map}
 use Rattle.std.specs.Bool.{Decides, then_some}
 use Rattle.std.specs.Option.{option_or}
@@ -7,8 +7,10 @@ use Rattle.std.specs.List.{list_all}
 use Rattle.std.specs.FinMap.{get, entries}
 use Rattle.std.proofs.lemmas.Bool.{false≢true, false_from_ne_true}
 use Rattle.std.proofs.lemmas.Bool.Decides.{nat_tests, Decides-by_and}
-use Rattle.stn_net.specs.Difference.{Difference, NamesEvents}
-use Rattle.stn_net.specs.declared.bound.BoundFault.TheVariants.{NoEvent}
+use Rattle.std.proofs.lemmas.Int.{ints}
+use Rattle.stn_net.specs.Difference.{Difference, NamesEvents, IsFaultOf}
+use Rattle.stn_net.specs.declared.bound.BoundFault.{BoundFault}
+use Rattle.stn_net.specs.declared.bound.BoundFault.TheVariants.{NoEvent, SameEvent, Crossed}
 use Rattle.stn_windows.specs.Rehearsal.{fixed_at}
 use Rattle.stn_lift.specs.PlanSource.{events_of}
 use Rattle.stn_records.specs.Id.{most_counter, SiteCounter}
@@ -19,7 +21,7 @@ use Rattle.stn_records.specs.Content.{most_known, Content, HasAnother, is_known,
 use Rattle.stn_replica.specs.declared.faults.ReplicaFault.TheVariants.{Bound, CounterSpent, Full, Unknown, Clash, Memory}
 use Rattle.stn_replica.specs.Bounds.{RecordsName}
 use Rattle.stn_replica.specs.FaultsOf.{of_records_fault}
-use Rattle.stn_replica.specs.Held.{Held}
+use Rattle.stn_replica.specs.Held.{Held, difference}
 use Rattle.stn_replica.specs.Refusals.{names_events, bound_refusal, next_refusal, add_refusal, amend_refusal, done_refusal, withdraw_refusal, records_name, take_refusal}
 use Rattle.stn_records.proofs.Outcomes.{too_many}
 use Rattle.stn_records.proofs.Holding.{held_agrees}
@@ -90,7 +92,6 @@ next_fault held one id records.Memory counter unknown clash refused full =
     other_fault : failed (Unit {0}) records.Memory ≢ Err records.Full
     other_fault e = cc
 
--- ---- takes
 names_decides : (events : ℕ) (bound : Difference) → Decides (names_events events bound) (NamesEvents events bound)
 names_decides events bound = (λ e. record { from = (both bound.from bound.to events e).0; to = (both bound.from bound.to events e).1 }, λ named. all bound.from bound.to events named.from named.to)
   where
@@ -100,6 +101,59 @@ names_decides events bound = (λ e. record { from = (both bound.from bound.to ev
     all : (from to events : ℕ) → from ≤ events → to ≤ events → (leb from events && leb to events) ≡ true
     all from to events a b = grind (arith, nat_tests)
 
+-- ---- bounds
+int_less : (a b : ℤ) → a <ℤ b → int_lt a b ≡ true
+int_less a b h = by (int_lt a b) refl
+  where
+    by : (t : Bool) → int_lt a b ≡ t → t ≡ true
+    by true e = refl
+    by false e = let over : b ≤ℤ a = omega (arith, ints) in absurd (omega (arith, ints))
+
+names_not : (events : ℕ) (bound : Difference) → ¬ NamesEvents events bound → names_events events bound ≡ false
+names_not events bound unnamed = false_from_ne_true (names_events events bound) (λ e. unnamed ((names_decides events bound).0 e))
+
+-- the first fault of a difference refuses it
+pub bound_refused : (events : ℕ) (bound : Difference) (fault : BoundFault) → IsFaultOf events bound fault → bound_refusal events bound ≡ Some fault
+bound_refused events bound NoEvent past =
+    first_stands (not (names_events events bound)) NoEvent _
+    (ap not (names_not events bound (λ named. ⊎_elim (λ h. omega (arith, h, named.from)) (λ h. omega (arith, h, named.to)) past)))
+bound_refused events bound SameEvent same =
+    first_passes (not (names_events events bound)) NoEvent _ (ap not ((names_decides events bound).1 same.0))
+    ∙ first_stands (bound.from == bound.to) SameEvent _ (same_number bound.from bound.to same.1)
+bound_refused events bound Crossed crossed =
+    first_passes (not (names_events events bound)) NoEvent _ (ap not ((names_decides events bound).1 crossed.0))
+    ∙ first_passes (bound.from == bound.to) SameEvent _ (other_number bound.from bound.to crossed.1)
+    ∙ stands (int_lt bound.hi bound.lo) Crossed (int_less bound.hi bound.lo crossed.2)
+
+-- so is an addition of it, and an amendment by it
+pub add_refused : (held : Held) (bound : Difference) (fault : BoundFault) → IsFaultOf (events_of held.source) bound fault → add_refusal held bound ≡ Some (Bound fault)
+add_refused held bound fault is = ap (λ o. option_or (option_map Bound o) (next_refusal held)) (bound_refused (events_of held.source) bound fault is)
+
+pub amend_refused : (held : Held) (old : SiteCounter) (bound : Difference) (fault : BoundFault) → IsFaultOf (events_of held.source) bound fault → amend_refusal held old bound ≡ Some (Bound fault)
+amend_refused held old bound fault is =
+    ap (λ o. option_or (option_map Bound o) (option_or (then_some (not (is_known held.state old)) Unknown) (next_refusal held))) (bound_refused (events_of held.source) bound fault is)
+
+-- a record of an event that was executed
+pub done_refused : (held : Held) (event : ℕ) → (ltb 0 event && leb event (events_of held.source)) ≡ false → done_refusal held event ≡ Some (Bound NoEvent)
+done_refused held event e = first_stands (not (ltb 0 event && leb event (events_of held.source))) (Bound NoEvent) _ (ap not e)
+
+pub done_origin : (held : Held) (event : ℕ) → event ≡ 0 → done_refusal held event ≡ Some (Bound NoEvent)
+done_origin held event is = done_refused held event (ap (λ n. ltb 0 n && leb n (events_of held.source)) is)
+
+-- the bound that fixes an event other than the origin is refused only where the plan has no such event
+pub fixed_refused : (held : Held) (origin event : ℕ) (time : ℤ) (fault : BoundFault) → origin ≡ 0 → event ≢ 0 → IsFaultOf (events_of held.source) (difference origin event time time) fault
+    → done_refusal held event ≡ Some (Bound fault)
+fixed_refused held origin event time NoEvent first other past = done_refused held event (past_last event (events_of held.source) (⊎_elim (λ h. omega (arith, h, first)) (λ h. h) past))
+  where
+    past_last : (event events : ℕ) → events < event → (ltb 0 event && leb event events) ≡ false
+    past_last event events h = grind (arith, nat_tests)
+fixed_refused held origin event time SameEvent first other same = absurd (other (sym same.1 ∙ first))
+fixed_refused held origin event time Crossed first other crossed = absurd (never time crossed.2)
+  where
+    never : (time : ℤ) → ¬ (time <ℤ time)
+    never time h = omega (arith, ints)
+
+-- ---- takes
 pub records_name-decides : (events : ℕ) (state : Content) → Decides (records_name events state) (RecordsName events state)
 records_name-decides events state =
     Decides-by_and (λ (entry : SiteCounter × Record). names_events events entry.1.bound) (λ entry. NamesEvents events entry.1.bound)

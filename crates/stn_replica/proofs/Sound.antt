@@ -1,5 +1,5 @@
 -- That a replica stays sound, and what its work is.
-use Rattle.std.proofs.Common.{◌≡◌, ◌≢◌, ℕ, ◌+◌, ◌<◌, ◌≤◌, min, Bool, true, false, ◌↔◌, List, [], ◌∷◌, ◌++◌, Option, Some, Ok, Err, IfSome, IsTrue, ⊎_elim, refl, sym, ap, subst, ◌∙◌, arith, All}
+use Rattle.std.proofs.Common.{◌≡◌, ◌≢◌, ℕ, ◌+◌, ◌<◌, ◌≤◌, Bool, true, false, List, [], ◌∷◌, ◌++◌, Option, Some, Ok, Err, IfSome, ⊎_elim, refl, sym, ap, subst, ◌∙◌, arith, All}
 use Rattle.std.proofs.lemmas.Bool.{false≢true, cases_lt}
 use Rattle.std.proofs.lemmas.List.Elements.{All-append}
 use Rattle.stn_net.specs.Difference.{Difference, NamesEvents}
@@ -17,7 +17,6 @@ use Rattle.stn_replica.specs.Walk.{Extends}
 use Rattle.stn_replica.specs.Work.{risen, KeepsLive, SparesWork}
 use Rattle.stn_replica.proofs.Changes.{IsGrown, one_risen, settled_added, named_joined, withdrawn_dead, same_live, none_named, settled_at_first}
 use Rattle.stn_replica.proofs.Live.{live_named, settled_alike, settled_grown, conflict_stays}
-use Rattle.stn_replica.proofs.Schedules.{settled_tightened}
 
 -- what an option holds, from what it is
 pub held_is : {X : Type 0} (o : Option X) (x y : X) → o ≡ Some x → IfSome o (λ v. v ≡ y) → x ≡ y
@@ -37,13 +36,6 @@ settled_exact bounds table possible t settled = subst (λ b. IsSettled bounds ta
 pub settled_conflict : (bounds : List Difference) (table : Table) (possible : Bool) → possible ≡ false → IsSettled bounds table possible → ¬ HasSchedule bounds
 settled_conflict bounds table possible t settled = subst (λ b. IsSettled bounds table b) t settled
 
--- what `tighten` does to the steps
-pub tightened_steps : (current next : Table) (result : Bool) → current.steps ≤ 18446744073709551615
-    → (result ≡ false → next ≡ current) → (IsTrue result → next.steps ≡ min (current.steps + 1) 18446744073709551615)
-    → (current.steps ≤ next.steps) × (next.steps ≤ current.steps + 1) × (next.steps ≤ 18446744073709551615)
-tightened_steps current next true counted unchanged steps = let e = steps refl in (omega arith, omega arith, omega arith)
-tightened_steps current next false counted unchanged steps = let e : next.steps ≡ current.steps = ap (λ t. t.steps) (unchanged refl) in (omega arith, omega arith, omega arith)
-
 -- all bounds name the table's events
 pub all_named : (source : PlanSource) (state : Content) (opening table : Table) → IsExact (base_bounds source) opening → opening.events ≡ events_of source → table.events ≡ events_of source
     → RecordsName (events_of source) state → All (NamesEvents table.events) (all_bounds source state)
@@ -55,35 +47,19 @@ all_named source state opening table exact opens events named =
 
 -- ---- additions and amendments
 pub sound_added : (source : PlanSource) (state new : Content) (opening current next : Table) (possible result : Bool) (id : SiteCounter) (r : Record)
-    → IsSoundReplica source state opening current possible → possible ≡ true → IsGrown state new id r → RecordsName (events_of source) new
-    → ((bounds : List Difference) → IsExact bounds current → (IsTrue result ↔ HasSchedule (bounds ++ r.bound ∷ [])))
-    → ((bounds : List Difference) → IsExact bounds current → IsTrue result → IsExact (bounds ++ r.bound ∷ []) next)
+    → IsSoundReplica source state opening current possible → IsGrown state new id r → RecordsName (events_of source) new
+    → ((bounds : List Difference) → IsSettled bounds current possible → IsSettled (bounds ++ r.bound ∷ []) next result)
     → next.events ≡ current.events → next.steps ≤ 18446744073709551615
     → IsSoundReplica source new opening next result
-sound_added source state new opening current next possible result id r p t more named can exact events counted =
-    let before = settled_exact (all_bounds source state) current possible t p.settled in
-    record {
-      named = named;
-      opening_events = p.opening_events;
-      current_events = events ∙ p.current_events;
-      opening_exact = p.opening_exact;
-      settled = settled_added state new id r more (base_bounds source) next result
-          (all_named source new opening next p.opening_exact p.opening_events (events ∙ p.current_events) named)
-          (settled_tightened (all_bounds source state) r.bound next result (can (all_bounds source state) before) (exact (all_bounds source state) before));
-      counted = counted;
-    }
-
-pub sound_in_conflict : (source : PlanSource) (state new : Content) (opening current : Table) (possible : Bool) (id : SiteCounter) (r : Record)
-    → IsSoundReplica source state opening current possible → possible ≡ false → IsGrown state new id r → RecordsName (events_of source) new
-    → IsSoundReplica source new opening current possible
-sound_in_conflict source state new opening current possible id r p t more named = record {
+sound_added source state new opening current next possible result id r p more named settled events counted = record {
   named = named;
   opening_events = p.opening_events;
-  current_events = p.current_events;
+  current_events = events ∙ p.current_events;
   opening_exact = p.opening_exact;
-  settled = subst (λ b. IsSettled (all_bounds source new) current b) (sym t)
-      (conflict_stays (base_bounds source) state new more.extends more.keeps (settled_conflict (all_bounds source state) current possible t p.settled));
-  counted = p.counted;
+  settled = settled_added state new id r more (base_bounds source) next result
+      (all_named source new opening next p.opening_exact p.opening_events (events ∙ p.current_events) named)
+      (settled (all_bounds source state) p.settled);
+  counted = counted;
 }
 
 pub spares_added : (old new : Held) (before after : Content) (id : SiteCounter) (r : Record) → IsGrown before after id r

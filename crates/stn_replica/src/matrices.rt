@@ -1,4 +1,4 @@
-ghost use Rattle.std.specs.Prelude.{◌≡◌, ◌+◌, ◌≤◌, ◌++◌, ◌↔◌, ◌&&◌, not, List, length, IsTrue, IfOk};
+ghost use Rattle.std.specs.Prelude.{◌≡◌, ◌+◌, ◌≤◌, ◌++◌, ◌↔◌, ◌&&◌, not, List, [], ◌∷◌, length, IsTrue, IfOk};
 ghost use Rattle.stn_net.specs.Difference.{Difference, NamesEvents};
 ghost use Rattle.stn_matrix.specs.Tightest.{IsExact};
 ghost use Rattle.stn_lift.specs.PlanSource.{PlanSource, base_bounds, events_of};
@@ -96,6 +96,23 @@ fn tighten_risen<A: Allocator + Copy>(
         }
     }
     true
+}
+
+// Takes one more bound, where the bounds so far have a schedule. Whether they have one with it.
+pub fn tighten_further<A: Allocator + Copy>(
+    current: &mut Matrix<A>,
+    possible: bool,
+    bound: Bound,
+) -> bool
+    requires named { NamesEvents current.old.events bound }
+    requires counted { current.old.steps ≤ u64.MAX }
+    ensures settled { (bounds : List Difference) → IsSettled bounds current.old possible → IsSettled (bounds ++ bound ∷ []) current.new result }
+    ensures events { current.new.events ≡ current.old.events }
+    ensures counted { current.new.steps ≤ u64.MAX }
+    ensures least { current.old.steps ≤ current.new.steps }
+    ensures most { current.new.steps ≤ current.old.steps + 1 }
+{
+    possible && current.tighten(bound)
 }
 
 // Brings the current matrix up to records that hold all that was held before. Whether all bounds have a schedule then.

@@ -20,8 +20,7 @@ impl<A: Allocator + Copy> Replica<A> {
         ensures { IfOk result (λ ids. ids.items ≡ live_ids self.now.state) }
     {
         let live = self.records().live()?;
-        let ids = ids_of(self.alloc(), &live)?;
-        Ok(ids)
+        ids_of(self.alloc(), &live)
     }
 
     /// The bounds of the live records, in order of id.
@@ -30,8 +29,7 @@ impl<A: Allocator + Copy> Replica<A> {
         ensures named { All (NamesEvents (events_of self.now.source)) (live_bounds self.now.state) }
     {
         let live = self.records().live()?;
-        let bounds = bounds_of(self.alloc(), &live)?;
-        Ok(bounds)
+        bounds_of(self.alloc(), &live)
     }
 
     /// Appends what the report says of bounds that have no schedule, from the line `conflict` on. If
@@ -41,10 +39,18 @@ impl<A: Allocator + Copy> Replica<A> {
         ensures part { OnOk result ((text : List ℕ) × IsConflictPart self.now.source self.now.state text × (out.new.items ≡ out.old.items ++ text)) }
         ensures kept { OnErr result (out.new.items ≡ out.old.items) }
     {
+        let text = self.conflict_text()?;
+        out.extend_from_slice(&text)
+    }
+
+    // What the report says of bounds that have no schedule.
+    fn conflict_text(&self) -> Result<Vec<u8, A>, Memory>
+        requires { ¬ HasSchedule (all_bounds self.now.source self.now.state) }
+        ensures { IfOk result (λ text. IsConflictPart self.now.source self.now.state text.items) }
+    {
         let live = self.records().live()?;
         let mut text = Vec::new(self.alloc());
         self.append_conflict(&live, &mut text)?;
-        out.extend_from_slice(&text)?;
-        Ok(())
+        Ok(text)
     }
 }

@@ -10,14 +10,14 @@ ghost use Rattle.stn_records.specs.Record.{IsProper};
 ghost use Rattle.stn_records.specs.Content.{no_content, is_known, IsPart};
 ghost use Rattle.stn_replica.specs.Bounds.{all_bounds, live_bounds, RecordsName};
 ghost use Rattle.stn_replica.specs.Names.{broken_bound};
-ghost use Rattle.stn_replica.specs.Walk.{IsFirstBrokenRecord, RecordsTimed};
+ghost use Rattle.stn_replica.specs.Walk.{Extends, IsFirstBrokenRecord, RecordsTimed};
 ghost use Rattle.stn_replica.specs.Held.{difference, plain, executed};
 ghost use Rattle.stn_replica.specs.Work.{SparesWork};
 ghost use Rattle.stn_replica.specs.Calls.{added, amended, withdrew, took, Leaves};
 ghost use Rattle.stn_replica.specs.Refusals.{next_refusal, add_refusal, amend_refusal, done_refusal, withdraw_refusal, take_refusal};
 
 use crate::faults::ReplicaFault;
-use crate::matrices::{all_name_events, catch_up, rebuild};
+use crate::matrices::{all_name_events, catch_up, rebuild, tighten_further};
 use crate::names::BoundName;
 use crate::plan_matrix::PlanMatrix;
 use std::alloc::Allocator;
@@ -120,7 +120,8 @@ impl<A: Allocator + Copy> Replica<A> {
         ensures fault { IfErr result (λ fault. fault ≡ unwrap_or (add_refusal self.old (difference from to lo hi)) ReplicaFault.Memory) }
         ensures kept { OnErr result (self.new ≡ self.old) }
     {
-        let bound = Bound::new(self.base.events(), from, to, lo, hi)?;
+        let events = self.base.events();
+        let bound = Bound::new(events, from, to, lo, hi)?;
         self.hold(Mark::Plain, bound)
     }
 
@@ -168,8 +169,8 @@ impl<A: Allocator + Copy> Replica<A> {
         self.records.amend(id, old, bound)?;
         if was_live {
             self.possible = rebuild(&self.opening, &mut self.current, &self.records);
-        } else if self.possible {
-            self.possible = self.current.tighten(bound);
+        } else {
+            self.possible = tighten_further(&mut self.current, self.possible, bound);
         }
         Ok(id)
     }
@@ -187,10 +188,10 @@ impl<A: Allocator + Copy> Replica<A> {
         ensures fault { IfErr result (λ fault. fault ≡ unwrap_or (done_refusal self.old event) ReplicaFault.Memory) }
         ensures kept { OnErr result (self.new ≡ self.old) }
     {
-        if event == Event::origin() || event.number() > self.base.events() {
+        if event == Event::origin() {
             return Err(ReplicaFault::Bound(BoundFault::NoEvent));
         }
-        let bound = Bound::new(self.base.events(), Event::origin(), event, time, time).unwrap();
+        let bound = Bound::new(self.base.events(), Event::origin(), event, time, time)?;
         self.hold(Mark::Done, bound)
     }
 
@@ -207,9 +208,7 @@ impl<A: Allocator + Copy> Replica<A> {
         let counter = self.records.next_counter(self.site)?;
         let id = Id::new(self.site, counter).unwrap();
         self.records.add(id, mark, bound)?;
-        if self.possible {
-            self.possible = self.current.tighten(bound);
-        }
+        self.possible = tighten_further(&mut self.current, self.possible, bound);
         Ok(id)
     }
 
@@ -254,6 +253,19 @@ impl<A: Allocator + Copy> Replica<A> {
             return Err(ReplicaFault::Bound(BoundFault::NoEvent));
         }
         let records = self.records.joined(other)?;
+        self.take_over(records);
+        Ok(())
+    }
+
+    // Holds these records, with all that is held already, in place of those held.
+    fn take_over(&mut self, records: Records<A>)
+        requires extends { Extends self.old.state records }
+        requires named { RecordsName (events_of self.old.source) records }
+        ensures site { self.new.site ≡ self.old.site }
+        ensures source { self.new.source ≡ self.old.source }
+        ensures state { self.new.state ≡ records }
+        ensures work { SparesWork self.old self.new }
+    {
         self.possible = catch_up(
             &self.opening,
             &mut self.current,
@@ -262,7 +274,6 @@ impl<A: Allocator + Copy> Replica<A> {
             &records,
         );
         self.records = records;
-        Ok(())
     }
 
     /// The earliest and the latest time of an event; none where all bounds have no schedule.

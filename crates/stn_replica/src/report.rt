@@ -1,4 +1,4 @@
-ghost use Rattle.std.specs.Prelude.{◌≡◌, ℕ, ◌+◌, ◌*◌, ◌<◌, ◌≤◌, ◌++◌, ◌^◌, List, codes, length, map, All, IfOk, OnOk, OnErr};
+ghost use Rattle.std.specs.Prelude.{◌≡◌, ℕ, ◌+◌, ◌*◌, ◌<◌, ◌≤◌, ◌++◌, ◌^◌, ◌⊎◌, List, codes, length, map, All, IfOk, OnOk, OnErr};
 ghost use Rattle.std.specs.List.{flat_map};
 ghost use Rattle.stn_net.specs.Difference.{Difference};
 ghost use Rattle.stn_net.specs.Event.{most_events};
@@ -6,9 +6,10 @@ ghost use Rattle.stn_net.specs.Schedule.{HasSchedule};
 ghost use Rattle.stn_matrix.specs.Tightest.{IsExact};
 ghost use Rattle.stn_lift.specs.PlanSource.{events_of};
 ghost use Rattle.stn_records.specs.Content.{most_known, known_count, live_of, listed, replaced_count as replaced_count_of};
-ghost use Rattle.stn_replica.specs.Bounds.{all_bounds, RecordsName};
+ghost use Rattle.stn_replica.specs.Bounds.{all_bounds, live_bounds, RecordsName};
+ghost use Rattle.stn_replica.specs.Names.{live_ids};
 ghost use Rattle.stn_replica.specs.Lines.{line, conflict_line, link_line};
-ghost use Rattle.stn_replica.specs.Report.{most_report, is_done, IsWindowLines, IsReport, IsConflictPart, heading};
+ghost use Rattle.stn_replica.specs.Report.{most_report, is_done, IsWindowLines, IsWindowsPart, IsReport, IsConflictPart, heading};
 
 use crate::lines::{
     MOST_LINE, append_conflict_line, append_link_line, append_plan_line, append_records_line,
@@ -34,8 +35,7 @@ impl<A: Allocator + Copy> Replica<A> {
         ensures kept { OnErr result (out.new.items ≡ out.old.items) }
     {
         let text = self.text()?;
-        out.extend_from_slice(&text)?;
-        Ok(())
+        out.extend_from_slice(&text)
     }
 
     // The report.
@@ -46,10 +46,7 @@ impl<A: Allocator + Copy> Replica<A> {
         let live = self.records().live()?;
         let mut text = Vec::new(self.alloc());
         self.append_heading(&live, &mut text)?;
-        match self.current() {
-            Some(matrix) => self.append_windows(matrix, &mut text)?,
-            None => self.append_conflict(&live, &mut text)?,
-        }
+        self.append_part(&live, &mut text)?;
         Ok(text)
     }
 
@@ -62,6 +59,20 @@ impl<A: Allocator + Copy> Replica<A> {
         append_plan_line(out, self.base().steps(), self.base().events())?;
         append_records_line(out, live.len() as u16, replaced)?;
         Ok(())
+    }
+
+    // The windows where all bounds have a schedule, and else the cycle.
+    fn append_part(&self, live: &[(Id, Mark, Bound)], out: &mut Vec<u8, A>) -> Result<(), Memory>
+        requires live { live.now ≡ map listed (live_of self.now.state) }
+        requires named { RecordsName (events_of self.now.source) self.now.state }
+        ensures part { OnOk result ((text : List ℕ) × (IsWindowsPart self.now.source self.now.state text ⊎ IsConflictPart self.now.source self.now.state text)
+            × (out.new.items ≡ out.old.items ++ text)) }
+        ensures short { OnOk result (length out.new.items ≤ length out.old.items + MOST_LINE * (most_events + 2)) }
+    {
+        match self.current() {
+            Some(matrix) => self.append_windows(matrix, out),
+            None => self.append_conflict(live, out),
+        }
     }
 
     // `ok` and the windows of the matrix's events.
@@ -94,13 +105,27 @@ impl<A: Allocator + Copy> Replica<A> {
     {
         let all_ids = ids_of(self.alloc(), live)?;
         let all_others = bounds_of(self.alloc(), live)?;
-        let ids = all_ids.as_slice();
-        let others = all_others.as_slice();
+        self.append_named_cycle(&all_ids, &all_others, out)
+    }
+
+    // The named cycle of all bounds, by the ids and the bounds of the live records.
+    fn append_named_cycle(
+        &self,
+        ids: &[Id],
+        others: &[Bound],
+        out: &mut Vec<u8, A>,
+    ) -> Result<(), Memory>
+        requires ids { ids.now ≡ live_ids self.now.state }
+        requires others { others.now ≡ live_bounds self.now.state }
+        requires named { RecordsName (events_of self.now.source) self.now.state }
+        requires conflict { ¬ HasSchedule (all_bounds self.now.source self.now.state) }
+        ensures part { OnOk result ((text : List ℕ) × IsConflictPart self.now.source self.now.state text × (out.new.items ≡ out.old.items ++ text)) }
+        ensures short { OnOk result (length out.new.items ≤ length out.old.items + MOST_LINE * (most_events + 2)) }
+    {
         let base = self.base().bounds();
         let found = cycle(self.alloc(), self.base().events(), base, others)?;
         let named = found.unwrap();
-        append_cycle(base, ids, others, &named, out)?;
-        Ok(())
+        append_cycle(base, ids, others, &named, out)
     }
 }
 

@@ -1,4 +1,4 @@
-use Rattle.std.proofs.Common.{◌≡◌, false, refl, sym, ap, subst, ◌∙◌, arith}
+use Rattle.std.proofs.Common.{◌≡◌, false, refl, sym, ap, subst, arith}
 use Rattle.std.proofs.lemmas.Result.{err_from_is_err_and}
 use Rattle.std.specs.Rc.{rc_value}
 use Rattle.stn_net.specs.Difference.{NamesEvents}
@@ -11,35 +11,21 @@ use Rattle.std.specs.Prelude.{unwrap_or}
 use Rattle.stn_replica.specs.declared.faults.ReplicaFault.TheVariants.{Memory}
 use Rattle.stn_replica.proofs.Changes.{grown_with_record, named_added}
 use Rattle.stn_replica.proofs.Refused.{next_fault, next_free, next_spent}
-use Rattle.stn_replica.proofs.Sound.{held_is, tightened_steps, sound_added, sound_in_conflict, spares_added, not_past, ok_not_err}
+use Rattle.stn_replica.proofs.Sound.{held_is, sound_added, spares_added, not_past, ok_not_err}
 use Rattle.stn_replica.proofs.replica.Replica.hold.Goals as goal
-use Rattle.stn_replica.proofs.replica.Replica.hold.Goals.{then-self, else-self}
 
-pub invariant_of-self-then-self : goal.invariant_of-self-then-self
-invariant_of-self-then-self g c =
+pub invariant_of-self-2 : goal.invariant_of-self-2
+invariant_of-self-2 g c =
     let id : SiteCounter = record { site = c.self.inside.site; counter = c.in_ok-counter.counter } in
     let is : c.unwrap-id.result ≡ id = held_is c.new.result c.unwrap-id.result id c.unwrap-id.ensures c.new.ensures.value in
     let unknown : is_known c.self.inside.records c.unwrap-id.result ≡ false = subst (λ i. is_known c.self.inside.records i ≡ false) (sym is) c.in_ok-counter.ensures.new in
     let named = subst (λ (h : Held). NamesEvents (events_of h.source) c.args.bound) (sym c.self.view_is) c.requires.named in
-    let steps = tightened_steps c.self.inside.current c.tighten-self-inside.new.self c.tighten-self-inside.result c.self.invariant.counted c.tighten-self-inside.ensures.unchanged c.tighten-self-inside.ensures.counted in
     let one : Record = record { mark = c.args.mark; bound = c.args.bound } in
     rw c.in_ok-add.ensures.added
-    (sound_added (rc_value c.self.inside.base) c.self.inside.records (with_record c.self.inside.records c.unwrap-id.result one) c.self.inside.opening c.self.inside.current c.tighten-self-inside.new.self c.self.inside.possible
-    c.tighten-self-inside.result c.unwrap-id.result one c.self.invariant c.if-self.true (grown_with_record c.self.inside.records c.unwrap-id.result one unknown)
+    (sound_added (rc_value c.self.inside.base) c.self.inside.records (with_record c.self.inside.records c.unwrap-id.result one) c.self.inside.opening c.self.inside.current c.tighten_further-self-inside.new.current c.self.inside.possible
+    c.tighten_further-self-inside.result c.unwrap-id.result one c.self.invariant (grown_with_record c.self.inside.records c.unwrap-id.result one unknown)
     (named_added c.self.inside.records (with_record c.self.inside.records c.unwrap-id.result one) c.unwrap-id.result one unknown refl (events_of (rc_value c.self.inside.base)) c.self.invariant.named named)
-    c.tighten-self-inside.ensures.possible c.tighten-self-inside.ensures.exact c.tighten-self-inside.ensures.events steps.2)
-
-pub invariant_of-self-else-self : goal.invariant_of-self-else-self
-invariant_of-self-else-self g c =
-    let id : SiteCounter = record { site = c.self.inside.site; counter = c.in_ok-counter.counter } in
-    let is : c.unwrap-id.result ≡ id = held_is c.new.result c.unwrap-id.result id c.unwrap-id.ensures c.new.ensures.value in
-    let unknown : is_known c.self.inside.records c.unwrap-id.result ≡ false = subst (λ i. is_known c.self.inside.records i ≡ false) (sym is) c.in_ok-counter.ensures.new in
-    let named = subst (λ (h : Held). NamesEvents (events_of h.source) c.args.bound) (sym c.self.view_is) c.requires.named in
-    let one : Record = record { mark = c.args.mark; bound = c.args.bound } in
-    rw c.in_ok-add.ensures.added
-    (sound_in_conflict (rc_value c.self.inside.base) c.self.inside.records (with_record c.self.inside.records c.unwrap-id.result one) c.self.inside.opening c.self.inside.current c.self.inside.possible
-    c.unwrap-id.result one c.self.invariant c.if-self.false (grown_with_record c.self.inside.records c.unwrap-id.result one unknown)
-    (named_added c.self.inside.records (with_record c.self.inside.records c.unwrap-id.result one) c.unwrap-id.result one unknown refl (events_of (rc_value c.self.inside.base)) c.self.invariant.named named))
+    c.tighten_further-self-inside.ensures.settled c.tighten_further-self-inside.ensures.events c.tighten_further-self-inside.ensures.counted)
 
 pub returns-clause-work : goal.returns-clause-work
 returns-clause-work g c =
@@ -49,19 +35,10 @@ returns-clause-work g c =
     let one : Record = record { mark = c.args.mark; bound = c.args.bound } in
     let more = grown_with_record c.self.inside.records c.unwrap-id.result one unknown in
     let before = ap (λ (h : Held). h.steps) c.self.view_is in
-    elim c.if-self.branch [
-      | then-self w ↦
-          let steps = tightened_steps c.self.inside.current w.tighten-self-inside.new.self w.tighten-self-inside.result c.self.invariant.counted w.tighten-self-inside.ensures.unchanged w.tighten-self-inside.ensures.counted in
-          let after = ap (λ (h : Held). h.steps) w.self-is in
-          spares_added c.args.self.now c.if-self.self c.self.inside.records (with_record c.self.inside.records c.unwrap-id.result one) c.unwrap-id.result one more
-          (ap (λ (h : Held). h.state) (sym c.self.view_is)) (ap (λ (h : Held). h.state) w.self-is ∙ c.in_ok-add.ensures.added)
-          (omega (arith, steps.0, before, after)) (omega (arith, steps.1, before, after))
-      | else-self w ↦
-          let after = ap (λ (h : Held). h.steps) w.self-is in
-          spares_added c.args.self.now c.if-self.self c.self.inside.records (with_record c.self.inside.records c.unwrap-id.result one) c.unwrap-id.result one more
-          (ap (λ (h : Held). h.state) (sym c.self.view_is)) (ap (λ (h : Held). h.state) w.self-is ∙ c.in_ok-add.ensures.added)
-          (omega (arith, before, after)) (omega (arith, before, after))
-    ]
+    let new : Held = record { site = c.self.inside.site; source = rc_value c.self.inside.base; state = c.add.new.self; steps = c.tighten_further-self-inside.new.current.steps } in
+    spares_added c.args.self.now new c.self.inside.records (with_record c.self.inside.records c.unwrap-id.result one) c.unwrap-id.result one more
+    (ap (λ (h : Held). h.state) (sym c.self.view_is)) c.in_ok-add.ensures.added
+    (omega (arith, before, c.tighten_further-self-inside.ensures.least)) (omega (arith, before, c.tighten_further-self-inside.ensures.most))
 
 pub returns-clause-accepted : goal.returns-clause-accepted
 returns-clause-accepted g c =

@@ -12,9 +12,9 @@ use Rattle.stn_replica.specs.Held.{Held}
 use Rattle.stn_replica.proofs.Amended.{amend_fault, can_amend}
 use Rattle.stn_replica.proofs.Counts.{replaces_nothing}
 use Rattle.stn_replica.proofs.Changes.{falls_with_amendment, grown_with_amendment, named_added}
-use Rattle.stn_replica.proofs.Sound.{held_is, tightened_steps, sound_added, sound_in_conflict, sound_rebuilt, spares_added, spares_fallen, not_past}
+use Rattle.stn_replica.proofs.Sound.{held_is, sound_added, sound_rebuilt, spares_added, spares_fallen, not_past}
 use Rattle.stn_replica.proofs.replica.Replica.replace.Goals as goal
-use Rattle.stn_replica.proofs.replica.Replica.replace.Goals.{then-was_live, else-was_live+then-self, else-was_live+else-self}
+use Rattle.stn_replica.proofs.replica.Replica.replace.Goals.{then-was_live, else-was_live}
 
 pub prove-unreachable-requires : goal.prove-unreachable-requires
 prove-unreachable-requires g c =
@@ -57,8 +57,8 @@ invariant_of-self-then-was_live g c =
     sound_rebuilt (rc_value c.self.inside.base) c.self.inside.records c.amend.new.self c.self.inside.opening c.self.inside.current c.rebuild-self-inside.new.current c.self.inside.possible c.rebuild-self-inside.result
     c.self.invariant named c.rebuild-self-inside.ensures.settled c.rebuild-self-inside.ensures.events c.rebuild-self-inside.ensures.counted
 
-pub invariant_of-self-then-self : goal.invariant_of-self-then-self
-invariant_of-self-then-self g c =
+pub invariant_of-self-else-was_live : goal.invariant_of-self-else-was_live
+invariant_of-self-else-was_live g c =
     let id : SiteCounter = record { site = c.self.inside.site; counter = c.in_ok-counter.counter } in
     let is : c.unwrap-id.result ≡ id = held_is c.new.result c.unwrap-id.result id c.unwrap-id.ensures c.new.ensures.value in
     let unknown : is_known c.self.inside.records c.unwrap-id.result ≡ false = subst (λ i. is_known c.self.inside.records i ≡ false) (sym is) c.in_ok-counter.ensures.new in
@@ -68,24 +68,9 @@ invariant_of-self-then-self g c =
     let added = ap (λ (s : Content). s.additions) c.in_ok-amend.ensures.amended in
     let named = named_added c.self.inside.records c.amend.new.self c.unwrap-id.result (plain c.args.bound) unknown added (events_of (rc_value c.self.inside.base)) c.self.invariant.named bound_named in
     let more = grown_with_amendment c.self.inside.records c.amend.new.self c.unwrap-id.result c.args.old c.args.bound c.in_ok-amend.ensures.amended nothing unknown known (sym c.is_live-was_live.ensures ∙ c.if-was_live.false) in
-    let steps = tightened_steps c.self.inside.current c.tighten-self-inside.new.self c.tighten-self-inside.result c.self.invariant.counted c.tighten-self-inside.ensures.unchanged c.tighten-self-inside.ensures.counted in
-    sound_added (rc_value c.self.inside.base) c.self.inside.records c.amend.new.self c.self.inside.opening c.self.inside.current c.tighten-self-inside.new.self c.self.inside.possible c.tighten-self-inside.result
-    c.unwrap-id.result (plain c.args.bound) c.self.invariant c.if-self.true more named
-    c.tighten-self-inside.ensures.possible c.tighten-self-inside.ensures.exact c.tighten-self-inside.ensures.events steps.2
-
-pub invariant_of-self-else-self : goal.invariant_of-self-else-self
-invariant_of-self-else-self g c =
-    let id : SiteCounter = record { site = c.self.inside.site; counter = c.in_ok-counter.counter } in
-    let is : c.unwrap-id.result ≡ id = held_is c.new.result c.unwrap-id.result id c.unwrap-id.ensures c.new.ensures.value in
-    let unknown : is_known c.self.inside.records c.unwrap-id.result ≡ false = subst (λ i. is_known c.self.inside.records i ≡ false) (sym is) c.in_ok-counter.ensures.new in
-    let known = ap (λ (h : Held). is_known h.state c.args.old) c.self.view_is ∙ c.requires.known in
-    let bound_named = subst (λ (h : Held). NamesEvents (events_of h.source) c.args.bound) (sym c.self.view_is) c.requires.named in
-    let nothing = replaces_nothing c.self.inside.records c.unwrap-id.result c.state.ensures.sound.amends unknown in
-    let added = ap (λ (s : Content). s.additions) c.in_ok-amend.ensures.amended in
-    let named = named_added c.self.inside.records c.amend.new.self c.unwrap-id.result (plain c.args.bound) unknown added (events_of (rc_value c.self.inside.base)) c.self.invariant.named bound_named in
-    let more = grown_with_amendment c.self.inside.records c.amend.new.self c.unwrap-id.result c.args.old c.args.bound c.in_ok-amend.ensures.amended nothing unknown known (sym c.is_live-was_live.ensures ∙ c.if-was_live.false) in
-    sound_in_conflict (rc_value c.self.inside.base) c.self.inside.records c.amend.new.self c.self.inside.opening c.self.inside.current c.self.inside.possible
-    c.unwrap-id.result (plain c.args.bound) c.self.invariant c.if-self.false more named
+    sound_added (rc_value c.self.inside.base) c.self.inside.records c.amend.new.self c.self.inside.opening c.self.inside.current c.tighten_further-self-inside.new.current c.self.inside.possible c.tighten_further-self-inside.result
+    c.unwrap-id.result (plain c.args.bound) c.self.invariant more named
+    c.tighten_further-self-inside.ensures.settled c.tighten_further-self-inside.ensures.events c.tighten_further-self-inside.ensures.counted
 
 pub returns-clause-work : goal.returns-clause-work
 returns-clause-work g c =
@@ -101,17 +86,12 @@ returns-clause-work g c =
           spares_fallen c.args.self.now c.if-was_live.self c.self.inside.records c.amend.new.self
           (falls_with_amendment c.self.inside.records c.amend.new.self c.unwrap-id.result c.args.old c.args.bound c.in_ok-amend.ensures.amended nothing (sym c.is_live-was_live.ensures ∙ w.if-was_live.true))
           was (ap (λ (h : Held). h.state) w.self-is)
-      | else-was_live+then-self w ↦
-          let more = grown_with_amendment c.self.inside.records c.amend.new.self c.unwrap-id.result c.args.old c.args.bound c.in_ok-amend.ensures.amended nothing unknown known (sym c.is_live-was_live.ensures ∙ w.if-was_live.false) in
-          let steps = tightened_steps c.self.inside.current w.tighten-self-inside.new.self w.tighten-self-inside.result c.self.invariant.counted w.tighten-self-inside.ensures.unchanged w.tighten-self-inside.ensures.counted in
-          let after = ap (λ (h : Held). h.steps) w.self-is in
-          spares_added c.args.self.now c.if-was_live.self c.self.inside.records c.amend.new.self c.unwrap-id.result (plain c.args.bound) more
-          was (ap (λ (h : Held). h.state) w.self-is) (omega (arith, steps.0, before, after)) (omega (arith, steps.1, before, after))
-      | else-was_live+else-self w ↦
+      | else-was_live w ↦
           let more = grown_with_amendment c.self.inside.records c.amend.new.self c.unwrap-id.result c.args.old c.args.bound c.in_ok-amend.ensures.amended nothing unknown known (sym c.is_live-was_live.ensures ∙ w.if-was_live.false) in
           let after = ap (λ (h : Held). h.steps) w.self-is in
           spares_added c.args.self.now c.if-was_live.self c.self.inside.records c.amend.new.self c.unwrap-id.result (plain c.args.bound) more
-          was (ap (λ (h : Held). h.state) w.self-is) (omega (arith, before, after)) (omega (arith, before, after))
+          was (ap (λ (h : Held). h.state) w.self-is)
+          (omega (arith, w.tighten_further-self-inside.ensures.least, before, after)) (omega (arith, w.tighten_further-self-inside.ensures.most, before, after))
     ]
 
 pub returns-clause-accepted : goal.returns-clause-accepted

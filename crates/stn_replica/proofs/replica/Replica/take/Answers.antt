@@ -1,11 +1,12 @@
-use Rattle.std.proofs.Common.{length, refl, sym, ap, subst, ◌∙◌, arith}
+use Rattle.std.proofs.Common.{Some, refl, sym, ap, subst, ◌∙◌}
 use Rattle.std.proofs.lemmas.Bool.{false≢true}
 use Rattle.std.proofs.lemmas.Result.{err_from_is_err_and}
 use Rattle.std.specs.Rc.{rc_value}
 use Rattle.stn_lift.specs.PlanSource.{events_of}
+use Rattle.stn_records.specs.Content.{join_contents}
 use Rattle.stn_replica.specs.Bounds.{RecordsName}
 use Rattle.stn_replica.specs.Held.{Held}
-use Rattle.stn_replica.specs.Work.{risen, KeepsLive}
+use Rattle.stn_replica.specs.Walk.{Extends}
 use Rattle.stn_replica.proofs.Changes.{extends_joined, named_held}
 use Rattle.stn_replica.proofs.Refused.{take_fault, can_take, can_hold, unnamed_take}
 use Rattle.std.specs.Prelude.{unwrap_or}
@@ -41,25 +42,25 @@ returns-clause-accepted g c =
     let held : Held = record { site = c.self.inside.site; source = rc_value c.self.inside.base; state = c.self.inside.records; steps = c.self.inside.current.steps } in
     rw (← c.self.view_is) (can_take held c.args.other.now _ c.in_ok-records.records theirs c.in_ok-records.ensures.clash c.in_ok-records.ensures.full)
 
-pub catch_up-self-inside-requires-clause-extends : goal.catch_up-self-inside-requires-clause-extends
-catch_up-self-inside-requires-clause-extends g c = extends_joined c.self.inside.records c.args.other.now c.in_ok-records.records c.in_ok-records.ensures.joined
+pub take_over-requires-clause-extends : goal.take_over-requires-clause-extends
+take_over-requires-clause-extends g c =
+    let joined = extends_joined c.self.inside.records c.args.other.now c.in_ok-records.records c.in_ok-records.ensures.joined in
+    subst (λ (h : Held). Extends h.state c.in_ok-records.records) c.self.view_is joined
 
-pub catch_up-self-inside-requires-clause-named : goal.catch_up-self-inside-requires-clause-named
-catch_up-self-inside-requires-clause-named g c =
+pub take_over-requires-clause-named : goal.take_over-requires-clause-named
+take_over-requires-clause-named g c =
     let theirs : RecordsName (events_of (rc_value c.self.inside.base)) c.args.other.now =
     subst (λ n. RecordsName n c.args.other.now) (c.events.ensures.value ∙ ap events_of c.deref.ensures) (c.if-not-all_name_events.ensures.0 refl) in
-    subst (λ n. RecordsName n c.in_ok-records.records) (sym c.self.invariant.current_events)
-    (named_taken (rc_value c.self.inside.base) c.self.inside.records c.args.other.now c.in_ok-records.records c.self.inside.opening c.self.inside.current c.self.inside.possible c.self.invariant c.in_ok-records.ensures.joined theirs)
+    let named = named_taken (rc_value c.self.inside.base) c.self.inside.records c.args.other.now c.in_ok-records.records c.self.inside.opening c.self.inside.current c.self.inside.possible c.self.invariant
+    c.in_ok-records.ensures.joined theirs in
+    subst (λ (h : Held). RecordsName (events_of h.source) c.in_ok-records.records) c.self.view_is named
 
-pub invariant_of-self : goal.invariant_of-self
-invariant_of-self g c = c.catch_up-self-inside.ensures.sound (rc_value c.self.inside.base) c.self.invariant
+pub returns-clause-leaves : goal.returns-clause-leaves
+returns-clause-leaves g c = record {
+  site = c.take_over.ensures.site;
+  source = c.take_over.ensures.source;
+  state = ap (λ (h : Held). join_contents h.state c.args.other.now) (sym c.self.view_is) ∙ c.in_ok-records.ensures.joined ∙ ap Some (sym c.take_over.ensures.state);
+}
 
 pub returns-clause-work : goal.returns-clause-work
-returns-clause-work g c =
-    let before = ap (λ (h : Held). h.steps) c.self.view_is in
-    let rose = ap (λ (h : Held). length (risen h.state c.in_ok-records.records)) c.self.view_is in
-    λ keeps _.
-    let kept : KeepsLive c.self.inside.records c.in_ok-records.records = subst (λ (h : Held). KeepsLive h.state c.in_ok-records.records) (sym c.self.view_is) keeps in
-    let least = c.catch_up-self-inside.ensures.least kept in
-    let most = c.catch_up-self-inside.ensures.most kept in
-    (omega (arith, before, least), omega (arith, before, rose, most))
+returns-clause-work g c = c.take_over.ensures.work
