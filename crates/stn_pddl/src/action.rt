@@ -14,7 +14,7 @@ use stn_tree::Name;
 pub type Names<'a, A> = IndexSet<Name<'a>, BuildHasherDefault<FoldHasher>, A>;
 
 /// A term of an atom.
-#[derive(Clone, Copy, Debug)]
+#[derive(Clone, Copy)]
 pub enum Term<'a> {
     /// A parameter of the action, by its place from 0 on.
     Parameter(usize),
@@ -23,7 +23,7 @@ pub enum Term<'a> {
 }
 
 /// A predicate and its terms.
-#[derive(Debug, Drop)]
+#[derive(Drop)]
 pub struct Atom<'a, A: Allocator> {
     /// The name of the predicate.
     pub predicate: Name<'a>,
@@ -32,7 +32,7 @@ pub struct Atom<'a, A: Allocator> {
 }
 
 /// A durative action of a domain. Its conditions and effects are lists of atoms in the order of the text.
-#[derive(Debug, Drop)]
+#[derive(Drop)]
 pub struct Action<'a, A: Allocator> {
     /// The name, which no other action of the domain has.
     pub name: Name<'a>,
