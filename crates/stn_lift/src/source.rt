@@ -4,7 +4,7 @@ ghost use Rattle.stn_lift.specs.PlanSource.{plan_source};
 use std::alloc::Allocator;
 
 /// What a base is made from.
-#[derive(Debug, Drop)]
+#[derive(Drop)]
 pub enum Source<A: Allocator> {
     /// So many steps, with no bounds but the horizon.
     Bare(u16),
