@@ -16,7 +16,7 @@ use stn_text::is_too_long;
 
 /// A plan: its text, and its steps in the order of their lines. It borrows the text, and each name in it is a slice of
 /// the text.
-#[derive(Debug, Drop)]
+#[derive(Drop)]
 pub struct Plan<'a, A: Allocator> {
     text: &'a [u8],
     steps: Vec<Step<'a, A>, A>,

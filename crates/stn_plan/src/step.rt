@@ -15,7 +15,7 @@ use std::alloc::Allocator;
 use stn_time::Ms;
 
 /// One step of a plan: an action that starts at a time.
-#[derive(Debug, Drop)]
+#[derive(Drop)]
 pub struct Step<'a, A: Allocator> {
     /// The line of the text that it stands on, counted from 1.
     pub line: u32,
