@@ -1,5 +1,5 @@
 -- The first line with a fault gives the fault of the text.
-use Rattle.std.proofs.Common.{◌≡◌, ℕ, ℤ, Bool, true, false, cond, ◌||◌, List, [], ◌∷◌, ◌++◌, Option, Some, None, Result, Ok, Err, IsOk, refl, subst, ap, ◌∙◌}
+use Rattle.std.proofs.Common.{◌≡◌, ℕ, ℤ, Bool, true, false, cond, nat_lt, ◌||◌, length, List, [], ◌∷◌, ◌++◌, Option, Some, None, Result, Ok, Err, IsOk, refl, subst, ap, ◌∙◌}
 use Rattle.std.specs.Int.{is_negative}
 use Rattle.std.specs.Option.{option_to_list, option_map_or}
 use Rattle.std.proofs.lemmas.List.Elements.{All-nil, All-cons}
@@ -11,7 +11,7 @@ use Rattle.stn_plan.specs.declared.fault.PlanFault.{PlanFault}
 use Rattle.stn_plan.specs.declared.fault.PlanFault.TheVariants.{TooLong, Syntax, Number, Negative, TooManySteps, Memory}
 use Rattle.stn_plan.specs.Tokens.{Lexeme, Word, Sign, tokens_of}
 use Rattle.stn_plan.specs.Lines.{lines_of}
-use Rattle.stn_plan.specs.Steps.{PlannedStep, Form, args_of, duration_form, form_of, or_number, time_at, duration_of, step_at, timed_step, step_of, line_step, steps_of, is_memory}
+use Rattle.stn_plan.specs.Steps.{PlannedStep, Form, args_of, duration_form, form_of, or_number, time_at, duration_of, step_at, timed_step, step_of, line_step, most_text, steps_of, plan_of, is_memory}
 use Rattle.stn_plan.specs.Faults.{IsFaultOf, IsFirstFault, IsCause}
 
 -- the fault that is given is the one that is found
@@ -137,3 +137,13 @@ lines_fault (Number line) text e = steps_of-first (lines_of text) (Number line) 
 lines_fault (Negative line) text e = steps_of-first (lines_of text) (Negative line) e
 lines_fault TooManySteps text e = absurd (steps_of-first (lines_of text) TooManySteps e).its_number
 lines_fault Memory text e = tt
+
+-- a fault of the lines is the fault of a text that is short enough
+pub plan_fault : (fault : PlanFault) (text : List ℕ) → nat_lt most_text (length text) ≡ false → Fails is_memory fault (steps_of (lines_of text)) → Fails is_memory fault (plan_of text)
+unfolding plan_of
+plan_fault TooLong text fits e = rw (fits, e) refl
+plan_fault (Syntax line) text fits e = rw (fits, e) refl
+plan_fault (Number line) text fits e = rw (fits, e) refl
+plan_fault (Negative line) text fits e = rw (fits, e) refl
+plan_fault TooManySteps text fits e = rw (fits, e) refl
+plan_fault Memory text fits e = tt

@@ -1,9 +1,9 @@
 -- How the steps of a text are read one after another.
-use Rattle.std.proofs.Common.{◌≡◌, ℕ, ℤ, pos, negsuc, ◌≤ℤ◌, Bool, true, false, ◌||◌, cond, ◌≤◌, nat_lt, length, List, [], ◌∷◌, ◌++◌, Option, Some, None, IfSome, Result, Ok, Err, refl, sym, ap, ◌∙◌, append_assoc, subst, arith, rules}
+use Rattle.std.proofs.Common.{◌≡◌, ℕ, ℤ, pos, negsuc, ◌≤ℤ◌, Bool, true, false, ◌||◌, cond, ◌≤◌, ◌<◌, nat_lt, length, List, [], ◌∷◌, ◌++◌, Option, Some, None, IfSome, Result, Ok, Err, refl, sym, ap, ◌∙◌, append_assoc, subst, arith, rules}
 use Rattle.std.specs.Int.{is_negative}
 use Rattle.std.specs.List.{All}
 use Rattle.std.specs.Option.{option_to_list, option_map_or}
-use Rattle.std.proofs.lemmas.Bool.{or_parts, le-ltb}
+use Rattle.std.proofs.lemmas.Bool.{or_parts, le-ltb, lt-ltb}
 use Rattle.std.proofs.lemmas.Bool.Decides.{nat_tests}
 use Rattle.std.proofs.lemmas.List.Elements.{All-nil, All-cons, All-append}
 use Rattle.stn_text.specs.Faults.{◌>>=◌}
@@ -98,6 +98,14 @@ unfolding plan_of limited
 plan_of-Ok text steps short few found =
     let fits : nat_lt most_text (length text) ≡ false = le-ltb most_text (length text) short in
     let limits : nat_lt most_steps (length steps) ≡ false = le-ltb most_steps (length steps) few in
+    rw (fits, found, limits) refl
+
+-- one that gives more steps is refused
+pub plan_of-many : (text : List ℕ) (steps : List PlannedStep) → nat_lt most_text (length text) ≡ false → most_steps < length steps → steps_of (lines_of text) ≡ Ok steps
+    → plan_of text ≡ Err TooManySteps
+unfolding plan_of limited
+plan_of-many text steps fits many found =
+    let limits : nat_lt most_steps (length steps) ≡ true = lt-ltb most_steps (length steps) many in
     rw (fits, found, limits) refl
 
 -- a plan text gives few enough steps

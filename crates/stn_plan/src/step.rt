@@ -62,21 +62,21 @@ fn read_args<'a, A: Allocator + Copy>(
 fn read_duration<'a>(line: u32, tokens: &mut Tokens<'a>) -> Result<Option<&'a [u8]>, PlanFault>
     ensures { Gives is_memory (option_map word_of) result (duration_form line tokens.old) }
 {
-    let syntax = Err(PlanFault::Syntax(line));
+    let syntax = PlanFault::Syntax(line);
     match tokens.next_token() {
         None => return Ok(None),
         Some(Token::Mark(Mark::OpenSquare)) => {}
-        _ => return syntax,
+        _ => return Err(syntax),
     }
     let Some(Token::Word(word)) = tokens.next_token() else {
-        return syntax;
+        return Err(syntax);
     };
     let Some(Token::Mark(Mark::CloseSquare)) = tokens.next_token() else {
-        return syntax;
+        return Err(syntax);
     };
     match tokens.next_token() {
         None => Ok(Some(word)),
-        Some(_) => syntax,
+        Some(_) => Err(syntax),
     }
 }
 
@@ -89,18 +89,18 @@ fn read_words<'a, A: Allocator + Copy>(
 ) -> Result<Words<'a, A>, PlanFault>
     ensures { Gives is_memory form_in result (form_of line tokens.old) }
 {
-    let syntax = Err(PlanFault::Syntax(line));
+    let syntax = PlanFault::Syntax(line);
     let Some(Token::Word(time)) = tokens.next_token() else {
-        return syntax;
+        return Err(syntax);
     };
     let Some(Token::Mark(Mark::Colon)) = tokens.next_token() else {
-        return syntax;
+        return Err(syntax);
     };
     let Some(Token::Mark(Mark::Open)) = tokens.next_token() else {
-        return syntax;
+        return Err(syntax);
     };
     let Some(Token::Word(action)) = tokens.next_token() else {
-        return syntax;
+        return Err(syntax);
     };
     let args = read_args(alloc, line, tokens)?;
     let duration = read_duration(line, tokens)?;
