@@ -8,7 +8,7 @@ use std::io::{Read, Write};
 
 /// A reader or a writer whose bytes pass through, and whose failed calls are counted, up to the greatest `u64`.
 /// A write of at least one byte that takes none is one of them.
-#[derive(Debug, Drop)]
+#[derive(Drop)]
 pub struct Counted<D> {
     device: D,
     failures: u64,

@@ -73,7 +73,7 @@ pub trait TimedStream {
 }
 
 /// A reader and a writer over a stream, whose calls are over by a deadline and fail after it. Bytes pass through unchanged.
-#[derive(Debug, Drop)]
+#[derive(Drop)]
 pub struct UntilDeadline<S> {
     stream: S,
     deadline: Deadline,

@@ -16,7 +16,7 @@ pub const MOST_BYTES: usize = 16_777_216;
 const PIECE: usize = 4096;
 
 /// Why an input could not be read whole.
-#[derive(Clone, Copy, Debug, PartialEq, Eq, Drop, Error)]
+#[derive(Clone, Copy, Debug, Error)]
 pub enum ReadFault {
     /// A call of the reader failed.
     #[error("a read failed")]
@@ -38,7 +38,7 @@ impl From<AllocError> for ReadFault {
 }
 
 /// A call of the writer failed, or took none of the bytes that were left.
-#[derive(Clone, Copy, Debug, PartialEq, Eq, Drop, Error)]
+#[derive(Clone, Copy, Debug, PartialEq, Eq, Error)]
 #[error("a write failed")]
 pub struct WriteFault;
 
