@@ -16,7 +16,7 @@ use stn_time::Memory;
 const OPENING: usize = 5;
 
 /// What a piece of a stream gave.
-#[derive(Debug, Drop)]
+#[derive(Drop)]
 pub struct Fed<A: Allocator> {
     /// How many bytes of the piece were taken.
     pub used: usize,
@@ -26,7 +26,7 @@ pub struct Fed<A: Allocator> {
 
 /// A stream of frames that comes in pieces. It holds less than one frame. The frames that it gives
 /// don't depend on how the stream was cut.
-#[derive(Debug, Drop)]
+#[derive(Drop)]
 pub struct Feeder<A: Allocator> {
     held: Vec<u8, A>,
     // How many bytes the frame lacks, once its length and its kind are held.

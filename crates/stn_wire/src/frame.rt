@@ -6,7 +6,7 @@ use stn_lift::Source;
 use stn_records::Records;
 
 /// What one site says to another.
-#[derive(Debug, Drop)]
+#[derive(Drop)]
 pub enum Frame<A: Allocator> {
     /// The plan of the site, as the first version said it.
     OldHello(Source<A>),
@@ -46,7 +46,7 @@ impl<A: Allocator> Frame<A> {
 }
 
 /// What one site says to another, by what it is about: a frame that holds no copy of it.
-#[derive(Debug, Drop)]
+#[derive(Drop)]
 pub enum Said<'a, A: Allocator> {
     /// The plan of the site.
     Hello(&'a Source<A>),

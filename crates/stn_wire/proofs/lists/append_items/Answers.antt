@@ -2,6 +2,7 @@ use Rattle.std.proofs.Common.{◌≡◌, ◌+◌, ◌++◌, ◌∷◌, [], take,
 use Rattle.std.proofs.lemmas.List.{flat_map_more, take_all, take_more}
 use Rattle.std.proofs.lemmas.List.Elements.{All-more, All-nil, All-same, recursion_from_All}
 use Rattle.std.specs.List.{flat_map}
+use Rattle.std.proofs.lemmas.Result.{err_from_is_err_and}
 use Rattle.stn_wire.specs.declared.layout.Layout.TheVariants.{New}
 use Rattle.stn_wire.proofs.lists.append_items.Goals as goal
 
@@ -32,3 +33,8 @@ pub returns-clause-each : goal.returns-clause-each
 returns-clause-each g c =
     recursion_from_All (g.T.Item.IsSpelled New) c.args.items.now
     (All-same (g.T.Item.IsSpelled New) c.args.items.now (take c.loop-item.item-index c.args.items.now) (sym (take_all c.loop-item.item-index c.args.items.now c.loop-item-test.false)) c.loop-item.invariant.each)
+
+pub returns-in_err-append : goal.returns-in_err-append
+returns-in_err-append g c =
+    let p = err_from_is_err_and c.from_residual.result c.from_residual.ensures.1 in
+    rw p.1 (record { appended = tt; each = tt })
