@@ -37,6 +37,12 @@ id_told Fails Does refusal words given told does free fails line = MatchResult-w
     (λ failure why. ⊎_elim (λ memory. inr (lack_of_memory Fails failure memory))
     (λ cause. call_failed Fails refusal cause.0 failure (IfErr-at_err (λ (fault : ReplicaFault). fault ≡ unwrap_or refusal Memory) cause.1 fails) cause.2) why)
 
+-- the fault of taking in another's records, as lack of memory or as what refuses it
+pub take_failed : (refusal : Option ReplicaFault) (fault : ReplicaFault) → fault ≡ unwrap_or refusal Memory
+    → (of_replica fault ≡ Failed lack.Memory) ⊎ (Some (of_replica fault) ≡ option_map of_replica refusal)
+take_failed None fault e = inl (ap of_replica e)
+take_failed (Some cause) fault e = inr (ap (λ (one : ReplicaFault). Some (of_replica one)) e)
+
 lacks_or : {M R L W : Type 0} → (M → L) → (R → W) → M ⊎ R → W ⊎ L
 lacks_or lacks refused (inl memory) = inr (lacks memory)
 lacks_or lacks refused (inr refusal) = inl (refused refusal)

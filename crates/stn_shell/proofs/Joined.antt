@@ -6,7 +6,7 @@ use Rattle.stn_replica.specs.Calls.{Leaves, took}
 use Rattle.stn_replica.specs.Held.{Held}
 use Rattle.stn_session.specs.declared.session.Served.{Served}
 use Rattle.stn_session.specs.declared.session.ServeFault.{ServeFault}
-use Rattle.stn_store.specs.Store.{Entry, Opens}
+use Rattle.stn_store.specs.Store.{Entry, Opens, saved_too}
 use Rattle.stn_store.specs.declared.failure.Failure.{Failure}
 use Rattle.stn_store.specs.declared.failure.Fault.{Fault}
 use Rattle.stn_shell.specs.Connections.{IsSessionBetween, IsSavedSession, IsUnservedSession, Exchanges, IsSavedExchange}
@@ -19,6 +19,14 @@ pub join_taken : {T E : Type 0} (answer : Result T E) (entries : Option (List En
     → OnOk answer (JoinsLog entries log old.source old.state new.state)
 join_taken (Ok done) entries log old said new opened same left = inr (said, opened, sym same, left.state)
 join_taken (Err failure) entries log old said new opened same left = tt
+
+-- and saved
+pub join_saved : {T E : Type 0} (answer : Result T E) (log : SiteLog) (source here : PlanSource) (first last : Content)
+    (old new : Option (List Entry)) → here ≡ source → JoinsLog old log source first last
+    → OnOk answer (new ≡ saved_too old log.name.now (record { source = here; state = last })) → OnOk answer (SavesJoin log source first last old new)
+join_saved (Ok done) log source here first last old new same joined saved =
+    (joined, subst (λ (plan : PlanSource). new ≡ saved_too old log.name.now (record { source = plan; state = last })) same saved)
+join_saved (Err failure) log source here first last old new same joined saved = tt
 
 -- a session between the two
 pub saved_session : (source here there : PlanSource) (log : SiteLog) (first found left last : Content) (old new : Option (List Entry))

@@ -1,38 +1,43 @@
-use Rattle.std.proofs.Common.{refl, inl, inr}
+use Rattle.std.proofs.Common.{refl, inl, inr, ◌∙◌}
 use Rattle.std.proofs.lemmas.Result.{on_ok_weaker, IfErr-weaker, err_from_is_err_and}
 use Rattle.stn_shell.proofs.Joined.{saved_exchange, unkept_exchange}
 use Rattle.stn_shell.proofs.connections.exchange.Goals as goal
 
-pub returns-in_err-text-clause-stopped : goal.returns-in_err-text-clause-stopped
-returns-in_err-text-clause-stopped g c =
+pub returns-in_err-text : goal.returns-in_err-text
+returns-in_err-text g c =
     let p = err_from_is_err_and c.from_residual.result c.from_residual.ensures.1 in
-    rw (p.1, p.2) (inl (c.in_err-text.ensures.refused, refl, refl))
+    let is = c.in_err-text.ensures in
+    rw (p.1, p.2) (record { sent = tt; stopped = inl (is.refused, refl, refl); source = is.source; site = is.site })
 
-pub returns-in_err-save_join-clause-stopped : goal.returns-in_err-save_join-clause-stopped
-returns-in_err-save_join-clause-stopped g c =
+pub returns-in_err-save_join : goal.returns-in_err-save_join
+returns-in_err-save_join g c =
     let p = err_from_is_err_and c.from_residual-in_err-save_join.result c.from_residual-in_err-save_join.ensures.1 in
-    rw (p.1, p.2)
-    (inr (inl (
-      c.in_ok-text.text.items,
-      c.ask.new.replica.state,
-      c.in_ok-text.ensures.exchanged,
-      unkept_exchange _ _ _ c.args.log.now _ _ _ _ c.in_ok-text.ensures.source c.in_err-save_join.ensures.unkept,
-      c.in_err-save_join.ensures.unsaved,
-      refl,
-    )))
+    let asked = c.in_ok-text.ensures in
+    let is = c.in_err-save_join.ensures in
+    rw (p.1, p.2) (record {
+      sent = tt;
+      stopped = inr (inl (
+        c.in_ok-text.text.items,
+        c.ask.new.replica.state,
+        asked.exchanged,
+        unkept_exchange _ _ _ c.args.log.now _ _ _ _ asked.source is.unkept,
+        is.unsaved,
+        refl,
+      ));
+      source = is.source ∙ asked.source;
+      site = is.site ∙ asked.site;
+    })
 
-pub returns-clause-sent : goal.returns-clause-sent
-returns-clause-sent g c = on_ok_weaker c.print.result (λ printed. record {
-  text = c.in_ok-text.text.items;
-  exchanged = saved_exchange _ _ c.args.log.now _ _ _ _ _ _ c.in_ok-text.ensures.source c.in_ok-text.ensures.exchanged c.in_ok-save_join.ensures.saved;
-  printed = printed;
-}) (rw c.deref.ensures.value at c.print.ensures.printed)
-
-pub returns-clause-stopped : goal.returns-clause-stopped
-returns-clause-stopped g c = IfErr-weaker c.print.result _ _
-    (λ failure unprinted. inr (inr (
-      c.in_ok-text.text.items,
-      saved_exchange _ _ c.args.log.now _ _ _ _ _ _ c.in_ok-text.ensures.source c.in_ok-text.ensures.exchanged c.in_ok-save_join.ensures.saved,
-      unprinted,
-    )))
-    (rw c.deref.ensures.value at c.print.ensures.failed)
+pub returns : goal.returns
+returns g c =
+    let asked = c.in_ok-text.ensures in
+    let is = c.in_ok-save_join.ensures in
+    let exchanged = saved_exchange _ _ c.args.log.now _ _ _ _ _ _ asked.source asked.exchanged is.saved in
+    record {
+      sent = on_ok_weaker c.print.result (λ printed. record { text = c.in_ok-text.text.items; exchanged = exchanged; printed = printed })
+          (rw c.deref.ensures.value at c.print.ensures.printed);
+      stopped = IfErr-weaker c.print.result _ _ (λ failure unprinted. inr (inr (c.in_ok-text.text.items, exchanged, unprinted)))
+          (rw c.deref.ensures.value at c.print.ensures.failed);
+      source = is.source ∙ asked.source;
+      site = is.site ∙ asked.site;
+    }

@@ -6,18 +6,18 @@ use Rattle.stn_shell.proofs.connections.serve_each.Goals as goal
 pub connections-init : goal.connections-init
 connections-init g c = record { served = serves_none _ _ _ _ _; source = refl; site = refl }
 
-pub returns-in_err-serve_next-clause-stopped : goal.returns-in_err-serve_next-clause-stopped
-returns-in_err-serve_next-clause-stopped g c =
+pub returns-in_err-serve_next : goal.returns-in_err-serve_next
+returns-in_err-serve_next g c =
     let p = err_from_is_err_and c.from_residual.result c.from_residual.ensures.1 in
     let i = c.connections.invariant in
+    let is = c.in_err-serve_next.ensures in
     let few : c.connections.counter < c.args.service.now.count = omega (arith, c.connections-test.true) in
-    rw (p.1, p.2) (stops_serving _ _ _ _ _ _ _ _ _ _ _ _ _ _ _ _ i.served i.source few c.in_err-serve_next.ensures.stopped)
-
-pub returns-in_err-serve_next-clause-source : goal.returns-in_err-serve_next-clause-source
-returns-in_err-serve_next-clause-source g c = c.in_err-serve_next.ensures.source ∙ c.connections.invariant.source
-
-pub returns-in_err-serve_next-clause-site : goal.returns-in_err-serve_next-clause-site
-returns-in_err-serve_next-clause-site g c = c.in_err-serve_next.ensures.site ∙ c.connections.invariant.site
+    rw (p.1, p.2) (record {
+      served = tt;
+      stopped = stops_serving _ _ _ _ _ _ _ _ _ _ _ _ _ _ _ _ i.served i.source few is.stopped;
+      source = is.source ∙ i.source;
+      site = is.site ∙ i.site;
+    })
 
 pub connections-preserved : goal.connections-preserved
 connections-preserved g c =
@@ -29,13 +29,8 @@ connections-preserved g c =
       site = c.in_ok-serve_next.ensures.site ∙ i.site;
     }
 
-pub returns-clause-served : goal.returns-clause-served
-returns-clause-served g c =
+pub returns : goal.returns
+returns g c =
+    let i = c.connections.invariant in
     let all : c.connections.counter ≡ c.args.service.now.count = omega (arith, c.connections.auto.counter-end, c.connections-test.false) in
-    rw all at c.connections.invariant.served
-
-pub returns-clause-source : goal.returns-clause-source
-returns-clause-source g c = c.connections.invariant.source
-
-pub returns-clause-site : goal.returns-clause-site
-returns-clause-site g c = c.connections.invariant.site
+    record { served = rw all at i.served; stopped = tt; source = i.source; site = i.site }

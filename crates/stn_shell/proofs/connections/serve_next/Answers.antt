@@ -2,7 +2,34 @@ use Rattle.std.proofs.Common.{refl, inl, inr}
 use Rattle.std.proofs.lemmas.Result.{err_from_is_err_and}
 use Rattle.stn_shell.proofs.connections.serve_next.Goals as goal
 
-pub returns-in_err-session-clause-stopped : goal.returns-in_err-session-clause-stopped
-returns-in_err-session-clause-stopped g c =
+pub returns-in_err-peer : goal.returns-in_err-peer
+returns-in_err-peer g c =
+    let p = err_from_is_err_and c.from_residual.result c.from_residual.ensures.1 in
+    rw (p.1, p.2) (record { served = tt; stopped = inl (c.in_err-peer.ensures, refl, refl, refl); source = refl; site = refl })
+
+pub returns-in_err-session : goal.returns-in_err-session
+returns-in_err-session g c =
     let p = err_from_is_err_and c.from_residual-in_err-session.result c.from_residual-in_err-session.ensures.1 in
-    rw (p.1, p.2) (inr (inl (c.in_err-session.ensures.unserved, c.in_err-session.ensures.unsaved, refl)))
+    let is = c.in_err-session.ensures in
+    rw (p.1, p.2) (record { served = tt; stopped = inr (inl (is.unserved, is.unsaved, refl)); source = is.source; site = is.site })
+
+pub returns-in_err-print_session : goal.returns-in_err-print_session
+returns-in_err-print_session g c =
+    let p = err_from_is_err_and c.from_residual-in_err-print_session.result c.from_residual-in_err-print_session.ensures.1 in
+    let is = c.in_ok-session.ensures in
+    rw (p.1, p.2) (record {
+      served = tt;
+      stopped = inr (inr (c.in_ok-session.session, is.served, c.in_err-print_session.ensures.failed));
+      source = is.source;
+      site = is.site;
+    })
+
+pub returns : goal.returns
+returns g c =
+    let is = c.in_ok-session.ensures in
+    record {
+      served = (c.in_ok-session.session, is.served, c.in_ok-print_session.ensures.printed);
+      stopped = tt;
+      source = is.source;
+      site = is.site;
+    }

@@ -1,22 +1,44 @@
-use Rattle.std.proofs.Common.{ap, inl}
+use Rattle.std.proofs.Common.{refl, ap, inl, ◌∙◌}
 use Rattle.std.proofs.lemmas.Result.{err_from_is_err_and}
 use Rattle.stn_replica.specs.Held.{Held}
 use Rattle.stn_shell.proofs.Joined.{saved_session, unkept_session}
 use Rattle.stn_shell.proofs.connections.serve_saved.Goals as goal
 
-pub returns-in_err-take_log-clause-unserved : goal.returns-in_err-take_log-clause-unserved
-returns-in_err-take_log-clause-unserved g c =
+pub returns-in_err-take_log : goal.returns-in_err-take_log
+returns-in_err-take_log g c =
     let p = err_from_is_err_and c.from_residual.result c.from_residual.ensures.1 in
-    rw (p.1, p.2) (inl (c.in_err-take_log.ensures.untaken, ap (λ (held : Held). held.state) c.in_err-take_log.ensures.kept))
+    let is = c.in_err-take_log.ensures in
+    rw (p.1, p.2) (record {
+      served = tt;
+      unserved = inl (is.untaken, ap (λ (held : Held). held.state) is.kept);
+      unsaved = refl;
+      source = is.source;
+      site = is.site;
+    })
 
-pub returns-in_err-save_join-clause-unserved : goal.returns-in_err-save_join-clause-unserved
-returns-in_err-save_join-clause-unserved g c =
+pub returns-in_err-save_join : goal.returns-in_err-save_join
+returns-in_err-save_join g c =
     let p = err_from_is_err_and c.from_residual-in_err-save_join.result c.from_residual-in_err-save_join.ensures.1 in
-    rw (p.1, p.2)
-    (unkept_session _ _ _ _ c.args.log.now _ _ _ _ _ _ _ c.in_ok-take_log.ensures.source c.serve_peer-session.ensures.source c.in_ok-take_log.ensures.taken
-    c.serve_peer-session.ensures.session c.in_err-save_join.ensures.unkept)
+    let took = c.in_ok-take_log.ensures in
+    let session = c.serve_peer-session.ensures in
+    let is = c.in_err-save_join.ensures in
+    rw (p.1, p.2) (record {
+      served = tt;
+      unserved = unkept_session _ _ _ _ c.args.log.now _ _ _ _ _ _ _ took.source session.source took.taken session.session is.unkept;
+      unsaved = is.unsaved;
+      source = is.source ∙ session.source ∙ took.source;
+      site = is.site ∙ session.site ∙ took.site;
+    })
 
-pub returns-clause-served : goal.returns-clause-served
-returns-clause-served g c =
-    saved_session _ _ _ c.args.log.now _ _ _ _ _ _ _ c.in_ok-take_log.ensures.source c.serve_peer-session.ensures.source c.in_ok-take_log.ensures.taken
-    c.serve_peer-session.ensures.session c.in_ok-save_join.ensures.saved
+pub returns : goal.returns
+returns g c =
+    let took = c.in_ok-take_log.ensures in
+    let session = c.serve_peer-session.ensures in
+    let is = c.in_ok-save_join.ensures in
+    record {
+      served = saved_session _ _ _ c.args.log.now _ _ _ _ _ _ _ took.source session.source took.taken session.session is.saved;
+      unserved = tt;
+      unsaved = tt;
+      source = is.source ∙ session.source ∙ took.source;
+      site = is.site ∙ session.site ∙ took.site;
+    }

@@ -1,9 +1,33 @@
-use Rattle.std.proofs.Common.{ap, inl}
-use Rattle.std.proofs.lemmas.Result.{err_from_is_err_and}
+use Rattle.std.proofs.Common.{refl, ap, inl, inr}
+use Rattle.std.proofs.lemmas.Result.{IfErr-weaker, err_from_is_err_and}
 use Rattle.stn_replica.specs.Held.{Held}
+use Rattle.stn_shell.proofs.Joined.{join_saved}
 use Rattle.stn_shell.proofs.joining.save_join.Goals as goal
 
-pub returns-in_err-take_log-clause-unkept : goal.returns-in_err-take_log-clause-unkept
-returns-in_err-take_log-clause-unkept g c =
+pub returns-in_err-_held : goal.returns-in_err-_held
+returns-in_err-_held g c =
+    let p = err_from_is_err_and c.from_residual.result c.from_residual.ensures.1 in
+    rw (p.1, p.2) (record { saved = tt; unkept = inl (inl c.in_err-_held.ensures.failed, refl); unsaved = refl; source = refl; site = refl })
+
+pub returns-in_err-take_log : goal.returns-in_err-take_log
+returns-in_err-take_log g c =
     let p = err_from_is_err_and c.from_residual-in_err-take_log.result c.from_residual-in_err-take_log.ensures.1 in
-    rw (p.1, p.2) (inl (c.in_err-take_log.ensures.untaken, ap (λ (held : Held). held.state) c.in_err-take_log.ensures.kept))
+    let is = c.in_err-take_log.ensures in
+    rw (p.1, p.2) (record {
+      saved = tt;
+      unkept = inl (is.untaken, ap (λ (held : Held). held.state) is.kept);
+      unsaved = refl;
+      source = is.source;
+      site = is.site;
+    })
+
+pub returns : goal.returns
+returns g c =
+    let took = c.in_ok-take_log.ensures in
+    record {
+      saved = join_saved c.save.result c.args.log.now _ _ _ _ _ _ took.source took.taken c.save.ensures.saved;
+      unkept = IfErr-weaker c.save.result _ _ (λ failure lack. inr (took.taken, lack)) c.save.ensures.failed;
+      unsaved = c.save.ensures.kept;
+      source = took.source;
+      site = took.site;
+    }
