@@ -1,8 +1,7 @@
 #!/usr/bin/env python3
-"""Prints what the programs text_answers and lifted_plans are to print, by the formats alone (docs/FORMATS.md).
+"""Prints what the program text_answers is to print, by the formats alone (docs/FORMATS.md).
 
-usage: bench/plans.py texts < crates/text_answers/stdin > crates/text_answers/stdout
-       bench/plans.py lifted < crates/lifted_plans/stdin > crates/lifted_plans/stdout
+usage: bench/plans.py < crates/text_answers/stdin > crates/text_answers/stdout
 
 It has times, events, domains, plan texts, and the bounds of a plan; bench/scripts.py has the rest of a script.
 """
@@ -474,20 +473,17 @@ def lifted_answer(domain, plan):
 
 
 def main():
-    rows = sys.stdin.buffer.read().removesuffix(b"\n").split(b"\n")
-    if sys.argv[1:] == ["texts"]:
-        for row in rows:
-            print(text_answer(row))
-    elif sys.argv[1:] == ["lifted"]:
-        domain = b""
-        for row in rows:
-            text = row.replace(b"~", b"\n")
-            if text.startswith(b"("):
-                domain = text
-            else:
-                print("\n".join(lifted_answer(domain, text)))
-    else:
+    if len(sys.argv) > 1:
         sys.exit(__doc__)
+    domain = b""
+    for row in sys.stdin.buffer.read().removesuffix(b"\n").split(b"\n"):
+        kind, _, text = row.partition(b" ")
+        if kind == b"with":
+            domain = text.replace(b"~", b"\n")
+        elif kind == b"lift":
+            print("\n".join(lifted_answer(domain, text.replace(b"~", b"\n"))))
+        else:
+            print(text_answer(row))
 
 
 if __name__ == "__main__":

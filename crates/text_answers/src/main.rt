@@ -5,11 +5,16 @@
 //! Of a time it prints 0, the milliseconds, and the time as it is printed; of a domain two zeros; of a plan 0 and the number of its
 //! steps; of a fault its code and its line, or 0. A line `millis <number>` prints so many milliseconds as a time. A line that
 //! begins with `=` is a heading, and is printed as it is.
+//!
+//! A line `with <domain>` has the domain of the plans that are lifted after it, one each on a line `lift <plan>`. Of such a plan it
+//! prints the base bounds in their order and then the planned times of the events, or the code of the fault and its argument.
 #![tactic(auto)]
 
 mod answers;
+mod lifted;
 
 use crate::answers::{print_answer, print_time};
+use crate::lifted::print_lifted;
 use anyhow::{Context, Error};
 use std::alloc::{AllocError, Global};
 
@@ -48,7 +53,7 @@ fn answer_hex(rt: &HostRuntime, rest: &str) -> Result<(), Error> {
     print_answer(rt, word, &text)
 }
 
-fn print_row(rt: &HostRuntime, row: &str) -> Result<(), Error> {
+fn print_row(rt: &HostRuntime, domain: &mut String, row: &str) -> Result<(), Error> {
     if row.starts_with('=') {
         println!(rt; "{row}")?;
         Ok(())
@@ -56,15 +61,21 @@ fn print_row(rt: &HostRuntime, row: &str) -> Result<(), Error> {
         print_time(rt, number.parse()?)
     } else if let Some(rest) = row.strip_prefix("hex ") {
         answer_hex(rt, rest)
+    } else if let Some(text) = row.strip_prefix("with ") {
+        *domain = bytes_of(rt.alloc(), text, 0)?;
+        Ok(())
+    } else if let Some(text) = row.strip_prefix("lift ") {
+        print_lifted(rt, domain, &bytes_of(rt.alloc(), text, 0)?)
     } else {
         answer_text(rt, row)
     }
 }
 
 fn main(rt: HostRuntime) -> Result<(), Error> {
+    let mut domain = String::new(rt.alloc());
     for row in rt.lines(rt.alloc()) {
         let row = row?;
-        print_row(&rt, row.as_str())?;
+        print_row(&rt, &mut domain, row.as_str())?;
     }
     Ok(())
 }

@@ -1,8 +1,3 @@
-//! For tests: reads domains and plans from standard input, one a line, in which `~` stands for a line feed. A line that begins
-//! with `(` is the domain of the plans after it. Of each plan it prints the base bounds in their order and then the planned times
-//! of the events, or the code of the fault and its argument.
-#![tactic(auto)]
-
 use anyhow::Error;
 use std::alloc::Global;
 use stn_lift::{Base, BaseFault, LiftFault, Source};
@@ -62,7 +57,7 @@ fn append_base(out: &mut Vec<u8>, base: &Base<Global>) -> Result<(), Error> {
     Ok(())
 }
 
-fn answer(rt: &HostRuntime, source: &Source<Global>) -> Result<(), Error> {
+fn print_base(rt: &HostRuntime, source: &Source<Global>) -> Result<(), Error> {
     match Base::from_source(rt.alloc(), source) {
         Ok(base) => {
             let mut out = Vec::new(rt.alloc());
@@ -77,20 +72,10 @@ fn answer(rt: &HostRuntime, source: &Source<Global>) -> Result<(), Error> {
     Ok(())
 }
 
-fn main(rt: HostRuntime) -> Result<(), Error> {
-    let mut domain = Vec::new(rt.alloc());
-    for row in rt.lines(rt.alloc()) {
-        let text = row?.replace(rt.alloc(), "~", "\n")?;
-        if text.as_str().starts_with("(") {
-            domain.clear();
-            domain.extend_from_slice(text.as_bytes())?;
-        } else {
-            let plan = Vec::from_slice(rt.alloc(), text.as_bytes())?;
-            answer(
-                &rt,
-                &Source::Files(Vec::from_slice(rt.alloc(), &domain)?, plan),
-            )?;
-        }
-    }
-    Ok(())
+/// Prints the base of a plan in a domain: its bounds in their order and then the planned times of the events, or the code of
+/// the fault and its argument.
+pub fn print_lifted(rt: &HostRuntime, domain: &str, plan: &str) -> Result<(), Error> {
+    let domain = Vec::from_slice(rt.alloc(), domain.as_bytes())?;
+    let plan = Vec::from_slice(rt.alloc(), plan.as_bytes())?;
+    print_base(rt, &Source::Files(domain, plan))
 }
