@@ -4,8 +4,13 @@
 //! - `serve`: a session of a new replica of site 1. It prints the replies in hex, how many frames were answered, and how it ended.
 //! - `receive`: an exchange of a new replica of site 2. It prints what is asked in hex, the answer, the text that came in hex, and what
 //!   the replica then reports, in hex.
+//!
+//! A line `limits` has no more words: sessions and frames as long as may be, and longer, are tried, and what each came to is printed.
 #![tactic(auto)]
 
+mod limits;
+
+use crate::limits::print_limits;
 use anyhow::Error;
 use std::alloc::Global;
 use std::io;
@@ -187,6 +192,7 @@ fn print_report(rt: &HostRuntime, replica: &Replica<Global>) -> Result<(), Error
 fn answer_row(rt: &HostRuntime, kind: &str, reader: PieceReader<'_>) -> Result<(), Error> {
     match kind {
         "serve" => serve_row(rt, reader),
+        "limits" => print_limits(rt),
         _ => receive_row(rt, reader),
     }
 }

@@ -1,17 +1,13 @@
-//! For tests: sessions as long as may be and one byte longer, of HELLO frames that are answered each with SAME; and frames that name
-//! as many ids as may be, and one more. It prints what the sessions came to.
-#![tactic(auto)]
+//! Sessions as long as may be and one byte longer, of HELLO frames that are answered each with SAME; and frames that name as many
+//! ids as may be, and one more.
 
-use anyhow::{Context, Error};
+use crate::new_replica;
+use anyhow::Error;
 use std::alloc::Global;
 use std::io;
 use std::io::{Read, Write};
-use std::rc::Rc;
-use stn_device::Counted;
-use stn_lift::Base;
 use stn_records::Site;
-use stn_replica::Replica;
-use stn_session::{ServeFault, Served, serve};
+use stn_session::{Counted, ServeFault, Served, serve};
 
 // HELLO of a bare plan of one step, and SAME.
 const HELLO: [u8; 8] = [0, 0, 0, 4, 7, 0, 0, 1];
@@ -60,12 +56,6 @@ impl Write for Sames {
     }
 }
 
-fn new_replica(alloc: Global) -> Result<Replica<Global>, Error> {
-    let site = Site::new(1).context("no site")?;
-    let base = Rc::new(alloc, Base::bare(alloc, 1)?)?;
-    Ok(Replica::new(alloc, site, base)?)
-}
-
 fn print_end(rt: &HostRuntime, served: Result<Served, ServeFault>) -> Result<(), Error> {
     match served {
         Ok(served) => println!(rt; "{} frames, {:?}", served.frames, served.end)?,
@@ -76,7 +66,7 @@ fn print_end(rt: &HostRuntime, served: Result<Served, ServeFault>) -> Result<(),
 
 // A session of so many bytes of HELLO frames.
 fn print_hellos(rt: &HostRuntime, bytes: usize) -> Result<(), Error> {
-    let mut replica = new_replica(rt.alloc())?;
+    let mut replica = new_replica(rt.alloc(), Site::new(1).unwrap())?;
     let mut reader = Counted::new(Hellos { left: bytes, at: 0 });
     let mut writer = Counted::new(Sames { count: 0, wrong: 0 });
     let served = serve(rt.alloc(), &mut reader, &mut writer, &mut replica);
@@ -203,7 +193,7 @@ fn told(alloc: Global, first: &[u8], rest: &[Held]) -> Result<Vec<u8>, Error> {
 
 // Serves a session, prints how it ended and whether its replies are those that are wanted.
 fn print_replies(rt: &HostRuntime, input: &[u8], wanted: &[u8]) -> Result<(), Error> {
-    let mut replica = new_replica(rt.alloc())?;
+    let mut replica = new_replica(rt.alloc(), Site::new(1).unwrap())?;
     let mut reader = Counted::new(input);
     let mut writer = Counted::new(Vec::new(rt.alloc()));
     let served = serve(rt.alloc(), &mut reader, &mut writer, &mut replica);
@@ -280,10 +270,11 @@ fn print_frames_of_three_lists(rt: &HostRuntime) -> Result<(), Error> {
     print_overfull_frame(rt, Held::apart(2048, 1024, 1025))
 }
 
-fn main(rt: HostRuntime) -> Result<(), Error> {
-    print_full_frames(&rt)?;
-    print_overfull_frames(&rt)?;
-    print_frames_of_three_lists(&rt)?;
-    print_hellos(&rt, 16_777_216)?;
-    print_hellos(&rt, 16_777_217)
+/// Prints what these sessions came to.
+pub fn print_limits(rt: &HostRuntime) -> Result<(), Error> {
+    print_full_frames(rt)?;
+    print_overfull_frames(rt)?;
+    print_frames_of_three_lists(rt)?;
+    print_hellos(rt, 16_777_216)?;
+    print_hellos(rt, 16_777_217)
 }
