@@ -1,5 +1,5 @@
 //! For tests: does the commands of its input, one a line, in the folder that it is run in, and prints what each prints and its
-//! status. A word `""` is empty. Other lines make and show files:
+//! status. A word `""` is empty. Other lines make and show files, or do commands of logs over a store in memory:
 //!
 //! - `= FILE` prints the bytes of a file in hex, or `none`;
 //! - `:bytes FILE COUNT HEX` puts so many times these bytes after a file, which it makes where there is none;
@@ -8,9 +8,14 @@
 //! - `:folder NAME` makes a folder, `:link NAME TARGET` a link;
 //! - `:from FILE WORDS` does a command with the file as its standard input;
 //! - `:status WORDS` prints the status of a command alone;
-//! - `:cuts FILE CUT WORDS` does a command once for each length that FILE can be cut to, over a file CUT that is cut so.
+//! - `:cuts FILE CUT WORDS` does a command once for each length that FILE can be cut to, over a file CUT that is cut so;
+//! - `:memory-text NAME LINES` puts a text whose lines `|` parts into the store under a name;
+//! - `:memory WORDS` does a command over the store, and prints what it answers, or why it is refused.
 #![tactic(auto)]
 
+mod memory;
+
+use crate::memory::{put, run_in_memory};
 use anyhow::{Context, Error, bail};
 use std::alloc::Global;
 use std::io::Write;
@@ -18,6 +23,7 @@ use std::os::unix::fs::symlink;
 use std::{fs, io};
 use stn_device::Counted;
 use stn_shell::execute;
+use stn_store::MemoryStore;
 
 // What stands on the standard input of a command.
 const SCRIPT: &[u8] = b"steps 0\nsites 1\n1 report\n";
@@ -144,17 +150,33 @@ fn do_other(rt: &HostRuntime, line: &str) -> Result<(), Error> {
     Ok(())
 }
 
-fn main(rt: HostRuntime) -> Result<(), Error> {
+// Does what a line says.
+fn do_line(rt: &HostRuntime, store: &mut MemoryStore, line: &str) -> Result<(), Error> {
+    if let Some(words) = line.strip_prefix(":memory-text ") {
+        put(rt.alloc(), store, words)
+    } else if let Some(words) = line.strip_prefix(":memory ") {
+        run_in_memory(rt, store, words)
+    } else if let Some(words) = line.strip_prefix(":status ") {
+        run_quietly(rt, words)?;
+        Ok(())
+    } else if line.starts_with(':') || line.starts_with('=') {
+        do_other(rt, line)
+    } else {
+        run_line(rt, line, SCRIPT)?;
+        Ok(())
+    }
+}
+
+fn do_lines(rt: &HostRuntime, store: &mut MemoryStore) -> Result<(), Error> {
     for line in rt.lines(rt.alloc()) {
         let line = line?;
         println!(rt; "> {line}")?;
-        if let Some(words) = line.as_str().strip_prefix(":status ") {
-            run_quietly(&rt, words)?;
-        } else if line.as_str().starts_with(':') || line.as_str().starts_with('=') {
-            do_other(&rt, line.as_str())?;
-        } else {
-            run_line(&rt, line.as_str(), SCRIPT)?;
-        }
+        do_line(rt, store, line.as_str())?;
     }
     Ok(())
+}
+
+fn main(rt: HostRuntime) -> Result<(), Error> {
+    let mut store = MemoryStore::new(rt.alloc());
+    do_lines(&rt, &mut store)
 }
