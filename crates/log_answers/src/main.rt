@@ -5,11 +5,13 @@
 #![tactic(auto)]
 
 use anyhow::Error;
+use hex::FromHexError;
 use std::alloc::Global;
 use std::io;
 use std::io::{ErrorKind, Read};
+use std::str::SplitWhitespace;
 use stn_device::Counted;
-use stn_log::{load, save};
+use stn_log::{LoadFault, SaveFault, load, save};
 use stn_records::Site;
 use stn_replica::Replica;
 
@@ -68,61 +70,103 @@ impl Read for PartReader<'_> {
 }
 
 // The part that a word names.
-fn part_of(alloc: Global, word: &str) -> Result<Part, Error> {
-    match word.split_once('*') {
-        Some((times, bytes)) => Ok(Part {
-            times: times.parse::<u64>().unwrap_or(0),
-            bytes: hex::decode(alloc, bytes)?,
-        }),
-        None => Ok(Part {
-            times: 1,
-            bytes: hex::decode(alloc, word)?,
-        }),
-    }
+fn part_of(alloc: Global, word: &str) -> Result<Part, FromHexError> {
+    let (times, digits) = word.split_once('*').unwrap_or(("1", word));
+    Ok(Part {
+        times: times.parse::<u64>().unwrap_or(0),
+        bytes: hex::decode(alloc, digits)?,
+    })
 }
 
-fn print_saved(rt: &HostRuntime, replica: &Replica<Global>) -> Result<(), Error> {
-    let mut writer = Counted::new(Vec::new(rt.alloc()));
-    save(rt.alloc(), replica, &mut writer)?;
-    let digits = hex::encode(rt.alloc(), writer.into_inner())?;
-    println!(rt; "{digits}")?;
+fn append_parts(words: SplitWhitespace<'_>, parts: &mut Vec<Part>) -> Result<(), Error> {
+    let alloc = *parts.allocator();
+    for word in words {
+        parts.push(part_of(alloc, word)?)?;
+    }
     Ok(())
 }
 
-fn answer_row(rt: &HostRuntime, name: &str, reader: PartReader<'_>) -> Result<(), Error> {
-    let mut reader = Counted::new(reader);
-    let answer = load(rt.alloc(), &mut reader, Site::new(1).unwrap());
-    let handed = reader.into_inner().handed;
-    print!(rt; "{name} {handed} ")?;
+// The log that a replica saves.
+fn saved(alloc: Global, replica: &Replica<Global>) -> Result<Vec<u8>, SaveFault> {
+    let mut writer = Counted::new(Vec::new(alloc));
+    let answer = save(alloc, replica, &mut writer);
+    let log = writer.into_inner();
+    answer?;
+    Ok(log)
+}
+
+fn print_saved(
+    rt: &HostRuntime,
+    name: &str,
+    handed: u64,
+    replica: &Replica<Global>,
+) -> Result<(), Error> {
+    let log = saved(rt.alloc(), replica)?;
+    println!(rt; "{name} {handed} {}", hex::encode(rt.alloc(), log)?)?;
+    Ok(())
+}
+
+fn print_answer(
+    rt: &HostRuntime,
+    name: &str,
+    handed: u64,
+    answer: Result<Replica<Global>, LoadFault>,
+) -> Result<(), Error> {
     match answer {
-        Ok(replica) => print_saved(rt, &replica)?,
-        Err(fault) => println!(rt; "{fault}")?,
+        Ok(replica) => {
+            let printed = print_saved(rt, name, handed, &replica);
+            drop(replica);
+            printed
+        }
+        Err(fault) => Ok(println!(rt; "{name} {handed} {fault}")?),
     }
-    Ok(())
+}
+
+// What the words say of how the log is read.
+#[derive(Clone, Copy)]
+struct Row<'a> {
+    name: &'a str,
+    piece: usize,
+    fails_at: u64,
+}
+
+fn row_of<'a>(words: &mut SplitWhitespace<'a>) -> Row<'a> {
+    let name = words.next().unwrap_or("");
+    let piece = words.next().unwrap_or("").parse::<usize>();
+    let fails_at = words.next().unwrap_or("").parse::<u64>();
+    Row {
+        name,
+        piece: piece.unwrap_or(0),
+        fails_at: fails_at.unwrap_or(0),
+    }
+}
+
+fn answer_row(rt: &HostRuntime, row: &Row<'_>, parts: &[Part]) -> Result<(), Error> {
+    let mut reader = Counted::new(PartReader {
+        rest: &[],
+        bytes: &[],
+        again: 0,
+        later: parts,
+        piece: row.piece,
+        calls: 0,
+        fails_at: row.fails_at,
+        handed: 0,
+    });
+    let answer = load(rt.alloc(), &mut reader, Site::new(1).unwrap());
+    print_answer(rt, row.name, reader.into_inner().handed, answer)
+}
+
+fn answer_line(rt: &HostRuntime, line: &str) -> Result<(), Error> {
+    let mut words = line.split_whitespace();
+    let row = row_of(&mut words);
+    let mut parts = Vec::new(rt.alloc());
+    append_parts(words, &mut parts)?;
+    answer_row(rt, &row, &parts)
 }
 
 fn main(rt: HostRuntime) -> Result<(), Error> {
     for line in rt.lines(rt.alloc()) {
-        let line = line?;
-        let mut words = line.split(' ');
-        let name = words.next().unwrap_or("");
-        let piece = words.next().unwrap_or("").parse::<usize>().unwrap_or(0);
-        let fails_at = words.next().unwrap_or("").parse::<u64>().unwrap_or(0);
-        let mut parts = Vec::new(rt.alloc());
-        for word in words {
-            parts.push(part_of(rt.alloc(), word)?)?;
-        }
-        let reader = PartReader {
-            rest: &[],
-            bytes: &[],
-            again: 0,
-            later: &parts,
-            piece,
-            calls: 0,
-            fails_at,
-            handed: 0,
-        };
-        answer_row(&rt, name, reader)?;
+        answer_line(&rt, &line?)?;
     }
     Ok(())
 }
