@@ -1,5 +1,4 @@
 // What becomes of some bytes as a frame or as a log.
-use anyhow::{Context, Error};
 use std::alloc::Global;
 use std::fmt;
 use stn_device::Counted;
@@ -10,7 +9,7 @@ use stn_records::Site;
 use stn_replica::{Replica, ReplicaFault};
 use stn_wire::{Fed, Feeder, Frame, WireFault, decode, encode};
 
-#[derive(Clone, Copy, Debug, PartialEq, Eq, Drop)]
+#[derive(Clone, Copy, PartialEq, Eq, Drop)]
 pub enum Case {
     /// They are read, and what was read is written back.
     Read,
@@ -62,36 +61,53 @@ fn of_spelling(alloc: Global, frame: &Frame<Global>, bytes: Option<&[u8]>) -> Ca
 // The frame in front of the bytes.
 fn whole_frame(alloc: Global, bytes: &[u8]) -> Case {
     match decode(alloc, bytes) {
-        Ok(Some((frame, length))) => of_spelling(alloc, &frame, bytes.get(..length)),
+        Ok(Some((frame, length))) => of_frame_read(alloc, frame, bytes.get(..length)),
         Ok(None) => Case::Unfinished,
         Err(fault) => of_wire(fault),
     }
 }
 
-// The first frame of a stream that comes byte by byte.
-fn fed_frame(alloc: Global, bytes: &[u8]) -> Case {
-    let mut feeder = Feeder::new(alloc);
+fn of_frame_read(alloc: Global, frame: Frame<Global>, bytes: Option<&[u8]>) -> Case {
+    let case = of_spelling(alloc, &frame, bytes);
+    drop(frame);
+    case
+}
+
+// Feeds the last of the bytes that have come. What the frame is that it ends, or why there is none.
+fn fed_byte(alloc: Global, feeder: &mut Feeder<Global>, bytes: &[u8]) -> Option<Case> {
+    let last = bytes.len().saturating_sub(1);
+    match feeder.feed(&bytes[last..]) {
+        Ok(fed) => fed
+            .frame
+            .map(|frame| of_frame_read(alloc, frame, Some(bytes))),
+        Err(fault) => Some(of_wire(fault)),
+    }
+}
+
+fn feed_each(alloc: Global, feeder: &mut Feeder<Global>, bytes: &[u8]) -> Case {
     for at in 0..bytes.len() {
-        match feeder.feed(&bytes[at..at + 1]) {
-            Ok(fed) => {
-                let Fed { used: _, frame } = fed;
-                if let Some(frame) = frame {
-                    return of_spelling(alloc, &frame, bytes.get(..at + 1));
-                }
-            }
-            Err(fault) => return of_wire(fault),
+        if let Some(case) = fed_byte(alloc, feeder, &bytes[..at + 1]) {
+            return case;
         }
     }
     Case::Unfinished
 }
 
-/// What the bytes are as a frame, whole and byte by byte.
-pub fn of_frame(alloc: Global, bytes: &[u8]) -> Result<Case, Error> {
+// The first frame of a stream that comes byte by byte.
+fn fed_frame(alloc: Global, bytes: &[u8]) -> Case {
+    let mut feeder = Feeder::new(alloc);
+    let case = feed_each(alloc, &mut feeder, bytes);
+    drop(feeder);
+    case
+}
+
+// What the bytes are as a frame, whole and byte by byte.
+fn of_frame(alloc: Global, bytes: &[u8]) -> Case {
     let case = whole_frame(alloc, bytes);
     if fed_frame(alloc, bytes) == case {
-        Ok(case)
+        case
     } else {
-        Ok(Case::Broken)
+        Case::Broken
     }
 }
 
@@ -115,47 +131,76 @@ fn of_load(fault: LoadFault) -> Case {
 }
 
 // The log of a replica: all that it holds.
-fn saved(alloc: Global, replica: &Replica<Global>) -> Result<Vec<u8>, Error> {
+fn saved(alloc: Global, replica: &Replica<Global>) -> Option<Vec<u8>> {
     let mut writer = Counted::new(Vec::new(alloc));
-    save(alloc, replica, &mut writer)?;
-    Ok(writer.into_inner())
+    let answer = save(alloc, replica, &mut writer);
+    let log = writer.into_inner();
+    if answer.is_ok() { Some(log) } else { None }
 }
 
-fn reported(alloc: Global, replica: &Replica<Global>) -> Result<Vec<u8>, Error> {
-    let mut report = Vec::new(alloc);
-    replica.report(&mut report)?;
-    Ok(report)
-}
-
-// Whether both report the same and save the same.
-fn is_same(alloc: Global, one: &Replica<Global>, other: &Replica<Global>) -> Result<bool, Error> {
-    let first = reported(alloc, one)?;
-    let second = reported(alloc, other)?;
-    Ok(first == second && saved(alloc, one)? == saved(alloc, other)?)
-}
-
-// Whether what a replica saves is loaded as the same.
-fn is_kept(alloc: Global, replica: &Replica<Global>) -> Result<bool, Error> {
-    let log = saved(alloc, replica)?;
-    let mut reader = Counted::new(log.as_slice());
-    match load(alloc, &mut reader, replica.site()) {
-        Ok(again) => is_same(alloc, replica, &again),
-        Err(_) => Ok(false),
+fn saves(alloc: Global, replica: &Replica<Global>, log: &[u8]) -> bool {
+    match saved(alloc, replica) {
+        Some(again) => again.as_slice() == log,
+        None => false,
     }
 }
 
-/// What the bytes are as a log.
-pub fn of_log(alloc: Global, bytes: &[u8]) -> Result<Case, Error> {
-    let site = Site::new(1).context("no site")?;
+// Whether both report the same.
+fn reports_the_same(alloc: Global, one: &Replica<Global>, other: &Replica<Global>) -> bool {
+    let mut first = Vec::new(alloc);
+    let mut second = Vec::new(alloc);
+    let told = one.report(&mut first).is_ok() && other.report(&mut second).is_ok();
+    told && first == second
+}
+
+// Whether this log of a replica is loaded as the same replica.
+fn is_loaded(alloc: Global, replica: &Replica<Global>, log: &[u8]) -> bool {
+    let mut reader = Counted::new(log);
+    match load(alloc, &mut reader, replica.site()) {
+        Ok(again) => is_same(alloc, replica, again, log),
+        Err(_) => false,
+    }
+}
+
+// Whether a replica reports the same as the one of this log, and saves the log.
+fn is_same(alloc: Global, one: &Replica<Global>, other: Replica<Global>, log: &[u8]) -> bool {
+    let same = reports_the_same(alloc, one, &other) && saves(alloc, &other, log);
+    drop(other);
+    same
+}
+
+// A replica, of which what it saves is loaded as the same.
+fn of_loaded(alloc: Global, replica: &Replica<Global>) -> Case {
+    match saved(alloc, replica) {
+        Some(log) if is_loaded(alloc, replica, &log) => Case::Read,
+        _ => Case::Broken,
+    }
+}
+
+// What the bytes are as a log.
+fn of_log(alloc: Global, bytes: &[u8]) -> Case {
     let mut reader = Counted::new(bytes);
-    match load(alloc, &mut reader, site) {
+    match load(alloc, &mut reader, Site::new(1).unwrap()) {
         Ok(replica) => {
-            if is_kept(alloc, &replica)? {
-                Ok(Case::Read)
-            } else {
-                Ok(Case::Broken)
-            }
+            let case = of_loaded(alloc, &replica);
+            drop(replica);
+            case
         }
-        Err(fault) => Ok(of_load(fault)),
+        Err(fault) => of_load(fault),
+    }
+}
+
+/// What bytes are judged as.
+#[derive(Clone, Copy)]
+pub enum Kind {
+    Frame,
+    Log,
+}
+
+/// What the bytes are.
+pub fn case_of(alloc: Global, kind: Kind, bytes: &[u8]) -> Case {
+    match kind {
+        Kind::Frame => of_frame(alloc, bytes),
+        Kind::Log => of_log(alloc, bytes),
     }
 }

@@ -8,34 +8,28 @@
 mod case;
 mod changes;
 
-use crate::case::{of_frame, of_log};
+use crate::case::Kind;
 use crate::changes::{print_changed, print_cut};
 use anyhow::{Context, Error};
 
-fn print_frame(rt: &HostRuntime, name: &str, bytes: &[u8]) -> Result<(), Error> {
-    let alloc = rt.alloc();
-    print_cut(rt, name, bytes, |bytes| of_frame(alloc, bytes))?;
-    print_changed(rt, name, bytes, |bytes| of_frame(alloc, bytes))
+fn print_all(rt: &HostRuntime, name: &str, kind: Kind, digits: &str) -> Result<(), Error> {
+    let bytes = hex::decode(rt.alloc(), digits)?;
+    print_cut(rt, name, kind, &bytes)?;
+    print_changed(rt, name, kind, &bytes)?;
+    Ok(())
 }
 
-fn print_log(rt: &HostRuntime, name: &str, bytes: &[u8]) -> Result<(), Error> {
-    let alloc = rt.alloc();
-    print_cut(rt, name, bytes, |bytes| of_log(alloc, bytes))?;
-    print_changed(rt, name, bytes, |bytes| of_log(alloc, bytes))
+fn print_line(rt: &HostRuntime, line: &str) -> Result<(), Error> {
+    let (name, rest) = line.split_once(' ').context("no kind")?;
+    match rest.split_once(' ').context("no bytes")? {
+        ("frame", digits) => print_all(rt, name, Kind::Frame, digits),
+        (_, digits) => print_all(rt, name, Kind::Log, digits),
+    }
 }
 
 fn main(rt: HostRuntime) -> Result<(), Error> {
     for line in rt.lines(rt.alloc()) {
-        let line = line?;
-        let mut words = line.split(' ');
-        let name = words.next().context("no name")?;
-        let kind = words.next().context("no kind")?;
-        let digits = words.next().context("no bytes")?;
-        let bytes = hex::decode(rt.alloc(), digits)?;
-        match kind {
-            "frame" => print_frame(&rt, name, &bytes)?,
-            _ => print_log(&rt, name, &bytes)?,
-        }
+        print_line(&rt, &line?)?;
     }
     Ok(())
 }
