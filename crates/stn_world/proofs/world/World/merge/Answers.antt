@@ -1,10 +1,11 @@
-use Rattle.std.proofs.Common.{refl, sym, ap, subst, ◌∙◌}
+use Rattle.std.proofs.Common.{◌≡◌, refl, sym, ap, subst, ◌∙◌}
 use Rattle.std.specs.Prelude.{unwrap_or}
 use Rattle.std.proofs.lemmas.Bool.{false≢true}
 use Rattle.std.proofs.lemmas.Result.{err_from_is_err_and}
+use Rattle.stn_replica.specs.Refusals.{take_refusal}
 use Rattle.stn_replica.specs.declared.faults.ReplicaFault.TheVariants as replica_fault
 use Rattle.stn_world.specs.Steps.{merged, IsAccepted}
-use Rattle.stn_world.specs.World.{content_at}
+use Rattle.stn_world.specs.World.{held_at, content_at}
 use Rattle.stn_world.specs.Whole.{IsCoherent}
 use Rattle.stn_world.proofs.Accepted.{merge_free, merge_itself, merge_fault}
 use Rattle.stn_world.proofs.Sites.{part_there, take_refusal_at}
@@ -33,60 +34,54 @@ invariant_of-self-in_err-take_from g c =
     sound_kept _ c.self.inside.replicas.items c.deref_mut.result.now c.take_from.new.replicas c.self.inside.replicas.len c.self.invariant
     c.deref_mut.ensures.value c.deref_mut.ensures.len c.in_err-take_from.ensures.kept
 
-pub returns-in_err-take_from-clause-step : goal.returns-in_err-take_from-clause-step
-returns-in_err-take_from-clause-step g c =
+pub returns-in_err-take_from : goal.returns-in_err-take_from
+returns-in_err-take_from g c =
     let p = err_from_is_err_and c.from_residual-in_err-take_from.result c.from_residual-in_err-take_from.ensures.1 in
     let ours = held_at_site c.args.self.now _ _ c.deref_mut.result.now _ c.args.site c.self.view_is c.self.invariant.sites c.deref_mut.ensures.value c.in_ok-ours.ensures.place c.in_ok-ours.ensures.there in
     let theirs = held_at_site c.args.self.now _ _ c.deref_mut.result.now _ c.args.other c.self.view_is c.self.invariant.sites c.deref_mut.ensures.value c.in_ok-theirs.ensures.place c.in_ok-theirs.ensures.there in
     let same = take_refusal_at c.args.self.now c.args.site _ _ (content_at c.args.self.now c.args.other) ours theirs.state in
-    rw (p.1, p.2) (
-      merge_fault c.args.self.now c.args.site c.args.other c.in_err-take_from.field-0.0 c.in_ok-ours.ensures.there c.in_ok-theirs.ensures.there
-          (other_site c.in_ok-ours.ours c.in_ok-theirs.theirs c.args.site c.args.other c.in_ok-ours.ensures.place c.in_ok-theirs.ensures.place c.if-ours-theirs.true)
-          (c.in_err-take_from.ensures.fault ∙ ap (λ o. unwrap_or o replica_fault.Memory) same),
-      world_kept c.args.self.now _ c.self.inside.replicas.items c.deref_mut.result.now c.take_from.new.replicas c.self.inside.replicas.len c.self.view_is
-          c.deref_mut.ensures.value c.deref_mut.ensures.len c.in_err-take_from.ensures.kept,
-    )
+    let apart = other_site c.in_ok-ours.ours c.in_ok-theirs.theirs c.args.site c.args.other c.in_ok-ours.ensures.place c.in_ok-theirs.ensures.place c.if-ours-theirs.true in
+    let fault : c.in_err-take_from.field-0.0 ≡ unwrap_or (take_refusal (held_at c.args.self.now c.args.site) (content_at c.args.self.now c.args.other)) replica_fault.Memory =
+    c.in_err-take_from.ensures.fault ∙ ap (λ o. unwrap_or o replica_fault.Memory) same in
+    rw (p.1, p.2) (record {
+      step = (
+        merge_fault c.args.self.now c.args.site c.args.other c.in_err-take_from.field-0.0 c.in_ok-ours.ensures.there c.in_ok-theirs.ensures.there apart fault,
+        world_kept c.args.self.now _ c.self.inside.replicas.items c.deref_mut.result.now c.take_from.new.replicas c.self.inside.replicas.len c.self.view_is
+            c.deref_mut.ensures.value c.deref_mut.ensures.len c.in_err-take_from.ensures.kept,
+      );
+      itself = λ there one. absurd (apart one);
+      again = λ there others inside. absurd (false≢true (c.in_err-take_from.ensures.again (part_there c.args.self.now c.args.site _ _ (content_at c.args.self.now c.args.other) ours theirs.state inside)).0);
+      agreed = merge_agrees c.args.self.now c.args.site c.args.other c.in_err-take_from.field-0.0 (subst IsCoherent c.self.view_is c.self.invariant.coherent) fault;
+    })
 
-pub returns-in_err-take_from-clause-agreed : goal.returns-in_err-take_from-clause-agreed
-returns-in_err-take_from-clause-agreed g c =
-    let p = err_from_is_err_and c.from_residual-in_err-take_from.result c.from_residual-in_err-take_from.ensures.1 in
-    let ours = held_at_site c.args.self.now _ _ c.deref_mut.result.now _ c.args.site c.self.view_is c.self.invariant.sites c.deref_mut.ensures.value c.in_ok-ours.ensures.place c.in_ok-ours.ensures.there in
-    let theirs = held_at_site c.args.self.now _ _ c.deref_mut.result.now _ c.args.other c.self.view_is c.self.invariant.sites c.deref_mut.ensures.value c.in_ok-theirs.ensures.place c.in_ok-theirs.ensures.there in
-    let same = take_refusal_at c.args.self.now c.args.site _ _ (content_at c.args.self.now c.args.other) ours theirs.state in
-    rw (p.1, p.2) (merge_agrees c.args.self.now c.args.site c.args.other c.in_err-take_from.field-0.0 (subst IsCoherent c.self.view_is c.self.invariant.coherent)
-    (c.in_err-take_from.ensures.fault ∙ ap (λ o. unwrap_or o replica_fault.Memory) same))
-
-pub returns-clause-step : goal.returns-clause-step
-returns-clause-step g c = elim c.if-ours-theirs.branch [
+pub returns : goal.returns
+returns g c = elim c.if-ours-theirs.branch [
   | then-ours-theirs+in_ok-take_from w ↦
       let ours = held_at_site c.args.self.now _ _ w.deref_mut.result.now _ c.args.site c.self.view_is c.self.invariant.sites w.deref_mut.ensures.value c.in_ok-ours.ensures.place c.in_ok-ours.ensures.there in
       let theirs = held_at_site c.args.self.now _ _ w.deref_mut.result.now _ c.args.other c.self.view_is c.self.invariant.sites w.deref_mut.ensures.value c.in_ok-theirs.ensures.place c.in_ok-theirs.ensures.there in
-      let same = take_refusal_at c.args.self.now c.args.site _ _ (content_at c.args.self.now c.args.other) ours theirs.state in (
-        merge_free c.args.self.now c.args.site c.args.other c.in_ok-ours.ensures.there c.in_ok-theirs.ensures.there
-            (other_site c.in_ok-ours.ours c.in_ok-theirs.theirs c.args.site c.args.other c.in_ok-ours.ensures.place c.in_ok-theirs.ensures.place w.if-ours-theirs.true) (sym same ∙ w.in_ok-take_from.ensures.accepted),
-        w.self-is ∙ merged_there c.args.self.now _ c.self.inside.replicas.items w.deref_mut.result.now w.take_from.new.replicas c.in_ok-ours.ours c.in_ok-theirs.theirs c.args.site c.args.other c.self.inside.replicas.len
-            c.self.view_is w.deref_mut.ensures.value w.deref_mut.ensures.len c.in_ok-ours.ensures.place ours theirs w.in_ok-take_from.ensures.leaves w.in_ok-take_from.ensures.set,
-      )
+      let same = take_refusal_at c.args.self.now c.args.site _ _ (content_at c.args.self.now c.args.other) ours theirs.state in
+      record {
+        step = (
+          merge_free c.args.self.now c.args.site c.args.other c.in_ok-ours.ensures.there c.in_ok-theirs.ensures.there
+              (other_site c.in_ok-ours.ours c.in_ok-theirs.theirs c.args.site c.args.other c.in_ok-ours.ensures.place c.in_ok-theirs.ensures.place w.if-ours-theirs.true) (sym same ∙ w.in_ok-take_from.ensures.accepted),
+          w.self-is ∙ merged_there c.args.self.now _ c.self.inside.replicas.items w.deref_mut.result.now w.take_from.new.replicas c.in_ok-ours.ours c.in_ok-theirs.theirs c.args.site c.args.other c.self.inside.replicas.len
+              c.self.view_is w.deref_mut.ensures.value w.deref_mut.ensures.len c.in_ok-ours.ensures.place ours theirs w.in_ok-take_from.ensures.leaves w.in_ok-take_from.ensures.set,
+        );
+        itself = λ there one. refl;
+        again = λ there others inside. (
+          refl,
+          w.self-is ∙ world_kept c.args.self.now _ c.self.inside.replicas.items w.deref_mut.result.now w.take_from.new.replicas c.self.inside.replicas.len c.self.view_is
+              w.deref_mut.ensures.value w.deref_mut.ensures.len
+              (w.in_ok-take_from.ensures.again (part_there c.args.self.now c.args.site _ _ (content_at c.args.self.now c.args.other) ours theirs.state inside)).1,
+        );
+        agreed = tt;
+      }
   | else-ours-theirs w ↦
       let one = one_site c.args.self.now c.in_ok-ours.ours c.in_ok-theirs.theirs c.args.site c.args.other w.if-ours-theirs.false c.in_ok-ours.ensures.place c.in_ok-theirs.ensures.place c.in_ok-ours.ensures.there c.in_ok-theirs.ensures.there in
-      (merge_itself c.args.self.now c.args.site c.args.other c.in_ok-ours.ensures.there c.in_ok-theirs.ensures.there one, w.self-is ∙ merged_itself c.args.self.now c.args.site c.args.other one)
-]
-
-pub returns-in_err-take_from-clause-again : goal.returns-in_err-take_from-clause-again
-returns-in_err-take_from-clause-again g c =
-    let ours = held_at_site c.args.self.now _ _ c.deref_mut.result.now _ c.args.site c.self.view_is c.self.invariant.sites c.deref_mut.ensures.value c.in_ok-ours.ensures.place c.in_ok-ours.ensures.there in
-    let theirs = held_at_site c.args.self.now _ _ c.deref_mut.result.now _ c.args.other c.self.view_is c.self.invariant.sites c.deref_mut.ensures.value c.in_ok-theirs.ensures.place c.in_ok-theirs.ensures.there in
-    λ there others inside. absurd (false≢true (c.in_err-take_from.ensures.again (part_there c.args.self.now c.args.site _ _ (content_at c.args.self.now c.args.other) ours theirs.state inside)).0)
-
-pub returns-clause-again : goal.returns-clause-again
-returns-clause-again g c = elim c.if-ours-theirs.branch [
-  | then-ours-theirs+in_ok-take_from w ↦ λ there others inside.
-      let ours = held_at_site c.args.self.now _ _ w.deref_mut.result.now _ c.args.site c.self.view_is c.self.invariant.sites w.deref_mut.ensures.value c.in_ok-ours.ensures.place c.in_ok-ours.ensures.there in
-      let theirs = held_at_site c.args.self.now _ _ w.deref_mut.result.now _ c.args.other c.self.view_is c.self.invariant.sites w.deref_mut.ensures.value c.in_ok-theirs.ensures.place c.in_ok-theirs.ensures.there in (
-        refl,
-        w.self-is ∙ world_kept c.args.self.now _ c.self.inside.replicas.items w.deref_mut.result.now w.take_from.new.replicas c.self.inside.replicas.len c.self.view_is
-            w.deref_mut.ensures.value w.deref_mut.ensures.len
-            (w.in_ok-take_from.ensures.again (part_there c.args.self.now c.args.site _ _ (content_at c.args.self.now c.args.other) ours theirs.state inside)).1,
-      )
-  | else-ours-theirs w ↦ λ there others inside. (refl, w.self-is)
+      record {
+        step = (merge_itself c.args.self.now c.args.site c.args.other c.in_ok-ours.ensures.there c.in_ok-theirs.ensures.there one, w.self-is ∙ merged_itself c.args.self.now c.args.site c.args.other one);
+        itself = λ there same. refl;
+        again = λ there others inside. (refl, w.self-is);
+        agreed = tt;
+      }
 ]
