@@ -459,6 +459,9 @@ class Script:
         except Refused as refused:
             self.refuse(refused)
             return
+        self.run_commands()
+
+    def run_commands(self):
         while (words := self.next_words()) is not None:
             self.commands += 1
             try:
@@ -570,16 +573,77 @@ def print_run(text, is_swept):
         print("each fault is answered")
 
 
+def as_taken(site):
+    """A new site that has merged a site."""
+    new = Site(MOST_SITES, site.plan)
+    new.take(site.packet([]))
+    return new
+
+
+def print_same(name, text):
+    """Prints how many reports of a script, of each site before and after each line, a new site that has merged the site prints too."""
+    steps, sites, *lines = text.removesuffix(b"\n").split(b"\n")
+    script = Script(steps + b"\nsites %d\n" % MOST_SITES)
+    script.run()
+    same = 0
+    for line in [b"", *lines]:
+        repeated = re.fullmatch(rb"\* (\d+) (.*)", line)
+        script.lines += int(repeated[1]) * [repeated[2]] if repeated else [line]
+        script.run_commands()
+        same += sum(site.report() == as_taken(site).report() for site in script.sites[:int(sites.split()[1])])
+    print(f"{name} {same} same")
+
+
+def merge_in_ring(sites):
+    """Each site takes the one before it, the first one the last, until no report changes."""
+    before = None
+    while (reports := [site.report() for site in sites]) != before:
+        before = reports
+        for place, site in enumerate(sites):
+            site.take(sites[place - 1].packet([]))
+
+
+def print_ring():
+    """Prints what the sites of a ring report in the end, and how many of them do."""
+    plan = bare_plan(2)
+    sites = [Site(number, plan) for number in range(1, MOST_SITES + 1)]
+    for site in sites:
+        site.add(0, 1, site.number, HORIZON)
+    sites[-1].withdraw(sites[-1].add(0, 1, 70_000, 80_000))
+    merge_in_ring(sites)
+    print_alike(sites)
+    sites[32].add(0, 1, -HORIZON, 1)
+    merge_in_ring(sites)
+    print_alike(sites)
+
+
+def print_alike(sites):
+    report = sites[0].report()
+    print("\n".join(report))
+    print(f"{sum(site.report() == report for site in sites)} sites alike")
+
+
+def print_part(heading, text):
+    """Prints what a heading of the input wants of the script after it."""
+    if heading.startswith("~ "):
+        print_same(heading.removeprefix("~ "), text)
+        return
+    print(heading)
+    if heading.startswith("@ "):
+        print_ring()
+    else:
+        print_run(text, True)
+
+
 def main():
     if sys.argv[1:] == ["-"]:
         script = Script(sys.stdin.buffer.read())
         script.run()
         print("\n".join(script.printed))
         return
-    for row in (b"\n" + sys.stdin.buffer.read()).split(b"\n= ")[1:]:
-        name, _, text = row.partition(b"\n")
-        print(f"= {name.decode()}")
-        print_run(text.removesuffix(b"\n") + b"\n", True)
+    for part in re.split(rb"\n(?=[=~@] )", sys.stdin.buffer.read().removesuffix(b"\n")):
+        heading, _, text = part.partition(b"\n")
+        print_part(heading.decode(), text + b"\n")
     for name in sys.argv[1:]:
         print(f"= {name}")
         print_run(Path("data", name).read_bytes(), False)

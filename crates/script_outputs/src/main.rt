@@ -2,11 +2,25 @@
 //! its input, each after such a line, and then those of the files that its arguments name. Of each script of its input
 //! that has at most 1,024 bytes and prints at most so many it then has each request for memory, each read and each write
 //! refused in turn, and prints whether all was answered as it must be.
+//!
+//! What sites report is compared after lines with another mark:
+//!
+//! - After a line `~ <name>` stands a script, in which a line `* <number> <command>` stands for so many commands. Before and
+//!   after each line of it the report of each site is compared with that of a new site that has merged it. It prints how many
+//!   comparisons were the same, or the first that was not.
+//! - After a line `@ <name>` stands nothing. 64 sites of one plan each add a bound, one of them withdraws another of its own, and
+//!   they merge in a ring until nothing that they report changes. It prints what they then report and how many of them do, and
+//!   the same again once one of them has added a bound that contradicts others.
 #![tactic(auto)]
 
 mod faults;
+mod fresh;
+mod output;
+mod ring;
 
 use crate::faults::{Worked, answers_faults};
+use crate::fresh::compare;
+use crate::ring::merge_in_ring;
 use std::io::{Read, Write};
 use std::{env, fs, io};
 use stn_exec::{Counted, run};
@@ -59,23 +73,53 @@ fn run_one<R: Read + Drop>(rt: &HostRuntime, script: R) -> io::Result<()> {
     }
 }
 
-// Runs the scripts of the input.
+// Does what a heading says, with the script after it.
+fn do_heading(rt: &HostRuntime, heading: &str, script: &str) -> io::Result<()> {
+    if let Some(name) = heading.strip_prefix("~ ") {
+        return compare(rt, name, script);
+    }
+    println!(rt; "{heading}")?;
+    if heading.starts_with('@') {
+        merge_in_ring(rt)
+    } else {
+        run_row(rt, script.as_bytes())
+    }
+}
+
+fn is_heading(row: &str) -> bool {
+    row.starts_with("= ") || row.starts_with("~ ") || row.starts_with("@ ")
+}
+
+// Adds a row to the script, or does what the last heading says and begins with the next one.
+fn take_row(
+    rt: &HostRuntime,
+    heading: &mut String,
+    script: &mut String,
+    row: &str,
+) -> io::Result<()> {
+    if is_heading(row) {
+        if !heading.is_empty() {
+            do_heading(rt, heading, script)?;
+        }
+        heading.clear();
+        heading.push_str(row)?;
+        script.clear();
+    } else {
+        script.push_str(row)?;
+        script.push('\n')?;
+    }
+    Ok(())
+}
+
+// Does what each heading of the input says.
 fn run_input(rt: &HostRuntime) -> io::Result<()> {
-    let mut script = Vec::new(rt.alloc());
+    let mut heading = String::new(rt.alloc());
+    let mut script = String::new(rt.alloc());
     for row in rt.lines(rt.alloc()) {
         let row = row?;
-        if row.as_str().starts_with("= ") {
-            if !script.is_empty() {
-                run_row(rt, script.as_slice())?;
-                script.clear();
-            }
-            println!(rt; "{row}")?;
-        } else {
-            script.extend_from_slice(row.as_bytes())?;
-            script.push(b'\n')?;
-        }
+        take_row(rt, &mut heading, &mut script, row.as_str())?;
     }
-    run_row(rt, script.as_slice())
+    do_heading(rt, &heading, &script)
 }
 
 fn main(rt: HostRuntime) -> io::Result<()> {

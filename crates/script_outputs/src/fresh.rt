@@ -51,16 +51,16 @@ fn append_line(script: &mut String, line: &str) -> io::Result<()> {
 }
 
 // What is printed of a script with a heading of two lines.
-fn verdict(alloc: Global, name: &str, lines: &[String]) -> io::Result<String> {
+fn verdict(alloc: Global, name: &str, lines: &[&str]) -> io::Result<String> {
     if lines.len() < 2 {
         return Ok(format!(in alloc; "{name} has no heading")?);
     }
-    let sites = sites_of(&lines[1]);
+    let sites = sites_of(lines[1]);
     let mut script = format!(in alloc; "{}\nsites 64\n", lines[0])?;
     let mut same = 0u32;
     for place in 1..lines.len() {
         if place > 1 {
-            append_line(&mut script, &lines[place])?;
+            append_line(&mut script, lines[place])?;
         }
         for before in 0..sites {
             if !is_same_at(alloc, &script, before.saturating_add(1))? {
@@ -72,24 +72,11 @@ fn verdict(alloc: Global, name: &str, lines: &[String]) -> io::Result<String> {
     Ok(format!(in alloc; "{name} {same} same")?)
 }
 
-/// Compares the reports of the scripts of the input.
-pub fn compare(rt: &HostRuntime) -> io::Result<()> {
-    let mut name = String::new(rt.alloc());
+/// Compares the reports of a script, and prints how many were the same, or the first that was not.
+pub fn compare(rt: &HostRuntime, name: &str, script: &str) -> io::Result<()> {
     let mut lines = Vec::new(rt.alloc());
-    for row in rt.lines(rt.alloc()) {
-        let line = row?;
-        match line.strip_prefix("= ") {
-            Some(next) => {
-                if !name.is_empty() {
-                    println!(rt; "{}", verdict(rt.alloc(), &name, &lines)?)?;
-                }
-                name.clear();
-                name.push_str(next)?;
-                lines.clear();
-            }
-            None => lines.push(line)?,
-        }
+    for line in script.lines() {
+        lines.push(line)?;
     }
-    println!(rt; "{}", verdict(rt.alloc(), &name, &lines)?)?;
-    Ok(())
+    println!(rt; "{}", verdict(rt.alloc(), name, &lines)?)
 }
