@@ -16,7 +16,7 @@ use std::marker::Model;
 use stn_time::Memory;
 
 /// The records that were added, by their ids.
-#[derive(Debug, Drop)]
+#[derive(Drop)]
 pub struct Additions<A: Allocator> {
     records: IdMap<Record, A>,
 }

@@ -14,7 +14,7 @@ use std::marker::Model;
 use stn_time::Memory;
 
 /// The ids that records replace, by the ids of these records.
-#[derive(Debug, Drop)]
+#[derive(Drop)]
 pub struct Amendments<A: Allocator> {
     replaced: IdMap<Id, A>,
 }

@@ -13,7 +13,7 @@ use std::marker::Model;
 use stn_time::Memory;
 
 /// A map from ids, in their order.
-#[derive(Debug, Drop)]
+#[derive(Drop)]
 pub(crate) struct IdMap<X, A: Allocator> {
     entries: Vec<(Id, X), A>,
 }

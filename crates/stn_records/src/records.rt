@@ -27,7 +27,7 @@ use stn_time::Memory;
 /// or where a record replaces it, for good: also where that record is withdrawn later. An id is
 /// known where its record was added or where it is replaced. A record is live where it was added and
 /// is not replaced.
-#[derive(Debug, Drop)]
+#[derive(Drop)]
 pub struct Records<A: Allocator> {
     state: State<A>,
 }

@@ -20,7 +20,7 @@ use stn_time::Memory;
 
 /// What a site holds: the records that were added, the ids that were withdrawn, and the ids that
 /// records replace. An id may be withdrawn or replaced before its record comes.
-#[derive(Debug, Drop)]
+#[derive(Drop)]
 pub struct State<A: Allocator> {
     pub(crate) additions: Additions<A>,
     pub(crate) tombstones: Tombstones<A>,

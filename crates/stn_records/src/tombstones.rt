@@ -13,7 +13,7 @@ use std::marker::Model;
 use stn_time::Memory;
 
 /// The ids that were withdrawn.
-#[derive(Debug, Drop)]
+#[derive(Drop)]
 pub struct Tombstones<A: Allocator> {
     ids: IdMap<(), A>,
 }

@@ -19,7 +19,7 @@ use stn_wire::{Feeder, Frame, WireFault};
 const PIECE: usize = 4096;
 
 /// What comes next in a stream.
-#[derive(Debug, Drop)]
+#[derive(Drop)]
 pub enum Next<A: Allocator> {
     /// A frame.
     Frame(Frame<A>),
@@ -32,7 +32,7 @@ pub enum Next<A: Allocator> {
 }
 
 /// The frames of a reader.
-#[derive(Debug, Drop)]
+#[derive(Drop)]
 pub struct FrameReader<A: Allocator> {
     feeder: Feeder<A>,
     // What was read last, and from where on it was not taken yet.
