@@ -180,40 +180,16 @@ fn bare<'a>(alloc: Global) -> Result<Command<'a>, AllocError>
 fn init<'a>(alloc: Global) -> Result<Command<'a>, AllocError>
     ensures is { IfOk result (spec.Reads (spec.on_log (codes "init") spec.init_words)) }
 {
-    let command = on_log(alloc, "init", "Makes the log of a planner's plan");
-    let command = with_word(
-        alloc,
-        command,
-        "DOMAIN",
-        "The file of the domain: durative actions in PDDL",
-    );
-    with_word(
-        alloc,
-        command,
-        "PLAN",
-        "The file of the plan: lines as `0.000: (action a b) [5.000]`",
-    )
+    of_plan(alloc, "init", "Makes the log of a planner's plan")
 }
 
 fn loosen<'a>(alloc: Global) -> Result<Command<'a>, AllocError>
     ensures is { IfOk result (spec.Reads (spec.on_log (codes "loosen") spec.loosen_words)) }
 {
-    let command = on_log(
+    let command = of_plan(
         alloc,
         "loosen",
         "Makes the log of a planner's plan whose steps may end earlier or later",
-    );
-    let command = with_word(
-        alloc,
-        command,
-        "DOMAIN",
-        "The file of the domain: durative actions in PDDL",
-    );
-    let command = with_word(
-        alloc,
-        command,
-        "PLAN",
-        "The file of the plan: lines as `0.000: (action a b) [5.000]`",
     );
     let command = with_time(
         alloc,
@@ -232,14 +208,10 @@ fn loosen<'a>(alloc: Global) -> Result<Command<'a>, AllocError>
 fn add<'a>(alloc: Global) -> Result<Command<'a>, AllocError>
     ensures is { IfOk result (spec.Reads (spec.on_log (codes "add") spec.add_words)) }
 {
-    let command = on_log(
+    let command = on_log_with(
         alloc,
         "add",
         "Adds a bound on the time from one event to another",
-    );
-    let command = with_word(
-        alloc,
-        command,
         "FROM",
         "The event to count from: `z`, `s1`, `e1`",
     );
@@ -261,14 +233,10 @@ fn add<'a>(alloc: Global) -> Result<Command<'a>, AllocError>
 fn amend<'a>(alloc: Global) -> Result<Command<'a>, AllocError>
     ensures is { IfOk result (spec.Reads (spec.on_log (codes "amend") spec.amend_words)) }
 {
-    let command = on_log(
+    let command = on_log_with(
         alloc,
         "amend",
         "Replaces a record by a new bound, for good and in one step",
-    );
-    let command = with_word(
-        alloc,
-        command,
         "ID",
         "The id of the record to replace, as `1.2`",
     );
@@ -296,10 +264,10 @@ fn amend<'a>(alloc: Global) -> Result<Command<'a>, AllocError>
 fn withdraw<'a>(alloc: Global) -> Result<Command<'a>, AllocError>
     ensures is { IfOk result (spec.Reads (spec.on_log (codes "withdraw") spec.withdraw_words)) }
 {
-    let command = on_log(alloc, "withdraw", "Withdraws a record for good");
-    with_word(
+    on_log_with(
         alloc,
-        command,
+        "withdraw",
+        "Withdraws a record for good",
         "ID",
         "The id that `add`, `amend` or `done` printed, as `1.2`",
     )
@@ -308,10 +276,10 @@ fn withdraw<'a>(alloc: Global) -> Result<Command<'a>, AllocError>
 fn done<'a>(alloc: Global) -> Result<Command<'a>, AllocError>
     ensures is { IfOk result (spec.Reads (spec.on_log (codes "done") spec.done_words)) }
 {
-    let command = on_log(alloc, "done", "Records that an event took place");
-    let command = with_word(
+    let command = on_log_with(
         alloc,
-        command,
+        "done",
+        "Records that an event took place",
         "EVENT",
         "The event that took place: `s1`, `e1`",
     );
@@ -326,10 +294,10 @@ fn done<'a>(alloc: Global) -> Result<Command<'a>, AllocError>
 fn merge<'a>(alloc: Global) -> Result<Command<'a>, AllocError>
     ensures is { IfOk result (spec.Reads (spec.on_log (codes "merge") spec.merge_words)) }
 {
-    let command = on_log(alloc, "merge", "Takes in everything in another site's log");
-    with_word(
+    on_log_with(
         alloc,
-        command,
+        "merge",
+        "Takes in everything in another site's log",
         "OTHER",
         "Another site's log of the same plan",
     )
@@ -348,10 +316,10 @@ fn report<'a>(alloc: Global) -> Result<Command<'a>, AllocError>
 fn next<'a>(alloc: Global) -> Result<Command<'a>, AllocError>
     ensures is { IfOk result (spec.Reads (spec.on_log (codes "next") spec.next_words)) }
 {
-    let command = on_log(alloc, "next", "Says which event to run next, and when");
-    with_word(
+    on_log_with(
         alloc,
-        command,
+        "next",
+        "Says which event to run next, and when",
         "NOW",
         "The time now, in seconds after the origin",
     )
@@ -360,14 +328,10 @@ fn next<'a>(alloc: Global) -> Result<Command<'a>, AllocError>
 fn ready<'a>(alloc: Global) -> Result<Command<'a>, AllocError>
     ensures is { IfOk result (spec.Reads (spec.on_log (codes "ready") spec.ready_words)) }
 {
-    let command = on_log(
+    on_log_with(
         alloc,
         "ready",
         "Says which events may run from NOW on, and until when",
-    );
-    with_word(
-        alloc,
-        command,
         "NOW",
         "The time now, in seconds after the origin",
     )
@@ -376,14 +340,10 @@ fn ready<'a>(alloc: Global) -> Result<Command<'a>, AllocError>
 fn why<'a>(alloc: Global) -> Result<Command<'a>, AllocError>
     ensures is { IfOk result (spec.Reads (spec.on_log (codes "why") spec.why_words)) }
 {
-    let command = on_log(
+    on_log_with(
         alloc,
         "why",
         "Says which bounds hold the two ends of an event's window",
-    );
-    with_word(
-        alloc,
-        command,
         "EVENT",
         "The event: `s1`, `e1`, or `z` for the origin",
     )
@@ -438,14 +398,10 @@ fn check<'a>(alloc: Global) -> Result<Command<'a>, AllocError>
 fn rehearse<'a>(alloc: Global) -> Result<Command<'a>, AllocError>
     ensures is { IfOk result (spec.Reads (spec.on_log (codes "rehearse") spec.rehearse_words)) }
 {
-    let command = on_log(
+    on_log_with(
         alloc,
         "rehearse",
         "Prints the rest of the plan as `next` would run it from NOW on",
-    );
-    with_word(
-        alloc,
-        command,
         "NOW",
         "The time now, in seconds after the origin",
     )
@@ -464,14 +420,10 @@ fn draw<'a>(alloc: Global) -> Result<Command<'a>, AllocError>
 fn serve<'a>(alloc: Global) -> Result<Command<'a>, AllocError>
     ensures is { IfOk result (spec.Reads (spec.on_log (codes "serve") spec.serve_words)) }
 {
-    let command = on_log(
+    let command = on_log_with(
         alloc,
         "serve",
         "Exchanges records with the sites that connect",
-    );
-    let command = with_word(
-        alloc,
-        command,
         "ADDR",
         "The address to listen at, as `127.0.0.1:7000`",
     );
@@ -493,14 +445,10 @@ fn serve<'a>(alloc: Global) -> Result<Command<'a>, AllocError>
 fn send<'a>(alloc: Global) -> Result<Command<'a>, AllocError>
     ensures is { IfOk result (spec.Reads (spec.on_log (codes "send") spec.send_words)) }
 {
-    let command = on_log(
+    let command = on_log_with(
         alloc,
         "send",
         "Exchanges records with the site that serves at an address",
-    );
-    let command = with_word(
-        alloc,
-        command,
         "ADDR",
         "The address at which the other site serves",
     );
@@ -528,6 +476,39 @@ fn on_log<'a>(alloc: Global, name: &'a str, about: &'a str) -> Result<Command<'a
         "The number of this site, from 1 to 64",
         1,
         u64::from(MOST_SITES),
+    )
+}
+
+// A command on the log of a site with one word more, which is required.
+fn on_log_with<'a>(
+    alloc: Global,
+    name: &'a str,
+    about: &'a str,
+    more: &'a str,
+    help: &'a str,
+) -> Result<Command<'a>, AllocError>
+    ensures is { IfOk result (spec.Reads (spec.on_log name.entry.now (spec.word_rule more.entry.now ∷ []))) }
+{
+    let command = on_log(alloc, name, about);
+    with_word(alloc, command, more, help)
+}
+
+// A command that makes the log of a planner's plan.
+fn of_plan<'a>(alloc: Global, name: &'a str, about: &'a str) -> Result<Command<'a>, AllocError>
+    ensures is { IfOk result (spec.Reads (spec.on_log name.entry.now spec.init_words)) }
+{
+    let command = on_log_with(
+        alloc,
+        name,
+        about,
+        "DOMAIN",
+        "The file of the domain: durative actions in PDDL",
+    );
+    with_word(
+        alloc,
+        command,
+        "PLAN",
+        "The file of the plan: lines as `0.000: (action a b) [5.000]`",
     )
 }
 

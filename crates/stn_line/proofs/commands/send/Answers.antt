@@ -1,6 +1,4 @@
 use Rattle.stn_line.proofs.commands.send.Goals as goal
 
 pub returns : goal.returns
-returns c =
-    let with-1 = c.with_word-command.ensures.more _ _ c.on_log-command.ensures.is in
-    record { is = c.with_seconds.ensures.more _ _ with-1 }
+returns c = record { is = c.with_seconds.ensures.more _ _ c.on_log_with-command.ensures.is }

@@ -2,6 +2,5 @@ use Rattle.stn_line.proofs.commands.serve.Goals as goal
 
 pub returns : goal.returns
 returns c =
-    let with-1 = c.with_word-command.ensures.more _ _ c.on_log-command.ensures.is in
-    let with-2 = c.with_number-command.ensures.more _ _ with-1 in
-    record { is = c.with_seconds.ensures.more _ _ with-2 }
+    let with-1 = c.with_number-command.ensures.more _ _ c.on_log_with-command.ensures.is in
+    record { is = c.with_seconds.ensures.more _ _ with-1 }

@@ -1,4 +1,4 @@
 use Rattle.stn_line.proofs.commands.why.Goals as goal
 
 pub returns : goal.returns
-returns c = record { is = c.with_word.ensures.more _ _ c.on_log-command.ensures.is }
+returns c = record { is = c.on_log_with.ensures.is }
