@@ -25,7 +25,7 @@ use stn_windows::RehearseFault;
 use stn_wire::WireFault;
 
 /// What stands after the number of a refusal.
-#[derive(Clone, Copy, Debug, PartialEq, Eq)]
+#[derive(Clone, Copy)]
 pub enum Argument {
     /// Nothing.
     Nothing,
@@ -38,14 +38,14 @@ pub enum Argument {
 }
 
 /// A refusal: its number, and what it names.
-#[derive(Clone, Copy, Debug, PartialEq, Eq)]
+#[derive(Clone, Copy)]
 pub struct Refusal {
     pub code: u32,
     pub argument: Argument,
 }
 
 /// A device that failed, or lack of memory.
-#[derive(Clone, Copy, Debug, PartialEq, Eq)]
+#[derive(Clone, Copy)]
 pub enum Fault {
     /// A read failed.
     Read,
@@ -62,7 +62,7 @@ pub enum Fault {
 }
 
 /// Why a command ends without its answer.
-#[derive(Clone, Copy, Debug, PartialEq, Eq)]
+#[derive(Clone, Copy)]
 pub enum Failure {
     Refused(Refusal),
     Failed(Fault),
