@@ -186,25 +186,14 @@ impl<A: Allocator + Copy> Timeline<A> {
         Ok(())
     }
 
-    // Takes up a step at a time and of a duration, with the footprints of its events.
-    fn append(
-        &mut self,
-        time: Ms,
-        duration: Ms,
-        start: Footprint<A>,
-        end: Footprint<A>,
-    ) -> Result<(), AllocError>
-        requires time { pos 0 ≤ℤ time }
-        requires duration { pos 0 ≤ℤ duration }
-        requires last { (time +ℤ duration) ≤ℤ horizon }
-        ensures durations { OnOk result (self.new.durations.items ≡ self.old.durations.items ++ duration ∷ []) }
-        ensures times { OnOk result (self.new.times.items ≡ (self.old.times.items ++ time ∷ []) ++ (time +ℤ duration) ∷ []) }
+    // Takes up the footprint of one more event.
+    fn append_footprint(&mut self, footprint: Footprint<A>) -> Result<(), AllocError>
+        ensures durations { OnOk result (self.new.durations.items ≡ self.old.durations.items) }
+        ensures times { OnOk result (self.new.times.items ≡ self.old.times.items) }
         ensures footprints { OnOk result (map numbers_of self.new.footprints.items
-            ≡ (map numbers_of self.old.footprints.items ++ numbers_of start ∷ []) ++ numbers_of end ∷ []) }
+            ≡ map numbers_of self.old.footprints.items ++ numbers_of footprint ∷ []) }
     {
-        self.append_times(time, duration)?;
-        self.footprints.push(start)?;
-        self.footprints.push(end)?;
+        self.footprints.push(footprint)?;
         Ok(())
     }
 
@@ -225,9 +214,11 @@ impl<A: Allocator + Copy> Timeline<A> {
             → IsTimeline atoms.new (steps ++ activity (planned_step step.now) (action_schema action.now) ∷ [])
             self.new.durations.items self.new.times.items (map numbers_of self.new.footprints.items)) }
     {
+        self.append_times(step.time, action.duration)?;
         let start = start_of(atoms, &step.args, action)?;
+        self.append_footprint(start)?;
         let end = end_of(atoms, &step.args, action)?;
-        self.append(step.time, action.duration, start, end)?;
+        self.append_footprint(end)?;
         Ok(())
     }
 
@@ -270,7 +261,9 @@ impl<A: Allocator + Copy> Timeline<A> {
     {
         let mut timeline = Timeline::new(alloc)?;
         let mut atoms = Atoms::new(alloc);
-        timeline.append_steps(&mut atoms, domain, steps)?;
+        let appended = timeline.append_steps(&mut atoms, domain, steps);
+        drop(atoms);
+        appended?;
         Ok(timeline)
     }
 }

@@ -1,4 +1,4 @@
-use Rattle.std.proofs.Common.{map, subst}
+use Rattle.std.proofs.Common.{◌∙◌, ◌++◌, ◌∷◌, [], map, subst, ap}
 use Rattle.stn_pddl.specs.Views.{action_schema}
 use Rattle.stn_plan.specs.Views.{planned_step, word_of}
 use Rattle.stn_lift.specs.Footprints.{start_of, end_of}
@@ -17,4 +17,9 @@ returns g c = λ steps was.
     timeline_pushed c.args.atoms.now c.start_of.new.atoms c.end_of.new.atoms steps step _ _ _ _ _ _ (numbers_of c.in_ok-start.start) (numbers_of c.in_ok-end.end)
     c.in_ok-start.ensures.kept c.in_ok-end.ensures.kept c.in_ok-end.ensures.unambiguous start end
     (record { time = c.requires.timely.time; duration = c.requires.sound.duration; last = c.requires.last })
-    c.in_ok-append.ensures.durations c.in_ok-append.ensures.times c.in_ok-append.ensures.footprints was
+    (c.in_ok-append_footprint-2.ensures.durations ∙ c.in_ok-append_footprint.ensures.durations ∙ c.in_ok-append_times.ensures.durations)
+    (c.in_ok-append_footprint-2.ensures.times ∙ c.in_ok-append_footprint.ensures.times ∙ c.in_ok-append_times.ensures.times)
+    (c.in_ok-append_footprint-2.ensures.footprints
+    ∙ ap (λ footprints. footprints ++ numbers_of c.in_ok-end.end ∷ [])
+    (c.in_ok-append_footprint.ensures.footprints ∙ ap (λ footprints. map numbers_of footprints ++ numbers_of c.in_ok-start.start ∷ []) c.in_ok-append_times.ensures.footprints))
+    was
