@@ -26,7 +26,7 @@ pub struct Link {
 
 /// Sides of bounds that contradict each other: each ends at the event at which the next begins, the
 /// last at that at which the first begins, and together they ask for less than no time.
-#[derive(Debug, Drop)]
+#[derive(Drop)]
 pub struct Cycle<A: Allocator> {
     /// The links, the culprit's first.
     pub links: Vec<Link, A>,
@@ -36,7 +36,7 @@ pub struct Cycle<A: Allocator> {
 
 /// Sides of bounds that let one event come at most so long after another: the first begins at that other event, each
 /// begins where the one before it ends, and the last ends at the one.
-#[derive(Debug, Drop)]
+#[derive(Drop)]
 pub struct Way<A: Allocator> {
     /// The links, that from the other event first.
     pub links: Vec<Link, A>,
