@@ -1,5 +1,6 @@
 use std::alloc::{AllocError, Global};
 use stn_records::Site;
+use thiserror::Error;
 
 /// The log of a site.
 #[derive(Clone, Copy)]
@@ -122,12 +123,14 @@ pub enum Task<'a> {
 }
 
 /// Why words ask for no task.
-#[derive(Drop)]
+#[derive(Debug, Error, Drop)]
 pub enum LineFault {
     /// The words are no command's, or ask for help or the version: the text for the user, and
     /// whether it is a mistake.
+    #[error("{0}")]
     Words(clap::Error),
     /// Memory ran out.
+    #[error("out of memory")]
     Memory,
 }
 
