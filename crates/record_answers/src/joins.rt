@@ -1,126 +1,120 @@
-use crate::print::{
-    append_entry, append_id, append_record, append_said, clash_of, clash_of_join, word_of,
-    word_of_join,
-};
-use crate::questions::append_held;
-use anyhow::Error;
+use crate::print::{Said, append_entry, append_id, append_record, append_said, said, said_of_join};
+use crate::questions::append_new;
 use std::alloc::Global;
-use stn_records::{Additions, Amendments, Join, Records, State, Tombstones};
+use stn_records::{Additions, Amendments, Id, Join, Record, Records, State, Tombstones};
+use stn_time::Memory;
 
 // What both sites hold, as a new value.
-fn join_records(
+fn append_joined(
     ours: &Records<Global>,
     theirs: &Records<Global>,
     out: &mut Vec<u8>,
-) -> Result<(), Error> {
+) -> Result<(), Memory> {
     match ours.joined(theirs) {
-        Ok(all) => append_held(&all, out),
-        Err(fault) => {
-            let answer = Err(fault);
-            append_said(word_of(&answer), clash_of(&answer), out)
-        }
+        Ok(all) => append_new(all, out),
+        Err(fault) => append_said(&said(&Err(fault)), out),
     }
 }
 
-fn append_additions(all: &Additions<Global>, out: &mut Vec<u8>) -> Result<(), Error> {
-    for &(id, record) in all.entries() {
+fn append_additions(all: &[(Id, Record)], out: &mut Vec<u8>) -> Result<(), Memory> {
+    for &(id, record) in all {
         append_record(id, record, out)?;
     }
     Ok(())
 }
 
-fn append_tombstones(all: &Tombstones<Global>, out: &mut Vec<u8>) -> Result<(), Error> {
-    for &(id, _) in all.entries() {
+fn append_tombstones(all: &[(Id, ())], out: &mut Vec<u8>) -> Result<(), Memory> {
+    for &(id, _) in all {
         append_id(id, out)?;
     }
     Ok(())
 }
 
-fn append_amendments(all: &Amendments<Global>, out: &mut Vec<u8>) -> Result<(), Error> {
-    for &entry in all.entries() {
+fn append_amendments(all: &[(Id, Id)], out: &mut Vec<u8>) -> Result<(), Memory> {
+    for &entry in all {
         append_entry(entry, out)?;
     }
     Ok(())
 }
 
+// Takes in what each site holds, one after the other.
+fn take_both<T: Join>(all: &mut T, ours: &T, theirs: &T) -> Said {
+    match all.take(ours) {
+        Ok(()) => said_of_join(&all.take(theirs)),
+        Err(fault) => said_of_join(&Err(fault)),
+    }
+}
+
 // The additions of both, taken one after the other by none.
 fn join_additions(
-    alloc: Global,
     ours: &State<Global>,
     theirs: &State<Global>,
     out: &mut Vec<u8>,
-) -> Result<(), Error> {
-    let mut all = Additions::new(alloc);
-    all.take(ours.additions())?;
-    let answer = all.take(theirs.additions());
-    append_said(word_of_join(&answer), clash_of_join(&answer), out)?;
-    append_additions(&all, out)
+) -> Result<(), Memory> {
+    let mut all = Additions::new(*out.allocator());
+    let said = take_both(&mut all, ours.additions(), theirs.additions());
+    append_said(&said, out)?;
+    append_additions(all.entries(), out)
 }
 
 fn join_tombstones(
-    alloc: Global,
     ours: &State<Global>,
     theirs: &State<Global>,
     out: &mut Vec<u8>,
-) -> Result<(), Error> {
-    let mut all = Tombstones::new(alloc);
-    all.take(ours.tombstones())?;
-    let answer = all.take(theirs.tombstones());
-    append_said(word_of_join(&answer), clash_of_join(&answer), out)?;
-    append_tombstones(&all, out)
+) -> Result<(), Memory> {
+    let mut all = Tombstones::new(*out.allocator());
+    let said = take_both(&mut all, ours.tombstones(), theirs.tombstones());
+    append_said(&said, out)?;
+    append_tombstones(all.entries(), out)
 }
 
 fn join_amendments(
-    alloc: Global,
     ours: &State<Global>,
     theirs: &State<Global>,
     out: &mut Vec<u8>,
-) -> Result<(), Error> {
-    let mut all = Amendments::new(alloc);
-    all.take(ours.replacements())?;
-    let answer = all.take(theirs.replacements());
-    append_said(word_of_join(&answer), clash_of_join(&answer), out)?;
-    append_amendments(&all, out)
+) -> Result<(), Memory> {
+    let mut all = Amendments::new(*out.allocator());
+    let said = take_both(&mut all, ours.replacements(), theirs.replacements());
+    append_said(&said, out)?;
+    append_amendments(all.entries(), out)
 }
 
-fn append_state(all: &State<Global>, out: &mut Vec<u8>) -> Result<(), Error> {
-    append_additions(all.additions(), out)?;
+fn append_state(said: &Said, all: &State<Global>, out: &mut Vec<u8>) -> Result<(), Memory> {
+    append_said(said, out)?;
+    append_additions(all.additions().entries(), out)?;
     out.extend_from_slice(b" -")?;
-    append_tombstones(all.tombstones(), out)?;
+    append_tombstones(all.tombstones().entries(), out)?;
     if !all.replacements().entries().is_empty() {
         out.extend_from_slice(b" -")?;
     }
-    append_amendments(all.replacements(), out)
+    append_amendments(all.replacements().entries(), out)
 }
 
 fn join_states(
-    alloc: Global,
     ours: &State<Global>,
     theirs: &State<Global>,
     out: &mut Vec<u8>,
-) -> Result<(), Error> {
-    let mut all = State::new(alloc);
-    all.take(ours)?;
-    let answer = all.take(theirs);
-    append_said(word_of_join(&answer), clash_of_join(&answer), out)?;
-    append_state(&all, out)
+) -> Result<(), Memory> {
+    let mut all = State::new(*out.allocator());
+    let said = take_both(&mut all, ours, theirs);
+    let answer = append_state(&said, &all, out);
+    drop(all);
+    answer
 }
 
-// Appends a join of what both sites hold, or of a part of it. Whether there is such a call.
-pub fn join(
-    alloc: Global,
+// Appends a join of what both sites hold, or of a part of it.
+pub fn append_join(
     call: &str,
     ours: &Records<Global>,
     theirs: &Records<Global>,
     out: &mut Vec<u8>,
-) -> Result<bool, Error> {
+) -> Result<(), Memory> {
     match call {
-        "join" => join_records(ours, theirs, out)?,
-        "join_additions" => join_additions(alloc, ours.state(), theirs.state(), out)?,
-        "join_tombstones" => join_tombstones(alloc, ours.state(), theirs.state(), out)?,
-        "join_amendments" => join_amendments(alloc, ours.state(), theirs.state(), out)?,
-        "join_states" => join_states(alloc, ours.state(), theirs.state(), out)?,
-        _ => return Ok(false),
+        "join" => append_joined(ours, theirs, out),
+        "join_additions" => join_additions(ours.state(), theirs.state(), out),
+        "join_tombstones" => join_tombstones(ours.state(), theirs.state(), out),
+        "join_amendments" => join_amendments(ours.state(), theirs.state(), out),
+        "join_states" => join_states(ours.state(), theirs.state(), out),
+        _ => out.extend_from_slice(b"no such call"),
     }
-    Ok(true)
 }

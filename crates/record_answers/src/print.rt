@@ -1,99 +1,91 @@
-use anyhow::Error;
-use stn_records::{AmendFault, Id, JoinFault, Mark, Record, RecordsFault};
+use stn_net::Bound;
+use stn_records::{AmendFault, Id, JoinFault, Mark, Record, RecordsFault, ReplaceFault};
+use stn_time::Memory;
 
-pub fn append_id(id: Id, out: &mut Vec<u8>) -> Result<(), Error> {
+pub fn append_id(id: Id, out: &mut Vec<u8>) -> Result<(), Memory> {
     out.push(b' ')?;
-    id.print(out)?;
-    Ok(())
+    id.print(out)
 }
 
-// A record as its id, the event that its bound ends at, and both sides; `done` where it says that the event was run.
-pub fn append_record(id: Id, record: Record, out: &mut Vec<u8>) -> Result<(), Error> {
-    append_id(id, out)?;
+// The event that a bound ends at, and both sides.
+fn append_bound(bound: Bound, out: &mut Vec<u8>) -> Result<(), Memory> {
     out.push(b' ')?;
-    record.bound.to().print(out)?;
+    bound.to().print(out)?;
     out.push(b' ')?;
-    record.bound.lo().print(out)?;
+    bound.lo().print(out)?;
     out.push(b' ')?;
-    record.bound.hi().print(out)?;
-    if record.mark == Mark::Done {
-        out.extend_from_slice(b" done")?;
+    bound.hi().print(out)
+}
+
+fn word_of_mark(mark: Mark) -> &'static [u8] {
+    match mark {
+        Mark::Plain => b"",
+        Mark::Done => b" done",
     }
-    Ok(())
+}
+
+// A record as its id and its bound; `done` where it says that the event was run.
+pub fn append_record(id: Id, record: Record, out: &mut Vec<u8>) -> Result<(), Memory> {
+    append_id(id, out)?;
+    append_bound(record.bound, out)?;
+    out.extend_from_slice(word_of_mark(record.mark))
 }
 
 // An entry of an amendment: the id of the new record, and the id that it replaces.
-pub fn append_entry(entry: (Id, Id), out: &mut Vec<u8>) -> Result<(), Error> {
+pub fn append_entry(entry: (Id, Id), out: &mut Vec<u8>) -> Result<(), Memory> {
     let (id, old) = entry;
     append_id(id, out)?;
     append_id(old, out)
 }
 
-pub fn append_number(number: usize, out: &mut Vec<u8>) -> Result<(), Error> {
+pub fn append_number(number: usize, out: &mut Vec<u8>) -> Result<(), Memory> {
     let alloc = *out.allocator();
-    out.extend_from_slice(format!(in alloc; "{number}")?.as_bytes())?;
-    Ok(())
+    let text = format!(in alloc; "{number}")?;
+    out.extend_from_slice(text.as_bytes())
 }
 
-// The word for what was said of an addition, or of what another site holds.
-pub fn word_of(answer: &Result<(), RecordsFault>) -> &'static str {
+/// What a call that changes what a site holds says of it. An amendment has the faults of all of them.
+pub type Said = Result<(), AmendFault>;
+
+pub fn said(answer: &Result<(), RecordsFault>) -> Said {
     match answer {
-        Ok(()) => "ok",
-        Err(RecordsFault::Clash(_)) => "clash",
-        Err(RecordsFault::Full) => "full",
-        Err(RecordsFault::Memory) => "memory",
+        Ok(()) => Ok(()),
+        Err(RecordsFault::Clash(id)) => Err(AmendFault::Clash(*id)),
+        Err(RecordsFault::Full) => Err(AmendFault::Full),
+        Err(RecordsFault::Memory) => Err(AmendFault::Memory),
     }
 }
 
-// The id of a clash.
-pub fn clash_of(answer: &Result<(), RecordsFault>) -> Option<Id> {
+pub fn said_of_replacement(answer: &Result<(), ReplaceFault>) -> Said {
     match answer {
-        Err(RecordsFault::Clash(id)) => Some(*id),
-        _ => None,
+        Ok(()) => Ok(()),
+        Err(ReplaceFault::SelfReplace) => Err(AmendFault::SelfReplace),
+        Err(ReplaceFault::Clash(id)) => Err(AmendFault::Clash(*id)),
+        Err(ReplaceFault::Full) => Err(AmendFault::Full),
+        Err(ReplaceFault::Memory) => Err(AmendFault::Memory),
     }
 }
 
-// The word for what was said of an amendment.
-pub fn word_of_amendment(answer: &Result<(), AmendFault>) -> &'static str {
+pub fn said_of_join(answer: &Result<(), JoinFault>) -> Said {
     match answer {
-        Ok(()) => "ok",
-        Err(AmendFault::SelfReplace) => "self",
-        Err(AmendFault::Clash(_)) => "clash",
-        Err(AmendFault::Unknown) => "unknown",
-        Err(AmendFault::Full) => "full",
-        Err(AmendFault::Memory) => "memory",
+        Ok(()) => Ok(()),
+        Err(JoinFault::Clash(id)) => Err(AmendFault::Clash(*id)),
+        Err(JoinFault::Memory) => Err(AmendFault::Memory),
     }
 }
 
-// The id of a clash.
-pub fn clash_of_amendment(answer: &Result<(), AmendFault>) -> Option<Id> {
-    match answer {
-        Err(AmendFault::Clash(id)) => Some(*id),
-        _ => None,
-    }
+fn append_clash(id: Id, out: &mut Vec<u8>) -> Result<(), Memory> {
+    out.extend_from_slice(b"clash")?;
+    append_id(id, out)
 }
 
-// The word for what was said of a join.
-pub fn word_of_join(answer: &Result<(), JoinFault>) -> &'static str {
-    match answer {
-        Ok(()) => "ok",
-        Err(JoinFault::Clash(_)) => "clash",
-        Err(JoinFault::Memory) => "memory",
-    }
-}
-
-// The id of a clash.
-pub fn clash_of_join(answer: &Result<(), JoinFault>) -> Option<Id> {
-    match answer {
-        Err(JoinFault::Clash(id)) => Some(*id),
-        _ => None,
-    }
-}
-
-pub fn append_said(word: &str, clash: Option<Id>, out: &mut Vec<u8>) -> Result<(), Error> {
-    out.extend_from_slice(word.as_bytes())?;
-    match clash {
-        Some(id) => append_id(id, out),
-        None => Ok(()),
+pub fn append_said(said: &Said, out: &mut Vec<u8>) -> Result<(), Memory> {
+    match said {
+        Ok(()) => out.extend_from_slice(b"ok"),
+        Err(AmendFault::SelfReplace) => out.extend_from_slice(b"self"),
+        Err(AmendFault::Clash(id)) => append_clash(*id, out),
+        Err(AmendFault::Unknown) => out.extend_from_slice(b"unknown"),
+        Err(AmendFault::Full) => out.extend_from_slice(b"full"),
+        Err(AmendFault::Memory) => out.extend_from_slice(b"memory"),
     }
 }
