@@ -1,13 +1,11 @@
 //! Sessions as long as may be and one byte longer, of HELLO frames that are answered each with SAME; and frames that name as many
 //! ids as may be, and one more.
 
-use crate::new_replica;
-use anyhow::Error;
-use std::alloc::Global;
+use crate::serve_anew;
+use std::alloc::{AllocError, Global};
 use std::io;
 use std::io::{Read, Write};
-use stn_records::Site;
-use stn_session::{Counted, ServeFault, Served, serve};
+use stn_session::{Counted, ServeFault, Served};
 
 // HELLO of a bare plan of one step, and SAME.
 const HELLO: [u8; 8] = [0, 0, 0, 4, 7, 0, 0, 1];
@@ -56,46 +54,41 @@ impl Write for Sames {
     }
 }
 
-fn print_end(rt: &HostRuntime, served: Result<Served, ServeFault>) -> Result<(), Error> {
+fn print_end(rt: &HostRuntime, served: Result<Served, ServeFault>) -> io::Result<()> {
     match served {
-        Ok(served) => println!(rt; "{} frames, {:?}", served.frames, served.end)?,
-        Err(fault) => println!(rt; "{fault}")?,
+        Ok(served) => println!(rt; "{} frames, {:?}", served.frames, served.end),
+        Err(fault) => println!(rt; "{fault}"),
     }
-    Ok(())
 }
 
 // A session of so many bytes of HELLO frames.
-fn print_hellos(rt: &HostRuntime, bytes: usize) -> Result<(), Error> {
-    let mut replica = new_replica(rt.alloc(), Site::new(1).unwrap())?;
+fn print_hellos(rt: &HostRuntime, bytes: usize) -> io::Result<()> {
     let mut reader = Counted::new(Hellos { left: bytes, at: 0 });
     let mut writer = Counted::new(Sames { count: 0, wrong: 0 });
-    let served = serve(rt.alloc(), &mut reader, &mut writer, &mut replica);
-    let replies = writer.into_inner();
-    print!(rt;
-        "session of {bytes} bytes: replies of {} bytes, {} wrong; ",
-        replies.count, replies.wrong
-    )?;
+    let served = serve_anew(rt.alloc(), &mut reader, &mut writer);
+    let Sames { count, wrong } = writer.into_inner();
+    print!(rt; "session of {bytes} bytes: replies of {count} bytes, {wrong} wrong; ")?;
     print_end(rt, served)
 }
 
-// So many records of site 1, from the counter 1 on, of the bound from the origin to the first event that leaves it free.
-fn append_records(bytes: &mut Vec<u8>, count: u16) -> Result<(), Error> {
+// The bound from the origin to the first event that leaves it free.
+const FREE_BOUND: [u8; 21] = [
+    0, 0, 0, 0, 1, 0, 0, 0, 0, 0, 0, 0, 0, 0, 0, 0, 0x0e, 0xaf, 0x62, 0x58, 0,
+];
+
+// So many records of site 1, from the counter 1 on, of this bound.
+fn append_records(bytes: &mut Vec<u8>, count: u16) -> Result<(), AllocError> {
     bytes.extend_from_slice(&count.to_be_bytes())?;
     for number in 0..count {
-        let counter = number.wrapping_add(1);
-        bytes.extend_from_slice(&[0, 1])?;
-        bytes.extend_from_slice(&counter.to_be_bytes())?;
-        bytes.extend_from_slice(&[0, 0, 0, 0, 1])?;
-        bytes.extend_from_slice(&[0, 0, 0, 0, 0, 0, 0, 0])?;
-        bytes.extend_from_slice(&[0, 0, 0, 0x0e, 0xaf, 0x62, 0x58, 0])?;
+        append_id(bytes, 1, number.wrapping_add(1))?;
+        bytes.extend_from_slice(&FREE_BOUND)?;
     }
     Ok(())
 }
 
-fn append_id(bytes: &mut Vec<u8>, site: u8, counter: u16) -> Result<(), Error> {
+fn append_id(bytes: &mut Vec<u8>, site: u8, counter: u16) -> Result<(), AllocError> {
     bytes.extend_from_slice(&[0, site])?;
-    bytes.extend_from_slice(&counter.to_be_bytes())?;
-    Ok(())
+    bytes.extend_from_slice(&counter.to_be_bytes())
 }
 
 // So many ids of a site, from the counter 1 on.
@@ -107,7 +100,7 @@ struct Ids {
 
 const NONE: Ids = Ids { site: 1, count: 0 };
 
-fn append_withdrawn(bytes: &mut Vec<u8>, ids: Ids) -> Result<(), Error> {
+fn append_withdrawn(bytes: &mut Vec<u8>, ids: Ids) -> Result<(), AllocError> {
     bytes.extend_from_slice(&ids.count.to_be_bytes())?;
     for number in 0..ids.count {
         append_id(bytes, ids.site, number.wrapping_add(1))?;
@@ -116,7 +109,7 @@ fn append_withdrawn(bytes: &mut Vec<u8>, ids: Ids) -> Result<(), Error> {
 }
 
 // The records of site 1, from the counter 1 on, replace one of the ids each: the first the second, and so on, and the last the first.
-fn append_replaced(bytes: &mut Vec<u8>, ids: Ids) -> Result<(), Error> {
+fn append_replaced(bytes: &mut Vec<u8>, ids: Ids) -> Result<(), AllocError> {
     bytes.extend_from_slice(&ids.count.to_be_bytes())?;
     for number in 0..ids.count {
         let counter = number.wrapping_add(1);
@@ -161,54 +154,71 @@ impl Held {
 }
 
 // Appends a frame of this kind.
-fn append_frame(bytes: &mut Vec<u8>, kind: u8, rest: &[u8]) -> Result<(), Error> {
-    let length = u32::try_from(rest.len())?.saturating_add(1);
+fn append_frame(bytes: &mut Vec<u8>, kind: u8, rest: &[u8]) -> Result<(), AllocError> {
+    let length = u32::try_from(rest.len())
+        .unwrap_or(u32::MAX)
+        .saturating_add(1);
     bytes.extend_from_slice(&length.to_be_bytes())?;
     bytes.push(kind)?;
-    bytes.extend_from_slice(rest)?;
+    bytes.extend_from_slice(rest)
+}
+
+// Appends the lists of a RECORDS frame.
+fn append_lists(lists: &mut Vec<u8>, held: Held) -> Result<(), AllocError> {
+    append_records(lists, held.records)?;
+    append_withdrawn(lists, held.withdrawn)?;
+    if held.replaced.count > 0 {
+        append_replaced(lists, held.replaced)?;
+    }
     Ok(())
 }
 
-// Appends a RECORDS frame.
-fn append_held(bytes: &mut Vec<u8>, held: Held) -> Result<(), Error> {
+// Appends a RECORDS frame, which is of another kind where records replace others.
+fn append_held(bytes: &mut Vec<u8>, held: Held) -> Result<(), AllocError> {
+    let kind = if held.replaced.count == 0 { 8 } else { 16 };
     let mut lists = Vec::new(*bytes.allocator());
-    append_records(&mut lists, held.records)?;
-    append_withdrawn(&mut lists, held.withdrawn)?;
-    if held.replaced.count == 0 {
-        append_frame(bytes, 8, &lists)
-    } else {
-        append_replaced(&mut lists, held.replaced)?;
-        append_frame(bytes, 16, &lists)
+    append_lists(&mut lists, held)?;
+    append_frame(bytes, kind, &lists)
+}
+
+fn append_all_held(bytes: &mut Vec<u8>, all: &[Held]) -> Result<(), AllocError> {
+    for held in all {
+        append_held(bytes, *held)?;
     }
+    Ok(())
 }
 
 // HELLO or SAME, and a RECORDS frame for each of these.
-fn told(alloc: Global, first: &[u8], rest: &[Held]) -> Result<Vec<u8>, Error> {
+fn told(alloc: Global, first: &[u8], rest: &[Held]) -> Result<Vec<u8>, AllocError> {
     let mut bytes = Vec::from_slice(alloc, first)?;
-    for held in rest {
-        append_held(&mut bytes, *held)?;
-    }
+    append_all_held(&mut bytes, rest)?;
     Ok(bytes)
 }
 
+// Whether the replies are those that are wanted, and how the session ended.
+fn print_judged(
+    rt: &HostRuntime,
+    are_wanted: bool,
+    served: Result<Served, ServeFault>,
+) -> io::Result<()> {
+    let word = if are_wanted { "" } else { "not " };
+    print!(rt; "replies {word}as wanted; ")?;
+    print_end(rt, served)
+}
+
 // Serves a session, prints how it ended and whether its replies are those that are wanted.
-fn print_replies(rt: &HostRuntime, input: &[u8], wanted: &[u8]) -> Result<(), Error> {
-    let mut replica = new_replica(rt.alloc(), Site::new(1).unwrap())?;
+fn print_replies(rt: &HostRuntime, input: &[u8], wanted: &[u8]) -> io::Result<()> {
     let mut reader = Counted::new(input);
     let mut writer = Counted::new(Vec::new(rt.alloc()));
-    let served = serve(rt.alloc(), &mut reader, &mut writer, &mut replica);
+    let served = serve_anew(rt.alloc(), &mut reader, &mut writer);
     let replies = writer.into_inner();
-    if replies.as_slice() == wanted {
-        print!(rt; "replies as wanted; ")?;
-    } else {
-        print!(rt; "replies not as wanted; ")?;
-    }
-    print_end(rt, served)
+    print_judged(rt, replies.as_slice() == wanted, served)
 }
 
 // A frame with 4,096 records, one with 4,096 withdrawn ids of the same, one with both, and one in which these records also replace
 // each other.
-fn print_full_frames(rt: &HostRuntime) -> Result<(), Error> {
+fn print_full_frames(rt: &HostRuntime) -> io::Result<()> {
+    print!(rt; "frames of 4096 records, withdrawn ids and replaced ids: ")?;
     let all = Ids {
         site: 1,
         count: 4096,
@@ -219,39 +229,42 @@ fn print_full_frames(rt: &HostRuntime) -> Result<(), Error> {
     let each = Held::new(4096, all, all);
     let input = told(rt.alloc(), &HELLO, &[records, withdrawn, both, each])?;
     let wanted = told(rt.alloc(), &SAME, &[records, both, both, each])?;
-    print!(rt; "frames of 4096 records, withdrawn ids and replaced ids: ")?;
     print_replies(rt, &input, &wanted)
 }
 
-fn print_ids(rt: &HostRuntime, name: &str, ids: Ids) -> Result<(), Error> {
+fn print_ids(rt: &HostRuntime, name: &str, ids: Ids) -> io::Result<()> {
     let Ids { site, count } = ids;
-    print!(rt; ", {count} {name} ids of site {site}")?;
-    Ok(())
+    print!(rt; ", {count} {name} ids of site {site}")
 }
 
-// What is named by a frame, which is answered by these replies.
-fn print_frame(rt: &HostRuntime, held: Held, wanted: &[u8]) -> Result<(), Error> {
-    let input = told(rt.alloc(), &HELLO, &[held])?;
+// What is named by a frame.
+fn print_held(rt: &HostRuntime, held: Held) -> io::Result<()> {
     print!(rt; "frame of {} records of site 1", held.records)?;
     print_ids(rt, "withdrawn", held.withdrawn)?;
     print_ids(rt, "replaced", held.replaced)?;
-    print!(rt; ": ")?;
+    print!(rt; ": ")
+}
+
+// A frame, which is answered by these replies.
+fn print_frame(rt: &HostRuntime, held: Held, wanted: &[u8]) -> io::Result<()> {
+    print_held(rt, held)?;
+    let input = told(rt.alloc(), &HELLO, &[held])?;
     print_replies(rt, &input, wanted)
 }
 
 // A frame that names as many ids as may be.
-fn print_full_frame(rt: &HostRuntime, held: Held) -> Result<(), Error> {
+fn print_full_frame(rt: &HostRuntime, held: Held) -> io::Result<()> {
     let wanted = told(rt.alloc(), &SAME, &[held])?;
     print_frame(rt, held, &wanted)
 }
 
 // A frame that names one id too many.
-fn print_overfull_frame(rt: &HostRuntime, held: Held) -> Result<(), Error> {
+fn print_overfull_frame(rt: &HostRuntime, held: Held) -> io::Result<()> {
     print_frame(rt, held, &[0, 0, 0, 1, 6, 0, 0, 0, 2, 5, 52])
 }
 
 // Frames whose ids stand in one list or in two.
-fn print_overfull_frames(rt: &HostRuntime) -> Result<(), Error> {
+fn print_overfull_frames(rt: &HostRuntime) -> io::Result<()> {
     let too_many = Ids {
         site: 1,
         count: 4097,
@@ -263,7 +276,7 @@ fn print_overfull_frames(rt: &HostRuntime) -> Result<(), Error> {
 }
 
 // Frames whose ids stand in three lists.
-fn print_frames_of_three_lists(rt: &HostRuntime) -> Result<(), Error> {
+fn print_frames_of_three_lists(rt: &HostRuntime) -> io::Result<()> {
     print_full_frame(rt, Held::apart(2048, 1024, 1024))?;
     print_overfull_frame(rt, Held::apart(2049, 1024, 1024))?;
     print_overfull_frame(rt, Held::apart(2048, 1025, 1024))?;
@@ -271,7 +284,7 @@ fn print_frames_of_three_lists(rt: &HostRuntime) -> Result<(), Error> {
 }
 
 /// Prints what these sessions came to.
-pub fn print_limits(rt: &HostRuntime) -> Result<(), Error> {
+pub fn print_limits(rt: &HostRuntime) -> io::Result<()> {
     print_full_frames(rt)?;
     print_overfull_frames(rt)?;
     print_frames_of_three_lists(rt)?;

@@ -8,13 +8,17 @@
 //! A line `limits` has no more words: sessions and frames as long as may be, and longer, are tried, and what each came to is printed.
 #![tactic(auto)]
 
+ghost use Rattle.std.specs.Prelude.{◌-◌, ◌^◌, ◌<◌};
+ghost use Rattle.stn_device.specs.Counted.{failure_count};
+
 mod limits;
 
 use crate::limits::print_limits;
 use anyhow::Error;
-use std::alloc::Global;
+use hex::FromHexError;
+use std::alloc::{AllocError, Global};
 use std::io;
-use std::io::{ErrorKind, Read};
+use std::io::{ErrorKind, Read, Write};
 use std::rc::Rc;
 use std::str::Split;
 use stn_lift::Base;
@@ -48,56 +52,90 @@ impl Read for PieceReader<'_> {
     }
 }
 
-fn new_replica(alloc: Global, site: Site) -> Result<Replica<Global>, Error> {
-    let base = Rc::new(alloc, Base::bare(alloc, 1)?)?;
-    Ok(Replica::new(alloc, site, base)?)
-}
-
-fn end_of(served: Result<Served, ServeFault>) -> (u32, &'static str, u8) {
-    match served {
-        Ok(
-            Served {
-                frames,
-                end: End::Closed,
-            },
-        ) => (frames, "closed", 0),
-        Ok(
-            Served {
-                frames,
-                end: End::Cut,
-            },
-        ) => (frames, "cut", 0),
-        Ok(
-            Served {
-                frames,
-                end: End::Refused(code),
-            },
-        ) => (frames, "refused", code),
-        Err(ServeFault::Read) => (0, "read", 0),
-        Err(ServeFault::Write) => (0, "write", 0),
-        Err(ServeFault::Bound) => (0, "bound", 0),
-        Err(ServeFault::Memory) => (0, "memory", 0),
+// The base of a plan of one step, for which only memory can lack.
+fn bare_base(alloc: Global) -> Result<Base<Global>, AllocError> {
+    match Base::bare(alloc, 1) {
+        Ok(base) => Ok(base),
+        Err(_) => Err(AllocError),
     }
 }
 
-// A session of a new replica of site 1: the replies, and how it ended.
-fn session(
-    alloc: Global,
-    reader: PieceReader<'_>,
-) -> Result<(Vec<u8>, Result<Served, ServeFault>), Error> {
-    let mut replica = new_replica(alloc, Site::new(1).unwrap())?;
-    let mut reader = Counted::new(reader);
-    let mut writer = Counted::new(Vec::new(alloc));
-    let served = serve(alloc, &mut reader, &mut writer, &mut replica);
-    Ok((writer.into_inner(), served))
+fn new_replica(alloc: Global, site: Site) -> Result<Replica<Global>, AllocError> {
+    let base = Rc::new(alloc, bare_base(alloc)?)?;
+    Replica::new(alloc, site, base)
 }
 
-fn serve_row(rt: &HostRuntime, reader: PieceReader<'_>) -> Result<(), Error> {
-    let (replies, served) = session(rt.alloc(), reader)?;
-    let replies = hex::encode(rt.alloc(), replies)?;
-    let (frames, end, code) = end_of(served);
-    println!(rt; "{replies} {frames} {end} {code}")?;
-    Ok(())
+/// A session of a new replica of site 1.
+fn serve_anew<R: Read, W: Write>(
+    alloc: Global,
+    reader: &mut Counted<R>,
+    writer: &mut Counted<W>,
+) -> Result<Served, ServeFault>
+    requires reader_counts { failure_count reader.old < 2 ^ 64 - 1 }
+    requires writer_counts { failure_count writer.old < 2 ^ 64 - 1 }
+{
+    let mut replica = new_replica(alloc, Site::new(1).unwrap())?;
+    let served = serve(alloc, reader, writer, &mut replica);
+    drop(replica);
+    served
+}
+
+fn print_hex(rt: &HostRuntime, bytes: &[u8]) -> io::Result<()> {
+    let digits = hex::encode(rt.alloc(), bytes)?;
+    print!(rt; "{digits}")
+}
+
+fn end_of(end: End) -> (&'static str, u8) {
+    match end {
+        End::Closed => ("closed", 0),
+        End::Cut => ("cut", 0),
+        End::Refused(code) => ("refused", code),
+    }
+}
+
+fn word_of(fault: ServeFault) -> &'static str {
+    match fault {
+        ServeFault::Read => "read",
+        ServeFault::Write => "write",
+        ServeFault::Bound => "bound",
+        ServeFault::Memory => "memory",
+    }
+}
+
+// How many frames were answered, and how the session ended.
+fn print_end(rt: &HostRuntime, served: Result<Served, ServeFault>) -> io::Result<()> {
+    match served {
+        Ok(served) => {
+            let (end, code) = end_of(served.end);
+            println!(rt; " {} {end} {code}", served.frames)
+        }
+        Err(fault) => println!(rt; " 0 {} 0", word_of(fault)),
+    }
+}
+
+fn print_session(
+    rt: &HostRuntime,
+    replies: &[u8],
+    served: Result<Served, ServeFault>,
+) -> io::Result<()> {
+    print_hex(rt, replies)?;
+    print_end(rt, served)
+}
+
+fn serve_row(rt: &HostRuntime, reader: PieceReader<'_>) -> io::Result<()> {
+    let mut reader = Counted::new(reader);
+    let mut writer = Counted::new(Vec::new(rt.alloc()));
+    let served = serve_anew(rt.alloc(), &mut reader, &mut writer);
+    print_session(rt, &writer.into_inner(), served)
+}
+
+// What a replica asks.
+fn print_requests(rt: &HostRuntime, replica: &Replica<Global>) -> io::Result<()> {
+    let mut writer = Counted::new(Vec::new(rt.alloc()));
+    match send_requests(rt.alloc(), replica, &mut writer) {
+        Ok(()) => print_hex(rt, &writer.into_inner()),
+        Err(fault) => print!(rt; "{fault}"),
+    }
 }
 
 fn replica_code(fault: ReplicaFault) -> u8 {
@@ -109,7 +147,7 @@ fn replica_code(fault: ReplicaFault) -> u8 {
     }
 }
 
-fn answer_of(fault: ReplyFault) -> (&'static str, u8) {
+fn fault_of(fault: ReplyFault) -> (&'static str, u8) {
     match fault {
         ReplyFault::Refused(code) => ("refused", code),
         ReplyFault::Frame(fault) => ("fault", fault.code()),
@@ -121,110 +159,110 @@ fn answer_of(fault: ReplyFault) -> (&'static str, u8) {
     }
 }
 
-// What a replica asks.
-fn requests(alloc: Global, replica: &Replica<Global>) -> Result<Vec<u8>, Error> {
-    let mut writer = Counted::new(Vec::new(alloc));
-    send_requests(alloc, replica, &mut writer)?;
-    Ok(writer.into_inner())
+fn print_text(rt: &HostRuntime, text: &[u8]) -> io::Result<()> {
+    print!(rt; " ok 0 ")?;
+    print_hex(rt, text)
+}
+
+fn print_fault(rt: &HostRuntime, fault: ReplyFault) -> io::Result<()> {
+    let (word, code) = fault_of(fault);
+    print!(rt; " {word} {code} ")
 }
 
 // What a replica makes of replies: the answer, its code, and the text.
-fn replies(
-    alloc: Global,
-    reader: PieceReader<'_>,
-    replica: &mut Replica<Global>,
-) -> (&'static str, u8, Vec<u8>) {
-    let mut reader = Counted::new(reader);
-    match receive_replies(alloc, &mut reader, replica) {
-        Ok(text) => ("ok", 0, text),
-        Err(fault) => {
-            let (answer, code) = answer_of(fault);
-            (answer, code, Vec::new(alloc))
-        }
-    }
-}
-
-fn print_hex(rt: &HostRuntime, bytes: &[u8]) -> Result<(), Error> {
-    let digits = hex::encode(rt.alloc(), bytes)?;
-    print!(rt; "{digits}")?;
-    Ok(())
-}
-
-fn print_requests(rt: &HostRuntime, replica: &Replica<Global>) -> Result<(), Error> {
-    let asked = requests(rt.alloc(), replica)?;
-    print_hex(rt, &asked)
-}
-
 fn print_answer(
     rt: &HostRuntime,
     reader: PieceReader<'_>,
     replica: &mut Replica<Global>,
-) -> Result<(), Error> {
-    let (answer, code, text) = replies(rt.alloc(), reader, replica);
-    print!(rt; " {answer} {code} ")?;
-    print_hex(rt, &text)
+) -> io::Result<()> {
+    let mut reader = Counted::new(reader);
+    match receive_replies(rt.alloc(), &mut reader, replica) {
+        Ok(text) => print_text(rt, &text),
+        Err(fault) => print_fault(rt, fault),
+    }
+}
+
+fn print_report(rt: &HostRuntime, replica: &Replica<Global>) -> io::Result<()> {
+    let mut report = Vec::new(rt.alloc());
+    replica.report(&mut report)?;
+    print_hex(rt, &report)
 }
 
 fn print_exchange(
     rt: &HostRuntime,
     reader: PieceReader<'_>,
     replica: &mut Replica<Global>,
-) -> Result<(), Error> {
+) -> io::Result<()> {
     print_requests(rt, replica)?;
     print_answer(rt, reader, replica)?;
-    print_report(rt, replica)
-}
-
-fn receive_row(rt: &HostRuntime, reader: PieceReader<'_>) -> Result<(), Error> {
-    let mut replica = new_replica(rt.alloc(), Site::new(2).unwrap())?;
-    print_exchange(rt, reader, &mut replica)
-}
-
-fn print_report(rt: &HostRuntime, replica: &Replica<Global>) -> Result<(), Error> {
-    let mut report = Vec::new(rt.alloc());
-    replica.report(&mut report)?;
     print!(rt; " ")?;
-    print_hex(rt, &report)?;
-    println!(rt;)?;
-    Ok(())
+    print_report(rt, replica)?;
+    println!(rt;)
 }
 
-fn answer_row(rt: &HostRuntime, kind: &str, reader: PieceReader<'_>) -> Result<(), Error> {
-    match kind {
+fn receive_row(rt: &HostRuntime, reader: PieceReader<'_>) -> io::Result<()> {
+    let mut replica = new_replica(rt.alloc(), Site::new(2).unwrap())?;
+    let answer = print_exchange(rt, reader, &mut replica);
+    drop(replica);
+    answer
+}
+
+// What the words say, but for the bytes.
+#[derive(Clone, Copy)]
+struct Row<'a> {
+    kind: &'a str,
+    piece: usize,
+    fails_at: u64,
+}
+
+fn row_of<'a>(words: &mut Split<'a, char>) -> Row<'a> {
+    let kind = words.next().unwrap_or("");
+    let piece = words.next().unwrap_or("").parse::<usize>();
+    let fails_at = words.next().unwrap_or("").parse::<u64>();
+    Row {
+        kind,
+        piece: piece.unwrap_or(0),
+        fails_at: fails_at.unwrap_or(0),
+    }
+}
+
+fn answer_row(rt: &HostRuntime, row: &Row<'_>, bytes: &[u8]) -> io::Result<()> {
+    let reader = PieceReader {
+        rest: bytes,
+        piece: row.piece,
+        calls: 0,
+        fails_at: row.fails_at,
+    };
+    match row.kind {
         "serve" => serve_row(rt, reader),
         "limits" => print_limits(rt),
         _ => receive_row(rt, reader),
     }
 }
 
-fn append_bytes(words: Split<'_, char>, bytes: &mut Vec<u8>) -> Result<(), Error> {
-    let alloc = *bytes.allocator();
+fn append_word(word: &str, bytes: &mut Vec<u8>) -> Result<(), FromHexError> {
+    let decoded = hex::decode(*bytes.allocator(), word)?;
+    Ok(bytes.extend_from_slice(&decoded)?)
+}
+
+fn append_bytes(words: &mut Split<'_, char>, bytes: &mut Vec<u8>) -> Result<(), FromHexError> {
     for word in words {
-        bytes.extend_from_slice(&hex::decode(alloc, word)?)?;
+        append_word(word, bytes)?;
     }
     Ok(())
 }
 
 fn answer_line(rt: &HostRuntime, line: &str) -> Result<(), Error> {
     let mut words = line.split(' ');
-    let kind = words.next().unwrap_or("");
-    let piece = words.next().unwrap_or("").parse::<usize>().unwrap_or(0);
-    let fails_at = words.next().unwrap_or("").parse::<u64>().unwrap_or(0);
+    let row = row_of(&mut words);
     let mut bytes = Vec::new(rt.alloc());
-    append_bytes(words, &mut bytes)?;
-    let reader = PieceReader {
-        rest: &bytes,
-        piece,
-        calls: 0,
-        fails_at,
-    };
-    answer_row(rt, kind, reader)
+    append_bytes(&mut words, &mut bytes)?;
+    Ok(answer_row(rt, &row, &bytes)?)
 }
 
 fn main(rt: HostRuntime) -> Result<(), Error> {
     for line in rt.lines(rt.alloc()) {
-        let line = line?;
-        answer_line(&rt, &line)?;
+        answer_line(&rt, &line?)?;
     }
     Ok(())
 }
