@@ -1,124 +1,14 @@
-// What a site asks and what it makes of the replies, of which each request for memory, each read and each write is refused in
-// turn.
+// What a site makes of the replies, of which each request for memory and each read is refused in turn.
 use crate::logs::{is_log, opened};
 use crate::sweep::{
-    EACH_BYTE, Failing, Kind, NOTHING, Outcome, begin_refusing, each_is_answered, end_refusing,
-    outcome_of, reader, writer,
+    Failing, Kind, NOTHING, Outcome, begin_refusing, end_refusing, outcome_of, reader,
 };
 use crate::words::whole_frames;
-use anyhow::Error;
-use std::alloc::{Allocator, Global};
+use std::alloc::Global;
 use stn_device::Counted;
 use stn_refusing::Refusing;
 use stn_replica::Replica;
-use stn_session::{ReplyFault, SendFault, receive_replies, send_requests};
-
-// What came of a call of `send_requests`.
-#[derive(Drop)]
-struct Asking {
-    answer: Result<(), SendFault>,
-    failed: bool,
-    written: Vec<u8>,
-}
-
-fn asked<A: Allocator + Copy>(
-    alloc: Global,
-    heap: A,
-    replica: &Replica<A>,
-    failing: Failing,
-) -> Asking {
-    let mut output = Counted::new(writer(alloc, failing));
-    let answer = send_requests(heap, replica, &mut output);
-    Asking {
-        answer,
-        failed: output.failures() > 0,
-        written: output.into_inner().held,
-    }
-}
-
-// Of a refused request for memory nothing was written; of a failed write a part was.
-fn is_asked(asking: &Asking, requests: &[u8], refused: bool) -> bool {
-    match asking.answer {
-        Ok(()) => !asking.failed && asking.written.as_slice() == requests,
-        Err(SendFault::Memory) => refused && asking.written.is_empty(),
-        Err(SendFault::Write) => asking.failed && requests.starts_with(&asking.written),
-    }
-}
-
-// The same call then writes all.
-fn asks_then<A: Allocator + Copy>(
-    alloc: Global,
-    heap: A,
-    replica: &Replica<A>,
-    requests: &[u8],
-) -> bool {
-    let asking = asked(alloc, heap, replica, NOTHING);
-    asking.answer == Ok(()) && asking.written.as_slice() == requests
-}
-
-fn ask_failing<'a>(
-    alloc: Global,
-    heap: &'a Refusing<Global>,
-    replica: &Replica<&'a Refusing<Global>>,
-    requests: &[u8],
-    failing: Failing,
-) -> Outcome {
-    begin_refusing(heap, failing);
-    let asking = asked(alloc, heap, replica, failing);
-    let refused = end_refusing(heap, failing);
-    let right = is_asked(&asking, requests, refused) && asks_then(alloc, heap, replica, requests);
-    outcome_of(refused || asking.failed, right)
-}
-
-// The replica is then as before.
-fn ask_unchanged<'a>(
-    alloc: Global,
-    heap: &'a Refusing<Global>,
-    replica: &Replica<&'a Refusing<Global>>,
-    log: &[u8],
-    requests: &[u8],
-    failing: Failing,
-) -> Outcome {
-    let outcome = ask_failing(alloc, heap, replica, requests, failing);
-    if is_log(alloc, heap, replica, log) {
-        outcome
-    } else {
-        Outcome::Wrong
-    }
-}
-
-fn ask_refused(
-    alloc: Global,
-    heap: &Refusing<Global>,
-    log: &[u8],
-    requests: &[u8],
-    failing: Failing,
-) -> Result<Outcome, Error> {
-    let replica = opened(heap, log)?;
-    let outcome = ask_unchanged(alloc, heap, &replica, log, requests, failing);
-    drop(replica);
-    Ok(outcome)
-}
-
-fn each_ask(alloc: Global, log: &[u8], requests: &[u8], kind: Kind) -> Result<bool, Error> {
-    each_is_answered(alloc, kind, |heap, failing| {
-        ask_refused(alloc, heap, log, requests, failing)
-    })
-}
-
-fn ask_of_none(alloc: Global, log: &[u8], requests: &[u8]) -> Result<bool, Error> {
-    let heap = Refusing::new(alloc, 0);
-    Ok(ask_refused(alloc, &heap, log, requests, EACH_BYTE)? == Outcome::Answered)
-}
-
-/// Whether `send_requests` of a replica that this log opens writes these requests, and answers each refused call.
-pub fn asks(alloc: Global, log: &[u8], requests: &[u8]) -> Result<bool, Error> {
-    Ok(
-        each_ask(alloc, log, requests, Kind::Memory)?
-            && each_ask(alloc, log, requests, Kind::Write)?
-            && ask_of_none(alloc, log, requests)?,
-    )
-}
+use stn_session::{ReplyFault, receive_replies};
 
 /// The replies to a replica that a log opens: SAME, RECORDS and TEXT; and the log of what it then holds.
 #[derive(Clone, Copy)]
@@ -144,9 +34,9 @@ struct Receiving {
     failed: bool,
 }
 
-fn received<A: Allocator + Copy>(
-    heap: A,
-    replica: &mut Replica<A>,
+fn received<'a>(
+    heap: &'a Refusing<Global>,
+    replica: &mut Replica<&'a Refusing<Global>>,
     replies: Replies,
     failing: Failing,
 ) -> Receiving {
@@ -171,10 +61,10 @@ fn log_before<'a>(replies: Replies<'a>, failing: Failing) -> &'a [u8] {
 }
 
 // Whether the answer is right, and the replica holds what it must.
-fn is_received<A: Allocator + Copy>(
+fn is_received<'a>(
     alloc: Global,
-    heap: A,
-    replica: &Replica<A>,
+    heap: &'a Refusing<Global>,
+    replica: &Replica<&'a Refusing<Global>>,
     replies: Replies,
     answer: Result<bool, ReplyFault>,
     failing: Failing,
@@ -194,10 +84,10 @@ fn is_received<A: Allocator + Copy>(
 }
 
 // The same call then takes all.
-fn receives_then<A: Allocator + Copy>(
+fn receives_then<'a>(
     alloc: Global,
-    heap: A,
-    replica: &mut Replica<A>,
+    heap: &'a Refusing<Global>,
+    replica: &mut Replica<&'a Refusing<Global>>,
     replies: Replies,
 ) -> bool {
     let receiving = received(heap, replica, replies, NOTHING);
@@ -220,25 +110,19 @@ fn receive_failing<'a>(
     outcome_of(refused, right)
 }
 
-fn receive_refused(
+/// Whether `receive_replies` takes these replies, and answers the refused call.
+pub fn receive_refused(
     alloc: Global,
     heap: &Refusing<Global>,
     replies: Replies,
     failing: Failing,
-) -> Result<Outcome, Error> {
-    let mut replica = opened(heap, replies.log)?;
-    let outcome = receive_failing(alloc, heap, &mut replica, replies, failing);
-    drop(replica);
-    Ok(outcome)
-}
-
-fn each_receive(alloc: Global, replies: Replies, kind: Kind) -> Result<bool, Error> {
-    each_is_answered(alloc, kind, |heap, failing| {
-        receive_refused(alloc, heap, replies, failing)
-    })
-}
-
-/// Whether `receive_replies` takes these replies, and answers each refused call.
-pub fn receives(alloc: Global, replies: Replies) -> Result<bool, Error> {
-    Ok(each_receive(alloc, replies, Kind::Memory)? && each_receive(alloc, replies, Kind::Read)?)
+) -> Outcome {
+    match opened(heap, replies.log) {
+        Ok(mut replica) => {
+            let outcome = receive_failing(alloc, heap, &mut replica, replies, failing);
+            drop(replica);
+            outcome
+        }
+        Err(_) => Outcome::Wrong,
+    }
 }

@@ -1,9 +1,6 @@
 // Frames, of which each request for memory is refused in turn.
-use crate::sweep::{
-    Failing, Kind, Outcome, begin_refusing, each_is_answered, end_refusing, outcome_of,
-};
-use anyhow::{Context, Error};
-use std::alloc::{Allocator, Global};
+use crate::sweep::{Failing, Outcome, begin_refusing, end_refusing, outcome_of};
+use std::alloc::Global;
 use stn_refusing::Refusing;
 use stn_wire::{Fed, Feeder, Frame, WireFault, decode, encode};
 
@@ -11,10 +8,10 @@ use stn_wire::{Fed, Feeder, Frame, WireFault, decode, encode};
 const PIECE: usize = 7;
 
 // Appends a frame, and again where memory ran out, after which nothing was appended.
-fn append<B: Allocator + Copy>(
-    heap: &Refusing<Global>,
+fn append<'a>(
+    heap: &'a Refusing<Global>,
     frame: &Frame<Global>,
-    out: &mut Vec<u8, B>,
+    out: &mut Vec<u8, &'a Refusing<Global>>,
     failing: Failing,
 ) -> Outcome {
     begin_refusing(heap, failing);
@@ -29,42 +26,25 @@ fn append<B: Allocator + Copy>(
     outcome_of(refused, right)
 }
 
-fn frame_of(alloc: Global, bytes: &[u8]) -> Result<Frame<Global>, Error> {
-    let (frame, _) = decode(alloc, bytes)?.context("no frame")?;
-    Ok(frame)
-}
-
-fn encode_refused(
+/// Whether `encode` of the frame appends these bytes, and answers the refused request.
+pub fn encode_refused(
     heap: &Refusing<Global>,
     frame: &Frame<Global>,
     bytes: &[u8],
     failing: Failing,
-) -> Result<Outcome, Error> {
-    let mut out = Vec::from_slice(heap, b"before")?;
+) -> Outcome {
+    let mut out = Vec::new(heap);
+    let begun = out.extend_from_slice(b"before").is_ok();
     let outcome = append(heap, frame, &mut out, failing);
-    if out.strip_prefix(b"before") == Some(bytes) {
-        Ok(outcome)
+    if begun && out.strip_prefix(b"before") == Some(bytes) {
+        outcome
     } else {
-        Ok(Outcome::Wrong)
+        Outcome::Wrong
     }
 }
 
-/// Whether `encode` of the frame with these bytes answers each refused request.
-pub fn encodes(alloc: Global, bytes: &[u8]) -> Result<bool, Error> {
-    let frame = frame_of(alloc, bytes)?;
-    let answered = each_encode(alloc, &frame, bytes);
-    drop(frame);
-    answered
-}
-
-fn each_encode(alloc: Global, frame: &Frame<Global>, bytes: &[u8]) -> Result<bool, Error> {
-    each_is_answered(alloc, Kind::Memory, |heap, failing| {
-        encode_refused(heap, frame, bytes, failing)
-    })
-}
-
 // What an old frame holds, as a frame that can be written; any other frame itself.
-fn renewed<A: Allocator + Copy>(frame: Frame<A>) -> Frame<A> {
+fn renewed(frame: Frame<&Refusing<Global>>) -> Frame<&Refusing<Global>> {
     match frame {
         Frame::OldHello(source) => Frame::Hello(source),
         Frame::OldRecords(records) => Frame::Records(records),
@@ -73,10 +53,7 @@ fn renewed<A: Allocator + Copy>(frame: Frame<A>) -> Frame<A> {
 }
 
 // Appends what is written of a frame.
-fn append_renewed<A: Allocator + Copy>(
-    frame: Frame<A>,
-    spelled: &mut Vec<u8>,
-) -> Result<(), WireFault> {
+fn append_renewed(frame: Frame<&Refusing<Global>>, spelled: &mut Vec<u8>) -> Result<(), WireFault> {
     let frame = renewed(frame);
     let answer = encode(&frame, spelled);
     drop(frame);
@@ -84,9 +61,9 @@ fn append_renewed<A: Allocator + Copy>(
 }
 
 // Whether a frame is renewed as these bytes.
-fn is_spelled<A: Allocator + Copy>(
+fn is_spelled(
     alloc: Global,
-    frame: Frame<A>,
+    frame: Frame<&Refusing<Global>>,
     bytes: &[u8],
 ) -> Result<bool, WireFault> {
     let mut out = Vec::new(alloc);
@@ -95,9 +72,9 @@ fn is_spelled<A: Allocator + Copy>(
 }
 
 // Whether the bytes are one frame, which is renewed as the wanted bytes; or lack of memory.
-fn is_read<A: Allocator + Copy>(
+fn is_read(
     alloc: Global,
-    heap: A,
+    heap: &Refusing<Global>,
     bytes: &[u8],
     wanted: &[u8],
 ) -> Result<bool, WireFault> {
@@ -110,7 +87,8 @@ fn is_read<A: Allocator + Copy>(
     }
 }
 
-fn decode_refused(
+/// Whether `decode` reads what is written as the wanted bytes, and answers the refused request.
+pub fn decode_refused(
     alloc: Global,
     heap: &Refusing<Global>,
     bytes: &[u8],
@@ -128,16 +106,9 @@ fn decode_refused(
     outcome_of(refused, right)
 }
 
-/// Whether `decode` of the frame with these bytes reads what is written as the wanted bytes, and answers each refused request.
-pub fn decodes(alloc: Global, bytes: &[u8], wanted: &[u8]) -> Result<bool, Error> {
-    each_is_answered(alloc, Kind::Memory, |heap, failing| {
-        Ok(decode_refused(alloc, heap, bytes, wanted, failing))
-    })
-}
-
 // Feeds a piece, and appends what is written of the frame that it completes. It gives how many bytes were taken.
-fn feed_piece<A: Allocator + Copy>(
-    feeder: &mut Feeder<A>,
+fn feed_piece(
+    feeder: &mut Feeder<&Refusing<Global>>,
     piece: &[u8],
     spelled: &mut Vec<u8>,
 ) -> Result<usize, WireFault> {
@@ -151,8 +122,8 @@ fn feed_piece<A: Allocator + Copy>(
 
 // Feeds a stream in pieces, each again where memory ran out, and gives how often. Lack of memory leaves the feeder in the
 // middle of a frame exactly where it was before.
-fn stream<A: Allocator + Copy>(
-    feeder: &mut Feeder<A>,
+fn stream(
+    feeder: &mut Feeder<&Refusing<Global>>,
     bytes: &[u8],
     spelled: &mut Vec<u8>,
 ) -> Result<u64, WireFault> {
@@ -169,7 +140,24 @@ fn stream<A: Allocator + Copy>(
     Ok(again)
 }
 
-fn feed_refused(
+// Whether a stream is read as it must be.
+fn is_fed(
+    heap: &Refusing<Global>,
+    feeder: &mut Feeder<&Refusing<Global>>,
+    bytes: &[u8],
+    spelled: &mut Vec<u8>,
+    failing: Failing,
+) -> Outcome {
+    begin_refusing(heap, failing);
+    let again = stream(feeder, bytes, spelled);
+    let refused = end_refusing(heap, failing);
+    let told = again == Ok(0) || refused && again == Ok(1);
+    outcome_of(refused, told && !feeder.middle())
+}
+
+/// Whether `Feeder::feed` of frames, in pieces, reads what is written as the wanted bytes, and answers the refused request: after
+/// lack of memory no byte was taken, and the same piece goes on.
+pub fn feed_refused(
     alloc: Global,
     heap: &Refusing<Global>,
     bytes: &[u8],
@@ -178,20 +166,11 @@ fn feed_refused(
 ) -> Outcome {
     let mut feeder = Feeder::new(heap);
     let mut spelled = Vec::new(alloc);
-    begin_refusing(heap, failing);
-    let again = stream(&mut feeder, bytes, &mut spelled);
-    let refused = end_refusing(heap, failing);
-    let told = again == Ok(0) || refused && again == Ok(1);
-    outcome_of(
-        refused,
-        told && spelled.as_slice() == wanted && !feeder.middle(),
-    )
-}
-
-/// Whether `Feeder::feed` of the frames with these bytes, in pieces, reads what is written as the wanted bytes, and answers each
-/// refused request: after lack of memory no byte was taken, and the same piece goes on.
-pub fn feeds(alloc: Global, bytes: &[u8], wanted: &[u8]) -> Result<bool, Error> {
-    each_is_answered(alloc, Kind::Memory, |heap, failing| {
-        Ok(feed_refused(alloc, heap, bytes, wanted, failing))
-    })
+    let outcome = is_fed(heap, &mut feeder, bytes, &mut spelled, failing);
+    drop(feeder);
+    if spelled.as_slice() == wanted {
+        outcome
+    } else {
+        Outcome::Wrong
+    }
 }

@@ -12,6 +12,7 @@
 //! It prints the name, of a session how many frames it answered and how it ended, and whether each call was answered as it must be.
 #![tactic(auto)]
 
+mod calls;
 mod exchanges;
 mod frames;
 mod logs;
@@ -19,86 +20,103 @@ mod sessions;
 mod sweep;
 mod words;
 
-use crate::exchanges::{Replies, asks, receives};
-use crate::frames::{decodes, encodes, feeds};
-use crate::logs::{loads, saves};
-use crate::sessions::{end_of, serves};
+use crate::calls::{Call, each_is_answered, encodes, reads, serves, writes};
+use crate::exchanges::Replies;
+use crate::sessions::{Talk, add_stages, end_of};
+use crate::sweep::Kind;
 use crate::words::{bytes_of, joined};
 use anyhow::{Context, Error};
 use std::alloc::Global;
 
 // What a session came to, and whether it answers each refused call.
-fn print_session(rt: &HostRuntime, log: &[u8], frames: &[Vec<u8>]) -> Result<bool, Error> {
-    let bytes = joined(rt.alloc(), frames)?;
-    let served = end_of(rt.alloc(), log, &bytes)?;
+fn print_session(rt: &HostRuntime, talk: Talk) -> Result<bool, Error> {
+    let served = end_of(talk)?;
     print!(rt; "{} frames, {:?}: ", served.frames, served.end)?;
-    serves(rt.alloc(), log, frames, &bytes)
+    Ok(serves(rt.alloc(), talk))
 }
 
-fn is_asked(alloc: Global, log: &[u8], frames: &[Vec<u8>]) -> Result<bool, Error> {
-    let requests = joined(alloc, frames)?;
-    asks(alloc, log, &requests)
+fn is_served(
+    rt: &HostRuntime,
+    log: &[u8],
+    frames: &[Vec<u8>],
+    bytes: &[u8],
+) -> Result<bool, Error> {
+    let mut stages = Vec::new(rt.alloc());
+    if add_stages(rt.alloc(), log, frames, bytes, &mut stages) {
+        print_session(
+            rt,
+            Talk {
+                log,
+                frames,
+                bytes,
+                stages: &stages,
+            },
+        )
+    } else {
+        Ok(false)
+    }
 }
 
 fn is_received(alloc: Global, log: &[u8], rest: &[Vec<u8>]) -> Result<bool, Error> {
     let (after, frames) = rest.split_first().context("no log of after")?;
     let bytes = joined(alloc, frames)?;
-    receives(
-        alloc,
-        Replies {
-            log,
-            frames,
-            bytes: &bytes,
-            after,
-        },
-    )
+    let replies = Replies {
+        log,
+        frames,
+        bytes: &bytes,
+        after,
+    };
+    Ok(reads(alloc, Call::Receive(replies)))
 }
 
 // Whether a call that works on a log and frames answers each refused call.
-fn is_exchanged(rt: &HostRuntime, call: &str, words: &str) -> Result<bool, Error> {
-    let words = bytes_of(rt.alloc(), words)?;
-    is_exchanged_of(rt, call, &words)
-}
-
-fn is_exchanged_of(rt: &HostRuntime, call: &str, words: &[Vec<u8>]) -> Result<bool, Error> {
+fn is_exchanged(rt: &HostRuntime, call: &str, words: &[Vec<u8>]) -> Result<bool, Error> {
     let (log, frames) = words.split_first().context("no log")?;
+    let bytes = joined(rt.alloc(), frames)?;
     match call {
-        "serve" => print_session(rt, log, frames),
-        "ask" => is_asked(rt.alloc(), log, frames),
+        "serve" => is_served(rt, log, frames, &bytes),
+        "ask" => Ok(writes(rt.alloc(), Call::Ask(log, &bytes))),
         "receive" => is_received(rt.alloc(), log, frames),
         _ => Ok(false),
     }
 }
 
-// The bytes of all words.
-fn bytes_of_all(alloc: Global, words: &str) -> Result<Vec<u8>, Error> {
-    let words = bytes_of(alloc, words)?;
-    joined(alloc, &words)
+// Whether a call that works on these bytes, and comes to the wanted ones, answers each refused call; or another call.
+fn is_call_answered(
+    rt: &HostRuntime,
+    call: &str,
+    words: &[Vec<u8>],
+    bytes: &[u8],
+    wanted: &[u8],
+) -> Result<bool, Error> {
+    let alloc = rt.alloc();
+    match call {
+        "encode" => Ok(encodes(alloc, bytes)),
+        "decode" => Ok(each_is_answered(alloc, Call::Decode(bytes, wanted), Kind::Memory)),
+        "feed" => Ok(each_is_answered(alloc, Call::Feed(bytes, wanted), Kind::Memory)),
+        "save" => Ok(writes(alloc, Call::Save(bytes))),
+        "load" => Ok(reads(alloc, Call::Load(bytes, wanted))),
+        _ => is_exchanged(rt, call, words),
+    }
+}
+
+fn is_answered_of(
+    rt: &HostRuntime,
+    call: &str,
+    words: &[Vec<u8>],
+    wanted: &[Vec<u8>],
+) -> Result<bool, Error> {
+    let bytes = joined(rt.alloc(), words)?;
+    let wanted = joined(rt.alloc(), wanted)?;
+    is_call_answered(rt, call, words, &bytes, &wanted)
 }
 
 // Whether a call answers each refused call.
 fn is_answered(rt: &HostRuntime, call: &str, words: &str) -> Result<bool, Error> {
     let (words, wanted) = words.split_once(" = ").unwrap_or((words, words));
-    let bytes = bytes_of_all(rt.alloc(), words)?;
-    let wanted = bytes_of_all(rt.alloc(), wanted)?;
-    is_call_answered(rt, call, words, &bytes, &wanted)
-}
-
-fn is_call_answered(
-    rt: &HostRuntime,
-    call: &str,
-    words: &str,
-    bytes: &[u8],
-    wanted: &[u8],
-) -> Result<bool, Error> {
-    match call {
-        "encode" => encodes(rt.alloc(), bytes),
-        "decode" => decodes(rt.alloc(), bytes, wanted),
-        "feed" => feeds(rt.alloc(), bytes, wanted),
-        "save" => saves(rt.alloc(), bytes),
-        "load" => loads(rt.alloc(), bytes, wanted),
-        _ => is_exchanged(rt, call, words),
-    }
+    let words = bytes_of(rt.alloc(), words)?;
+    let wanted = bytes_of(rt.alloc(), wanted)?;
+    is_answered_of(rt, call, &words, &wanted)
 }
 
 fn print_row(rt: &HostRuntime, line: &str) -> Result<(), Error> {
@@ -127,8 +145,7 @@ fn print_answer(rt: &HostRuntime, answered: bool) -> Result<(), Error> {
 
 fn main(rt: HostRuntime) -> Result<(), Error> {
     for line in rt.lines(rt.alloc()) {
-        let line = line?;
-        print_row(&rt, &line)?;
+        print_row(&rt, &line?)?;
     }
     Ok(())
 }

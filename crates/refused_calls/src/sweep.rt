@@ -1,10 +1,6 @@
 // Calls of which one request for memory, one read or one write is refused.
-use anyhow::Error;
 use std::alloc::Global;
 use stn_refusing::{PieceReader, PieceWriter, Refusing};
-
-// More calls of one kind than a test makes.
-const MOST_CALLS: u64 = 10_000;
 
 /// What is refused.
 #[derive(Clone, Copy, PartialEq)]
@@ -90,24 +86,4 @@ pub fn end_refusing(heap: &Refusing<Global>, failing: Failing) -> bool {
     let refused = failing.kind == Kind::Memory && !heap.is_waiting();
     heap.refuse(0);
     refused
-}
-
-/// Whether all is as it must be, whichever call of this kind is refused: the first, the second, and so on until none is left.
-/// `call` is handed an allocator that refuses nothing yet.
-pub fn each_is_answered<F: Fn(&Refusing<Global>, Failing) -> Result<Outcome, Error>>(
-    alloc: Global,
-    kind: Kind,
-    call: F,
-) -> Result<bool, Error>
-    requires { F.IsAlwaysCallable call }
-{
-    for number in 1..MOST_CALLS {
-        let heap = Refusing::new(alloc, 0);
-        match call(&heap, Failing { kind, number })? {
-            Outcome::Right => return Ok(true),
-            Outcome::Answered => {}
-            Outcome::Wrong => return Ok(false),
-        }
-    }
-    Ok(false)
 }

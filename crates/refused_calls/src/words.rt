@@ -2,12 +2,18 @@
 use anyhow::Error;
 use std::alloc::Global;
 
-/// The bytes of each word, which has them in hex.
-pub fn bytes_of(alloc: Global, words: &str) -> Result<Vec<Vec<u8>>, Error> {
-    let mut frames = Vec::new(alloc);
+fn append_words(words: &str, frames: &mut Vec<Vec<u8>>) -> Result<(), Error> {
+    let alloc = *frames.allocator();
     for word in words.split(' ') {
         frames.push(hex::decode(alloc, word)?)?;
     }
+    Ok(())
+}
+
+/// The bytes of each word, which has them in hex.
+pub fn bytes_of(alloc: Global, words: &str) -> Result<Vec<Vec<u8>>, Error> {
+    let mut frames = Vec::new(alloc);
+    append_words(words, &mut frames)?;
     Ok(frames)
 }
 
