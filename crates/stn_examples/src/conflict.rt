@@ -1,12 +1,12 @@
 ghost use Rattle.stn_net.specs.Difference.{NamesEvents};
 
-use crate::sweep::{judged, refuse_each};
-use std::alloc::Allocator;
-use std::test::Fail;
+use crate::sweep::{Answer, Call, judged, requests};
+use std::alloc::Global;
 use stn_conflict::{Cycle, Link, Side, cycle};
 use stn_lift::Base;
 use stn_net::{Bound, Event};
-use stn_time::{HORIZON, Ms};
+use stn_refusing::Refusing;
+use stn_time::{HORIZON, Memory, Ms};
 
 // The end comes five seconds after the start.
 fn duration() -> Bound
@@ -48,28 +48,32 @@ const NAMED: [Link; 3] = [
     },
 ];
 
-fn is_named<A: Allocator>(cycle: &Cycle<A>) -> bool {
+fn is_named(cycle: &Cycle<&Refusing<Global>>) -> bool {
     cycle.sum == -1_000 && cycle.links.as_slice() == NAMED.as_slice()
 }
 
-#[test]
-fn want_of_memory(rt: HostRuntime) -> Result<(), Fail> {
-    let base = Base::bare(rt.alloc(), 1)?;
-    let extra = [duration(), deadline()];
-    let requests = refuse_each(&rt, rt.alloc(), |heap, number| {
-        heap.refuse(number);
-        let (right, memory) = match cycle(heap, 2, base.bounds(), &extra) {
-            Ok(Some(cycle)) => {
-                let right = is_named(&cycle);
-                drop(cycle);
-                (right, false)
-            }
-            Ok(None) => (false, false),
-            Err(_) => (false, true),
-        };
-        Ok(judged(heap, right, memory))
-    });
+// Whether the named cycle was found, or memory was lacking.
+fn is_found(found: Result<Option<Cycle<&Refusing<Global>>>, Memory>) -> (bool, bool) {
+    match found {
+        Ok(Some(cycle)) => (is_named(&cycle), false),
+        Ok(None) => (false, false),
+        Err(_) => (false, true),
+    }
+}
+
+/// What is found while a request is refused.
+pub fn cycle_refused(heap: &Refusing<Global>, number: u64) -> Answer {
+    let Ok(base) = Base::bare(heap, 1) else {
+        return Answer::Wrong;
+    };
+    heap.refuse(number);
+    let found = cycle(heap, 2, base.bounds(), &[duration(), deadline()]);
     drop(base);
-    assert!(rt; requests? > 2);
-    Ok(())
+    let (right, memory) = is_found(found);
+    judged(heap, right, memory)
+}
+
+#[test]
+fn want_of_memory(rt: HostRuntime) {
+    assert!(rt; requests(&rt, rt.alloc(), Call::Cycle) > 2);
 }

@@ -33,14 +33,18 @@ where
     answer.err().map(|error| error.kind())
 }
 
+// What a write to a device that takes no byte answers, and how often a call failed and was made.
+fn written_to_stuck(alloc: Global, bytes: &[u8]) -> (Result<(), WriteFault>, u64, u64) {
+    let mut stuck = writer(alloc, 0, 0);
+    let answer = write_whole(&mut stuck, bytes);
+    let failures = stuck.failures();
+    (answer, failures, stuck.into_inner().calls)
+}
+
 #[test]
 fn a_write_that_takes_none_is_a_failed_one(rt: HostRuntime) {
-    let mut stuck = writer(rt.alloc(), 0, 0);
-    assert!(rt; write_whole(&mut stuck, b"").is_ok());
-    assert_eq!(rt; stuck.failures(), 0);
-    assert!(rt; write_whole(&mut stuck, TEXT) == Err(WriteFault));
-    assert_eq!(rt; stuck.failures(), 1);
-    assert_eq!(rt; stuck.into_inner().calls, 1);
+    assert!(rt; written_to_stuck(rt.alloc(), b"") == (Ok(()), 0, 0));
+    assert!(rt; written_to_stuck(rt.alloc(), TEXT) == (Err(WriteFault), 1, 1));
 }
 
 #[test]
@@ -53,12 +57,17 @@ fn a_failed_read_gives_the_error_of_the_device(rt: HostRuntime) {
     }
 }
 
+// The kind of the error of a write that fails, and how many calls have failed.
+fn failed_write(alloc: Global, piece: &[u8]) -> (Option<ErrorKind>, u64) {
+    let mut failing = writer(alloc, 3, 1);
+    let kind = kind_of(failing.write(piece));
+    (kind, failing.failures())
+}
+
 #[test]
 fn a_failed_write_gives_the_error_of_the_device(rt: HostRuntime) {
     for piece in [b"".as_slice(), b"abc"] {
-        let mut failing = writer(rt.alloc(), 3, 1);
-        assert!(rt; kind_of(failing.write(piece)) == Some(ErrorKind::Interrupted));
-        assert_eq!(rt; failing.failures(), 1);
+        assert!(rt; failed_write(rt.alloc(), piece) == (Some(ErrorKind::Interrupted), 1));
     }
 }
 
@@ -168,10 +177,9 @@ fn left_after(limit: usize) -> usize {
 
 #[test]
 fn drains_up_to_its_limit(rt: HostRuntime) {
-    assert_eq!(rt; left_after(0), 13);
-    assert_eq!(rt; left_after(5), 8);
-    assert_eq!(rt; left_after(TEXT.len()), 0);
-    assert_eq!(rt; left_after(4096), 0);
+    for (limit, left) in [(0, 13), (5, 8), (TEXT.len(), 0), (4096, 0)] {
+        assert!(rt; left_after(limit) == left, "limit {limit}");
+    }
 }
 
 #[test]

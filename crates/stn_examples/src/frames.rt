@@ -1,17 +1,28 @@
 use std::alloc::{AllocError, Global};
 use stn_lift::Source;
-use stn_wire::{Feeder, Frame, WireFault, encode};
+use stn_wire::{Fed, Feeder, Frame, WireFault, encode};
 
-// How many bytes a feeder uses, and the name of the frame that came of them.
-fn feed(feeder: &mut Feeder<Global>, bytes: &[u8]) -> Result<(usize, &'static str), WireFault> {
-    let fed = feeder.feed(bytes)?;
-    let name = match &fed.frame {
+fn name_of(frame: &Option<Frame<Global>>) -> &'static str {
+    match frame {
         Some(Frame::Ask) => "ask",
         Some(Frame::Same) => "same",
         Some(_) => "another",
         None => "none",
-    };
-    Ok((fed.used, name))
+    }
+}
+
+// How many bytes were used, and the name of the frame that came of them.
+fn seen(fed: Fed<Global>) -> (usize, &'static str) {
+    let answer = (fed.used, name_of(&fed.frame));
+    drop(fed);
+    answer
+}
+
+fn feed(feeder: &mut Feeder<Global>, bytes: &[u8]) -> Result<(usize, &'static str), WireFault> {
+    match feeder.feed(bytes) {
+        Ok(fed) => Ok(seen(fed)),
+        Err(fault) => Err(fault),
+    }
 }
 
 #[test]
@@ -41,16 +52,17 @@ fn feeder_keeps_its_fault(rt: HostRuntime) {
 }
 
 // The fault of a frame that isn't spelled, and how many bytes it leaves; the length of one that is.
-fn spelled(alloc: Global, frame: &Frame<Global>) -> (Option<WireFault>, usize) {
+fn spelled(alloc: Global, frame: Frame<Global>) -> (Option<WireFault>, usize) {
     let mut out = Vec::new(alloc);
-    let fault = encode(frame, &mut out).err();
+    let fault = encode(&frame, &mut out).err();
+    drop(frame);
     (fault, out.len())
 }
 
 #[test]
 fn old_frames_are_not_spelled(rt: HostRuntime) {
-    let hello = Frame::OldHello(Source::Bare(1));
-    assert!(rt; spelled(rt.alloc(), &hello) == (Some(WireFault::OldFrame), 0));
+    let answer = spelled(rt.alloc(), Frame::OldHello(Source::Bare(1)));
+    assert!(rt; answer == (Some(WireFault::OldFrame), 0));
 }
 
 // What comes of an old HELLO of a domain of so many bytes and an empty plan.
@@ -59,10 +71,8 @@ fn spelled_old_hello(
     length: usize,
 ) -> Result<(Option<WireFault>, usize), AllocError> {
     let domain = vec![in alloc; b'x'; length]?;
-    let hello = Frame::OldHello(Source::Files(domain, Vec::new(alloc)));
-    let answer = spelled(alloc, &hello);
-    drop(hello);
-    Ok(answer)
+    let files = Source::Files(domain, Vec::new(alloc));
+    Ok(spelled(alloc, Frame::OldHello(files)))
 }
 
 #[test]
@@ -73,10 +83,8 @@ fn long_old_frames_are_not_spelled(rt: HostRuntime) {
 
 // What comes of a TEXT of so many bytes.
 fn spelled_text(alloc: Global, length: usize) -> Result<(Option<WireFault>, usize), AllocError> {
-    let text = Frame::Text(vec![in alloc; b'x'; length]?);
-    let answer = spelled(alloc, &text);
-    drop(text);
-    Ok(answer)
+    let text = vec![in alloc; b'x'; length]?;
+    Ok(spelled(alloc, Frame::Text(text)))
 }
 
 #[test]

@@ -1,6 +1,5 @@
-use crate::sweep::{Answer, judged, refuse_each};
+use crate::sweep::{Answer, Call, judged, requests};
 use std::alloc::Global;
-use std::test::Fail;
 use stn_pddl::{Domain, DomainFault};
 use stn_plan::{Plan, PlanFault};
 use stn_refusing::Refusing;
@@ -10,52 +9,48 @@ const DOMAIN: &[u8] =
 
 const PLAN: &[u8] = b"0: (mend f) [5]\n6: (mend g)\n";
 
-// What the domain is read as while a request is refused.
-fn domain_refused(heap: &Refusing<Global>, number: u64) -> Answer {
-    heap.refuse(number);
-    let (right, memory) = match Domain::read(heap, DOMAIN) {
-        Ok(domain) => {
-            let right = domain.action(b"mend").is_some();
-            drop(domain);
-            (right, false)
-        }
+fn has_action(domain: Domain<&Refusing<Global>>) -> bool {
+    let has = domain.action(b"mend").is_some();
+    drop(domain);
+    has
+}
+
+// Whether the domain that was read has its action, or memory was lacking.
+fn is_domain(read: Result<Domain<&Refusing<Global>>, DomainFault>) -> (bool, bool) {
+    match read {
+        Ok(domain) => (has_action(domain), false),
         Err(fault) => (false, fault == DomainFault::Memory),
-    };
-    judged(heap, right, memory)
+    }
 }
 
-#[test]
-fn domains(rt: HostRuntime) -> Result<(), Fail> {
-    let requests = refuse_each(
-        &rt,
-        rt.alloc(),
-        |heap, number| Ok(domain_refused(heap, number)),
-    )?;
-    assert!(rt; requests > 4);
-    Ok(())
-}
-
-// What the plan is read as while a request is refused.
-fn plan_refused(heap: &Refusing<Global>, number: u64) -> Answer {
+/// What the domain is read as while a request is refused.
+pub fn domain_refused(heap: &Refusing<Global>, number: u64) -> Answer {
     heap.refuse(number);
-    let (right, memory) = match Plan::read(heap, PLAN) {
-        Ok(plan) => {
-            let right = plan.steps().len() == 2;
-            drop(plan);
-            (right, false)
-        }
-        Err(fault) => (false, fault == PlanFault::Memory),
-    };
+    let (right, memory) = is_domain(Domain::read(heap, DOMAIN));
     judged(heap, right, memory)
 }
 
 #[test]
-fn plans(rt: HostRuntime) -> Result<(), Fail> {
-    let requests = refuse_each(
-        &rt,
-        rt.alloc(),
-        |heap, number| Ok(plan_refused(heap, number)),
-    )?;
-    assert!(rt; requests > 3);
-    Ok(())
+fn domains(rt: HostRuntime) {
+    assert!(rt; requests(&rt, rt.alloc(), Call::Domain) > 4);
+}
+
+// Whether the plan that was read has both steps, or memory was lacking.
+fn is_plan(read: Result<Plan<&Refusing<Global>>, PlanFault>) -> (bool, bool) {
+    match read {
+        Ok(plan) => (plan.steps().len() == 2, false),
+        Err(fault) => (false, fault == PlanFault::Memory),
+    }
+}
+
+/// What the plan is read as while a request is refused.
+pub fn plan_refused(heap: &Refusing<Global>, number: u64) -> Answer {
+    heap.refuse(number);
+    let (right, memory) = is_plan(Plan::read(heap, PLAN));
+    judged(heap, right, memory)
+}
+
+#[test]
+fn plans(rt: HostRuntime) {
+    assert!(rt; requests(&rt, rt.alloc(), Call::Plan) > 3);
 }

@@ -1,13 +1,11 @@
 ghost use Rattle.std.specs.Prelude.{◌≤◌};
 
-use crate::sweep::{Answer, judged, refuse_each};
+use crate::sweep::{Answer, Call, judged, requests};
 use std::alloc::Global;
-use std::process::Abort;
-use std::test::Fail;
 use stn_net::{Bound, Event};
 use stn_records::{BuryFault, Id, Mark, PartFault, Records, RecordsFault, Site, WithdrawFault};
 use stn_refusing::Refusing;
-use stn_time::{Memory, Ms};
+use stn_time::Ms;
 
 fn id(site: u8, counter: u16) -> Id
     requires site { (1 ≤ site) × (site ≤ 64) }
@@ -22,41 +20,28 @@ fn bound() -> Bound {
     Bound::new(1, Event::origin(), Event::new(1).unwrap(), lo, hi).unwrap()
 }
 
-fn put(records: &mut Records<&Refusing<Global>>, id: Id) -> Result<(), Fail> {
-    Ok(records.add(id, Mark::Plain, bound())?)
-}
-
-fn bury(records: &mut Records<&Refusing<Global>>, id: Id) -> Result<(), Fail> {
-    Ok(records.bury(id)?)
+// Adds a record of site 1, and buries an id of site 2, of this counter.
+fn put(records: &mut Records<&Refusing<Global>>, counter: u16) -> bool
+    requires { 1 ≤ counter }
+{
+    records.add(id(1, counter), Mark::Plain, bound()).is_ok()
+        && records.bury(id(2, counter)).is_ok()
 }
 
 // Adds records of site 1 with the counters from the first to the last, and buries as many ids of site 2.
-fn fill(records: &mut Records<&Refusing<Global>>, first: u16, last: u16) -> Result<(), Fail>
+fn fill(records: &mut Records<&Refusing<Global>>, first: u16, last: u16) -> bool
     requires { 1 ≤ first }
 {
+    let mut filled = true;
     for counter in first..=last {
-        put(records, id(1, counter))?;
-        bury(records, id(2, counter))?;
+        filled = filled && put(records, counter);
     }
-    Ok(())
+    filled
 }
 
-// So many records and withdrawn ids.
-fn filled(
-    heap: &Refusing<Global>,
-    first: u16,
-    last: u16,
-) -> Result<Records<&Refusing<Global>>, Fail>
-    requires { 1 ≤ first }
-{
-    let mut records = Records::new(heap);
-    fill(&mut records, first, last)?;
-    Ok(records)
-}
-
-// A call that changes what is held.
+/// A call that changes what is held.
 #[derive(Clone, Copy)]
-enum Change {
+pub enum Change {
     Add,
     Withdraw,
     Bury,
@@ -101,7 +86,7 @@ fn is_changed(records: &Records<&Refusing<Global>>, change: Change) -> bool {
 }
 
 // What the call answers one of whose requests is refused. The same call is then accepted.
-fn change_refused(
+fn change_twice(
     heap: &Refusing<Global>,
     number: u64,
     records: &mut Records<&Refusing<Global>>,
@@ -112,34 +97,28 @@ fn change_refused(
     let right = done && is_changed(records, change);
     let unchanged = memory && holds(records, 32, true);
     let answer = judged(heap, right, unchanged);
-    if changed(records, change).0 {
-        answer
-    } else {
-        Answer::Wrong
-    }
+    let (again, _) = changed(records, change);
+    answer.only_if(again)
 }
 
-// Sixteen of each: one more asks for memory.
-fn changes(rt: &impl Abort, alloc: Global, change: Change) -> Result<u64, Fail> {
-    refuse_each(rt, alloc, |heap, number| {
-        let mut records = filled(heap, 1, 16)?;
-        let answer = change_refused(heap, number, &mut records, change);
-        drop(records);
-        Ok(answer)
-    })
+/// What a change of sixteen records and as many withdrawn ids answers while a request is refused. One more of each asks for memory.
+pub fn change_refused(heap: &Refusing<Global>, number: u64, change: Change) -> Answer {
+    let mut records = Records::new(heap);
+    let filled = fill(&mut records, 1, 16);
+    let answer = change_twice(heap, number, &mut records, change);
+    drop(records);
+    answer.only_if(filled)
 }
 
 #[test]
-fn changes_of_records(rt: HostRuntime) -> Result<(), Fail> {
+fn changes_of_records(rt: HostRuntime) {
     for change in [Change::Add, Change::Withdraw, Change::Bury] {
-        let requests = changes(&rt, rt.alloc(), change)?;
-        assert!(rt; requests > 1);
+        assert!(rt; requests(&rt, rt.alloc(), Call::Change(change)) > 1);
     }
-    Ok(())
 }
 
-// What is taken while a request is refused. All is then taken.
-fn take_refused<'a>(
+// What is taken while a request is refused. The same call is then accepted.
+fn take_twice<'a>(
     heap: &Refusing<Global>,
     number: u64,
     ours: &mut Records<&'a Refusing<Global>>,
@@ -149,145 +128,113 @@ fn take_refused<'a>(
     let answer = ours.take(theirs);
     let right = answer == Ok(()) && ours.known() == 40;
     let unchanged = answer == Err(RecordsFault::Memory) && ours.known() == 24;
-    judged(heap, right, unchanged)
+    judged(heap, right, unchanged).only_if(ours.take(theirs).is_ok())
 }
 
-// The same call is then accepted.
-fn take_twice<'a>(
-    heap: &Refusing<Global>,
-    number: u64,
-    ours: &mut Records<&'a Refusing<Global>>,
-    theirs: &Records<&'a Refusing<Global>>,
-) -> Answer {
-    let answer = take_refused(heap, number, ours, theirs);
-    if ours.take(theirs).is_ok() {
-        answer
-    } else {
-        Answer::Wrong
-    }
-}
-
-// What another site takes of the records.
+// What another site, which holds some of these records, takes of them.
 fn taken<'a>(
     heap: &'a Refusing<Global>,
     number: u64,
     theirs: &Records<&'a Refusing<Global>>,
-) -> Result<Answer, Fail> {
-    let mut ours = filled(heap, 1, 12)?;
+) -> Answer {
+    let mut ours = Records::new(heap);
+    let filled = fill(&mut ours, 1, 12);
     let answer = take_twice(heap, number, &mut ours, theirs);
     drop(ours);
-    Ok(answer)
+    answer.only_if(filled)
+}
+
+/// What another site takes of the records while a request is refused.
+pub fn take_refused(heap: &Refusing<Global>, number: u64) -> Answer {
+    let mut theirs = Records::new(heap);
+    let filled = fill(&mut theirs, 9, 20);
+    let answer = taken(heap, number, &theirs);
+    drop(theirs);
+    answer.only_if(filled)
 }
 
 #[test]
-fn takes(rt: HostRuntime) -> Result<(), Fail> {
-    let requests = refuse_each(&rt, rt.alloc(), |heap, number| {
-        let theirs = filled(heap, 9, 20)?;
-        let answer = taken(heap, number, &theirs);
-        drop(theirs);
-        answer
-    })?;
-    assert!(rt; requests > 2);
-    Ok(())
+fn takes(rt: HostRuntime) {
+    assert!(rt; requests(&rt, rt.alloc(), Call::Take) > 2);
 }
 
-// A call that makes a value of what is held.
+/// A call that makes a value of what is held.
 #[derive(Clone, Copy)]
-enum Reading {
+pub enum Reading {
     Part,
     Copy,
     Live,
 }
 
-// Whether a part was made that knows as many ids, or memory was lacking.
-fn is_made(part: Result<Records<&Refusing<Global>>, PartFault>) -> (bool, bool) {
-    match part {
-        Ok(part) => {
-            let right = part.known() == 4;
-            drop(part);
-            (right, false)
-        }
+// Whether these records, which are then let go of, know so many ids.
+fn knows(records: Records<&Refusing<Global>>, known: usize) -> bool {
+    let right = records.known() == known;
+    drop(records);
+    right
+}
+
+// Whether a part was made that knows the ids asked for, or memory was lacking.
+fn is_part(records: &Records<&Refusing<Global>>) -> (bool, bool) {
+    match records.part(&[id(1, 6), id(1, 5)], &[id(2, 5), id(2, 6), id(2, 5)]) {
+        Ok(part) => (knows(part, 4), false),
         Err(fault) => (false, fault == PartFault::Memory),
     }
 }
 
 // Whether a copy was made that knows as many ids, or memory was lacking.
-fn is_copied(copy: Result<Records<&Refusing<Global>>, Memory>) -> (bool, bool) {
-    match copy {
-        Ok(copy) => {
-            let right = copy.known() == 24;
-            drop(copy);
-            (right, false)
-        }
+fn is_copied(records: &Records<&Refusing<Global>>) -> (bool, bool) {
+    match records.copy() {
+        Ok(copy) => (knows(copy, 24), false),
         Err(_) => (false, true),
     }
 }
 
 // Whether all records are listed, or memory was lacking.
-fn is_listed(live: Result<Vec<(Id, Mark, Bound), &Refusing<Global>>, Memory>) -> (bool, bool) {
-    match live {
-        Ok(live) => {
-            let right = live.len() == 12;
-            drop(live);
-            (right, false)
-        }
+fn is_listed(records: &Records<&Refusing<Global>>) -> (bool, bool) {
+    match records.live() {
+        Ok(live) => (live.len() == 12, false),
         Err(_) => (false, true),
     }
 }
 
 fn is_read(records: &Records<&Refusing<Global>>, reading: Reading) -> (bool, bool) {
     match reading {
-        Reading::Part => {
-            is_made(records.part(&[id(1, 6), id(1, 5)], &[id(2, 5), id(2, 6), id(2, 5)]))
-        }
-        Reading::Copy => is_copied(records.copy()),
-        Reading::Live => is_listed(records.live()),
+        Reading::Part => is_part(records),
+        Reading::Copy => is_copied(records),
+        Reading::Live => is_listed(records),
     }
 }
 
-fn read_refused(
-    heap: &Refusing<Global>,
-    number: u64,
-    records: &Records<&Refusing<Global>>,
-    reading: Reading,
-) -> Answer {
+/// What a value that is made of what is held comes to while a request is refused.
+pub fn read_refused(heap: &Refusing<Global>, number: u64, reading: Reading) -> Answer {
+    let mut records = Records::new(heap);
+    let filled = fill(&mut records, 1, 12);
     heap.refuse(number);
-    let (right, memory) = is_read(records, reading);
-    judged(heap, right, memory && records.known() == 24)
-}
-
-fn readings(rt: &impl Abort, alloc: Global, reading: Reading) -> Result<u64, Fail> {
-    refuse_each(rt, alloc, |heap, number| {
-        let records = filled(heap, 1, 12)?;
-        let answer = read_refused(heap, number, &records, reading);
-        drop(records);
-        Ok(answer)
-    })
+    let (right, memory) = is_read(&records, reading);
+    let unchanged = memory && records.known() == 24;
+    drop(records);
+    judged(heap, right, unchanged).only_if(filled)
 }
 
 #[test]
-fn readings_of_records(rt: HostRuntime) -> Result<(), Fail> {
+fn readings_of_records(rt: HostRuntime) {
     for (reading, least) in [(Reading::Part, 3), (Reading::Copy, 3), (Reading::Live, 2)] {
-        let requests = readings(&rt, rt.alloc(), reading)?;
-        assert!(rt; requests >= least);
+        assert!(rt; requests(&rt, rt.alloc(), Call::Reading(reading)) >= least);
     }
-    Ok(())
 }
 
-// What an id is printed as after a blank while a request is refused.
-fn print_refused(heap: &Refusing<Global>, number: u64) -> Result<Answer, Fail> {
+/// What an id is printed as after a blank while a request is refused.
+pub fn print_refused(heap: &Refusing<Global>, number: u64) -> Answer {
     let mut text = Vec::new(heap);
-    text.push(b' ')?;
+    let begun = text.push(b' ').is_ok();
     heap.refuse(number);
     let printed = id(64, 65_535).print(&mut text).is_ok();
     let right = printed && text.as_slice() == b" 64.65535".as_slice();
     let unchanged = !printed && text.as_slice() == b" ".as_slice();
-    Ok(judged(heap, right, unchanged))
+    judged(heap, right, unchanged).only_if(begun)
 }
 
 #[test]
-fn texts_of_ids(rt: HostRuntime) -> Result<(), Fail> {
-    let requests = refuse_each(&rt, rt.alloc(), |heap, number| print_refused(heap, number))?;
-    assert!(rt; requests > 1);
-    Ok(())
+fn texts_of_ids(rt: HostRuntime) {
+    assert!(rt; requests(&rt, rt.alloc(), Call::Print) > 1);
 }

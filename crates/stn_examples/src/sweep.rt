@@ -1,10 +1,12 @@
+use crate::conflict::cycle_refused;
+use crate::readers::{domain_refused, plan_refused};
+use crate::records::{Change, Reading, change_refused, print_refused, read_refused, take_refused};
 use std::alloc::Global;
 use std::process::Abort;
-use std::test::Fail;
 use stn_refusing::Refusing;
 
 /// What a call answered, one of whose requests for memory may have been refused.
-#[derive(Clone, Copy, Debug, PartialEq, Eq)]
+#[derive(Clone, Copy)]
 pub enum Answer {
     /// No request was refused, and the answer and what it left are right.
     Right,
@@ -12,6 +14,13 @@ pub enum Answer {
     Memory,
     /// Anything else.
     Wrong,
+}
+
+impl Answer {
+    /// This answer where what else was looked at is right too.
+    pub fn only_if(self, right: bool) -> Answer {
+        if right { self } else { Answer::Wrong }
+    }
 }
 
 /// What a call answered that has just returned: `right` says that its answer and what it left are those of a call with
@@ -26,22 +35,47 @@ pub fn judged(heap: &Refusing<Global>, right: bool, unchanged: bool) -> Answer {
     }
 }
 
-/// Has each request for memory of a call refused in turn, and gives how many there are. `call` is handed an allocator that
-/// refuses nothing yet and the number of the request; it asks for the refusal right before the call that is looked at.
-pub fn refuse_each<F: Fn(&Refusing<Global>, u64) -> Result<Answer, Fail>>(
-    rt: &impl Abort,
-    alloc: Global,
-    call: F,
-) -> Result<u64, Fail>
-    requires { F.IsAlwaysCallable call }
-{
+/// A call each of whose requests for memory is refused in turn.
+#[derive(Clone, Copy)]
+pub enum Call {
+    Cycle,
+    Domain,
+    Plan,
+    Change(Change),
+    Take,
+    Reading(Reading),
+    Print,
+}
+
+// What the call answers while the request of this number is refused. The allocator refuses nothing yet: each of these functions
+// asks for the refusal right before the call that is looked at.
+fn answer_with(heap: &Refusing<Global>, number: u64, call: Call) -> Answer {
+    match call {
+        Call::Cycle => cycle_refused(heap, number),
+        Call::Domain => domain_refused(heap, number),
+        Call::Plan => plan_refused(heap, number),
+        Call::Change(change) => change_refused(heap, number, change),
+        Call::Take => take_refused(heap, number),
+        Call::Reading(reading) => read_refused(heap, number, reading),
+        Call::Print => print_refused(heap, number),
+    }
+}
+
+fn answer_of(alloc: Global, number: u64, call: Call) -> Answer {
+    let heap = Refusing::new(alloc, 0);
+    let answer = answer_with(&heap, number, call);
+    drop(heap);
+    answer
+}
+
+/// Has each request for memory of a call refused in turn, and gives how many there are.
+pub fn requests(rt: &impl Abort, alloc: Global, call: Call) -> u64 {
     for number in 1..1000 {
-        let heap = Refusing::new(alloc, 0);
-        let answer = call(&heap, number)?;
-        if answer == Answer::Right {
-            return Ok(number);
+        match answer_of(alloc, number, call) {
+            Answer::Right => return number,
+            Answer::Memory => {}
+            Answer::Wrong => panic!(rt; "request {number}"),
         }
-        assert_eq!(rt; answer, Answer::Memory, "request {number}");
     }
     panic!(rt; "more than 999 requests");
 }
