@@ -1,5 +1,4 @@
 // What becomes of some bytes as a log or as a session.
-use anyhow::{Context, Error};
 use std::alloc::Global;
 use stn_device::Counted;
 use stn_lift::BaseFault;
@@ -19,7 +18,8 @@ pub enum Case {
     Refused(u8),
     /// A session ends within a frame.
     Unfinished,
-    /// What is held is not saved and loaded again as the same, or the pieces in which the bytes came make a difference.
+    /// What is held is not saved and loaded again as the same, the pieces in which the bytes came make a difference, or memory is
+    /// lacking.
     Broken,
 }
 
@@ -52,55 +52,81 @@ fn of_load(fault: LoadFault) -> Case {
     }
 }
 
-/// The log of a replica: all that it holds.
-pub fn saved(alloc: Global, replica: &Replica<Global>) -> Result<Vec<u8>, Error> {
+/// The log of a replica: all that it holds. None where there is no memory.
+pub fn saved(alloc: Global, replica: &Replica<Global>) -> Option<Vec<u8>> {
     let mut writer = Counted::new(Vec::new(alloc));
-    save(alloc, replica, &mut writer)?;
-    Ok(writer.into_inner())
+    let answer = save(alloc, replica, &mut writer);
+    let log = writer.into_inner();
+    if answer.is_ok() { Some(log) } else { None }
 }
 
-fn reported(alloc: Global, replica: &Replica<Global>) -> Result<Vec<u8>, Error> {
-    let mut report = Vec::new(alloc);
-    replica.report(&mut report)?;
-    Ok(report)
-}
-
-// Whether both report the same.
-fn reports_the_same(
-    alloc: Global,
-    one: &Replica<Global>,
-    other: &Replica<Global>,
-) -> Result<bool, Error> {
-    let first = reported(alloc, one)?;
-    let second = reported(alloc, other)?;
-    Ok(first == second)
-}
-
-/// Whether this log of a replica is loaded again, with the same report, and saved as the same bytes.
-pub fn is_kept(alloc: Global, replica: &Replica<Global>, log: &[u8]) -> Result<bool, Error> {
-    let site = Site::new(1).context("no site")?;
-    let mut reader = Counted::new(log);
-    match load(alloc, &mut reader, site) {
-        Ok(again) => {
-            let saved = saved(alloc, &again)?;
-            Ok(saved.as_slice() == log && reports_the_same(alloc, &again, replica)?)
-        }
-        Err(_) => Ok(false),
+/// Whether this is the log of a replica.
+pub fn is_log(alloc: Global, replica: &Replica<Global>, log: &[u8]) -> bool {
+    match saved(alloc, replica) {
+        Some(again) => again.as_slice() == log,
+        None => false,
     }
 }
 
-/// What became of some bytes, and the log of what the replica then holds.
+// Whether both report the same.
+fn reports_the_same(alloc: Global, one: &Replica<Global>, other: &Replica<Global>) -> bool {
+    let mut first = Vec::new(alloc);
+    let mut second = Vec::new(alloc);
+    let told = one.report(&mut first).is_ok() && other.report(&mut second).is_ok();
+    told && first == second
+}
+
+// Whether a replica, which is then let go of, has this log, and the report of another.
+fn is_again(alloc: Global, again: Replica<Global>, replica: &Replica<Global>, log: &[u8]) -> bool {
+    let right = is_log(alloc, &again, log) && reports_the_same(alloc, &again, replica);
+    drop(again);
+    right
+}
+
+/// Whether this log of a replica is loaded again, with the same report, and saved as the same bytes.
+pub fn is_kept(alloc: Global, replica: &Replica<Global>, log: &[u8]) -> bool {
+    let mut reader = Counted::new(log);
+    match load(alloc, &mut reader, Site::new(1).unwrap()) {
+        Ok(again) => is_again(alloc, again, replica, log),
+        Err(_) => false,
+    }
+}
+
+/// What became of some bytes, how many frames of a session were answered, and the log of what the replica then holds.
 #[derive(Drop)]
 pub struct Held {
     pub case: Case,
+    pub frames: u32,
     pub log: Vec<u8>,
 }
 
-fn held_by(alloc: Global, replica: &Replica<Global>) -> Result<Held, Error> {
-    let log = saved(alloc, replica)?;
-    let kept = is_kept(alloc, replica, &log)?;
-    let case = if kept { Case::Read } else { Case::Broken };
-    Ok(Held { case, log })
+// What a log is that was loaded, where this is saved of it.
+fn case_of(alloc: Global, replica: &Replica<Global>, log: &[u8]) -> Case {
+    if is_kept(alloc, replica, log) {
+        Case::Read
+    } else {
+        Case::Broken
+    }
+}
+
+fn held_by(alloc: Global, replica: &Replica<Global>) -> Held {
+    match saved(alloc, replica) {
+        Some(log) => Held {
+            case: case_of(alloc, replica, &log),
+            frames: 0,
+            log,
+        },
+        None => none_held(alloc, Case::Broken),
+    }
+}
+
+/// What became of bytes of which no replica is left.
+pub fn none_held(alloc: Global, case: Case) -> Held {
+    Held {
+        case,
+        frames: 0,
+        log: Vec::new(alloc),
+    }
 }
 
 /// Hands on at most so many bytes a call.
@@ -114,15 +140,15 @@ pub fn piecewise(bytes: &[u8], piece: usize) -> PieceReader<'_> {
 }
 
 // A log that comes in pieces.
-fn loaded(alloc: Global, bytes: &[u8], piece: usize) -> Result<Held, Error> {
-    let site = Site::new(1).context("no site")?;
+fn loaded(alloc: Global, bytes: &[u8], piece: usize) -> Held {
     let mut reader = Counted::new(piecewise(bytes, piece));
-    match load(alloc, &mut reader, site) {
-        Ok(replica) => held_by(alloc, &replica),
-        Err(fault) => Ok(Held {
-            case: of_load(fault),
-            log: Vec::new(alloc),
-        }),
+    match load(alloc, &mut reader, Site::new(1).unwrap()) {
+        Ok(replica) => {
+            let held = held_by(alloc, &replica);
+            drop(replica);
+            held
+        }
+        Err(fault) => none_held(alloc, of_load(fault)),
     }
 }
 
@@ -131,11 +157,11 @@ fn is_same(one: &Held, other: &Held) -> bool {
 }
 
 /// What the bytes are as a log, whole and byte by byte.
-pub fn of_log(alloc: Global, bytes: &[u8]) -> Result<Held, Error> {
-    let mut whole = loaded(alloc, bytes, 4096)?;
-    let cut = loaded(alloc, bytes, 1)?;
+pub fn of_log(alloc: Global, bytes: &[u8]) -> Held {
+    let mut whole = loaded(alloc, bytes, 4096);
+    let cut = loaded(alloc, bytes, 1);
     if !is_same(&whole, &cut) {
         whole.case = Case::Broken;
     }
-    Ok(whole)
+    whole
 }

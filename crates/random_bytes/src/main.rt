@@ -10,35 +10,64 @@ mod random;
 mod session;
 mod tally;
 
-use crate::tally::{print_logs, print_sessions};
+use crate::tally::{Kind, print_cases};
 use anyhow::{Context, Error};
-use std::env;
+use std::alloc::AllocError;
+use std::{env, io};
 
-fn read_frames(rt: &HostRuntime) -> Result<Vec<Vec<u8>>, Error> {
-    let mut frames = Vec::new(rt.alloc());
-    for line in rt.lines(rt.alloc()) {
-        let line = line?;
-        let digits = line.split(' ').last().context("no bytes")?;
-        let bytes = hex::decode(rt.alloc(), digits)?;
-        frames.push(bytes)?;
-    }
-    Ok(frames)
+fn append_frame(line: &str, frames: &mut Vec<Vec<u8>>) -> Result<(), Error> {
+    let (_, digits) = line.split_once(' ').context("no bytes")?;
+    let bytes = hex::decode(*frames.allocator(), digits)?;
+    Ok(frames.push(bytes)?)
 }
 
-// The frames that a log may have, HELLO and RECORDS: of the old version alone, or of either.
-fn of_logs(rt: &HostRuntime, frames: &[Vec<u8>], old_alone: bool) -> Result<Vec<Vec<u8>>, Error> {
-    let mut some = Vec::new(rt.alloc());
+// Appends the frames of the input, of which there is at least one.
+fn read_frames(rt: &HostRuntime, frames: &mut Vec<Vec<u8>>) -> Result<(), Error> {
+    for line in rt.lines(rt.alloc()) {
+        append_frame(&line?, frames)?;
+    }
+    frames.first().context("no frame")?;
+    Ok(())
+}
+
+// Whether a log may have the frame, HELLO or RECORDS: of the old version alone, or of either.
+fn is_of_logs(frame: &[u8], old_alone: bool) -> bool {
+    match frame.get(4) {
+        Some(1 | 2) => true,
+        Some(7 | 8 | 16) => !old_alone,
+        _ => false,
+    }
+}
+
+fn append_of_logs(
+    frames: &[Vec<u8>],
+    old_alone: bool,
+    some: &mut Vec<Vec<u8>>,
+) -> Result<(), AllocError> {
     for frame in frames {
-        let wanted = match frame.get(4) {
-            Some(1 | 2) => true,
-            Some(7 | 8 | 16) => !old_alone,
-            _ => false,
-        };
-        if wanted {
-            some.push(Vec::from_slice(rt.alloc(), frame)?)?;
+        if is_of_logs(frame, old_alone) {
+            some.push(Vec::from_slice(*some.allocator(), frame)?)?;
         }
     }
-    Ok(some)
+    Ok(())
+}
+
+fn print_logs(
+    rt: &HostRuntime,
+    count: u32,
+    name: &str,
+    frames: &[Vec<u8>],
+    old_alone: bool,
+) -> io::Result<()> {
+    let mut some = Vec::new(rt.alloc());
+    append_of_logs(frames, old_alone, &mut some)?;
+    print_cases(rt, Kind::Log, count, name, &some)
+}
+
+fn print_all(rt: &HostRuntime, count: u32, frames: &[Vec<u8>]) -> io::Result<()> {
+    print_cases(rt, Kind::Session, count, "sessions", frames)?;
+    print_logs(rt, count, "logs", frames, false)?;
+    print_logs(rt, count, "old logs", frames, true)
 }
 
 // How many cases of each kind are wanted.
@@ -49,10 +78,7 @@ fn wanted(rt: &HostRuntime) -> Result<u32, Error> {
 
 fn main(rt: HostRuntime) -> Result<(), Error> {
     let count = wanted(&rt)?;
-    let frames = read_frames(&rt)?;
-    print_sessions(&rt, count, &frames)?;
-    let of_either = of_logs(&rt, &frames, false)?;
-    print_logs(&rt, count, "random logs", &of_either)?;
-    let old = of_logs(&rt, &frames, true)?;
-    print_logs(&rt, count, "random old logs", &old)
+    let mut frames = Vec::new(rt.alloc());
+    read_frames(&rt, &mut frames)?;
+    Ok(print_all(&rt, count, &frames)?)
 }

@@ -1,8 +1,7 @@
 // Random bytes, and random changes to good ones.
-use anyhow::{Context, Error};
 use rand_core::Rng;
 use rand_pcg::Pcg32;
-use std::alloc::Global;
+use std::alloc::AllocError;
 
 // A number below a limit.
 fn below(random: &mut Pcg32, limit: usize) -> usize {
@@ -15,78 +14,97 @@ fn any_byte(random: &mut Pcg32) -> u8 {
 }
 
 // Up to 39 random bytes.
-fn noise(alloc: Global, random: &mut Pcg32) -> Result<Vec<u8>, Error> {
-    let mut bytes = Vec::new(alloc);
+fn append_noise(random: &mut Pcg32, bytes: &mut Vec<u8>) -> Result<(), AllocError> {
     for _ in 0..below(random, 40) {
         bytes.push(any_byte(random))?;
     }
-    Ok(bytes)
-}
-
-// Appends one of the frames.
-fn append_any(random: &mut Pcg32, frames: &[Vec<u8>], bytes: &mut Vec<u8>) -> Result<(), Error> {
-    let chosen = below(random, frames.len());
-    let frame = frames.get(chosen).context("no frame")?;
-    bytes.extend_from_slice(frame)?;
     Ok(())
 }
 
-// The first frame in seven of eight cases, and up to five frames after it.
-fn good(alloc: Global, random: &mut Pcg32, frames: &[Vec<u8>]) -> Result<Vec<u8>, Error> {
-    let first = frames.first().context("no frame")?;
-    let mut bytes = Vec::new(alloc);
-    if below(random, 8) != 0 {
-        bytes.extend_from_slice(first)?;
+// One of the frames; no bytes where there are none.
+fn any_frame<'a>(random: &mut Pcg32, frames: &'a [Vec<u8>]) -> &'a [u8] {
+    match frames.get(below(random, frames.len())) {
+        Some(frame) => frame,
+        None => b"",
     }
+}
+
+// The first frame in seven of eight cases, else no bytes.
+fn first_frame<'a>(random: &mut Pcg32, frames: &'a [Vec<u8>]) -> &'a [u8] {
+    match frames.first() {
+        Some(frame) if below(random, 8) != 0 => frame,
+        _ => b"",
+    }
+}
+
+// Mostly the first frame, and up to five frames after it.
+fn append_good(
+    random: &mut Pcg32,
+    frames: &[Vec<u8>],
+    bytes: &mut Vec<u8>,
+) -> Result<(), AllocError> {
+    bytes.extend_from_slice(first_frame(random, frames))?;
     for _ in 0..below(random, 6) {
-        append_any(random, frames, &mut bytes)?;
+        bytes.extend_from_slice(any_frame(random, frames))?;
     }
-    Ok(bytes)
+    Ok(())
 }
 
-fn spliced(
-    alloc: Global,
+fn append_spliced(
     front: &[u8],
-    value: Option<u8>,
+    value: &[u8],
     behind: &[u8],
-) -> Result<Vec<u8>, Error> {
-    let mut bytes = Vec::from_slice(alloc, front)?;
-    if let Some(value) = value {
-        bytes.push(value)?;
-    }
-    bytes.extend_from_slice(behind)?;
-    Ok(bytes)
+    bytes: &mut Vec<u8>,
+) -> Result<(), AllocError> {
+    bytes.extend_from_slice(front)?;
+    bytes.extend_from_slice(value)?;
+    bytes.extend_from_slice(behind)
 }
 
-// The bytes with one changed, left out or put in, or cut.
-fn change(alloc: Global, random: &mut Pcg32, bytes: &[u8]) -> Result<Vec<u8>, Error> {
+// Appends the bytes with one changed, left out or put in, or cut.
+fn append_changed(
+    random: &mut Pcg32,
+    bytes: &[u8],
+    changed: &mut Vec<u8>,
+) -> Result<(), AllocError> {
     let kind = below(random, 4);
     let place = below(random, bytes.len());
-    let value = any_byte(random);
+    let value = [any_byte(random)];
     let (front, rest) = bytes.split_at(place.min(bytes.len()));
     let behind = rest.get(1..).unwrap_or(b"");
     match kind {
-        0 => spliced(alloc, front, Some(value), behind),
-        1 => spliced(alloc, front, None, behind),
-        2 => spliced(alloc, front, Some(value), rest),
-        _ => spliced(alloc, front, None, b""),
+        0 => append_spliced(front, &value, behind, changed),
+        1 => append_spliced(front, b"", behind, changed),
+        2 => append_spliced(front, &value, rest, changed),
+        _ => changed.extend_from_slice(front),
     }
 }
 
-// Good frames with up to three changes.
-fn changed(alloc: Global, random: &mut Pcg32, frames: &[Vec<u8>]) -> Result<Vec<u8>, Error> {
-    let mut bytes = good(alloc, random, frames)?;
+fn change(random: &mut Pcg32, bytes: &mut Vec<u8>) -> Result<(), AllocError> {
+    let mut changed = Vec::new(*bytes.allocator());
+    let answer = append_changed(random, bytes, &mut changed);
+    *bytes = changed;
+    answer
+}
+
+// Up to three changes.
+fn change_some(random: &mut Pcg32, bytes: &mut Vec<u8>) -> Result<(), AllocError> {
     for _ in 0..below(random, 4) {
-        bytes = change(alloc, random, &bytes)?;
+        change(random, bytes)?;
     }
-    Ok(bytes)
+    Ok(())
 }
 
-/// Random bytes in one of 16 cases, else good frames with up to three changes.
-pub fn hostile(alloc: Global, random: &mut Pcg32, frames: &[Vec<u8>]) -> Result<Vec<u8>, Error> {
+/// Appends random bytes in one of 16 cases, else good frames with up to three changes.
+pub fn append_hostile(
+    random: &mut Pcg32,
+    frames: &[Vec<u8>],
+    bytes: &mut Vec<u8>,
+) -> Result<(), AllocError> {
     if below(random, 16) == 0 {
-        noise(alloc, random)
+        append_noise(random, bytes)
     } else {
-        changed(alloc, random, frames)
+        append_good(random, frames, bytes)?;
+        change_some(random, bytes)
     }
 }

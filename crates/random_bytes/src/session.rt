@@ -1,6 +1,5 @@
 // What becomes of some bytes as a session.
-use crate::case::{Case, Held, is_kept, piecewise, saved};
-use anyhow::{Context, Error};
+use crate::case::{Case, Held, is_kept, is_log, none_held, piecewise, saved};
 use std::alloc::Global;
 use std::rc::Rc;
 use stn_device::Counted;
@@ -16,10 +15,10 @@ struct Serving {
     replies: Vec<u8>,
 }
 
-fn new_replica(alloc: Global) -> Result<Replica<Global>, Error> {
-    let site = Site::new(1).context("no site")?;
-    let base = Rc::new(alloc, Base::bare(alloc, 1)?)?;
-    Ok(Replica::new(alloc, site, base)?)
+fn new_replica(alloc: Global) -> Option<Replica<Global>> {
+    let base = Base::bare(alloc, 1).ok()?;
+    let base = Rc::new(alloc, base).ok()?;
+    Replica::new(alloc, Site::new(1).unwrap(), base).ok()
 }
 
 fn served(alloc: Global, replica: &mut Replica<Global>, bytes: &[u8], piece: usize) -> Serving {
@@ -36,47 +35,88 @@ fn is_same(one: &Serving, other: &Serving) -> bool {
     one.answer == other.answer && one.replies.as_slice() == other.replies.as_slice()
 }
 
-// Whether a session that comes byte by byte is the same, and leaves the same log.
-fn is_cut(alloc: Global, bytes: &[u8], whole: &Serving, log: &[u8]) -> Result<bool, Error> {
-    let mut replica = new_replica(alloc)?;
-    let cut = served(alloc, &mut replica, bytes, 1);
-    Ok(is_same(&cut, whole) && saved(alloc, &replica)?.as_slice() == log)
+// Whether a session of this replica that comes byte by byte is the same, and leaves the same log.
+fn is_cut_of(
+    alloc: Global,
+    replica: &mut Replica<Global>,
+    bytes: &[u8],
+    whole: &Serving,
+    log: &[u8],
+) -> bool {
+    let cut = served(alloc, replica, bytes, 1);
+    is_same(&cut, whole) && is_log(alloc, replica, log)
 }
 
-fn of_end(end: End) -> Case {
-    match end {
-        End::Closed => Case::Read,
-        End::Cut => Case::Unfinished,
-        End::Refused(code) => Case::Refused(code),
+// The same of a new replica.
+fn is_cut(alloc: Global, bytes: &[u8], whole: &Serving, log: &[u8]) -> bool {
+    match new_replica(alloc) {
+        Some(mut replica) => {
+            let same = is_cut_of(alloc, &mut replica, bytes, whole, log);
+            drop(replica);
+            same
+        }
+        None => false,
     }
 }
 
-fn of_answer(answer: Result<Served, ServeFault>) -> (Case, u32) {
+fn of_answer(answer: Result<Served, ServeFault>) -> Case {
     match answer {
-        Ok(served) => (of_end(served.end), served.frames),
-        Err(_) => (Case::Broken, 0),
+        Ok(served) => match served.end {
+            End::Closed => Case::Read,
+            End::Cut => Case::Unfinished,
+            End::Refused(code) => Case::Refused(code),
+        },
+        Err(_) => Case::Broken,
     }
 }
 
-// What a replica holds after a session, where the session is the same byte by byte.
-fn held_after(
+fn frames_of(answer: Result<Served, ServeFault>) -> u32 {
+    match answer {
+        Ok(served) => served.frames,
+        Err(_) => 0,
+    }
+}
+
+// What a session came to, where it is the same byte by byte and the log that it left is kept.
+fn case_after(
     alloc: Global,
     replica: &Replica<Global>,
     bytes: &[u8],
     whole: &Serving,
-) -> Result<Held, Error> {
-    let log = saved(alloc, replica)?;
-    let right = is_kept(alloc, replica, &log)? && is_cut(alloc, bytes, whole, &log)?;
-    let (case, _) = of_answer(whole.answer);
-    let case = if right { case } else { Case::Broken };
-    Ok(Held { case, log })
+    log: &[u8],
+) -> Case {
+    if is_kept(alloc, replica, log) && is_cut(alloc, bytes, whole, log) {
+        of_answer(whole.answer)
+    } else {
+        Case::Broken
+    }
 }
 
-/// What a session came to, whole and byte by byte, and how many frames it answered.
-pub fn of_session(alloc: Global, bytes: &[u8]) -> Result<(Held, u32), Error> {
-    let mut replica = new_replica(alloc)?;
-    let whole = served(alloc, &mut replica, bytes, 4096);
-    let held = held_after(alloc, &replica, bytes, &whole)?;
-    let (_, frames) = of_answer(whole.answer);
-    Ok((held, frames))
+fn held_after(alloc: Global, replica: &Replica<Global>, bytes: &[u8], whole: &Serving) -> Held {
+    match saved(alloc, replica) {
+        Some(log) => Held {
+            case: case_after(alloc, replica, bytes, whole, &log),
+            frames: frames_of(whole.answer),
+            log,
+        },
+        None => none_held(alloc, Case::Broken),
+    }
+}
+
+// What a replica holds after a session, and what the session came to.
+fn held_of(alloc: Global, replica: &mut Replica<Global>, bytes: &[u8]) -> Held {
+    let whole = served(alloc, replica, bytes, 4096);
+    held_after(alloc, replica, bytes, &whole)
+}
+
+/// What a session came to, whole and byte by byte.
+pub fn of_session(alloc: Global, bytes: &[u8]) -> Held {
+    match new_replica(alloc) {
+        Some(mut replica) => {
+            let held = held_of(alloc, &mut replica, bytes);
+            drop(replica);
+            held
+        }
+        None => none_held(alloc, Case::Broken),
+    }
 }

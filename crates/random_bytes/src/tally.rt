@@ -1,11 +1,11 @@
 // How often each case came.
 use crate::case::{Case, Held, of_log};
-use crate::random::hostile;
+use crate::random::append_hostile;
 use crate::session::of_session;
-use anyhow::Error;
 use md5::{Digest, Md5};
 use rand_pcg::Pcg32;
-use std::alloc::Global;
+use std::alloc::{AllocError, Global};
+use std::io;
 
 // How often each case came, and how many frames were answered.
 #[derive(Clone, Copy)]
@@ -18,7 +18,8 @@ struct Tally {
 }
 
 impl Tally {
-    fn count(&mut self, case: Case) {
+    fn count(&mut self, case: Case, frames: u32) {
+        self.frames = self.frames.saturating_add(u64::from(frames));
         match case {
             Case::Read => self.read = self.read.saturating_add(1),
             Case::Unfinished => self.unfinished = self.unfinished.saturating_add(1),
@@ -39,7 +40,7 @@ const NONE: Tally = Tally {
     refused: [0; 256],
 };
 
-fn print_tally(rt: &HostRuntime, tally: &Tally) -> Result<(), Error> {
+fn print_tally(rt: &HostRuntime, tally: &Tally) -> io::Result<()> {
     print!(rt;
         "{} read, {} unfinished, {} broken",
         tally.read, tally.unfinished, tally.broken
@@ -52,72 +53,84 @@ fn print_tally(rt: &HostRuntime, tally: &Tally) -> Result<(), Error> {
     Ok(())
 }
 
-// One session more.
-fn count_session(
-    alloc: Global,
-    random: &mut Pcg32,
-    frames: &[Vec<u8>],
-    tally: &mut Tally,
-    left: &mut Md5,
-) -> Result<(), Error> {
-    let bytes = hostile(alloc, random, frames)?;
-    let (held, answered) = of_session(alloc, &bytes)?;
-    let Held { case, log } = held;
-    tally.count(case);
-    tally.frames = tally.frames.saturating_add(u64::from(answered));
-    left.update(log.as_slice());
-    Ok(())
+/// What random bytes are taken for.
+#[derive(Clone, Copy)]
+pub enum Kind {
+    Session,
+    Log,
 }
 
-// One log more.
-fn count_log(
-    alloc: Global,
-    random: &mut Pcg32,
-    frames: &[Vec<u8>],
-    tally: &mut Tally,
-    left: &mut Md5,
-) -> Result<(), Error> {
-    let bytes = hostile(alloc, random, frames)?;
-    let Held { case, log } = of_log(alloc, &bytes)?;
-    tally.count(case);
-    left.update(log.as_slice());
-    Ok(())
-}
-
-fn print_digest(rt: &HostRuntime, left: Md5) -> Result<(), Error> {
-    let digest = hex::encode(rt.alloc(), left.finalize())?;
-    println!(rt; ", left {digest}")?;
-    Ok(())
-}
-
-/// What became of so many sessions, how many frames they answered, and the digest of what they left.
-pub fn print_sessions(rt: &HostRuntime, count: u32, frames: &[Vec<u8>]) -> Result<(), Error> {
-    let mut random = Pcg32::new(42, 54);
-    let mut tally = NONE;
-    let mut left = Md5::new();
-    for _ in 0..count {
-        count_session(rt.alloc(), &mut random, frames, &mut tally, &mut left)?;
+fn random_for(kind: Kind) -> Pcg32 {
+    match kind {
+        Kind::Session => Pcg32::new(42, 54),
+        Kind::Log => Pcg32::new(43, 54),
     }
-    print!(rt; "{count} random sessions: ")?;
-    print_tally(rt, &tally)?;
-    print!(rt; ", {} frames", tally.frames)?;
-    print_digest(rt, left)
 }
 
-/// What became of so many logs, and the digest of what was read.
-pub fn print_logs(
+fn held_of(alloc: Global, kind: Kind, bytes: &[u8]) -> Held {
+    match kind {
+        Kind::Session => of_session(alloc, bytes),
+        Kind::Log => of_log(alloc, bytes),
+    }
+}
+
+// Counts a case, and adds the log to those that were left.
+fn count_case(alloc: Global, kind: Kind, bytes: &[u8], tally: &mut Tally, left: &mut Md5) {
+    let held = held_of(alloc, kind, bytes);
+    tally.count(held.case, held.frames);
+    left.update(held.log.as_slice());
+}
+
+// One case more.
+fn try_one(
+    alloc: Global,
+    kind: Kind,
+    random: &mut Pcg32,
+    frames: &[Vec<u8>],
+    tally: &mut Tally,
+    left: &mut Md5,
+) -> Result<(), AllocError> {
+    let mut bytes = Vec::new(alloc);
+    append_hostile(random, frames, &mut bytes)?;
+    count_case(alloc, kind, &bytes, tally, left);
+    Ok(())
+}
+
+fn try_all(
+    alloc: Global,
+    kind: Kind,
+    count: u32,
+    frames: &[Vec<u8>],
+    tally: &mut Tally,
+    left: &mut Md5,
+) -> Result<(), AllocError> {
+    let mut random = random_for(kind);
+    for _ in 0..count {
+        try_one(alloc, kind, &mut random, frames, tally, left)?;
+    }
+    Ok(())
+}
+
+fn print_digest(rt: &HostRuntime, left: Md5) -> io::Result<()> {
+    let digest = hex::encode(rt.alloc(), left.finalize())?;
+    println!(rt; ", left {digest}")
+}
+
+/// What became of so many cases, how many frames the sessions answered, and the digest of what was left.
+pub fn print_cases(
     rt: &HostRuntime,
+    kind: Kind,
     count: u32,
     name: &str,
     frames: &[Vec<u8>],
-) -> Result<(), Error> {
-    let mut random = Pcg32::new(43, 54);
+) -> io::Result<()> {
     let mut tally = NONE;
     let mut left = Md5::new();
-    for _ in 0..count {
-        count_log(rt.alloc(), &mut random, frames, &mut tally, &mut left)?;
-    }
-    print!(rt; "{count} {name}: ")?;
+    try_all(rt.alloc(), kind, count, frames, &mut tally, &mut left)?;
+    print!(rt; "{count} random {name}: ")?;
     print_tally(rt, &tally)?;
+    if matches!(kind, Kind::Session) {
+        print!(rt; ", {} frames", tally.frames)?;
+    }
     print_digest(rt, left)
 }
