@@ -73,25 +73,45 @@ fn says(worked: &Worked, outcome: &Outcome, fault: RunFault) -> bool {
     outcome.answer == Err(fault) && worked.text.starts_with(&outcome.text)
 }
 
-// Whether each call of one kind, refused in turn, is answered with its fault, and the script is run as ever where no call
-// is left to be refused. A request for memory that is made in advance may be refused without harm: then all is as ever.
-fn each_is_answered<F: Fn(u64) -> Trial>(
-    alloc: Global,
-    worked: &Worked,
-    fault: RunFault,
-    trial: F,
-) -> bool
-    requires { F.IsAlwaysCallable trial }
-{
+// The run that is answered with this fault, where the call of this number is refused.
+fn trial_of(fault: RunFault, number: u64) -> Trial {
+    match fault {
+        RunFault::Memory => Trial {
+            memory: number,
+            ..WORKS
+        },
+        RunFault::Read => Trial {
+            read: number,
+            ..WORKS
+        },
+        RunFault::Write => Trial {
+            write: number,
+            ..WORKS
+        },
+        RunFault::Bound => WORKS,
+    }
+}
+
+// Whether the run is answered as it must be; none where a call was refused and it is so, since then further calls are left.
+// A request for memory that is made in advance may be refused without harm: then all is as ever.
+fn judged(worked: &Worked, outcome: &Outcome, fault: RunFault) -> Option<bool> {
+    let right = is_right(worked, outcome);
+    if !outcome.refused {
+        Some(right)
+    } else if says(worked, outcome, fault) || fault == RunFault::Memory && right {
+        None
+    } else {
+        Some(false)
+    }
+}
+
+// Whether each call that is answered with this fault, refused in turn, is answered so, and the script is run as ever where no
+// call is left to be refused.
+fn each_is_answered(alloc: Global, worked: &Worked, fault: RunFault) -> bool {
     for number in 1..MOST_CALLS {
-        let outcome = attempt(alloc, worked.script, trial(number));
-        if !outcome.refused {
-            return is_right(worked, &outcome);
-        }
-        if !says(worked, &outcome, fault)
-            && !(fault == RunFault::Memory && is_right(worked, &outcome))
-        {
-            return false;
+        let outcome = attempt(alloc, worked.script, trial_of(fault, number));
+        if let Some(answered) = judged(worked, &outcome, fault) {
+            return answered;
         }
     }
     false
@@ -102,31 +122,7 @@ fn each_is_answered<F: Fn(u64) -> Trial>(
 pub fn answers_faults(alloc: Global, worked: &Worked) -> bool {
     let whole = Trial { piece: 1, ..WORKS };
     is_right(worked, &attempt(alloc, worked.script, whole))
-        && each_is_answered(
-            alloc,
-            worked,
-            RunFault::Memory,
-            |number| Trial {
-                memory: number,
-                ..WORKS
-            },
-        )
-        && each_is_answered(
-            alloc,
-            worked,
-            RunFault::Read,
-            |number| Trial {
-                read: number,
-                ..WORKS
-            },
-        )
-        && each_is_answered(
-            alloc,
-            worked,
-            RunFault::Write,
-            |number| Trial {
-                write: number,
-                ..WORKS
-            },
-        )
+        && each_is_answered(alloc, worked, RunFault::Memory)
+        && each_is_answered(alloc, worked, RunFault::Read)
+        && each_is_answered(alloc, worked, RunFault::Write)
 }

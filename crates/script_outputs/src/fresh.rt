@@ -1,5 +1,5 @@
 use crate::output::output_of;
-use std::alloc::Global;
+use std::alloc::{AllocError, Global};
 use std::io;
 
 // Whether both outputs begin with that of the script alone, and then are one text that is not empty, before
@@ -14,19 +14,30 @@ fn are_same(before: &[u8], ours: &[u8], theirs: &[u8]) -> bool {
     }
 }
 
+fn print_same(alloc: Global, script: &str, ours: &str, theirs: &str) -> bool {
+    are_same(
+        &output_of(alloc, script),
+        &output_of(alloc, ours),
+        &output_of(alloc, theirs),
+    )
+}
+
 // Whether a site reports the same after the script as site 64, of which the script makes no use, once that has
 // merged it.
-fn is_same_at(alloc: Global, script: &str, site: u8) -> io::Result<bool> {
+fn is_same_at(alloc: Global, script: &str, site: u8) -> Result<bool, AllocError> {
     let ours = format!(in alloc; "{script}{site} report\n")?;
     let theirs = format!(in alloc; "{script}64 merge {site}\n64 report\n")?;
-    match (
-        output_of(alloc, script),
-        output_of(alloc, &ours),
-        output_of(alloc, &theirs),
-    ) {
-        (Some(before), Some(one), Some(other)) => Ok(are_same(&before, &one, &other)),
-        _ => Ok(false),
+    Ok(print_same(alloc, script, &ours, &theirs))
+}
+
+// Whether the first so many sites do so.
+fn are_same_at(alloc: Global, script: &str, sites: u8) -> Result<bool, AllocError> {
+    for before in 0..sites {
+        if !is_same_at(alloc, script, before.saturating_add(1))? {
+            return Ok(false);
+        }
     }
+    Ok(true)
 }
 
 // The number of sites of a line `sites <number>`, and 0 of any other.
@@ -37,46 +48,62 @@ fn sites_of(line: &str) -> u8 {
     }
 }
 
-// Appends a line of a script: so many times `<command>`, of a line `* <number> <command>`, else the line itself.
-fn append_line(script: &mut String, line: &str) -> io::Result<()> {
-    let (count, command) = match line.strip_prefix("* ") {
-        Some(repeated) => repeated.split_once(" ").unwrap_or(("0", "")),
-        None => ("1", line),
-    };
-    for _ in 0..count.parse::<u16>().unwrap_or(0) {
+fn append_often(script: &mut String, count: u16, command: &str) -> Result<(), AllocError> {
+    for _ in 0..count {
         script.push_str(command)?;
-        script.push_str("\n")?;
+        script.push('\n')?;
     }
     Ok(())
 }
 
-// What is printed of a script with a heading of two lines.
-fn verdict(alloc: Global, name: &str, lines: &[&str]) -> io::Result<String> {
-    if lines.len() < 2 {
-        return Ok(format!(in alloc; "{name} has no heading")?);
-    }
-    let sites = sites_of(lines[1]);
-    let mut script = format!(in alloc; "{}\nsites 64\n", lines[0])?;
-    let mut same = 0u32;
-    for place in 1..lines.len() {
-        if place > 1 {
-            append_line(&mut script, lines[place])?;
+// Appends a line of a script: so many times `<command>`, of a line `* <number> <command>`, else the line itself.
+fn append_line(script: &mut String, line: &str) -> Result<(), AllocError> {
+    match line.strip_prefix("* ") {
+        Some(repeated) => {
+            let (count, command) = repeated.split_once(' ').unwrap_or(("0", ""));
+            append_often(script, count.parse::<u16>().unwrap_or(0), command)
         }
-        for before in 0..sites {
-            if !is_same_at(alloc, &script, before.saturating_add(1))? {
-                return Ok(format!(in alloc; "{name} line {} differs", place.saturating_add(1))?);
-            }
-            same = same.saturating_add(1);
-        }
+        None => append_often(script, 1, line),
     }
-    Ok(format!(in alloc; "{name} {same} same")?)
 }
 
-/// Compares the reports of a script, and prints how many were the same, or the first that was not.
-pub fn compare(rt: &HostRuntime, name: &str, script: &str) -> io::Result<()> {
-    let mut lines = Vec::new(rt.alloc());
-    for line in script.lines() {
-        lines.push(line)?;
+// The number of the first line of a text after which a site reports otherwise than a new one.
+fn find_difference(
+    script: &mut String,
+    text: &str,
+    sites: u8,
+) -> Result<Option<usize>, AllocError> {
+    let alloc = *script.allocator();
+    for (place, line) in text.lines().enumerate() {
+        append_line(script, if place == 1 { "sites 64" } else { line })?;
+        if place > 0 && !are_same_at(alloc, script, sites)? {
+            return Ok(Some(place.saturating_add(1)));
+        }
     }
-    println!(rt; "{}", verdict(rt.alloc(), name, &lines)?)
+    Ok(None)
+}
+
+fn difference(alloc: Global, text: &str, sites: u8) -> Result<Option<usize>, AllocError> {
+    let mut script = String::new(alloc);
+    let place = find_difference(&mut script, text, sites);
+    drop(script);
+    place
+}
+
+fn print_compared(rt: &HostRuntime, name: &str, text: &str, sites: u8) -> io::Result<()> {
+    match difference(rt.alloc(), text, sites)? {
+        Some(line) => println!(rt; "{name} line {line} differs"),
+        None => {
+            let times = text.lines().count().saturating_sub(1);
+            println!(rt; "{name} {} same", times.saturating_mul(usize::from(sites)))
+        }
+    }
+}
+
+/// Compares the reports of a script with a heading of two lines, and prints how many were the same, or the first that was not.
+pub fn compare(rt: &HostRuntime, name: &str, text: &str) -> io::Result<()> {
+    match text.lines().nth(1) {
+        Some(line) => print_compared(rt, name, text, sites_of(line)),
+        None => println!(rt; "{name} has no heading"),
+    }
 }

@@ -21,9 +21,9 @@ mod ring;
 use crate::faults::{Worked, answers_faults};
 use crate::fresh::compare;
 use crate::ring::merge_in_ring;
-use std::io::{Read, Write};
+use std::io::Write;
 use std::{env, fs, io};
-use stn_exec::{Counted, run};
+use stn_exec::{Counted, Ran, RunFault, run};
 
 // The most bytes of a script, and of its output, of which every call is refused in turn.
 const MOST_SWEPT: usize = 1024;
@@ -42,35 +42,42 @@ fn print_sweep(rt: &HostRuntime, worked: &Worked) -> io::Result<()> {
     println!(rt; "{answered}")
 }
 
-// Runs a script of the input, prints what it prints and counts, and has its calls refused.
-fn run_row(rt: &HostRuntime, script: &[u8]) -> io::Result<()> {
-    let mut input = Counted::new(script);
-    let mut output = Counted::new(Vec::new(rt.alloc()));
-    let answer = run(rt.alloc(), &mut input, &mut output);
-    let text = output.into_inner();
-    io::writer(rt).write_all(&text)?;
+// Prints what a run counts, or why it ended.
+fn print_answer(rt: &HostRuntime, answer: Result<Ran, RunFault>) -> io::Result<()> {
     match answer {
-        Ok(ran) => {
-            println!(rt; "ran {} refused {}", ran.commands, ran.refused)?;
-            let worked = Worked {
-                script,
-                ran,
-                text: &text,
-            };
-            print_sweep(rt, &worked)
-        }
+        Ok(ran) => println!(rt; "ran {} refused {}", ran.commands, ran.refused),
         Err(fault) => println!(rt; "{fault}"),
     }
 }
 
-// Runs the script of a file, and prints what it prints and counts.
-fn run_one<R: Read + Drop>(rt: &HostRuntime, script: R) -> io::Result<()> {
-    let mut input = Counted::new(script);
-    let mut output = Counted::new(io::writer(rt));
-    match run(rt.alloc(), &mut input, &mut output) {
-        Ok(ran) => println!(rt; "ran {} refused {}", ran.commands, ran.refused),
-        Err(fault) => println!(rt; "{fault}"),
+// Prints what a script of the input printed and counted, and has its calls refused.
+fn print_run(
+    rt: &HostRuntime,
+    script: &[u8],
+    text: &[u8],
+    answer: Result<Ran, RunFault>,
+) -> io::Result<()> {
+    io::writer(rt).write_all(text)?;
+    print_answer(rt, answer)?;
+    match answer {
+        Ok(ran) => print_sweep(rt, &Worked { script, ran, text }),
+        Err(_) => Ok(()),
     }
+}
+
+fn run_row(rt: &HostRuntime, script: &[u8]) -> io::Result<()> {
+    let mut input = Counted::new(script);
+    let mut output = Counted::new(Vec::new(rt.alloc()));
+    let answer = run(rt.alloc(), &mut input, &mut output);
+    print_run(rt, script, &output.into_inner(), answer)
+}
+
+// Runs the script of a file, and prints what it prints and counts.
+fn run_one(rt: &HostRuntime, name: &str) -> io::Result<()> {
+    let mut input = Counted::new(fs::open(rt, name)?);
+    let mut output = Counted::new(io::writer(rt));
+    let answer = run(rt.alloc(), &mut input, &mut output);
+    print_answer(rt, answer)
 }
 
 // Does what a heading says, with the script after it.
@@ -126,7 +133,7 @@ fn main(rt: HostRuntime) -> io::Result<()> {
     run_input(&rt)?;
     for name in env::args(&rt)?.skip(1) {
         println!(rt; "= {name}")?;
-        run_one(&rt, fs::open(&rt, name.as_str())?)?;
+        run_one(&rt, name.as_str())?;
     }
     Ok(())
 }

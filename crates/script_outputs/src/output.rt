@@ -1,12 +1,14 @@
 use std::alloc::Global;
 use stn_exec::{Counted, run};
 
-/// What a script prints; none where it is not run to its end.
-pub fn output_of(alloc: Global, script: &str) -> Option<Vec<u8>> {
+/// What a script prints; nothing where it is not run to its end.
+pub fn output_of(alloc: Global, script: &str) -> Vec<u8> {
     let mut reader = Counted::new(script.as_bytes());
     let mut writer = Counted::new(Vec::new(alloc));
-    match run(alloc, &mut reader, &mut writer) {
-        Ok(_) => Some(writer.into_inner()),
-        Err(_) => None,
+    let answer = run(alloc, &mut reader, &mut writer);
+    let mut out = writer.into_inner();
+    if answer.is_err() {
+        out.clear();
     }
+    out
 }

@@ -1,75 +1,83 @@
 use crate::output::output_of;
-use std::alloc::Global;
+use std::alloc::{AllocError, Global};
 use std::io;
 use std::io::Write;
 
 const SITES: u8 = 64;
 
-// What further lines print after a script.
-fn printed_behind(alloc: Global, script: &str, lines: &str) -> io::Result<Option<Vec<u8>>> {
-    let longer = format!(in alloc; "{script}{lines}")?;
-    match (output_of(alloc, script), output_of(alloc, &longer)) {
-        (Some(before), Some(all)) => match all.strip_prefix(before.as_slice()) {
-            Some(more) => Ok(Some(more.to_vec(alloc)?)),
-            None => Ok(None),
-        },
-        _ => Ok(None),
-    }
-}
-
 // Each site's bound, and a bound of the last that it withdraws.
-fn opening(alloc: Global) -> io::Result<String> {
-    let mut script = format!(in alloc; "steps 2\nsites {SITES}\n")?;
-    for before in 0..SITES {
-        let site = before.saturating_add(1);
-        script.push_str(&format!(in alloc; "{site} add z s1 0.{site:03} *\n")?)?;
+fn append_opening(script: &mut String) -> Result<(), AllocError> {
+    write!(script, "steps 2\nsites {SITES}\n")?;
+    for site in 1..=SITES {
+        write!(script, "{site} add z s1 0.{site:03} *\n")?;
     }
-    script.push_str("64 add z s1 70.000 80.000\n64 withdraw 64.2\n")?;
-    Ok(script)
+    script.push_str("64 add z s1 70.000 80.000\n64 withdraw 64.2\n")
 }
 
 // Each site merges the one before it, and the first the last.
-fn round(alloc: Global) -> io::Result<String> {
-    let mut script = format!(in alloc; "1 merge {SITES}\n")?;
+fn append_round(script: &mut String) -> Result<(), AllocError> {
+    write!(script, "1 merge {SITES}\n")?;
     for before in 1..SITES {
-        let site = before.saturating_add(1);
-        script.push_str(&format!(in alloc; "{site} merge {before}\n")?)?;
+        write!(script, "{} merge {before}\n", before.saturating_add(1))?;
     }
-    Ok(script)
+    Ok(())
 }
 
-fn reports(alloc: Global) -> io::Result<String> {
-    let mut script = String::new(alloc);
-    for before in 0..SITES {
-        let site = before.saturating_add(1);
-        script.push_str(&format!(in alloc; "{site} report\n")?)?;
+fn append_reports(script: &mut String) -> Result<(), AllocError> {
+    for site in 1..=SITES {
+        write!(script, "{site} report\n")?;
     }
-    Ok(script)
+    Ok(())
 }
 
-// The script with as many rounds as there are until the reports stay.
-fn settled(alloc: Global, script: String) -> io::Result<String> {
-    let all = reports(alloc)?;
-    let once = round(alloc)?;
-    let mut longer = script;
-    let mut before = printed_behind(alloc, &longer, &all)?;
+// What a longer script prints after what the script prints that it begins with.
+fn printed_behind(alloc: Global, script: &str, longer: &str) -> Result<Vec<u8>, AllocError> {
+    let before = output_of(alloc, script);
+    let all = output_of(alloc, longer);
+    let more = all.strip_prefix(before.as_slice()).unwrap_or(&[]);
+    more.to_vec(alloc)
+}
+
+// What the first site reports after the script.
+fn first_report(alloc: Global, script: &str) -> Result<Vec<u8>, AllocError> {
+    let longer = format!(in alloc; "{script}1 report\n")?;
+    let report = printed_behind(alloc, script, &longer);
+    drop(longer);
+    report
+}
+
+// What all sites report after the script.
+fn all_reports(alloc: Global, script: &str) -> Result<Vec<u8>, AllocError> {
+    let mut longer = String::from_str(alloc, script)?;
+    let answer = append_reports(&mut longer);
+    let reports = printed_behind(alloc, script, &longer);
+    drop(longer);
+    answer?;
+    reports
+}
+
+// Appends a round to the script. Whether sites then report the same as before.
+fn is_settled(script: &mut String, reports: &mut Vec<u8>) -> Result<bool, AllocError> {
+    append_round(script)?;
+    let after = all_reports(*script.allocator(), script)?;
+    let same = after == *reports;
+    *reports = after;
+    Ok(same)
+}
+
+// Appends as many rounds as there are until the reports stay.
+fn settle(script: &mut String, reports: &mut Vec<u8>) -> Result<(), AllocError> {
     for _ in 0..SITES {
-        longer.push_str(&once)?;
-        let after = printed_behind(alloc, &longer, &all)?;
-        if after == before {
+        if is_settled(script, reports)? {
             break;
         }
-        before = after;
     }
-    Ok(longer)
+    Ok(())
 }
 
-// How many sites, from the first on, report this text after the script.
-fn alike(alloc: Global, script: &str, text: &[u8]) -> io::Result<u8> {
-    let Some(all) = printed_behind(alloc, script, &reports(alloc)?)? else {
-        return Ok(0);
-    };
-    let mut rest = all.as_slice();
+// How many sites, from the first on, report this text.
+fn alike(reports: &[u8], text: &[u8]) -> u8 {
+    let mut rest = reports;
     let mut count = 0u8;
     for _ in 0..SITES {
         if let Some(behind) = rest.strip_prefix(text) {
@@ -77,19 +85,32 @@ fn alike(alloc: Global, script: &str, text: &[u8]) -> io::Result<u8> {
             rest = behind;
         }
     }
-    Ok(count)
+    count
+}
+
+fn print_alike(rt: &HostRuntime, reports: &[u8], text: &[u8]) -> io::Result<()> {
+    if text.is_empty() {
+        return Ok(());
+    }
+    io::writer(rt).write_all(text)?;
+    println!(rt; "{} sites alike", alike(reports, text))
+}
+
+fn print_settled(rt: &HostRuntime, script: &mut String) -> io::Result<()> {
+    let mut reports = all_reports(rt.alloc(), script)?;
+    settle(script, &mut reports)?;
+    print_alike(rt, &reports, &first_report(rt.alloc(), script)?)
+}
+
+fn print_ring(rt: &HostRuntime, script: &mut String) -> io::Result<()> {
+    append_opening(script)?;
+    print_settled(rt, script)?;
+    script.push_str("33 add z s1 * 0.001\n")?;
+    print_settled(rt, script)
 }
 
 /// Lets the sites merge in a ring, and prints what they then report.
 pub fn merge_in_ring(rt: &HostRuntime) -> io::Result<()> {
-    let mut script = opening(rt.alloc())?;
-    for line in ["", "33 add z s1 * 0.001\n"] {
-        script.push_str(line)?;
-        script = settled(rt.alloc(), script)?;
-        if let Some(text) = printed_behind(rt.alloc(), &script, "1 report\n")? {
-            io::writer(rt).write_all(&text)?;
-            println!(rt; "{} sites alike", alike(rt.alloc(), &script, &text)?)?;
-        }
-    }
-    Ok(())
+    let mut script = String::new(rt.alloc());
+    print_ring(rt, &mut script)
 }
