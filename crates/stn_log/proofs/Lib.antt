@@ -1,3 +1,4 @@
+pub mod Answered
 pub mod Progress
 pub mod Takes
 pub mod OneLog

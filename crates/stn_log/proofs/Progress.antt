@@ -32,6 +32,12 @@ is_more most n lt = grind (arith, nat_tests)
 not_more : (most n : ℕ) → n ≤ most → ltb most n ≡ false
 not_more most n le = grind (arith, nat_tests)
 
+-- a read that failed
+pub stream_read : (fault : StreamFault) → of_stream fault ≡ Read → fault ≡ stream.Read
+stream_read stream.Read is = refl
+stream_read stream.Bound is = absurd cc
+stream_read stream.Memory is = absurd cc
+
 -- ---- one frame
 
 -- no frame is taken any more
@@ -131,8 +137,11 @@ module _ (before after : Option (List ℕ)) (log : Option LogSoFar) (rest : List
     came = p.came;
   }
 
-  pub used : count ≤ 16777216 + 1 → ConsumesAtMost before after (most_bytes + 1)
+  used : count ≤ 16777216 + 1 → ConsumesAtMost before after (most_bytes + 1)
   used few = (p.bytes, p.consumed, omega (arith, few, p.many))
+
+  pub used_within : count ≤ 16777216 → ConsumesAtMost before after (most_bytes + 1)
+  used_within few = used (omega (arith, few))
 
   -- the frame in front is taken
   pub next_taken : (frame : FrameContent) (later : List ℕ) → IsFrame frame → rest ≡ spelling frame ++ later → (now : ℕ) → now ≡ count → (next : LogSoFar) → taken log frame ≡ Ok next

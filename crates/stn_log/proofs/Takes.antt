@@ -6,7 +6,7 @@ use Rattle.stn_text.specs.Faults.{Fails}
 use Rattle.stn_lift.specs.PlanSource.{PlanSource, base_of, is_memory}
 use Rattle.stn_lift.specs.declared.fault.BaseFault.{BaseFault}
 use Rattle.stn_lift.specs.declared.fault.BaseFault.TheVariants as base
-use Rattle.stn_records.specs.Content.{Content, dispute_contents, join_contents, joined_contents}
+use Rattle.stn_records.specs.Content.{Content, no_content, dispute_contents, join_contents, joined_contents}
 use Rattle.stn_records.specs.ContentLaws.{contents_dispute, contents_undisputed}
 use Rattle.stn_replica.specs.Calls.{Leaves, took}
 use Rattle.stn_replica.specs.Held.{Held}
@@ -25,6 +25,11 @@ base_refused version source (base.Plan fault) is = ap (opened version) is
 base_refused version source (base.Lift fault) is = ap (opened version) is
 base_refused version source base.TooManySteps is = ap (opened version) is
 base_refused version source base.Memory is = tt
+
+-- a source with a base
+pub base_opens : (version : Version) (source base : PlanSource) (held : Held) → base_of source ≡ Ok base → held.source ≡ base → held.state ≡ no_content
+    → opened version (base_of source) ≡ Ok (so_far version (log_held held))
+base_opens version source base held given from empty = ap (opened version) given ∙ (λ i. Ok (so_far version (record { source = sym from i; state = sym empty i })))
 
 -- a state that is not taken
 named : (version : Version) (log : Log) (state : Content) (fault : ReplicaFault) → IsRefused (joined version (Some fault) log state) (of_replica fault)

@@ -39,7 +39,7 @@ impl From<WriteFault> for SaveFault {
 }
 
 /// Why a log was not loaded. The first frame with a fault decides. Lack of memory is always `Memory`, wherever it came.
-#[derive(Clone, Copy, Debug, PartialEq, Eq, Error)]
+#[derive(Clone, Copy, Debug, Error)]
 pub enum LoadFault {
     /// A call of the reader failed.
     #[error("a read failed")]
@@ -48,16 +48,16 @@ pub enum LoadFault {
     #[error("the log is too long")]
     Bound,
     /// The bytes of a frame have a fault.
-    #[error("{0}")]
+    #[error(transparent)]
     Frame(WireFault),
     /// The first frame is no HELLO, a later one no RECORDS of the same version, or the log ends before the first or within one.
     #[error("no log")]
     LogForm,
     /// The source has no base.
-    #[error("{0}")]
+    #[error(transparent)]
     Base(BaseFault),
     /// The records of a frame are not taken.
-    #[error("{0}")]
+    #[error(transparent)]
     Take(ReplicaFault),
     /// Memory ran out.
     #[error("out of memory")]

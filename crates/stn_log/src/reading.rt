@@ -53,7 +53,10 @@ pub fn load<R: Read, A: Allocator + Copy>(
     let mut log = None;
     let read = read_frames(alloc, reader, site, &mut frames, &mut log);
     drop(frames);
-    read?;
+    if let Err(fault) = read {
+        drop(log);
+        return Err(fault);
+    }
     match log {
         Some(opened) => Ok(opened.replica),
         None => Err(LoadFault::LogForm),
@@ -125,7 +128,8 @@ fn take<A: Allocator + Copy>(
     match log {
         Some(opened) => take_records(opened.version, &mut opened.replica, frame),
         None => {
-            *log = Some(open(alloc, site, frame)?);
+            let opened = open(alloc, site, frame)?;
+            drop(log.replace(opened));
             Ok(())
         }
     }
