@@ -10,13 +10,16 @@ use Rattle.stn_time.proofs.Each.{each_pushed}
 use Rattle.stn_lift.specs.PlanSource.{PlanSource}
 use Rattle.stn_records.specs.Content.{Content}
 use Rattle.stn_wire.specs.Frame.{FrameContent, content, same, records, text, spelling, IsFrame}
-use Rattle.stn_wire.specs.declared.frame.Frame.{Frame}
+use Rattle.stn_wire.specs.declared.frame.Frame.{Frame as WireFrame}
 use Rattle.stn_stream.specs.Held.{Stream}
-use Rattle.stn_stream.specs.Stream.{unread, pending}
-use Rattle.stn_session.specs.Exchange.{Stage, greeting, handing, telling, told, failed, Reception, at_stage, expecting, greeted_by, handed, told_by, staged, replied, IsWaiting, IsLost, IsReceived, seen}
+use Rattle.stn_stream.specs.declared.fault.FrameFault.{FrameFault}
+use Rattle.stn_stream.specs.declared.fault.StreamFault.{StreamFault}
+use Rattle.stn_stream.specs.declared.fault.StreamFault.TheVariants as stream
+use Rattle.stn_stream.specs.Stream.{unread, pending, Gives}
+use Rattle.stn_session.specs.Exchange.{Stage, greeting, handing, telling, told, failed, Reception, at_stage, expecting, greeted_by, handed, told_by, staged, replied, reply_fault, IsWaiting, IsLost, IsReceived, seen}
 use Rattle.stn_session.specs.Turns.{Finds, Came, Leads}
 use Rattle.stn_session.specs.declared.exchange.ReplyFault.{ReplyFault}
-use Rattle.stn_session.specs.declared.exchange.ReplyFault.TheVariants.{Memory}
+use Rattle.stn_session.specs.declared.exchange.ReplyFault.TheVariants.{Frame, Reply, Read, Memory}
 
 -- one frame more
 abbrev received : PlanSource → Reception → FrameContent → Reception
@@ -119,7 +122,7 @@ module _ (source : PlanSource) (first : Content) (before mid after : Option (Lis
   pub next_lost : {A : Type 0} → IsWaiting stage → (fault : ReplyFault) → Finds {A = A} old new mid after (Err fault) → IsReceived source first before after state (Err fault)
   next_lost waits fault f = lost source first before after _ _ stage state (read_on source first before mid (pending old) old.count stage state p after f.bytes f.consumed) waits fault f.found
 
-  module _ {A : Type 0} (frame : Frame A) (f : Finds old new mid after (Ok frame)) where
+  module _ {A : Type 0} (frame : WireFrame A) (f : Finds old new mid after (Ok frame)) where
     pub next_came : (next : Stage) (left : Content) → staged source stage state (content frame) ≡ at_stage next left → Came source first before after (pending new) new.count next left
     next_came next left leads =
         frame_came source first before after (pending old ++ f.bytes) (old.count + length f.bytes) stage state (read_on source first before mid (pending old) old.count stage state p after f.bytes f.consumed)
@@ -141,7 +144,7 @@ module _ (source : PlanSource) (first : Content) (before mid after : Option (Lis
         (⊎_elim (λ is. subst (λ e. IsReceived source first before after state (Err e)) (sym is) (next_kept waits)) (next_refused fault) why)
 
 pub text_answered : {A T : Type 0} (source : PlanSource) (first : Content) (before mid after : Option (List ℕ)) (old new : Stream) (state : Content)
-    → Came source first before mid (pending old) old.count telling state → (frame : Frame A) → Finds old new mid after (Ok frame)
+    → Came source first before mid (pending old) old.count telling state → (frame : WireFrame A) → Finds old new mid after (Ok frame)
     → (view : T → List ℕ) (answer : Result T ReplyFault) → IfOk answer (λ given. content frame ≡ text (view given))
     → IfErr answer (λ fault. (s : Content) → told_by s (content frame) ≡ at_stage (failed fault) s) → IsReceived source first before after state (seen view answer)
 text_answered source first before mid after old new state p frame f view (Ok given) is why =
@@ -152,7 +155,7 @@ text_answered source first before mid after old new state p frame f view (Err fa
 
 -- ---- a reply that was read leads on, or refuses
 pub same_answered : {A : Type 0} (source : PlanSource) (first : Content) (before mid after : Option (List ℕ)) (old new : Stream) (state : Content)
-    → Came source first before mid (pending old) old.count greeting state → (frame : Frame A) → Finds old new mid after (Ok frame)
+    → Came source first before mid (pending old) old.count greeting state → (frame : WireFrame A) → Finds old new mid after (Ok frame)
     → (answer : Result (Unit {0}) ReplyFault) → OnOk answer (content frame ≡ same)
     → IfErr answer (λ fault. (s : Content) → greeted_by s (content frame) ≡ at_stage (failed fault) s) → Leads source first before after new handing state answer
 same_answered source first before mid after old new state p frame f (Ok done) is why =
@@ -160,7 +163,7 @@ same_answered source first before mid after old new state p frame f (Ok done) is
 same_answered source first before mid after old new state p frame f (Err fault) is why = next_refused source first before mid after old new greeting state p frame f fault (why state)
 
 pub records_answered : {A : Type 0} (source : PlanSource) (first : Content) (before mid after : Option (List ℕ)) (old new : Stream) (state : Content)
-    → Came source first before mid (pending old) old.count handing state → (frame : Frame A) → Finds old new mid after (Ok frame)
+    → Came source first before mid (pending old) old.count handing state → (frame : WireFrame A) → Finds old new mid after (Ok frame)
     → (theirs now : Content) → content frame ≡ records theirs → (answer : Result (Unit {0}) ReplyFault)
     → OnOk answer (handed source state (records theirs) ≡ at_stage telling now)
     → IfErr answer (λ fault. (fault ≡ Memory) ⊎ (handed source state (records theirs) ≡ at_stage (failed fault) state))
@@ -169,3 +172,20 @@ records_answered source first before mid after old new state p frame f theirs no
     (f.found.2, next_came source first before mid after old new handing state p frame f telling now (ap (handed source state) is ∙ taken))
 records_answered source first before mid after old new state p frame f theirs now is (Err fault) taken why kept =
     next_taken source first before mid after old new handing state p frame f tt now kept fault (⊎_elim inl (λ e. inr (ap (handed source state) is ∙ e)) why)
+
+-- ---- which faults come from where
+pub stream_read : (fault : StreamFault) → reply_fault fault ≡ Read → fault ≡ stream.Read
+stream_read stream.Read is = refl
+stream_read stream.Bound is = absurd cc
+stream_read stream.Memory is = absurd cc
+
+pub frame_unread : (fault : FrameFault) → Frame fault ≡ Read → ⊥
+frame_unread fault is = cc
+
+pub reply_unread : Reply ≡ Read → ⊥
+reply_unread is = cc
+
+pub stream_lost : {A : Type 0} (old new : Stream) (before after : Option (List ℕ)) (fault : StreamFault) → Gives {A = A} old new before after (Err fault) → Finds {A = A} old new before after (Err (reply_fault fault))
+stream_lost old new before after stream.Read gave = record { bytes = gave.bytes; consumed = gave.consumed; found = (gave.counted, gave.next) }
+stream_lost old new before after stream.Bound gave = record { bytes = gave.bytes; consumed = gave.consumed; found = (gave.counted, gave.next) }
+stream_lost old new before after stream.Memory gave = record { bytes = gave.bytes; consumed = gave.consumed; found = gave.counted }

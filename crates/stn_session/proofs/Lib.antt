@@ -1,3 +1,5 @@
 pub mod Sessions
 pub mod Exchanges
 pub mod Unique
+pub mod Answered
+pub mod Taken

@@ -12,7 +12,7 @@ use Rattle.stn_records.specs.Content.{Content}
 use Rattle.stn_wire.specs.Frame.{FrameContent, spelling, refused, IsFrame}
 use Rattle.stn_wire.specs.Front.{IsFront, faulty, unfinished}
 use Rattle.stn_stream.specs.Stream.{wire_fault, frame_code, IsNext, IsCounted}
-use Rattle.stn_session.specs.Session.{Reply, said, Session, answer, opening, followed, advanced, broken_off}
+use Rattle.stn_session.specs.Session.{Reply, said, Session, Answer, answer, opening, followed, advanced, broken_off}
 use Rattle.stn_session.specs.Serving.{IsReplyBytes, AreReplies, WritesReplies, Reaches, IsServed, GoesOn, IsBroken, serve_fault}
 use Rattle.stn_stream.specs.declared.fault.FrameFault.{FrameFault}
 use Rattle.stn_session.specs.declared.session.End.TheVariants.{Closed, Cut, Refused}
@@ -342,3 +342,27 @@ module _ (first : Session) (before after old new : Option (List ℕ)) (rest : Li
     frame_fails Memory wrote = ⊎_elim (λ same. frame_kept wrote.0 same) (λ left. frame_taken wrote.0 left) wrote.1
     frame_fails Read none = absurd none
     frame_fails Bound none = absurd none
+
+-- ---- which faults come from where
+
+pub stream_read : (fault : StreamFault) → serve_fault fault ≡ Read → fault ≡ stream.Read
+stream_read stream.Read is = refl
+stream_read stream.Bound is = absurd cc
+stream_read stream.Memory is = absurd cc
+
+pub stream_unwritten : (fault : StreamFault) → serve_fault fault ≡ Write → ⊥
+stream_unwritten stream.Read is = cc
+stream_unwritten stream.Bound is = cc
+stream_unwritten stream.Memory is = cc
+
+pub answer_unread : (given : Answer) (old new : Option (List ℕ)) (before after : Content) (fault : ServeFault) → Wrote given old new before after (Err fault) → fault ≡ Read → ⊥
+answer_unread given old new before after Read none is = none
+answer_unread given old new before after Bound none is = none
+answer_unread given old new before after Write wrote is = cc
+answer_unread given old new before after Memory wrote is = cc
+
+pub refusal_unread : (code : ℕ) (old new : Option (List ℕ)) (fault : ServeFault) → WroteRefused code old new (Err fault) → fault ≡ Read → ⊥
+refusal_unread code old new Read none is = none
+refusal_unread code old new Bound none is = none
+refusal_unread code old new Write wrote is = cc
+refusal_unread code old new Memory wrote is = cc

@@ -7,7 +7,7 @@ ghost use Rattle.stn_lift.specs.PlanSource.{PlanSource};
 ghost use Rattle.stn_records.specs.Content.{Content};
 ghost use Rattle.stn_wire.specs.Frame.{content, same, records, text};
 ghost use Rattle.stn_stream.specs.Stream.{unread, pending, IsReading};
-ghost use Rattle.stn_session.specs.Exchange.{request_bytes, at_stage, greeting, handing, telling, failed, greeted_by, handed, told_by, reply_fault, IsReceived, seen};
+ghost use Rattle.stn_session.specs.Exchange.{request_bytes, at_stage, greeting, handing, telling, failed, greeted_by, handed, told_by, unexpected, reply_fault, IsReceived, seen};
 ghost use Rattle.stn_session.specs.Turns.{Finds, Came, Leads};
 ghost use Rattle.stn_session.specs.declared.exchange.SendFault.TheVariants as send;
 ghost use Rattle.stn_session.specs.declared.exchange.ReplyFault.TheVariants.{Read, Memory};
@@ -92,13 +92,13 @@ pub enum ReplyFault {
     #[error("refused")]
     Refused(u8),
     /// The bytes begin no frame.
-    #[error("{0}")]
+    #[error(transparent)]
     Frame(FrameFault),
     /// Another frame stands where a reply is wanted, or the input ended.
     #[error("no reply")]
     Reply,
     /// The replica refused the records.
-    #[error("{0}")]
+    #[error(transparent)]
     Replica(ReplicaFault),
     /// A call of the reader failed.
     #[error("a read failed")]
@@ -179,7 +179,9 @@ fn take_same<R: Read, A: Allocator + Copy>(
     ensures kept { result ≢ Err Read → KeepsCount reader.old reader.new }
 {
     let frame = next_reply(frames, reader)?;
-    same_of(&frame)
+    let answer = same_of(&frame);
+    drop(frame);
+    answer
 }
 
 // The second reply.
@@ -199,7 +201,9 @@ fn take_records<R: Read, A: Allocator + Copy>(
 {
     let frame = next_reply(frames, reader)?;
     let theirs = records_of(frame)?;
-    take_in(replica, &theirs)
+    let taken = take_in(replica, &theirs);
+    drop(theirs);
+    taken
 }
 
 // The third reply.
@@ -236,6 +240,17 @@ fn next_reply<R: Read, A: Allocator + Copy>(
     }
 }
 
+// Why a frame that is not waited for is refused.
+fn refusal_of<A: Allocator>(frame: &Frame<A>) -> ReplyFault
+    ensures is { result ≡ unexpected (content frame.now) }
+    ensures read { result ≢ Read }
+{
+    match frame {
+        Frame::Refused(code) => ReplyFault::Refused(*code),
+        _ => ReplyFault::Reply,
+    }
+}
+
 // SAME, or why another frame is refused.
 fn same_of<A: Allocator>(frame: &Frame<A>) -> Result<(), ReplyFault>
     ensures same { OnOk result (content frame.now ≡ same) }
@@ -244,8 +259,7 @@ fn same_of<A: Allocator>(frame: &Frame<A>) -> Result<(), ReplyFault>
 {
     match frame {
         Frame::Same => Ok(()),
-        Frame::Refused(code) => Err(ReplyFault::Refused(*code)),
-        _ => Err(ReplyFault::Reply),
+        other => Err(refusal_of(other)),
     }
 }
 
@@ -257,8 +271,11 @@ fn records_of<A: Allocator>(frame: Frame<A>) -> Result<Records<A>, ReplyFault>
 {
     match frame {
         Frame::Records(theirs) => Ok(theirs),
-        Frame::Refused(code) => Err(ReplyFault::Refused(code)),
-        _ => Err(ReplyFault::Reply),
+        other => {
+            let fault = refusal_of(&other);
+            drop(other);
+            Err(fault)
+        }
     }
 }
 
@@ -270,8 +287,11 @@ fn text_of<A: Allocator>(frame: Frame<A>) -> Result<Vec<u8, A>, ReplyFault>
 {
     match frame {
         Frame::Text(bytes) => Ok(bytes),
-        Frame::Refused(code) => Err(ReplyFault::Refused(code)),
-        _ => Err(ReplyFault::Reply),
+        other => {
+            let fault = refusal_of(&other);
+            drop(other);
+            Err(fault)
+        }
     }
 }
 

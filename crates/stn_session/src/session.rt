@@ -28,7 +28,7 @@ pub enum End {
 }
 
 /// What a session did: how many frames were answered, and how it ended.
-#[derive(Clone, Copy, Debug, PartialEq, Eq)]
+#[derive(Clone, Copy, PartialEq, Eq)]
 pub struct Served {
     pub frames: u32,
     pub end: End,

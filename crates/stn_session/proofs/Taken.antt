@@ -1,0 +1,70 @@
+-- What is answered to records that are taken in, or refused.
+use Rattle.std.proofs.Common.{◌≡◌, ℕ, true, not, List, ◌++◌, Option, Some, None, refl, sym, ap, subst, ◌∙◌}
+use Rattle.std.specs.Prelude.{unwrap_or, is_some, option_and_then}
+use Rattle.std.proofs.lemmas.Bool.{false≢true}
+use Rattle.stn_records.specs.Content.{Content, dispute_contents, join_contents, joined_contents}
+use Rattle.stn_records.specs.ContentLaws.{contents_dispute, contents_undisputed}
+use Rattle.stn_replica.specs.Calls.{Leaves, took}
+use Rattle.stn_replica.specs.Held.{Held}
+use Rattle.stn_replica.specs.Refusals.{take_refusal}
+use Rattle.stn_replica.specs.declared.faults.ReplicaFault.{ReplicaFault}
+use Rattle.stn_replica.specs.declared.faults.ReplicaFault.TheVariants.{Memory}
+use Rattle.stn_wire.specs.Frame.{spelling, records, refused}
+use Rattle.stn_session.specs.Session.{Answer, refusal_code, take_code, taking}
+use Rattle.stn_session.specs.Turns.{IsAnswered}
+use Rattle.stn_session.specs.declared.replies.Turn.{Turn}
+
+none_there : {X : Type 0} (o : Option X) → not (is_some o) ≡ true → o ≡ None
+none_there None e = refl
+none_there (Some x) e = absurd (false≢true e)
+
+same_some : {X : Type 0} (x y : X) → Some x ≡ Some y → x ≡ y
+same_some x y e = cc
+
+pub state_joined : (old new : Held) (theirs : Content) → Leaves old (took theirs) new → new.state ≡ joined_contents old.state theirs
+state_joined old new theirs leaves =
+    let there : is_some (join_contents old.state theirs) ≡ true = ap is_some leaves.state in
+    let agreed = none_there (dispute_contents old.state theirs) (sym (contents_dispute old.state theirs) ∙ there) in
+    same_some new.state (joined_contents old.state theirs) (sym leaves.state ∙ contents_undisputed old.state theirs agreed)
+
+-- the answer to a frame of records
+abbrev pub taking_of : Held → Content → Answer
+taking_of old theirs = taking old.state theirs (take_code old.source old.state theirs)
+
+joining : (old : Held) (theirs : Content) → take_refusal old theirs ≡ None → taking_of old theirs ≡ taking old.state theirs None
+joining old theirs none = ap (λ (r : Option ReplicaFault). taking old.state theirs (option_and_then refusal_code r)) none
+
+pub state_taken : (old new : Held) (theirs : Content) → take_refusal old theirs ≡ None → Leaves old (took theirs) new → new.state ≡ (taking_of old theirs).state
+state_taken old new theirs none leaves = state_joined old new theirs leaves ∙ ap (λ (a : Answer). a.state) (sym (joining old theirs none))
+
+abbrev going_on : Turn
+going_on = record { greeted = true; ended = None }
+
+pub taken_answered : (old new : Held) (theirs : Content) (before after : List ℕ) → take_refusal old theirs ≡ None → Leaves old (took theirs) new
+    → after ≡ before ++ spelling (records new.state) → IsAnswered (taking_of old theirs) new.state before after going_on
+taken_answered old new theirs before after none leaves appended =
+    let joined = state_joined old new theirs leaves in
+    subst (λ (a : Answer). IsAnswered a new.state before after going_on) (sym (joining old theirs none)) (record {
+      bytes = spelling (records new.state);
+      left = joined;
+      replied = ap (λ (s : Content). spelling (records s)) joined;
+      appended = appended;
+      greeted = refl;
+      ended = refl;
+    })
+
+coded : (refusal : Option ReplicaFault) (fault : ReplicaFault) (code : ℕ) → fault ≡ unwrap_or refusal Memory → refusal_code fault ≡ Some code → option_and_then refusal_code refusal ≡ Some code
+coded None fault code is given = sym (ap refusal_code is) ∙ given
+coded (Some other) fault code is given = sym (ap refusal_code is) ∙ given
+
+pub refusal_answered : (old new : Held) (theirs : Content) (before after : List ℕ) (fault : ReplicaFault) (code : ℕ) → fault ≡ unwrap_or (take_refusal old theirs) Memory → refusal_code fault ≡ Some code
+    → new ≡ old → after ≡ before ++ spelling (refused code) → IsAnswered (taking_of old theirs) new.state before after going_on
+refusal_answered old new theirs before after fault code is given kept appended =
+    subst (λ (a : Answer). IsAnswered a new.state before after going_on) (sym (ap (taking old.state theirs) (coded (take_refusal old theirs) fault code is given))) (record {
+      bytes = spelling (refused code);
+      left = ap (λ (h : Held). h.state) kept;
+      replied = refl;
+      appended = appended;
+      greeted = refl;
+      ended = refl;
+    })

@@ -1,0 +1,39 @@
+use Rattle.std.proofs.Common.{List, ℕ, ◌++◌, inl, inr, ap, ◌∙◌}
+use Rattle.std.proofs.lemmas.Result.{err_from_is_err_and}
+use Rattle.stn_records.specs.Content.{Content}
+use Rattle.stn_replica.specs.Held.{Held}
+use Rattle.stn_wire.specs.Frame.{spelling, records}
+use Rattle.stn_session.proofs.Taken.{state_taken, taken_answered, refusal_answered}
+use Rattle.stn_session.proofs.replies.take.Goals as goal
+
+pub returns-in_err-append_state-in-Ok : goal.returns-in_err-append_state-in-Ok
+returns-in_err-append_state-in-Ok g c =
+    let p = err_from_is_err_and c.from_residual.result c.from_residual.ensures.1 in
+    let did = c.in-Ok.ensures in
+    rw p.1 (record {
+      source = did.leaves.source;
+      site = did.leaves.site;
+      answered = tt;
+      left = inr (state_taken c.args.replica.now c.take.new.self c.args.theirs.now did.accepted did.leaves);
+    })
+
+pub returns-in_ok-append_state-in-Ok : goal.returns-in_ok-append_state-in-Ok
+returns-in_ok-append_state-in-Ok g c =
+    let did = c.in-Ok.ensures in
+    record {
+      source = did.leaves.source;
+      site = did.leaves.site;
+      answered = taken_answered c.args.replica.now c.take.new.self c.args.theirs.now _ _ did.accepted did.leaves
+          (c.in_ok-append_state-in-Ok.ensures ∙ ap (λ (s : Content). c.args.out.now.items ++ spelling (records s)) c.records.ensures.value);
+      left = tt;
+    }
+
+pub returns-in_ok-append_refused-in-Err : goal.returns-in_ok-append_refused-in-Err
+returns-in_ok-append_refused-in-Err g c =
+    let kept = c.in-Err.ensures.kept in
+    record {
+      source = ap (λ (h : Held). h.source) kept;
+      site = ap (λ (h : Held). h.site) kept;
+      answered = refusal_answered c.args.replica.now c.take.new.self c.args.theirs.now _ _ c.in-Err.fault _ c.in-Err.ensures.fault c.in_ok-code_of-in-Err.ensures kept c.in_ok-append_refused-in-Err.ensures;
+      left = tt;
+    }
