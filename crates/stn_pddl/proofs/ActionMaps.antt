@@ -1,5 +1,5 @@
 -- A map of actions, and the list of what it says.
-use Rattle.std.proofs.Common.{◌≡◌, ℕ, Bool, true, false, ◌||◌, cond, List, [], ◌∷◌, ◌++◌, Option, Some, None, is_some, MatchOption, refl, sym, ◌∙◌, ap}
+use Rattle.std.proofs.Common.{◌≡◌, ℕ, Bool, true, false, ◌||◌, cond, List, [], ◌∷◌, ◌++◌, Option, Some, None, is_some, MatchOption, Result, Ok, Err, OnOk, OnErr, refl, sym, ◌∙◌, ap}
 use Rattle.std.specs.Option.{option_map, option_copied}
 use Rattle.std.specs.Borrow.{Bor}
 use Rattle.std.specs.Map.{lookup}
@@ -20,6 +20,11 @@ module _ {A : Type 0} where
   pub AreNamed-push : (entries : List (Name × Action A)) (name : Name) (action : Action A) → word_of name ≡ (action_schema action).name → AreNamed entries → AreNamed (entries ++ (name, action) ∷ [])
   AreNamed-push [] name action same named = (same, tt)
   AreNamed-push (e ∷ entries) name action same named = (named.0, AreNamed-push entries name action same named.1)
+
+  pub AreNamed-inserted : {E : Type 0} (result : Result (Unit {0}) E) (old new : List (Name × Action A)) (name : Name) (action : Action A) → word_of name ≡ (action_schema action).name
+      → OnOk result (new ≡ old ++ (name, action) ∷ []) → OnErr result (new ≡ old) → AreNamed old → AreNamed new
+  AreNamed-inserted (Ok done) old new name action same added kept named = rw added (AreNamed-push old name action same named)
+  AreNamed-inserted (Err fault) old new name action same added kept named = rw kept named
 
   module _ (word : List ℕ) where
     -- a look-up by the key is one by the name

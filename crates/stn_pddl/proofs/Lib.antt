@@ -2,3 +2,4 @@ pub mod Terms
 pub mod ActionMaps
 pub mod Kept
 pub mod SoundActions
+pub mod Steps

@@ -1,8 +1,8 @@
 //! Durative actions.
 
-ghost use Rattle.std.specs.Prelude.{◌≡◌, IfOk};
+ghost use Rattle.std.specs.Prelude.{◌≡◌, [], pos, IfOk};
 ghost use Rattle.stn_pddl.specs.Schemas.{bare_action, with_literal};
-ghost use Rattle.stn_pddl.specs.Views.{action_schema, atom_schema, word_of, words_of};
+ghost use Rattle.stn_pddl.specs.Views.{action_schema, atom_schema, word_of};
 
 use indexmap::IndexSet;
 use std::alloc::{AllocFailed, Allocator};
@@ -74,20 +74,15 @@ pub enum Label {
 }
 
 impl<'a, A: Allocator + Copy> Action<'a, A> {
-    /// An action without conditions and effects.
+    /// An action without parameters, conditions and effects, of no duration.
     #[tactic(auto, unfolding(crate::specs::Views::action_schema))]
-    pub(crate) fn bare(
-        alloc: A,
-        name: Name<'a>,
-        parameters: Names<'a, A>,
-        duration: Ms,
-    ) -> Action<'a, A>
-        ensures { action_schema result ≡ bare_action (word_of name.entry) (words_of parameters.entry.keys) duration }
+    pub(crate) fn bare(alloc: A, name: Name<'a>) -> Action<'a, A>
+        ensures { action_schema result ≡ bare_action (word_of name.entry) [] (pos 0) }
     {
         Action {
             name,
-            parameters,
-            duration,
+            parameters: IndexSet::new(alloc),
+            duration: Ms::new(0).unwrap(),
             start_needs: Vec::new(alloc),
             all_needs: Vec::new(alloc),
             end_needs: Vec::new(alloc),

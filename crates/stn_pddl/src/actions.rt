@@ -1,9 +1,11 @@
 //! The actions of a domain by name.
 
-ghost use Rattle.std.specs.Prelude.{◌≡◌, ◌++◌, ◌∷◌, [], false, IfOk, MatchOption, Some, None};
+ghost use Rattle.std.specs.Prelude.{◌≡◌, ◌++◌, ◌∷◌, [], false, IfOk, OnOk, OnErr, MatchOption, Some, None};
+ghost use Rattle.std.specs.Map.{lookup};
+ghost use Rattle.stn_tree.specs.Names.{is_same_word};
 ghost use Rattle.stn_pddl.specs.Actions.{is_taken};
 ghost use Rattle.stn_pddl.specs.Domains.{action_named};
-ghost use Rattle.stn_pddl.specs.Views.{action_schema};
+ghost use Rattle.stn_pddl.specs.Views.{action_schema, word_of};
 
 use crate::action::Action;
 use indexmap::IndexMap;
@@ -12,10 +14,13 @@ use std::hash::{BuildHasherDefault, FoldHasher};
 use std::marker::Model;
 use stn_tree::Name;
 
+/// Values by name, in their order.
+type ByName<'a, T, A> = IndexMap<Name<'a>, T, BuildHasherDefault<FoldHasher>, A>;
+
 /// Actions in their order, each with a name of its own.
 #[derive(Drop)]
 pub struct Actions<'a, A: Allocator> {
-    by_name: IndexMap<Name<'a>, Action<'a, A>, BuildHasherDefault<FoldHasher>, A>,
+    by_name: ByName<'a, Action<'a, A>, A>,
 }
 
 impl<'a, A: Allocator> Model for Actions<'a, A> {
@@ -53,10 +58,7 @@ impl<'a, A: Allocator + Copy> Actions<'a, A> {
         requires { is_taken (action_schema action).name self.old ≡ false }
         ensures { IfOk result (λ _. self.new ≡ self.old ++ action_schema action.entry ∷ []) }
     {
-        let Ok(_) = self.by_name.insert(action.name, action) else {
-            return Err(AllocError);
-        };
-        Ok(())
+        insert_new(&mut self.by_name, action.name, action)
     }
 
     /// The action of a name.
@@ -67,4 +69,18 @@ impl<'a, A: Allocator + Copy> Actions<'a, A> {
     {
         self.by_name.get(&name)
     }
+}
+
+/// Takes up a value after the others, by a name that none of them has.
+fn insert_new<'a, T: Drop, A: Allocator>(
+    by_name: &mut ByName<'a, T, A>,
+    name: Name<'a>,
+    value: T,
+) -> Result<(), AllocError>
+    requires { lookup (λ other. is_same_word (word_of name) (word_of other)) by_name.old.entries ≡ None }
+    ensures added { OnOk result (by_name.new.entries ≡ by_name.old.entries ++ (name.entry, value) ∷ []) }
+    ensures kept { OnErr result (by_name.new.entries ≡ by_name.old.entries) }
+{
+    by_name.insert(name, value)?;
+    Ok(())
 }

@@ -1,6 +1,6 @@
 //! Whole domains.
 
-ghost use Rattle.std.specs.Prelude.{◌≡◌, ◌≤◌, [], false, length, IfOk, IfSome, MatchOption, Some, None, Ok};
+ghost use Rattle.std.specs.Prelude.{◌≡◌, ◌≤◌, [], false, length, pos, IfOk, IfSome, MatchOption, Some, None, Ok};
 ghost use Rattle.std.specs.Option.{option_map};
 ghost use Rattle.stn_text.specs.Faults.{Gives, ◌>>=◌ as ◌and_then◌};
 ghost use Rattle.stn_tree.specs.Cursors.{row_at};
@@ -9,18 +9,16 @@ ghost use Rattle.stn_pddl.specs.Faults.{is_memory};
 ghost use Rattle.stn_pddl.specs.Actions as rule;
 ghost use Rattle.stn_pddl.specs.Domains.{part, parts, is_title, root, domain_of_tree, domain_of, action_named};
 ghost use Rattle.stn_pddl.specs.Sound.{IsSound};
-ghost use Rattle.stn_pddl.specs.Fields as field;
 ghost use Rattle.stn_pddl.specs.Schemas.{bare_action};
-ghost use Rattle.stn_pddl.specs.Views.{action_schema, word_of, words_of};
+ghost use Rattle.stn_pddl.specs.Views.{action_schema, word_of};
 ghost use Rattle.stn_pddl.specs.declared.action.Side.TheVariants.{Condition, Effect};
 ghost use Rattle.stn_pddl.specs.FieldViews.{listing_of, values_of};
 
-use crate::action::{Action, Names, Side};
+use crate::action::{Action, Side};
 use crate::actions::Actions;
 use crate::fault::DomainFault;
 use crate::fields::{Listing, Values, read_duration, read_parameters};
 use crate::word::{Section, is_name, section_of};
-use indexmap::IndexSet;
 use std::alloc::Allocator;
 use std::marker::Model;
 use stn_tree::{Child, Cursor, Name, is_same_word};
@@ -75,27 +73,24 @@ fn read_sides<'a, A: Allocator + Copy>(
     read_timed_value(alloc, Side::Effect, values.effect, action)
 }
 
-/// The action of a name and its parameters, from its other values.
-fn read_after_names<'a, A: Allocator + Copy>(
+/// Takes up the values of an action that has none, in their order.
+fn read_values<'a, A: Allocator + Copy>(
     alloc: A,
-    name: Name<'a>,
-    names: Names<'a, A>,
+    parameters: Listing<'a>,
     duration: Listing<'a>,
     values: Values<'a>,
-) -> Result<Action<'a, A>, DomainFault>
-    ensures { Gives is_memory action_schema result
-        (field.duration (listing_of duration.entry).line (listing_of duration.entry).children and_then λ millis.
-        rule.timed_value Condition (values_of values.entry).condition (bare_action (word_of name.entry) (words_of names.entry.keys) millis)
-        and_then rule.timed_value Effect (values_of values.entry).effect) }
+    action: &mut Action<'a, A>,
+) -> Result<(), DomainFault>
+    requires { action_schema action.old ≡ bare_action (action_schema action.old).name [] (pos 0) }
+    ensures { Gives is_memory (λ _. action_schema action.new) result
+        (rule.action_of_lists (action_schema action.old).name (listing_of parameters.entry) (listing_of duration.entry) (values_of values.entry)) }
 {
-    let time = read_duration(duration.line, duration.inside)?;
-    let mut action = Action::bare(alloc, name, names, time);
-    read_sides(alloc, values, &mut action)?;
-    Ok(action)
+    read_parameters(parameters.inside, &mut action.parameters)?;
+    action.duration = read_duration(duration.line, duration.inside)?;
+    read_sides(alloc, values, action)
 }
 
 /// The action of a name, from its values.
-#[tactic(auto, unfolding(crate::specs::Actions::action_of_lists))]
 fn read_lists<'a, A: Allocator + Copy>(
     alloc: A,
     name: Name<'a>,
@@ -106,9 +101,8 @@ fn read_lists<'a, A: Allocator + Copy>(
     ensures { Gives is_memory action_schema result
         (rule.action_of_lists (word_of name.entry) (listing_of parameters.entry) (listing_of duration.entry) (values_of values.entry)) }
 {
-    let mut names = IndexSet::new(alloc);
-    read_parameters(parameters.inside, &mut names)?;
-    read_after_names(alloc, name, names, duration, values)
+    let mut action = Action::bare(alloc, name);
+    read_values(alloc, parameters, duration, values, &mut action).and(Ok(action))
 }
 
 /// The action of a name on a line, from its fields.
@@ -206,6 +200,17 @@ fn read_parts<'a, A: Allocator + Copy>(
     }
 }
 
+/// The actions of the parts of a domain in a row.
+fn read_all_parts<'a, A: Allocator + Copy>(
+    alloc: A,
+    children: Cursor<'a>,
+) -> Result<Actions<'a, A>, DomainFault>
+    ensures { Gives is_memory (λ actions. actions) result (parts (row_at children.entry) []) }
+{
+    let mut actions = Actions::new(alloc);
+    read_parts(alloc, children, &mut actions).and(Ok(actions))
+}
+
 /// Whether a row is the word `domain` and a name.
 #[tactic(auto, unfolding(crate::specs::Domains::is_title))]
 fn is_title(children: Cursor<'_>) -> bool
@@ -239,9 +244,7 @@ fn read_root<'a, A: Allocator + Copy>(
         return Err(DomainFault::Syntax(line));
     };
     if is_same_word(define, b"define") && is_title(title) {
-        let mut actions = Actions::new(alloc);
-        read_parts(alloc, title.skip(), &mut actions)?;
-        Ok(actions)
+        read_all_parts(alloc, title.skip())
     } else {
         Err(DomainFault::Syntax(line))
     }

@@ -1,20 +1,21 @@
 use Rattle.std.proofs.Common.{◌∙◌, ap, refl, ◌++◌, ◌∷◌, []}
+use Rattle.std.proofs.lemmas.Result.{IfOk-weaker}
 use Rattle.stn_pddl.specs.Views.{entries_schema, action_schema}
-use Rattle.indexmap.proofs.CallerLemmas.{insert_entry-new}
-use Rattle.stn_pddl.proofs.ActionMaps.{absent, AreNamed-push, entries_schema-push}
+use Rattle.stn_pddl.proofs.ActionMaps.{absent, AreNamed-inserted, entries_schema-push}
 use Rattle.stn_pddl.proofs.actions.Actions.push.Goals as goal
 
-pub invariant_of-self-2 : goal.invariant_of-self-2
+pub insert_new-requires : goal.insert_new-requires
 unfolding action_schema
-invariant_of-self-2 g c =
-    let new = absent c.args.action.name c.self.inside.by_name.entries _ c.self.invariant c.self.view_is c.requires in
-    rw (c.in-Ok.ensures.entries ∙ insert_entry-new _ c.self.inside.by_name c.args.action.name c.args.action new)
-    (AreNamed-push c.self.inside.by_name.entries c.args.action.name c.args.action refl c.self.invariant)
+insert_new-requires g c = absent c.args.action.name c.self.inside.by_name.entries _ c.self.invariant c.self.view_is c.requires
+
+pub invariant_of-self : goal.invariant_of-self
+unfolding action_schema
+invariant_of-self g c =
+    AreNamed-inserted c.insert_new.result c.self.inside.by_name.entries c.insert_new.new.by_name.entries c.args.action.name c.args.action refl
+    c.insert_new.ensures.added c.insert_new.ensures.kept c.self.invariant
 
 pub returns : goal.returns
-unfolding action_schema
-returns g c =
-    let new = absent c.args.action.name c.self.inside.by_name.entries _ c.self.invariant c.self.view_is c.requires in
-    ap entries_schema (c.in-Ok.ensures.entries ∙ insert_entry-new _ c.self.inside.by_name c.args.action.name c.args.action new)
+returns g c = IfOk-weaker c.insert_new.result _ _ (λ _ is.
+    ap entries_schema is
     ∙ entries_schema-push c.self.inside.by_name.entries c.args.action.name c.args.action
-    ∙ ap (λ actions. actions ++ action_schema c.args.action ∷ []) c.self.view_is
+    ∙ ap (λ actions. actions ++ action_schema c.args.action ∷ []) c.self.view_is) c.insert_new.ensures.added

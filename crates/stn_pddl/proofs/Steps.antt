@@ -1,0 +1,18 @@
+-- A step that was read, and what is made of it.
+use Rattle.std.proofs.Common.{◌≡◌, Bool, true, false, Result, Ok, Err, ap}
+use Rattle.std.specs.Result.{result_and}
+use Rattle.stn_text.specs.Faults.{◌>>=◌, Fails, Gives, Unless}
+
+-- a value that was filled, or the first fault
+pub filled : {F X Y : Type 0} (is_memory : F → Bool) (view : X → Y) (read : Result (Unit {0}) F) (value : X) (whole : Result X F) (meaning : Result Y F)
+    → whole ≡ result_and read (Ok value) → Gives is_memory (λ _. view value) read meaning → Gives is_memory view whole meaning
+filled is_memory view (Ok done) value whole meaning is given = rw is given
+filled is_memory view (Err fault) value whole meaning is given = rw is given
+
+-- the fault of the first step is that of both
+pub fails_first : {F A B : Type 0} (is_memory : F → Bool) (fault : F) (first : Result A F) (then : A → Result B F) → Fails is_memory fault first → Fails is_memory fault (first >>= then)
+fails_first is_memory fault first then fails = by (is_memory fault) fails
+  where
+    by : (memory : Bool) → Unless memory (first ≡ Err fault) → Unless memory ((first >>= then) ≡ Err fault)
+    by true said = tt
+    by false said = ap (λ step. step >>= then) said
