@@ -1,5 +1,6 @@
-use anyhow::{Error, bail};
 use std::alloc::Global;
+use std::io;
+use std::io::Error;
 use stn_pddl::{Domain, DomainFault};
 use stn_plan::{Plan, PlanFault};
 use stn_time::{Ms, TimeFault, print_millis};
@@ -50,34 +51,38 @@ fn of_time_fault(fault: TimeFault) -> u8 {
     }
 }
 
+fn print_line(rt: &HostRuntime, text: &[u8]) -> io::Result<()> {
+    println!(rt; "{}", String::from_utf8_lossy(rt.alloc(), text)?)
+}
+
 // Prints a time: 0, its milliseconds, and what it prints.
-fn print_read(rt: &HostRuntime, time: Ms) -> Result<(), Error> {
+fn print_read(rt: &HostRuntime, time: Ms) -> io::Result<()> {
     let mut text = Vec::new(rt.alloc());
     time.print(&mut text)?;
-    let printed = String::from_utf8_lossy(rt.alloc(), &text)?;
-    println!(rt; "0 {} {printed}", time.get())?;
-    Ok(())
+    print!(rt; "0 {} ", time.get())?;
+    print_line(rt, &text)
 }
 
 /// Prints a number of milliseconds as a time.
-pub fn print_time(rt: &HostRuntime, millis: i64) -> Result<(), Error> {
+pub fn print_time(rt: &HostRuntime, millis: i64) -> io::Result<()> {
     let mut text = Vec::new(rt.alloc());
     print_millis(millis, &mut text)?;
-    println!(rt; "{}", String::from_utf8_lossy(rt.alloc(), &text)?)?;
-    Ok(())
+    print_line(rt, &text)
+}
+
+fn print_code(rt: &HostRuntime, (code, number): (u8, usize)) -> io::Result<()> {
+    println!(rt; "{code} {number}")
 }
 
 /// Prints the answer to a text, by the word that says what it is.
-pub fn print_answer(rt: &HostRuntime, word: &str, text: &[u8]) -> Result<(), Error> {
-    let (code, number) = match word {
-        "domain" => of_domain(rt.alloc(), text),
-        "plan" => of_plan(rt.alloc(), text),
+pub fn print_answer(rt: &HostRuntime, word: &str, text: &[u8]) -> io::Result<()> {
+    match word {
+        "domain" => print_code(rt, of_domain(rt.alloc(), text)),
+        "plan" => print_code(rt, of_plan(rt.alloc(), text)),
         "time" => match Ms::read(text) {
-            Ok(time) => return print_read(rt, time),
-            Err(fault) => (of_time_fault(fault), 0),
+            Ok(time) => print_read(rt, time),
+            Err(fault) => print_code(rt, (of_time_fault(fault), 0)),
         },
-        _ => bail!("no such word"),
-    };
-    println!(rt; "{code} {number}")?;
-    Ok(())
+        _ => Err(Error::other("no such word")),
+    }
 }

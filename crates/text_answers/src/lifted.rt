@@ -1,5 +1,6 @@
-use anyhow::Error;
-use std::alloc::Global;
+use std::alloc::{AllocError, Global};
+use std::io;
+use std::io::Write;
 use stn_lift::{Base, BaseFault, LiftFault, Source};
 use stn_net::{Bound, Event};
 
@@ -24,7 +25,7 @@ fn code_of(fault: BaseFault) -> (u8, u32) {
     }
 }
 
-fn append_bound(out: &mut Vec<u8>, bound: &Bound) -> Result<(), Error> {
+fn append_bound(out: &mut Vec<u8>, bound: &Bound) -> Result<(), AllocError> {
     bound.from().print(out)?;
     out.push(b' ')?;
     bound.to().print(out)?;
@@ -36,7 +37,7 @@ fn append_bound(out: &mut Vec<u8>, bound: &Bound) -> Result<(), Error> {
     Ok(())
 }
 
-fn append_planned(out: &mut Vec<u8>, base: &Base<Global>, number: u16) -> Result<(), Error> {
+fn append_planned(out: &mut Vec<u8>, base: &Base<Global>, number: u16) -> Result<(), AllocError> {
     if number <= base.events() {
         let event = Event::new(number).unwrap();
         event.print(out)?;
@@ -47,7 +48,7 @@ fn append_planned(out: &mut Vec<u8>, base: &Base<Global>, number: u16) -> Result
     Ok(())
 }
 
-fn append_base(out: &mut Vec<u8>, base: &Base<Global>) -> Result<(), Error> {
+fn append_base(out: &mut Vec<u8>, base: &Base<Global>) -> Result<(), AllocError> {
     for bound in base.bounds() {
         append_bound(out, bound)?;
     }
@@ -57,24 +58,25 @@ fn append_base(out: &mut Vec<u8>, base: &Base<Global>) -> Result<(), Error> {
     Ok(())
 }
 
-fn print_base(rt: &HostRuntime, source: &Source<Global>) -> Result<(), Error> {
+fn print_bounds(rt: &HostRuntime, base: &Base<Global>) -> io::Result<()> {
+    let mut out = Vec::new(rt.alloc());
+    append_base(&mut out, base)?;
+    io::writer(rt).write_all(&out)
+}
+
+fn print_base(rt: &HostRuntime, source: &Source<Global>) -> io::Result<()> {
     match Base::from_source(rt.alloc(), source) {
-        Ok(base) => {
-            let mut out = Vec::new(rt.alloc());
-            append_base(&mut out, &base)?;
-            print!(rt; "{}", String::from_utf8(out)?)?;
-        }
+        Ok(base) => print_bounds(rt, &base),
         Err(fault) => {
             let (code, step) = code_of(fault);
-            println!(rt; "refused {code} {step}")?;
+            println!(rt; "refused {code} {step}")
         }
     }
-    Ok(())
 }
 
 /// Prints the base of a plan in a domain: its bounds in their order and then the planned times of the events, or the code of
 /// the fault and its argument.
-pub fn print_lifted(rt: &HostRuntime, domain: &str, plan: &str) -> Result<(), Error> {
+pub fn print_lifted(rt: &HostRuntime, domain: &str, plan: &str) -> io::Result<()> {
     let domain = Vec::from_slice(rt.alloc(), domain.as_bytes())?;
     let plan = Vec::from_slice(rt.alloc(), plan.as_bytes())?;
     print_base(rt, &Source::Files(domain, plan))

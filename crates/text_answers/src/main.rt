@@ -15,18 +15,24 @@ mod lifted;
 
 use crate::answers::{print_answer, print_time};
 use crate::lifted::print_lifted;
-use anyhow::{Context, Error};
 use std::alloc::{AllocError, Global};
+use std::io;
+use std::io::Error;
 
 // How many spaces stand after the text of a row, and the rest of the row.
 fn padding(row: &str) -> (usize, &str) {
-    match row
-        .strip_prefix("padded ")
-        .and_then(|rest| rest.split_once(' '))
-    {
-        Some((count, rest)) => (count.parse::<usize>().unwrap_or(0), rest),
+    match row.strip_prefix("padded ") {
+        Some(padded) => {
+            let (count, rest) = cut_word(padded);
+            (count.parse::<usize>().unwrap_or(0), rest)
+        }
         None => (0, row),
     }
+}
+
+// The first word of a row, and what follows it.
+fn cut_word(row: &str) -> (&str, &str) {
+    row.split_once(' ').unwrap_or((row, ""))
 }
 
 // A text with a line feed for each `~`, and so many spaces after it.
@@ -39,39 +45,49 @@ fn bytes_of(alloc: Global, text: &str, spaces: usize) -> Result<String, AllocErr
 }
 
 // Prints the answer to the text of a row.
-fn answer_text(rt: &HostRuntime, row: &str) -> Result<(), Error> {
+fn answer_text(rt: &HostRuntime, row: &str) -> io::Result<()> {
     let (spaces, rest) = padding(row);
-    let (word, text) = rest.split_once(' ').context("no text")?;
+    let (word, text) = cut_word(rest);
     let text = bytes_of(rt.alloc(), text, spaces)?;
     print_answer(rt, word, text.as_bytes())
 }
 
 // Prints the answer to a text in hex.
-fn answer_hex(rt: &HostRuntime, rest: &str) -> Result<(), Error> {
-    let (word, digits) = rest.split_once(' ').context("no text")?;
-    let text = hex::decode(rt.alloc(), digits)?;
-    print_answer(rt, word, &text)
+fn answer_hex(rt: &HostRuntime, rest: &str) -> io::Result<()> {
+    let (word, digits) = cut_word(rest);
+    match hex::decode(rt.alloc(), digits) {
+        Ok(text) => print_answer(rt, word, &text),
+        Err(_) => Err(Error::other("no digits")),
+    }
 }
 
-fn print_row(rt: &HostRuntime, domain: &mut String, row: &str) -> Result<(), Error> {
+fn take_domain(alloc: Global, domain: &mut String, text: &str) -> Result<(), AllocError> {
+    *domain = bytes_of(alloc, text, 0)?;
+    Ok(())
+}
+
+fn lift(rt: &HostRuntime, domain: &str, text: &str) -> io::Result<()> {
+    let plan = bytes_of(rt.alloc(), text, 0)?;
+    print_lifted(rt, domain, &plan)
+}
+
+fn print_row(rt: &HostRuntime, domain: &mut String, row: &str) -> io::Result<()> {
     if row.starts_with('=') {
-        println!(rt; "{row}")?;
-        Ok(())
+        println!(rt; "{row}")
     } else if let Some(number) = row.strip_prefix("millis ") {
-        print_time(rt, number.parse()?)
+        print_time(rt, number.parse().unwrap_or(0))
     } else if let Some(rest) = row.strip_prefix("hex ") {
         answer_hex(rt, rest)
     } else if let Some(text) = row.strip_prefix("with ") {
-        *domain = bytes_of(rt.alloc(), text, 0)?;
-        Ok(())
+        Ok(take_domain(rt.alloc(), domain, text)?)
     } else if let Some(text) = row.strip_prefix("lift ") {
-        print_lifted(rt, domain, &bytes_of(rt.alloc(), text, 0)?)
+        lift(rt, domain, text)
     } else {
         answer_text(rt, row)
     }
 }
 
-fn main(rt: HostRuntime) -> Result<(), Error> {
+fn main(rt: HostRuntime) -> io::Result<()> {
     let mut domain = String::new(rt.alloc());
     for row in rt.lines(rt.alloc()) {
         let row = row?;
