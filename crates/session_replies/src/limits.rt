@@ -232,17 +232,17 @@ fn print_full_frames(rt: &HostRuntime) -> io::Result<()> {
     print_replies(rt, &input, &wanted)
 }
 
-fn print_ids(rt: &HostRuntime, name: &str, ids: Ids) -> io::Result<()> {
-    let Ids { site, count } = ids;
-    print!(rt; ", {count} {name} ids of site {site}")
-}
-
 // What is named by a frame.
 fn print_held(rt: &HostRuntime, held: Held) -> io::Result<()> {
-    print!(rt; "frame of {} records of site 1", held.records)?;
-    print_ids(rt, "withdrawn", held.withdrawn)?;
-    print_ids(rt, "replaced", held.replaced)?;
-    print!(rt; ": ")
+    let Held {
+        records,
+        withdrawn,
+        replaced,
+    } = held;
+    print!(rt;
+        "frame of {records} records of site 1, {} withdrawn ids of site {}, {} replaced ids of site {}: ",
+        withdrawn.count, withdrawn.site, replaced.count, replaced.site
+    )
 }
 
 // A frame, which is answered by these replies.

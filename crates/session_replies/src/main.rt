@@ -65,7 +65,7 @@ fn new_replica(alloc: Global, site: Site) -> Result<Replica<Global>, AllocError>
     Replica::new(alloc, site, base)
 }
 
-/// A session of a new replica of site 1.
+// A session of a new replica of site 1.
 fn serve_anew<R: Read, W: Write>(
     alloc: Global,
     reader: &mut Counted<R>,
@@ -252,12 +252,22 @@ fn append_bytes(words: &mut Split<'_, char>, bytes: &mut Vec<u8>) -> Result<(), 
     Ok(())
 }
 
+fn answer_words(
+    rt: &HostRuntime,
+    words: &mut Split<'_, char>,
+    bytes: &mut Vec<u8>,
+) -> Result<(), Error> {
+    let row = row_of(words);
+    append_bytes(words, bytes)?;
+    Ok(answer_row(rt, &row, bytes)?)
+}
+
 fn answer_line(rt: &HostRuntime, line: &str) -> Result<(), Error> {
     let mut words = line.split(' ');
-    let row = row_of(&mut words);
     let mut bytes = Vec::new(rt.alloc());
-    append_bytes(&mut words, &mut bytes)?;
-    Ok(answer_row(rt, &row, &bytes)?)
+    let answer = answer_words(rt, &mut words, &mut bytes);
+    drop(bytes);
+    answer
 }
 
 fn main(rt: HostRuntime) -> Result<(), Error> {
