@@ -14,7 +14,7 @@ fn are_same(before: &[u8], ours: &[u8], theirs: &[u8]) -> bool {
     }
 }
 
-fn print_same(alloc: Global, script: &str, ours: &str, theirs: &str) -> bool {
+fn prints_same(alloc: Global, script: &str, ours: &str, theirs: &str) -> bool {
     are_same(
         &output_of(alloc, script),
         &output_of(alloc, ours),
@@ -27,7 +27,7 @@ fn print_same(alloc: Global, script: &str, ours: &str, theirs: &str) -> bool {
 fn is_same_at(alloc: Global, script: &str, site: u8) -> Result<bool, AllocError> {
     let ours = format!(in alloc; "{script}{site} report\n")?;
     let theirs = format!(in alloc; "{script}64 merge {site}\n64 report\n")?;
-    Ok(print_same(alloc, script, &ours, &theirs))
+    Ok(prints_same(alloc, script, &ours, &theirs))
 }
 
 // Whether the first so many sites do so.

@@ -131,7 +131,9 @@ fn run_input(rt: &HostRuntime) -> io::Result<()> {
 
 fn main(rt: HostRuntime) -> io::Result<()> {
     run_input(&rt)?;
-    for name in env::args(&rt)?.skip(1) {
+    let mut words = env::args(&rt)?;
+    words.next();
+    for name in words {
         println!(rt; "= {name}")?;
         run_one(&rt, name.as_str())?;
     }
