@@ -1,4 +1,4 @@
-use Rattle.std.proofs.Common.{List, ℕ, ◌++◌, inl, inr, ap, ◌∙◌}
+use Rattle.std.proofs.Common.{◌++◌, inr, ap, ◌∙◌}
 use Rattle.std.proofs.lemmas.Result.{err_from_is_err_and}
 use Rattle.stn_records.specs.Content.{Content}
 use Rattle.stn_replica.specs.Held.{Held}
