@@ -6,3 +6,5 @@ pub mod Blocks
 pub mod Outputs
 pub mod Scripts
 pub mod Reports
+pub mod Fitting
+pub mod Amendments

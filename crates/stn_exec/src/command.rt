@@ -1,9 +1,10 @@
-ghost use Rattle.std.specs.Prelude.{◌≡◌, ℕ, ◌∷◌, length, IfSome, IfOk};
+ghost use Rattle.std.specs.Prelude.{◌≡◌, ◌∷◌, length, IfOk};
 ghost use Rattle.std.specs.List.{list_all, filter_map};
 ghost use Rattle.std.specs.Option.{option_map};
+ghost use Rattle.std.specs.Str.{bytes_eq};
 ghost use Rattle.stn_text.specs.Lines.{words_of};
-ghost use Rattle.stn_exec.specs.Command.{command_of, action_of, add_of, done_of, amend_of, withdraw_of, merge_of, send_of, deliver_of, report_of, check_of, next_of, rehearse_of, alone_of, ready_of, why_of, question_of, event_of, id_of, tombstone_of, is_item};
-ghost use Rattle.stn_exec.specs.Running.{seen_command, seen_action, IsForEvents};
+ghost use Rattle.stn_exec.specs.Command.{add, command_of, action_of, add_of, done_of, amend_of, withdraw_of, merge_of, send_of, deliver_of, report_of, check_of, next_of, rehearse_of, alone_of, ready_of, why_of, question_of, event_of, id_of, tombstone_of, is_item};
+ghost use Rattle.stn_exec.specs.Running.{seen_command, seen_action};
 
 use std::alloc::Allocator;
 use stn_net::Event;
@@ -79,11 +80,19 @@ pub enum Action<'a> {
     Ask(Inquiry<'a>),
 }
 
+// The bound of two events and two sides, which are words of a line.
+#[derive(Clone, Copy)]
+struct BoundWords<'a> {
+    from: Event,
+    to: Event,
+    lo: &'a [u8],
+    hi: &'a [u8],
+}
+
 /// The command that a line is, in a plan of so many events beside the origin, by its first word and
 /// what stands after it.
 pub fn read_command<'a>(events: u16, word: &[u8], rest: &'a [u8]) -> Option<Command<'a>>
-    ensures command { option_map seen_command result ≡ command_of events (word.now ∷ words_of rest.now) }
-    ensures fits { IfSome result (λ command. IsForEvents events (seen_action command.action)) }
+    ensures { option_map seen_command result ≡ command_of events (word.now ∷ words_of rest.now) }
 {
     let (name, words) = first_word(rest)?;
     let site = read_number(word)?;
@@ -94,43 +103,47 @@ pub fn read_command<'a>(events: u16, word: &[u8], rest: &'a [u8]) -> Option<Comm
 }
 
 fn read_action<'a>(events: u16, name: &[u8], rest: &'a [u8]) -> Option<Action<'a>>
-    ensures action { option_map seen_action result ≡ action_of events name.now (words_of rest.now) }
-    ensures fits { IfSome result (λ action. IsForEvents events (seen_action action)) }
+    ensures { option_map seen_action result ≡ action_of events name.now (words_of rest.now) }
 {
-    if name == b"add".as_slice() {
+    if is_named(name, b"add") {
         read_add(rest)
-    } else if name == b"done".as_slice() {
+    } else if is_named(name, b"done") {
         read_done(rest)
-    } else if name == b"amend".as_slice() {
+    } else if is_named(name, b"amend") {
         read_amend(rest)
-    } else if name == b"withdraw".as_slice() {
+    } else if is_named(name, b"withdraw") {
         read_withdraw(rest)
-    } else if name == b"merge".as_slice() {
+    } else if is_named(name, b"merge") {
         read_merge(rest)
-    } else if name == b"send".as_slice() {
+    } else if is_named(name, b"send") {
         read_send(rest)
-    } else if name == b"deliver".as_slice() {
+    } else if is_named(name, b"deliver") {
         read_deliver(rest)
-    } else if name == b"report".as_slice() {
+    } else if is_named(name, b"report") {
         read_report(rest)
-    } else if name == b"check".as_slice() {
+    } else if is_named(name, b"check") {
         read_check(events, rest)
-    } else if name == b"next".as_slice() {
+    } else if is_named(name, b"next") {
         read_next(rest)
-    } else if name == b"rehearse".as_slice() {
+    } else if is_named(name, b"rehearse") {
         read_rehearse(rest)
     } else {
         read_question(name, rest)
     }
 }
 
-fn read_question<'a>(name: &[u8], rest: &'a [u8]) -> Option<Action<'a>>
-    ensures action { option_map seen_action result ≡ question_of name.now (words_of rest.now) }
-    ensures fits { (events : ℕ) → IfSome result (λ action. IsForEvents events (seen_action action)) }
+fn is_named(name: &[u8], word: &[u8]) -> bool
+    ensures { result ≡ bytes_eq name.now word.now }
 {
-    if name == b"ready".as_slice() {
+    name == word
+}
+
+fn read_question<'a>(name: &[u8], rest: &'a [u8]) -> Option<Action<'a>>
+    ensures { option_map seen_action result ≡ question_of name.now (words_of rest.now) }
+{
+    if is_named(name, b"ready") {
         read_ready(rest)
-    } else if name == b"why".as_slice() {
+    } else if is_named(name, b"why") {
         read_why(rest)
     } else {
         read_alone(name, rest)
@@ -138,8 +151,21 @@ fn read_question<'a>(name: &[u8], rest: &'a [u8]) -> Option<Action<'a>>
 }
 
 fn read_add(rest: &[u8]) -> Option<Action<'_>>
-    ensures action { option_map seen_action result ≡ add_of (words_of rest.now) }
-    ensures fits { (events : ℕ) → IfSome result (λ action. IsForEvents events (seen_action action)) }
+    ensures { option_map seen_action result ≡ add_of (words_of rest.now) }
+{
+    match read_bound(rest) {
+        Some(bound) => Some(Action::Add {
+            from: bound.from,
+            to: bound.to,
+            lo: bound.lo,
+            hi: bound.hi,
+        }),
+        None => None,
+    }
+}
+
+fn read_bound(rest: &[u8]) -> Option<BoundWords<'_>>
+    ensures { option_map (λ bound. add bound.from bound.to bound.lo.now bound.hi.now) result ≡ add_of (words_of rest.now) }
 {
     let (first, behind_first) = first_word(rest)?;
     let (second, behind_second) = first_word(behind_first)?;
@@ -150,12 +176,11 @@ fn read_add(rest: &[u8]) -> Option<Action<'_>>
     }
     let from = read_event(first)?;
     let to = read_event(second)?;
-    Some(Action::Add { from, to, lo, hi })
+    Some(BoundWords { from, to, lo, hi })
 }
 
 fn read_done(rest: &[u8]) -> Option<Action<'_>>
-    ensures action { option_map seen_action result ≡ done_of (words_of rest.now) }
-    ensures fits { (events : ℕ) → IfSome result (λ action. IsForEvents events (seen_action action)) }
+    ensures { option_map seen_action result ≡ done_of (words_of rest.now) }
 {
     let (word, behind) = first_word(rest)?;
     let (time, behind_time) = first_word(behind)?;
@@ -167,32 +192,24 @@ fn read_done(rest: &[u8]) -> Option<Action<'_>>
 }
 
 fn read_amend(rest: &[u8]) -> Option<Action<'_>>
-    ensures action { option_map seen_action result ≡ amend_of (words_of rest.now) }
-    ensures fits { (events : ℕ) → IfSome result (λ action. IsForEvents events (seen_action action)) }
+    ensures { option_map seen_action result ≡ amend_of (words_of rest.now) }
 {
     let (word, behind) = first_word(rest)?;
-    let (first, behind_first) = first_word(behind)?;
-    let (second, behind_second) = first_word(behind_first)?;
-    let (lo, behind_lo) = first_word(behind_second)?;
-    let (hi, behind_hi) = first_word(behind_lo)?;
-    if first_word(behind_hi).is_some() {
-        return None;
-    }
     let old = read_id(word)?;
-    let from = read_event(first)?;
-    let to = read_event(second)?;
-    Some(Action::Amend {
-        old,
-        from,
-        to,
-        lo,
-        hi,
-    })
+    match read_bound(behind) {
+        Some(bound) => Some(Action::Amend {
+            old,
+            from: bound.from,
+            to: bound.to,
+            lo: bound.lo,
+            hi: bound.hi,
+        }),
+        None => None,
+    }
 }
 
 fn read_withdraw(rest: &[u8]) -> Option<Action<'_>>
-    ensures action { option_map seen_action result ≡ withdraw_of (words_of rest.now) }
-    ensures fits { (events : ℕ) → IfSome result (λ action. IsForEvents events (seen_action action)) }
+    ensures { option_map seen_action result ≡ withdraw_of (words_of rest.now) }
 {
     let (word, behind) = first_word(rest)?;
     if first_word(behind).is_some() {
@@ -205,8 +222,7 @@ fn read_withdraw(rest: &[u8]) -> Option<Action<'_>>
 }
 
 fn read_merge(rest: &[u8]) -> Option<Action<'_>>
-    ensures action { option_map seen_action result ≡ merge_of (words_of rest.now) }
-    ensures fits { (events : ℕ) → IfSome result (λ action. IsForEvents events (seen_action action)) }
+    ensures { option_map seen_action result ≡ merge_of (words_of rest.now) }
 {
     let (word, behind) = first_word(rest)?;
     if first_word(behind).is_some() {
@@ -219,8 +235,7 @@ fn read_merge(rest: &[u8]) -> Option<Action<'_>>
 }
 
 fn read_send(rest: &[u8]) -> Option<Action<'_>>
-    ensures action { option_map seen_action result ≡ send_of (words_of rest.now) }
-    ensures fits { (events : ℕ) → IfSome result (λ action. IsForEvents events (seen_action action)) }
+    ensures { option_map seen_action result ≡ send_of (words_of rest.now) }
 {
     match first_word(rest) {
         Some(_) => {
@@ -285,8 +300,7 @@ pub fn read_tombstones<A: Allocator>(alloc: A, line: &[u8]) -> Result<Vec<Id, A>
 }
 
 fn read_deliver(rest: &[u8]) -> Option<Action<'_>>
-    ensures action { option_map seen_action result ≡ deliver_of (words_of rest.now) }
-    ensures fits { (events : ℕ) → IfSome result (λ action. IsForEvents events (seen_action action)) }
+    ensures { option_map seen_action result ≡ deliver_of (words_of rest.now) }
 {
     let (word, behind) = first_word(rest)?;
     if first_word(behind).is_some() {
@@ -299,8 +313,7 @@ fn read_deliver(rest: &[u8]) -> Option<Action<'_>>
 }
 
 fn read_report(rest: &[u8]) -> Option<Action<'_>>
-    ensures action { option_map seen_action result ≡ report_of (words_of rest.now) }
-    ensures fits { (events : ℕ) → IfSome result (λ action. IsForEvents events (seen_action action)) }
+    ensures { option_map seen_action result ≡ report_of (words_of rest.now) }
 {
     match first_word(rest) {
         Some(_) => None,
@@ -309,8 +322,7 @@ fn read_report(rest: &[u8]) -> Option<Action<'_>>
 }
 
 fn read_check(events: u16, rest: &[u8]) -> Option<Action<'_>>
-    ensures action { option_map seen_action result ≡ check_of events (words_of rest.now) }
-    ensures fits { IfSome result (λ action. IsForEvents events (seen_action action)) }
+    ensures { option_map seen_action result ≡ check_of events (words_of rest.now) }
 {
     if count_words(rest) == usize::from(events) {
         Some(Action::Check(rest))
@@ -320,8 +332,7 @@ fn read_check(events: u16, rest: &[u8]) -> Option<Action<'_>>
 }
 
 fn read_next(rest: &[u8]) -> Option<Action<'_>>
-    ensures action { option_map seen_action result ≡ next_of (words_of rest.now) }
-    ensures fits { (events : ℕ) → IfSome result (λ action. IsForEvents events (seen_action action)) }
+    ensures { option_map seen_action result ≡ next_of (words_of rest.now) }
 {
     let (now, behind) = first_word(rest)?;
     match first_word(behind) {
@@ -331,8 +342,7 @@ fn read_next(rest: &[u8]) -> Option<Action<'_>>
 }
 
 fn read_rehearse(rest: &[u8]) -> Option<Action<'_>>
-    ensures action { option_map seen_action result ≡ rehearse_of (words_of rest.now) }
-    ensures fits { (events : ℕ) → IfSome result (λ action. IsForEvents events (seen_action action)) }
+    ensures { option_map seen_action result ≡ rehearse_of (words_of rest.now) }
 {
     let (now, behind) = first_word(rest)?;
     match first_word(behind) {
@@ -343,17 +353,16 @@ fn read_rehearse(rest: &[u8]) -> Option<Action<'_>>
 
 // A question of one word.
 fn read_alone<'a>(name: &[u8], rest: &'a [u8]) -> Option<Action<'a>>
-    ensures action { option_map seen_action result ≡ alone_of name.now (words_of rest.now) }
-    ensures fits { (events : ℕ) → IfSome result (λ action. IsForEvents events (seen_action action)) }
+    ensures { option_map seen_action result ≡ alone_of name.now (words_of rest.now) }
 {
     if first_word(rest).is_some() {
         return None;
     }
-    if name == b"records".as_slice() {
+    if is_named(name, b"records") {
         Some(Action::Ask(Inquiry::Records))
-    } else if name == b"steps".as_slice() {
+    } else if is_named(name, b"steps") {
         Some(Action::Ask(Inquiry::Steps))
-    } else if name == b"bounds".as_slice() {
+    } else if is_named(name, b"bounds") {
         Some(Action::Ask(Inquiry::Bounds))
     } else {
         None
@@ -361,8 +370,7 @@ fn read_alone<'a>(name: &[u8], rest: &'a [u8]) -> Option<Action<'a>>
 }
 
 fn read_ready(rest: &[u8]) -> Option<Action<'_>>
-    ensures action { option_map seen_action result ≡ ready_of (words_of rest.now) }
-    ensures fits { (events : ℕ) → IfSome result (λ action. IsForEvents events (seen_action action)) }
+    ensures { option_map seen_action result ≡ ready_of (words_of rest.now) }
 {
     let (now, behind) = first_word(rest)?;
     match first_word(behind) {
@@ -372,8 +380,7 @@ fn read_ready(rest: &[u8]) -> Option<Action<'_>>
 }
 
 fn read_why(rest: &[u8]) -> Option<Action<'_>>
-    ensures action { option_map seen_action result ≡ why_of (words_of rest.now) }
-    ensures fits { (events : ℕ) → IfSome result (λ action. IsForEvents events (seen_action action)) }
+    ensures { option_map seen_action result ≡ why_of (words_of rest.now) }
 {
     let (word, behind) = first_word(rest)?;
     if first_word(behind).is_some() {

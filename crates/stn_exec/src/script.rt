@@ -34,7 +34,7 @@ use thiserror::Error;
 
 /// What a run did: how many lines after the heading are not skipped, and how many refused lines were printed, a
 /// refused heading too.
-#[derive(Clone, Copy, Debug, PartialEq, Eq)]
+#[derive(Clone, Copy, PartialEq, Eq)]
 pub struct Ran {
     pub commands: u32,
     pub refused: u32,
