@@ -16,9 +16,8 @@
 mod memory;
 
 use crate::memory::{put, run_in_memory};
-use anyhow::{Context, Error, bail};
-use std::alloc::Global;
-use std::io::Write;
+use std::alloc::{AllocError, Global};
+use std::io::{Error, Write};
 use std::os::unix::fs::symlink;
 use std::{fs, io};
 use stn_device::Counted;
@@ -28,38 +27,50 @@ use stn_store::MemoryStore;
 // What stands on the standard input of a command.
 const SCRIPT: &[u8] = b"steps 0\nsites 1\n1 report\n";
 
-// The words of a command line.
-fn words_of<'a>(alloc: Global, line: &'a str) -> io::Result<Vec<&'a str>> {
-    let mut words = Vec::new(alloc);
+// Appends the words of a command line.
+fn append_words<'a>(line: &'a str, words: &mut Vec<&'a str>) -> Result<(), AllocError> {
     words.push("stn")?;
     for word in line.split_whitespace() {
         words.push(if word == "\"\"" { "" } else { word })?;
     }
-    Ok(words)
+    Ok(())
 }
 
-// Does the command of a line, and prints what it prints and its status.
-fn run_line(rt: &HostRuntime, line: &str, input: &[u8]) -> io::Result<()> {
-    let words = words_of(rt.alloc(), line)?;
-    let mut reader = Counted::new(input);
-    let mut out = Counted::new(io::writer(rt));
-    let mut err = Counted::new(Vec::new(rt.alloc()));
-    let status = execute(rt, &words, &mut reader, &mut out, &mut err);
-    let fault = err.into_inner();
+// Prints the fault of a command, if there is one, and its status.
+fn print_end(rt: &HostRuntime, fault: &[u8], status: u8) -> io::Result<()> {
     if fault.starts_with(b"fault ") {
-        print!(rt; "{}", String::from_utf8_lossy(rt.alloc(), &fault)?)?;
+        io::writer(rt).write_all(fault)?;
     }
     println!(rt; "status {status}")
 }
 
-// Does the command of a line, and prints its status alone.
-fn run_quietly(rt: &HostRuntime, line: &str) -> io::Result<()> {
-    let words = words_of(rt.alloc(), line)?;
+fn run_words(rt: &HostRuntime, words: &[&str], input: &[u8]) -> io::Result<()> {
+    let mut reader = Counted::new(input);
+    let mut out = Counted::new(io::writer(rt));
+    let mut err = Counted::new(Vec::new(rt.alloc()));
+    let status = execute(rt, words, &mut reader, &mut out, &mut err);
+    print_end(rt, &err.into_inner(), status)
+}
+
+// Does the command of a line, and prints what it prints and its status.
+fn run_line(rt: &HostRuntime, line: &str, input: &[u8]) -> io::Result<()> {
+    let mut words = Vec::new(rt.alloc());
+    append_words(line, &mut words)?;
+    run_words(rt, &words, input)
+}
+
+fn status_of(rt: &HostRuntime, words: &[&str]) -> u8 {
     let mut reader = Counted::new(SCRIPT);
     let mut out = Counted::new(Vec::new(rt.alloc()));
     let mut err = Counted::new(Vec::new(rt.alloc()));
-    let status = execute(rt, &words, &mut reader, &mut out, &mut err);
-    println!(rt; "status {status}")
+    execute(rt, words, &mut reader, &mut out, &mut err)
+}
+
+// Does the command of a line, and prints its status alone.
+fn run_quietly(rt: &HostRuntime, line: &str) -> io::Result<()> {
+    let mut words = Vec::new(rt.alloc());
+    append_words(line, &mut words)?;
+    println!(rt; "status {}", status_of(rt, &words))
 }
 
 // Prints the bytes of a file.
@@ -70,29 +81,50 @@ fn print_file(rt: &HostRuntime, name: &str) -> io::Result<()> {
     }
 }
 
-// Puts so many times these bytes after a file.
-fn append(rt: &HostRuntime, name: &str, count: u32, bytes: &[u8]) -> io::Result<()> {
-    let mut options = fs::OpenOptions::new();
-    let mut file = options.create(true).append(true).open(rt, name)?;
+fn write_often(file: &mut fs::File, count: u32, bytes: &[u8]) -> io::Result<()> {
     for _ in 0..count {
         file.write_all(bytes)?;
     }
     Ok(())
 }
 
-// A text whose lines `|` parts, each with its LF.
-fn text_of(alloc: Global, lines: &str) -> io::Result<Vec<u8>> {
-    let mut text = Vec::new(alloc);
+// Puts so many times these bytes after a file.
+fn append(rt: &HostRuntime, name: &str, count: u32, bytes: &[u8]) -> io::Result<()> {
+    let mut options = fs::OpenOptions::new();
+    let mut file = options.create(true).append(true).open(rt, name)?;
+    write_often(&mut file, count, bytes)
+}
+
+fn append_bytes(rt: &HostRuntime, name: &str, words: &str) -> io::Result<()> {
+    let (count, digits) = cut_word(words);
+    match hex::decode(rt.alloc(), digits) {
+        Ok(bytes) => append(rt, name, count.parse().unwrap_or(0), &bytes),
+        Err(_) => Err(Error::other("no bytes")),
+    }
+}
+
+fn append_lines(lines: &str, text: &mut Vec<u8>) -> Result<(), AllocError> {
     for line in lines.split('|') {
         text.extend_from_slice(line.as_bytes())?;
         text.push(b'\n')?;
     }
+    Ok(())
+}
+
+// A text whose lines `|` parts, each with its LF.
+fn text_of(alloc: Global, lines: &str) -> Result<Vec<u8>, AllocError> {
+    let mut text = Vec::new(alloc);
+    append_lines(lines, &mut text)?;
     Ok(text)
 }
 
-// A frame of so many withdrawn ids of a site.
-fn withdrawn(alloc: Global, site: u16, many: u16) -> io::Result<Vec<u8>> {
-    let mut frame = Vec::new(alloc);
+fn append_text(rt: &HostRuntime, name: &str, lines: &str) -> io::Result<()> {
+    let text = text_of(rt.alloc(), lines)?;
+    append(rt, name, 1, &text)
+}
+
+// Appends a frame of so many withdrawn ids of a site.
+fn append_frame(site: u16, many: u16, frame: &mut Vec<u8>) -> Result<(), AllocError> {
     let length = 5 + 4 * u32::from(many);
     frame.extend_from_slice(&length.to_be_bytes())?;
     frame.extend_from_slice(&[8, 0, 0])?;
@@ -101,12 +133,29 @@ fn withdrawn(alloc: Global, site: u16, many: u16) -> io::Result<Vec<u8>> {
         frame.extend_from_slice(&site.to_be_bytes())?;
         frame.extend_from_slice(&counter.to_be_bytes())?;
     }
-    Ok(frame)
+    Ok(())
 }
 
-// Does a command over a file that is cut to each length.
-fn run_cuts(rt: &HostRuntime, file: &str, cut: &str, line: &str) -> io::Result<()> {
-    let bytes = fs::read(rt, file)?;
+fn append_withdrawn(rt: &HostRuntime, name: &str, words: &str) -> io::Result<()> {
+    let (count, rest) = cut_word(words);
+    let (site, many) = cut_word(rest);
+    let mut frame = Vec::new(rt.alloc());
+    append_frame(
+        site.parse().unwrap_or(0),
+        many.parse().unwrap_or(0),
+        &mut frame,
+    )?;
+    append(rt, name, count.parse().unwrap_or(0), &frame)
+}
+
+// Does a command with a file as its standard input.
+fn run_from(rt: &HostRuntime, name: &str, line: &str) -> io::Result<()> {
+    let input = fs::read(rt, name)?;
+    run_line(rt, line, &input)
+}
+
+fn run_each_cut(rt: &HostRuntime, bytes: &[u8], words: &str) -> io::Result<()> {
+    let (cut, line) = cut_word(words);
     for length in 0..=bytes.len() {
         fs::write(rt, cut, &bytes[..length])?;
         println!(rt; "{length}")?;
@@ -115,59 +164,50 @@ fn run_cuts(rt: &HostRuntime, file: &str, cut: &str, line: &str) -> io::Result<(
     Ok(())
 }
 
+// Does a command over a file that is cut to each length.
+fn run_cuts(rt: &HostRuntime, name: &str, words: &str) -> io::Result<()> {
+    let bytes = fs::read(rt, name)?;
+    run_each_cut(rt, &bytes, words)
+}
+
 // The first word of a line, and what follows it.
-fn cut_word(line: &str) -> Result<(&str, &str), Error> {
-    line.split_once(' ').context("a word is missing")
+fn cut_word(line: &str) -> (&str, &str) {
+    line.split_once(' ').unwrap_or((line, ""))
 }
 
 // Makes or shows files.
-fn do_other(rt: &HostRuntime, line: &str) -> Result<(), Error> {
-    let (word, rest) = cut_word(line)?;
-    let (name, rest) = rest.split_once(' ').unwrap_or((rest, ""));
+fn do_other(rt: &HostRuntime, line: &str) -> io::Result<()> {
+    let (word, rest) = cut_word(line);
+    let (name, rest) = cut_word(rest);
     match word {
-        "=" => print_file(rt, name)?,
-        ":bytes" => {
-            let (count, digits) = cut_word(rest)?;
-            let bytes = hex::decode(rt.alloc(), digits)?;
-            append(rt, name, count.parse()?, &bytes)?;
-        }
-        ":text" => append(rt, name, 1, &text_of(rt.alloc(), rest)?)?,
-        ":withdrawn" => {
-            let (count, rest) = cut_word(rest)?;
-            let (site, many) = cut_word(rest)?;
-            let frame = withdrawn(rt.alloc(), site.parse()?, many.parse()?)?;
-            append(rt, name, count.parse()?, &frame)?;
-        }
-        ":folder" => fs::create_dir(rt, name)?,
-        ":link" => symlink(rt, rest, name)?,
-        ":from" => run_line(rt, rest, &fs::read(rt, name)?)?,
-        ":cuts" => {
-            let (cut, words) = cut_word(rest)?;
-            run_cuts(rt, name, cut, words)?;
-        }
-        _ => bail!("no such line"),
+        "=" => print_file(rt, name),
+        ":bytes" => append_bytes(rt, name, rest),
+        ":text" => append_text(rt, name, rest),
+        ":withdrawn" => append_withdrawn(rt, name, rest),
+        ":folder" => fs::create_dir(rt, name),
+        ":link" => symlink(rt, rest, name),
+        ":from" => run_from(rt, name, rest),
+        ":cuts" => run_cuts(rt, name, rest),
+        _ => Err(Error::other("no such line")),
     }
-    Ok(())
 }
 
 // Does what a line says.
-fn do_line(rt: &HostRuntime, store: &mut MemoryStore, line: &str) -> Result<(), Error> {
+fn do_line(rt: &HostRuntime, store: &mut MemoryStore, line: &str) -> io::Result<()> {
     if let Some(words) = line.strip_prefix(":memory-text ") {
         put(rt.alloc(), store, words)
     } else if let Some(words) = line.strip_prefix(":memory ") {
         run_in_memory(rt, store, words)
     } else if let Some(words) = line.strip_prefix(":status ") {
-        run_quietly(rt, words)?;
-        Ok(())
+        run_quietly(rt, words)
     } else if line.starts_with(':') || line.starts_with('=') {
         do_other(rt, line)
     } else {
-        run_line(rt, line, SCRIPT)?;
-        Ok(())
+        run_line(rt, line, SCRIPT)
     }
 }
 
-fn do_lines(rt: &HostRuntime, store: &mut MemoryStore) -> Result<(), Error> {
+fn do_lines(rt: &HostRuntime, store: &mut MemoryStore) -> io::Result<()> {
     for line in rt.lines(rt.alloc()) {
         let line = line?;
         println!(rt; "> {line}")?;
@@ -176,7 +216,7 @@ fn do_lines(rt: &HostRuntime, store: &mut MemoryStore) -> Result<(), Error> {
     Ok(())
 }
 
-fn main(rt: HostRuntime) -> Result<(), Error> {
+fn main(rt: HostRuntime) -> io::Result<()> {
     let mut store = MemoryStore::new(rt.alloc());
     do_lines(&rt, &mut store)
 }
