@@ -2,8 +2,9 @@
 """Runs the gate, rt ci, with nothing kept of earlier runs, and prints where its time went: in all, the dearest parts (ten, or
 as many as an argument says), and the longest chain of crates.
 
-Once a second it asks the system how long each process of the prover has run. A part is a crate's proof, its tests, or its
-must-fail edits. A process that begins and ends within a second is missed; the line `in all` counts everything.
+Once a second it asks the system how long each process of the prover has run. A part is a crate's proof, its tests, the base
+of its must-fail edits (a second proof, over which each edit is tried), or these edits. A process that begins and ends within
+a second is missed; the line `in all` counts everything.
 """
 import os
 import re
@@ -42,8 +43,13 @@ def part_of(pid):
     except OSError:
         return None
     if folder.startswith("rt-edit-"):
-        return "edits", crate
+        return ("base" if is_base(words) else "edits"), crate
     return ("tests" if "--test" in words else "proof"), crate
+
+
+def is_base(words):
+    """Returns whether these are the words of a check that makes the base of a crate's edits, or looks at it again."""
+    return "--incremental" in words and os.path.basename(words[words.index("--incremental") + 1]) == "seed"
 
 
 def sample(seen, gate):
@@ -97,10 +103,10 @@ def main():
     parts, proofs = {}, {}
     for (kind, crate), seconds in seen.values():
         parts[kind, crate] = parts.get((kind, crate), 0) + seconds
-        if kind != "edits":
+        if kind in ("proof", "tests"):
             proofs[crate] = proofs.get(crate, 0) + seconds
     print(f"in all: {(used.ru_utime + used.ru_stime) / 60:.0f} minutes of one processor, {(time.time() - began) / 60:.0f} by the clock")
-    for kind in ("proof", "tests", "edits"):
+    for kind in ("proof", "tests", "base", "edits"):
         print(f"{kind}: {sum(it for key, it in parts.items() if key[0] == kind) / 60:.0f} minutes")
     for (kind, crate), seconds in sorted(parts.items(), key=lambda it: -it[1])[:DEAREST]:
         print(f"{seconds:7.0f} s  {kind} of {crate}")
