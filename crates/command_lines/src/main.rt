@@ -10,11 +10,14 @@
 //! - `:status WORDS` prints the status of a command alone;
 //! - `:cuts FILE CUT WORDS` does a command once for each length that FILE can be cut to, over a file CUT that is cut so;
 //! - `:memory-text NAME LINES` puts a text whose lines `|` parts into the store under a name;
-//! - `:memory WORDS` does a command over the store, and prints what it answers, or why it is refused.
+//! - `:memory WORDS` does a command over the store, and prints what it answers, or why it is refused;
+//! - `:loopback` serves and sends logs over connections on this machine, and prints what both ends make of it.
 #![tactic(auto)]
 
+mod loopback;
 mod memory;
 
+use crate::loopback::run_both_ends;
 use crate::memory::{put, run_in_memory};
 use std::alloc::{AllocError, Global};
 use std::io::{Error, Write};
@@ -188,6 +191,7 @@ fn do_other(rt: &HostRuntime, line: &str) -> io::Result<()> {
         ":link" => symlink(rt, rest, name),
         ":from" => run_from(rt, name, rest),
         ":cuts" => run_cuts(rt, name, rest),
+        ":loopback" => run_both_ends(rt),
         _ => Err(Error::other("no such line")),
     }
 }

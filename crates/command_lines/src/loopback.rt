@@ -1,14 +1,11 @@
-//! For tests: both ends of connections on this machine, one end after the other. It prints what a session answers and what the
-//! other site makes of the replies, what `serve_on` and `send_on` print and their statuses, and what the saved log then reports. Some
-//! of the other ends keep silent, or read nothing.
-#![tactic(auto)]
-
+// Both ends of connections on this machine, one end after the other. What a session answers is printed, and what the other site
+// makes of the replies, what `serve_on` and `send_on` print and their statuses, and what the saved log then reports. Some of the
+// other ends keep silent, or read nothing.
 mod changing;
 mod untrusted;
 
-use anyhow::{Context, Error, bail};
 use std::alloc::Global;
-use std::io::{Read, Write};
+use std::io::{Error, Read, Write};
 use std::net::{Shutdown, TcpListener, TcpStream};
 use std::time::Duration;
 use std::{fs, io};
@@ -45,28 +42,40 @@ const REPLIES: [u8; 69] = [
 const REPORT: &[u8] =
     b"plan 1 steps 2 events\nrecords 2 live 0 withdrawn\nok\ns1 2.000 10.000\ne1 7.000 15.000\n";
 
+fn first_site() -> Site {
+    Site::new(1).unwrap()
+}
+
+fn second_site() -> Site {
+    Site::new(2).unwrap()
+}
+
 // The replica of a site by its log.
-fn load_log(rt: &HostRuntime, log: &str, site: u8) -> Result<Replica<Global>, Error> {
-    let site = Site::new(site).context("no site")?;
+fn load_log(rt: &HostRuntime, log: &str, site: Site) -> io::Result<Replica<Global>> {
     let mut reader = Counted::new(fs::open(rt, log)?);
-    Ok(load(rt.alloc(), &mut reader, site)?)
+    match load(rt.alloc(), &mut reader, site) {
+        Ok(replica) => Ok(replica),
+        Err(_) => Err(Error::other("a log is not loaded")),
+    }
 }
 
 // Works on the replica of a site by its log.
-fn with_log<F: Fn(&mut Replica<Global>) -> Result<(), Error>>(
+fn with_log<F: Fn(&mut Replica<Global>) -> io::Result<()>>(
     rt: &HostRuntime,
     log: &str,
-    site: u8,
+    site: Site,
     work: F,
-) -> Result<(), Error>
+) -> io::Result<()>
     requires { F.IsAlwaysCallable work }
 {
     let mut replica = load_log(rt, log, site)?;
-    work(&mut replica)
+    let answer = work(&mut replica);
+    drop(replica);
+    answer
 }
 
 // Does a command, and prints its status.
-fn command(rt: &HostRuntime, words: &[&str]) -> Result<(), Error> {
+fn command(rt: &HostRuntime, words: &[&str]) -> io::Result<()> {
     let mut reader = Counted::new(b"".as_slice());
     let mut out = Counted::new(io::writer(rt));
     let mut err = Counted::new(io::writer(rt));
@@ -74,23 +83,22 @@ fn command(rt: &HostRuntime, words: &[&str]) -> Result<(), Error> {
     print_status(rt, status)
 }
 
-fn print_status(rt: &HostRuntime, status: u8) -> Result<(), Error> {
-    println!(rt; "status {status}")?;
-    Ok(())
+fn print_status(rt: &HostRuntime, status: u8) -> io::Result<()> {
+    println!(rt; "status {status}")
 }
 
 // Adds a bound to the log of site 1.
-fn add(rt: &HostRuntime, from: &str, to: &str, lo: &str, hi: &str) -> Result<(), Error> {
-    command(rt, &["stn", "add", "t.log", "1", from, to, lo, hi])
+fn add(rt: &HostRuntime, from: &str, to: &str, lo: &str, hi: &str) -> io::Result<()> {
+    command(rt, &["stn", "add", "near.log", "1", from, to, lo, hi])
 }
 
 // A connection to the listener.
-fn connect(rt: &HostRuntime, listener: &TcpListener) -> Result<TcpStream, Error> {
-    Ok(TcpStream::connect(rt, listener.local_addr()?)?)
+fn connect(rt: &HostRuntime, listener: &TcpListener) -> io::Result<TcpStream> {
+    TcpStream::connect(rt, listener.local_addr()?)
 }
 
 // A connection on which these bytes wait.
-fn begin(rt: &HostRuntime, listener: &TcpListener, bytes: &[u8]) -> Result<TcpStream, Error> {
+fn begin(rt: &HostRuntime, listener: &TcpListener, bytes: &[u8]) -> io::Result<TcpStream> {
     let stream = connect(rt, listener)?;
     (&stream).write_all(bytes)?;
     Ok(stream)
@@ -101,19 +109,22 @@ fn ask(
     rt: &HostRuntime,
     listener: &TcpListener,
     replica: &Replica<Global>,
-) -> Result<TcpStream, Error> {
+) -> io::Result<TcpStream> {
     let stream = connect(rt, listener)?;
-    let mut writer = Counted::new(&stream);
-    send_requests(rt.alloc(), replica, &mut writer)?;
+    send_all(rt.alloc(), &stream, replica)?;
     Ok(stream)
 }
 
+fn send_all(alloc: Global, stream: &TcpStream, replica: &Replica<Global>) -> io::Result<()> {
+    let mut writer = Counted::new(stream);
+    match send_requests(alloc, replica, &mut writer) {
+        Ok(()) => Ok(()),
+        Err(_) => Err(Error::other("requests are not sent")),
+    }
+}
+
 // Takes in the replies, and prints their text and what the replica then reports.
-fn receive(
-    rt: &HostRuntime,
-    stream: &TcpStream,
-    replica: &mut Replica<Global>,
-) -> Result<(), Error> {
+fn receive(rt: &HostRuntime, stream: &TcpStream, replica: &mut Replica<Global>) -> io::Result<()> {
     receive_text(rt, stream, replica)?;
     print_report(rt, replica)
 }
@@ -122,26 +133,27 @@ fn receive_text(
     rt: &HostRuntime,
     stream: &TcpStream,
     replica: &mut Replica<Global>,
-) -> Result<(), Error> {
+) -> io::Result<()> {
     let mut reader = Counted::new(stream);
-    let text = receive_replies(rt.alloc(), &mut reader, replica)?;
-    print_text(rt, &text)
+    match receive_replies(rt.alloc(), &mut reader, replica) {
+        Ok(text) => print_text(rt, &text),
+        Err(_) => Err(Error::other("replies are not taken")),
+    }
 }
 
-fn print_report(rt: &HostRuntime, replica: &Replica<Global>) -> Result<(), Error> {
+fn print_report(rt: &HostRuntime, replica: &Replica<Global>) -> io::Result<()> {
     let mut report = Vec::new(rt.alloc());
     replica.report(&mut report)?;
     print_text(rt, &report)
 }
 
-fn print_text(rt: &HostRuntime, text: &[u8]) -> Result<(), Error> {
-    print!(rt; "{}", String::from_utf8_lossy(rt.alloc(), text)?)?;
-    Ok(())
+fn print_text(rt: &HostRuntime, text: &[u8]) -> io::Result<()> {
+    io::writer(rt).write_all(text)
 }
 
 // A session over a connection whose other end stays.
-fn session(rt: &HostRuntime, listener: &TcpListener) -> Result<(), Error> {
-    with_log(rt, "u.log", 2, |replica| {
+fn session(rt: &HostRuntime, listener: &TcpListener) -> io::Result<()> {
+    with_log(rt, "far.log", second_site(), |replica| {
         let other = ask(rt, listener, replica)?;
         serve_next(rt, listener)?;
         receive(rt, &other, replica)
@@ -149,8 +161,8 @@ fn session(rt: &HostRuntime, listener: &TcpListener) -> Result<(), Error> {
 }
 
 // Serves the next connection as far as the requests go.
-fn serve_next(rt: &HostRuntime, listener: &TcpListener) -> Result<(), Error> {
-    with_log(rt, "t.log", 1, |replica| {
+fn serve_next(rt: &HostRuntime, listener: &TcpListener) -> io::Result<()> {
+    with_log(rt, "near.log", first_site(), |replica| {
         let (stream, _) = listener.accept()?;
         serve_requested(rt, &stream, replica)
     })
@@ -160,12 +172,13 @@ fn serve_requested(
     rt: &HostRuntime,
     stream: &TcpStream,
     replica: &mut Replica<Global>,
-) -> Result<(), Error> {
+) -> io::Result<()> {
     let mut reader = Counted::new(stream.take(REQUESTS_LENGTH));
     let mut writer = Counted::new(stream);
-    let served = serve(rt.alloc(), &mut reader, &mut writer, replica)?;
-    println!(rt; "{} frames, {:?}", served.frames, served.end)?;
-    Ok(())
+    match serve(rt.alloc(), &mut reader, &mut writer, replica) {
+        Ok(served) => println!(rt; "{} frames, {:?}", served.frames, served.end),
+        Err(_) => Err(Error::other("a session is broken")),
+    }
 }
 
 // Serves the connections that wait by a log of site 1, and prints the status.
@@ -174,11 +187,11 @@ fn serve_waiting(
     listener: &TcpListener,
     count: u16,
     log: &str,
-) -> Result<(), Error> {
+) -> io::Result<()> {
     with_log(
         rt,
         log,
-        1,
+        first_site(),
         |replica| serve_log(rt, listener, count, log, replica),
     )
 }
@@ -190,15 +203,17 @@ fn serve_log(
     count: u16,
     log: &str,
     replica: &mut Replica<Global>,
-) -> Result<(), Error> {
+) -> io::Result<()> {
     let service = Service {
         listener,
         count,
         limit: Duration::from_millis(LIMIT),
     };
-    let site = Site::new(1).context("no site")?;
-    let status = status_of_serving(rt, &service, &SiteLog { name: log, site }, replica);
-    print_status(rt, status)
+    let log = SiteLog {
+        name: log,
+        site: first_site(),
+    };
+    print_status(rt, status_of_serving(rt, &service, &log, replica))
 }
 
 fn status_of_serving(
@@ -221,29 +236,29 @@ fn status_of_serving(
 }
 
 // A connection whose requests end in bytes that are no frame.
-fn serve_refused(rt: &HostRuntime, listener: &TcpListener) -> Result<(), Error> {
-    with_log(rt, "u.log", 2, |replica| {
+fn serve_refused(rt: &HostRuntime, listener: &TcpListener) -> io::Result<()> {
+    with_log(rt, "far.log", second_site(), |replica| {
         let other = ask(rt, listener, replica)?;
         (&other).write_all(&[0, 4, 0, 1])?;
-        serve_waiting(rt, listener, 1, "t.log")?;
+        serve_waiting(rt, listener, 1, "near.log")?;
         receive(rt, &other, replica)
     })
 }
 
 // A connection that ends within a frame, and one that says nothing.
-fn serve_broken(rt: &HostRuntime, listener: &TcpListener) -> Result<(), Error> {
+fn serve_broken(rt: &HostRuntime, listener: &TcpListener) -> io::Result<()> {
     drop(begin(rt, listener, &[0, 0, 0, 4, 7])?);
     drop(connect(rt, listener)?);
-    serve_waiting(rt, listener, 2, "t.log")
+    serve_waiting(rt, listener, 2, "near.log")
 }
 
 // Sends over a connection on which the replies of a site with two records wait.
-fn send(rt: &HostRuntime, listener: &TcpListener) -> Result<(), Error> {
+fn send(rt: &HostRuntime, listener: &TcpListener) -> io::Result<()> {
     let replies = replies_of_two(rt.alloc())?;
     send_waiting(rt, listener, &replies)
 }
 
-fn replies_of_two(alloc: Global) -> Result<Vec<u8>, Error> {
+fn replies_of_two(alloc: Global) -> io::Result<Vec<u8>> {
     let mut replies = Vec::from_slice(alloc, &REPLIES)?;
     replies.extend_from_slice(REPORT)?;
     Ok(replies)
@@ -263,33 +278,43 @@ const REQUESTS: [&str; 7] = [
 ];
 
 // Sends requests, and says that nothing more comes.
-fn send_bytes(rt: &HostRuntime, listener: &TcpListener, digits: &str) -> Result<TcpStream, Error> {
-    let bytes = hex::decode(rt.alloc(), digits)?;
+fn send_bytes(rt: &HostRuntime, listener: &TcpListener, digits: &str) -> io::Result<TcpStream> {
     let stream = connect(rt, listener)?;
-    write_all_of(&stream, &bytes)?;
+    write_digits(rt, &stream, digits)?;
     Ok(stream)
 }
 
+// Writes the bytes that these digits spell, and says that nothing more comes.
+fn write_digits(rt: &HostRuntime, stream: &TcpStream, digits: &str) -> io::Result<()> {
+    match hex::decode(rt.alloc(), digits) {
+        Ok(bytes) => write_all_of(stream, &bytes),
+        Err(_) => Err(Error::other("no digits")),
+    }
+}
+
 // Serves each of the requests, and prints the replies.
-fn serve_requests(rt: &HostRuntime, listener: &TcpListener) -> Result<(), Error> {
+fn serve_requests(rt: &HostRuntime, listener: &TcpListener) -> io::Result<()> {
     for digits in REQUESTS {
         serve_request(rt, listener, digits)?;
     }
     Ok(())
 }
 
-fn serve_request(rt: &HostRuntime, listener: &TcpListener, digits: &str) -> Result<(), Error> {
+fn serve_request(rt: &HostRuntime, listener: &TcpListener, digits: &str) -> io::Result<()> {
     let other = send_bytes(rt, listener, digits)?;
-    serve_waiting(rt, listener, 1, "t.log")?;
+    serve_waiting(rt, listener, 1, "near.log")?;
     print_replies(rt, &other)
 }
 
-fn print_replies(rt: &HostRuntime, other: &TcpStream) -> Result<(), Error> {
+fn print_replies(rt: &HostRuntime, other: &TcpStream) -> io::Result<()> {
     let mut reader = other;
     let mut replies = Vec::new(rt.alloc());
     reader.read_to_end(&mut replies)?;
-    println!(rt; "{}", hex::encode(rt.alloc(), &replies)?)?;
-    Ok(())
+    print_digits(rt, &replies)
+}
+
+fn print_digits(rt: &HostRuntime, bytes: &[u8]) -> io::Result<()> {
+    println!(rt; "{}", hex::encode(rt.alloc(), bytes)?)
 }
 
 // A HELLO, and the record 3.1 from z to s1 at 3.000.
@@ -303,15 +328,16 @@ const BEFORE_ASKING: [u8; 42] = [
 ];
 
 // These, and 100 times ASK, from a site that goes away before it is answered.
-fn serve_gone(rt: &HostRuntime, listener: &TcpListener) -> Result<(), Error> {
+fn serve_gone(rt: &HostRuntime, listener: &TcpListener) -> io::Result<()> {
     ask_and_go(rt, listener)?;
-    serve_waiting(rt, listener, 1, "t.log")
+    serve_waiting(rt, listener, 1, "near.log")
 }
 
-fn ask_and_go(rt: &HostRuntime, listener: &TcpListener) -> Result<(), Error> {
+fn ask_and_go(rt: &HostRuntime, listener: &TcpListener) -> io::Result<()> {
     let stream = begin(rt, listener, &BEFORE_ASKING)?;
-    ask_often(&stream)?;
-    Ok(())
+    let answer = ask_often(&stream);
+    drop(stream);
+    answer
 }
 
 fn ask_often(stream: &TcpStream) -> io::Result<()> {
@@ -323,13 +349,12 @@ fn ask_often(stream: &TcpStream) -> io::Result<()> {
 }
 
 // A session after which the log can't be saved.
-fn serve_unsaved(rt: &HostRuntime, listener: &TcpListener) -> Result<(), Error> {
-    fs::remove_file(rt, "t.log.lock")?;
-    fs::create_dir(rt, "t.log.lock")?;
+fn serve_unsaved(rt: &HostRuntime, listener: &TcpListener) -> io::Result<()> {
+    fs::remove_file(rt, "near.log.lock")?;
+    fs::create_dir(rt, "near.log.lock")?;
     drop(connect(rt, listener)?);
-    serve_waiting(rt, listener, 1, "t.log")?;
-    fs::remove_dir(rt, "t.log.lock")?;
-    Ok(())
+    serve_waiting(rt, listener, 1, "near.log")?;
+    fs::remove_dir(rt, "near.log.lock")
 }
 
 // Replies that are refused: REFUSED 52, SAME and the end, a length of 0, an unknown kind, a body that breaks a rule, ASK; SAME, a
@@ -347,11 +372,11 @@ const REFUSED_REPLIES: [&str; 9] = [
 ];
 
 // Sends over a connection on which these replies wait.
-fn send_waiting(rt: &HostRuntime, listener: &TcpListener, replies: &[u8]) -> Result<(), Error> {
+fn send_waiting(rt: &HostRuntime, listener: &TcpListener, replies: &[u8]) -> io::Result<()> {
     with_log(
         rt,
-        "u.log",
-        2,
+        "far.log",
+        second_site(),
         |replica| send_replica(rt, listener, replies, replica),
     )
 }
@@ -362,7 +387,7 @@ fn send_replica(
     listener: &TcpListener,
     replies: &[u8],
     replica: &mut Replica<Global>,
-) -> Result<(), Error> {
+) -> io::Result<()> {
     let stream = connect(rt, listener)?;
     let (other, _) = listener.accept()?;
     write_all_of(&other, replies)?;
@@ -377,26 +402,14 @@ fn write_all_of(stream: &TcpStream, bytes: &[u8]) -> io::Result<()> {
 }
 
 // Sends over a connection, and prints the status.
-fn send_over(
-    rt: &HostRuntime,
-    stream: TcpStream,
-    replica: &mut Replica<Global>,
-) -> Result<(), Error> {
-    let site = Site::new(2).context("no site")?;
-    let Ok(peer) = Peer::of(rt, stream, Duration::from_millis(LIMIT)) else {
-        bail!("no clock");
-    };
-    let status = status_of_sending(rt, &peer, site, replica);
-    drop(peer);
-    print_status(rt, status)
+fn send_over(rt: &HostRuntime, stream: TcpStream, replica: &mut Replica<Global>) -> io::Result<()> {
+    match Peer::of(rt, stream, Duration::from_millis(LIMIT)) {
+        Ok(peer) => print_status(rt, status_of_sending(rt, &peer, replica)),
+        Err(_) => Err(Error::other("no clock")),
+    }
 }
 
-fn status_of_sending(
-    rt: &HostRuntime,
-    peer: &Peer,
-    site: Site,
-    replica: &mut Replica<Global>,
-) -> u8 {
+fn status_of_sending(rt: &HostRuntime, peer: &Peer, replica: &mut Replica<Global>) -> u8 {
     let mut out = Counted::new(io::writer(rt));
     let mut err = Counted::new(io::writer(rt));
     send_on(
@@ -404,8 +417,8 @@ fn status_of_sending(
         &mut FileStore::new(rt),
         peer,
         &SiteLog {
-            name: "u.log",
-            site,
+            name: "far.log",
+            site: second_site(),
         },
         replica,
         &mut out,
@@ -414,91 +427,95 @@ fn status_of_sending(
 }
 
 // Each of the refused replies, after which the log is as before.
-fn send_refused(rt: &HostRuntime, listener: &TcpListener) -> Result<(), Error> {
+fn send_refused(rt: &HostRuntime, listener: &TcpListener) -> io::Result<()> {
     for digits in REFUSED_REPLIES {
         send_refused_one(rt, listener, digits)?;
     }
     Ok(())
 }
 
-fn send_refused_one(rt: &HostRuntime, listener: &TcpListener, digits: &str) -> Result<(), Error> {
-    let before = fs::read(rt, "u.log")?;
+fn send_refused_one(rt: &HostRuntime, listener: &TcpListener, digits: &str) -> io::Result<()> {
+    let before = fs::read(rt, "far.log")?;
     send_digits(rt, listener, digits)?;
-    is_as_before(rt, "u.log", &before)
+    is_as_before(rt, "far.log", &before)
 }
 
-fn send_digits(rt: &HostRuntime, listener: &TcpListener, digits: &str) -> Result<(), Error> {
-    let replies = hex::decode(rt.alloc(), digits)?;
-    send_waiting(rt, listener, &replies)
-}
-
-fn is_as_before(rt: &HostRuntime, log: &str, before: &[u8]) -> Result<(), Error> {
-    if fs::read(rt, log)?.as_slice() != before {
-        bail!("the log was saved");
+fn send_digits(rt: &HostRuntime, listener: &TcpListener, digits: &str) -> io::Result<()> {
+    match hex::decode(rt.alloc(), digits) {
+        Ok(replies) => send_waiting(rt, listener, &replies),
+        Err(_) => Err(Error::other("no digits")),
     }
-    Ok(())
+}
+
+fn is_as_before(rt: &HostRuntime, log: &str, before: &[u8]) -> io::Result<()> {
+    if fs::read(rt, log)?.as_slice() == before {
+        Ok(())
+    } else {
+        Err(Error::other("the log was saved"))
+    }
 }
 
 // An address at which another listens, and one at which nobody does; after either no log was saved.
-fn reach_nothing(rt: &HostRuntime, listener: &TcpListener) -> Result<(), Error> {
-    let before = fs::read(rt, "t.log")?;
+fn reach_nothing(rt: &HostRuntime, listener: &TcpListener) -> io::Result<()> {
+    let before = fs::read(rt, "near.log")?;
     serve_at_taken(rt, listener)?;
     send_to_free(rt)?;
-    is_as_before(rt, "t.log", &before)
+    is_as_before(rt, "near.log", &before)
 }
 
-fn serve_at_taken(rt: &HostRuntime, listener: &TcpListener) -> Result<(), Error> {
+fn serve_at_taken(rt: &HostRuntime, listener: &TcpListener) -> io::Result<()> {
     let taken = format!(in rt.alloc(); "{}", listener.local_addr()?)?;
-    command(rt, &["stn", "serve", "t.log", "1", &taken, "1"])
+    command(rt, &["stn", "serve", "near.log", "1", &taken, "1"])
 }
 
-fn send_to_free(rt: &HostRuntime) -> Result<(), Error> {
+fn send_to_free(rt: &HostRuntime) -> io::Result<()> {
     let free = free_address(rt)?;
-    command(rt, &["stn", "send", "t.log", "1", &free])
+    command(rt, &["stn", "send", "near.log", "1", &free])
 }
 
-fn free_address(rt: &HostRuntime) -> Result<String, Error> {
+fn free_address(rt: &HostRuntime) -> io::Result<String> {
     let other = TcpListener::bind(rt, "127.0.0.1:0")?;
     Ok(format!(in rt.alloc(); "{}", other.local_addr()?)?)
 }
 
-fn make_logs(rt: &HostRuntime) -> Result<(), Error> {
-    command(rt, &["stn", "bare", "t.log", "1", "1"])?;
+fn make_logs(rt: &HostRuntime) -> io::Result<()> {
+    command(rt, &["stn", "bare", "near.log", "1", "1"])?;
     add(rt, "s1", "e1", "--lo=5.000", "--hi=5.000")?;
     add(rt, "z", "s1", "--lo=2.000", "--hi=10.000")?;
-    command(rt, &["stn", "bare", "u.log", "2", "1"])
+    command(rt, &["stn", "bare", "far.log", "2", "1"])
 }
 
-fn serve_and_send(rt: &HostRuntime, listener: &TcpListener) -> Result<(), Error> {
+fn serve_and_send(rt: &HostRuntime, listener: &TcpListener) -> io::Result<()> {
     session(rt, listener)?;
     serve_refused(rt, listener)?;
     serve_broken(rt, listener)?;
     send(rt, listener)?;
-    command(rt, &["stn", "report", "u.log", "2"])?;
+    command(rt, &["stn", "report", "far.log", "2"])?;
     serve_requests(rt, listener)?;
     send_refused(rt, listener)?;
     serve_gone(rt, listener)?;
-    command(rt, &["stn", "report", "t.log", "1"])?;
+    command(rt, &["stn", "report", "near.log", "1"])?;
     serve_unsaved(rt, listener)?;
     reach_nothing(rt, listener)
 }
 
 // An address, and a log, that are not there.
-fn find_nothing(rt: &HostRuntime) -> Result<(), Error> {
-    command(rt, &["stn", "send", "u.log", "2", "nowhere"])?;
-    command(rt, &["stn", "serve", "t.log", "1", "nowhere", "1"])?;
+fn find_nothing(rt: &HostRuntime) -> io::Result<()> {
+    command(rt, &["stn", "send", "far.log", "2", "nowhere"])?;
+    command(rt, &["stn", "serve", "near.log", "1", "nowhere", "1"])?;
     command(rt, &["stn", "serve", "none.log", "1", "127.0.0.1:0", "1"])
 }
 
-fn run(rt: &HostRuntime, listener: &TcpListener) -> Result<(), Error> {
+fn run(rt: &HostRuntime, listener: &TcpListener) -> io::Result<()> {
     serve_and_send(rt, listener)?;
     find_nothing(rt)?;
     untrusted::serve_peers(rt, listener)?;
     changing::serve_and_send(rt, listener)
 }
 
-fn main(rt: HostRuntime) -> Result<(), Error> {
-    make_logs(&rt)?;
-    let listener = TcpListener::bind(&rt, "127.0.0.1:0")?;
-    run(&rt, &listener)
+/// Makes two logs, and serves and sends them.
+pub fn run_both_ends(rt: &HostRuntime) -> io::Result<()> {
+    make_logs(rt)?;
+    let listener = TcpListener::bind(rt, "127.0.0.1:0")?;
+    run(rt, &listener)
 }
