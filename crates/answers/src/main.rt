@@ -1,6 +1,6 @@
-//! For tests: what calls that work on frames, sessions and logs answer. The input consists of parts. A line
+//! For tests: what calls that work on texts, frames, sessions and logs answer. The input consists of parts. A line
 //! `== NAME` begins a part, and is printed; the lines after it are answered as the module of this name says. The parts are
-//! `logs`, `changed`, `random COUNT`, `sessions`, `calls`.
+//! `logs`, `changed`, `random COUNT`, `sessions`, `calls`, `texts`.
 #![tactic(auto)]
 
 mod calls;
@@ -10,9 +10,11 @@ mod held;
 mod logs;
 mod random;
 mod sessions;
+mod texts;
 mod words;
 
 use crate::words::cut_word;
+use std::alloc::Global;
 use std::io;
 use std::io::Error;
 
@@ -25,6 +27,7 @@ enum Part {
     Random(u32),
     Sessions,
     Calls,
+    Texts,
     /// None of these, whose lines have no answer.
     Other,
 }
@@ -36,22 +39,35 @@ fn part_of(heading: &str) -> Part {
         ("random", count) => Part::Random(count.parse::<u32>().unwrap_or(0)),
         ("sessions", _) => Part::Sessions,
         ("calls", _) => Part::Calls,
+        ("texts", _) => Part::Texts,
         _ => Part::Other,
     }
 }
 
-fn answer_line(
-    rt: &HostRuntime,
-    part: Part,
-    frames: &mut Vec<Vec<u8>>,
-    line: &str,
-) -> io::Result<()> {
+/// What the lines of a part leave for what comes after them.
+#[derive(Drop)]
+struct State {
+    frames: Vec<Vec<u8>>,
+    domain: String,
+}
+
+impl State {
+    fn new(alloc: Global) -> State {
+        State {
+            frames: Vec::new(alloc),
+            domain: String::new(alloc),
+        }
+    }
+}
+
+fn answer_line(rt: &HostRuntime, part: Part, state: &mut State, line: &str) -> io::Result<()> {
     match part {
         Part::Logs => logs::answer(rt, line),
         Part::Changed => changed::answer(rt, line),
-        Part::Random(_) => random::take_frame(line, frames),
+        Part::Random(_) => random::take_frame(line, &mut state.frames),
         Part::Sessions => sessions::answer(rt, line),
         Part::Calls => calls::answer(rt, line),
+        Part::Texts => texts::answer(rt, &mut state.domain, line),
         Part::Other => Err(Error::other("no such part")),
     }
 }
@@ -65,33 +81,28 @@ fn end_part(rt: &HostRuntime, part: Part, frames: &mut Vec<Vec<u8>>) -> io::Resu
     Ok(())
 }
 
-fn take_line(
-    rt: &HostRuntime,
-    part: &mut Part,
-    frames: &mut Vec<Vec<u8>>,
-    line: &str,
-) -> io::Result<()> {
+fn take_line(rt: &HostRuntime, part: &mut Part, state: &mut State, line: &str) -> io::Result<()> {
     match line.strip_prefix("== ") {
         Some(heading) => {
-            end_part(rt, *part, frames)?;
+            end_part(rt, *part, &mut state.frames)?;
             *part = part_of(heading);
             println!(rt; "{line}")
         }
-        None => answer_line(rt, *part, frames, line),
+        None => answer_line(rt, *part, state, line),
     }
 }
 
-fn answer_lines(rt: &HostRuntime, frames: &mut Vec<Vec<u8>>) -> io::Result<()> {
+fn answer_lines(rt: &HostRuntime, state: &mut State) -> io::Result<()> {
     let mut part = Part::Other;
     for line in rt.lines(rt.alloc()) {
-        take_line(rt, &mut part, frames, &line?)?;
+        take_line(rt, &mut part, state, &line?)?;
     }
-    end_part(rt, part, frames)
+    end_part(rt, part, &mut state.frames)
 }
 
 fn main(rt: HostRuntime) -> io::Result<()> {
-    let mut frames = Vec::new(rt.alloc());
-    let answer = answer_lines(&rt, &mut frames);
-    drop(frames);
+    let mut state = State::new(rt.alloc());
+    let answer = answer_lines(&rt, &mut state);
+    drop(state);
     answer
 }

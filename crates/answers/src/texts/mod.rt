@@ -1,6 +1,5 @@
-//! For tests: reads texts from standard input, one a line after the word `time`, `domain` or `plan`, and prints the answer to
-//! each; in a text `~` stands for a line feed. A line `padded <count> ..` has so many spaces after its text; a line
-//! `hex <word> <digits>` has a text in hex.
+//! Texts, one a line after the word `time`, `domain` or `plan`, and the answer to each; in a text `~` stands for a line feed. A line
+//! `padded <count> ..` has so many spaces after its text; a line `hex <word> <digits>` has a text in hex.
 //!
 //! Of a time it prints 0, the milliseconds, and the time as it is printed; of a domain two zeros; of a plan 0 and the number of its
 //! steps; of a fault its code and its line, or 0. A line `millis <number>` prints so many milliseconds as a time. A line that
@@ -8,16 +7,15 @@
 //!
 //! A line `with <domain>` has the domain of the plans that are lifted after it, one each on a line `lift <plan>`. Of such a plan it
 //! prints the base bounds in their order and then the planned times of the events, or the code of the fault and its argument.
-#![tactic(auto)]
 
-mod answers;
 mod lifted;
+mod read;
 
-use crate::answers::{print_answer, print_time};
-use crate::lifted::print_lifted;
+use crate::texts::lifted::print_lifted;
+use crate::texts::read::{print_answer, print_time};
+use crate::words::{bytes_of, cut_word};
 use std::alloc::{AllocError, Global};
 use std::io;
-use std::io::Error;
 
 // How many spaces stand after the text of a row, and the rest of the row.
 fn padding(row: &str) -> (usize, &str) {
@@ -30,13 +28,8 @@ fn padding(row: &str) -> (usize, &str) {
     }
 }
 
-// The first word of a row, and what follows it.
-fn cut_word(row: &str) -> (&str, &str) {
-    row.split_once(' ').unwrap_or((row, ""))
-}
-
 // A text with a line feed for each `~`, and so many spaces after it.
-fn bytes_of(alloc: Global, text: &str, spaces: usize) -> Result<String, AllocError> {
+fn text_of(alloc: Global, text: &str, spaces: usize) -> Result<String, AllocError> {
     let mut text = text.replace(alloc, "~", "\n")?;
     for _ in 0..spaces {
         text.push(' ')?;
@@ -48,30 +41,29 @@ fn bytes_of(alloc: Global, text: &str, spaces: usize) -> Result<String, AllocErr
 fn answer_text(rt: &HostRuntime, row: &str) -> io::Result<()> {
     let (spaces, rest) = padding(row);
     let (word, text) = cut_word(rest);
-    let text = bytes_of(rt.alloc(), text, spaces)?;
+    let text = text_of(rt.alloc(), text, spaces)?;
     print_answer(rt, word, text.as_bytes())
 }
 
 // Prints the answer to a text in hex.
 fn answer_hex(rt: &HostRuntime, rest: &str) -> io::Result<()> {
     let (word, digits) = cut_word(rest);
-    match hex::decode(rt.alloc(), digits) {
-        Ok(text) => print_answer(rt, word, &text),
-        Err(_) => Err(Error::other("no digits")),
-    }
+    let text = bytes_of(rt.alloc(), digits)?;
+    print_answer(rt, word, &text)
 }
 
 fn take_domain(alloc: Global, domain: &mut String, text: &str) -> Result<(), AllocError> {
-    *domain = bytes_of(alloc, text, 0)?;
+    *domain = text_of(alloc, text, 0)?;
     Ok(())
 }
 
 fn lift(rt: &HostRuntime, domain: &str, text: &str) -> io::Result<()> {
-    let plan = bytes_of(rt.alloc(), text, 0)?;
+    let plan = text_of(rt.alloc(), text, 0)?;
     print_lifted(rt, domain, &plan)
 }
 
-fn print_row(rt: &HostRuntime, domain: &mut String, row: &str) -> io::Result<()> {
+/// Prints the answer to a row, or takes its domain for the plans after it.
+pub fn answer(rt: &HostRuntime, domain: &mut String, row: &str) -> io::Result<()> {
     if row.starts_with('=') {
         println!(rt; "{row}")
     } else if let Some(number) = row.strip_prefix("millis ") {
@@ -85,13 +77,4 @@ fn print_row(rt: &HostRuntime, domain: &mut String, row: &str) -> io::Result<()>
     } else {
         answer_text(rt, row)
     }
-}
-
-fn main(rt: HostRuntime) -> io::Result<()> {
-    let mut domain = String::new(rt.alloc());
-    for row in rt.lines(rt.alloc()) {
-        let row = row?;
-        print_row(&rt, &mut domain, row.as_str())?;
-    }
-    Ok(())
 }
