@@ -1,6 +1,6 @@
-//! For tests: what calls that work on texts, frames, sessions and logs answer. The input consists of parts. A line
+//! For tests: what calls that work on times, texts, records, frames, sessions and logs answer. The input consists of parts. A line
 //! `== NAME` begins a part, and is printed; the lines after it are answered as the module of this name says. The parts are
-//! `logs`, `changed`, `random COUNT`, `sessions`, `calls`, `texts`.
+//! `logs`, `changed`, `random COUNT`, `sessions`, `calls`, `texts`, `records`.
 #![tactic(auto)]
 
 mod calls;
@@ -9,10 +9,12 @@ mod changed;
 mod held;
 mod logs;
 mod random;
+mod records;
 mod sessions;
 mod texts;
 mod words;
 
+use crate::records::Sites;
 use crate::words::cut_word;
 use std::alloc::Global;
 use std::io;
@@ -28,6 +30,7 @@ enum Part {
     Sessions,
     Calls,
     Texts,
+    Records,
     /// None of these, whose lines have no answer.
     Other,
 }
@@ -40,6 +43,7 @@ fn part_of(heading: &str) -> Part {
         ("sessions", _) => Part::Sessions,
         ("calls", _) => Part::Calls,
         ("texts", _) => Part::Texts,
+        ("records", _) => Part::Records,
         _ => Part::Other,
     }
 }
@@ -49,6 +53,7 @@ fn part_of(heading: &str) -> Part {
 struct State {
     frames: Vec<Vec<u8>>,
     domain: String,
+    sites: Sites,
 }
 
 impl State {
@@ -56,6 +61,7 @@ impl State {
         State {
             frames: Vec::new(alloc),
             domain: String::new(alloc),
+            sites: Sites::new(alloc),
         }
     }
 }
@@ -68,6 +74,7 @@ fn answer_line(rt: &HostRuntime, part: Part, state: &mut State, line: &str) -> i
         Part::Sessions => sessions::answer(rt, line),
         Part::Calls => calls::answer(rt, line),
         Part::Texts => texts::answer(rt, &mut state.domain, line),
+        Part::Records => records::answer(rt, &mut state.sites, line),
         Part::Other => Err(Error::other("no such part")),
     }
 }

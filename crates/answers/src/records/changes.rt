@@ -1,5 +1,5 @@
-use crate::print::{Said, said, said_of_replacement};
-use crate::words::{next_bound, next_id, next_run};
+use crate::records::print::{Said, said, said_of_replacement};
+use crate::records::words::{next_bound, next_id, next_run};
 use std::alloc::Global;
 use std::str::SplitWhitespace;
 use stn_net::Bound;

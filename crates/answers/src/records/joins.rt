@@ -1,5 +1,7 @@
-use crate::print::{Said, append_entry, append_id, append_record, append_said, said, said_of_join};
-use crate::questions::append_new;
+use crate::records::print::{
+    Said, append_entry, append_id, append_record, append_said, said, said_of_join,
+};
+use crate::records::questions::append_new;
 use std::alloc::Global;
 use stn_records::{Additions, Amendments, Id, Join, Record, Records, State, Tombstones};
 use stn_time::Memory;

@@ -1,6 +1,6 @@
-use crate::joins::append_join;
-use crate::print::{append_entry, append_id, append_number, append_record};
-use crate::words::{next_id, next_place, next_site};
+use crate::records::joins::append_join;
+use crate::records::print::{append_entry, append_id, append_number, append_record};
+use crate::records::words::{next_id, next_place, next_site};
 use std::alloc::Global;
 use std::str::SplitWhitespace;
 use stn_net::Bound;
