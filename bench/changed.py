@@ -1,7 +1,9 @@
 #!/usr/bin/env python3
-"""Prints what the program changed_bytes is to print, by the formats alone (docs/FORMATS.md).
+"""Prints what the program answers is to print of the part `changed`, by the formats alone (docs/FORMATS.md).
 
-usage: bench/changed.py < crates/changed_bytes/stdin > crates/changed_bytes/stdout
+usage: bench/part.py changed < crates/answers/stdin | bench/changed.py
+
+bench/part.py changed < crates/answers/stdout prints the same.
 
 A frame is read, is old, is less than a frame, or has a fault: 50, 51 or 52. A log of either version is read or refused.
 """

@@ -1,7 +1,9 @@
 #!/usr/bin/env python3
-"""Prints what the program text_answers is to print, by the formats alone (docs/FORMATS.md).
+"""Prints what the program answers is to print of the part `texts`, by the formats alone (docs/FORMATS.md).
 
-usage: bench/plans.py < crates/text_answers/stdin > crates/text_answers/stdout
+usage: bench/part.py texts < crates/answers/stdin | bench/plans.py
+
+bench/part.py texts < crates/answers/stdout prints the same.
 
 It has times, events, domains, plan texts, and the bounds of a plan; bench/scripts.py has the rest of a script.
 """

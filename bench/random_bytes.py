@@ -1,7 +1,9 @@
 #!/usr/bin/env python3
-"""Prints what the program random_bytes is to print, by the formats alone (docs/FORMATS.md).
+"""Prints what the program answers is to print of the part `random COUNT`, by the formats alone (docs/FORMATS.md).
 
-usage: bench/random_bytes.py COUNT < crates/random_bytes/stdin > crates/random_bytes/stdout
+usage: bench/part.py random < crates/answers/stdin | bench/random_bytes.py 1000
+
+bench/part.py random < crates/answers/stdout prints the same.
 
 A session is a fold of its table over the frames. The random cases are those of the generator that the program uses, with the same draws
 in the same order.

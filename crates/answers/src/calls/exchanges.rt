@@ -1,0 +1,128 @@
+// What a site makes of the replies, of which each request for memory and each read is refused in turn.
+use crate::calls::logs::{is_log, opened};
+use crate::calls::sweep::{
+    Failing, Kind, NOTHING, Outcome, begin_refusing, end_refusing, outcome_of, reader,
+};
+use crate::calls::words::whole_frames;
+use std::alloc::Global;
+use stn_device::Counted;
+use stn_refusing::Refusing;
+use stn_replica::Replica;
+use stn_session::{ReplyFault, receive_replies};
+
+/// The replies to a replica that a log opens: SAME, RECORDS and TEXT; and the log of what it then holds.
+#[derive(Clone, Copy)]
+pub struct Replies<'a> {
+    pub log: &'a [u8],
+    pub frames: &'a [Vec<u8>],
+    pub bytes: &'a [u8],
+    pub after: &'a [u8],
+}
+
+// The text of the last reply, after its length and its kind.
+fn text_of(frames: &[Vec<u8>]) -> &[u8] {
+    match frames.last() {
+        Some(frame) => frame.get(5..).unwrap_or(b""),
+        None => b"",
+    }
+}
+
+// What came of a call of `receive_replies`: whether it gave the text, and whether a read failed.
+#[derive(Clone, Copy)]
+struct Receiving {
+    answer: Result<bool, ReplyFault>,
+    failed: bool,
+}
+
+fn received<'a>(
+    heap: &'a Refusing<Global>,
+    replica: &mut Replica<&'a Refusing<Global>>,
+    replies: Replies,
+    failing: Failing,
+) -> Receiving {
+    let mut input = Counted::new(reader(replies.bytes, failing));
+    let answer = match receive_replies(heap, &mut input, replica) {
+        Ok(text) => Ok(text.as_slice() == text_of(replies.frames)),
+        Err(fault) => Err(fault),
+    };
+    Receiving {
+        answer,
+        failed: input.failures() > 0,
+    }
+}
+
+// Records that came whole before a read failed stay taken, and others are not.
+fn log_before<'a>(replies: Replies<'a>, failing: Failing) -> &'a [u8] {
+    if whole_frames(replies.frames, failing.number.saturating_sub(1)) >= 2 {
+        replies.after
+    } else {
+        replies.log
+    }
+}
+
+// Whether the answer is right, and the replica holds what it must.
+fn is_received<'a>(
+    alloc: Global,
+    heap: &'a Refusing<Global>,
+    replica: &Replica<&'a Refusing<Global>>,
+    replies: Replies,
+    answer: Result<bool, ReplyFault>,
+    failing: Failing,
+) -> bool {
+    match answer {
+        Ok(told) => told && is_log(alloc, heap, replica, replies.after),
+        Err(ReplyFault::Read) => {
+            failing.kind == Kind::Read && is_log(alloc, heap, replica, log_before(replies, failing))
+        }
+        Err(ReplyFault::Memory) => {
+            failing.kind == Kind::Memory
+                && (is_log(alloc, heap, replica, replies.log)
+                    || is_log(alloc, heap, replica, replies.after))
+        }
+        Err(_) => false,
+    }
+}
+
+// The same call then takes all.
+fn receives_then<'a>(
+    alloc: Global,
+    heap: &'a Refusing<Global>,
+    replica: &mut Replica<&'a Refusing<Global>>,
+    replies: Replies,
+) -> bool {
+    let receiving = received(heap, replica, replies, NOTHING);
+    receiving.answer == Ok(true) && is_log(alloc, heap, replica, replies.after)
+}
+
+fn receive_failing<'a>(
+    alloc: Global,
+    heap: &'a Refusing<Global>,
+    replica: &mut Replica<&'a Refusing<Global>>,
+    replies: Replies,
+    failing: Failing,
+) -> Outcome {
+    begin_refusing(heap, failing);
+    let Receiving { answer, failed } = received(heap, replica, replies, failing);
+    let refused = end_refusing(heap, failing) || failed;
+    let right = (refused || answer.is_ok())
+        && is_received(alloc, heap, replica, replies, answer, failing)
+        && receives_then(alloc, heap, replica, replies);
+    outcome_of(refused, right)
+}
+
+/// Whether `receive_replies` takes these replies, and answers the refused call.
+pub fn receive_refused(
+    alloc: Global,
+    heap: &Refusing<Global>,
+    replies: Replies,
+    failing: Failing,
+) -> Outcome {
+    match opened(heap, replies.log) {
+        Ok(mut replica) => {
+            let outcome = receive_failing(alloc, heap, &mut replica, replies, failing);
+            drop(replica);
+            outcome
+        }
+        Err(_) => Outcome::Wrong,
+    }
+}

@@ -1,0 +1,176 @@
+// Frames, of which each request for memory is refused in turn.
+use crate::calls::sweep::{Failing, Outcome, begin_refusing, end_refusing, outcome_of};
+use std::alloc::Global;
+use stn_refusing::Refusing;
+use stn_wire::{Fed, Feeder, Frame, WireFault, decode, encode};
+
+// How many bytes a feeder is fed at once.
+const PIECE: usize = 7;
+
+// Appends a frame, and again where memory ran out, after which nothing was appended.
+fn append<'a>(
+    heap: &'a Refusing<Global>,
+    frame: &Frame<Global>,
+    out: &mut Vec<u8, &'a Refusing<Global>>,
+    failing: Failing,
+) -> Outcome {
+    begin_refusing(heap, failing);
+    let answer = encode(frame, out);
+    let refused = end_refusing(heap, failing);
+    let right = match answer {
+        Ok(()) => true,
+        Err(WireFault::Memory) => out.as_slice() == b"before".as_slice()
+            && encode(frame, out).is_ok(),
+        Err(_) => false,
+    };
+    outcome_of(refused, right)
+}
+
+/// Whether `encode` of the frame appends these bytes, and answers the refused request.
+pub fn encode_refused(
+    heap: &Refusing<Global>,
+    frame: &Frame<Global>,
+    bytes: &[u8],
+    failing: Failing,
+) -> Outcome {
+    let mut out = Vec::new(heap);
+    let begun = out.extend_from_slice(b"before").is_ok();
+    let outcome = append(heap, frame, &mut out, failing);
+    if begun && out.strip_prefix(b"before") == Some(bytes) {
+        outcome
+    } else {
+        Outcome::Wrong
+    }
+}
+
+// What an old frame holds, as a frame that can be written; any other frame itself.
+fn renewed(frame: Frame<&Refusing<Global>>) -> Frame<&Refusing<Global>> {
+    match frame {
+        Frame::OldHello(source) => Frame::Hello(source),
+        Frame::OldRecords(records) => Frame::Records(records),
+        other => other,
+    }
+}
+
+// Appends what is written of a frame.
+fn append_renewed(frame: Frame<&Refusing<Global>>, spelled: &mut Vec<u8>) -> Result<(), WireFault> {
+    let frame = renewed(frame);
+    let answer = encode(&frame, spelled);
+    drop(frame);
+    answer
+}
+
+// Whether a frame is renewed as these bytes.
+fn is_spelled(
+    alloc: Global,
+    frame: Frame<&Refusing<Global>>,
+    bytes: &[u8],
+) -> Result<bool, WireFault> {
+    let mut out = Vec::new(alloc);
+    append_renewed(frame, &mut out)?;
+    Ok(out.as_slice() == bytes)
+}
+
+// Whether the bytes are one frame, which is renewed as the wanted bytes; or lack of memory.
+fn is_read(
+    alloc: Global,
+    heap: &Refusing<Global>,
+    bytes: &[u8],
+    wanted: &[u8],
+) -> Result<bool, WireFault> {
+    match decode(heap, bytes)? {
+        Some((frame, length)) => {
+            let spelled = is_spelled(alloc, frame, wanted)?;
+            Ok(spelled && length == bytes.len())
+        }
+        None => Ok(false),
+    }
+}
+
+/// Whether `decode` reads what is written as the wanted bytes, and answers the refused request.
+pub fn decode_refused(
+    alloc: Global,
+    heap: &Refusing<Global>,
+    bytes: &[u8],
+    wanted: &[u8],
+    failing: Failing,
+) -> Outcome {
+    begin_refusing(heap, failing);
+    let answer = is_read(alloc, heap, bytes, wanted);
+    let refused = end_refusing(heap, failing);
+    let right = match answer {
+        Ok(read) => read,
+        Err(WireFault::Memory) => refused && is_read(alloc, heap, bytes, wanted) == Ok(true),
+        Err(_) => false,
+    };
+    outcome_of(refused, right)
+}
+
+// Feeds a piece, and appends what is written of the frame that it completes. It gives how many bytes were taken.
+fn feed_piece(
+    feeder: &mut Feeder<&Refusing<Global>>,
+    piece: &[u8],
+    spelled: &mut Vec<u8>,
+) -> Result<usize, WireFault> {
+    let Fed { used, frame } = feeder.feed(piece)?;
+    match frame {
+        Some(frame) => append_renewed(frame, spelled)?,
+        None => {}
+    }
+    Ok(used)
+}
+
+// Feeds a stream in pieces, each again where memory ran out, and gives how often. Lack of memory leaves the feeder in the
+// middle of a frame exactly where it was before.
+fn stream(
+    feeder: &mut Feeder<&Refusing<Global>>,
+    bytes: &[u8],
+    spelled: &mut Vec<u8>,
+) -> Result<u64, WireFault> {
+    let mut again = 0u64;
+    let mut rest = bytes;
+    for _ in 0..=bytes.len() {
+        let middle = feeder.middle();
+        match feed_piece(feeder, rest.get(..PIECE).unwrap_or(rest), spelled) {
+            Ok(used) => rest = rest.get(used..).unwrap_or(b""),
+            Err(WireFault::Memory) if feeder.middle() == middle => again = again.saturating_add(1),
+            Err(fault) => return Err(fault),
+        }
+    }
+    Ok(again)
+}
+
+// Whether a stream is read as it must be.
+fn is_fed(
+    heap: &Refusing<Global>,
+    feeder: &mut Feeder<&Refusing<Global>>,
+    bytes: &[u8],
+    spelled: &mut Vec<u8>,
+    failing: Failing,
+) -> Outcome {
+    begin_refusing(heap, failing);
+    let again = stream(feeder, bytes, spelled);
+    let refused = end_refusing(heap, failing);
+    let told = again == Ok(0) || refused && again == Ok(1);
+    outcome_of(refused, told && !feeder.middle())
+}
+
+/// Whether `Feeder::feed` of frames, in pieces, reads what is written as the wanted bytes, and answers the refused request: after
+/// lack of memory no byte was taken, and the same piece goes on.
+pub fn feed_refused(
+    alloc: Global,
+    heap: &Refusing<Global>,
+    bytes: &[u8],
+    wanted: &[u8],
+    failing: Failing,
+) -> Outcome {
+    let mut feeder = Feeder::new(heap);
+    let mut spelled = Vec::new(alloc);
+    let outcome = is_fed(heap, &mut feeder, bytes, &mut spelled, failing);
+    drop(feeder);
+    if spelled.as_slice() == wanted {
+        outcome
+    } else {
+        Outcome::Wrong
+    }
+}
