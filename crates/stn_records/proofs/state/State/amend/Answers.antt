@@ -1,4 +1,5 @@
-use Rattle.std.proofs.Common.{ap, ◌∙◌}
+use Rattle.std.proofs.Common.{refl, ap, ◌∙◌}
+use Rattle.std.proofs.lemmas.Result.{err_from_is_err_and}
 use Rattle.std.specs.FinMap as fin
 use Rattle.stn_records.specs.Content.{Content}
 use Rattle.stn_records.proofs.Replaced.{kept_by_amendment}
@@ -8,3 +9,10 @@ pub invariant_of-self-2 : goal.invariant_of-self-2
 invariant_of-self-2 g c =
     kept_by_amendment (record { additions = c.self.inside.additions; tombstones = c.self.inside.tombstones; replacements = c.self.inside.replacements }) c.self.inside.replaced c.in_ok-replaced.replaced c.in_ok-replacements.replacements c.args.id c.args.old c.args.bound c.self.invariant
     (ap (λ (s : Content). fin.get s.replacements c.args.id) c.self.view_is ∙ c.requires.new) c.in_ok-replacements.ensures c.in_ok-replaced.ensures
+
+pub returns-in_err-replacements-clause-kept : goal.returns-in_err-replacements-clause-kept
+returns-in_err-replacements-clause-kept g c = let p = err_from_is_err_and c.from_residual.result c.from_residual.ensures.1 in rw p.1 refl
+
+pub returns-in_err-replaced-clause-kept : goal.returns-in_err-replaced-clause-kept
+returns-in_err-replaced-clause-kept g c =
+    let p = err_from_is_err_and c.from_residual-in_err-replaced.result c.from_residual-in_err-replaced.ensures.1 in rw p.1 refl
