@@ -1,5 +1,6 @@
-use Rattle.std.proofs.Common.{inl, inr, ⊎_elim}
+use Rattle.std.proofs.Common.{refl, subst, inl, inr, ⊎_elim}
 use Rattle.std.proofs.lemmas.Result.{IfErr-weaker}
+use Rattle.stn_store.specs.Store.{IsThere}
 use Rattle.stn_store.proofs.Lacks.{lack_of_memory}
 use Rattle.stn_shell.proofs.Joined.{join_taken}
 use Rattle.stn_shell.proofs.joining.take_log.Goals as goal
@@ -13,3 +14,12 @@ returns-in_ok-said-clause-untaken g c = IfErr-weaker c.take_in-taken.result _ _
     (λ failure refused. ⊎_elim (λ memory. inl (lack_of_memory _ _ memory))
     (λ refusal. inr (inr (c.in_ok-said.said, c.in_ok-said.ensures.opened, refusal))) refused)
     c.take_in-taken.ensures.refused
+
+pub returns-else-branch : goal.returns-else-branch
+returns-else-branch g c = record {
+  taken = inl (subst (IsThere (g.S.Store.entries c.args.store.now) c.args.log.now.name.now) c.if-branch.false c.in_ok-is_there.ensures.found, refl);
+  untaken = tt;
+  kept = tt;
+  source = refl;
+  site = refl;
+}
