@@ -1,4 +1,5 @@
 use Rattle.std.proofs.Common.{◌≡◌, List, All, sym, ap, subst, ◌∙◌}
+use Rattle.std.proofs.lemmas.Result.{err_from_is_err_and}
 use Rattle.stn_net.specs.Difference.{Difference}
 use Rattle.stn_net.specs.Schedule.{IsSchedule}
 use Rattle.stn_lift.specs.BaseBounds.{KeepsOrder}
@@ -8,32 +9,59 @@ use Rattle.stn_loosen.specs.Loosened.{bounds_with, orders_of, Imply}
 use Rattle.stn_loosen.proofs.NumberedStates.{all_are}
 use Rattle.stn_loosen.proofs.adding.loosened_replica.Goals as goal
 
-pub returns-clause-looser : goal.returns-clause-looser
-returns-clause-looser g c =
-    let base = c.args.base.now in
-    let new = c.add_all.new.replica in
-    let bounds = c.in_ok-records.records.items in
-    let holds = rw c.deref.ensures.value at c.in_ok-add_all.ensures.holds in
-    let source : new.source ≡ bare (steps_of base) = c.in_ok-add_all.ensures.source ∙ c.in_ok-replica.ensures.source ∙ ap bare c.steps.ensures.value in
-    let same : all_bounds new.source new.state ≡ bounds_with base bounds = ap (λ s. all_bounds s new.state) source ∙ all_are base c.in_ok-replica.replica.site bounds new.state holds in
-    λ time schedule. subst (λ (l : List Difference). IsSchedule l time) (sym same) (c.in_ok-records.ensures.looser time schedule)
+pub returns-in_err-records : goal.returns-in_err-records
+returns-in_err-records g c =
+    let returned = err_from_is_err_and c.from_residual.result c.from_residual.ensures.1 in
+    record {
+      site = rw returned.1 tt;
+      source = rw returned.1 tt;
+      records = rw returned.1 tt;
+      looser = rw returned.1 tt;
+      implied = rw returned.1 tt;
+      ordered = rw returned.1 tt;
+      fault = rw (returned.1, returned.2) c.in_err-records.ensures.fault;
+    }
 
-pub returns-clause-implied : goal.returns-clause-implied
-returns-clause-implied g c =
-    let base = c.args.base.now in
-    let new = c.add_all.new.replica in
-    let bounds = c.in_ok-records.records.items in
-    let holds = rw c.deref.ensures.value at c.in_ok-add_all.ensures.holds in
-    let source : new.source ≡ bare (steps_of base) = c.in_ok-add_all.ensures.source ∙ c.in_ok-replica.ensures.source ∙ ap bare c.steps.ensures.value in
-    let same : all_bounds new.source new.state ≡ bounds_with base bounds = ap (λ s. all_bounds s new.state) source ∙ all_are base c.in_ok-replica.replica.site bounds new.state holds in
-    subst (λ (l : List Difference). All (Imply l) (orders_of base)) (sym same) c.in_ok-records.ensures.implied
+pub returns-in_err-replica : goal.returns-in_err-replica
+returns-in_err-replica g c =
+    let returned = err_from_is_err_and c.from_residual-in_err-replica.result c.from_residual-in_err-replica.ensures.1 in
+    record {
+      site = rw returned.1 tt;
+      source = rw returned.1 tt;
+      records = rw returned.1 tt;
+      looser = rw returned.1 tt;
+      implied = rw returned.1 tt;
+      ordered = rw returned.1 tt;
+      fault = rw (returned.1, returned.2) tt;
+    }
 
-pub returns-clause-ordered : goal.returns-clause-ordered
-returns-clause-ordered g c =
+pub returns-in_err-add_all : goal.returns-in_err-add_all
+returns-in_err-add_all g c =
+    let returned = err_from_is_err_and c.from_residual-in_err-add_all.result c.from_residual-in_err-add_all.ensures.1 in
+    record {
+      site = rw returned.1 tt;
+      source = rw returned.1 tt;
+      records = rw returned.1 tt;
+      looser = rw returned.1 tt;
+      implied = rw returned.1 tt;
+      ordered = rw returned.1 tt;
+      fault = rw (returned.1, returned.2) tt;
+    }
+
+pub returns : goal.returns
+returns g c =
     let base = c.args.base.now in
     let new = c.add_all.new.replica in
     let bounds = c.in_ok-records.records.items in
     let holds = rw c.deref.ensures.value at c.in_ok-add_all.ensures.holds in
     let source : new.source ≡ bare (steps_of base) = c.in_ok-add_all.ensures.source ∙ c.in_ok-replica.ensures.source ∙ ap bare c.steps.ensures.value in
     let same : all_bounds new.source new.state ≡ bounds_with base bounds = ap (λ s. all_bounds s new.state) source ∙ all_are base c.in_ok-replica.replica.site bounds new.state holds in
-    subst (KeepsOrder (events_of base) (interfere_in_plan base) (planned_of base)) (sym same) c.in_ok-records.ensures.ordered
+    record {
+      site = c.in_ok-add_all.ensures.site ∙ c.in_ok-replica.ensures.site;
+      source = source;
+      records = (bounds, (c.in_ok-records.ensures.records, c.in_ok-records.ensures.few), rw c.in_ok-replica.ensures.site at holds);
+      looser = λ time schedule. subst (λ (l : List Difference). IsSchedule l time) (sym same) (c.in_ok-records.ensures.looser time schedule);
+      implied = subst (λ (l : List Difference). All (Imply l) (orders_of base)) (sym same) c.in_ok-records.ensures.implied;
+      ordered = subst (KeepsOrder (events_of base) (interfere_in_plan base) (planned_of base)) (sym same) c.in_ok-records.ensures.ordered;
+      fault = tt;
+    }

@@ -51,8 +51,44 @@ make_orders-requires-clause-few g c =
     let fit = durations_fit c.args.base.now c.durations_of.ensures.sound c.args.tolerance slack in
     rw (durations, length-map) fit
 
-pub returns-in_err-make_orders-clause-fault : goal.returns-in_err-make_orders-clause-fault
-returns-in_err-make_orders-clause-fault g c =
+pub returns-in_err-making : goal.returns-in_err-making
+returns-in_err-making g c =
+    let returned = err_from_is_err_and c.from_residual.result c.from_residual.ensures.1 in
+    record {
+      records = rw returned.1 tt;
+      few = rw returned.1 tt;
+      looser = rw returned.1 tt;
+      implied = rw returned.1 tt;
+      ordered = rw returned.1 tt;
+      fault = rw (returned.1, returned.2) tt;
+    }
+
+pub returns-in_err-make_durations : goal.returns-in_err-make_durations
+returns-in_err-make_durations g c =
+    let returned = err_from_is_err_and c.from_residual-in_err-make_durations.result c.from_residual-in_err-make_durations.ensures.1 in
+    record {
+      records = rw returned.1 tt;
+      few = rw returned.1 tt;
+      looser = rw returned.1 tt;
+      implied = rw returned.1 tt;
+      ordered = rw returned.1 tt;
+      fault = rw (returned.1, returned.2, c.in_err-make_durations.ensures.fault) tt;
+    }
+
+pub returns-in_err-orders : goal.returns-in_err-orders
+returns-in_err-orders g c =
+    let returned = err_from_is_err_and c.from_residual-in_err-orders.result c.from_residual-in_err-orders.ensures.1 in
+    record {
+      records = rw returned.1 tt;
+      few = rw returned.1 tt;
+      looser = rw returned.1 tt;
+      implied = rw returned.1 tt;
+      ordered = rw returned.1 tt;
+      fault = rw (returned.1, returned.2) tt;
+    }
+
+pub returns-in_err-make_orders : goal.returns-in_err-make_orders
+returns-in_err-make_orders g c =
     let same = c.make_durations.ensures.events ∙ c.in_ok-making.ensures.events ∙ c.events.ensures.value in
     let durations : c.make_durations.new.self.records.items ≡ loose_durations c.args.tolerance c.args.base.now =
     rw (c.in_ok-making.ensures.none, c.durations_of.ensures.value) at c.in_ok-make_durations.ensures.made in
@@ -60,36 +96,33 @@ returns-in_err-make_orders-clause-fault g c =
     let cause = cause_of c.args.base.now c.args.tolerance c.in_ok-orders.orders.items c.make_durations.new.self.matrix.events c.make_durations.new.self.records.items same durations
     c.in_ok-orders.ensures c.in_err-make_orders.field-0.0 fault in
     let returned = err_from_is_err_and c.from_residual-in_err-make_orders.result c.from_residual-in_err-make_orders.ensures.1 in
-    rw (returned.1, returned.2) cause
+    record {
+      records = rw returned.1 tt;
+      few = rw returned.1 tt;
+      looser = rw returned.1 tt;
+      implied = rw returned.1 tt;
+      ordered = rw returned.1 tt;
+      fault = rw (returned.1, returned.2) cause;
+    }
 
-pub returns-clause-looser : goal.returns-clause-looser
-returns-clause-looser g c =
+pub returns : goal.returns
+returns g c =
+    let base = c.args.base.now in
     let slack : IsSlack c.args.tolerance = search rules in
+    let orders = c.in_ok-orders.orders.items in
+    let sorted = c.in_ok-orders.ensures in
+    let records = c.make_orders.new.self.records.items in
     let same = c.make_durations.ensures.events ∙ c.in_ok-making.ensures.events ∙ c.events.ensures.value in
-    let durations : c.make_durations.new.self.records.items ≡ loose_durations c.args.tolerance c.args.base.now =
+    let durations : c.make_durations.new.self.records.items ≡ loose_durations c.args.tolerance base =
     rw (c.in_ok-making.ensures.none, c.durations_of.ensures.value) at c.in_ok-make_durations.ensures.made in
     let kept = rw c.deref.ensures.value at c.in_ok-make_orders.ensures.made in
-    let made = made_of c.args.base.now c.args.tolerance c.in_ok-orders.orders.items c.make_durations.new.self.matrix.events c.make_durations.new.self.records.items same durations
-    c.make_orders.new.self.records.items kept in
-    λ time schedule. looser c.args.base.now c.durations_of.ensures.sound time schedule c.args.tolerance slack c.in_ok-orders.orders.items c.make_orders.new.self.records.items c.in_ok-orders.ensures.same made
-
-pub returns-clause-implied : goal.returns-clause-implied
-returns-clause-implied g c =
-    let same = c.make_durations.ensures.events ∙ c.in_ok-making.ensures.events ∙ c.events.ensures.value in
-    let durations : c.make_durations.new.self.records.items ≡ loose_durations c.args.tolerance c.args.base.now =
-    rw (c.in_ok-making.ensures.none, c.durations_of.ensures.value) at c.in_ok-make_durations.ensures.made in
-    let kept = rw c.deref.ensures.value at c.in_ok-make_orders.ensures.made in
-    let made = made_of c.args.base.now c.args.tolerance c.in_ok-orders.orders.items c.make_durations.new.self.matrix.events c.make_durations.new.self.records.items same durations
-    c.make_orders.new.self.records.items kept in
-    orders_implied c.args.base.now c.args.tolerance c.in_ok-orders.orders.items c.make_orders.new.self.records.items c.in_ok-orders.ensures.same made
-
-pub returns-clause-ordered : goal.returns-clause-ordered
-returns-clause-ordered g c =
-    let same = c.make_durations.ensures.events ∙ c.in_ok-making.ensures.events ∙ c.events.ensures.value in
-    let durations : c.make_durations.new.self.records.items ≡ loose_durations c.args.tolerance c.args.base.now =
-    rw (c.in_ok-making.ensures.none, c.durations_of.ensures.value) at c.in_ok-make_durations.ensures.made in
-    let kept = rw c.deref.ensures.value at c.in_ok-make_orders.ensures.made in
-    let made = made_of c.args.base.now c.args.tolerance c.in_ok-orders.orders.items c.make_durations.new.self.matrix.events c.make_durations.new.self.records.items same durations
-    c.make_orders.new.self.records.items kept in
-    order_kept c.args.base.now c.make_orders.new.self.records.items
-    (orders_implied c.args.base.now c.args.tolerance c.in_ok-orders.orders.items c.make_orders.new.self.records.items c.in_ok-orders.ensures.same made)
+    let made = made_of base c.args.tolerance orders c.make_durations.new.self.matrix.events c.make_durations.new.self.records.items same durations records kept in
+    let implied = orders_implied base c.args.tolerance orders records sorted.same made in
+    record {
+      records = record { orders = orders; sorted = sorted; made = made };
+      few = c.in_ok-make_orders.ensures.few;
+      looser = λ time schedule. looser base c.durations_of.ensures.sound time schedule c.args.tolerance slack orders records sorted.same made;
+      implied = implied;
+      ordered = order_kept base records implied;
+      fault = tt;
+    }

@@ -1,6 +1,7 @@
 use Rattle.std.proofs.Common.{◌≡◌, true, List, [], drop, length, subst, ◌∙◌, arith, rules}
 use Rattle.std.specs.Prelude.{slice_set}
 use Rattle.std.proofs.lemmas.List.{take_at}
+use Rattle.std.proofs.lemmas.Result.{err_from_is_err_and}
 use Rattle.stn_net.specs.Difference.{Difference}
 use Rattle.stn_matrix.specs.Tightest.{IsExact}
 use Rattle.stn_windows.specs.Rehearsal.{IsRehearsal}
@@ -8,18 +9,41 @@ use Rattle.stn_windows.proofs.Rehearsals.{rehearsed_schedule, rehearsed_rising, 
 use Rattle.stn_windows.proofs.UnderWay.{IsUnderWay, under_way_at_first, under_way_further, rehearsal_at_end}
 use Rattle.stn_windows.proofs.rehearsal.rehearse.Goals as goal
 
-pub returns-in-Overdue-clause-fault : goal.returns-in-Overdue-clause-fault
-returns-in-Overdue-clause-fault g c = λ bounds exact.
-    let overdue = c.in-Overdue.ensures.next bounds exact in
-    (overdue, overdue_cannot_wait bounds c.args.done.now c.args.now c.in-Overdue.event overdue)
+pub returns-in-Overdue : goal.returns-in-Overdue
+returns-in-Overdue g c = record {
+  next = tt;
+  possible = tt;
+  once = tt;
+  rising = tt;
+  in_time = tt;
+  fault = λ bounds exact.
+      let overdue = c.in-Overdue.ensures.next bounds exact in
+      (overdue, overdue_cannot_wait bounds c.args.done.now c.args.now c.in-Overdue.event overdue);
+}
 
-pub returns-in_err-tightened-clause-fault : goal.returns-in_err-tightened-clause-fault
-returns-in_err-tightened-clause-fault g c =
-    want_of_memory c.from_residual.result c.args.matrix.now c.args.done.now c.args.now c.next-answer.result (search rules) c.next-answer.ensures.next c.in_default.not-Overdue
+pub returns-in_err-tightened : goal.returns-in_err-tightened
+returns-in_err-tightened g c =
+    let refused = err_from_is_err_and c.from_residual.result c.from_residual.ensures.1 in
+    record {
+      next = rw refused.1 tt;
+      possible = rw refused.1 tt;
+      once = rw refused.1 tt;
+      rising = rw refused.1 tt;
+      in_time = rw refused.1 tt;
+      fault = want_of_memory c.from_residual.result c.args.matrix.now c.args.done.now c.args.now c.next-answer.result (search rules) c.next-answer.ensures.next c.in_default.not-Overdue;
+    }
 
-pub returns-in_err-finished-clause-fault : goal.returns-in_err-finished-clause-fault
-returns-in_err-finished-clause-fault g c =
-    want_of_memory c.from_residual-in_err-finished.result c.args.matrix.now c.args.done.now c.args.now c.next-answer.result (search rules) c.next-answer.ensures.next c.in_default.not-Overdue
+pub returns-in_err-finished : goal.returns-in_err-finished
+returns-in_err-finished g c =
+    let refused = err_from_is_err_and c.from_residual-in_err-finished.result c.from_residual-in_err-finished.ensures.1 in
+    record {
+      next = rw refused.1 tt;
+      possible = rw refused.1 tt;
+      once = rw refused.1 tt;
+      rising = rw refused.1 tt;
+      in_time = rw refused.1 tt;
+      fault = want_of_memory c.from_residual-in_err-finished.result c.args.matrix.now c.args.done.now c.args.now c.next-answer.result (search rules) c.next-answer.ensures.next c.in_default.not-Overdue;
+    }
 
 pub loop-answer-init : goal.loop-answer-init
 loop-answer-init g c =
@@ -32,9 +56,17 @@ loop-answer-init g c =
           (c.copy_from.ensures.exact bounds exact) (c.next-answer.ensures.next bounds exact) c.in_default.not-Overdue);
     }
 
-pub returns-in_err-append-clause-fault : goal.returns-in_err-append-clause-fault
-returns-in_err-append-clause-fault g c =
-    want_of_memory c.from_residual-in_err-append.result c.args.matrix.now c.args.done.now c.args.now c.next-answer.result (search rules) c.next-answer.ensures.next c.in_default.not-Overdue
+pub returns-in_err-append : goal.returns-in_err-append
+returns-in_err-append g c =
+    let refused = err_from_is_err_and c.from_residual-in_err-append.result c.from_residual-in_err-append.ensures.1 in
+    record {
+      next = rw refused.1 tt;
+      possible = rw refused.1 tt;
+      once = rw refused.1 tt;
+      rising = rw refused.1 tt;
+      in_time = rw refused.1 tt;
+      fault = want_of_memory c.from_residual-in_err-append.result c.args.matrix.now c.args.done.now c.args.now c.next-answer.result (search rules) c.next-answer.ensures.next c.in_default.not-Overdue;
+    }
 
 pub loop-answer-preserved : goal.loop-answer-preserved
 loop-answer-preserved g c =
