@@ -6,6 +6,6 @@ use Rattle.stn_wire.proofs.feeder.Feeder.feed.Goals as goal
 
 pub returns-in-Some-clause-broken : goal.returns-in-Some-clause-broken
 returns-in-Some-clause-broken g c = λ fault is. (
-      ap (λ (o : Option WireFault). Err (unwrap_or o c.in-Some.fault)) (sym c.in-Some.is ∙ (ap (λ (s : FeederState). s.broken) c.self.view_is ∙ is)),
-      refl,
-    )
+  ap (λ (o : Option WireFault). Err (unwrap_or o c.in-Some.fault)) (sym c.in-Some.is ∙ (ap (λ (s : FeederState). s.broken) c.self.view_is ∙ is)),
+  refl,
+)
