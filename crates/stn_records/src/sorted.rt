@@ -1,9 +1,10 @@
 // Lists of entries in the order of their ids.
-ghost use Rattle.std.specs.Prelude.{◌≡◌, ◌↔◌, ◌+◌, ◌^◌, ◌<◌, ◌++◌, IsTrue, IfOk, IfErr, OnOk, [], Some, None, length, filter, find, slice_get};
+ghost use Rattle.std.specs.Prelude.{◌≡◌, ◌↔◌, ◌+◌, ◌^◌, ◌<◌, ◌≤◌, ◌++◌, IsTrue, IfOk, IfErr, OnOk, [], Some, None, length, filter, find, slice_get};
 ghost use Rattle.std.specs.Set.{distinct_count, is_member};
 ghost use Rattle.std.specs.List.Sorted.{IsSorted};
 ghost use Rattle.std.specs.FinMap.{is_sorted};
 ghost use Rattle.std.specs.FinMap as fin;
+ghost use Rattle.std.specs.FinMap.Entries.{by_order};
 ghost use Rattle.stn_records.specs.Id.{id_cmp, lesser_of};
 ghost use Rattle.stn_records.specs.Maps.{differ};
 ghost use Rattle.stn_records.specs.Content.{same_ids, greatest_counter as greatest_of};
@@ -57,25 +58,29 @@ fn append_merged<X: Copy, A: Allocator>(
     let mut i = 0;
     let mut j = 0;
     while i < ours.len() && j < theirs.len() {
-        match ours[i].0.cmp(&theirs[j].0) {
-            Ordering::Less => {
-                all.push(ours[i])?;
-                i += 1;
-            }
-            Ordering::Equal => {
-                all.push(ours[i])?;
-                i += 1;
-                j += 1;
-            }
-            Ordering::Greater => {
-                all.push(theirs[j])?;
-                j += 1;
-            }
-        }
+        let (entry, of_ours, of_theirs) = first_of(ours[i], theirs[j]);
+        all.push(entry)?;
+        i += of_ours;
+        j += of_theirs;
     }
     all.extend_from_slice(&ours[i..])?;
     all.extend_from_slice(&theirs[j..])?;
     Ok(())
+}
+
+// The entry with the lesser id, that of ours where they are equal, and how many entries of ours and
+// of theirs have its id.
+fn first_of<X: Copy>(our: (Id, X), their: (Id, X)) -> ((Id, X), usize, usize)
+    ensures first { result ≡ by_order (id_cmp our.0 their.0) (our, 1, 0) (our, 1, 1) (their, 0, 1) }
+    ensures ours { result.1 ≤ 1 }
+    ensures theirs { result.2 ≤ 1 }
+    ensures some { 1 ≤ result.1 + result.2 }
+{
+    match our.0.cmp(&their.0) {
+        Ordering::Less => (our, 1, 0),
+        Ordering::Equal => (our, 1, 1),
+        Ordering::Greater => (their, 0, 1),
+    }
 }
 
 // The least id at which both have a value, and the values differ.

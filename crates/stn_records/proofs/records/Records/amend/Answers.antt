@@ -1,14 +1,25 @@
-use Rattle.std.proofs.Common.{Some, is_some, refl, sym, ap, subst, ◌∙◌}
+use Rattle.std.proofs.Common.{◌≡◌, Some, is_some, Err, refl, sym, ap, subst, ◌∙◌}
 use Rattle.std.proofs.lemmas.Bool.{false≢true}
+use Rattle.std.proofs.lemmas.Result.{err_from_is_err_and}
 use Rattle.stn_records.specs.Content.{IsSound}
+use Rattle.stn_records.specs.declared.faults.AmendFault.TheVariants.{Memory}
 use Rattle.stn_records.proofs.OneItem.{amendment_again, amendment_joins}
 use Rattle.stn_records.proofs.Amending.{amend_again, amend_unrefused, no_clash}
 use Rattle.stn_records.proofs.records.Records.amend.Goals as goal
 
-pub returns-in-Some-clause-again : goal.returns-in-Some-clause-again
-returns-in-Some-clause-again g c there entry =
-    let none = amend_again c.args.self.now (subst IsSound c.self.view_is c.self.invariant) c.args.id c.args.old c.args.bound there entry in
-    absurd (false≢true (ap is_some (sym none ∙ sym c.amend_refusal.ensures ∙ c.in-Some.is)))
+pub returns-in-Some : goal.returns-in-Some
+returns-in-Some g c =
+    let seen = sym c.amend_refusal.ensures ∙ c.in-Some.is in
+    record {
+      amended = tt;
+      joined = tt;
+      again = λ there entry. absurd (false≢true (ap is_some (sym (amend_again c.args.self.now (subst IsSound c.self.view_is c.self.invariant) c.args.id c.args.old c.args.bound there entry) ∙ seen)));
+      refused = λ fault other. (
+        λ is. let same : c.in-Some.fault ≡ fault = cc in seen ∙ ap Some same,
+        λ told. let both = sym seen ∙ told in let same : c.in-Some.fault ≡ fault = cc in ap Err same,
+      );
+      kept = refl;
+    }
 
 pub put_amendment-requires-clause-agrees : goal.put_amendment-requires-clause-agrees
 put_amendment-requires-clause-agrees g c = (amend_unrefused c.args.self.now c.args.id c.args.old c.args.bound (sym c.amend_refusal.ensures ∙ c.in_default.is)).0
@@ -16,11 +27,31 @@ put_amendment-requires-clause-agrees g c = (amend_unrefused c.args.self.now c.ar
 pub put_amendment-requires-clause-room : goal.put_amendment-requires-clause-room
 put_amendment-requires-clause-room g c = (amend_unrefused c.args.self.now c.args.id c.args.old c.args.bound (sym c.amend_refusal.ensures ∙ c.in_default.is)).1
 
-pub returns-clause-joined : goal.returns-clause-joined
-returns-clause-joined g c =
-    let agrees = (amend_unrefused c.args.self.now c.args.id c.args.old c.args.bound (sym c.amend_refusal.ensures ∙ c.in_default.is)).0 in
-    let both = no_clash c.args.self.now c.args.id c.args.old c.args.bound agrees in
-    amendment_joins c.args.self.now c.args.id c.args.old c.args.bound both.0 both.1 ∙ ap Some (sym c.in_ok-put_amendment.ensures.amended)
+pub returns-in_err-put_amendment : goal.returns-in_err-put_amendment
+returns-in_err-put_amendment g c =
+    let none = sym c.amend_refusal.ensures ∙ c.in_default.is in
+    let returned = err_from_is_err_and c.from_residual.result c.from_residual.ensures.1 in
+    record {
+      amended = rw returned.1 tt;
+      joined = rw returned.1 tt;
+      again = λ there entry. absurd (false≢true (c.in_err-put_amendment.ensures.again entry));
+      refused = rw (returned.1, returned.2) (λ fault other. (
+        λ is. let same : fault ≡ Memory = cc in absurd (other same),
+        λ told. absurd (false≢true (ap is_some (sym none ∙ told))),
+      ));
+      kept = rw returned.1 c.in_err-put_amendment.ensures.kept;
+    }
 
-pub returns-clause-again : goal.returns-clause-again
-returns-clause-again g c there entry = (refl, c.in_ok-put_amendment.ensures.amended ∙ sym (amendment_again c.args.self.now c.args.id c.args.old c.args.bound there entry))
+pub returns : goal.returns
+returns g c =
+    let none = sym c.amend_refusal.ensures ∙ c.in_default.is in
+    let amended = c.in_ok-put_amendment.ensures.amended in
+    let agrees = (amend_unrefused c.args.self.now c.args.id c.args.old c.args.bound none).0 in
+    let both = no_clash c.args.self.now c.args.id c.args.old c.args.bound agrees in
+    record {
+      amended = amended;
+      joined = amendment_joins c.args.self.now c.args.id c.args.old c.args.bound both.0 both.1 ∙ ap Some (sym amended);
+      again = λ there entry. (refl, amended ∙ sym (amendment_again c.args.self.now c.args.id c.args.old c.args.bound there entry));
+      refused = λ fault other. (λ is. cc, λ told. absurd (false≢true (ap is_some (sym none ∙ told))));
+      kept = tt;
+    }

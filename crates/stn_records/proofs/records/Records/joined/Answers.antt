@@ -1,12 +1,51 @@
-use Rattle.std.proofs.Common.{sym, subst, ◌∙◌}
-use Rattle.stn_records.specs.Content.{IsSound, dispute_contents, joined_contents}
+use Rattle.std.proofs.Common.{◌≡◌, cond, Some, None, Err, is_some, option_and_then, refl, sym, ap, subst, ◌∙◌, arith}
+use Rattle.std.proofs.lemmas.Bool.{false≢true}
+use Rattle.std.proofs.lemmas.Result.{err_from_is_err_and}
+use Rattle.stn_records.specs.Join.{passing}
+use Rattle.stn_records.specs.declared.faults.RecordsFault.TheVariants.{Clash}
+use Rattle.stn_records.specs.Content.{IsSound, dispute_contents, is_within, joined_contents}
+use Rattle.stn_records.specs.ContentLaws.{contents_undisputed}
 use Rattle.stn_records.proofs.Outcomes.{not_too_much, too_many, taken_is, joined_sound}
 use Rattle.stn_records.proofs.records.Records.joined.Goals as goal
 
-pub returns-then-is_too_much_with-clause-refused : goal.returns-then-is_too_much_with-clause-refused
-returns-then-is_too_much_with-clause-refused g c _ =
+pub returns-in-Some : goal.returns-in-Some
+returns-in-Some g c =
+    let seen = (λ i. dispute_contents (sym c.self.view_is i) (sym c.other.view_is i)) ∙ sym c.dispute.ensures ∙ c.in-Some.is in
+    record {
+      joined = tt;
+      taken = tt;
+      clash = λ id. (
+        λ is. let same : c.in-Some.id ≡ id = cc in seen ∙ ap Some same,
+        λ found. let both = sym seen ∙ found in let same : c.in-Some.id ≡ id = cc in ap (λ i. Err (Clash i)) same,
+      );
+      full = (λ is. cc, λ found. absurd (false≢true (ap is_some (sym found.0 ∙ seen))));
+      refused = λ _. ap (λ d. option_and_then (passing is_within) (cond (is_some d) None (Some (joined_contents c.args.self.now c.args.other.now)))) seen;
+    }
+
+pub returns-then-is_too_much_with : goal.returns-then-is_too_much_with
+returns-then-is_too_much_with g c =
     let none = (λ i. dispute_contents (sym c.self.view_is i) (sym c.other.view_is i)) ∙ sym c.dispute.ensures ∙ c.in_default.is in
-    too_many c.args.self.now c.args.other.now none (c.is_too_much_with.ensures.0 c.if-is_too_much_with.true)
+    let many = c.is_too_much_with.ensures.0 c.if-is_too_much_with.true in
+    record {
+      joined = tt;
+      taken = tt;
+      clash = λ id. (λ is. cc, λ found. absurd (false≢true (ap is_some (sym none ∙ found))));
+      full = (λ _. (none, many), λ _. refl);
+      refused = λ _. too_many c.args.self.now c.args.other.now none many;
+    }
+
+pub returns-in_err-state : goal.returns-in_err-state
+returns-in_err-state g c =
+    let none = (λ i. dispute_contents (sym c.self.view_is i) (sym c.other.view_is i)) ∙ sym c.dispute.ensures ∙ c.in_default.is in
+    let few = not_too_much c.args.self.now c.args.other.now c.is_too_much_with.result c.is_too_much_with.ensures c.if-is_too_much_with.false in
+    let returned = err_from_is_err_and c.from_residual.result c.from_residual.ensures.1 in
+    record {
+      joined = rw returned.1 tt;
+      taken = rw returned.1 tt;
+      clash = rw (returned.1, returned.2) (λ id. (λ is. cc, λ found. absurd (false≢true (ap is_some (sym none ∙ found)))));
+      full = rw (returned.1, returned.2) (λ is. cc, λ found. let many = found.1 in absurd (omega (arith, few, many)));
+      refused = rw (returned.1, returned.2) (λ other. absurd (other refl));
+    }
 
 pub invariant_of-result : goal.invariant_of-result
 invariant_of-result g c =
@@ -15,8 +54,15 @@ invariant_of-result g c =
     (not_too_much c.args.self.now c.args.other.now c.is_too_much_with.result c.is_too_much_with.ensures c.if-is_too_much_with.false)
     (c.in_ok-state.ensures ∙ (λ i. joined_contents (c.self.view_is i) (c.other.view_is i)))
 
-pub returns-clause-taken : goal.returns-clause-taken
-returns-clause-taken g c =
+pub returns : goal.returns
+returns g c =
     let none = (λ i. dispute_contents (sym c.self.view_is i) (sym c.other.view_is i)) ∙ sym c.dispute.ensures ∙ c.in_default.is in
-    taken_is c.args.self.now c.args.other.now c.in_ok-state.state none (not_too_much c.args.self.now c.args.other.now c.is_too_much_with.result c.is_too_much_with.ensures c.if-is_too_much_with.false)
-    (c.in_ok-state.ensures ∙ (λ i. joined_contents (c.self.view_is i) (c.other.view_is i)))
+    let few = not_too_much c.args.self.now c.args.other.now c.is_too_much_with.result c.is_too_much_with.ensures c.if-is_too_much_with.false in
+    let all = c.in_ok-state.ensures ∙ (λ i. joined_contents (c.self.view_is i) (c.other.view_is i)) in
+    record {
+      joined = contents_undisputed c.args.self.now c.args.other.now none ∙ ap Some (sym all);
+      taken = taken_is c.args.self.now c.args.other.now c.in_ok-state.state none few all;
+      clash = λ id. (λ is. cc, λ found. absurd (false≢true (ap is_some (sym none ∙ found))));
+      full = (λ is. cc, λ found. let many = found.1 in absurd (omega (arith, few, many)));
+      refused = tt;
+    }

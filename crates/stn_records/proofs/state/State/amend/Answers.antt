@@ -1,18 +1,34 @@
-use Rattle.std.proofs.Common.{refl, ap, ◌∙◌}
+use Rattle.std.proofs.Common.{◌≡◌, refl, ap, ◌∙◌}
 use Rattle.std.proofs.lemmas.Result.{err_from_is_err_and}
 use Rattle.std.specs.FinMap as fin
-use Rattle.stn_records.specs.Content.{Content}
+use Rattle.stn_records.specs.Content.{Content, with_amendment}
 use Rattle.stn_records.proofs.Replaced.{kept_by_amendment}
 use Rattle.stn_records.proofs.state.State.amend.Goals as goal
+
+pub returns-in_err-replacements : goal.returns-in_err-replacements
+returns-in_err-replacements g c =
+    let returned = err_from_is_err_and c.from_residual.result c.from_residual.ensures.1 in record { amended = rw returned.1 tt; kept = rw returned.1 refl }
+
+pub returns-in_err-replaced : goal.returns-in_err-replaced
+returns-in_err-replaced g c =
+    let returned = err_from_is_err_and c.from_residual-in_err-replaced.result c.from_residual-in_err-replaced.ensures.1 in record { amended = rw returned.1 tt; kept = rw returned.1 refl }
+
+pub returns-in_err-put : goal.returns-in_err-put
+returns-in_err-put g c =
+    let returned = err_from_is_err_and c.from_residual-in_err-put.result c.from_residual-in_err-put.ensures.1 in
+    let before : Content = record { additions = c.self.inside.additions; tombstones = c.self.inside.tombstones; replacements = c.self.inside.replacements } in
+    let now : Content = record { additions = c.put.new.self; tombstones = c.self.inside.tombstones; replacements = c.self.inside.replacements } in
+    let same : now ≡ before = λ i. record { additions = c.in_err-put.ensures.kept i; tombstones = c.self.inside.tombstones; replacements = c.self.inside.replacements } in
+    record { amended = rw returned.1 tt; kept = rw returned.1 (same ∙ c.self.view_is) }
 
 pub invariant_of-self-2 : goal.invariant_of-self-2
 invariant_of-self-2 g c =
     kept_by_amendment (record { additions = c.self.inside.additions; tombstones = c.self.inside.tombstones; replacements = c.self.inside.replacements }) c.self.inside.replaced c.in_ok-replaced.replaced c.in_ok-replacements.replacements c.args.id c.args.old c.args.bound c.self.invariant
     (ap (λ (s : Content). fin.get s.replacements c.args.id) c.self.view_is ∙ c.requires.new) c.in_ok-replacements.ensures c.in_ok-replaced.ensures
 
-pub returns-in_err-replacements-clause-kept : goal.returns-in_err-replacements-clause-kept
-returns-in_err-replacements-clause-kept g c = let p = err_from_is_err_and c.from_residual.result c.from_residual.ensures.1 in rw p.1 refl
-
-pub returns-in_err-replaced-clause-kept : goal.returns-in_err-replaced-clause-kept
-returns-in_err-replaced-clause-kept g c =
-    let p = err_from_is_err_and c.from_residual-in_err-replaced.result c.from_residual-in_err-replaced.ensures.1 in rw p.1 refl
+pub returns : goal.returns
+returns g c =
+    let before : Content = record { additions = c.self.inside.additions; tombstones = c.self.inside.tombstones; replacements = c.self.inside.replacements } in
+    let now : Content = record { additions = c.put.new.self; tombstones = c.self.inside.tombstones; replacements = c.in_ok-replacements.replacements } in
+    let made : now ≡ with_amendment before c.args.id c.args.old c.args.bound = λ i. record { additions = c.in_ok-put.ensures.inserted i; tombstones = c.self.inside.tombstones; replacements = c.in_ok-replacements.ensures i } in
+    record { amended = made ∙ ap (λ (s : Content). with_amendment s c.args.id c.args.old c.args.bound) c.self.view_is; kept = tt }
