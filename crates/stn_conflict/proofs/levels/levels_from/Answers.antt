@@ -78,7 +78,7 @@ returns g c =
     let e = take_at new (drop (length new) c.loop-start.levels.items) c.loop-start.levels.len long in
     let f = take_at back (drop (length back) c.loop-start.back.items) c.loop-start.back.len back_long in
     let same = c.mark_level.ensures.same c.loop-start-test.false in
-    let kept : new ≡ c.loop-start.levels.items = cc in
+    let kept : new ≡ c.loop-start.levels.items = same ∙ c.deref_mut.ensures.value in
     rw (e, f) (record {
       whole = whole;
       beside = beside;

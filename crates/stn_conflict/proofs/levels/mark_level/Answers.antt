@@ -1,4 +1,5 @@
 use Rattle.std.proofs.Common.{◌<◌, sym, arith, ◌∙◌, length}
+use Rattle.std.proofs.lemmas.Bool.{false≢true}
 use Rattle.stn_conflict.specs.Search.{level_at}
 use Rattle.stn_conflict.proofs.Distances.{link_among}
 use Rattle.stn_conflict.proofs.Rounds.{marking_at, marking_skips}
@@ -23,11 +24,11 @@ loop-index-preserved c =
             steps = rw (w.levels-is, w.back-is) steps;
             fewer = rw w.levels-is (omega (arith, h.fewer));
             more = λ e. rw w.levels-is (omega (arith, h.fewer));
-            same = λ e. let f = w.found-is in absurd (cc);
+            same = λ e. absurd (false≢true (sym e ∙ w.found-is));
           }
       | else-leads_on w ↦
           record {
-            marking = rw w.levels-is (marking_skips bounds c.args.start c.args.level c.loop-index.index (level_at c.loop-index.levels) link c.link_at-link.ensures (λ leads. let t = c.leads_on.ensures.1 leads in let f = w.if-leads_on.false in cc) h.marking);
+            marking = rw w.levels-is (marking_skips bounds c.args.start c.args.level c.loop-index.index (level_at c.loop-index.levels) link c.link_at-link.ensures (λ leads. false≢true (sym w.if-leads_on.false ∙ c.leads_on.ensures.1 leads)) h.marking);
             steps = rw (w.levels-is, w.back-is) h.steps;
             fewer = rw w.levels-is h.fewer;
             more = λ e. rw w.levels-is (h.more (sym w.found-is ∙ e));

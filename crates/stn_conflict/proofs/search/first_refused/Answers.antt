@@ -1,5 +1,7 @@
-use Rattle.std.proofs.Common.{◌≡◌, ◌+◌, ◌∙◌, length, take, refl, subst, arith}
+use Rattle.std.proofs.Common.{◌≡◌, ◌+◌, ◌∙◌, length, take, refl, sym, subst, arith}
+use Rattle.std.proofs.lemmas.Bool.{false≢true}
 use Rattle.std.proofs.lemmas.List.Elements.{All-take}
+use Rattle.std.proofs.lemmas.Result.{err_from_is_err_and}
 use Rattle.stn_net.specs.Difference.{NamesEvents}
 use Rattle.stn_conflict.specs.Distances.{HasTables}
 use Rattle.stn_conflict.proofs.Known.{begins_before}
@@ -32,5 +34,18 @@ first_between-requires g c =
       known = rw start (c.begin.ensures.estimates (take c.args.events bounds) c.args.events c.requires.tables.far (begins_before c.args.events bounds c.requires.begins)
           (All-take (NamesEvents c.args.events) c.args.events bounds c.requires.named));
       long = long;
-      none = λ has. (let some = c.settle.ensures.possible.1 has in cc);
+      none = λ has. false≢true (sym c.if-settle.false ∙ c.settle.ensures.possible.1 has);
     })
+
+pub returns-in_err-known : goal.returns-in_err-known
+returns-in_err-known g c =
+    let p = err_from_is_err_and c.from_residual.result c.from_residual.ensures.1 in
+    record { found = rw p.1 tt; tables = subst (λ n. HasTables n c.begin.new.self) c.requires.tables.far c.begin.ensures.tables }
+
+pub returns-then-settle : goal.returns-then-settle
+returns-then-settle g c =
+    let long : length c.begin.new.self.far.items ≡ c.args.events + 1 = c.begin.ensures.tables.far ∙ c.requires.tables.far in
+    record { found = c.settle.ensures.possible.0 c.if-settle.true; tables = subst (λ n. HasTables n c.settle.new.self) long c.settle.ensures.search.tables }
+
+pub returns : goal.returns
+returns g c = record { found = c.first_between.ensures.first; tables = c.first_between.ensures.tables }

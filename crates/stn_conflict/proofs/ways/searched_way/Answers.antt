@@ -1,4 +1,6 @@
-use Rattle.std.proofs.Common.{◌≡◌, ◌+◌, ◌∙◌, length, refl, arith}
+use Rattle.std.proofs.Common.{◌≡◌, ◌+◌, ◌∙◌, length, refl, sym, arith}
+use Rattle.std.proofs.lemmas.Bool.{false≢true}
+use Rattle.std.proofs.lemmas.Result.{err_from_is_err_and}
 use Rattle.stn_conflict.proofs.Searches.{tables_of}
 use Rattle.stn_conflict.proofs.ways.searched_way.Goals as goal
 
@@ -27,3 +29,17 @@ way_to-requires g c =
       few = omega (arith, c.requires.few);
       end = omega (arith, c.requires.to);
     })
+
+pub returns-in_err-search : goal.returns-in_err-search
+returns-in_err-search g c = let p = err_from_is_err_and c.from_residual.result c.from_residual.ensures.1 in rw p.1 tt
+
+pub returns-in_err-way_to : goal.returns-in_err-way_to
+returns-in_err-way_to g c = let p = err_from_is_err_and c.from_residual-in_err-way_to.result c.from_residual-in_err-way_to.ensures.1 in rw p.1 tt
+
+pub returns-then-settle : goal.returns-then-settle
+returns-then-settle g c =
+    let long : length c.settle.new.self.far.items ≡ c.args.events + 1 = c.settle.ensures.search.tables.far ∙ c.begin.ensures.tables.far ∙ c.in_ok-search.ensures.far ∙ c.requires.rows in
+    rw (c.deref.ensures.value, long) at c.in_ok-way_to.ensures
+
+pub returns : goal.returns
+returns g c = λ has. false≢true (sym c.if-settle.false ∙ c.settle.ensures.possible.1 has)

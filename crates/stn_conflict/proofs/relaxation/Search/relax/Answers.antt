@@ -17,7 +17,7 @@ pub index-requires : goal.index-requires
 index-requires g c =
     let ends = link_among c.args.bounds.now (length c.args.self.now.far.items) c.args.link c.requires.search.estimates.named c.requires.there in
     let from : c.from.result ≡ (arc_of c.args.bounds.now c.args.link).from = c.from.ensures ∙ c.number-2.ensures.value ∙ c.arc-arc.ensures.from in
-    omega (arith, ends.0, c.args.self.now.far.ok.0)
+    rw (from, c.args.self.now.far.ok.0) ends.0
 
 pub overflow_add-way : goal.overflow_add-way
 overflow_add-way g c =
@@ -33,25 +33,25 @@ pub index-requires-2 : goal.index-requires-2
 index-requires-2 g c =
     let ends = link_among c.args.bounds.now (length c.args.self.now.far.items) c.args.link c.requires.search.estimates.named c.requires.there in
     let to : c.from-end.result ≡ (arc_of c.args.bounds.now c.args.link).to = c.from-end.ensures ∙ c.number.ensures.value ∙ c.arc-arc.ensures.to in
-    omega (arith, ends.1, c.args.self.now.far.ok.0)
+    rw (to, c.args.self.now.far.ok.0) ends.1
 
 pub index_mut-requires : goal.index_mut-requires
 index_mut-requires g c =
     let ends = link_among c.args.bounds.now (length c.args.self.now.far.items) c.args.link c.requires.search.estimates.named c.requires.there in
     let to : c.from-end.result ≡ (arc_of c.args.bounds.now c.args.link).to = c.from-end.ensures ∙ c.number.ensures.value ∙ c.arc-arc.ensures.to in
-    omega (arith, ends.1, c.args.self.now.far.ok.0)
+    rw (to, c.args.self.now.far.ok.0) ends.1
 
 pub index_mut-requires-2 : goal.index_mut-requires-2
 index_mut-requires-2 g c =
     let ends = link_among c.args.bounds.now (length c.args.self.now.far.items) c.args.link c.requires.search.estimates.named c.requires.there in
     let to : c.from-end.result ≡ (arc_of c.args.bounds.now c.args.link).to = c.from-end.ensures ∙ c.number.ensures.value ∙ c.arc-arc.ensures.to in
-    omega (arith, ends.1, c.requires.search.tables.by, c.args.self.now.by.ok.0)
+    rw (to, c.args.self.now.by.ok.0, c.requires.search.tables.by) ends.1
 
 pub index_mut-requires-3 : goal.index_mut-requires-3
 index_mut-requires-3 g c =
     let ends = link_among c.args.bounds.now (length c.args.self.now.far.items) c.args.link c.requires.search.estimates.named c.requires.there in
     let to : c.from-end.result ≡ (arc_of c.args.bounds.now c.args.link).to = c.from-end.ensures ∙ c.number.ensures.value ∙ c.arc-arc.ensures.to in
-    omega (arith, ends.1, c.requires.search.tables.fresh, c.args.self.now.fresh.ok.0)
+    rw (to, c.args.self.now.fresh.ok.0, c.requires.search.tables.fresh) ends.1
 
 pub returns-then-index-way : goal.returns-then-index-way
 returns-then-index-way g c =
