@@ -68,7 +68,7 @@ index-requires g c =
     let among = among_events bounds c.args.events (length far.items) c.refused_side.ensures.tables.far c.requires.named in
     let below = (link_among bounds (length far.items) link among c.requires.first.there).0 in
     let place : c.from.result ≡ (arc_of bounds link).from = c.from.ensures ∙ c.number.ensures.value ∙ c.arc-arc.ensures.from in
-    omega (arith, below, far.ok.0)
+    rw (place, far.ok.0) below
 
 pub overflow_add-result : goal.overflow_add-result
 overflow_add-result g c =

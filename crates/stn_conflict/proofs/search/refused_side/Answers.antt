@@ -18,7 +18,8 @@ distances-requires g c = record {
 pub index-requires : goal.index-requires
 index-requires g c =
     let place : c.from-2.result ≡ c.args.bound.now.from = c.from-2.ensures ∙ c.number.ensures.value ∙ c.from.ensures.value in
-    omega (arith, c.requires.bound.from, c.distances.ensures.tables.far, c.distances.new.self.far.ok.0)
+    let below : c.args.bound.now.from < length c.distances.new.self.far.items = omega (arith, c.distances.ensures.tables.far, c.requires.bound.from) in
+    rw (place, c.distances.new.self.far.ok.0) below
 
 pub overflow_add-index : goal.overflow_add-index
 overflow_add-index g c =
