@@ -59,3 +59,10 @@ opened_more source sound count bound old new fits within here opened possible ex
       exact = subst (λ l. IsExact l new) (sym more ∙ ap (λ k. take k all) same) (exact (take n all) opened.exact does_fit);
       events = events ∙ opened.events;
     }
+
+-- after the last, all bounds are taken
+pub all_opened : (source : PlanSource) (all : List Difference) (from place : ℕ) (table : Table) → all ≡ base_bounds source → from ≡ events_of source
+    → length (take (length all - from) (drop from all)) ≤ place → IsOpenedTo source place table → IsExact (base_bounds source) table
+all_opened source all from place table same here last opened =
+    let past : length all ≤ from + place = omega (arith, length-take (length all - from) (drop from all), length-drop from all) in
+    subst (λ l. IsExact l table) (take_all (events_of source + place) (base_bounds source) (rw (← same, ← here) past)) opened.exact

@@ -5,10 +5,10 @@ use Rattle.std.specs.Bool.{Decides, then_some}
 use Rattle.std.specs.Option.{option_or}
 use Rattle.std.specs.List.{list_all}
 use Rattle.std.specs.FinMap.{get, entries}
-use Rattle.std.proofs.lemmas.Bool.{false≢true, false_from_ne_true}
+use Rattle.std.proofs.lemmas.Bool.{false≢true, false_from_ne_true, true_from_ne_false}
 use Rattle.std.proofs.lemmas.Bool.Decides.{nat_tests, Decides-by_and}
 use Rattle.std.proofs.lemmas.Int.{ints}
-use Rattle.stn_net.specs.Difference.{Difference, NamesEvents, IsFaultOf}
+use Rattle.stn_net.specs.Difference.{Difference, NamesEvents, IsBoundWithin, IsFaultOf}
 use Rattle.stn_net.specs.declared.bound.BoundFault.{BoundFault}
 use Rattle.stn_net.specs.declared.bound.BoundFault.TheVariants.{NoEvent, SameEvent, Crossed}
 use Rattle.stn_windows.specs.Rehearsal.{fixed_at}
@@ -17,10 +17,12 @@ use Rattle.stn_records.specs.Id.{most_counter, SiteCounter}
 use Rattle.stn_records.specs.declared.record.Record.{Record}
 use Rattle.stn_records.specs.declared.faults.RecordsFault.{RecordsFault}
 use Rattle.stn_records.specs.declared.faults.RecordsFault.TheVariants as records
+use Rattle.stn_records.specs.declared.faults.WithdrawFault.{WithdrawFault}
+use Rattle.stn_records.specs.declared.faults.WithdrawFault.TheVariants as withdraw
 use Rattle.stn_records.specs.Content.{most_known, Content, HasAnother, is_known, known_count, known_in_either, next_counter, dispute_contents, taken}
 use Rattle.stn_replica.specs.declared.faults.ReplicaFault.TheVariants.{Bound, CounterSpent, Full, Unknown, Clash, Memory}
 use Rattle.stn_replica.specs.Bounds.{RecordsName}
-use Rattle.stn_replica.specs.FaultsOf.{of_records_fault}
+use Rattle.stn_replica.specs.FaultsOf.{of_records_fault, of_withdraw_fault}
 use Rattle.stn_replica.specs.Held.{Held, difference}
 use Rattle.stn_replica.specs.Refusals.{names_events, bound_refusal, next_refusal, add_refusal, amend_refusal, done_refusal, withdraw_refusal, records_name, take_refusal}
 use Rattle.stn_records.proofs.Outcomes.{too_many}
@@ -125,7 +127,31 @@ bound_refused events bound Crossed crossed =
     ∙ first_passes (bound.from == bound.to) SameEvent _ (other_number bound.from bound.to crossed.1)
     ∙ stands (int_lt bound.hi bound.lo) Crossed (int_less bound.hi bound.lo crossed.2)
 
--- so is an addition of it, and an amendment by it
+int_not_less : (a b : ℤ) → b ≤ℤ a → int_lt a b ≡ false
+int_not_less a b h = false_from_ne_true (int_lt a b) (λ e. omega (arith, ints))
+
+-- a bound of the plan has no fault
+bound_passes : (events : ℕ) (bound : Difference) → IsBoundWithin events bound → bound_refusal events bound ≡ None
+bound_passes events bound within =
+    first_passes (not (names_events events bound)) NoEvent _ (ap not ((names_decides events bound).1 within.named))
+    ∙ first_passes (bound.from == bound.to) SameEvent _ (other_number bound.from bound.to within.differs)
+    ∙ passes (int_lt bound.hi bound.lo) Crossed (int_not_less bound.hi bound.lo within.ordered)
+
+-- so an addition of it is refused as the next record is, and an amendment by it, where the old id is known
+pub add_passes : (held : Held) (bound : Difference) → IsBoundWithin (events_of held.source) bound → add_refusal held bound ≡ next_refusal held
+add_passes held bound within = ap (λ o. option_or (option_map Bound o) (next_refusal held)) (bound_passes (events_of held.source) bound within)
+
+pub amend_known : (held : Held) (old : SiteCounter) (bound : Difference) → IsBoundWithin (events_of held.source) bound → is_known held.state old ≡ true → amend_refusal held old bound ≡ next_refusal held
+amend_known held old bound within known =
+    ap (λ o. option_or (option_map Bound o) (option_or (then_some (not (is_known held.state old)) Unknown) (next_refusal held))) (bound_passes (events_of held.source) bound within)
+    ∙ first_passes (not (is_known held.state old)) Unknown (next_refusal held) (ap not known)
+
+pub amend_unknown : (held : Held) (old : SiteCounter) (bound : Difference) → IsBoundWithin (events_of held.source) bound → is_known held.state old ≡ false → amend_refusal held old bound ≡ Some Unknown
+amend_unknown held old bound within unknown =
+    ap (λ o. option_or (option_map Bound o) (option_or (then_some (not (is_known held.state old)) Unknown) (next_refusal held))) (bound_passes (events_of held.source) bound within)
+    ∙ first_stands (not (is_known held.state old)) Unknown (next_refusal held) (ap not unknown)
+
+-- an addition of a difference with a fault is refused, and an amendment by it
 pub add_refused : (held : Held) (bound : Difference) (fault : BoundFault) → IsFaultOf (events_of held.source) bound fault → add_refusal held bound ≡ Some (Bound fault)
 add_refused held bound fault is = ap (λ o. option_or (option_map Bound o) (next_refusal held)) (bound_refused (events_of held.source) bound fault is)
 
@@ -228,6 +254,28 @@ can_hold held other named is =
     joinable held other named
     (λ id e. absurd (false≢true (ap is_some (sym agreed ∙ e))))
     (λ p. absurd (false≢true (ap is_some (sym (too_many held.state other p.0 p.1) ∙ is))))
+
+-- ---- withdrawals
+abbrev pub unwithdrawn : WithdrawFault → Result (Unit {0}) WithdrawFault
+unwithdrawn fault = Err fault
+
+abbrev pub withdrawn : Unit {0} → Result (Unit {0}) WithdrawFault
+withdrawn done = Ok done
+
+pub withdraw_fault : (held : Held) (id : SiteCounter) (fault : WithdrawFault) → ((unwithdrawn fault ≡ Err withdraw.Unknown) ↔ (is_known held.state id ≡ false))
+    → of_withdraw_fault fault ≡ unwrap_or (withdraw_refusal held id) Memory
+withdraw_fault held id withdraw.Unknown unknown = sym (ap (λ b. unwrap_or (then_some (not b) Unknown) Memory) (unknown.0 refl))
+withdraw_fault held id withdraw.Memory unknown =
+    sym (ap (λ b. unwrap_or (then_some (not b) Unknown) Memory) (true_from_ne_false (is_known held.state id) (λ e. other_fault (unknown.1 e))))
+  where
+    other_fault : unwithdrawn withdraw.Memory ≢ Err withdraw.Unknown
+    other_fault e = cc
+
+pub can_withdraw : (held : Held) (id : SiteCounter) (done : Unit {0}) → ((withdrawn done ≡ Err withdraw.Unknown) ↔ (is_known held.state id ≡ false)) → withdraw_refusal held id ≡ None
+can_withdraw held id done unknown = passes (not (is_known held.state id)) Unknown (ap not (true_from_ne_false (is_known held.state id) (λ e. no_fault (unknown.1 e))))
+  where
+    no_fault : withdrawn done ≢ Err withdraw.Unknown
+    no_fault e = cc
 
 -- ---- what an accepted call tells
 pub or_none : {X : Type 0} (o p : Option X) → option_or o p ≡ None → (o ≡ None) × (p ≡ None)

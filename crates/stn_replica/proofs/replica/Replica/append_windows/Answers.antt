@@ -1,4 +1,5 @@
 use Rattle.std.proofs.Common.{◌≡◌, ◌+◌, ◌≤◌, ◌++◌, codes, slice_index_or, subst, sym, ap, ◌∙◌, false, arith, append_assoc}
+use Rattle.std.proofs.lemmas.Result.{err_from_is_err_and}
 use Rattle.stn_net.specs.Event.{most_events}
 use Rattle.stn_replica.specs.Lines.{line, window_line}
 use Rattle.stn_replica.specs.Report.{is_done, IsWindowLines}
@@ -33,3 +34,10 @@ returns-clause-part g c = λ bounds exact.
       subst (λ n. IsWindowLines bounds (is_done c.args.self.now.state) n seen.0) all seen.1,
       seen.2 ∙ ap (λ front. front ++ seen.0) c.in_ok-extend_from_slice.ensures.items ∙ append_assoc c.args.out.now.items (line (codes "ok")) seen.0,
     )
+
+pub returns-in_err-extend_from_slice : goal.returns-in_err-extend_from_slice
+returns-in_err-extend_from_slice g c = let p = err_from_is_err_and c.from_residual.result c.from_residual.ensures.1 in rw p.1 (record { part = tt; short = tt })
+
+pub returns-in_err-append_window_line : goal.returns-in_err-append_window_line
+returns-in_err-append_window_line g c =
+    let p = err_from_is_err_and c.from_residual-in_err-append_window_line.result c.from_residual-in_err-append_window_line.ensures.1 in rw p.1 (record { part = tt; short = tt })

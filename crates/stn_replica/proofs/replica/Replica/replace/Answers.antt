@@ -1,17 +1,20 @@
-use Rattle.std.proofs.Common.{◌≡◌, false, None, is_some, sym, ap, subst, ◌∙◌, arith}
+use Rattle.std.proofs.Common.{◌≡◌, false, Some, None, is_some, refl, sym, ap, subst, ◌∙◌, arith}
 use Rattle.std.proofs.lemmas.Bool.{false≢true}
 use Rattle.std.proofs.lemmas.Result.{err_from_is_err_and}
+use Rattle.std.specs.Prelude.{unwrap_or}
 use Rattle.std.specs.Rc.{rc_value}
 use Rattle.std.specs.FinMap.{get}
 use Rattle.stn_net.specs.Difference.{NamesEvents}
 use Rattle.stn_lift.specs.PlanSource.{events_of}
 use Rattle.stn_records.specs.Id.{SiteCounter}
-use Rattle.stn_records.specs.Content.{Content, is_known, plain}
+use Rattle.stn_records.specs.Content.{Content, is_known, join_contents, one_amendment, plain, with_amendment}
 use Rattle.stn_replica.specs.Bounds.{RecordsName}
-use Rattle.stn_replica.specs.Held.{Held}
+use Rattle.stn_replica.specs.Held.{Held, next_id}
+use Rattle.stn_replica.specs.declared.faults.ReplicaFault.TheVariants.{Memory}
 use Rattle.stn_replica.proofs.Amended.{amend_fault, can_amend}
 use Rattle.stn_replica.proofs.Counts.{replaces_nothing}
 use Rattle.stn_replica.proofs.Changes.{falls_with_amendment, grown_with_amendment, named_added}
+use Rattle.stn_replica.proofs.Refused.{next_spent}
 use Rattle.stn_replica.proofs.Sound.{held_is, sound_added, sound_rebuilt, spares_added, spares_fallen, not_past}
 use Rattle.stn_replica.proofs.replica.Replica.replace.Goals as goal
 use Rattle.stn_replica.proofs.replica.Replica.replace.Goals.{then-was_live, else-was_live}
@@ -25,16 +28,34 @@ prove-unreachable-requires g c =
     let found : c.get.result ≡ None = c.get.ensures ∙ ap (λ m. get m c.unwrap-id.result) (c.replacements.ensures ∙ ap (λ (s : Content). s.replacements) c.state.ensures.value) ∙ nothing in
     false≢true (ap is_some (sym found) ∙ c.if-prove.ensures)
 
-pub returns-in_err-amend-clause-fault : goal.returns-in_err-amend-clause-fault
-returns-in_err-amend-clause-fault g c =
+pub returns-in_err-counter : goal.returns-in_err-counter
+returns-in_err-counter g c =
+    let p = err_from_is_err_and c.from_residual.result c.from_residual.ensures.1 in
+    let held : Held = record { site = c.self.inside.site; source = rc_value c.self.inside.base; state = c.self.inside.records; steps = c.self.inside.current.steps } in
+    record {
+      leaves = rw p.1 tt;
+      work = rw p.1 tt;
+      accepted = rw p.1 tt;
+      fault = rw (p.1, p.2, ← c.self.view_is) (ap (λ o. unwrap_or o Memory) (sym (next_spent held (c.in_err-counter.ensures.spent.0 refl))));
+      kept = rw p.1 refl;
+    }
+
+pub returns-in_err-amend : goal.returns-in_err-amend
+returns-in_err-amend g c =
     let p = err_from_is_err_and c.from_residual-in_err-amend.result c.from_residual-in_err-amend.ensures.1 in
     let id : SiteCounter = record { site = c.self.inside.site; counter = c.in_ok-counter.counter } in
     let is : c.unwrap-id.result ≡ id = held_is c.new.result c.unwrap-id.result id c.unwrap-id.ensures c.new.ensures.value in
     let unknown : is_known c.self.inside.records c.unwrap-id.result ≡ false = subst (λ i. is_known c.self.inside.records i ≡ false) (sym is) c.in_ok-counter.ensures.new in
     let held : Held = record { site = c.self.inside.site; source = rc_value c.self.inside.base; state = c.self.inside.records; steps = c.self.inside.current.steps } in
     let known = ap (λ (h : Held). is_known h.state c.args.old) c.self.view_is ∙ c.requires.known in
-    rw (p.1, p.2, ← c.self.view_is)
-    (amend_fault held c.unwrap-id.result c.args.old c.args.bound c.state.ensures.sound (not_past _ c.in_ok-counter.ensures.spent.1) unknown known c.in_err-amend.field-0.0 c.in_err-amend.ensures.refused)
+    record {
+      leaves = rw p.1 tt;
+      work = rw p.1 tt;
+      accepted = rw p.1 tt;
+      fault = rw (p.1, p.2, ← c.self.view_is)
+          (amend_fault held c.unwrap-id.result c.args.old c.args.bound c.state.ensures.sound (not_past _ c.in_ok-counter.ensures.spent.1) unknown known c.in_err-amend.field-0.0 c.in_err-amend.ensures.refused);
+      kept = rw p.1 ((λ i. record { site = c.self.inside.site; source = rc_value c.self.inside.base; state = c.in_err-amend.ensures.kept i; steps = c.self.inside.current.steps }) ∙ c.self.view_is);
+    }
 
 pub rebuild-self-inside-requires-clause-named : goal.rebuild-self-inside-requires-clause-named
 rebuild-self-inside-requires-clause-named g c =
@@ -72,34 +93,46 @@ invariant_of-self-else-was_live g c =
     c.unwrap-id.result (plain c.args.bound) c.self.invariant more named
     c.tighten_further-self-inside.ensures.settled c.tighten_further-self-inside.ensures.events c.tighten_further-self-inside.ensures.counted
 
-pub returns-clause-work : goal.returns-clause-work
-returns-clause-work g c =
+pub returns : goal.returns
+returns g c =
     let id : SiteCounter = record { site = c.self.inside.site; counter = c.in_ok-counter.counter } in
     let is : c.unwrap-id.result ≡ id = held_is c.new.result c.unwrap-id.result id c.unwrap-id.ensures c.new.ensures.value in
     let unknown : is_known c.self.inside.records c.unwrap-id.result ≡ false = subst (λ i. is_known c.self.inside.records i ≡ false) (sym is) c.in_ok-counter.ensures.new in
     let known = ap (λ (h : Held). is_known h.state c.args.old) c.self.view_is ∙ c.requires.known in
     let nothing = replaces_nothing c.self.inside.records c.unwrap-id.result c.state.ensures.sound.amends unknown in
+    let held : Held = record { site = c.self.inside.site; source = rc_value c.self.inside.base; state = c.self.inside.records; steps = c.self.inside.current.steps } in
     let before = ap (λ (h : Held). h.steps) c.self.view_is in
     let was = ap (λ (h : Held). h.state) (sym c.self.view_is) in
+    let after = c.if-was_live.self in
+    let parts : (after.site ≡ held.site) × (after.source ≡ held.source) × (after.state ≡ c.amend.new.self) =
     elim c.if-was_live.branch [
-      | then-was_live w ↦
-          spares_fallen c.args.self.now c.if-was_live.self c.self.inside.records c.amend.new.self
-          (falls_with_amendment c.self.inside.records c.amend.new.self c.unwrap-id.result c.args.old c.args.bound c.in_ok-amend.ensures.amended nothing (sym c.is_live-was_live.ensures ∙ w.if-was_live.true))
-          was (ap (λ (h : Held). h.state) w.self-is)
-      | else-was_live w ↦
-          let more = grown_with_amendment c.self.inside.records c.amend.new.self c.unwrap-id.result c.args.old c.args.bound c.in_ok-amend.ensures.amended nothing unknown known (sym c.is_live-was_live.ensures ∙ w.if-was_live.false) in
-          let after = ap (λ (h : Held). h.steps) w.self-is in
-          spares_added c.args.self.now c.if-was_live.self c.self.inside.records c.amend.new.self c.unwrap-id.result (plain c.args.bound) more
-          was (ap (λ (h : Held). h.state) w.self-is)
-          (omega (arith, w.tighten_further-self-inside.ensures.least, before, after)) (omega (arith, w.tighten_further-self-inside.ensures.most, before, after))
-    ]
-
-pub returns-clause-accepted : goal.returns-clause-accepted
-returns-clause-accepted g c =
-    let id : SiteCounter = record { site = c.self.inside.site; counter = c.in_ok-counter.counter } in
-    let is : c.unwrap-id.result ≡ id = held_is c.new.result c.unwrap-id.result id c.unwrap-id.ensures c.new.ensures.value in
-    let unknown : is_known c.self.inside.records c.unwrap-id.result ≡ false = subst (λ i. is_known c.self.inside.records i ≡ false) (sym is) c.in_ok-counter.ensures.new in
-    let known = ap (λ (h : Held). is_known h.state c.args.old) c.self.view_is ∙ c.requires.known in
-    let held : Held = record { site = c.self.inside.site; source = rc_value c.self.inside.base; state = c.self.inside.records; steps = c.self.inside.current.steps } in
-    rw (← c.self.view_is)
-    (can_amend held c.unwrap-id.result c.args.old c.args.bound c.state.ensures.sound (not_past _ c.in_ok-counter.ensures.spent.1) unknown known c.in_ok-amend.field-0 c.in_ok-amend.ensures.refused)
+      | then-was_live w ↦ (ap (λ (h : Held). h.site) w.self-is, ap (λ (h : Held). h.source) w.self-is, ap (λ (h : Held). h.state) w.self-is)
+      | else-was_live w ↦ (ap (λ (h : Held). h.site) w.self-is, ap (λ (h : Held). h.source) w.self-is, ap (λ (h : Held). h.state) w.self-is)
+    ] in
+    record {
+      leaves = record {
+        site = parts.0 ∙ ap (λ (h : Held). h.site) c.self.view_is;
+        source = parts.1 ∙ ap (λ (h : Held). h.source) c.self.view_is;
+        state = (
+          is ∙ (λ i. record { site = c.self.inside.site; counter = c.in_ok-counter.ensures.next i }) ∙ ap next_id c.self.view_is,
+          parts.2 ∙ c.in_ok-amend.ensures.amended ∙ ap (λ (h : Held). with_amendment h.state c.unwrap-id.result c.args.old c.args.bound) c.self.view_is,
+          ap (λ (h : Held). join_contents h.state (one_amendment c.unwrap-id.result c.args.old c.args.bound)) (sym c.self.view_is) ∙ c.in_ok-amend.ensures.joined ∙ ap Some (sym parts.2),
+        );
+      };
+      work = elim c.if-was_live.branch [
+        | then-was_live w ↦
+            spares_fallen c.args.self.now c.if-was_live.self c.self.inside.records c.amend.new.self
+            (falls_with_amendment c.self.inside.records c.amend.new.self c.unwrap-id.result c.args.old c.args.bound c.in_ok-amend.ensures.amended nothing (sym c.is_live-was_live.ensures ∙ w.if-was_live.true))
+            was (ap (λ (h : Held). h.state) w.self-is)
+        | else-was_live w ↦
+            let more = grown_with_amendment c.self.inside.records c.amend.new.self c.unwrap-id.result c.args.old c.args.bound c.in_ok-amend.ensures.amended nothing unknown known (sym c.is_live-was_live.ensures ∙ w.if-was_live.false) in
+            let after = ap (λ (h : Held). h.steps) w.self-is in
+            spares_added c.args.self.now c.if-was_live.self c.self.inside.records c.amend.new.self c.unwrap-id.result (plain c.args.bound) more
+            was (ap (λ (h : Held). h.state) w.self-is)
+            (omega (arith, w.tighten_further-self-inside.ensures.least, before, after)) (omega (arith, w.tighten_further-self-inside.ensures.most, before, after))
+      ];
+      accepted = rw (← c.self.view_is)
+          (can_amend held c.unwrap-id.result c.args.old c.args.bound c.state.ensures.sound (not_past _ c.in_ok-counter.ensures.spent.1) unknown known c.in_ok-amend.field-0 c.in_ok-amend.ensures.refused);
+      fault = tt;
+      kept = tt;
+    }

@@ -1,4 +1,5 @@
 use Rattle.std.proofs.Common.{◌++◌, length, ap, ◌∙◌, arith}
+use Rattle.std.proofs.lemmas.Result.{err_from_is_err_and}
 use Rattle.stn_replica.specs.Report.{heading}
 use Rattle.stn_replica.proofs.replica.Replica.text.Goals as goal
 
@@ -11,3 +12,13 @@ returns-clause-report g c =
 pub returns-clause-short : goal.returns-clause-short
 returns-clause-short g c =
     omega (arith, c.in_ok-append_part.ensures.short, c.in_ok-append_heading.ensures.short, ap length c.new-text.ensures.items)
+
+pub returns-in_err-live : goal.returns-in_err-live
+returns-in_err-live g c = let p = err_from_is_err_and c.from_residual.result c.from_residual.ensures.1 in rw p.1 (record { report = tt; short = tt })
+
+pub returns-in_err-append_heading : goal.returns-in_err-append_heading
+returns-in_err-append_heading g c =
+    let p = err_from_is_err_and c.from_residual-in_err-append_heading.result c.from_residual-in_err-append_heading.ensures.1 in rw p.1 (record { report = tt; short = tt })
+
+pub returns-in_err-append_part : goal.returns-in_err-append_part
+returns-in_err-append_part g c = let p = err_from_is_err_and c.from_residual-in_err-append_part.result c.from_residual-in_err-append_part.ensures.1 in rw p.1 (record { report = tt; short = tt })
