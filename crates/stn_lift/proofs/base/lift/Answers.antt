@@ -1,4 +1,4 @@
-use Rattle.std.proofs.Common.{◌≡◌, ◌≤◌, ◌∙◌, length, map, Ok, sym, ap, arith}
+use Rattle.std.proofs.Common.{◌≡◌, ◌≤◌, ◌∙◌, length, map, Ok, sym, ap, arith, rules}
 use Rattle.std.proofs.lemmas.List.{length-map}
 use Rattle.std.proofs.lemmas.Result.{err_from_is_err_and}
 use Rattle.stn_text.specs.Faults.{Fails}
@@ -17,6 +17,31 @@ returns-in_err-timeline-clause-cause g c =
     let returned = err_from_is_err_and c.from_residual.result c.from_residual.ensures.1 in
     let fails : Fails is_memory c.in_err-timeline.field-0.0 (activities c.args.domain.now.actions 0 c.args.plan.now.steps) = rw (← c.steps.ensures.steps) c.in_err-timeline.ensures.fault in
     rw (returned.1, returned.2) (cause_of c.args.domain.now.actions c.args.plan.now.steps c.in_err-timeline.field-0.0 fails)
+
+pub returns-in_err-timeline-clause-made : goal.returns-in_err-timeline-clause-made
+returns-in_err-timeline-clause-made g c =
+    let returned = err_from_is_err_and c.from_residual.result c.from_residual.ensures.1 in
+    rw returned.1 tt
+
+pub returns-in_err-timeline-clause-steps : goal.returns-in_err-timeline-clause-steps
+returns-in_err-timeline-clause-steps g c =
+    let returned = err_from_is_err_and c.from_residual.result c.from_residual.ensures.1 in
+    rw returned.1 tt
+
+pub returns-in_err-timeline-clause-possible : goal.returns-in_err-timeline-clause-possible
+returns-in_err-timeline-clause-possible g c =
+    let returned = err_from_is_err_and c.from_residual.result c.from_residual.ensures.1 in
+    rw returned.1 tt
+
+pub returns-in_err-timeline-clause-ordered : goal.returns-in_err-timeline-clause-ordered
+returns-in_err-timeline-clause-ordered g c =
+    let returned = err_from_is_err_and c.from_residual.result c.from_residual.ensures.1 in
+    rw returned.1 tt
+
+pub returns-in_err-timeline-clause-sound : goal.returns-in_err-timeline-clause-sound
+returns-in_err-timeline-clause-sound g c =
+    let returned = err_from_is_err_and c.from_residual.result c.from_residual.ensures.1 in
+    rw returned.1 tt
 
 pub bounds-requires : goal.bounds-requires
 bounds-requires g c =
@@ -59,68 +84,70 @@ invariant_of-result g c =
     let counted : c.len.result ≡ length durations.items = omega (arith, c.len.ensures, durations.ok.0) in
     rw (counted, c.in_ok-bounds.ensures) base
 
-pub returns-clause-steps : goal.returns-clause-steps
-returns-clause-steps g c =
-    let made = c.in_ok-timeline.ensures.made in
-    let planned = c.args.plan.now.steps in
-    let actions = c.args.domain.now.actions in
-    let found : activities actions 0 planned ≡ Ok made.0 = rw c.steps.ensures.steps at made.1 in
-    let few : length planned ≤ most_steps = rw (← c.steps.ensures.steps, length-map) c.steps.ensures.few in
-    let small = few_found actions planned made.0 found few in
-    let domain_is : domain_of c.args.domain.now.text ≡ Ok actions = rw (← c.text.ensures.text) c.text.ensures.given in
-    found ∙ ap Ok (sym (texts_lifted made.0 c.in_ok-timeline.timeline.durations.items c.in_ok-timeline.timeline.times.items (map numbers_of c.in_ok-timeline.timeline.footprints.items) made.2
-    c.args.domain.now.text c.args.plan.now.text actions planned domain_is c.steps.ensures.given found))
+pub returns-in_err-bounds : goal.returns-in_err-bounds
+returns-in_err-bounds g c =
+    let returned = err_from_is_err_and c.from_residual-in_err-bounds.result c.from_residual-in_err-bounds.ensures.1 in
+    record {
+      made = rw returned.1 tt;
+      given = rw (returned.1, returned.2) tt;
+      cause = rw (returned.1, returned.2) tt;
+      steps = rw returned.1 tt;
+      possible = rw returned.1 tt;
+      ordered = rw returned.1 tt;
+      sound = rw returned.1 tt;
+    }
 
-pub returns-clause-possible : goal.returns-clause-possible
-returns-clause-possible g c =
+pub returns-in_err-from_slice : goal.returns-in_err-from_slice
+returns-in_err-from_slice g c =
+    let returned = err_from_is_err_and c.from_residual-in_err-from_slice.result c.from_residual-in_err-from_slice.ensures.1 in
+    record {
+      made = rw returned.1 tt;
+      given = rw (returned.1, returned.2) tt;
+      cause = rw (returned.1, returned.2) tt;
+      steps = rw returned.1 tt;
+      possible = rw returned.1 tt;
+      ordered = rw returned.1 tt;
+      sound = rw returned.1 tt;
+    }
+
+pub returns-in_err-from_slice-2 : goal.returns-in_err-from_slice-2
+returns-in_err-from_slice-2 g c =
+    let returned = err_from_is_err_and c.from_residual-in_err-from_slice-2.result c.from_residual-in_err-from_slice-2.ensures.1 in
+    record {
+      made = rw returned.1 tt;
+      given = rw (returned.1, returned.2) tt;
+      cause = rw (returned.1, returned.2) tt;
+      steps = rw returned.1 tt;
+      possible = rw returned.1 tt;
+      ordered = rw returned.1 tt;
+      sound = rw returned.1 tt;
+    }
+
+pub returns : goal.returns
+returns g c =
     let made = c.in_ok-timeline.ensures.made in
     let planned = c.args.plan.now.steps in
     let actions = c.args.domain.now.actions in
     let found : activities actions 0 planned ≡ Ok made.0 = rw c.steps.ensures.steps at made.1 in
     let few : length planned ≤ most_steps = rw (← c.steps.ensures.steps, length-map) c.steps.ensures.few in
     let small = few_found actions planned made.0 found few in
+    let durations = c.in_ok-timeline.timeline.durations.items in
+    let times = c.in_ok-timeline.timeline.times.items in
+    let numbers = map numbers_of c.in_ok-timeline.timeline.footprints.items in
     let domain = c.in_ok-from_slice.field-0.items in
     let plan = c.in_ok-from_slice-2.field-0.items in
     let domain_is : domain_of domain ≡ Ok actions = rw c.in_ok-from_slice.ensures.items c.text.ensures.given in
     let plan_is : plan_of plan ≡ Ok planned = rw (c.in_ok-from_slice-2.ensures.items, c.text-2.ensures.text) c.steps.ensures.given in
     let short_domain : length domain ≤ most_text = rw c.in_ok-from_slice.ensures.items c.text.ensures.short in
     let short_plan : length plan ≤ most_text = rw c.in_ok-from_slice-2.ensures.items c.text-2.ensures.short in
-    let base = base_lifted made.0 c.in_ok-timeline.timeline.durations.items c.in_ok-timeline.timeline.times.items (map numbers_of c.in_ok-timeline.timeline.footprints.items) made.2
-    domain plan actions planned domain_is plan_is found small short_domain short_plan in
-    base.sound.possible
-
-pub returns-clause-ordered : goal.returns-clause-ordered
-returns-clause-ordered g c =
-    let made = c.in_ok-timeline.ensures.made in
-    let planned = c.args.plan.now.steps in
-    let actions = c.args.domain.now.actions in
-    let found : activities actions 0 planned ≡ Ok made.0 = rw c.steps.ensures.steps at made.1 in
-    let few : length planned ≤ most_steps = rw (← c.steps.ensures.steps, length-map) c.steps.ensures.few in
-    let small = few_found actions planned made.0 found few in
-    let domain = c.in_ok-from_slice.field-0.items in
-    let plan = c.in_ok-from_slice-2.field-0.items in
-    let domain_is : domain_of domain ≡ Ok actions = rw c.in_ok-from_slice.ensures.items c.text.ensures.given in
-    let plan_is : plan_of plan ≡ Ok planned = rw (c.in_ok-from_slice-2.ensures.items, c.text-2.ensures.text) c.steps.ensures.given in
-    let short_domain : length domain ≤ most_text = rw c.in_ok-from_slice.ensures.items c.text.ensures.short in
-    let short_plan : length plan ≤ most_text = rw c.in_ok-from_slice-2.ensures.items c.text-2.ensures.short in
-    let base = base_lifted made.0 c.in_ok-timeline.timeline.durations.items c.in_ok-timeline.timeline.times.items (map numbers_of c.in_ok-timeline.timeline.footprints.items) made.2
-    domain plan actions planned domain_is plan_is found small short_domain short_plan in
-    base.sound.ordered
-
-pub returns-clause-sound : goal.returns-clause-sound
-returns-clause-sound g c =
-    let made = c.in_ok-timeline.ensures.made in
-    let planned = c.args.plan.now.steps in
-    let actions = c.args.domain.now.actions in
-    let found : activities actions 0 planned ≡ Ok made.0 = rw c.steps.ensures.steps at made.1 in
-    let few : length planned ≤ most_steps = rw (← c.steps.ensures.steps, length-map) c.steps.ensures.few in
-    let small = few_found actions planned made.0 found few in
-    let domain = c.in_ok-from_slice.field-0.items in
-    let plan = c.in_ok-from_slice-2.field-0.items in
-    let domain_is : domain_of domain ≡ Ok actions = rw c.in_ok-from_slice.ensures.items c.text.ensures.given in
-    let plan_is : plan_of plan ≡ Ok planned = rw (c.in_ok-from_slice-2.ensures.items, c.text-2.ensures.text) c.steps.ensures.given in
-    let short_domain : length domain ≤ most_text = rw c.in_ok-from_slice.ensures.items c.text.ensures.short in
-    let short_plan : length plan ≤ most_text = rw c.in_ok-from_slice-2.ensures.items c.text-2.ensures.short in
-    let base = base_lifted made.0 c.in_ok-timeline.timeline.durations.items c.in_ok-timeline.timeline.times.items (map numbers_of c.in_ok-timeline.timeline.footprints.items) made.2
-    domain plan actions planned domain_is plan_is found small short_domain short_plan in
-    base.sound
+    let base = base_lifted made.0 durations times numbers made.2 domain plan actions planned domain_is plan_is found small short_domain short_plan in
+    let given_domain : domain_of c.args.domain.now.text ≡ Ok actions = rw (← c.text.ensures.text) c.text.ensures.given in
+    record {
+      made = search rules;
+      given = search rules;
+      cause = tt;
+      steps = found ∙ ap Ok (sym (texts_lifted made.0 durations times numbers made.2 c.args.domain.now.text c.args.plan.now.text actions planned given_domain c.steps.ensures.given found));
+      possible = base.sound.possible;
+      ordered = base.sound.ordered;
+      sound = base.sound;
+    }
