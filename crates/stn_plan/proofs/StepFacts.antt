@@ -5,13 +5,14 @@ use Rattle.std.specs.List.{All}
 use Rattle.std.specs.Option.{option_to_list, option_map_or}
 use Rattle.std.proofs.lemmas.Bool.{or_parts, le-ltb, lt-ltb}
 use Rattle.std.proofs.lemmas.Bool.Decides.{nat_tests}
+use Rattle.std.proofs.lemmas.List.{append-nil}
 use Rattle.std.proofs.lemmas.List.Elements.{All-nil, All-cons, All-append}
-use Rattle.stn_text.specs.Faults.{◌>>=◌}
+use Rattle.stn_text.specs.Faults.{◌>>=◌, Fails, Unless}
 use Rattle.stn_plan.specs.declared.fault.PlanFault.{PlanFault}
 use Rattle.stn_plan.specs.declared.fault.PlanFault.TheVariants.{TooLong, Negative, TooManySteps}
 use Rattle.stn_plan.specs.Tokens.{Lexeme, tokens_of}
 use Rattle.stn_plan.specs.Lines.{lines_of}
-use Rattle.stn_plan.specs.Steps.{most_text, most_steps, PlannedStep, Form, IsPlan, IsTimely, form_of, time_at, duration_of, step_at, timed_step, step_of, line_step, steps_of, limited, plan_of}
+use Rattle.stn_plan.specs.Steps.{most_text, most_steps, PlannedStep, Form, IsPlan, IsTimely, form_of, time_at, duration_of, step_at, timed_step, step_of, line_step, steps_of, limited, plan_of, is_memory}
 
 -- names that were read before those that are found
 abbrev pub behind_names : List (List ℕ) → Result (List (List ℕ) × List Lexeme) PlanFault → Result (List (List ℕ) × List Lexeme) PlanFault
@@ -90,6 +91,22 @@ steps_more before after lines rest line found here is more =
     by : (behind : Result (List PlannedStep) PlanFault) → behind_steps after behind ≡ behind_steps before (behind >>= λ steps. Ok (option_to_list found ++ steps))
     by (Ok steps) = ap Ok (ap (λ all. all ++ steps) more ∙ append_assoc before (option_to_list found) steps)
     by (Err fault) = refl
+
+-- the fault of the next line is that of all lines
+pub steps_fail : (before : List PlannedStep) (lines rest : List (ℕ × List ℕ)) (line : ℕ × List ℕ) (fault : PlanFault) → lines ≡ line ∷ rest → Fails is_memory fault (line_step line)
+    → Fails is_memory fault (behind_steps before (steps_of lines))
+unfolding steps_of
+steps_fail before lines rest line fault here fails = rw here (by (is_memory fault) fails)
+  where
+    by : (memory : Bool) → Unless memory (line_step line ≡ Err fault)
+        → Unless memory (behind_steps before (line_step line >>= λ step. steps_of rest >>= λ steps. Ok (option_to_list step ++ steps)) ≡ Err fault)
+    by true said = tt
+    by false said = ap (λ first. behind_steps before (first >>= λ step. steps_of rest >>= λ steps. Ok (option_to_list step ++ steps))) said
+
+-- where no line is left, the steps are those that were read
+pub steps_end : (before : List PlannedStep) (lines : List (ℕ × List ℕ)) → lines ≡ [] → behind_steps before (steps_of lines) ≡ Ok before
+unfolding steps_of
+steps_end before lines none = ap (λ left. behind_steps before (steps_of left)) none ∙ ap Ok (append-nil before)
 
 -- a text that is short enough, and whose lines give few enough steps, gives these
 plan_of-Ok : (text : List ℕ) (steps : List PlannedStep) → length text ≤ most_text → length steps ≤ most_steps → steps_of (lines_of text) ≡ Ok steps

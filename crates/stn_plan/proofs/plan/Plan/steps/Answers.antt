@@ -1,12 +1,19 @@
-use Rattle.std.proofs.Common.{◌<◌, length, map, subst}
+use Rattle.std.proofs.Common.{◌≤◌, ◌<◌, length, map, refl, subst}
 use Rattle.std.proofs.lemmas.List.{get_or-map, length-map}
-use Rattle.stn_plan.specs.Steps.{IsTimely}
+use Rattle.stn_plan.specs.Steps.{most_steps, IsTimely}
 use Rattle.stn_plan.specs.Views.{planned_step}
 use Rattle.stn_plan.proofs.plan.Plan.steps.Goals as goal
 
-pub returns-clause-timely : goal.returns-clause-timely
-returns-clause-timely g c k d within =
+pub returns : goal.returns
+returns g c =
     let steps = c.self.inside.steps.items in
-    let there : k < length steps = rw c.deref.ensures.value at within in
-    let mapped : k < length (map planned_step steps) = rw length-map there in
-    rw c.deref.ensures.value (subst IsTimely (get_or-map planned_step steps k d (planned_step d) there) (c.self.invariant.timely k (planned_step d) mapped))
+    let few : length steps ≤ most_steps = rw length-map at c.self.invariant.few in
+    record {
+      steps = rw (c.deref.ensures.value, ← c.self.view_is) refl;
+      given = rw (← c.self.view_is) c.self.invariant.given;
+      few = rw c.deref.ensures.value few;
+      timely = λ k d within.
+          let there : k < length steps = rw c.deref.ensures.value at within in
+          let mapped : k < length (map planned_step steps) = rw length-map there in
+          rw c.deref.ensures.value (subst IsTimely (get_or-map planned_step steps k d (planned_step d) there) (c.self.invariant.timely k (planned_step d) mapped));
+    }
