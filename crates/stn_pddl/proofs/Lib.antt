@@ -3,3 +3,4 @@ pub mod ActionMaps
 pub mod Kept
 pub mod SoundActions
 pub mod Steps
+pub mod Taken

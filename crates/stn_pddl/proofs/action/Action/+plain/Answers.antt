@@ -1,0 +1,75 @@
+use Rattle.std.proofs.Common.{◌∙◌, refl, sym, ap, subst, arith}
+use Rattle.std.proofs.lemmas.Result.{err_from_is_err_and}
+use Rattle.stn_text.specs.Faults.{Fails}
+use Rattle.stn_tree.specs.Trees.{Rows, behind}
+use Rattle.stn_pddl.specs.Faults.{is_memory}
+use Rattle.stn_pddl.specs.Conditions.{plain_row, plain_tree}
+use Rattle.stn_pddl.specs.Views.{action_schema}
+use Rattle.stn_pddl.proofs.Taken.{behind_rest, plain_row_at_end, plain_row_at_word, plain_row_fails, plain_row_goes_on, plain_tree_at}
+use Rattle.stn_pddl.proofs.action.Action.+plain.Goals as goal
+
+pub read_plain_row-returns-in-End : goal.read_plain_row-returns-in-End
+read_plain_row-returns-in-End g t c = record {
+  given = sym c.trees.invariant.given ∙ plain_row_at_end _ _ _ c.in-End.ensures.first.0;
+  passed = (c.in-End.ensures.first.1 ∙ c.trees.invariant.behind, omega (arith, c.in-End.ensures.shorter, c.trees.invariant.shorter));
+}
+
+pub read_plain_row-returns-in-Word : goal.read_plain_row-returns-in-Word
+read_plain_row-returns-in-Word g t c = record { given = sym c.trees.invariant.given ∙ plain_row_at_word _ _ _ _ _ _ c.in-Word.ensures.first.0; passed = tt }
+
+pub read_plain_row-returns-in_err-cursor-in-Group : goal.read_plain_row-returns-in_err-cursor-in-Group
+read_plain_row-returns-in_err-cursor-in-Group g t c =
+    let returned = err_from_is_err_and c.from_residual.result c.from_residual.ensures.1 in
+    record {
+      given = rw (returned.1, returned.2)
+          (subst (Fails is_memory _) c.trees.invariant.given (plain_row_fails _ _ _ _ _ _ c.in-Group.ensures.first.0 _ c.in_err-cursor-in-Group.ensures.given));
+      passed = rw returned.1 tt;
+    }
+
+pub read_plain_row-trees-preserved : goal.read_plain_row-trees-preserved
+read_plain_row-trees-preserved g t c =
+    let passed = c.in_ok-cursor-in-Group.ensures.passed in
+    record {
+      given = ap (λ (rows : Rows). plain_row c.args.label rows.row (action_schema c.read_plain_tree.new.self)) passed.0
+          ∙ plain_row_goes_on _ _ _ _ _ _ c.in-Group.ensures.first.0 _ c.in_ok-cursor-in-Group.ensures.given ∙ c.trees.invariant.given;
+      behind = ap behind passed.0 ∙ c.in-Group.ensures.first.1 ∙ c.trees.invariant.behind;
+      shorter = omega (arith, passed.1, c.in-Group.ensures.shorter, c.trees.invariant.shorter);
+    }
+
+pub read_plain_tree-returns-in-End : goal.read_plain_tree-returns-in-End
+unfolding plain_tree
+read_plain_tree-returns-in-End g t c = record { given = rw c.in-End.ensures.first.0 refl; passed = (c.in-End.ensures.first.1, c.in-End.ensures.shorter) }
+
+pub read_plain_tree-returns-in-Group : goal.read_plain_tree-returns-in-Group
+unfolding plain_tree
+read_plain_tree-returns-in-Group g t c = record { given = rw c.in-Group.ensures.first.0 refl; passed = tt }
+
+pub read_plain_tree-returns-in-And : goal.read_plain_tree-returns-in-And
+read_plain_tree-returns-in-And g t c = record {
+  given = rw (plain_tree_at _ _ _ _ _ _ _ _ c.in-Word.ensures.first.0 (sym c.head_of.ensures ∙ c.in-And.is)) c.read_plain_row.ensures.given;
+  passed = behind_rest c.read_plain_row.result c.args.children c.in-Word.rest c.in-Word.ensures.first.1 c.in-Word.ensures.shorter c.read_plain_row.ensures.passed;
+}
+
+pub read_plain_tree-returns-in-Not : goal.read_plain_tree-returns-in-Not
+read_plain_tree-returns-in-Not g t c = record {
+  given = rw (plain_tree_at _ _ _ _ _ _ _ _ c.in-Word.ensures.first.0 (sym c.head_of.ensures ∙ c.in-Not.is)) c.read_negation.ensures.given;
+  passed = behind_rest c.read_negation.result c.args.children c.in-Word.rest c.in-Word.ensures.first.1 c.in-Word.ensures.shorter c.read_negation.ensures.passed;
+}
+
+pub read_plain_tree-returns-in-Equal : goal.read_plain_tree-returns-in-Equal
+read_plain_tree-returns-in-Equal g t c = record {
+  given = rw (plain_tree_at _ _ _ _ _ _ _ _ c.in-Word.ensures.first.0 (sym c.head_of.ensures ∙ c.in-Equal.is)) c.read_equal_tree.ensures.given;
+  passed = behind_rest c.read_equal_tree.result c.args.children c.in-Word.rest c.in-Word.ensures.first.1 c.in-Word.ensures.shorter c.read_equal_tree.ensures.passed;
+}
+
+pub read_plain_tree-returns-in-OtherLogic : goal.read_plain_tree-returns-in-OtherLogic
+read_plain_tree-returns-in-OtherLogic g t c = record {
+  given = plain_tree_at _ _ _ _ _ _ _ _ c.in-Word.ensures.first.0 (sym c.head_of.ensures ∙ c.in-OtherLogic.is);
+  passed = tt;
+}
+
+pub read_plain_tree-returns-in-NoName : goal.read_plain_tree-returns-in-NoName
+read_plain_tree-returns-in-NoName g t c = record {
+  given = plain_tree_at _ _ _ _ _ _ _ _ c.in-Word.ensures.first.0 (sym c.head_of.ensures ∙ c.in-NoName.is);
+  passed = tt;
+}

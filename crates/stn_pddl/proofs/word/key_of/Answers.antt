@@ -1,0 +1,55 @@
+use Rattle.std.proofs.Common.{◌≡◌, ℕ, Bool, true, false, List, codes, refl, sym}
+use Rattle.stn_tree.specs.Names.{is_same_word}
+use Rattle.stn_pddl.specs.declared.word.Field.TheVariants as field
+use Rattle.stn_pddl.specs.declared.word.Key.TheVariants as key
+use Rattle.stn_pddl.specs.Words.{is_key, key_of}
+use Rattle.stn_pddl.proofs.word.key_of.Goals as goal
+
+module _ (word : List ℕ) where
+  parameters : is_same_word word (codes ":parameters") ≡ true → key.Known field.Parameters ≡ key_of word
+  unfolding key_of
+  parameters is = rw is refl
+
+  module _ (a : is_same_word word (codes ":parameters") ≡ false) where
+    duration : is_same_word word (codes ":duration") ≡ true → key.Known field.Duration ≡ key_of word
+    unfolding key_of
+    duration is = rw (a, is) refl
+
+    module _ (b : is_same_word word (codes ":duration") ≡ false) where
+      condition : is_same_word word (codes ":condition") ≡ true → key.Known field.Condition ≡ key_of word
+      unfolding key_of
+      condition is = rw (a, b, is) refl
+
+      module _ (c : is_same_word word (codes ":condition") ≡ false) where
+        effect : is_same_word word (codes ":effect") ≡ true → key.Known field.Effect ≡ key_of word
+        unfolding key_of
+        effect is = rw (a, b, c, is) refl
+
+        module _ (d : is_same_word word (codes ":effect") ≡ false) where
+          unknown : is_key word ≡ true → key.Unknown ≡ key_of word
+          unfolding key_of
+          unknown is = rw (a, b, c, d, is) refl
+
+          none : is_key word ≡ false → key.NoKey ≡ key_of word
+          unfolding key_of
+          none is = rw (a, b, c, d, is) refl
+
+pub returns-then-is_same_word : goal.returns-then-is_same_word
+returns-then-is_same_word c = parameters _ (sym c.if-is_same_word.ensures)
+
+pub returns-then-is_same_word-2 : goal.returns-then-is_same_word-2
+returns-then-is_same_word-2 c = duration _ (sym c.if-is_same_word.ensures) (sym c.if-is_same_word-2.ensures)
+
+pub returns-then-is_same_word-3 : goal.returns-then-is_same_word-3
+returns-then-is_same_word-3 c = condition _ (sym c.if-is_same_word.ensures) (sym c.if-is_same_word-2.ensures) (sym c.if-is_same_word-3.ensures)
+
+pub returns-then-is_same_word-4 : goal.returns-then-is_same_word-4
+returns-then-is_same_word-4 c = effect _ (sym c.if-is_same_word.ensures) (sym c.if-is_same_word-2.ensures) (sym c.if-is_same_word-3.ensures) (sym c.if-is_same_word-4.ensures)
+
+pub returns-then-is_key : goal.returns-then-is_key
+returns-then-is_key c =
+    unknown _ (sym c.if-is_same_word.ensures) (sym c.if-is_same_word-2.ensures) (sym c.if-is_same_word-3.ensures) (sym c.if-is_same_word-4.ensures) (sym c.if-is_key.ensures)
+
+pub returns-else-is_key : goal.returns-else-is_key
+returns-else-is_key c =
+    none _ (sym c.if-is_same_word.ensures) (sym c.if-is_same_word-2.ensures) (sym c.if-is_same_word-3.ensures) (sym c.if-is_same_word-4.ensures) (sym c.if-is_key.ensures)
