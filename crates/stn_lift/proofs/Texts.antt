@@ -10,13 +10,40 @@ use Rattle.stn_plan.specs.declared.fault.PlanFault.{PlanFault}
 use Rattle.stn_plan.specs.declared.fault.PlanFault.TheVariants as plan_fault
 use Rattle.stn_plan.specs.Steps as timed
 use Rattle.stn_plan.specs.Steps.{PlannedStep, plan_of}
-use Rattle.stn_lift.specs.declared.fault.BaseFault.TheVariants.{Domain, Plan, Lift}
+use Rattle.stn_lift.specs.declared.fault.BaseFault.{BaseFault}
+use Rattle.stn_lift.specs.declared.fault.BaseFault.TheVariants.{Domain, Plan, Lift, TooManySteps}
 use Rattle.stn_lift.specs.declared.fault.LiftFault.{LiftFault}
 use Rattle.stn_lift.specs.declared.fault.LiftFault.TheVariants.{UnknownAction, Arity, DurationDiffers, PastHorizon, Memory}
 use Rattle.stn_lift.specs.Faults.{of_domain, of_plan, of_lifting}
 use Rattle.stn_lift.specs.Activities as lifting
 use Rattle.stn_lift.specs.Activities.{Activity, activities}
 use Rattle.stn_lift.specs.PlanSource.{PlanSource, files, of_lift, steps_in, lifted, source_with, source_with_lifted, base_of, is_memory}
+
+-- a fault of a text or of a step is not that a bare plan has too many steps
+pub domain_not_many : (fault : DomainFault) → of_domain fault ≡ TooManySteps → ⊥
+domain_not_many domain_fault.TooLong e = cc
+domain_not_many (domain_fault.Syntax line) e = cc
+domain_not_many (domain_fault.TooDeep line) e = cc
+domain_not_many (domain_fault.Unsupported line) e = cc
+domain_not_many (domain_fault.Number line) e = cc
+domain_not_many (domain_fault.Twice line) e = cc
+domain_not_many (domain_fault.Variable line) e = cc
+domain_not_many domain_fault.Memory e = cc
+
+pub plan_not_many : (fault : PlanFault) → of_plan fault ≡ TooManySteps → ⊥
+plan_not_many plan_fault.TooLong e = cc
+plan_not_many (plan_fault.Syntax line) e = cc
+plan_not_many (plan_fault.Number line) e = cc
+plan_not_many (plan_fault.Negative line) e = cc
+plan_not_many plan_fault.TooManySteps e = cc
+plan_not_many plan_fault.Memory e = cc
+
+pub lifting_not_many : (fault : LiftFault) → of_lifting fault ≡ TooManySteps → ⊥
+lifting_not_many (UnknownAction step) e = cc
+lifting_not_many (Arity step) e = cc
+lifting_not_many (DurationDiffers step) e = cc
+lifting_not_many (PastHorizon step) e = cc
+lifting_not_many Memory e = cc
 
 module _ (domain plan : List ℕ) where
   -- a domain without a fault, and a plan without one

@@ -1,5 +1,6 @@
 use Rattle.std.proofs.Common.{map, subst}
 use Rattle.std.proofs.lemmas.List.{append-nil}
+use Rattle.std.proofs.lemmas.Result.{err_from_is_err_and}
 use Rattle.stn_pddl.specs.Views.{atoms_schema}
 use Rattle.stn_plan.specs.Views.{word_of}
 use Rattle.stn_lift.specs.Footprints.{ground}
@@ -7,20 +8,46 @@ use Rattle.stn_lift.specs.Numbering.{AreNumbersOf}
 use Rattle.stn_lift.proofs.NumberLists.{kept_along, numbers_kept}
 use Rattle.stn_lift.proofs.timeline.footprint.Goals as goal
 
-pub returns-clause-numbered : goal.returns-clause-numbered
-returns-clause-numbered g c =
+pub returns-in_err-needs : goal.returns-in_err-needs
+returns-in_err-needs g c =
+    let returned = err_from_is_err_and c.from_residual.result c.from_residual.ensures.1 in
+    record {
+      numbered = rw returned.1 tt;
+      kept = rw returned.1 tt;
+      unambiguous = rw returned.1 tt;
+    }
+
+pub returns-in_err-adds : goal.returns-in_err-adds
+returns-in_err-adds g c =
+    let returned = err_from_is_err_and c.from_residual-in_err-adds.result c.from_residual-in_err-adds.ensures.1 in
+    record {
+      numbered = rw returned.1 tt;
+      kept = rw returned.1 tt;
+      unambiguous = rw returned.1 tt;
+    }
+
+pub returns-in_err-deletes : goal.returns-in_err-deletes
+returns-in_err-deletes g c =
+    let returned = err_from_is_err_and c.from_residual-in_err-deletes.result c.from_residual-in_err-deletes.ensures.1 in
+    record {
+      numbered = rw returned.1 tt;
+      kept = rw returned.1 tt;
+      unambiguous = rw returned.1 tt;
+    }
+
+pub returns : goal.returns
+returns g c =
     let args = map word_of c.args.args.now in
     let first = c.numbers.new.self in
     let second = c.numbers-2.new.self in
     let third = c.numbers-3.new.self in
     let adds = subst (λ atoms. AreNumbersOf second c.in_ok-adds.adds (map (ground args) atoms)) (append-nil (atoms_schema c.args.adds.now)) c.in_ok-adds.ensures.numbers in
     record {
-      needs = numbers_kept second third c.in_ok-deletes.ensures.kept _ _ (numbers_kept first second c.in_ok-adds.ensures.kept _ _ c.in_ok-needs.ensures.numbers);
-      adds = numbers_kept second third c.in_ok-deletes.ensures.kept _ _ adds;
-      deletes = subst (λ atoms. AreNumbersOf third c.in_ok-deletes.deletes (map (ground args) atoms)) (append-nil (atoms_schema c.args.deletes.now)) c.in_ok-deletes.ensures.numbers;
+      numbered = record {
+        needs = numbers_kept second third c.in_ok-deletes.ensures.kept _ _ (numbers_kept first second c.in_ok-adds.ensures.kept _ _ c.in_ok-needs.ensures.numbers);
+        adds = numbers_kept second third c.in_ok-deletes.ensures.kept _ _ adds;
+        deletes = subst (λ atoms. AreNumbersOf third c.in_ok-deletes.deletes (map (ground args) atoms)) (append-nil (atoms_schema c.args.deletes.now)) c.in_ok-deletes.ensures.numbers;
+      };
+      kept = kept_along c.args.atoms.now first third c.in_ok-needs.ensures.kept (kept_along first second third c.in_ok-adds.ensures.kept c.in_ok-deletes.ensures.kept);
+      unambiguous = c.in_ok-deletes.ensures.unambiguous;
     }
-
-pub returns-clause-kept : goal.returns-clause-kept
-returns-clause-kept g c =
-    kept_along c.args.atoms.now c.numbers.new.self c.numbers-3.new.self c.in_ok-needs.ensures.kept
-    (kept_along c.numbers.new.self c.numbers-2.new.self c.numbers-3.new.self c.in_ok-adds.ensures.kept c.in_ok-deletes.ensures.kept)

@@ -1,3 +1,4 @@
+use Rattle.std.proofs.lemmas.Result.{err_from_is_err_and}
 use Rattle.stn_tree.specs.Names.{is_same_word}
 use Rattle.stn_lift.specs.AtomViews.{folded_name}
 use Rattle.stn_lift.proofs.Numbered.{different, stored_at, kept_at}
@@ -10,12 +11,19 @@ invariant_of-self-2 g c = record {
   spellings = c.self.invariant.spellings;
 }
 
-pub returns-clause-number : goal.returns-clause-number
-returns-clause-number g c =
-    stored_at (λ a b. is_same_word a.bytes.now b.bytes.now) folded_name names_decide c.insert_full.new.self.keys c.args.name c.in_ok-number.number c.in_ok-number.ensures.stored
+pub returns-in_err-number : goal.returns-in_err-number
+returns-in_err-number g c =
+    let returned = err_from_is_err_and c.from_residual.result c.from_residual.ensures.1 in
+    record {
+      number = rw returned.1 tt;
+      kept = rw returned.1 tt;
+    }
 
-pub returns-clause-kept : goal.returns-clause-kept
-returns-clause-kept g c = rw (← c.self.view_is) (record {
-  names = kept_at (λ a b. is_same_word a.bytes.now b.bytes.now) folded_name names_decide c.self.inside.names.keys c.insert_full.new.self.keys c.args.name c.in_ok-number.ensures.keys;
-  spellings = λ number spelling there. there;
-})
+pub returns : goal.returns
+returns g c = record {
+  number = stored_at (λ a b. is_same_word a.bytes.now b.bytes.now) folded_name names_decide c.insert_full.new.self.keys c.args.name c.in_ok-number.number c.in_ok-number.ensures.stored;
+  kept = rw (← c.self.view_is) (record {
+    names = kept_at (λ a b. is_same_word a.bytes.now b.bytes.now) folded_name names_decide c.self.inside.names.keys c.insert_full.new.self.keys c.args.name c.in_ok-number.ensures.keys;
+    spellings = λ number spelling there. there;
+  });
+}

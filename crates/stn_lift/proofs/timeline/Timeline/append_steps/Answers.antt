@@ -16,21 +16,36 @@ loop-step-init g c = record {
   timeline = c.requires.empty;
 }
 
-pub returns-in_err-action-clause-fault : goal.returns-in_err-action-clause-fault
-returns-in_err-action-clause-fault g c =
+pub returns-in_err-action : goal.returns-in_err-action
+returns-in_err-action g c =
     let all = map planned_step c.args.steps.now in
     let step = planned_step c.step-item.result in
     let place = c.loop-step.step-index in
     let mapped : place < length all = rw length-map c.loop-step-test.true in
     let here : step ≡ get_or all place step = ap planned_step c.step-item.is ∙ sym (get_or-map planned_step c.args.steps.now place c.step-item.result step c.loop-step-test.true) in
     let returned = err_from_is_err_and c.from_residual.result c.from_residual.ensures.1 in
-    rw (returned.1, returned.2)
-    (fails_at c.args.domain.now.actions all place c.loop-step.invariant.found step mapped here c.loop-step.invariant.whole (c.loop-step.number + 1) c.in_err-action.field-0.0
-    (ap (λ n. n + 1) c.loop-step.invariant.number) c.in_err-action.ensures.given)
+    record {
+      made = rw returned.1 tt;
+      fault = rw (returned.1, returned.2)
+          (fails_at c.args.domain.now.actions all place c.loop-step.invariant.found step mapped here c.loop-step.invariant.whole (c.loop-step.number + 1) c.in_err-action.field-0.0
+          (ap (λ n. n + 1) c.loop-step.invariant.number) c.in_err-action.ensures.given);
+    }
 
-pub push-requires-clause-timely : goal.push-requires-clause-timely
-push-requires-clause-timely g c =
-    subst (λ step. IsTimely (planned_step step)) (sym c.step-item.is) (c.requires.timely c.loop-step.step-index c.step-item.result c.loop-step-test.true)
+pub push-requires : goal.push-requires
+push-requires g c = record {
+  arity = c.in_ok-action.ensures.arity;
+  sound = c.in_ok-action.ensures.sound;
+  timely = subst (λ step. IsTimely (planned_step step)) (sym c.step-item.is) (c.requires.timely c.loop-step.step-index c.step-item.result c.loop-step-test.true);
+  last = c.in_ok-action.ensures.last;
+}
+
+pub returns-in_err-push : goal.returns-in_err-push
+returns-in_err-push g c =
+    let returned = err_from_is_err_and c.from_residual-in_err-push.result c.from_residual-in_err-push.ensures.1 in
+    record {
+      made = rw returned.1 tt;
+      fault = rw (returned.1, returned.2) tt;
+    }
 
 pub loop-step-preserved : goal.loop-step-preserved
 loop-step-preserved g c =
@@ -48,13 +63,17 @@ loop-step-preserved g c =
       timeline = c.in_ok-push.ensures c.loop-step.invariant.found c.loop-step.invariant.timeline;
     }
 
-pub returns-clause-made : goal.returns-clause-made
-returns-clause-made g c =
+pub returns : goal.returns
+returns g c =
     let all = map planned_step c.args.steps.now in
     let past : length all ≤ c.loop-step.step-index = rw length-map c.loop-step-test.false in
-    let none : drop c.loop-step.step-index all ≡ [] = drop_all c.loop-step.step-index all past in (
-      c.loop-step.invariant.found,
-      c.loop-step.invariant.whole ∙ ap (λ l. behind c.args.domain.now.actions c.loop-step.invariant.found (activities c.args.domain.now.actions c.loop-step.step-index l)) none
-          ∙ behind_all c.args.domain.now.actions c.loop-step.step-index c.loop-step.invariant.found,
-      all_lifted c.loop-step.atoms c.loop-step.invariant.found _ _ _ c.loop-step.invariant.timeline,
-    )
+    let none : drop c.loop-step.step-index all ≡ [] = drop_all c.loop-step.step-index all past in
+    record {
+      made = (
+        c.loop-step.invariant.found,
+        c.loop-step.invariant.whole ∙ ap (λ l. behind c.args.domain.now.actions c.loop-step.invariant.found (activities c.args.domain.now.actions c.loop-step.step-index l)) none
+            ∙ behind_all c.args.domain.now.actions c.loop-step.step-index c.loop-step.invariant.found,
+        all_lifted c.loop-step.atoms c.loop-step.invariant.found _ _ _ c.loop-step.invariant.timeline,
+      );
+      fault = tt;
+    }
