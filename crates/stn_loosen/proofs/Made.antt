@@ -26,7 +26,7 @@ front_schedule events records more s = (
 -- after the first durations the next one is made
 module _ (slack : Slack) (old durations : List Difference) (place : ℕ) (duration bound : Difference) (within : place < length durations)
     (here : duration ≡ get_or durations place duration) (is : bound ≡ loose slack duration) where
-  made_more : (records : List Difference) → records ≡ old ++ map (loose slack) (take place durations)
+  pub made_more : (records : List Difference) → records ≡ old ++ map (loose slack) (take place durations)
       → records ++ bound ∷ [] ≡ old ++ map (loose slack) (take (place + 1) durations)
   made_more records made =
       let next : bound ≡ loose slack (get_or durations place duration) = is ∙ ap (loose slack) here in

@@ -1,8 +1,36 @@
-use Rattle.stn_loosen.proofs.Made.{duration_possible}
+use Rattle.std.proofs.Common.{◌++◌, map, refl, sym, ap, ◌∙◌, append-nil}
+use Rattle.std.proofs.lemmas.List.{take_all}
+use Rattle.stn_loosen.specs.Slack.{loose}
+use Rattle.stn_loosen.proofs.Made.{made_more, duration_possible}
 use Rattle.stn_loosen.proofs.making.Making.make_durations.Goals as goal
+
+pub loop-duration-init : goal.loop-duration-init
+loop-duration-init g c = record { made = sym (append-nil c.args.self.now.records.items); taken = c.requires.taken; events = refl }
 
 pub make-requires-clause-possible : goal.make-requires-clause-possible
 make-requires-clause-possible g c =
     let old = c.args.self.now in
     duration_possible c.args.tolerance old.records.items c.args.durations.now c.loop-duration.duration-index c.duration-item.result c.loose.result c.loop-duration-test.true c.duration-item.is c.loose.ensures
     old.matrix.events c.loop-duration.self.matrix.events c.loop-duration.self.records.items c.loop-duration.invariant.events c.loop-duration.invariant.made c.requires.possible
+
+pub loop-duration-preserved : goal.loop-duration-preserved
+loop-duration-preserved g c =
+    let sofar = c.loop-duration in
+    record {
+      made = c.in_ok-make.ensures.made
+          ∙ made_more c.args.tolerance c.args.self.now.records.items c.args.durations.now sofar.duration-index c.duration-item.result c.loose.result c.loop-duration-test.true c.duration-item.is c.loose.ensures
+          sofar.self.records.items sofar.invariant.made;
+      taken = c.in_ok-make.ensures.taken;
+      events = c.make.ensures.events ∙ sofar.invariant.events;
+    }
+
+pub returns : goal.returns
+returns g c =
+    let sofar = c.loop-duration in
+    let all = take_all sofar.duration-index c.args.durations.now c.loop-duration-test.false in
+    record {
+      made = sofar.invariant.made ∙ ap (λ durations. c.args.self.now.records.items ++ map (loose c.args.tolerance) durations) all;
+      taken = sofar.invariant.taken;
+      events = sofar.invariant.events;
+      fault = tt;
+    }

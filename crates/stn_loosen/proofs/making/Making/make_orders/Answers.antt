@@ -1,3 +1,4 @@
+use Rattle.std.proofs.lemmas.List.{take_all}
 use Rattle.std.proofs.lemmas.Result.{err_from_is_err_and}
 use Rattle.stn_loosen.proofs.Made.{order_possible, order_made, order_refused}
 use Rattle.stn_loosen.proofs.making.Making.make_orders.Goals as goal
@@ -8,14 +9,18 @@ make_order-requires-clause-possible g c =
     let sofar = c.loop-order in
     order_possible old.records.items c.args.orders.now old.matrix sofar.order-index sofar.self.records.items sofar.self.matrix sofar.invariant c.order-item.result c.loop-order-test.true c.order-item.is c.requires.possible
 
-pub returns-in_err-make_order-clause-fault : goal.returns-in_err-make_order-clause-fault
-returns-in_err-make_order-clause-fault g c =
+pub returns-in_err-make_order : goal.returns-in_err-make_order
+returns-in_err-make_order g c =
     let old = c.args.self.now in
     let sofar = c.loop-order in
     let returned = err_from_is_err_and c.from_residual.result c.from_residual.ensures.1 in
     let refused = order_refused old.records.items c.args.orders.now old.matrix sofar.order-index sofar.self.records.items sofar.self.matrix sofar.invariant c.order-item.result c.loop-order-test.true c.order-item.is
     c.in_err-make_order.field-0.0 c.in_err-make_order.ensures.fault in
-    rw (returned.1, returned.2) refused
+    record {
+      made = rw returned.1 tt;
+      few = rw returned.1 tt;
+      fault = rw (returned.1, returned.2) refused;
+    }
 
 pub loop-order-preserved : goal.loop-order-preserved
 loop-order-preserved g c =
@@ -24,3 +29,12 @@ loop-order-preserved g c =
     let new = c.make_order.new.self in
     order_made old.records.items c.args.orders.now old.matrix sofar.order-index sofar.self.records.items sofar.self.matrix sofar.invariant c.order-item.result c.loop-order-test.true c.order-item.is
     new.records.items new.matrix c.in_ok-make_order.ensures.made c.in_ok-make_order.ensures.taken c.in_ok-make_order.ensures.few c.make_order.ensures.events
+
+pub returns : goal.returns
+returns g c =
+    let all = c.loop-order.invariant in
+    record {
+      made = (all.kept, all.made, rw (take_all c.loop-order.order-index c.args.orders.now c.loop-order-test.false) at all.chosen);
+      few = all.few;
+      fault = tt;
+    }

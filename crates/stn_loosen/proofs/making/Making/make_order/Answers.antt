@@ -1,0 +1,35 @@
+use Rattle.std.proofs.Common.{◌≡◌, ℕ, List, length, inl, inr, refl, sym, ◌∙◌}
+use Rattle.std.proofs.lemmas.Bool.{false≢true}
+use Rattle.std.proofs.lemmas.Result.{on_ok_weaker, IfErr-weaker}
+use Rattle.stn_net.specs.Difference.{Difference}
+use Rattle.stn_loosen.specs.declared.fault.LoosenFault.{LoosenFault}
+use Rattle.stn_loosen.specs.declared.fault.LoosenFault.TheVariants.{Full, Memory}
+use Rattle.stn_loosen.specs.Loosened.{Imply}
+use Rattle.stn_loosen.specs.Making.{all_bounds, IsCauseAt, IsCauseOf}
+use Rattle.stn_loosen.proofs.making.Making.make_order.Goals as goal
+
+-- an order that is needed, and can't be made
+needed : (events : ℕ) (old : List Difference) (order : Difference) → (Imply (all_bounds events old) order → ⊥) → (fault : LoosenFault) → IsCauseAt (length old) fault → IsCauseOf events old order fault
+needed events old order new Full full = (new, full)
+needed events old order new Memory none = tt
+
+pub returns-then-implies : goal.returns-then-implies
+returns-then-implies g c = record {
+  made = inl (c.implies.ensures.0 c.if-implies.true, refl);
+  taken = c.requires.taken;
+  few = c.requires.few;
+  events = refl;
+  fault = tt;
+}
+
+pub returns : goal.returns
+returns g c =
+    let old = c.args.self.now in
+    let new : Imply (all_bounds old.matrix.events old.records.items) c.args.order → ⊥ = λ implied. false≢true (sym c.if-implies.false ∙ c.implies.ensures.1 implied) in
+    record {
+      made = on_ok_weaker c.make.result (λ made. inr (new, made)) c.make.ensures.made;
+      taken = c.make.ensures.taken;
+      few = c.make.ensures.few;
+      events = c.make.ensures.events;
+      fault = IfErr-weaker c.make.result (IsCauseAt (length old.records.items)) _ (needed old.matrix.events old.records.items c.args.order new) c.make.ensures.fault;
+    }
