@@ -1,6 +1,6 @@
 //! Whole domains.
 
-ghost use Rattle.std.specs.Prelude.{◌≡◌, ◌≤◌, [], false, length, pos, IfOk, IfSome, MatchOption, Some, None, Ok};
+ghost use Rattle.std.specs.Prelude.{◌≡◌, ◌≤◌, [], false, length, pos, IfOk, IfErr, IfSome, MatchOption, Some, None, Ok, Err};
 ghost use Rattle.std.specs.Option.{option_map};
 ghost use Rattle.stn_text.specs.Faults.{Gives, ◌>>=◌ as ◌and_then◌};
 ghost use Rattle.stn_tree.specs.Cursors.{row_at};
@@ -90,30 +90,17 @@ fn read_values<'a, A: Allocator + Copy>(
     read_sides(alloc, values, action)
 }
 
-/// The action of a name, from its values.
-fn read_lists<'a, A: Allocator + Copy>(
-    alloc: A,
-    name: Name<'a>,
-    parameters: Listing<'a>,
-    duration: Listing<'a>,
-    values: Values<'a>,
-) -> Result<Action<'a, A>, DomainFault>
-    ensures { Gives is_memory action_schema result
-        (rule.action_of_lists (word_of name.entry) (listing_of parameters.entry) (listing_of duration.entry) (values_of values.entry)) }
-{
-    let mut action = Action::bare(alloc, name);
-    read_values(alloc, parameters, duration, values, &mut action).and(Ok(action))
-}
-
-/// The action of a name on a line, from its fields.
+/// Takes up the fields of an action that has none, on a line.
 #[tactic(auto, unfolding(crate::specs::Actions::named_action))]
-fn read_named_action<'a, A: Allocator + Copy>(
+fn read_fields<'a, A: Allocator + Copy>(
     alloc: A,
     line: u32,
-    name: Name<'a>,
     children: Cursor<'a>,
-) -> Result<Action<'a, A>, DomainFault>
-    ensures { Gives is_memory action_schema result (rule.named_action line (word_of name.entry) (row_at children.entry)) }
+    action: &mut Action<'a, A>,
+) -> Result<(), DomainFault>
+    requires { action_schema action.old ≡ bare_action (action_schema action.old).name [] (pos 0) }
+    ensures { Gives is_memory (λ _. action_schema action.new) result
+        (rule.named_action line (action_schema action.old).name (row_at children.entry)) }
 {
     let values = Values::read(children)?;
     let Some(parameters) = values.parameters else {
@@ -122,19 +109,20 @@ fn read_named_action<'a, A: Allocator + Copy>(
     let Some(duration) = values.duration else {
         return Err(DomainFault::Syntax(line));
     };
-    read_lists(alloc, name, parameters, duration, values)
+    read_values(alloc, parameters, duration, values, action)
 }
 
-/// An action on a line, from what stands after its head.
+/// The name of an action on a line, which no earlier one has, and the place after it.
 #[tactic(auto, unfolding(crate::specs::Actions::action))]
-fn read_action<'a, A: Allocator + Copy>(
-    alloc: A,
+fn read_name<'a, A: Allocator + Copy>(
     line: u32,
     children: Cursor<'a>,
     earlier: &Actions<'a, A>,
-) -> Result<Action<'a, A>, DomainFault>
-    ensures given { Gives is_memory action_schema result (rule.action line (row_at children.entry) earlier.now) }
-    ensures new { IfOk result (λ action. rule.is_taken (action_schema action).name earlier.now ≡ false) }
+) -> Result<(Name<'a>, Cursor<'a>), DomainFault>
+    ensures named { IfOk result (λ found. rule.action line (row_at children.entry) earlier.now
+        ≡ rule.named_action line (word_of found.0) (row_at found.1)) }
+    ensures new { IfOk result (λ found. rule.is_taken (word_of found.0) earlier.now ≡ false) }
+    ensures fault { IfErr result (λ fault. rule.action line (row_at children.entry) earlier.now ≡ Err fault) }
 {
     match children.next_child() {
         Child::End(_) => Err(DomainFault::Syntax(line)),
@@ -147,9 +135,24 @@ fn read_action<'a, A: Allocator + Copy>(
             if earlier.is_taken(name) {
                 return Err(DomainFault::Twice(at));
             }
-            read_named_action(alloc, line, name, rest)
+            Ok((name, rest))
         }
     }
+}
+
+/// An action on a line, from what stands after its head.
+fn read_action<'a, A: Allocator + Copy>(
+    alloc: A,
+    line: u32,
+    children: Cursor<'a>,
+    earlier: &Actions<'a, A>,
+) -> Result<Action<'a, A>, DomainFault>
+    ensures given { Gives is_memory action_schema result (rule.action line (row_at children.entry) earlier.now) }
+    ensures new { IfOk result (λ action. rule.is_taken (action_schema action).name earlier.now ≡ false) }
+{
+    let (name, rest) = read_name(line, children, earlier)?;
+    let mut action = Action::bare(alloc, name);
+    read_fields(alloc, line, rest, &mut action).and(Ok(action))
 }
 
 /// One part of a domain, a list on a line.
@@ -200,17 +203,6 @@ fn read_parts<'a, A: Allocator + Copy>(
     }
 }
 
-/// The actions of the parts of a domain in a row.
-fn read_all_parts<'a, A: Allocator + Copy>(
-    alloc: A,
-    children: Cursor<'a>,
-) -> Result<Actions<'a, A>, DomainFault>
-    ensures { Gives is_memory (λ actions. actions) result (parts (row_at children.entry) []) }
-{
-    let mut actions = Actions::new(alloc);
-    read_parts(alloc, children, &mut actions).and(Ok(actions))
-}
-
 /// Whether a row is the word `domain` and a name.
 #[tactic(auto, unfolding(crate::specs::Domains::is_title))]
 fn is_title(children: Cursor<'_>) -> bool
@@ -228,14 +220,16 @@ fn is_title(children: Cursor<'_>) -> bool
     is_same_word(domain, b"domain") && is_name(name)
 }
 
-/// The list of a whole domain, on a line.
+/// Takes up the list of a whole domain, on a line, where there are no actions yet.
 #[tactic(auto, unfolding(crate::specs::Domains::root))]
 fn read_root<'a, A: Allocator + Copy>(
     alloc: A,
     line: u32,
     children: Cursor<'a>,
-) -> Result<Actions<'a, A>, DomainFault>
-    ensures { Gives is_memory (λ actions. actions) result (root line (row_at children.entry)) }
+    actions: &mut Actions<'a, A>,
+) -> Result<(), DomainFault>
+    requires { actions.old ≡ [] }
+    ensures { Gives is_memory (λ _. actions.new) result (root line (row_at children.entry)) }
 {
     let Child::Word(_, define, rest) = children.next_child() else {
         return Err(DomainFault::Syntax(line));
@@ -244,24 +238,26 @@ fn read_root<'a, A: Allocator + Copy>(
         return Err(DomainFault::Syntax(line));
     };
     if is_same_word(define, b"define") && is_title(title) {
-        read_all_parts(alloc, title.skip())
+        read_parts(alloc, title.skip(), actions)
     } else {
         Err(DomainFault::Syntax(line))
     }
 }
 
-/// The actions of a text.
+/// Takes up the actions of a text, where there are none yet.
 #[tactic(auto, unfolding(crate::specs::Domains::domain_of, crate::specs::Domains::domain_of_tree))]
 fn read_actions<'a, A: Allocator + Copy>(
     alloc: A,
     text: &'a [u8],
-) -> Result<Actions<'a, A>, DomainFault>
-    ensures { Gives is_memory (λ actions. actions) result (domain_of text.now) }
+    actions: &mut Actions<'a, A>,
+) -> Result<(), DomainFault>
+    requires { actions.old ≡ [] }
+    ensures { Gives is_memory (λ _. actions.new) result (domain_of text.now) }
 {
     match stn_tree::start(text)?.next_child() {
         Child::End(_) => Err(DomainFault::Syntax(1)),
         Child::Word(line, _, _) => Err(DomainFault::Syntax(line)),
-        Child::Group(line, children) => read_root(alloc, line, children),
+        Child::Group(line, children) => read_root(alloc, line, children, actions),
     }
 }
 
@@ -273,7 +269,8 @@ impl<'a, A: Allocator + Copy> Domain<'a, A> {
         ensures given { Gives is_memory (λ domain. domain.actions) result (domain_of text.now) }
         ensures text { IfOk result (λ domain. domain.text ≡ text.now) }
     {
-        let actions = read_actions(alloc, text)?;
+        let mut actions = Actions::new(alloc);
+        read_actions(alloc, text, &mut actions)?;
         Ok(Domain { text, actions })
     }
 

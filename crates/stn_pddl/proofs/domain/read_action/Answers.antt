@@ -1,6 +1,33 @@
-use Rattle.std.proofs.Common.{sym}
+use Rattle.std.proofs.Common.{◌≡◌, ◌∙◌, [], pos, ap, sym}
+use Rattle.std.proofs.lemmas.Result.{err_from_is_err_and}
+use Rattle.stn_text.specs.Faults.{Gives}
+use Rattle.stn_tree.specs.Cursors.{row_at}
+use Rattle.stn_pddl.specs.Faults.{is_memory}
+use Rattle.stn_pddl.specs.Schemas.{ActionSchema, bare_action}
+use Rattle.stn_pddl.specs.Actions.{named_action}
+use Rattle.stn_pddl.specs.Views.{action_schema, word_of}
 use Rattle.stn_pddl.proofs.SoundActions.{new-name}
+use Rattle.stn_pddl.proofs.Steps.{filled}
+use Rattle.stn_pddl.proofs.Taken.{fails_as_meant}
 use Rattle.stn_pddl.proofs.domain.read_action.Goals as goal
 
-pub returns-else-is_taken-clause-new : goal.returns-else-is_taken-clause-new
-returns-else-is_taken-clause-new g c = new-name _ _ _ _ _ c.read_named_action.ensures (sym c.if-is_taken.ensures)
+pub returns-in_err-name : goal.returns-in_err-name
+returns-in_err-name g c =
+    let returned = err_from_is_err_and c.from_residual.result c.from_residual.ensures.1 in
+    record {
+      given = rw (returned.1, returned.2) (fails_as_meant c.in_err-name.field-0.0 _ c.in_err-name.ensures.fault);
+      new = rw returned.1 tt;
+    }
+
+pub read_fields-requires : goal.read_fields-requires
+read_fields-requires g c = c.bare-action.ensures ∙ ap (λ name. bare_action name [] (pos 0)) (sym (ap (λ (schema : ActionSchema). schema.name) c.bare-action.ensures))
+
+pub returns : goal.returns
+returns g c =
+    let given : Gives is_memory action_schema c.and.result (named_action c.args.line (word_of c.in_ok-name.name) (row_at c.in_ok-name.rest)) =
+    filled _ action_schema c.read_fields.result c.read_fields.new.action c.and.result _ c.and.ensures
+    (rw (ap (λ (schema : ActionSchema). schema.name) c.bare-action.ensures) at c.read_fields.ensures) in
+    record {
+      given = rw c.in_ok-name.ensures.named given;
+      new = new-name c.and.result c.args.line _ _ _ given c.in_ok-name.ensures.new;
+    }
