@@ -46,6 +46,15 @@ no_site world site refusal missing =
 pub at_packet : (world : World) (number : ℕ) (refusal : Option WorldFault) → HasPacket world number → option_or (then_some (not (has_packet world number)) NoPacket) refusal ≡ refusal
 at_packet world number refusal there = ap (λ b. option_or (then_some (not b) NoPacket) refusal) ((packet_decides world number).1 there)
 
+no_packet : (world : World) (number : ℕ) (refusal : Option WorldFault) → ¬ HasPacket world number → option_or (then_some (not (has_packet world number)) NoPacket) refusal ≡ Some NoPacket
+no_packet world number refusal missing =
+    ap (λ b. option_or (then_some (not b) NoPacket) refusal) (false_from_ne_true (has_packet world number) (λ e. missing ((packet_decides world number).0 e)))
+
+-- the fault of a call at a site that is not there
+pub site_missing : (world : World) (site : ℕ) (refusal : Option WorldFault) (fault : WorldFault) → fault ≡ NoSite → ¬ HasSite world site
+    → fault ≡ unwrap_or (option_or (missing world site) refusal) Memory
+site_missing world site refusal fault is gone = is ∙ ap (λ o. unwrap_or o Memory) (sym (no_site world site refusal gone))
+
 -- a fault of a replica is the world's
 pub refused_by : (refusal : Option ReplicaFault) (fault : ReplicaFault) → fault ≡ unwrap_or refusal replica_fault.Memory
     → of_replica_fault fault ≡ unwrap_or (option_map of_replica_fault refusal) Memory
@@ -116,6 +125,13 @@ pub merge_fault : (world : World) (site other : ℕ) (fault : ReplicaFault) → 
 merge_fault world site other fault there other_there apart is =
     refused_by (take_refusal (held_at world site) (content_at world other)) fault is ∙ ap (λ o. unwrap_or o Memory) (sym (merge_refusal world site other there other_there apart))
 
+-- the other site is not there
+pub other_missing : (world : World) (site other : ℕ) (fault : WorldFault) → HasSite world site → fault ≡ NoSite → ¬ HasSite world other
+    → fault ≡ unwrap_or (step_refusal world (merged site other)) Memory
+other_missing world site other fault there is gone =
+    let cause : step_refusal world (merged site other) ≡ Some NoSite = at_site world site _ there ∙ no_site world other _ gone in
+    is ∙ ap (λ o. unwrap_or o Memory) (sym cause)
+
 -- ---- sendings
 pub accepted_sending : (world : World) (site : ℕ) (part : Content) → IsAccepted world (sent site part) → HasSite world site × IsSentOf part (content_at world site)
 accepted_sending world site part e =
@@ -141,6 +157,13 @@ send_with_room world site held there room =
     at_site world site _ there
     ∙ ap (λ b. option_or (then_some b TooManyPackets) (then_some (not held) (Replica replica_fault.Unknown))) (room_left (length world.packets) most_packets room)
 
+pub too_many_packets : (world : World) (site : ℕ) (held : Bool) (fault : WorldFault) → HasSite world site → fault ≡ TooManyPackets → most_packets ≤ length world.packets
+    → fault ≡ unwrap_or (send_refusal world site held) Memory
+too_many_packets world site held fault there is full =
+    let cause : send_refusal world site held ≡ Some TooManyPackets =
+    at_site world site _ there ∙ ap (λ b. option_or (then_some b TooManyPackets) (then_some (not held) (Replica replica_fault.Unknown))) (no_room (length world.packets) most_packets full) in
+    is ∙ ap (λ o. unwrap_or o Memory) (sym cause)
+
 -- ---- deliveries
 pub accepted_delivery : (world : World) (site number : ℕ) → IsAccepted world (delivered site number)
     → HasSite world site × (HasPacket world number × (take_refusal (held_at world site) (packet_at world number) ≡ None))
@@ -152,3 +175,10 @@ accepted_delivery world site number e =
 pub delivery_refusal : (world : World) (site number : ℕ) → HasSite world site → HasPacket world number
     → step_refusal world (delivered site number) ≡ option_map of_replica_fault (take_refusal (held_at world site) (packet_at world number))
 delivery_refusal world site number there packet_there = at_site world site _ there ∙ at_packet world number _ packet_there
+
+-- the packet is not there
+pub packet_missing : (world : World) (site number : ℕ) (fault : WorldFault) → HasSite world site → fault ≡ NoPacket → ¬ HasPacket world number
+    → fault ≡ unwrap_or (step_refusal world (delivered site number)) Memory
+packet_missing world site number fault there is gone =
+    let cause : step_refusal world (delivered site number) ≡ Some NoPacket = at_site world site _ there ∙ no_packet world number _ gone in
+    is ∙ ap (λ o. unwrap_or o Memory) (sym cause)

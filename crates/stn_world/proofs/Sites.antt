@@ -86,6 +86,10 @@ sites_set source replicas place one d sites site src = record {
   sources = map-set_same (λ (r : Held). r.source) replicas place one d src ∙ (sites.sources ∙ ap (λ n. replicate n source) (sym (length-set replicas place one)));
 }
 
+-- a place of the world's sites is one of its replicas
+pub place_within : {packets : List Content} (world : World) (source : PlanSource) (replicas : List Held) (place : ℕ) → world_of source replicas packets ≡ world → place < length world.sites → place < length replicas
+place_within world source replicas place is within = omega (arith, ap (λ (w : World). length w.sites) is, length-map replicas (λ (r : Held). r.state))
+
 -- the replica of a site, as the world has it
 pub record IsHeldAt (world : World) (site : ℕ) (one : Held) : Type 0 where
   pub number : one.site ≡ site

@@ -1,4 +1,4 @@
-use Rattle.std.proofs.Common.{◌≡◌, sym, ap, subst, ◌∙◌}
+use Rattle.std.proofs.Common.{◌≡◌, refl, sym, ap, subst, ◌∙◌, arith}
 use Rattle.std.specs.Prelude.{option_map, unwrap_or}
 use Rattle.std.proofs.lemmas.Result.{err_from_is_err_and}
 use Rattle.stn_replica.specs.Held.{difference}
@@ -9,10 +9,21 @@ use Rattle.stn_world.specs.Faults.{of_replica_fault}
 use Rattle.stn_world.specs.Steps.{amended, IsAccepted}
 use Rattle.stn_world.specs.World.{held_at}
 use Rattle.stn_world.specs.Whole.{IsCoherent}
-use Rattle.stn_world.proofs.Accepted.{at_site, refused_by}
-use Rattle.stn_world.proofs.Sites.{held_there, amended_there, next_id_at-held, amend_refusal_at, sound_changed, sound_stayed, world_stayed}
+use Rattle.stn_world.proofs.Accepted.{at_site, site_missing, refused_by}
+use Rattle.stn_world.proofs.Sites.{place_within, held_there, amended_there, next_id_at-held, amend_refusal_at, sound_changed, sound_stayed, world_stayed}
 use Rattle.stn_world.proofs.Whole.{coherent_after}
 use Rattle.stn_world.proofs.world.World.amend.Goals as goal
+
+pub index_mut-requires : goal.index_mut-requires
+index_mut-requires g c = omega (arith, place_within c.args.self.now _ c.self.inside.replicas.items c.in_ok-place.place c.self.view_is c.in_ok-place.ensures.within, c.self.inside.replicas.ok.0)
+
+pub returns-in_err-place : goal.returns-in_err-place
+returns-in_err-place g c =
+    let p = err_from_is_err_and c.from_residual.result c.from_residual.ensures.1 in
+    rw (p.1, p.2) (record {
+      id = tt;
+      step = (site_missing c.args.self.now c.args.site _ c.in_err-place.field-0.0 c.in_err-place.ensures.missing c.in_err-place.ensures.refused, refl);
+    })
 
 pub invariant_of-self : goal.invariant_of-self
 invariant_of-self g c = sound_stayed _ c.self.inside.replicas.items c.in_ok-place.place c.index_mut.result.now c.amend.new.self c.self.invariant c.index_mut.ensures.value c.in_err-id.ensures.kept

@@ -1,4 +1,4 @@
-use Rattle.std.proofs.Common.{◌≡◌, refl, sym, ap, subst, ◌∙◌}
+use Rattle.std.proofs.Common.{◌≡◌, length, refl, sym, ap, subst, ◌∙◌, arith}
 use Rattle.std.specs.Prelude.{option_map, unwrap_or}
 use Rattle.std.proofs.lemmas.Bool.{false≢true}
 use Rattle.std.proofs.lemmas.Result.{err_from_is_err_and}
@@ -6,14 +6,38 @@ use Rattle.stn_replica.specs.Refusals.{take_refusal}
 use Rattle.stn_replica.specs.declared.faults.ReplicaFault.TheVariants as replica_fault
 use Rattle.stn_world.specs.declared.faults.WorldFault.TheVariants.{Memory}
 use Rattle.stn_world.specs.Faults.{of_replica_fault}
-use Rattle.stn_world.specs.Steps.{delivered, IsAccepted}
-use Rattle.stn_world.specs.World.{held_at, packet_at}
+use Rattle.stn_world.specs.Steps.{delivered, IsAccepted, IsDeliveryFault}
+use Rattle.stn_world.specs.World.{World, held_at, packet_at}
 use Rattle.stn_world.specs.Whole.{IsCoherent}
-use Rattle.stn_world.proofs.Accepted.{refused_by, delivery_refusal}
+use Rattle.stn_world.proofs.Accepted.{site_missing, refused_by, delivery_refusal, packet_missing}
 use Rattle.stn_world.proofs.Merges.{delivery_agrees}
-use Rattle.stn_world.proofs.Sites.{held_there, part_there, packet_there, delivered_there, take_refusal_at, sound_changed, sound_stayed, world_stayed}
+use Rattle.stn_world.proofs.Sites.{place_within, held_there, part_there, packet_there, delivered_there, take_refusal_at, sound_changed, sound_stayed, world_stayed}
 use Rattle.stn_world.proofs.Whole.{coherent_after}
 use Rattle.stn_world.proofs.world.World.deliver.Goals as goal
+
+pub index_mut-requires : goal.index_mut-requires
+index_mut-requires g c = omega (arith, place_within c.args.self.now _ c.self.inside.replicas.items c.in_ok-place.place c.self.view_is c.in_ok-place.ensures.within, c.self.inside.replicas.ok.0)
+
+pub index-requires : goal.index-requires
+index-requires g c = omega (arith, ap (λ (w : World). length w.packets) c.self.view_is, c.in_ok-from.ensures.within, c.self.inside.packets.ok.0)
+
+pub returns-in_err-place : goal.returns-in_err-place
+returns-in_err-place g c =
+    let p = err_from_is_err_and c.from_residual.result c.from_residual.ensures.1 in
+    rw (p.1, p.2) (record {
+      step = (site_missing c.args.self.now c.args.site _ c.in_err-place.field-0.0 c.in_err-place.ensures.missing c.in_err-place.ensures.refused, refl);
+      again = λ there sent inside. absurd (c.in_err-place.ensures.refused there);
+      agreed = subst IsDeliveryFault (sym c.in_err-place.ensures.missing) tt;
+    })
+
+pub returns-in_err-from : goal.returns-in_err-from
+returns-in_err-from g c =
+    let p = err_from_is_err_and c.from_residual-in_err-from.result c.from_residual-in_err-from.ensures.1 in
+    rw (p.1, p.2) (record {
+      step = (packet_missing c.args.self.now c.args.site c.args.packet c.in_err-from.field-0.0 c.in_ok-place.ensures.there c.in_err-from.ensures.missing c.in_err-from.ensures.refused, refl);
+      again = λ there sent inside. absurd (c.in_err-from.ensures.refused sent);
+      agreed = subst IsDeliveryFault (sym c.in_err-from.ensures.missing) tt;
+    })
 
 pub invariant_of-self : goal.invariant_of-self
 invariant_of-self g c = sound_stayed _ c.self.inside.replicas.items c.in_ok-place.place c.index_mut.result.now c.take.new.self c.self.invariant c.index_mut.ensures.value c.in_err-take.ensures.kept

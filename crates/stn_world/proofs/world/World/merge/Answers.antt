@@ -1,19 +1,51 @@
-use Rattle.std.proofs.Common.{◌≡◌, refl, sym, ap, subst, ◌∙◌}
+use Rattle.std.proofs.Common.{◌≡◌, ◌<◌, length, refl, sym, ap, subst, ◌∙◌}
 use Rattle.std.specs.Prelude.{unwrap_or}
 use Rattle.std.proofs.lemmas.Bool.{false≢true}
 use Rattle.std.proofs.lemmas.Result.{err_from_is_err_and}
 use Rattle.stn_replica.specs.Refusals.{take_refusal}
 use Rattle.stn_replica.specs.declared.faults.ReplicaFault.TheVariants as replica_fault
-use Rattle.stn_world.specs.Steps.{merged, IsAccepted}
-use Rattle.stn_world.specs.World.{held_at, content_at}
+use Rattle.stn_world.specs.Steps.{merged, IsAccepted, IsMergeFault}
+use Rattle.stn_world.specs.World.{HasSite, held_at, content_at}
 use Rattle.stn_world.specs.Whole.{IsCoherent}
-use Rattle.stn_world.proofs.Accepted.{merge_free, merge_itself, merge_fault}
-use Rattle.stn_world.proofs.Sites.{part_there, take_refusal_at}
+use Rattle.stn_world.proofs.Accepted.{site_missing, merge_free, merge_itself, merge_fault, other_missing}
+use Rattle.stn_world.proofs.Sites.{place_within, part_there, take_refusal_at}
 use Rattle.stn_world.proofs.Pair.{held_at_site, merged_there, sound_merged, merged_itself, one_site, other_site, sound_kept, world_kept}
 use Rattle.stn_world.proofs.Whole.{coherent_after}
 use Rattle.stn_world.proofs.Merges.{merge_agrees}
 use Rattle.stn_world.proofs.world.World.merge.Goals as goal
 use Rattle.stn_world.proofs.world.World.merge.Goals.{then-ours-theirs+in_ok-take_from, else-ours-theirs}
+
+pub take_from-requires : goal.take_from-requires
+take_from-requires g c =
+    let within = place_within c.args.self.now _ c.self.inside.replicas.items c.in_ok-ours.ours c.self.view_is c.in_ok-ours.ensures.within in
+    let also = place_within c.args.self.now _ c.self.inside.replicas.items c.in_ok-theirs.theirs c.self.view_is c.in_ok-theirs.ensures.within in
+    record {
+      ours = subst (λ l. c.in_ok-ours.ours < length l) (sym c.deref_mut.ensures.value) within;
+      theirs = subst (λ l. c.in_ok-theirs.theirs < length l) (sym c.deref_mut.ensures.value) also;
+      apart = c.if-ours-theirs.true;
+    }
+
+pub returns-in_err-ours : goal.returns-in_err-ours
+returns-in_err-ours g c =
+    let p = err_from_is_err_and c.from_residual.result c.from_residual.ensures.1 in
+    let missing = c.in_err-ours.ensures.refused in
+    rw (p.1, p.2) (record {
+      step = (site_missing c.args.self.now c.args.site _ c.in_err-ours.field-0.0 c.in_err-ours.ensures.missing missing, refl);
+      itself = λ there one. absurd (missing there);
+      again = λ there others inside. absurd (missing there);
+      agreed = subst IsMergeFault (sym c.in_err-ours.ensures.missing) tt;
+    })
+
+pub returns-in_err-theirs : goal.returns-in_err-theirs
+returns-in_err-theirs g c =
+    let p = err_from_is_err_and c.from_residual-in_err-theirs.result c.from_residual-in_err-theirs.ensures.1 in
+    let missing = c.in_err-theirs.ensures.refused in
+    rw (p.1, p.2) (record {
+      step = (other_missing c.args.self.now c.args.site c.args.other c.in_err-theirs.field-0.0 c.in_ok-ours.ensures.there c.in_err-theirs.ensures.missing missing, refl);
+      itself = λ there one. absurd (missing (subst (HasSite c.args.self.now) one there));
+      again = λ there others inside. absurd (missing others);
+      agreed = subst IsMergeFault (sym c.in_err-theirs.ensures.missing) tt;
+    })
 
 pub invariant_of-self : goal.invariant_of-self
 invariant_of-self g c =

@@ -1,5 +1,9 @@
-use Rattle.stn_world.proofs.Sites.{held_there}
+use Rattle.std.proofs.Common.{arith}
+use Rattle.stn_world.proofs.Sites.{place_within, held_there}
 use Rattle.stn_world.proofs.world.World.replica.Goals as goal
+
+pub index-requires : goal.index-requires
+index-requires g c = omega (arith, place_within c.args.self.now _ c.self.inside.replicas.items c.in-Ok.place c.self.view_is c.in-Ok.ensures.within, c.self.inside.replicas.ok.0)
 
 pub returns-in-Ok-clause-site : goal.returns-in-Ok-clause-site
 returns-in-Ok-clause-site g c =

@@ -1,4 +1,4 @@
-use Rattle.std.proofs.Common.{◌≡◌, List, refl, sym, ap, subst, ◌∙◌}
+use Rattle.std.proofs.Common.{◌≡◌, List, refl, sym, ap, subst, ◌∙◌, arith}
 use Rattle.std.specs.Rc.{rc_value}
 use Rattle.std.proofs.lemmas.Result.{err_from_is_err_and}
 use Rattle.stn_records.specs.Content.{Content, part_of}
@@ -8,10 +8,31 @@ use Rattle.stn_world.specs.Steps.{sent}
 use Rattle.stn_world.specs.Sites.{world_of}
 use Rattle.stn_world.specs.World.{content_at}
 use Rattle.stn_world.specs.Whole.{IsCoherent, IsSoundWorld}
+use Rattle.stn_world.proofs.Accepted.{site_missing, too_many_packets}
 use Rattle.stn_world.proofs.Sendings.{send_free, send_memory, part_refused, holds_there, part_free}
-use Rattle.stn_world.proofs.Sites.{held_there, sent_there, sound_sent}
+use Rattle.stn_world.proofs.Sites.{place_within, held_there, sent_there, sound_sent}
 use Rattle.stn_world.proofs.Whole.{coherent_after}
 use Rattle.stn_world.proofs.world.World.send.Goals as goal
+
+pub index-requires : goal.index-requires
+index-requires g c = omega (arith, place_within c.args.self.now _ c.self.inside.replicas.items c.in_ok-place.place c.self.view_is c.in_ok-place.ensures.within, c.self.inside.replicas.ok.0)
+
+pub invariant_of-self : goal.invariant_of-self
+invariant_of-self g c = subst (λ (l : List Content). IsSoundWorld (rc_value c.self.inside.base) c.self.inside.replicas.items l) (sym c.in_err-push.ensures.items) c.self.invariant
+
+pub returns-in_err-place : goal.returns-in_err-place
+returns-in_err-place g c =
+    let p = err_from_is_err_and c.from_residual.result c.from_residual.ensures.1 in
+    rw (p.1, p.2) (record {
+      step = (site_missing c.args.self.now c.args.site _ c.in_err-place.field-0.0 c.in_err-place.ensures.missing c.in_err-place.ensures.refused, refl);
+    })
+
+pub returns-in_err-number : goal.returns-in_err-number
+returns-in_err-number g c =
+    let p = err_from_is_err_and c.from_residual-in_err-number.result c.from_residual-in_err-number.ensures.1 in
+    rw (p.1, p.2) (record {
+      step = (too_many_packets c.args.self.now c.args.site (holds_all (content_at c.args.self.now c.args.site) c.args.records.now c.args.tombstones.now) c.in_err-number.field-0.0 c.in_ok-place.ensures.there c.in_err-number.ensures.full c.in_err-number.ensures.refused, refl);
+    })
 
 pub returns-in_err-part : goal.returns-in_err-part
 returns-in_err-part g c =
