@@ -1,6 +1,6 @@
 // Bodies of frames: a table by kinds.
 ghost use Rattle.std.specs.Prelude.{◌≡◌, ◌∷◌, ◌≤◌, ◌++◌, length, IfOk, OnOk, option_map, if◌then◌else◌};
-ghost use Rattle.stn_wire.specs.Frame.{most_body, content, said_content, body_of, IsSaid};
+ghost use Rattle.stn_wire.specs.Frame.{most_body, content, said_content, kind_of, rest_of, body_of, IsSaid};
 ghost use Rattle.stn_wire.specs.Reading.{IsBodyReading};
 
 use crate::frame::{Frame, Said};
@@ -115,21 +115,38 @@ pub(crate) fn append_body<A: Allocator + Copy, B: Allocator>(
     ensures appended { OnOk result (out.new.items ≡ out.old.items ++ body_of (said_content said.now)) }
     ensures said { OnOk result (IsSaid (said_content said.now)) }
 {
+    out.push(kind_of(said))?;
+    append_rest(out, said)
+}
+
+fn kind_of<A: Allocator + Copy>(said: &Said<A>) -> u8
+    ensures { result ≡ kind_of (said_content said.now) }
+{
     match said {
-        Said::Hello(source) => {
-            out.push(7)?;
-            append_source(out, source)
-        }
-        Said::Records(state) => {
-            out.push(kind_of_records(state))?;
-            append_state(out, state)
-        }
-        Said::Ask => Ok(out.push(3)?),
-        Said::Text(bytes) => {
-            out.push(4)?;
-            out.extend_from_slice(bytes)
-        }
-        Said::Refused(code) => out.extend_from_slice(&[5, *code]),
-        Said::Same => Ok(out.push(6)?),
+        Said::Hello(_) => 7,
+        Said::Records(state) => kind_of_records(state),
+        Said::Ask => 3,
+        Said::Text(_) => 4,
+        Said::Refused(_) => 5,
+        Said::Same => 6,
+    }
+}
+
+// Appends what stands after the kind.
+fn append_rest<A: Allocator + Copy, B: Allocator>(
+    out: &mut Vec<u8, B>,
+    said: &Said<A>,
+) -> Result<(), Memory>
+    requires { length (rest_of (said_content said.now)) ≤ most_body }
+    ensures appended { OnOk result (out.new.items ≡ out.old.items ++ rest_of (said_content said.now)) }
+    ensures said { OnOk result (IsSaid (said_content said.now)) }
+{
+    match said {
+        Said::Hello(source) => append_source(out, source),
+        Said::Records(state) => append_state(out, state),
+        Said::Ask => Ok(()),
+        Said::Text(bytes) => out.extend_from_slice(bytes),
+        Said::Refused(code) => out.extend_from_slice(&[*code]),
+        Said::Same => Ok(()),
     }
 }

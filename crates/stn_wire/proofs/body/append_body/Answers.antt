@@ -1,27 +1,20 @@
+use Rattle.std.proofs.Common.{[], ◌∷◌, ◌++◌, ap, ◌∙◌}
 use Rattle.std.proofs.lemmas.Result.{err_from_is_err_and}
+use Rattle.stn_wire.specs.Frame.{said_content, kind_of, rest_of}
+use Rattle.stn_wire.proofs.Parts.{append_then}
 use Rattle.stn_wire.proofs.body.append_body.Goals as goal
 
-pub returns-in_err-push-in-Hello : goal.returns-in_err-push-in-Hello
-returns-in_err-push-in-Hello g c =
+pub returns-in_err-push : goal.returns-in_err-push
+returns-in_err-push g c =
     let p = err_from_is_err_and c.from_residual.result c.from_residual.ensures.1 in
     rw p.1 (record { appended = tt; said = tt })
 
-pub returns-in_err-push-in-Records : goal.returns-in_err-push-in-Records
-returns-in_err-push-in-Records g c =
-    let p = err_from_is_err_and c.from_residual-in_err-push-in-Records.result c.from_residual-in_err-push-in-Records.ensures.1 in
-    rw p.1 (record { appended = tt; said = tt })
-
-pub returns-in_err-push-in-Ask : goal.returns-in_err-push-in-Ask
-returns-in_err-push-in-Ask g c =
-    let p = err_from_is_err_and c.from_residual-in_err-push-in-Ask.result c.from_residual-in_err-push-in-Ask.ensures.1 in
-    rw p.1 (record { appended = tt; said = tt })
-
-pub returns-in_err-push-in-Text : goal.returns-in_err-push-in-Text
-returns-in_err-push-in-Text g c =
-    let p = err_from_is_err_and c.from_residual-in_err-push-in-Text.result c.from_residual-in_err-push-in-Text.ensures.1 in
-    rw p.1 (record { appended = tt; said = tt })
-
-pub returns-in_err-push-in-Same : goal.returns-in_err-push-in-Same
-returns-in_err-push-in-Same g c =
-    let p = err_from_is_err_and c.from_residual-in_err-push-in-Same.result c.from_residual-in_err-push-in-Same.ensures.1 in
-    rw p.1 (record { appended = tt; said = tt })
+pub returns : goal.returns
+returns g c =
+    let frame = said_content c.args.said.now in
+    let old = c.args.out.now.items in
+    record {
+      appended = append_then c.append_rest.result old c.push.new.self.items c.append_rest.new.out.items (kind_of frame ∷ []) (rest_of frame)
+          (c.in_ok-push.ensures.items ∙ ap (λ n. old ++ (n ∷ [])) c.kind_of.ensures) c.append_rest.ensures.appended;
+      said = c.append_rest.ensures.said;
+    }
