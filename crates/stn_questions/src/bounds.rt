@@ -19,8 +19,7 @@ pub fn print_bounds<A: Allocator + Copy, B: Allocator>(
     ensures kept { OnErr result (out.new.items ≡ out.old.items) }
 {
     let text = text_of(replica)?;
-    out.extend_from_slice(&text)?;
-    Ok(())
+    out.extend_from_slice(&text)
 }
 
 fn text_of<A: Allocator + Copy>(replica: &Replica<A>) -> Result<Vec<u8, A>, Memory>
@@ -63,8 +62,7 @@ fn append_named<B: Allocator>(
     name.print(out)?;
     out.extend_from_slice(b" ")?;
     append_bound(out, bound)?;
-    out.extend_from_slice(b"\n")?;
-    Ok(())
+    out.extend_from_slice(b"\n")
 }
 
 /// Appends a bound as an addition reads it: its events and its sides. After an error a part of it may
@@ -78,8 +76,7 @@ pub fn append_bound<B: Allocator>(out: &mut Vec<u8, B>, bound: Bound) -> Result<
     out.extend_from_slice(b" ")?;
     append_lower(out, bound.lo())?;
     out.extend_from_slice(b" ")?;
-    append_upper(out, bound.hi())?;
-    Ok(())
+    append_upper(out, bound.hi())
 }
 
 fn append_lower<B: Allocator>(out: &mut Vec<u8, B>, lo: Ms) -> Result<(), Memory>

@@ -30,20 +30,22 @@ pub fn print_ready<A: Allocator + Copy, B: Allocator>(
     ensures printed { OnOk result ((text : List ℕ) × IsReadyText replica.now.source replica.now.state now text × (out.new.items ≡ out.old.items ++ text)) }
     ensures kept { OnErr result (out.new.items ≡ out.old.items) }
 {
-    let text = text_of(replica, now)?;
-    out.extend_from_slice(&text)?;
-    Ok(())
+    let mut text = Vec::new(replica.alloc());
+    append_text(replica, now, &mut text)?;
+    out.extend_from_slice(&text)
 }
 
-fn text_of<A: Allocator + Copy>(replica: &Replica<A>, now: Ms) -> Result<Vec<u8, A>, Memory>
-    ensures { IfOk result (λ text. IsReadyText replica.now.source replica.now.state now text.items) }
+fn append_text<A: Allocator + Copy>(
+    replica: &Replica<A>,
+    now: Ms,
+    out: &mut Vec<u8, A>,
+) -> Result<(), Memory>
+    ensures { OnOk result ((text : List ℕ) × IsReadyText replica.now.source replica.now.state now text × (out.new.items ≡ out.old.items ++ text)) }
 {
-    let mut text = Vec::new(replica.alloc());
     match replica.next(now) {
-        Some(answer) => append_answer(replica, now, answer, &mut text)?,
-        None => text.extend_from_slice(b"conflict\n")?,
+        Some(answer) => append_answer(replica, now, answer, out),
+        None => out.extend_from_slice(b"conflict\n"),
     }
-    Ok(text)
 }
 
 // Appends what is printed where this comes next.
@@ -59,11 +61,10 @@ fn append_answer<A: Allocator + Copy>(
         × (out.new.items ≡ out.old.items ++ text)) }
 {
     match answer {
-        Next::Run(_, _) => append_ready(replica, now, out)?,
-        Next::AllDone => out.extend_from_slice(b"all done\n")?,
-        Next::Overdue(event) => append_overdue(event, out)?,
+        Next::Run(_, _) => append_ready(replica, now, out),
+        Next::AllDone => out.extend_from_slice(b"all done\n"),
+        Next::Overdue(event) => append_overdue(event, out),
     }
-    Ok(())
 }
 
 fn append_overdue<B: Allocator>(event: Event, out: &mut Vec<u8, B>) -> Result<(), Memory>
@@ -71,8 +72,7 @@ fn append_overdue<B: Allocator>(event: Event, out: &mut Vec<u8, B>) -> Result<()
 {
     out.extend_from_slice(b"overdue ")?;
     event.print(out)?;
-    out.extend_from_slice(b"\n")?;
-    Ok(())
+    out.extend_from_slice(b"\n")
 }
 
 // Appends the lines of the events that are ready from now on.
@@ -90,8 +90,7 @@ fn append_ready<A: Allocator + Copy>(
     let flags = replica.done_flags();
     let done = flags_of(&flags, matrix);
     let ready = ready_events(replica.alloc(), matrix, done, now)?;
-    append_lines(&ready, out)?;
-    Ok(())
+    append_lines(&ready, out)
 }
 
 // Those of the flags that are about the matrix's events.
@@ -162,6 +161,5 @@ fn append_line<B: Allocator>(one: ReadyEvent, out: &mut Vec<u8, B>) -> Result<()
     one.first.print(out)?;
     out.extend_from_slice(b" ")?;
     one.last.print(out)?;
-    out.extend_from_slice(b"\n")?;
-    Ok(())
+    out.extend_from_slice(b"\n")
 }

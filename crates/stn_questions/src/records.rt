@@ -20,8 +20,7 @@ pub fn print_records<A: Allocator + Copy, B: Allocator>(
     ensures kept { OnErr result (out.new.items ≡ out.old.items) }
 {
     let text = text_of(replica.alloc(), replica.records())?;
-    out.extend_from_slice(&text)?;
-    Ok(())
+    out.extend_from_slice(&text)
 }
 
 fn text_of<A: Allocator + Copy>(alloc: A, records: &Records<A>) -> Result<Vec<u8, A>, Memory>
@@ -96,31 +95,34 @@ fn append_line<A: Allocator + Copy, B: Allocator>(
         b" replaced",
         out,
     )?;
-    out.extend_from_slice(b"\n")?;
-    Ok(())
+    out.extend_from_slice(b"\n")
 }
 
 // Appends the record of an id, where it is known.
 fn append_held<B: Allocator>(held: Option<Record>, out: &mut Vec<u8, B>) -> Result<(), Memory>
     ensures { OnOk result (out.new.items ≡ out.old.items ++ held_text held) }
 {
-    if let Some(record) = held {
-        out.extend_from_slice(b" ")?;
-        append_bound(out, record.bound)?;
-        append_word(record.mark == Mark::Done, b" done", out)?;
+    match held {
+        Some(record) => {
+            out.extend_from_slice(b" ")?;
+            append_bound(out, record.bound)?;
+            append_word(record.mark == Mark::Done, b" done", out)
+        }
+        None => Ok(()),
     }
-    Ok(())
 }
 
 // Appends the id that a record replaces, where it replaces one.
 fn append_amended<B: Allocator>(old: Option<Id>, out: &mut Vec<u8, B>) -> Result<(), Memory>
     ensures { OnOk result (out.new.items ≡ out.old.items ++ amends_text old) }
 {
-    if let Some(id) = old {
-        out.extend_from_slice(b" amends ")?;
-        id.print(out)?;
+    match old {
+        Some(id) => {
+            out.extend_from_slice(b" amends ")?;
+            id.print(out)
+        }
+        None => Ok(()),
     }
-    Ok(())
 }
 
 // Whether one of the entries replaces the id.
@@ -135,7 +137,8 @@ fn append_word<B: Allocator>(so: bool, word: &[u8], out: &mut Vec<u8, B>) -> Res
     ensures { OnOk result (out.new.items ≡ out.old.items ++ word_where so word.now) }
 {
     if so {
-        out.extend_from_slice(word)?;
+        out.extend_from_slice(word)
+    } else {
+        Ok(())
     }
-    Ok(())
 }

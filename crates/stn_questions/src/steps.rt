@@ -25,20 +25,23 @@ pub fn print_steps<A: Allocator + Copy, B: Allocator>(
     ensures printed { OnOk result (out.new.items ≡ out.old.items ++ steps_text replica.now.source) }
     ensures kept { OnErr result (out.new.items ≡ out.old.items) }
 {
-    let text = text_of(replica.alloc(), replica.base())?;
-    out.extend_from_slice(&text)?;
-    Ok(())
+    let mut text = Vec::new(replica.alloc());
+    append_steps(replica.alloc(), replica.base(), &mut text)?;
+    out.extend_from_slice(&text)
 }
 
-fn text_of<A: Allocator + Copy>(alloc: A, base: &Base<A>) -> Result<Vec<u8, A>, Memory>
-    ensures { IfOk result (λ text. text.items ≡ steps_text base.now) }
+// Appends the lines of the steps of a base.
+fn append_steps<A: Allocator + Copy>(
+    alloc: A,
+    base: &Base<A>,
+    out: &mut Vec<u8, A>,
+) -> Result<(), Memory>
+    ensures { OnOk result (out.new.items ≡ out.old.items ++ steps_text base.now) }
 {
-    let mut text = Vec::new(alloc);
     match base.source() {
-        Source::Bare(steps) => append_numbers(&mut text, *steps)?,
-        Source::Files(_, plan) => append_planned(alloc, plan, durations_of(base), &mut text)?,
+        Source::Bare(steps) => append_numbers(out, *steps),
+        Source::Files(_, plan) => append_planned(alloc, plan, durations_of(base), out),
     }
-    Ok(text)
 }
 
 // The bounds that say how long each step of a plan in a domain lasts.
@@ -72,8 +75,7 @@ fn append_planned<A: Allocator + Copy>(
     ensures { OnOk result (out.new.items ≡ out.old.items ++ step_lines (least_of durations.now) 0 (planned_steps plan.now)) }
 {
     let plan = read_again(alloc, plan)?;
-    append_step_lines(plan.steps(), durations, out)?;
-    Ok(())
+    append_step_lines(plan.steps(), durations, out)
 }
 
 // The plan of the text of one that was read before, so that nothing but memory can be lacking.
@@ -117,8 +119,7 @@ fn append_step_line<'a, A: Allocator, B: Allocator>(
     step.time.print(out)?;
     out.extend_from_slice(b" ")?;
     duration.print(out)?;
-    out.extend_from_slice(b"\n")?;
-    Ok(())
+    out.extend_from_slice(b"\n")
 }
 
 // Appends an action and its arguments, with a space before each of these.

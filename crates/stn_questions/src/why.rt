@@ -76,11 +76,10 @@ fn append_why<A: Allocator + Copy, B: Allocator>(
     match replica.window(event) {
         Some(window) => {
             let text = text_of(replica, event, window)?;
-            out.extend_from_slice(&text)?;
+            out.extend_from_slice(&text)
         }
-        None => replica.report_conflict(out)?,
+        None => replica.report_conflict(out),
     }
-    Ok(())
 }
 
 // The line of an event's window, and the ways that hold its ends.
@@ -112,8 +111,7 @@ fn append_end<B: Allocator>(out: &mut Vec<u8, B>, word: &[u8], time: Ms) -> Resu
     out.extend_from_slice(word)?;
     out.extend_from_slice(b" ")?;
     time.print(out)?;
-    out.extend_from_slice(b"\n")?;
-    Ok(())
+    out.extend_from_slice(b"\n")
 }
 
 // Appends the lines of the way from an event to another.
@@ -145,6 +143,5 @@ fn append_way<A: Allocator + Copy>(
         to,
     )?;
     let named = found.unwrap();
-    append_link_lines(base, ids, others, &named.links, out)?;
-    Ok(())
+    append_link_lines(base, ids, others, &named.links, out)
 }

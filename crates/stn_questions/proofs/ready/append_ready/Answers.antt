@@ -1,5 +1,6 @@
 use Rattle.std.proofs.Common.{◌≡◌, ◌++◌, refl, ap, subst, ◌∙◌, arith}
 use Rattle.std.proofs.lemmas.Option.{MatchOption-at_some}
+use Rattle.std.proofs.lemmas.Result.{IfOk-weaker}
 use Rattle.std.specs.List.{flat_map}
 use Rattle.stn_net.specs.Schedule.{HasSchedule}
 use Rattle.stn_matrix.specs.Tightest.{IsExact}
@@ -22,12 +23,13 @@ returns g c =
     let events = if_some c.current.result matrix (λ m. m.now.events ≡ events_of source) c.unwrap-matrix.ensures c.current.ensures.events in
     let done : c.flags_of-done.result.now ≡ done_events source state =
     flags_are_done source state matrix.now.events c.done_flags-flags.result c.flags_of-done.result.now events c.flags_of-done.ensures.value c.flags_of-done.ensures.one_each
-    (λ event within. c.done_flags-flags.ensures.done event (omega (arith, c.flags_of-done.ensures.few))) in (
+    (λ event within. c.done_flags-flags.ensures.done event (omega (arith, c.flags_of-done.ensures.few))) in
+    IfOk-weaker c.append_lines.result _ _ (λ _ appended. (
       flat_map ready_line items,
       record {
         ready = items;
         events = subst (λ flags. AreReadyEvents bounds flags c.args.now items) done (c.in_ok-ready.ensures bounds exact);
         lines = refl;
       },
-      c.in_ok-append_lines.ensures ∙ ap (λ xs. c.args.out.now.items ++ flat_map ready_line xs) c.deref.ensures.value,
-    )
+      appended ∙ ap (λ xs. c.args.out.now.items ++ flat_map ready_line xs) c.deref.ensures.value,
+    )) c.append_lines.ensures

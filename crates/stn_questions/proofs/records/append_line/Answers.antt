@@ -1,8 +1,10 @@
-use Rattle.std.proofs.Common.{◌≡◌, List, ◌++◌, ap, ◌∙◌, codes, map}
+use Rattle.std.proofs.Common.{◌≡◌, List, [], ◌∷◌, ◌++◌, ap, ◌∙◌, codes, map}
+use Rattle.std.proofs.lemmas.Result.{IfOk-weaker}
 use Rattle.std.specs.Set.{is_member}
 use Rattle.std.specs.FinMap.{entries, get, contains_key}
 use Rattle.stn_records.specs.Id.{SiteCounter, same_ids, id_text}
 use Rattle.stn_records.specs.Content.{Content}
+use Rattle.stn_replica.proofs.Printing.{appended_ok}
 use Rattle.stn_questions.specs.Records.{amends_text, held_text, word_where, is_amended}
 use Rattle.stn_questions.proofs.KnownOnce.{amended_is}
 use Rattle.stn_questions.proofs.Listing.{line_in_parts}
@@ -19,7 +21,7 @@ returns g c =
     let listed = c.entries.ensures.value ∙ ap entries (c.replacements-2.ensures ∙ ap (λ (s : Content). s.replacements) there) in
     let replaced : c.is_replaced.result ≡ is_amended state id = amended_is c.entries.result.now id c.is_replaced.result c.is_replaced.ensures
     ∙ ap (λ (es : List (SiteCounter × SiteCounter)). is_member same_ids (map (λ entry. entry.1) es) id) listed in
-    line_in_parts c.args.out.now.items (id_text id) (held_text (get state.additions id)) (amends_text (get state.replacements id))
+    IfOk-weaker c.extend_from_slice.result _ _ (λ _ ended. line_in_parts c.args.out.now.items (id_text id) (held_text (get state.additions id)) (amends_text (get state.replacements id))
     (word_where (contains_key state.tombstones id) (codes " withdrawn")) (word_where (is_amended state id) (codes " replaced"))
     c.print.new.out.items c.append_held.new.out.items c.append_amended.new.out.items c.append_word.new.out.items c.append_word-2.new.out.items c.extend_from_slice.new.self.items
     c.in_ok-print.ensures.printed
@@ -27,4 +29,4 @@ returns g c =
     (c.in_ok-append_amended.ensures ∙ ap (λ one. c.append_held.new.out.items ++ amends_text one) old)
     (c.in_ok-append_word.ensures ∙ ap (λ so. c.append_amended.new.out.items ++ word_where so (codes " withdrawn")) gone)
     (c.in_ok-append_word-2.ensures ∙ ap (λ so. c.append_word.new.out.items ++ word_where so (codes " replaced")) replaced)
-    c.in_ok-extend_from_slice.ensures.items
+    ended) (appended_ok c.extend_from_slice.result c.extend_from_slice.new.self.items c.append_word-2.new.out.items (10 ∷ []) c.extend_from_slice.ensures.items)

@@ -1,0 +1,34 @@
+use Rattle.std.proofs.Common.{◌≡◌, ◌≤◌, ◌++◌, length, sym, ap, subst, ◌∙◌, arith}
+use Rattle.std.proofs.lemmas.Result.{IfOk-equal}
+use Rattle.stn_lift.specs.BaseBounds.{duration_of}
+use Rattle.stn_lift.specs.PlanSource.{bare, files, plan_source, activities_of}
+use Rattle.stn_questions.specs.Durations.{least_of}
+use Rattle.stn_questions.specs.Steps.{planned_steps, step_lines, steps_text}
+use Rattle.stn_questions.proofs.Listing.{step_lines-same}
+use Rattle.stn_questions.proofs.steps.append_steps.Goals as goal
+
+pub append_planned-requires : goal.append_planned-requires
+append_planned-requires g c =
+    let is : c.args.base.now ≡ files c.in-Files.field-0.items c.in-Files.plan.items = sym c.source.ensures.source ∙ ap plan_source c.in-Files.is in
+    record {
+      one_each = subst (λ text. length (planned_steps text) ≤ length c.durations_of.result.now) (sym c.deref.ensures.value)
+          (c.durations_of.ensures c.in-Files.field-0.items c.in-Files.plan.items is).one_each;
+    }
+
+pub returns-in-Bare : goal.returns-in-Bare
+returns-in-Bare g c =
+    let is : c.args.base.now ≡ bare c.in-Bare.steps = sym c.source.ensures.source ∙ ap plan_source c.in-Bare.is in
+    IfOk-equal c.append_numbers.result _ _ _ c.append_numbers.ensures (ap (λ source. c.args.out.now.items ++ steps_text source) (sym is))
+
+pub returns-in-Files : goal.returns-in-Files
+returns-in-Files g c =
+    let domain = c.in-Files.field-0.items in
+    let plan = c.in-Files.plan.items in
+    let least = least_of c.durations_of.result.now in
+    let is : c.args.base.now ≡ files domain plan = sym c.source.ensures.source ∙ ap plan_source c.in-Files.is in
+    let durations = c.durations_of.ensures domain plan is in
+    let lines : step_lines least 0 (planned_steps c.deref.result.now) ≡ steps_text c.args.base.now =
+    ap (λ text. step_lines least 0 (planned_steps text)) c.deref.ensures.value
+    ∙ step_lines-same least (duration_of (activities_of domain plan)) 0 (planned_steps plan) (λ place within. durations.lasting place (omega arith))
+    ∙ ap steps_text (sym is) in
+    IfOk-equal c.append_planned.result _ _ _ c.append_planned.ensures (ap (λ text. c.args.out.now.items ++ text) lines)
