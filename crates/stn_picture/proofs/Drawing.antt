@@ -47,15 +47,15 @@ latest_more spans place time span within is was =
     ap (λ seen. later seen (unsigned_abs span.latest)) was ∙ sym (latest_push 0 (take place spans) span)
     ∙ sym (ap (last_latest 0) (take_more spans place span within ∙ ap (λ y. take place spans ++ y ∷ []) (sym is)))
 
--- the text of one span more
-pub spans_grown : (f : Span → List ℕ) (spans : List Span) (place : ℕ) (span : Span) (front old new : List ℕ) → place < length spans → span ≡ get_or spans place span
-    → old ≡ front ++ flat_map f (take place spans) → new ≡ old ++ f span → new ≡ front ++ flat_map f (take (place + 1) spans)
-spans_grown f spans place span front old new within is was grown =
-    grown ∙ ap (λ text. text ++ f span) was ∙ append_assoc front (flat_map f (take place spans)) (f span)
+-- the text of one item more
+pub text_grown : {X : Type 0} (f : X → List ℕ) (items : List X) (place : ℕ) (item : X) (front old new : List ℕ) → place < length items → item ≡ get_or items place item
+    → old ≡ front ++ flat_map f (take place items) → new ≡ old ++ f item → new ≡ front ++ flat_map f (take (place + 1) items)
+text_grown f items place item front old new within is was grown =
+    grown ∙ ap (λ text. text ++ f item) was ∙ append_assoc front (flat_map f (take place items)) (f item)
     ∙ ap (λ text. front ++ text) (sym (
-    ap (flat_map f) (take_more spans place span within ∙ ap (λ y. take place spans ++ y ∷ []) (sym is))
-    ∙ flat_map-append f (take place spans) (span ∷ [])
-    ∙ ap (λ last. flat_map f (take place spans) ++ last) (append-nil (f span))))
+    ap (flat_map f) (take_more items place item within ∙ ap (λ y. take place items ++ y ∷ []) (sym is))
+    ∙ flat_map-append f (take place items) (item ∷ [])
+    ∙ ap (λ last. flat_map f (take place items) ++ last) (append-nil (f item))))
 
 -- the picture of bounds with a schedule
 pub windows_picture : (source : PlanSource) (state : Content) (table : Table) (spans seen : List Span) (text : List ℕ)

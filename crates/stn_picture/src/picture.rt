@@ -34,8 +34,7 @@ pub fn print_picture<A: Allocator + Copy, B: Allocator>(
     ensures kept { OnErr result (out.new.items ≡ out.old.items) }
 {
     let text = text_of(replica)?;
-    out.extend_from_slice(&text)?;
-    Ok(())
+    out.extend_from_slice(&text)
 }
 
 fn text_of<A: Allocator + Copy>(replica: &Replica<A>) -> Result<Vec<u8, A>, Memory>
@@ -57,8 +56,7 @@ fn drawn_of<A: Allocator + Copy>(
     ensures { IfOk result (λ text. IsWindowsPicture replica.now.source replica.now.state text.items) }
 {
     let spans = spans_of(replica, matrix)?;
-    let text = windows_of(replica, &spans)?;
-    Ok(text)
+    windows_of(replica, &spans)
 }
 
 // The picture of the conflict.
@@ -103,8 +101,7 @@ fn append_windows<B: Allocator>(
     append_marks(out, height, gap)?;
     append_bars(out, height, gap, spans)?;
     append_ends(out, gap, spans)?;
-    out.extend_from_slice(b"</svg>\n")?;
-    Ok(())
+    out.extend_from_slice(b"</svg>\n")
 }
 
 // What is drawn of each of the matrix's events.

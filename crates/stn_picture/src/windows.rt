@@ -17,8 +17,7 @@ pub fn append_head<B: Allocator>(out: &mut Vec<u8, B>, height: u64) -> Result<()
     append_number(out, height)?;
     out.extend_from_slice(
         b"' font-family='sans-serif' font-size='12'>\n<rect width='100%' height='100%' fill='#fff'/>\n",
-    )?;
-    Ok(())
+    )
 }
 
 /// Appends the lines of the steps, one at the height of each step's two bars.
@@ -27,8 +26,7 @@ pub fn append_labels<B: Allocator>(out: &mut Vec<u8, B>, steps: &[u8]) -> Result
 {
     out.extend_from_slice(b"<text y='50'><tspan x='800'>")?;
     append_escaped(out, b"</tspan><tspan x='800' dy='40'>", steps)?;
-    out.extend_from_slice(b"</tspan></text>\n")?;
-    Ok(())
+    out.extend_from_slice(b"</tspan></text>\n")
 }
 
 /// Appends the six marks of the line of time.
@@ -60,8 +58,7 @@ fn append_mark<B: Allocator>(
     append_number(out, 20 + 100 * number)?;
     out.extend_from_slice(b"' y='20' text-anchor='middle'>")?;
     append_number(out, gap * number)?;
-    out.extend_from_slice(b"</text>\n")?;
-    Ok(())
+    out.extend_from_slice(b"</text>\n")
 }
 
 /// Appends the bars of the windows, on a line of time of five gaps.
@@ -82,8 +79,7 @@ pub fn append_bars<B: Allocator>(
     append_number(out, height)?;
     out.extend_from_slice(b"' preserveAspectRatio='none'>\n")?;
     append_each_bar(out, gap, spans)?;
-    out.extend_from_slice(b"</svg>\n")?;
-    Ok(())
+    out.extend_from_slice(b"</svg>\n")
 }
 
 fn append_each_bar<B: Allocator>(
@@ -116,8 +112,7 @@ fn append_bar<B: Allocator>(out: &mut Vec<u8, B>, gap: u64, span: Span) -> Resul
     append_number(out, 3 * gap)?;
     out.extend_from_slice(b"e-2v10H")?;
     span.earliest.print(out)?;
-    out.extend_from_slice(b"z'/>\n")?;
-    Ok(())
+    out.extend_from_slice(b"z'/>\n")
 }
 
 fn append_bar_end<B: Allocator>(out: &mut Vec<u8, B>, gap: u64, latest: Ms) -> Result<(), Memory>
@@ -165,8 +160,7 @@ fn append_end<B: Allocator>(out: &mut Vec<u8, B>, gap: u64, span: Span) -> Resul
     out.extend_from_slice(b"'>")?;
     append_window_line(out, span.event, span.earliest, span.latest, span.done)?;
     out.extend_from_slice(cut_text(gap, span))?;
-    out.extend_from_slice(b"</text>\n")?;
-    Ok(())
+    out.extend_from_slice(b"</text>\n")
 }
 
 fn cut_text(gap: u64, span: Span) -> &'static [u8]
@@ -186,8 +180,7 @@ pub fn append_cycle<B: Allocator>(out: &mut Vec<u8, B>, conflict: &[u8]) -> Resu
     append_head(out, conflict.len() as u64 + 100)?;
     out.extend_from_slice(b"<text y='30'><tspan x='10'>")?;
     append_escaped(out, b"</tspan><tspan x='20' dy='20'>&#8595; ", conflict)?;
-    out.extend_from_slice(b"the first again</tspan></text>\n</svg>\n")?;
-    Ok(())
+    out.extend_from_slice(b"the first again</tspan></text>\n</svg>\n")
 }
 
 fn append_number<B: Allocator>(out: &mut Vec<u8, B>, number: u64) -> Result<(), Memory>

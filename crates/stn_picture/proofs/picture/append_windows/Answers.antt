@@ -1,7 +1,8 @@
 use Rattle.std.proofs.Common.{◌++◌, ◌∙◌, ap, codes}
+use Rattle.std.proofs.lemmas.Result.{IfOk-equal}
 use Rattle.std.specs.List.{flat_map, range_with_len}
 use Rattle.stn_picture.specs.Picture.{head_text, labels_text, mark_text, bars_text, ends_text, windows_text}
-use Rattle.stn_picture.proofs.Grown.{then}
+use Rattle.stn_picture.proofs.Grown.{then, last}
 use Rattle.stn_picture.proofs.picture.append_windows.Goals as goal
 
 pub returns : goal.returns
@@ -11,5 +12,5 @@ returns g c =
     let third = then c.args.out.now.items ((head_text c.args.height) ++ (labels_text c.args.steps.now)) (flat_map (mark_text c.args.height c.gap_of-gap.result) (range_with_len 0 6)) second c.in_ok-append_marks.ensures in
     let fourth = then c.args.out.now.items ((head_text c.args.height) ++ (labels_text c.args.steps.now) ++ (flat_map (mark_text c.args.height c.gap_of-gap.result) (range_with_len 0 6))) (bars_text c.args.height c.gap_of-gap.result c.args.spans.now) third c.in_ok-append_bars.ensures in
     let fifth = then c.args.out.now.items ((head_text c.args.height) ++ (labels_text c.args.steps.now) ++ (flat_map (mark_text c.args.height c.gap_of-gap.result) (range_with_len 0 6)) ++ (bars_text c.args.height c.gap_of-gap.result c.args.spans.now)) (flat_map (ends_text c.gap_of-gap.result) c.args.spans.now) fourth c.in_ok-append_ends.ensures in
-    then c.args.out.now.items ((head_text c.args.height) ++ (labels_text c.args.steps.now) ++ (flat_map (mark_text c.args.height c.gap_of-gap.result) (range_with_len 0 6)) ++ (bars_text c.args.height c.gap_of-gap.result c.args.spans.now) ++ (flat_map (ends_text c.gap_of-gap.result) c.args.spans.now)) (codes "</svg>\n") fifth c.in_ok-extend_from_slice.ensures.items
-    ∙ ap (λ gap. c.args.out.now.items ++ windows_text c.args.height gap c.args.steps.now c.args.spans.now) c.gap_of-gap.ensures.value
+    IfOk-equal c.extend_from_slice.result _ _ _ (last c.extend_from_slice.result c.args.out.now.items ((head_text c.args.height) ++ (labels_text c.args.steps.now) ++ (flat_map (mark_text c.args.height c.gap_of-gap.result) (range_with_len 0 6)) ++ (bars_text c.args.height c.gap_of-gap.result c.args.spans.now) ++ (flat_map (ends_text c.gap_of-gap.result) c.args.spans.now)) (codes "</svg>\n") fifth c.extend_from_slice.ensures.items)
+    (ap (λ gap. c.args.out.now.items ++ windows_text c.args.height gap c.args.steps.now c.args.spans.now) c.gap_of-gap.ensures.value)

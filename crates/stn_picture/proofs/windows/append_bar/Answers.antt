@@ -1,7 +1,7 @@
 use Rattle.std.proofs.Common.{◌+◌, ◌*◌, ◌++◌, ◌∙◌, ap, codes, decimal}
 use Rattle.stn_time.specs.Text.{printed}
 use Rattle.stn_picture.specs.Picture.{bar_end, colour}
-use Rattle.stn_picture.proofs.Grown.{then}
+use Rattle.stn_picture.proofs.Grown.{then, last}
 use Rattle.stn_picture.proofs.windows.append_bar.Goals as goal
 
 pub returns : goal.returns
@@ -19,4 +19,4 @@ returns g c =
     let tenth = then c.args.out.now.items (codes "<path " ++ (colour span.done) ++ codes " d='M" ++ (printed span.earliest) ++ codes " " ++ (decimal (20 * span.event + 11)) ++ codes "H" ++ (bar_end c.args.gap span.latest) ++ codes "h") (decimal (3 * c.args.gap)) ninth c.in_ok-append_number-2.ensures in
     let eleventh = then c.args.out.now.items (codes "<path " ++ (colour span.done) ++ codes " d='M" ++ (printed span.earliest) ++ codes " " ++ (decimal (20 * span.event + 11)) ++ codes "H" ++ (bar_end c.args.gap span.latest) ++ codes "h" ++ (decimal (3 * c.args.gap))) (codes "e-2v10H") tenth c.in_ok-extend_from_slice-7.ensures.items in
     let twelfth = then c.args.out.now.items (codes "<path " ++ (colour span.done) ++ codes " d='M" ++ (printed span.earliest) ++ codes " " ++ (decimal (20 * span.event + 11)) ++ codes "H" ++ (bar_end c.args.gap span.latest) ++ codes "h" ++ (decimal (3 * c.args.gap)) ++ codes "e-2v10H") (printed span.earliest) eleventh c.in_ok-print-2.ensures.ok in
-    then c.args.out.now.items (codes "<path " ++ (colour span.done) ++ codes " d='M" ++ (printed span.earliest) ++ codes " " ++ (decimal (20 * span.event + 11)) ++ codes "H" ++ (bar_end c.args.gap span.latest) ++ codes "h" ++ (decimal (3 * c.args.gap)) ++ codes "e-2v10H" ++ (printed span.earliest)) (codes "z'/>\n") twelfth c.in_ok-extend_from_slice-8.ensures.items
+    last c.extend_from_slice-8.result c.args.out.now.items (codes "<path " ++ (colour span.done) ++ codes " d='M" ++ (printed span.earliest) ++ codes " " ++ (decimal (20 * span.event + 11)) ++ codes "H" ++ (bar_end c.args.gap span.latest) ++ codes "h" ++ (decimal (3 * c.args.gap)) ++ codes "e-2v10H" ++ (printed span.earliest)) (codes "z'/>\n") twelfth c.extend_from_slice-8.ensures.items

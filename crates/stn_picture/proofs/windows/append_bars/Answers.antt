@@ -1,7 +1,7 @@
 use Rattle.std.proofs.Common.{◌*◌, ◌++◌, codes, decimal}
 use Rattle.std.specs.List.{flat_map}
 use Rattle.stn_picture.specs.Picture.{bar_text}
-use Rattle.stn_picture.proofs.Grown.{then}
+use Rattle.stn_picture.proofs.Grown.{then, last}
 use Rattle.stn_picture.proofs.windows.append_bars.Goals as goal
 
 pub returns : goal.returns
@@ -14,4 +14,4 @@ returns g c =
     let sixth = then c.args.out.now.items (codes "<svg x='20' width='500' height='" ++ (decimal c.args.height) ++ codes "' viewBox='0 0 " ++ (decimal (5 * c.args.gap)) ++ codes " ") (decimal c.args.height) fifth c.in_ok-append_number-3.ensures in
     let seventh = then c.args.out.now.items (codes "<svg x='20' width='500' height='" ++ (decimal c.args.height) ++ codes "' viewBox='0 0 " ++ (decimal (5 * c.args.gap)) ++ codes " " ++ (decimal c.args.height)) (codes "' preserveAspectRatio='none'>\n") sixth c.in_ok-extend_from_slice-4.ensures.items in
     let eighth = then c.args.out.now.items (codes "<svg x='20' width='500' height='" ++ (decimal c.args.height) ++ codes "' viewBox='0 0 " ++ (decimal (5 * c.args.gap)) ++ codes " " ++ (decimal c.args.height) ++ codes "' preserveAspectRatio='none'>\n") (flat_map (bar_text c.args.gap) c.args.spans.now) seventh c.in_ok-append_each_bar.ensures in
-    then c.args.out.now.items (codes "<svg x='20' width='500' height='" ++ (decimal c.args.height) ++ codes "' viewBox='0 0 " ++ (decimal (5 * c.args.gap)) ++ codes " " ++ (decimal c.args.height) ++ codes "' preserveAspectRatio='none'>\n" ++ (flat_map (bar_text c.args.gap) c.args.spans.now)) (codes "</svg>\n") eighth c.in_ok-extend_from_slice-5.ensures.items
+    last c.extend_from_slice-5.result c.args.out.now.items (codes "<svg x='20' width='500' height='" ++ (decimal c.args.height) ++ codes "' viewBox='0 0 " ++ (decimal (5 * c.args.gap)) ++ codes " " ++ (decimal c.args.height) ++ codes "' preserveAspectRatio='none'>\n" ++ (flat_map (bar_text c.args.gap) c.args.spans.now)) (codes "</svg>\n") eighth c.extend_from_slice-5.ensures.items

@@ -1,7 +1,7 @@
 use Rattle.std.proofs.Common.{◌+◌, ◌*◌, ◌++◌, ◌∙◌, ap, codes, decimal}
 use Rattle.stn_replica.specs.Lines.{window_line}
 use Rattle.stn_picture.specs.Picture.{cut_text}
-use Rattle.stn_picture.proofs.Grown.{then}
+use Rattle.stn_picture.proofs.Grown.{then, last}
 use Rattle.stn_picture.proofs.windows.append_end.Goals as goal
 
 pub returns : goal.returns
@@ -12,4 +12,4 @@ returns g c =
     let third = then c.args.out.now.items (codes "<text x='535' y='" ++ (decimal (20 * span.event + 20))) (codes "'>") second c.in_ok-extend_from_slice-2.ensures.items in
     let fourth = then c.args.out.now.items (codes "<text x='535' y='" ++ (decimal (20 * span.event + 20)) ++ codes "'>") (window_line span.event span.earliest span.latest span.done) third c.in_ok-append_window_line.ensures.line in
     let fifth = then c.args.out.now.items (codes "<text x='535' y='" ++ (decimal (20 * span.event + 20)) ++ codes "'>" ++ (window_line span.event span.earliest span.latest span.done)) (cut_text c.args.gap span) fourth (c.in_ok-extend_from_slice-3.ensures.items ∙ ap (λ x. c.append_window_line.new.out.items ++ x) (c.cut_text.ensures)) in
-    then c.args.out.now.items (codes "<text x='535' y='" ++ (decimal (20 * span.event + 20)) ++ codes "'>" ++ (window_line span.event span.earliest span.latest span.done) ++ (cut_text c.args.gap span)) (codes "</text>\n") fifth c.in_ok-extend_from_slice-4.ensures.items
+    last c.extend_from_slice-4.result c.args.out.now.items (codes "<text x='535' y='" ++ (decimal (20 * span.event + 20)) ++ codes "'>" ++ (window_line span.event span.earliest span.latest span.done) ++ (cut_text c.args.gap span)) (codes "</text>\n") fifth c.extend_from_slice-4.ensures.items

@@ -1,5 +1,5 @@
 use Rattle.std.proofs.Common.{◌+◌, ◌*◌, ◌++◌, codes, decimal}
-use Rattle.stn_picture.proofs.Grown.{then}
+use Rattle.stn_picture.proofs.Grown.{then, last}
 use Rattle.stn_picture.proofs.windows.append_mark.Goals as goal
 
 pub returns : goal.returns
@@ -12,4 +12,4 @@ returns g c =
     let sixth = then c.args.out.now.items (codes "<path stroke='#ccc' d='M" ++ (decimal (20 + 100 * c.args.number)) ++ codes " 25V" ++ (decimal c.args.height) ++ codes "'/><text x='") (decimal (20 + 100 * c.args.number)) fifth c.in_ok-append_number-3.ensures in
     let seventh = then c.args.out.now.items (codes "<path stroke='#ccc' d='M" ++ (decimal (20 + 100 * c.args.number)) ++ codes " 25V" ++ (decimal c.args.height) ++ codes "'/><text x='" ++ (decimal (20 + 100 * c.args.number))) (codes "' y='20' text-anchor='middle'>") sixth c.in_ok-extend_from_slice-4.ensures.items in
     let eighth = then c.args.out.now.items (codes "<path stroke='#ccc' d='M" ++ (decimal (20 + 100 * c.args.number)) ++ codes " 25V" ++ (decimal c.args.height) ++ codes "'/><text x='" ++ (decimal (20 + 100 * c.args.number)) ++ codes "' y='20' text-anchor='middle'>") (decimal (c.args.gap * c.args.number)) seventh c.in_ok-append_number-4.ensures in
-    then c.args.out.now.items (codes "<path stroke='#ccc' d='M" ++ (decimal (20 + 100 * c.args.number)) ++ codes " 25V" ++ (decimal c.args.height) ++ codes "'/><text x='" ++ (decimal (20 + 100 * c.args.number)) ++ codes "' y='20' text-anchor='middle'>" ++ (decimal (c.args.gap * c.args.number))) (codes "</text>\n") eighth c.in_ok-extend_from_slice-5.ensures.items
+    last c.extend_from_slice-5.result c.args.out.now.items (codes "<path stroke='#ccc' d='M" ++ (decimal (20 + 100 * c.args.number)) ++ codes " 25V" ++ (decimal c.args.height) ++ codes "'/><text x='" ++ (decimal (20 + 100 * c.args.number)) ++ codes "' y='20' text-anchor='middle'>" ++ (decimal (c.args.gap * c.args.number))) (codes "</text>\n") eighth c.extend_from_slice-5.ensures.items
