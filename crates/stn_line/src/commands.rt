@@ -1,4 +1,4 @@
-ghost use Rattle.std.specs.Prelude.{◌≡◌, false, codes, IfOk, [], ◌∷◌};
+ghost use Rattle.std.specs.Prelude.{◌≡◌, false, codes, Ok, IfOk, [], ◌∷◌};
 ghost use Rattle.clap.specs.Words.{Shape, app_of, rule_of};
 ghost use Rattle.stn_line.specs.Commands as spec;
 
@@ -21,11 +21,11 @@ const MOST_SECONDS: u64 = 3_600;
 pub(crate) fn stn<'a>(alloc: Global) -> Result<Command<'a>, AllocError>
     ensures app { IfOk result (λ command. app_of command ≡ spec.stn) }
 {
-    let program = plans(alloc);
-    let program = with_changes(alloc, program);
-    let program = with_windows(alloc, program);
-    let program = with_lists(alloc, program);
-    let program = with_schedules(alloc, program);
+    let mut program = plans(alloc);
+    program = with_changes(alloc, program);
+    program = with_windows(alloc, program);
+    program = with_lists(alloc, program);
+    program = with_schedules(alloc, program);
     with_exchange(alloc, program)
 }
 
@@ -38,16 +38,16 @@ fn plans<'a>(alloc: Global) -> Result<Command<'a>, AllocError>
         ∷ spec.on_log (codes "loosen") spec.loosen_words
         ∷ [])) }
 {
-    let program = top(alloc).subcommand(run(alloc));
-    let program = with_command(program, bare(alloc));
-    let program = with_command(program, init(alloc));
+    let mut program = top(alloc).subcommand(run(alloc));
+    program = with_command(program, bare(alloc));
+    program = with_command(program, init(alloc));
     with_command(program, loosen(alloc))
 }
 
 // The program with the commands that change what a log holds.
 fn with_changes<'a>(
     alloc: Global,
-    program: Result<Command<'a>, AllocError>,
+    mut program: Result<Command<'a>, AllocError>,
 ) -> Result<Command<'a>, AllocError>
     ensures more { spec.Adds (
         spec.on_log (codes "add") spec.add_words
@@ -57,17 +57,17 @@ fn with_changes<'a>(
         ∷ spec.on_log (codes "merge") spec.merge_words
         ∷ []) program.entry result }
 {
-    let program = with_command(program, add(alloc));
-    let program = with_command(program, amend(alloc));
-    let program = with_command(program, withdraw(alloc));
-    let program = with_command(program, done(alloc));
+    program = with_command(program, add(alloc));
+    program = with_command(program, amend(alloc));
+    program = with_command(program, withdraw(alloc));
+    program = with_command(program, done(alloc));
     with_command(program, merge(alloc))
 }
 
 // The program with the commands that ask when events may take place, and why.
 fn with_windows<'a>(
     alloc: Global,
-    program: Result<Command<'a>, AllocError>,
+    mut program: Result<Command<'a>, AllocError>,
 ) -> Result<Command<'a>, AllocError>
     ensures more { spec.Adds (
         spec.on_log (codes "report") []
@@ -76,16 +76,16 @@ fn with_windows<'a>(
         ∷ spec.on_log (codes "why") spec.why_words
         ∷ []) program.entry result }
 {
-    let program = with_command(program, report(alloc));
-    let program = with_command(program, next(alloc));
-    let program = with_command(program, ready(alloc));
+    program = with_command(program, report(alloc));
+    program = with_command(program, next(alloc));
+    program = with_command(program, ready(alloc));
     with_command(program, why(alloc))
 }
 
 // The program with the commands that list what a log holds.
 fn with_lists<'a>(
     alloc: Global,
-    program: Result<Command<'a>, AllocError>,
+    mut program: Result<Command<'a>, AllocError>,
 ) -> Result<Command<'a>, AllocError>
     ensures more { spec.Adds (
         spec.on_log (codes "records") []
@@ -93,15 +93,15 @@ fn with_lists<'a>(
         ∷ spec.on_log (codes "bounds") []
         ∷ []) program.entry result }
 {
-    let program = with_command(program, records(alloc));
-    let program = with_command(program, steps(alloc));
+    program = with_command(program, records(alloc));
+    program = with_command(program, steps(alloc));
     with_command(program, bounds(alloc))
 }
 
 // The program with the commands that take the plan as a whole.
 fn with_schedules<'a>(
     alloc: Global,
-    program: Result<Command<'a>, AllocError>,
+    mut program: Result<Command<'a>, AllocError>,
 ) -> Result<Command<'a>, AllocError>
     ensures more { spec.Adds (
         spec.on_log (codes "check") spec.check_words
@@ -109,22 +109,22 @@ fn with_schedules<'a>(
         ∷ spec.on_log (codes "draw") []
         ∷ []) program.entry result }
 {
-    let program = with_command(program, check(alloc));
-    let program = with_command(program, rehearse(alloc));
+    program = with_command(program, check(alloc));
+    program = with_command(program, rehearse(alloc));
     with_command(program, draw(alloc))
 }
 
 // The program with the commands that exchange records with other sites.
 fn with_exchange<'a>(
     alloc: Global,
-    program: Result<Command<'a>, AllocError>,
+    mut program: Result<Command<'a>, AllocError>,
 ) -> Result<Command<'a>, AllocError>
     ensures more { spec.Adds (
         spec.on_log (codes "serve") spec.serve_words
         ∷ spec.on_log (codes "send") spec.send_words
         ∷ []) program.entry result }
 {
-    let program = with_command(program, serve(alloc));
+    program = with_command(program, serve(alloc));
     with_command(program, send(alloc))
 }
 
@@ -135,7 +135,8 @@ fn with_command<'a>(
 ) -> Result<Command<'a>, AllocError>
     ensures more { (shape : Shape) → IfOk command.entry (spec.Reads shape) → spec.Adds (shape ∷ []) program.entry result }
 {
-    program?.subcommand(command?)
+    let (program, command) = both(program, command)?;
+    program.subcommand(command)
 }
 
 // The program before its commands are added.
@@ -596,7 +597,22 @@ fn with_argument<'a>(
 ) -> Result<Command<'a>, AllocError>
     ensures more { argument.entry.global ≡ false → spec.Grows (rule_of argument.entry) command.entry result }
 {
-    command?.arg(argument)
+    let (command, argument) = both(command, Ok(argument))?;
+    command.arg(argument)
+}
+
+// Both values, where memory sufficed for both.
+fn both<T: Drop, U: Drop>(
+    one: Result<T, AllocError>,
+    other: Result<U, AllocError>,
+) -> Result<(T, U), AllocError>
+    ensures one { IfOk result (λ values. one ≡ Ok values.0) }
+    ensures other { IfOk result (λ values. other ≡ Ok values.1) }
+{
+    match (one, other) {
+        (Ok(one), Ok(other)) => Ok((one, other)),
+        _ => Err(AllocError),
+    }
 }
 
 // A required word.
