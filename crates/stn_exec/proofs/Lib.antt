@@ -4,6 +4,7 @@ pub mod Ids
 pub mod Foresight
 pub mod Blocks
 pub mod Outputs
+pub mod Runs
 pub mod Scripts
 pub mod Reports
 pub mod Fitting

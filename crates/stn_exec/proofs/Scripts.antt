@@ -7,6 +7,9 @@ use Rattle.stn_device.specs.Bytes.{AppendsPart}
 use Rattle.stn_text.specs.Lines.{lines_of, words_of}
 use Rattle.stn_exec.specs.declared.answer.Refusal.{Refusal}
 use Rattle.stn_exec.specs.declared.answer.Refusal.TheVariants as refusal
+use Rattle.stn_exec.specs.declared.heading.HeadingFault.{HeadingFault}
+use Rattle.stn_exec.specs.declared.heading.HeadingFault.TheVariants as heading_fault
+use Rattle.stn_exec.specs.Heading.{IsHeadingFault}
 use Rattle.stn_exec.specs.Effect.{Reply, said, rehearsed, Effect, and_then}
 use Rattle.stn_exec.specs.Dispatch.{IsRehearseText, IsRefusedRehearsal}
 use Rattle.stn_records.specs.Content.{Content}
@@ -57,6 +60,10 @@ sites_of-none sites none = ⊎_elim (λ few. some few) (λ many. past many) (cas
         omega_many least = ⊎_elim (λ lt. lt) (λ le. absurd (none least le)) (cases_lt 64 sites)
 
 -- the faults of the heading in their order, and the heading
+pub heading-base : (last : ℕ) (lines : List (List ℕ)) (fault : HeadingFault) → IsHeadingFault (based last lines) fault → IsHeadingFault (heading_of last lines) fault
+heading-base last lines (heading_fault.Refused cause) e = ap (λ r. and_then r (with_sites last)) e
+heading-base last lines heading_fault.Memory e = tt
+
 pub heading-fault : (last : ℕ) (lines : List (List ℕ)) (base : Based) (cause : Refusal) → based last lines ≡ Ok base
     → part_of last (codes "sites") (next_line base.number base.lines) ≡ Err cause → heading_of last lines ≡ Err cause
 unfolding with_sites

@@ -27,8 +27,7 @@ pub fn append_next<A: Allocator + Copy, B: Allocator>(
 {
     let mut text = Vec::new(replica.alloc());
     append_next_line(replica, now, &mut text)?;
-    out.extend_from_slice(&text)?;
-    Ok(())
+    out.extend_from_slice(&text)
 }
 
 fn append_next_line<A: Allocator + Copy, B: Allocator>(

@@ -4,30 +4,64 @@ use Rattle.stn_lift.specs.PlanSource.{PlanSource}
 use Rattle.stn_text.specs.Lines.{lines_of}
 use Rattle.stn_world.specs.World.{opening_world}
 use Rattle.stn_exec.specs.Heading.{seen_part, seen_base}
-use Rattle.stn_exec.proofs.Scripts.{heading-fault, heading-none, heading-made, sites_of-some, sites_of-none}
+use Rattle.stn_exec.proofs.Scripts.{heading-base, heading-fault, heading-none, heading-made, sites_of-some, sites_of-none}
 use Rattle.stn_exec.proofs.heading.open.Goals as goal
 
-pub returns-in_err-sites-clause-refused : goal.returns-in_err-sites-clause-refused
-returns-in_err-sites-clause-refused g c =
-    let p = err_from_is_err_and c.from_residual-in_err-sites.result c.from_residual-in_err-sites.ensures.1 in
-    rw (p.1, p.2) (heading-fault c.args.last (lines_of c.args.script.now) (seen_base c.in_ok-base.base c.in_ok-base.behind) c.in_err-sites.field-0.0 c.in_ok-base.ensures.base (sym c.in_err-sites.ensures.part))
+pub returns-in_err-base : goal.returns-in_err-base
+returns-in_err-base g c =
+    let returned = err_from_is_err_and c.from_residual.result c.from_residual.ensures.1 in
+    record {
+      opened = rw returned.1 tt;
+      within = rw returned.1 tt;
+      refused = rw (returned.1, returned.2) (heading-base c.args.last (lines_of c.args.script.now) c.in_err-base.field-0.0 c.in_err-base.ensures.refused);
+    }
 
-pub returns-in-Ok-clause-opened : goal.returns-in-Ok-clause-opened
-returns-in-Ok-clause-opened g c =
+pub returns-in_err-sites : goal.returns-in_err-sites
+returns-in_err-sites g c =
+    let returned = err_from_is_err_and c.from_residual-in_err-sites.result c.from_residual-in_err-sites.ensures.1 in
+    record {
+      opened = rw returned.1 tt;
+      within = rw returned.1 tt;
+      refused = rw (returned.1, returned.2) (heading-fault c.args.last (lines_of c.args.script.now) (seen_base c.in_ok-base.base c.in_ok-base.behind) c.in_err-sites.field-0.0
+          c.in_ok-base.ensures.base (sym c.in_err-sites.ensures.part));
+    }
+
+pub returns-in_err-new : goal.returns-in_err-new
+returns-in_err-new g c =
+    let returned = err_from_is_err_and c.from_residual-in_err-new.result c.from_residual-in_err-new.ensures.1 in
+    record {
+      opened = rw returned.1 tt;
+      within = rw returned.1 tt;
+      refused = rw (returned.1, returned.2) tt;
+    }
+
+pub returns-in-Ok : goal.returns-in-Ok
+returns-in-Ok g c =
     let sites = c.in_ok-sites.sites in
     let least : 1 ≤ sites.value = omega (arith, c.in-Ok.ensures.accepted.least, c.saturated.ensures) in
     let most : sites.value ≤ 64 = omega (arith, c.in-Ok.ensures.accepted.most, c.saturated.ensures) in
     let same : c.saturated.result ≡ sites.value = omega (arith, most, c.saturated.ensures) in
     record {
-      start = record { source = c.in_ok-base.base; sites = sites.value; number = sites.found.number + 1; lines = lines_of sites.found.behind.now };
-      read = heading-made c.args.last (lines_of c.args.script.now) (seen_base c.in_ok-base.base c.in_ok-base.behind) (seen_part sites) c.in_ok-base.ensures.base (sym c.in_ok-sites.ensures.part) (sites_of-some sites.value least most);
-      opening = c.in-Ok.ensures.opening ∙ (ap (λ (s : PlanSource). opening_world s c.saturated.result) c.in_ok-new.ensures.ok ∙ ap (opening_world c.in_ok-base.base) same);
-      number = refl;
-      lines = refl;
+      opened = record {
+        start = record { source = c.in_ok-base.base; sites = sites.value; number = sites.found.number + 1; lines = lines_of sites.found.behind.now };
+        read = heading-made c.args.last (lines_of c.args.script.now) (seen_base c.in_ok-base.base c.in_ok-base.behind) (seen_part sites) c.in_ok-base.ensures.base (sym c.in_ok-sites.ensures.part) (sites_of-some sites.value least most);
+        opening = c.in-Ok.ensures.opening ∙ (ap (λ (s : PlanSource). opening_world s c.saturated.result) c.in_ok-new.ensures.ok ∙ ap (opening_world c.in_ok-base.base) same);
+        number = refl;
+        lines = refl;
+      };
+      within = omega (arith, c.in_ok-base.ensures.within, c.in_ok-sites.ensures.within);
+      refused = tt;
     }
 
-pub returns-in-Err-NoSite-clause-refused : goal.returns-in-Err-NoSite-clause-refused
-returns-in-Err-NoSite-clause-refused g c =
+pub returns-in-Err-NoSite : goal.returns-in-Err-NoSite
+returns-in-Err-NoSite g c =
     let sites = c.in_ok-sites.sites in
-    heading-none c.args.last (lines_of c.args.script.now) (seen_base c.in_ok-base.base c.in_ok-base.behind) (seen_part sites) c.in_ok-base.ensures.base (sym c.in_ok-sites.ensures.part)
-    (sites_of-none sites.value (λ least most. (rw c.in-Err-NoSite.field-0-is at c.in-Err-NoSite.ensures.fault) (record { least = omega (arith, least, c.saturated.ensures); most = omega (arith, most, c.saturated.ensures) })))
+    record {
+      opened = tt;
+      within = tt;
+      refused = heading-none c.args.last (lines_of c.args.script.now) (seen_base c.in_ok-base.base c.in_ok-base.behind) (seen_part sites) c.in_ok-base.ensures.base (sym c.in_ok-sites.ensures.part)
+          (sites_of-none sites.value (λ least most. (rw c.in-Err-NoSite.field-0-is at c.in-Err-NoSite.ensures.fault) (record { least = omega (arith, least, c.saturated.ensures); most = omega (arith, most, c.saturated.ensures) })));
+    }
+
+pub returns-in-Err-Memory : goal.returns-in-Err-Memory
+returns-in-Err-Memory g c = record { opened = tt; within = tt; refused = tt }
