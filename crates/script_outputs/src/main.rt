@@ -21,6 +21,8 @@ mod ring;
 use crate::faults::{Worked, answers_faults};
 use crate::fresh::compare;
 use crate::ring::merge_in_ring;
+use std::alloc::AllocError;
+use std::fs::File;
 use std::io::Write;
 use std::{env, fs, io};
 use stn_exec::{Counted, Ran, RunFault, run};
@@ -72,9 +74,14 @@ fn run_row(rt: &HostRuntime, script: &[u8]) -> io::Result<()> {
     print_run(rt, script, &output.into_inner(), answer)
 }
 
-// Runs the script of a file, and prints what it prints and counts.
+// Runs the script of a file, and prints what it prints and counts, after its name.
 fn run_one(rt: &HostRuntime, name: &str) -> io::Result<()> {
-    let mut input = Counted::new(fs::open(rt, name)?);
+    println!(rt; "= {name}")?;
+    run_file(rt, fs::open(rt, name)?)
+}
+
+fn run_file(rt: &HostRuntime, file: File) -> io::Result<()> {
+    let mut input = Counted::new(file);
     let mut output = Counted::new(io::writer(rt));
     let answer = run(rt.alloc(), &mut input, &mut output);
     print_answer(rt, answer)
@@ -97,6 +104,26 @@ fn is_heading(row: &str) -> bool {
     row.starts_with("= ") || row.starts_with("~ ") || row.starts_with("@ ")
 }
 
+// Begins with a heading, after doing what the last one says.
+fn take_heading(
+    rt: &HostRuntime,
+    heading: &mut String,
+    script: &mut String,
+    row: &str,
+) -> io::Result<()> {
+    if !heading.is_empty() {
+        do_heading(rt, heading, script)?;
+    }
+    heading.clear();
+    script.clear();
+    Ok(heading.push_str(row)?)
+}
+
+fn add_row(script: &mut String, row: &str) -> Result<(), AllocError> {
+    script.push_str(row)?;
+    script.push('\n')
+}
+
 // Adds a row to the script, or does what the last heading says and begins with the next one.
 fn take_row(
     rt: &HostRuntime,
@@ -105,37 +132,38 @@ fn take_row(
     row: &str,
 ) -> io::Result<()> {
     if is_heading(row) {
-        if !heading.is_empty() {
-            do_heading(rt, heading, script)?;
-        }
-        heading.clear();
-        heading.push_str(row)?;
-        script.clear();
+        take_heading(rt, heading, script, row)
     } else {
-        script.push_str(row)?;
-        script.push('\n')?;
+        Ok(add_row(script, row)?)
     }
-    Ok(())
+}
+
+// Takes each row of the input, and does what the last heading says.
+fn take_rows(rt: &HostRuntime, heading: &mut String, script: &mut String) -> io::Result<()> {
+    for row in rt.lines(rt.alloc()) {
+        take_row(rt, heading, script, &row?)?;
+    }
+    do_heading(rt, heading, script)
 }
 
 // Does what each heading of the input says.
 fn run_input(rt: &HostRuntime) -> io::Result<()> {
     let mut heading = String::new(rt.alloc());
     let mut script = String::new(rt.alloc());
-    for row in rt.lines(rt.alloc()) {
-        let row = row?;
-        take_row(rt, &mut heading, &mut script, row.as_str())?;
+    take_rows(rt, &mut heading, &mut script)
+}
+
+// Runs the script of each file that an argument names.
+fn run_files(rt: &HostRuntime) -> io::Result<()> {
+    let mut words = env::args(rt)?;
+    words.next();
+    for name in words {
+        run_one(rt, &name)?;
     }
-    do_heading(rt, &heading, &script)
+    Ok(())
 }
 
 fn main(rt: HostRuntime) -> io::Result<()> {
     run_input(&rt)?;
-    let mut words = env::args(&rt)?;
-    words.next();
-    for name in words {
-        println!(rt; "= {name}")?;
-        run_one(&rt, name.as_str())?;
-    }
-    Ok(())
+    run_files(&rt)
 }

@@ -46,13 +46,18 @@ fn first_report(alloc: Global, script: &str) -> Result<Vec<u8>, AllocError> {
     report
 }
 
+// The script, with a report of each site after it.
+fn with_reports(alloc: Global, script: &str) -> Result<String, AllocError> {
+    let mut longer = String::from_str(alloc, script)?;
+    append_reports(&mut longer)?;
+    Ok(longer)
+}
+
 // What all sites report after the script.
 fn all_reports(alloc: Global, script: &str) -> Result<Vec<u8>, AllocError> {
-    let mut longer = String::from_str(alloc, script)?;
-    let answer = append_reports(&mut longer);
+    let longer = with_reports(alloc, script)?;
     let reports = printed_behind(alloc, script, &longer);
     drop(longer);
-    answer?;
     reports
 }
 
@@ -96,10 +101,19 @@ fn print_alike(rt: &HostRuntime, reports: &[u8], text: &[u8]) -> io::Result<()> 
     println!(rt; "{} sites alike", alike(reports, text))
 }
 
+fn settle_and_print(
+    rt: &HostRuntime,
+    script: &mut String,
+    reports: &mut Vec<u8>,
+) -> io::Result<()> {
+    settle(script, reports)?;
+    let text = first_report(rt.alloc(), script)?;
+    print_alike(rt, reports, &text)
+}
+
 fn print_settled(rt: &HostRuntime, script: &mut String) -> io::Result<()> {
     let mut reports = all_reports(rt.alloc(), script)?;
-    settle(script, &mut reports)?;
-    print_alike(rt, &reports, &first_report(rt.alloc(), script)?)
+    settle_and_print(rt, script, &mut reports)
 }
 
 fn print_ring(rt: &HostRuntime, script: &mut String) -> io::Result<()> {
