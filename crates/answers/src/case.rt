@@ -22,14 +22,24 @@ pub enum Case {
     Broken,
 }
 
+impl Case {
+    // The word of what they are, beside which a refusal has its code.
+    fn word(self) -> &'static str {
+        match self {
+            Case::Read => "read",
+            Case::Old => "old",
+            Case::Refused(_) => "refused",
+            Case::Unfinished => "unfinished",
+            Case::Broken => "broken",
+        }
+    }
+}
+
 impl fmt::Display for Case {
     fn fmt<W: fmt::Write>(&self, f: &mut fmt::Formatter<W>) -> fmt::Result {
-        match self {
-            Case::Read => write!(f, "read"),
-            Case::Old => write!(f, "old"),
+        match *self {
             Case::Refused(code) => write!(f, "{code}"),
-            Case::Unfinished => write!(f, "unfinished"),
-            Case::Broken => write!(f, "broken"),
+            other => f.write_str(other.word()),
         }
     }
 }

@@ -77,12 +77,21 @@ fn part_of(alloc: Global, word: &str) -> io::Result<Part> {
     })
 }
 
+fn push_part(word: &str, parts: &mut Vec<Part>) -> io::Result<()> {
+    let part = part_of(*parts.allocator(), word)?;
+    Ok(parts.push(part)?)
+}
+
 fn append_parts(words: SplitWhitespace<'_>, parts: &mut Vec<Part>) -> io::Result<()> {
-    let alloc = *parts.allocator();
     for word in words {
-        parts.push(part_of(alloc, word)?)?;
+        push_part(word, parts)?;
     }
     Ok(())
+}
+
+fn print_log(rt: &HostRuntime, name: &str, handed: u64, log: &[u8]) -> io::Result<()> {
+    let digits = hex::encode(rt.alloc(), log)?;
+    println!(rt; "{name} {handed} {digits}")
 }
 
 fn print_saved(
@@ -92,10 +101,7 @@ fn print_saved(
     replica: &Replica<Global>,
 ) -> io::Result<()> {
     match saved(rt.alloc(), replica) {
-        Some(log) => {
-            let digits = hex::encode(rt.alloc(), log)?;
-            println!(rt; "{name} {handed} {digits}")
-        }
+        Some(log) => print_log(rt, name, handed, &log),
         None => println!(rt; "{name} {handed} not saved"),
     }
 }

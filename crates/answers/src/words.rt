@@ -37,6 +37,12 @@ pub fn bytes_of(alloc: Global, digits: &str) -> io::Result<Vec<u8>> {
     }
 }
 
+/// Adds the bytes that a word has in hex.
+pub fn push_bytes(digits: &str, all: &mut Vec<Vec<u8>>) -> io::Result<()> {
+    let bytes = bytes_of(*all.allocator(), digits)?;
+    Ok(all.push(bytes)?)
+}
+
 /// Prints bytes in hex.
 pub fn print_hex(rt: &HostRuntime, bytes: &[u8]) -> io::Result<()> {
     let digits = hex::encode(rt.alloc(), bytes)?;

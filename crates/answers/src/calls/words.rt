@@ -1,12 +1,11 @@
 // Frames in words.
-use crate::words::bytes_of;
+use crate::words::push_bytes;
 use std::alloc::{AllocError, Global};
 use std::io;
 
 fn append_frames(words: &str, frames: &mut Vec<Vec<u8>>) -> io::Result<()> {
-    let alloc = *frames.allocator();
     for word in words.split(' ') {
-        frames.push(bytes_of(alloc, word)?)?;
+        push_bytes(word, frames)?;
     }
     Ok(())
 }

@@ -50,17 +50,17 @@ fn append_cut(
     bytes: &[u8],
     cases: &mut Vec<Case>,
 ) -> Result<(), AllocError> {
-    for length in 0..bytes.len() {
+    for length in 0..=bytes.len() {
         cases.push(case_of(alloc, kind, &bytes[..length]))?;
     }
-    Ok(cases.push(case_of(alloc, kind, bytes))?)
+    Ok(())
 }
 
 /// Prints what becomes of the bytes cut to each length from 0 on.
 pub fn print_cut(rt: &HostRuntime, name: &str, kind: Kind, bytes: &[u8]) -> io::Result<()> {
+    print!(rt; "{name} cut to")?;
     let mut cases = Vec::new(rt.alloc());
     append_cut(rt.alloc(), kind, bytes, &mut cases)?;
-    print!(rt; "{name} cut to")?;
     print_cases(rt, &cases)
 }
 
@@ -101,9 +101,9 @@ fn print_place(
     bytes: &[u8],
     place: usize,
 ) -> io::Result<()> {
+    print!(rt; "{name} byte {place}")?;
     let mut cases = Vec::new(rt.alloc());
     cases_at(rt.alloc(), kind, bytes, place, &mut cases)?;
-    print!(rt; "{name} byte {place}")?;
     print_cases(rt, &cases)
 }
 

@@ -10,15 +10,14 @@ mod session;
 mod tally;
 
 use crate::random::tally::{Kind, print_cases};
-use crate::words::{bytes_of, cut_word};
+use crate::words::{cut_word, push_bytes};
 use std::alloc::AllocError;
 use std::io;
 
 /// Adds the frame of a line. The first is HELLO of a plan of one step.
 pub fn take_frame(line: &str, frames: &mut Vec<Vec<u8>>) -> io::Result<()> {
     let (_, digits) = cut_word(line);
-    let bytes = bytes_of(*frames.allocator(), digits)?;
-    Ok(frames.push(bytes)?)
+    push_bytes(digits, frames)
 }
 
 // Whether a log may have the frame, HELLO or RECORDS: of the old version alone, or of either.
@@ -30,6 +29,11 @@ fn is_of_logs(frame: &[u8], old_alone: bool) -> bool {
     }
 }
 
+fn push_copy(frame: &[u8], some: &mut Vec<Vec<u8>>) -> Result<(), AllocError> {
+    let copy = Vec::from_slice(*some.allocator(), frame)?;
+    Ok(some.push(copy)?)
+}
+
 fn append_of_logs(
     frames: &[Vec<u8>],
     old_alone: bool,
@@ -37,7 +41,7 @@ fn append_of_logs(
 ) -> Result<(), AllocError> {
     for frame in frames {
         if is_of_logs(frame, old_alone) {
-            some.push(Vec::from_slice(*some.allocator(), frame)?)?;
+            push_copy(frame, some)?;
         }
     }
     Ok(())

@@ -113,6 +113,22 @@ fn try_all(
     Ok(())
 }
 
+// What became of so many cases, and how many frames the sessions answered.
+fn print_counted(
+    rt: &HostRuntime,
+    kind: Kind,
+    count: u32,
+    name: &str,
+    tally: &Tally,
+) -> io::Result<()> {
+    print!(rt; "{count} random {name}: ")?;
+    print_tally(rt, tally)?;
+    match kind {
+        Kind::Session => print!(rt; ", {} frames", tally.frames),
+        Kind::Log => Ok(()),
+    }
+}
+
 fn print_digest(rt: &HostRuntime, left: Md5) -> io::Result<()> {
     let digest = hex::encode(rt.alloc(), left.finalize())?;
     println!(rt; ", left {digest}")
@@ -129,10 +145,6 @@ pub fn print_cases(
     let mut tally = NONE;
     let mut left = Md5::new();
     try_all(rt.alloc(), kind, count, frames, &mut tally, &mut left)?;
-    print!(rt; "{count} random {name}: ")?;
-    print_tally(rt, &tally)?;
-    if matches!(kind, Kind::Session) {
-        print!(rt; ", {} frames", tally.frames)?;
-    }
+    print_counted(rt, kind, count, name, &tally)?;
     print_digest(rt, left)
 }

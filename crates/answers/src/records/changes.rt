@@ -69,6 +69,10 @@ fn replace(ours: &mut Records<Global>, words: &mut SplitWhitespace<'_>) -> Optio
     }
 }
 
+fn take(ours: &mut Records<Global>, theirs: &Records<Global>) -> Option<Said> {
+    Some(said(&ours.take(theirs)))
+}
+
 // Makes a call that changes what the site holds; none where the call is another.
 pub fn change(
     call: &str,
@@ -80,7 +84,7 @@ pub fn change(
         "add" => add(ours, words),
         "run" => run(ours, words),
         "fill" => fill(ours, words),
-        "take" => Some(said(&ours.take(theirs))),
+        "take" => take(ours, theirs),
         "amend" => amend(ours, words),
         "replace" => replace(ours, words),
         "withdraw" => withdraw(ours, words),

@@ -32,7 +32,19 @@ fn begin_again(site: &mut Records<Global>, alloc: Global) {
     *site = Records::new(alloc);
 }
 
-// Appends the answer to a line; a line that names no site is its own answer, and both sites begin again.
+// Appends a line, after which both sites begin again.
+fn append_heading(
+    a: &mut Records<Global>,
+    b: &mut Records<Global>,
+    line: &str,
+    out: &mut Vec<u8>,
+) -> Result<(), Memory> {
+    begin_again(a, *out.allocator());
+    begin_again(b, *out.allocator());
+    out.extend_from_slice(line.as_bytes())
+}
+
+// Appends the answer to a line; a line that names no site is its own answer.
 fn append_answer(
     a: &mut Records<Global>,
     b: &mut Records<Global>,
@@ -40,14 +52,10 @@ fn append_answer(
     out: &mut Vec<u8>,
 ) -> Result<(), Memory> {
     let mut words = line.split_whitespace();
-    match words.next() {
-        Some("a") => ask(a, b, &mut words, out),
-        Some("b") => ask(b, a, &mut words, out),
-        _ => {
-            begin_again(a, *out.allocator());
-            begin_again(b, *out.allocator());
-            out.extend_from_slice(line.as_bytes())
-        }
+    match words::next_word(&mut words) {
+        "a" => ask(a, b, &mut words, out),
+        "b" => ask(b, a, &mut words, out),
+        _ => append_heading(a, b, line, out),
     }
 }
 

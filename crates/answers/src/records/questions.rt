@@ -128,6 +128,16 @@ fn append_id_read(
     out.extend_from_slice(if records.is_live(id) { b" live" } else { b"" })
 }
 
+// Takes in the ids up to a dash, and those after it.
+fn take_parts(
+    words: &mut SplitWhitespace<'_>,
+    records: &mut Vec<Id>,
+    tombstones: &mut Vec<Id>,
+) -> Result<(), Memory> {
+    take_ids(words, records)?;
+    take_ids(words, tombstones)
+}
+
 // Takes in the ids up to a dash, or all that are left.
 fn take_ids(words: &mut SplitWhitespace<'_>, ids: &mut Vec<Id>) -> Result<(), Memory> {
     for word in words {
@@ -137,6 +147,10 @@ fn take_ids(words: &mut SplitWhitespace<'_>, ids: &mut Vec<Id>) -> Result<(), Me
         }
     }
     Ok(())
+}
+
+fn append_copy(records: &Records<Global>, out: &mut Vec<u8>) -> Result<(), Memory> {
+    append_new(records.copy()?, out)
 }
 
 fn append_part(
@@ -160,8 +174,7 @@ fn append_part_of(
 ) -> Result<(), Memory> {
     let mut records = Vec::new(*out.allocator());
     let mut tombstones = Vec::new(*out.allocator());
-    take_ids(words, &mut records)?;
-    take_ids(words, &mut tombstones)?;
+    take_parts(words, &mut records, &mut tombstones)?;
     append_part(ours, &records, &tombstones, out)
 }
 
@@ -181,7 +194,7 @@ pub fn append_answer(
         "known" => append_number(ours.known(), out),
         "next" => append_next(ours, next_site(words), out),
         "id" => append_id_read(ours, next_id(words), out),
-        "copy" => append_new(ours.copy()?, out),
+        "copy" => append_copy(ours, out),
         "part" => append_part_of(ours, words, out),
         _ => append_join(call, ours, theirs, out),
     }

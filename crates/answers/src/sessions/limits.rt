@@ -215,6 +215,13 @@ fn print_replies(rt: &HostRuntime, input: &[u8], wanted: &[u8]) -> io::Result<()
     print_judged(rt, replies.as_slice() == wanted, served)
 }
 
+// The same of a session that hands on frames of these, and of replies that hand on frames of those.
+fn print_told(rt: &HostRuntime, input: &[Held], wanted: &[Held]) -> io::Result<()> {
+    let input = told(rt.alloc(), &HELLO, input)?;
+    let wanted = told(rt.alloc(), &SAME, wanted)?;
+    print_replies(rt, &input, &wanted)
+}
+
 // A frame with 4,096 records, one with 4,096 withdrawn ids of the same, one with both, and one in which these records also replace
 // each other.
 fn print_full_frames(rt: &HostRuntime) -> io::Result<()> {
@@ -227,9 +234,11 @@ fn print_full_frames(rt: &HostRuntime) -> io::Result<()> {
     let withdrawn = Held::new(0, all, NONE);
     let both = Held::new(4096, all, NONE);
     let each = Held::new(4096, all, all);
-    let input = told(rt.alloc(), &HELLO, &[records, withdrawn, both, each])?;
-    let wanted = told(rt.alloc(), &SAME, &[records, both, both, each])?;
-    print_replies(rt, &input, &wanted)
+    print_told(
+        rt,
+        &[records, withdrawn, both, each],
+        &[records, both, both, each],
+    )
 }
 
 // What is named by a frame.
@@ -245,22 +254,17 @@ fn print_held(rt: &HostRuntime, held: Held) -> io::Result<()> {
     )
 }
 
-// A frame, which is answered by these replies.
-fn print_frame(rt: &HostRuntime, held: Held, wanted: &[u8]) -> io::Result<()> {
-    print_held(rt, held)?;
-    let input = told(rt.alloc(), &HELLO, &[held])?;
-    print_replies(rt, &input, wanted)
-}
-
 // A frame that names as many ids as may be.
 fn print_full_frame(rt: &HostRuntime, held: Held) -> io::Result<()> {
-    let wanted = told(rt.alloc(), &SAME, &[held])?;
-    print_frame(rt, held, &wanted)
+    print_held(rt, held)?;
+    print_told(rt, &[held], &[held])
 }
 
 // A frame that names one id too many.
 fn print_overfull_frame(rt: &HostRuntime, held: Held) -> io::Result<()> {
-    print_frame(rt, held, &[0, 0, 0, 1, 6, 0, 0, 0, 2, 5, 52])
+    print_held(rt, held)?;
+    let input = told(rt.alloc(), &HELLO, &[held])?;
+    print_replies(rt, &input, &[0, 0, 0, 1, 6, 0, 0, 0, 2, 5, 52])
 }
 
 // Frames whose ids stand in one list or in two.

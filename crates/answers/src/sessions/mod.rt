@@ -41,7 +41,7 @@ fn serve_anew<R: Read, W: Write>(
     served
 }
 
-fn end_of(end: End) -> (&'static str, u8) {
+fn word_of_end(end: End) -> (&'static str, u8) {
     match end {
         End::Closed => ("closed", 0),
         End::Cut => ("cut", 0),
@@ -49,7 +49,7 @@ fn end_of(end: End) -> (&'static str, u8) {
     }
 }
 
-fn word_of(fault: ServeFault) -> &'static str {
+fn word_of_fault(fault: ServeFault) -> &'static str {
     match fault {
         ServeFault::Read => "read",
         ServeFault::Write => "write",
@@ -59,13 +59,10 @@ fn word_of(fault: ServeFault) -> &'static str {
 }
 
 // How many frames were answered, and how the session ended.
-fn print_end(rt: &HostRuntime, served: Result<Served, ServeFault>) -> io::Result<()> {
+fn end_of(served: Result<Served, ServeFault>) -> (u32, (&'static str, u8)) {
     match served {
-        Ok(served) => {
-            let (end, code) = end_of(served.end);
-            println!(rt; " {} {end} {code}", served.frames)
-        }
-        Err(fault) => println!(rt; " 0 {} 0", word_of(fault)),
+        Ok(served) => (served.frames, word_of_end(served.end)),
+        Err(fault) => (0, (word_of_fault(fault), 0)),
     }
 }
 
@@ -75,7 +72,8 @@ fn print_session(
     served: Result<Served, ServeFault>,
 ) -> io::Result<()> {
     print_hex(rt, replies)?;
-    print_end(rt, served)
+    let (frames, (end, code)) = end_of(served);
+    println!(rt; " {frames} {end} {code}")
 }
 
 fn serve_row(rt: &HostRuntime, reader: PieceReader<'_>) -> io::Result<()> {
@@ -168,10 +166,14 @@ fn answer_row(rt: &HostRuntime, row: &Row<'_>, bytes: &[u8]) -> io::Result<()> {
     }
 }
 
+fn append_word(word: &str, bytes: &mut Vec<u8>) -> io::Result<()> {
+    let more = bytes_of(*bytes.allocator(), word)?;
+    Ok(bytes.extend_from_slice(&more)?)
+}
+
 fn append_bytes(words: SplitWhitespace<'_>, bytes: &mut Vec<u8>) -> io::Result<()> {
-    let alloc = *bytes.allocator();
     for word in words {
-        bytes.extend_from_slice(&bytes_of(alloc, word)?)?;
+        append_word(word, bytes)?;
     }
     Ok(())
 }

@@ -25,16 +25,23 @@ fn code_of(fault: BaseFault) -> (u8, u32) {
     }
 }
 
-fn append_bound(out: &mut Vec<u8>, bound: &Bound) -> Result<(), AllocError> {
+fn append_events(out: &mut Vec<u8>, bound: &Bound) -> Result<(), AllocError> {
     bound.from().print(out)?;
     out.push(b' ')?;
-    bound.to().print(out)?;
-    out.push(b' ')?;
+    bound.to().print(out)
+}
+
+fn append_times(out: &mut Vec<u8>, bound: &Bound) -> Result<(), AllocError> {
     bound.lo().print(out)?;
     out.push(b' ')?;
-    bound.hi().print(out)?;
-    out.push(b'\n')?;
-    Ok(())
+    bound.hi().print(out)
+}
+
+fn append_bound(out: &mut Vec<u8>, bound: &Bound) -> Result<(), AllocError> {
+    append_events(out, bound)?;
+    out.push(b' ')?;
+    append_times(out, bound)?;
+    Ok(out.push(b'\n')?)
 }
 
 fn append_planned(out: &mut Vec<u8>, base: &Base<Global>, number: u16) -> Result<(), AllocError> {

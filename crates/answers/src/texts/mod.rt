@@ -52,7 +52,7 @@ fn answer_hex(rt: &HostRuntime, rest: &str) -> io::Result<()> {
     print_answer(rt, word, &text)
 }
 
-fn take_domain(alloc: Global, domain: &mut String, text: &str) -> Result<(), AllocError> {
+fn take_domain(alloc: Global, domain: &mut String, text: &str) -> io::Result<()> {
     *domain = text_of(alloc, text, 0)?;
     Ok(())
 }
@@ -71,7 +71,7 @@ pub fn answer(rt: &HostRuntime, domain: &mut String, row: &str) -> io::Result<()
     } else if let Some(rest) = row.strip_prefix("hex ") {
         answer_hex(rt, rest)
     } else if let Some(text) = row.strip_prefix("with ") {
-        Ok(take_domain(rt.alloc(), domain, text)?)
+        take_domain(rt.alloc(), domain, text)
     } else if let Some(text) = row.strip_prefix("lift ") {
         lift(rt, domain, text)
     } else {

@@ -19,9 +19,9 @@ fn of_domain_fault(fault: DomainFault) -> (u8, usize) {
 }
 
 fn of_domain(alloc: Global, text: &[u8]) -> (u8, usize) {
-    match Domain::read(alloc, text) {
-        Ok(_) => (0, 0),
-        Err(fault) => of_domain_fault(fault),
+    match Domain::read(alloc, text).err() {
+        Some(fault) => of_domain_fault(fault),
+        None => (0, 0),
     }
 }
 
