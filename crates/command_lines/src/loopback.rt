@@ -4,6 +4,7 @@
 mod changing;
 mod untrusted;
 
+use crate::print_digits;
 use std::alloc::Global;
 use std::io::{Error, Read, Write};
 use std::net::{Shutdown, TcpListener, TcpStream};
@@ -59,19 +60,12 @@ fn load_log(rt: &HostRuntime, log: &str, site: Site) -> io::Result<Replica<Globa
     }
 }
 
-// Works on the replica of a site by its log.
-fn with_log<F: Fn(&mut Replica<Global>) -> io::Result<()>>(
-    rt: &HostRuntime,
-    log: &str,
-    site: Site,
-    work: F,
-) -> io::Result<()>
-    requires { F.IsAlwaysCallable work }
-{
-    let mut replica = load_log(rt, log, site)?;
-    let answer = work(&mut replica);
-    drop(replica);
-    answer
+fn near_replica(rt: &HostRuntime) -> io::Result<Replica<Global>> {
+    load_log(rt, "near.log", first_site())
+}
+
+fn far_replica(rt: &HostRuntime) -> io::Result<Replica<Global>> {
+    load_log(rt, "far.log", second_site())
 }
 
 // Does a command, and prints its status.
@@ -153,19 +147,50 @@ fn print_text(rt: &HostRuntime, text: &[u8]) -> io::Result<()> {
 
 // A session over a connection whose other end stays.
 fn session(rt: &HostRuntime, listener: &TcpListener) -> io::Result<()> {
-    with_log(rt, "far.log", second_site(), |replica| {
-        let other = ask(rt, listener, replica)?;
-        serve_next(rt, listener)?;
-        receive(rt, &other, replica)
-    })
+    let mut replica = far_replica(rt)?;
+    let answer = ask_and_receive(rt, listener, &mut replica);
+    drop(replica);
+    answer
+}
+
+fn ask_and_receive(
+    rt: &HostRuntime,
+    listener: &TcpListener,
+    replica: &mut Replica<Global>,
+) -> io::Result<()> {
+    let other = ask(rt, listener, replica)?;
+    let answer = serve_and_receive(rt, listener, &other, replica);
+    drop(other);
+    answer
+}
+
+fn serve_and_receive(
+    rt: &HostRuntime,
+    listener: &TcpListener,
+    other: &TcpStream,
+    replica: &mut Replica<Global>,
+) -> io::Result<()> {
+    serve_next(rt, listener)?;
+    receive(rt, other, replica)
 }
 
 // Serves the next connection as far as the requests go.
 fn serve_next(rt: &HostRuntime, listener: &TcpListener) -> io::Result<()> {
-    with_log(rt, "near.log", first_site(), |replica| {
-        let (stream, _) = listener.accept()?;
-        serve_requested(rt, &stream, replica)
-    })
+    let mut replica = near_replica(rt)?;
+    let answer = accept_requested(rt, listener, &mut replica);
+    drop(replica);
+    answer
+}
+
+fn accept_requested(
+    rt: &HostRuntime,
+    listener: &TcpListener,
+    replica: &mut Replica<Global>,
+) -> io::Result<()> {
+    let (stream, _) = listener.accept()?;
+    let answer = serve_requested(rt, &stream, replica);
+    drop(stream);
+    answer
 }
 
 fn serve_requested(
@@ -188,12 +213,10 @@ fn serve_waiting(
     count: u16,
     log: &str,
 ) -> io::Result<()> {
-    with_log(
-        rt,
-        log,
-        first_site(),
-        |replica| serve_log(rt, listener, count, log, replica),
-    )
+    let mut replica = load_log(rt, log, first_site())?;
+    let answer = serve_log(rt, listener, count, log, &mut replica);
+    drop(replica);
+    answer
 }
 
 // The same for a replica that was loaded before.
@@ -237,12 +260,33 @@ fn status_of_serving(
 
 // A connection whose requests end in bytes that are no frame.
 fn serve_refused(rt: &HostRuntime, listener: &TcpListener) -> io::Result<()> {
-    with_log(rt, "far.log", second_site(), |replica| {
-        let other = ask(rt, listener, replica)?;
-        (&other).write_all(&[0, 4, 0, 1])?;
-        serve_waiting(rt, listener, 1, "near.log")?;
-        receive(rt, &other, replica)
-    })
+    let mut replica = far_replica(rt)?;
+    let answer = ask_refused(rt, listener, &mut replica);
+    drop(replica);
+    answer
+}
+
+fn ask_refused(
+    rt: &HostRuntime,
+    listener: &TcpListener,
+    replica: &mut Replica<Global>,
+) -> io::Result<()> {
+    let other = ask(rt, listener, replica)?;
+    let answer = break_and_receive(rt, listener, &other, replica);
+    drop(other);
+    answer
+}
+
+fn break_and_receive(
+    rt: &HostRuntime,
+    listener: &TcpListener,
+    other: &TcpStream,
+    replica: &mut Replica<Global>,
+) -> io::Result<()> {
+    let mut writer = other;
+    writer.write_all(&[0, 4, 0, 1])?;
+    serve_waiting(rt, listener, 1, "near.log")?;
+    receive(rt, other, replica)
 }
 
 // A connection that ends within a frame, and one that says nothing.
@@ -313,10 +357,6 @@ fn print_replies(rt: &HostRuntime, other: &TcpStream) -> io::Result<()> {
     print_digits(rt, &replies)
 }
 
-fn print_digits(rt: &HostRuntime, bytes: &[u8]) -> io::Result<()> {
-    println!(rt; "{}", hex::encode(rt.alloc(), bytes)?)
-}
-
 // A HELLO, and the record 3.1 from z to s1 at 3.000.
 const BEFORE_ASKING: [u8; 42] = [
     0, 0, 0, 4, 7, 0, 0, 1, // HELLO
@@ -373,12 +413,10 @@ const REFUSED_REPLIES: [&str; 9] = [
 
 // Sends over a connection on which these replies wait.
 fn send_waiting(rt: &HostRuntime, listener: &TcpListener, replies: &[u8]) -> io::Result<()> {
-    with_log(
-        rt,
-        "far.log",
-        second_site(),
-        |replica| send_replica(rt, listener, replies, replica),
-    )
+    let mut replica = far_replica(rt)?;
+    let answer = send_replica(rt, listener, replies, &mut replica);
+    drop(replica);
+    answer
 }
 
 // The same for a replica that was loaded before.
@@ -436,8 +474,17 @@ fn send_refused(rt: &HostRuntime, listener: &TcpListener) -> io::Result<()> {
 
 fn send_refused_one(rt: &HostRuntime, listener: &TcpListener, digits: &str) -> io::Result<()> {
     let before = fs::read(rt, "far.log")?;
+    send_in_vain(rt, listener, digits, &before)
+}
+
+fn send_in_vain(
+    rt: &HostRuntime,
+    listener: &TcpListener,
+    digits: &str,
+    before: &[u8],
+) -> io::Result<()> {
     send_digits(rt, listener, digits)?;
-    is_as_before(rt, "far.log", &before)
+    is_as_before(rt, "far.log", before)
 }
 
 fn send_digits(rt: &HostRuntime, listener: &TcpListener, digits: &str) -> io::Result<()> {
@@ -458,13 +505,22 @@ fn is_as_before(rt: &HostRuntime, log: &str, before: &[u8]) -> io::Result<()> {
 // An address at which another listens, and one at which nobody does; after either no log was saved.
 fn reach_nothing(rt: &HostRuntime, listener: &TcpListener) -> io::Result<()> {
     let before = fs::read(rt, "near.log")?;
+    try_addresses(rt, listener, &before)
+}
+
+fn try_addresses(rt: &HostRuntime, listener: &TcpListener, before: &[u8]) -> io::Result<()> {
     serve_at_taken(rt, listener)?;
     send_to_free(rt)?;
-    is_as_before(rt, "near.log", &before)
+    is_as_before(rt, "near.log", before)
+}
+
+fn address_of(alloc: Global, listener: &TcpListener) -> io::Result<String> {
+    let address = listener.local_addr()?;
+    Ok(format!(in alloc; "{address}")?)
 }
 
 fn serve_at_taken(rt: &HostRuntime, listener: &TcpListener) -> io::Result<()> {
-    let taken = format!(in rt.alloc(); "{}", listener.local_addr()?)?;
+    let taken = address_of(rt.alloc(), listener)?;
     command(rt, &["stn", "serve", "near.log", "1", &taken, "1"])
 }
 
@@ -475,7 +531,9 @@ fn send_to_free(rt: &HostRuntime) -> io::Result<()> {
 
 fn free_address(rt: &HostRuntime) -> io::Result<String> {
     let other = TcpListener::bind(rt, "127.0.0.1:0")?;
-    Ok(format!(in rt.alloc(); "{}", other.local_addr()?)?)
+    let address = address_of(rt.alloc(), &other);
+    drop(other);
+    address
 }
 
 fn make_logs(rt: &HostRuntime) -> io::Result<()> {

@@ -30,11 +30,16 @@ use stn_store::MemoryStore;
 // What stands on the standard input of a command.
 const SCRIPT: &[u8] = b"steps 0\nsites 1\n1 report\n";
 
+// What a word of a command line says, which may be nothing.
+fn said_word(word: &str) -> &str {
+    if word == "\"\"" { "" } else { word }
+}
+
 // Appends the words of a command line.
 fn append_words<'a>(line: &'a str, words: &mut Vec<&'a str>) -> Result<(), AllocError> {
     words.push("stn")?;
     for word in line.split_whitespace() {
-        words.push(if word == "\"\"" { "" } else { word })?;
+        words.push(said_word(word))?;
     }
     Ok(())
 }
@@ -76,10 +81,15 @@ fn run_quietly(rt: &HostRuntime, line: &str) -> io::Result<()> {
     println!(rt; "status {}", status_of(rt, &words))
 }
 
+fn print_digits(rt: &HostRuntime, bytes: &[u8]) -> io::Result<()> {
+    let digits = hex::encode(rt.alloc(), bytes)?;
+    println!(rt; "{digits}")
+}
+
 // Prints the bytes of a file.
 fn print_file(rt: &HostRuntime, name: &str) -> io::Result<()> {
     match fs::read(rt, name) {
-        Ok(bytes) => println!(rt; "{}", hex::encode(rt.alloc(), &bytes)?),
+        Ok(bytes) => print_digits(rt, &bytes),
         Err(_) => println!(rt; "none"),
     }
 }
@@ -106,10 +116,14 @@ fn append_bytes(rt: &HostRuntime, name: &str, words: &str) -> io::Result<()> {
     }
 }
 
+fn append_line(line: &str, text: &mut Vec<u8>) -> Result<(), AllocError> {
+    text.extend_from_slice(line.as_bytes())?;
+    Ok(text.push(b'\n')?)
+}
+
 fn append_lines(lines: &str, text: &mut Vec<u8>) -> Result<(), AllocError> {
     for line in lines.split('|') {
-        text.extend_from_slice(line.as_bytes())?;
-        text.push(b'\n')?;
+        append_line(line, text)?;
     }
     Ok(())
 }
@@ -211,11 +225,14 @@ fn do_line(rt: &HostRuntime, store: &mut MemoryStore, line: &str) -> io::Result<
     }
 }
 
+fn take_line(rt: &HostRuntime, store: &mut MemoryStore, line: &str) -> io::Result<()> {
+    println!(rt; "> {line}")?;
+    do_line(rt, store, line)
+}
+
 fn do_lines(rt: &HostRuntime, store: &mut MemoryStore) -> io::Result<()> {
     for line in rt.lines(rt.alloc()) {
-        let line = line?;
-        println!(rt; "> {line}")?;
-        do_line(rt, store, line.as_str())?;
+        take_line(rt, store, &line?)?;
     }
     Ok(())
 }

@@ -32,13 +32,25 @@ fn print_answer(rt: &HostRuntime, answer: Result<Vec<u8>, Failure>) -> io::Resul
     }
 }
 
+// Does a command of a log, and prints what it answers.
+fn run_task(rt: &HostRuntime, store: &mut MemoryStore, task: &Task<'_>) -> io::Result<()> {
+    match task {
+        Task::Command { log, command } => {
+            print_answer(rt, answer(rt.alloc(), store, log, command))
+        }
+        _ => Err(Error::other("no command of a log")),
+    }
+}
+
 // Does the command of these words, and prints what it answers.
 fn run_words(rt: &HostRuntime, store: &mut MemoryStore, words: &[&str]) -> io::Result<()> {
     match task(rt.alloc(), words) {
-        Ok(Task::Command { log, command }) => {
-            print_answer(rt, answer(rt.alloc(), store, &log, &command))
+        Ok(task) => {
+            let answer = run_task(rt, store, &task);
+            drop(task);
+            answer
         }
-        _ => Err(Error::other("no command of a log")),
+        Err(_) => Err(Error::other("no command of a log")),
     }
 }
 

@@ -1,7 +1,7 @@
 // Logs that change while a site serves or sends.
 use super::{
-    add, command, connect, first_site, is_as_before, print_report, replies_of_two, second_site,
-    send_replica, serve_log, with_log,
+    add, command, connect, far_replica, is_as_before, near_replica, print_report, replies_of_two,
+    send_replica, serve_log,
 };
 use std::alloc::Global;
 use std::io::Write;
@@ -32,34 +32,69 @@ fn serve_closed(
 
 // The log has a bound more than the replica that is served.
 fn serve_older(rt: &HostRuntime, listener: &TcpListener) -> io::Result<()> {
-    with_log(rt, "near.log", first_site(), |replica| {
-        add(rt, "z", "e1", "--lo=7.000", "--hi=9.000")?;
-        serve_closed(rt, listener, "near.log", replica)?;
-        print_report(rt, replica)?;
-        command(rt, &["stn", "report", "near.log", "1"])
-    })
+    let mut replica = near_replica(rt)?;
+    let answer = add_and_serve(rt, listener, &mut replica);
+    drop(replica);
+    answer
+}
+
+fn add_and_serve(
+    rt: &HostRuntime,
+    listener: &TcpListener,
+    replica: &mut Replica<Global>,
+) -> io::Result<()> {
+    add(rt, "z", "e1", "--lo=7.000", "--hi=9.000")?;
+    serve_closed(rt, listener, "near.log", replica)?;
+    print_report(rt, replica)?;
+    command(rt, &["stn", "report", "near.log", "1"])
 }
 
 // The log has a bound more than the replica that was sent.
 fn send_older(rt: &HostRuntime, listener: &TcpListener) -> io::Result<()> {
-    with_log(rt, "far.log", second_site(), |replica| {
-        command(
-            rt,
-            &["stn", "add", "far.log", "2", "z", "e1", "--hi=14.000"],
-        )?;
-        let replies = replies_of_two(rt.alloc())?;
-        send_replica(rt, listener, &replies, replica)?;
-        command(rt, &["stn", "report", "far.log", "2"])
-    })
+    let mut replica = far_replica(rt)?;
+    let answer = add_and_send(rt, listener, &mut replica);
+    drop(replica);
+    answer
+}
+
+fn add_and_send(
+    rt: &HostRuntime,
+    listener: &TcpListener,
+    replica: &mut Replica<Global>,
+) -> io::Result<()> {
+    command(
+        rt,
+        &["stn", "add", "far.log", "2", "z", "e1", "--hi=14.000"],
+    )?;
+    send_with_replies(rt, listener, replica)?;
+    command(rt, &["stn", "report", "far.log", "2"])
+}
+
+fn send_with_replies(
+    rt: &HostRuntime,
+    listener: &TcpListener,
+    replica: &mut Replica<Global>,
+) -> io::Result<()> {
+    let replies = replies_of_two(rt.alloc())?;
+    send_replica(rt, listener, &replies, replica)
 }
 
 // The log is gone, and made again.
 fn serve_gone(rt: &HostRuntime, listener: &TcpListener) -> io::Result<()> {
-    with_log(rt, "near.log", first_site(), |replica| {
-        fs::remove_file(rt, "near.log")?;
-        serve_closed(rt, listener, "near.log", replica)?;
-        command(rt, &["stn", "report", "near.log", "1"])
-    })
+    let mut replica = near_replica(rt)?;
+    let answer = remove_and_serve(rt, listener, &mut replica);
+    drop(replica);
+    answer
+}
+
+fn remove_and_serve(
+    rt: &HostRuntime,
+    listener: &TcpListener,
+    replica: &mut Replica<Global>,
+) -> io::Result<()> {
+    fs::remove_file(rt, "near.log")?;
+    serve_closed(rt, listener, "near.log", replica)?;
+    command(rt, &["stn", "report", "near.log", "1"])
 }
 
 // The log of another plan stands in the log's place.
@@ -76,10 +111,8 @@ fn serve_replaced(rt: &HostRuntime, listener: &TcpListener, bytes: &[u8]) -> io:
 }
 
 fn serve_in_place(rt: &HostRuntime, listener: &TcpListener) -> io::Result<()> {
-    with_log(
-        rt,
-        "near.log",
-        first_site(),
-        |replica| serve_closed(rt, listener, "replaced.log", replica),
-    )
+    let mut replica = near_replica(rt)?;
+    let answer = serve_closed(rt, listener, "replaced.log", &mut replica);
+    drop(replica);
+    answer
 }

@@ -1,5 +1,7 @@
 // Peers that keep a site waiting, each with an honest one after it.
-use super::{BEFORE_ASKING, ask, begin, command, second_site, serve_waiting, with_log};
+use super::{
+    BEFORE_ASKING, ask, begin, command, far_replica, load_log, second_site, serve_waiting,
+};
 use std::alloc::{AllocError, Global};
 use std::io;
 use std::io::Error;
@@ -53,12 +55,10 @@ fn print_first_line_of(rt: &HostRuntime, text: &[u8]) -> io::Result<()> {
 
 // A peer that says this and no more, and the honest one.
 fn serve_after(rt: &HostRuntime, listener: &TcpListener, said: &[u8]) -> io::Result<()> {
-    with_log(
-        rt,
-        "far.log",
-        second_site(),
-        |honest| serve_both(rt, listener, "near.log", said, honest),
-    )
+    let mut honest = far_replica(rt)?;
+    let answer = serve_both(rt, listener, "near.log", said, &mut honest);
+    drop(honest);
+    answer
 }
 
 fn serve_both(
@@ -103,10 +103,23 @@ fn serve_silent(rt: &HostRuntime, listener: &TcpListener) -> io::Result<()> {
 // A peer that asks for 800 reports of 256 steps and reads none of them: more bytes than a connection holds.
 fn serve_unread(rt: &HostRuntime, listener: &TcpListener) -> io::Result<()> {
     command(rt, &["stn", "bare", "large.log", "1", "256"])?;
-    with_log(rt, "large.log", second_site(), |honest| {
-        let requests = asking_on(rt, honest)?;
-        serve_both(rt, listener, "large.log", &requests, honest)
-    })
+    let mut honest = large_replica(rt)?;
+    let answer = serve_asking_on(rt, listener, &mut honest);
+    drop(honest);
+    answer
+}
+
+fn large_replica(rt: &HostRuntime) -> io::Result<Replica<Global>> {
+    load_log(rt, "large.log", second_site())
+}
+
+fn serve_asking_on(
+    rt: &HostRuntime,
+    listener: &TcpListener,
+    honest: &mut Replica<Global>,
+) -> io::Result<()> {
+    let requests = asking_on(rt, honest)?;
+    serve_both(rt, listener, "large.log", &requests, honest)
 }
 
 // The requests of a replica, and ASK, which ends them, many times more.
@@ -130,12 +143,32 @@ fn append_asks(bytes: &mut Vec<u8>) -> Result<(), AllocError> {
 
 // A site of another plan with 400 records: it has more to say after it is refused, and is told why.
 fn serve_other_plan(rt: &HostRuntime, listener: &TcpListener) -> io::Result<()> {
-    with_log(rt, "large.log", second_site(), |other| {
-        add_all(other)?;
-        let stream = ask(rt, listener, other)?;
-        serve_waiting(rt, listener, 1, "near.log")?;
-        print_refusal(rt, &stream, other)
-    })
+    let mut other = large_replica(rt)?;
+    let answer = ask_of_other_plan(rt, listener, &mut other);
+    drop(other);
+    answer
+}
+
+fn ask_of_other_plan(
+    rt: &HostRuntime,
+    listener: &TcpListener,
+    other: &mut Replica<Global>,
+) -> io::Result<()> {
+    add_all(other)?;
+    let stream = ask(rt, listener, other)?;
+    let answer = serve_refusing(rt, listener, &stream, other);
+    drop(stream);
+    answer
+}
+
+fn serve_refusing(
+    rt: &HostRuntime,
+    listener: &TcpListener,
+    stream: &TcpStream,
+    other: &mut Replica<Global>,
+) -> io::Result<()> {
+    serve_waiting(rt, listener, 1, "near.log")?;
+    print_refusal(rt, stream, other)
 }
 
 fn print_refusal(
