@@ -47,14 +47,17 @@ fn a_write_that_takes_none_is_a_failed_one(rt: HostRuntime) {
     assert!(rt; written_to_stuck(rt.alloc(), TEXT) == (Err(WriteFault), 1, 1));
 }
 
+// The kind of the error of a read that fails, and how many calls have failed.
+fn failed_read(buffer: &mut [u8]) -> (Option<ErrorKind>, u64) {
+    let mut failing = reader(1, 1);
+    let kind = kind_of(failing.read(buffer));
+    (kind, failing.failures())
+}
+
 #[test]
 fn a_failed_read_gives_the_error_of_the_device(rt: HostRuntime) {
-    for room in [0usize, 3] {
-        let mut failing = reader(1, 1);
-        let mut buffer = [0u8; 3];
-        assert!(rt; kind_of(failing.read(&mut buffer[..room])) == Some(ErrorKind::Interrupted));
-        assert_eq!(rt; failing.failures(), 1);
-    }
+    assert!(rt; failed_read(&mut []) == (Some(ErrorKind::Interrupted), 1));
+    assert!(rt; failed_read(&mut [0u8; 3]) == (Some(ErrorKind::Interrupted), 1));
 }
 
 // The kind of the error of a write that fails, and how many calls have failed.
@@ -95,7 +98,7 @@ impl Write for Unflushed {
 fn a_failed_flush_gives_the_error_of_the_device(rt: HostRuntime) {
     let mut failing = Counted::new(Unflushed { flushes: 0 });
     assert!(rt; kind_of(failing.flush()) == Some(ErrorKind::Interrupted));
-    assert_eq!(rt; failing.failures(), 1);
+    assert!(rt; failing.failures() == 1);
     assert!(rt; failing.flush().is_ok());
 }
 
@@ -149,15 +152,23 @@ fn slow_stream() -> Counted<UntilDeadline<SlowPeer>> {
     Counted::new(UntilDeadline::new(SlowPeer { clock }, deadline))
 }
 
+// How many bytes a read gives, or the kind of its error.
+fn read_from(reader: &mut Counted<UntilDeadline<SlowPeer>>) -> Result<usize, ErrorKind> {
+    let mut buffer = [0u8; 4];
+    match reader.read(&mut buffer) {
+        Ok(count) => Ok(count),
+        Err(error) => Err(error.kind()),
+    }
+}
+
 #[test]
 fn reads_end_at_the_deadline(rt: HostRuntime) {
     let mut reader = slow_stream();
-    let mut buffer = [0u8; 4];
-    assert!(rt; matches!(reader.read(&mut buffer), Ok(1)));
-    assert!(rt; matches!(reader.read(&mut buffer), Ok(1)));
-    assert!(rt; kind_of(reader.read(&mut buffer)) == Some(ErrorKind::WouldBlock));
-    assert!(rt; kind_of(reader.read(&mut buffer)) == Some(ErrorKind::TimedOut));
-    assert_eq!(rt; reader.failures(), 2);
+    assert!(rt; read_from(&mut reader) == Ok(1));
+    assert!(rt; read_from(&mut reader) == Ok(1));
+    assert!(rt; read_from(&mut reader) == Err(ErrorKind::WouldBlock));
+    assert!(rt; read_from(&mut reader) == Err(ErrorKind::TimedOut));
+    assert!(rt; reader.failures() == 2);
 }
 
 #[test]
@@ -186,5 +197,5 @@ fn drains_up_to_its_limit(rt: HostRuntime) {
 fn drains_no_more_after_a_fault(rt: HostRuntime) {
     let mut slow = slow_stream();
     drain(&mut slow, 4096);
-    assert_eq!(rt; slow.failures(), 1);
+    assert!(rt; slow.failures() == 1);
 }
