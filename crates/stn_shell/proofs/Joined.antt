@@ -1,8 +1,8 @@
 -- What a log says, taken in before a session and after it.
-use Rattle.std.proofs.Common.{◌≡◌, ◌∙◌, ℕ, List, Option, Result, Ok, Err, OnOk, sym, subst, inr}
+use Rattle.std.proofs.Common.{◌≡◌, ◌∙◌, ℕ, List, Option, Result, Ok, Err, OnOk, OnErr, sym, ap, subst, inr}
 use Rattle.stn_lift.specs.PlanSource.{PlanSource}
 use Rattle.stn_records.specs.Content.{Content}
-use Rattle.stn_replica.specs.Calls.{Leaves, took}
+use Rattle.stn_replica.specs.Calls.{Accepted, Leaves, took}
 use Rattle.stn_replica.specs.Held.{Held}
 use Rattle.stn_session.specs.declared.session.Served.{Served}
 use Rattle.stn_session.specs.declared.session.ServeFault.{ServeFault}
@@ -19,6 +19,17 @@ pub join_taken : {T E : Type 0} (answer : Result T E) (entries : Option (List En
     → OnOk answer (JoinsLog entries log old.source old.state new.state)
 join_taken (Ok done) entries log old said new opened same left = inr (said, opened, sym same, left.state)
 join_taken (Err failure) entries log old said new opened same left = tt
+
+-- the plan and the site stay
+pub source_stays : {T E : Type 0} (answer : Result T E) (call : Accepted) (old new : Held) → OnOk answer (Leaves old call new)
+    → OnErr answer (new ≡ old) → new.source ≡ old.source
+source_stays (Ok done) call old new left kept = left.source
+source_stays (Err failure) call old new left kept = ap (λ (held : Held). held.source) kept
+
+pub site_stays : {T E : Type 0} (answer : Result T E) (call : Accepted) (old new : Held) → OnOk answer (Leaves old call new)
+    → OnErr answer (new ≡ old) → new.site ≡ old.site
+site_stays (Ok done) call old new left kept = left.site
+site_stays (Err failure) call old new left kept = ap (λ (held : Held). held.site) kept
 
 -- and saved
 pub join_saved : {T E : Type 0} (answer : Result T E) (log : SiteLog) (source here : PlanSource) (first last : Content)

@@ -2,5 +2,6 @@ pub mod Served
 pub mod Chains
 pub mod Joined
 mod Failed
+mod Readings
 mod Ended
 mod Made

@@ -81,7 +81,9 @@ pub fn loosen<A: Allocator + Copy>(
         ⊎ IsLooseningRefusal (plan_source source.now) tolerance (Some failure)) }
 {
     let base = Base::from_source(alloc, source)?;
-    Ok(loosened_replica(alloc, site, &base, tolerance)?)
+    let loosened = loosened_replica(alloc, site, &base, tolerance);
+    drop(base);
+    Ok(loosened?)
 }
 
 /// Changes the replica of a log: what is printed for it.
@@ -97,18 +99,18 @@ pub fn make_change<S: Store>(
         × IsChangeRefusal (S.entries store.now) site asked.now replica.old None)
         (λ failure. IsChangeRefusal (S.entries store.now) site asked.now replica.old (Some failure) ⊎ IsLack S.fails failure) }
 {
-    match asked {
+    match *asked {
         Change::Add(bound) => {
             let id = replica.add(bound.from, bound.to, bound.lo, bound.hi);
             id_line(alloc, b"added ", id)
         }
         Change::Amend(old, bound) => {
-            let id = replica.amend(*old, bound.from, bound.to, bound.lo, bound.hi);
+            let id = replica.amend(old, bound.from, bound.to, bound.lo, bound.hi);
             id_line(alloc, b"amended ", id)
         }
-        Change::Withdraw(id) => id_line(alloc, b"withdrawn ", withdraw(replica, *id)),
-        Change::Done(event, time) => id_line(alloc, b"added ", replica.done(*event, *time)),
-        Change::Merge(other) => merge(alloc, store, site, replica, *other),
+        Change::Withdraw(id) => id_line(alloc, b"withdrawn ", withdraw(replica, id)),
+        Change::Done(event, time) => id_line(alloc, b"added ", replica.done(event, time)),
+        Change::Merge(other) => merge(alloc, store, site, replica, other),
     }
 }
 

@@ -51,31 +51,31 @@ fn do_command<S: Store>(
         (λ text. Succeeds (S.entries store.old) (S.entries store.new) log.now command.now text.items)
         (IsUndone (IsRefusalOf (S.entries store.old) log.now command.now) S.fails (S.entries store.old) (S.entries store.new)) }
 {
-    match command {
-        LogCommand::Bare { steps } => make_bare(alloc, store, log, *steps),
-        LogCommand::Init { domain, plan } => make_of_texts(alloc, store, log, *domain, *plan),
+    match *command {
+        LogCommand::Bare { steps } => make_bare(alloc, store, log, steps),
+        LogCommand::Init { domain, plan } => make_of_texts(alloc, store, log, domain, plan),
         LogCommand::Loosen {
             domain,
             plan,
             early,
             late,
-        } => loosen_texts(alloc, store, log, *domain, *plan, *early, *late),
-        LogCommand::Add { from, to, lo, hi } => add_to(alloc, store, log, *from, *to, *lo, *hi),
+        } => loosen_texts(alloc, store, log, domain, plan, early, late),
+        LogCommand::Add { from, to, lo, hi } => add_to(alloc, store, log, from, to, lo, hi),
         LogCommand::Amend {
             id,
             from,
             to,
             lo,
             hi,
-        } => amend_in(alloc, store, log, *id, *from, *to, *lo, *hi),
-        LogCommand::Withdraw { id } => withdraw_from(alloc, store, log, *id),
-        LogCommand::Done { event, time } => done_at(alloc, store, log, *event, *time),
-        LogCommand::Merge { other } => merge_with(alloc, store, log, *other),
+        } => amend_in(alloc, store, log, id, from, to, lo, hi),
+        LogCommand::Withdraw { id } => withdraw_from(alloc, store, log, id),
+        LogCommand::Done { event, time } => done_at(alloc, store, log, event, time),
+        LogCommand::Merge { other } => merge_with(alloc, store, log, other),
         LogCommand::Report => report_of(alloc, store, log),
-        LogCommand::Next { now } => next_of(alloc, store, log, *now),
-        LogCommand::Ask { asked } => tell_of(alloc, store, log, asked),
-        LogCommand::Check { times } => check_of(alloc, store, log, times),
-        LogCommand::Rehearse { now } => rehearse_of(alloc, store, log, *now),
+        LogCommand::Next { now } => next_of(alloc, store, log, now),
+        LogCommand::Ask { ref asked } => tell_of(alloc, store, log, asked),
+        LogCommand::Check { ref times } => check_of(alloc, store, log, times),
+        LogCommand::Rehearse { now } => rehearse_of(alloc, store, log, now),
         LogCommand::Draw => draw_of(alloc, store, log),
     }
 }

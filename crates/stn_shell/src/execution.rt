@@ -101,11 +101,14 @@ fn tell_words<W: Write, E: Write>(
             if error.use_stderr() {
                 let _ = write_whole(err, text.as_bytes());
                 2
-            } else if write_whole(out, text.as_bytes()).is_ok() {
-                0
             } else {
-                tell_fault(Fault::Write, err);
-                1
+                match write_whole(out, text.as_bytes()) {
+                    Ok(()) => 0,
+                    Err(_) => {
+                        tell_fault(Fault::Write, err);
+                        1
+                    }
+                }
             }
         }
         Err(_) => {

@@ -48,11 +48,11 @@ pub fn say<A: Allocator + Copy>(
         (λ text. IsSaid query.now replica.now text.items × IsQueryRefusal query.now replica.now None)
         (λ failure. (failure ≡ Failed lack.Memory) ⊎ IsQueryRefusal query.now replica.now (Some failure)) }
 {
-    match query {
+    match *query {
         Query::Report => report(alloc, replica),
-        Query::Next(now) => next(alloc, replica, *now),
-        Query::Tell(question) => tell(alloc, replica, *question),
-        Query::Rehearse(now) => rehearse(alloc, replica, *now),
+        Query::Next(now) => next(alloc, replica, now),
+        Query::Tell(question) => tell(alloc, replica, question),
+        Query::Rehearse(now) => rehearse(alloc, replica, now),
         Query::Draw => draw(alloc, replica),
     }
 }

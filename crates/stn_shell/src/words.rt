@@ -125,7 +125,6 @@ fn open_sides() -> (Ms, Ms)
 }
 
 /// The times of all events: the origin's, 0, and those that words spell.
-#[tactic(auto, unfolding(crate::specs::Words::times_read))]
 pub fn read_times<A: Allocator>(alloc: A, words: &[&str]) -> Result<Vec<Ms, A>, Failure>
     ensures said { IfOk result (λ times. times_read words.entry.now ≡ Ok times.items) }
     ensures origin { IfOk result (λ times. times_of times.items 0 ≡ pos 0) }
@@ -144,7 +143,7 @@ pub fn read_times<A: Allocator>(alloc: A, words: &[&str]) -> Result<Vec<Ms, A>, 
 pub fn read_question(asked: &Asked<'_>) -> Result<Question, Failure>
     ensures { result ≡ question_read asked.now }
 {
-    match asked {
+    match *asked {
         Asked::Records => Ok(Question::Records),
         Asked::Steps => Ok(Question::Steps),
         Asked::Bounds => Ok(Question::Bounds),
