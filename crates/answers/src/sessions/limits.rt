@@ -215,7 +215,7 @@ fn print_replies(rt: &HostRuntime, input: &[u8], wanted: &[u8]) -> io::Result<()
     print_judged(rt, replies.as_slice() == wanted, served)
 }
 
-// The same of a session that hands on frames of these, and of replies that hand on frames of those.
+// The same for a session with the frames of `input`, whose replies should be the frames of `wanted`.
 fn print_told(rt: &HostRuntime, input: &[Held], wanted: &[Held]) -> io::Result<()> {
     let input = told(rt.alloc(), &HELLO, input)?;
     let wanted = told(rt.alloc(), &SAME, wanted)?;
