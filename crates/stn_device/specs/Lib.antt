@@ -1,3 +1,4 @@
 pub mod Counted
 pub mod Bytes
 pub mod Deadline
+pub mod Failures

@@ -9,4 +9,5 @@ pub use whole::{MOST_BYTES, ReadFault, WriteFault, drain, read_whole, write_whol
 mod connection;
 mod counted;
 mod deadline;
+mod failures;
 mod whole;

@@ -10,7 +10,7 @@ use Rattle.std.proofs.lemmas.Bool.Decides.{nat_tests}
 use Rattle.std.proofs.lemmas.Bool.{and_parts, and_from}
 use Rattle.std.proofs.lemmas.Fmt.{digits_decimal, digits_value-decimal}
 use Rattle.std.proofs.lemmas.List.{take_at, drop_at, length_push}
-use Rattle.stn_time.proofs.Forms.{own}
+use Rattle.stn_text.proofs.Digits.{own}
 use Rattle.stn_records.specs.Id.{SiteCounter, IsId, id_text}
 use Rattle.stn_exec.specs.Command.{around_dot, is_id, id_of}
 

@@ -7,3 +7,4 @@ pub mod Activities
 pub mod BaseBounds
 pub mod Timelines
 pub mod PlanSource
+pub mod Failures

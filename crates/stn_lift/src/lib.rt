@@ -9,6 +9,7 @@ pub use source::Source;
 mod atoms;
 mod base;
 mod bounds;
+mod failures;
 mod fault;
 mod footprint;
 mod laws;

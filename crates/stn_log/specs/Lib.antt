@@ -1,3 +1,4 @@
 pub mod Faults
 pub mod Log
 pub mod Opening
+pub mod Failures

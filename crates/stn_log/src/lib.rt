@@ -6,6 +6,7 @@ pub use laws::one_log;
 pub use reading::load;
 pub use writing::save;
 
+mod failures;
 mod fault;
 mod laws;
 mod reading;

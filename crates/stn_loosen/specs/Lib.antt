@@ -3,3 +3,4 @@ pub mod Loosened
 pub mod Faults
 pub mod Numbered
 pub mod Making
+pub mod Failures

@@ -7,6 +7,7 @@ pub use plan::loosened;
 pub use tolerance::Tolerance;
 
 mod adding;
+mod failures;
 mod fault;
 mod making;
 mod nearest;

@@ -3,7 +3,7 @@ ghost use Rattle.stn_net.specs.Event.{most_events, event_text, IsStepText};
 
 use std::alloc::Allocator;
 use std::marker::Model;
-use stn_text::{append_decimal, read_decimal};
+use stn_text::{print_event, read_decimal};
 use stn_time::Memory;
 
 /// The greatest number of steps of a plan.
@@ -95,14 +95,7 @@ impl Event {
         ensures printed { OnOk result (out.new.items ≡ out.old.items ++ event_text self) }
         ensures kept { OnErr result (out.new.items ≡ out.old.items) }
     {
-        let Event { number } = self;
-        if number == 0 {
-            out.extend_from_slice(b"z")
-        } else if number % 2 == 1 {
-            append_decimal(out, b"s", number / 2 + 1)
-        } else {
-            append_decimal(out, b"e", number / 2)
-        }
+        print_event(self.number, out)
     }
 }
 

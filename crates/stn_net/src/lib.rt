@@ -7,4 +7,5 @@ pub use schedule::first_broken;
 
 mod bound;
 mod event;
+mod failures;
 mod schedule;

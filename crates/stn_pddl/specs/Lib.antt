@@ -9,3 +9,4 @@ pub mod Domains
 pub mod Views
 pub mod FieldViews
 pub mod Sound
+pub mod Failures

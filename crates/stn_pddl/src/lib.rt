@@ -6,6 +6,7 @@ mod actions;
 mod atom;
 mod condition;
 mod domain;
+mod failures;
 mod fault;
 mod fields;
 mod plain;

@@ -4,3 +4,4 @@ pub mod Lines
 pub mod Steps
 pub mod Faults
 pub mod Views
+pub mod Failures

@@ -2,6 +2,7 @@
 #![tactic(auto)]
 
 mod bytes;
+mod failures;
 mod fault;
 mod lines;
 mod plan;

@@ -1,7 +1,8 @@
-use Rattle.std.specs.Prelude.{◌≡◌, ◌≢◌, ℕ, ◌≤◌, Bool, List, ◌∷◌, ◌++◌, All, Option, Some, None, codes, decimal, if◌then◌else◌, refl}
+use Rattle.std.specs.Prelude.{◌≡◌, ◌≢◌, ℕ, ◌≤◌, Bool, List, ◌∷◌, ◌++◌, All, Option, Some, None, if◌then◌else◌, refl}
 use Rattle.std.specs.Coded.{Coded, code_by, coded×, coded_ℕ}
 use Rattle.std.specs.Ordering.{nat_cmp, ordering_then, eq_by_cmp, is_lt}
 use Rattle.std.specs.declared.cmp.Ordering.{Ordering}
+pub use Rattle.stn_text.specs.Names.{SiteCounter, id_text}
 
 -- sites are numbered from 1 to this
 abbrev pub most_sites : ℕ
@@ -15,11 +16,6 @@ most_counter = 65535
 pub record IsSite (number : ℕ) : Type 0 where
   pub least : 1 ≤ number
   pub most : number ≤ most_sites
-
--- an id as two numbers: the site that made a record, and that site's counter
-pub record SiteCounter : Type 0 where
-  pub site : ℕ
-  pub counter : ℕ
 
 -- both numbers lie in their ranges
 pub record IsId (id : SiteCounter) : Type 0 where
@@ -40,10 +36,6 @@ abbrev pub lesser_of : Option SiteCounter → Option SiteCounter → Option Site
 lesser_of None b = b
 lesser_of (Some x) None = Some x
 lesser_of (Some x) (Some y) = if is_lt (id_cmp y x) then Some y else Some x
-
--- the printed form: both numbers without leading zeros, with a dot between
-abbrev pub id_text : SiteCounter → List ℕ
-id_text id = decimal id.site ++ codes "." ++ decimal id.counter
 
 -- as a pair of numbers
 abbrev pub coded_id : Coded SiteCounter

@@ -8,3 +8,4 @@ pub mod Content
 pub mod Refusals
 pub mod Sorted
 pub mod ContentLaws
+pub mod Failures

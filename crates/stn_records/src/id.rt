@@ -3,7 +3,7 @@ ghost use Rattle.stn_records.specs.Id.{SiteCounter, IsSite, IsId, id_text, Split
 
 use std::alloc::Allocator;
 use std::marker::Model;
-use stn_text::{append_decimal, read_decimal};
+use stn_text::{print_id, read_decimal};
 use stn_time::Memory;
 
 /// The greatest number of a site.
@@ -120,13 +120,7 @@ impl Id {
         ensures printed { OnOk result (out.new.items ≡ out.old.items ++ id_text self) }
         ensures kept { OnErr result (out.new.items ≡ out.old.items) }
     {
-        let length = out.len();
-        append_decimal(out, b"", u16::from(self.site.number()))?;
-        let appended = append_decimal(out, b".", self.counter);
-        if appended.is_err() {
-            out.truncate(length);
-        }
-        appended
+        print_id(self.site.number(), self.counter, out)
     }
 }
 

@@ -19,6 +19,7 @@ pub use tombstones::Tombstones;
 
 mod additions;
 mod amendments;
+mod failures;
 mod faults;
 mod id;
 mod id_map;

@@ -10,3 +10,4 @@ pub mod Lines
 pub mod Report
 pub mod Calls
 pub mod Dispatch
+pub mod Failures

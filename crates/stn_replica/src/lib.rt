@@ -14,6 +14,7 @@ pub use report::append_link_lines;
 mod cursors;
 mod dispatch;
 mod done;
+mod failures;
 mod faults;
 mod laws;
 mod lines;

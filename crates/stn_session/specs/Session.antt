@@ -1,10 +1,12 @@
 -- What a session answers to frames: a table by kinds, and its fold.
 use Rattle.std.specs.Prelude.{ℕ, ◌+◌, Bool, true, false, ◌==◌, ◌&&◌, if◌then◌else◌, fold, bytes_eq, List, [], ◌∷◌, ◌++◌, Option, Some, None, is_some, option_and_then}
-use Rattle.stn_net.specs.declared.bound.BoundFault.TheVariants.{NoEvent, SameEvent, Crossed}
+use Rattle.stn_refusal.specs.Codes.{number_of}
+use Rattle.stn_refusal.specs.Refusals.{code_of}
+use Rattle.stn_refusal.specs.declared.code.Code.{Code}
+use Rattle.stn_refusal.specs.declared.code.Code.TheVariants.{OtherPlan, Unexpected, OldVersion}
 use Rattle.stn_lift.specs.PlanSource.{PlanSource, bare, files}
 use Rattle.stn_records.specs.Content.{Content, joined_contents}
-use Rattle.stn_replica.specs.declared.faults.ReplicaFault.{ReplicaFault}
-use Rattle.stn_replica.specs.declared.faults.ReplicaFault.TheVariants.{Bound, CounterSpent, Full, Unknown, Clash, Memory}
+use Rattle.stn_replica.specs.Failures.{replica_failure}
 use Rattle.stn_replica.specs.Held.{holding_state}
 use Rattle.stn_replica.specs.Refusals.{take_refusal}
 use Rattle.stn_wire.specs.Frame.{FrameContent, old_hello, old_records, hello, records, ask, text, refused, same}
@@ -16,20 +18,9 @@ same_source (files domain plan) (files other last) = bytes_eq domain other && by
 same_source (bare ours) (files other last) = false
 same_source (files domain plan) (bare theirs) = false
 
--- the code of a refusal; lack of memory has none
-abbrev pub refusal_code : ReplicaFault → Option ℕ
-refusal_code (Bound NoEvent) = Some 4
-refusal_code (Bound SameEvent) = Some 5
-refusal_code (Bound Crossed) = Some 6
-refusal_code (Clash id) = Some 40
-refusal_code Full = Some 41
-refusal_code Unknown = Some 42
-refusal_code CounterSpent = Some 43
-refusal_code Memory = None
-
--- the code of what refuses to take in what another site holds
+-- the code of what refuses to take in what another site holds; lack of memory has none
 abbrev pub take_code : PlanSource → Content → Content → Option ℕ
-take_code source state other = option_and_then refusal_code (take_refusal (holding_state source state) other)
+take_code source state other = option_and_then (λ fault. code_of (replica_failure fault)) (take_refusal (holding_state source state) other)
 
 -- a reply: a frame; or a TEXT frame with the report of a plan and a state
 pub data Reply : Type 0 where
@@ -49,8 +40,8 @@ abbrev pub replying : Reply → Content → Bool → Answer
 replying reply state greeted = record { reply = reply; state = state; greeted = greeted; ended = None }
 
 -- REFUSED with this code, and the session ends
-abbrev pub ending : ℕ → Content → Bool → Answer
-ending code state greeted = record { reply = said (refused code); state = state; greeted = greeted; ended = Some code }
+abbrev pub ending : Code → Content → Bool → Answer
+ending code state greeted = record { reply = said (refused (number_of code)); state = state; greeted = greeted; ended = Some (number_of code) }
 
 -- the records are taken in, and the whole state is the reply; or they are refused, and the session goes on
 abbrev pub taking : Content → Content → Option ℕ → Answer
@@ -59,16 +50,16 @@ taking state other (Some code) = replying (said (refused code)) state true
 
 -- the answer to a frame, in a plan, by the state and by whether a HELLO was accepted before
 abbrev pub answer : PlanSource → Content → Bool → FrameContent → Answer
-answer source state greeted (old_hello theirs) = ending 65 state greeted
-answer source state greeted (old_records other) = ending 65 state greeted
-answer source state greeted (hello theirs) = if same_source theirs source then replying (said same) state true else ending 60 state greeted
+answer source state greeted (old_hello theirs) = ending OldVersion state greeted
+answer source state greeted (old_records other) = ending OldVersion state greeted
+answer source state greeted (hello theirs) = if same_source theirs source then replying (said same) state true else ending OtherPlan state greeted
 answer source state true (records other) = taking state other (take_code source state other)
-answer source state false (records other) = ending 61 state false
+answer source state false (records other) = ending Unexpected state false
 answer source state true ask = replying (reported source state) state true
-answer source state false ask = ending 61 state false
-answer source state greeted (text bytes) = ending 61 state greeted
-answer source state greeted (refused code) = ending 61 state greeted
-answer source state greeted same = ending 61 state greeted
+answer source state false ask = ending Unexpected state false
+answer source state greeted (text bytes) = ending Unexpected state greeted
+answer source state greeted (refused code) = ending Unexpected state greeted
+answer source state greeted same = ending Unexpected state greeted
 
 -- a session: its plan, the replica's state, whether a HELLO was accepted, the replies, how many frames were answered, and the
 -- code that ended it

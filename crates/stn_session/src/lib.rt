@@ -9,6 +9,7 @@ pub use stn_device::{Counted, MOST_BYTES};
 pub use stn_stream::FrameFault;
 
 mod exchange;
+mod failures;
 mod laws;
 mod replies;
 mod session;

@@ -2,14 +2,15 @@
 ghost use Rattle.std.specs.Prelude.{◌≡◌, ◌⊎◌, ◌++◌, true, Some, IfOk, OnOk, OnErr};
 ghost use Rattle.stn_lift.specs.PlanSource.{plan_source};
 ghost use Rattle.stn_wire.specs.Frame.{content, spelling, hello, records, ask, refused};
-ghost use Rattle.stn_session.specs.Session.{refusal_code, answer};
+ghost use Rattle.stn_refusal.specs.Codes.{number_of};
+ghost use Rattle.stn_session.specs.Session.{answer};
 ghost use Rattle.stn_session.specs.Turns.{IsAnswered};
 
 use std::alloc::{AllocError, Allocator};
 use stn_lift::Source;
-use stn_net::BoundFault;
 use stn_records::Records;
-use stn_replica::{Replica, ReplicaFault};
+use stn_refusal::{Code, Failure};
+use stn_replica::Replica;
 use stn_time::Memory;
 use stn_wire::{Frame, Said, say};
 
@@ -40,8 +41,8 @@ pub(crate) fn reply_to<A: Allocator + Copy>(
         Frame::Hello(source) => greet(source, greeted, replica, out),
         Frame::Records(records) if greeted => take(records, replica, out),
         Frame::Ask if greeted => report(alloc, replica, out),
-        Frame::OldHello(_) | Frame::OldRecords(_) => end(65, greeted, out),
-        _ => end(61, greeted, out),
+        Frame::OldHello(_) | Frame::OldRecords(_) => end(Code::OldVersion, greeted, out),
+        _ => end(Code::Unexpected, greeted, out),
     }
 }
 
@@ -61,7 +62,7 @@ fn greet<A: Allocator + Copy>(
             ended: None,
         })
     } else {
-        end(60, greeted, out)
+        end(Code::OtherPlan, greeted, out)
     }
 }
 
@@ -79,7 +80,7 @@ fn take<A: Allocator + Copy>(
 {
     match replica.take(theirs) {
         Ok(()) => append_state(replica.records(), out)?,
-        Err(fault) => append_refused(code_of(fault)?, out)?,
+        Err(fault) => append_refused(Failure::from(fault).code().ok_or(AllocError)?, out)?,
     }
     Ok(Turn {
         greeted: true,
@@ -105,30 +106,15 @@ fn report<A: Allocator + Copy>(
 }
 
 // REFUSED with a code, which ends the session.
-fn end<A: Allocator + Copy>(code: u8, greeted: bool, out: &mut Vec<u8, A>) -> Result<Turn, Memory>
-    ensures { IfOk result (λ turn. (turn.greeted ≡ greeted) × (turn.ended ≡ Some code) × (out.new.items ≡ out.old.items ++ spelling (refused code))) }
+fn end<A: Allocator + Copy>(code: Code, greeted: bool, out: &mut Vec<u8, A>) -> Result<Turn, Memory>
+    ensures { IfOk result (λ turn. (turn.greeted ≡ greeted) × (turn.ended ≡ Some (number_of code)) × (out.new.items ≡ out.old.items ++ spelling (refused (number_of code)))) }
 {
+    let code = code.number();
     append_refused(code, out)?;
     Ok(Turn {
         greeted,
         ended: Some(code),
     })
-}
-
-// The code of a refusal, unless memory ran out.
-fn code_of(fault: ReplicaFault) -> Result<u8, Memory>
-    ensures { IfOk result (λ code. refusal_code fault ≡ Some code) }
-{
-    match fault {
-        ReplicaFault::Bound(BoundFault::NoEvent) => Ok(4),
-        ReplicaFault::Bound(BoundFault::SameEvent) => Ok(5),
-        ReplicaFault::Bound(BoundFault::Crossed) => Ok(6),
-        ReplicaFault::Clash(_) => Ok(40),
-        ReplicaFault::Full => Ok(41),
-        ReplicaFault::Unknown => Ok(42),
-        ReplicaFault::CounterSpent => Ok(43),
-        ReplicaFault::Memory => Err(AllocError),
-    }
 }
 
 /// Appends a REFUSED frame.

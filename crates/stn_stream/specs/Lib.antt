@@ -1,3 +1,4 @@
 pub mod Held
 pub mod Stream
 pub mod Pieces
+pub mod Failures

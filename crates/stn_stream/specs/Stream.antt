@@ -1,6 +1,8 @@
 -- A reader whose bytes are cut into frames.
 use Rattle.std.specs.Prelude.{◌≡◌, ℕ, ◌+◌, ◌<◌, ◌≤◌, List, [], ◌∷◌, ◌++◌, length, Option, None, Result, Ok, Err, ⊤}
 use Rattle.std.specs.Io.KnownBytes.{Consumes}
+use Rattle.stn_refusal.specs.Codes.{number_of}
+use Rattle.stn_refusal.specs.declared.code.Code.TheVariants as code
 use Rattle.stn_device.specs.Bytes.{most_bytes}
 use Rattle.stn_wire.specs.Frame.{content, spelling, IsFrame}
 use Rattle.stn_wire.specs.Front.{IsFront, faulty, unfinished}
@@ -22,9 +24,9 @@ wire_fault Body = wire.Body
 
 -- its code
 abbrev pub frame_code : FrameFault → ℕ
-frame_code Length = 50
-frame_code Kind = 51
-frame_code Body = 52
+frame_code Length = number_of code.FrameLength
+frame_code Kind = number_of code.FrameKind
+frame_code Body = number_of code.FrameBody
 
 -- nothing was read
 abbrev pub unread : Stream

@@ -3,6 +3,7 @@ ghost use Rattle.stn_stream.specs.Stream.{frame_code, wire_fault};
 ghost use Rattle.stn_stream.specs.declared.fault.StreamFault.TheVariants.{Memory};
 
 use std::alloc::AllocError;
+use stn_refusal::Code;
 use stn_wire::WireFault;
 use thiserror::Error;
 
@@ -26,9 +27,9 @@ impl FrameFault {
         ensures { result ≡ frame_code self }
     {
         match self {
-            FrameFault::Length => 50,
-            FrameFault::Kind => 51,
-            FrameFault::Body => 52,
+            FrameFault::Length => Code::FrameLength.number(),
+            FrameFault::Kind => Code::FrameKind.number(),
+            FrameFault::Body => Code::FrameBody.number(),
         }
     }
 }

@@ -4,5 +4,6 @@
 pub use fault::{FrameFault, StreamFault};
 pub use reader::{FrameReader, Next};
 
+mod failures;
 mod fault;
 mod reader;

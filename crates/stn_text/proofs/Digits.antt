@@ -8,8 +8,12 @@ use Rattle.std.proofs.Math.Bool.{and-false}
 use Rattle.std.proofs.lemmas.Bool.Decides.{nat_tests}
 use Rattle.std.proofs.lemmas.Fmt.{digits_decimal, digits_value-decimal, length-decimal-le, decimal_nonempty}
 use Rattle.std.proofs.lemmas.List.{drop_more}
-use Rattle.stn_time.proofs.Forms.{own}
+use Rattle.std.proofs.lemmas.Str.Parse.{IsNumeralModel, numerals_by_value, tells_all_ascii_digits}
 use Rattle.stn_text.specs.Numbers.{number_of}
+
+-- the two tests of digits agree
+pub own : IsNumeralModel (λ ds. all_ascii_digits ds ≡ true) (digits_value 10)
+own = numerals_by_value _ tells_all_ascii_digits
 
 -- a word that has too few or too many bytes is no number
 pub number_of-length : (word : List ℕ) → (nat_lt 0 (length word) && nat_le (length word) 5) ≡ false → number_of word ≡ None

@@ -1,4 +1,5 @@
 pub mod Bytes
 pub mod Faults
 pub mod Lines
+pub mod Names
 pub mod Numbers

@@ -1,9 +1,9 @@
 ghost use Rattle.std.specs.Prelude.{◌≡◌, ℕ, ◌^◌, ◌<◌, ◌++◌, IfSome, OnOk, OnErr, decimal};
 ghost use Rattle.stn_text.specs.Numbers.{number_of};
 
+use crate::Memory;
 use itoa::Buffer;
 use std::alloc::Allocator;
-use stn_time::Memory;
 
 /// How many digits a number has at most.
 pub const MOST_DIGITS: usize = 5;

@@ -6,7 +6,7 @@ use Rattle.std.specs.Fmt.{sign_text}
 use Rattle.std.specs.List.{prefix_len}
 use Rattle.std.specs.Str.{all_ascii_digits}
 use Rattle.std.specs.Str.Parse.{AllDigits, IsNumeral, digits_value, starts_with_minus}
-use Rattle.std.proofs.lemmas.Str.Parse.{IsNumeralModel, numerals_by_value, tells_all_ascii_digits, digit_from_value}
+use Rattle.std.proofs.lemmas.Str.Parse.{digit_from_value}
 use Rattle.std.proofs.lemmas.Bool.{false≢true, eqb-true}
 use Rattle.std.proofs.lemmas.Bool.Decides.{nat_tests}
 use Rattle.std.proofs.lemmas.Int.{ints}
@@ -15,15 +15,12 @@ use Rattle.std.proofs.lemmas.List.Sums.{take_while-cons, prefix_len-le-length}
 use Rattle.std.proofs.Math.Seq.{take-append_seam, drop-append_seam}
 use Rattle.std.proofs.lemmas.Option.{cond_some, none-some, same_Some}
 use Rattle.std.specs.Option.{option_map}
+use Rattle.stn_text.proofs.Digits.{own}
 use Rattle.stn_time.specs.Text.{Parts, these_parts, point_text, HasParts, IsTimeForm, is_fine, millis_of, Spells, IsTooFine, IsOutOfRange}
 use Rattle.stn_time.specs.TimeOf.{is_numeral, fraction_of, parts_with, parts_of, time_of_found, time_of, is_within_horizon}
 use Rattle.stn_time.specs.Time.{IsWithinHorizon}
 use Rattle.stn_time.specs.declared.reading.TimeFault.{TimeFault}
 use Rattle.stn_time.specs.declared.reading.TimeFault.TheVariants.{Malformed, TooFine, OutOfRange}
-
--- the two tests of digits agree
-pub own : IsNumeralModel (λ ds. all_ascii_digits ds ≡ true) (digits_value 10)
-own = numerals_by_value _ tells_all_ascii_digits
 
 -- a byte with a decimal digit's value is a digit, and the other way round
 pub is_ascii_digit-from_value : (c : ℕ) → digit_value c < 10 → is_ascii_digit c ≡ true

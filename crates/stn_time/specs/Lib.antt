@@ -1,3 +1,4 @@
+pub mod Failures
 pub mod Near
 pub mod Text
 pub mod Time

@@ -2,3 +2,4 @@ pub mod Window
 pub mod Dispatch
 pub mod Rehearsal
 pub mod Leading
+pub mod Failures

@@ -14,5 +14,6 @@ pub use rehearsal::rehearse;
 mod answers;
 mod dispatch;
 mod ends;
+mod failures;
 mod laws;
 mod rehearsal;

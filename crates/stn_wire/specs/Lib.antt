@@ -4,3 +4,4 @@ pub mod Front
 pub mod Feeder
 pub mod Reading
 pub mod Apart
+pub mod Failures

@@ -11,6 +11,7 @@ pub use laws::{one_front, one_spelling, some_front};
 
 mod body;
 mod encoding;
+mod failures;
 mod fault;
 mod feeder;
 mod fields;

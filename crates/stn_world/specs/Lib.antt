@@ -5,3 +5,4 @@ pub mod Parts
 pub mod Whole
 pub mod Steps
 pub mod Runs
+pub mod Failures

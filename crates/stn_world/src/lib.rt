@@ -8,6 +8,7 @@ pub use laws::{
 };
 pub use world::{MOST_PACKETS, World};
 
+mod failures;
 mod faults;
 mod laws;
 mod world;

@@ -1,0 +1,12 @@
+-- What is printed where an input can't be read.
+use Rattle.stn_refusal.specs.declared.failure.Failure.{Failure}
+use Rattle.stn_refusal.specs.declared.failure.Failure.TheVariants.{Failed}
+use Rattle.stn_refusal.specs.declared.failure.Fault.TheVariants as device
+use Rattle.stn_refusal.specs.Refusals.{out_of_memory}
+use Rattle.stn_device.specs.declared.whole.ReadFault.{ReadFault}
+use Rattle.stn_device.specs.declared.whole.ReadFault.TheVariants as read
+
+abbrev pub read_failure : ReadFault → Failure
+read_failure read.Read = Failed device.Read
+read_failure read.Bound = Failed device.Bound
+read_failure read.Memory = out_of_memory

@@ -1,0 +1,20 @@
+-- What is printed where a world is not made, or refuses a call.
+use Rattle.stn_refusal.specs.declared.code.Code.TheVariants as code
+use Rattle.stn_refusal.specs.declared.failure.Failure.{Failure}
+use Rattle.stn_refusal.specs.Refusals.{refused, out_of_memory}
+use Rattle.stn_replica.specs.Failures.{replica_failure}
+use Rattle.stn_world.specs.declared.faults.SitesFault.{SitesFault}
+use Rattle.stn_world.specs.declared.faults.SitesFault.TheVariants as sites
+use Rattle.stn_world.specs.declared.faults.WorldFault.{WorldFault}
+use Rattle.stn_world.specs.declared.faults.WorldFault.TheVariants as world
+
+abbrev pub sites_failure : SitesFault → Failure
+sites_failure sites.NoSite = refused code.NoSite
+sites_failure sites.Memory = out_of_memory
+
+abbrev pub world_failure : WorldFault → Failure
+world_failure world.NoSite = refused code.NoSite
+world_failure world.TooManyPackets = refused code.TooManyPackets
+world_failure world.NoPacket = refused code.NoPacket
+world_failure (world.Replica fault) = replica_failure fault
+world_failure world.Memory = out_of_memory
