@@ -1,7 +1,10 @@
 ghost use Rattle.std.specs.Prelude.{◌≡◌};
+ghost use Rattle.stn_refusal.specs.Refusals.{refused_for};
+ghost use Rattle.stn_refusal.specs.declared.code.Code.TheVariants as code;
 ghost use Rattle.stn_records.specs.Failures.{records_failure, withdraw_failure, amend_failure, replace_failure};
 
 use crate::faults::{AmendFault, RecordsFault, ReplaceFault, WithdrawFault};
+use crate::id::Id;
 use stn_refusal::{Code, Failure, Fault};
 
 impl From<RecordsFault> for Failure {
@@ -9,11 +12,7 @@ impl From<RecordsFault> for Failure {
 
     fn from(fault: RecordsFault) -> Failure {
         match fault {
-            RecordsFault::Clash(id) => Failure::refused_for(
-                Code::Clash,
-                id.site().number(),
-                id.counter(),
-            ),
+            RecordsFault::Clash(id) => clash(id),
             RecordsFault::Full => Failure::refused(Code::Full),
             RecordsFault::Memory => Failure::Failed(Fault::Memory),
         }
@@ -37,11 +36,7 @@ impl From<AmendFault> for Failure {
     fn from(fault: AmendFault) -> Failure {
         match fault {
             AmendFault::SelfReplace => Failure::refused(Code::SelfReplace),
-            AmendFault::Clash(id) => Failure::refused_for(
-                Code::Clash,
-                id.site().number(),
-                id.counter(),
-            ),
+            AmendFault::Clash(id) => clash(id),
             AmendFault::Unknown => Failure::refused(Code::Unknown),
             AmendFault::Full => Failure::refused(Code::Full),
             AmendFault::Memory => Failure::Failed(Fault::Memory),
@@ -55,13 +50,16 @@ impl From<ReplaceFault> for Failure {
     fn from(fault: ReplaceFault) -> Failure {
         match fault {
             ReplaceFault::SelfReplace => Failure::refused(Code::SelfReplace),
-            ReplaceFault::Clash(id) => Failure::refused_for(
-                Code::Clash,
-                id.site().number(),
-                id.counter(),
-            ),
+            ReplaceFault::Clash(id) => clash(id),
             ReplaceFault::Full => Failure::refused(Code::Full),
             ReplaceFault::Memory => Failure::Failed(Fault::Memory),
         }
     }
+}
+
+// An id with two different records, or that replaces two different ids.
+fn clash(id: Id) -> Failure
+    ensures { result ≡ refused_for code.Clash id }
+{
+    Failure::refused_for(Code::Clash, id.site().number(), id.counter())
 }
