@@ -2,15 +2,17 @@
 use Rattle.std.proofs.Common.{◌≡◌, ℕ, true, not, List, ◌++◌, Option, Some, None, refl, sym, ap, subst, ◌∙◌}
 use Rattle.std.specs.Prelude.{unwrap_or, is_some, option_and_then}
 use Rattle.std.proofs.lemmas.Bool.{false≢true}
+use Rattle.stn_refusal.specs.Refusals.{code_of}
 use Rattle.stn_records.specs.Content.{Content, dispute_contents, join_contents, joined_contents}
 use Rattle.stn_records.specs.ContentLaws.{contents_dispute, contents_undisputed}
 use Rattle.stn_replica.specs.Calls.{Leaves, took}
+use Rattle.stn_replica.specs.Failures.{replica_failure}
 use Rattle.stn_replica.specs.Held.{Held}
 use Rattle.stn_replica.specs.Refusals.{take_refusal}
 use Rattle.stn_replica.specs.declared.faults.ReplicaFault.{ReplicaFault}
 use Rattle.stn_replica.specs.declared.faults.ReplicaFault.TheVariants.{Memory}
 use Rattle.stn_wire.specs.Frame.{spelling, records, refused}
-use Rattle.stn_session.specs.Session.{Answer, refusal_code, take_code, taking}
+use Rattle.stn_session.specs.Session.{Answer, take_code, taking}
 use Rattle.stn_session.specs.Turns.{IsAnswered}
 use Rattle.stn_session.specs.declared.replies.Turn.{Turn}
 
@@ -31,8 +33,12 @@ state_joined old new theirs leaves =
 abbrev pub taking_of : Held → Content → Answer
 taking_of old theirs = taking old.state theirs (take_code old.source old.state theirs)
 
+-- the code of a replica's fault; lack of memory has none
+abbrev pub refused_code : ReplicaFault → Option ℕ
+refused_code fault = code_of (replica_failure fault)
+
 joining : (old : Held) (theirs : Content) → take_refusal old theirs ≡ None → taking_of old theirs ≡ taking old.state theirs None
-joining old theirs none = ap (λ (r : Option ReplicaFault). taking old.state theirs (option_and_then refusal_code r)) none
+joining old theirs none = ap (λ (r : Option ReplicaFault). taking old.state theirs (option_and_then refused_code r)) none
 
 pub state_taken : (old new : Held) (theirs : Content) → take_refusal old theirs ≡ None → Leaves old (took theirs) new → new.state ≡ (taking_of old theirs).state
 state_taken old new theirs none leaves = state_joined old new theirs leaves ∙ ap (λ (a : Answer). a.state) (sym (joining old theirs none))
@@ -53,11 +59,11 @@ taken_answered old new theirs before after none leaves appended =
       ended = refl;
     })
 
-coded : (refusal : Option ReplicaFault) (fault : ReplicaFault) (code : ℕ) → fault ≡ unwrap_or refusal Memory → refusal_code fault ≡ Some code → option_and_then refusal_code refusal ≡ Some code
-coded None fault code is given = sym (ap refusal_code is) ∙ given
-coded (Some other) fault code is given = sym (ap refusal_code is) ∙ given
+coded : (refusal : Option ReplicaFault) (fault : ReplicaFault) (code : ℕ) → fault ≡ unwrap_or refusal Memory → refused_code fault ≡ Some code → option_and_then refused_code refusal ≡ Some code
+coded None fault code is given = sym (ap refused_code is) ∙ given
+coded (Some other) fault code is given = sym (ap refused_code is) ∙ given
 
-pub refusal_answered : (old new : Held) (theirs : Content) (before after : List ℕ) (fault : ReplicaFault) (code : ℕ) → fault ≡ unwrap_or (take_refusal old theirs) Memory → refusal_code fault ≡ Some code
+pub refusal_answered : (old new : Held) (theirs : Content) (before after : List ℕ) (fault : ReplicaFault) (code : ℕ) → fault ≡ unwrap_or (take_refusal old theirs) Memory → refused_code fault ≡ Some code
     → new ≡ old → after ≡ before ++ spelling (refused code) → IsAnswered (taking_of old theirs) new.state before after going_on
 refusal_answered old new theirs before after fault code is given kept appended =
     subst (λ (a : Answer). IsAnswered a new.state before after going_on) (sym (ap (taking old.state theirs) (coded (take_refusal old theirs) fault code is given))) (record {
