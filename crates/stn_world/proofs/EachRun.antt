@@ -23,6 +23,7 @@ use Rattle.stn_world.proofs.Accepted.{accepted_addition, accepted_execution, acc
 use Rattle.stn_world.proofs.Whole.{parts_agree, part_named, held_record, items_known}
 use Rattle.stn_world.proofs.Alike.{replaces_more, replaced_by}
 use Rattle.stn_world.proofs.Runs.{this_step, coherent_stepped, grows_run}
+use Rattle.stn_world.proofs.Entries.{each_state}
 use Rattle.stn_world.proofs.Lawful.{IsLawful, known_made}
 
 module _ (world : World) (items : List Making) (now : IsLawful world items) where
@@ -88,15 +89,8 @@ module _ (world : World) (items : List Making) (now : IsLawful world items) wher
       (λ item brings. taken_stays step site item accepted (brings_there step site item accepted brings) brings rest) replaces))
 
   -- ---- the states agree
-  element : (xs : List Content) (one : Content) → Contains xs one → (place : ℕ) × (get_or xs (place - 1) no_content ≡ one)
-  element xs one (k, lt, e) = let place : suc k - 1 ≡ k = omega arith in
-      (suc k, ap (λ (i : ℕ). get_or xs i no_content) place ∙ (get_or_default xs k no_content one lt ∙ e))
-
   state_part : (one : Content) → Contains (states_of world) one → IsPart one now.all
-  state_part one there = ⊎_elim
-      (λ at. let is = element world.sites one at in subst (λ (c : Content). IsPart c now.all) is.1 (now.whole.sites is.0))
-      (λ at. let is = element world.packets one at in subst (λ (c : Content). IsPart c now.all) is.1 (now.whole.packets is.0))
-      (Contains-append_cases world.sites world.packets one there)
+  state_part = each_state (λ (c : Content). IsPart c now.all) world now.whole.sites now.whole.packets
 
   pub any_agree : (one other : Content) → Contains (states_of world) one → Contains (states_of world) other → dispute_contents one other ≡ None
   any_agree one other there other_there = parts_agree one other now.all (state_part one there) (state_part other other_there)

@@ -7,5 +7,6 @@ pub mod Merges
 pub mod Sendings
 pub mod Runs
 pub mod Alike
+pub mod Entries
 pub mod Lawful
 pub mod EachRun

@@ -31,7 +31,7 @@ set_cases (y ∷ xs) (suc i) zero x d = inr refl
 set_cases (y ∷ xs) (suc i) (suc j) x d = set_cases xs i j x d
 
 -- what was true of each site's content, and is of the new one
-each_site : (P : Content → Type 0) (world : World) (at : ℕ) (content : Content) (site : ℕ) → P content → P (content_at world site) → P (content_at (with_content world at content) site)
+pub each_site : (P : Content → Type 0) (world : World) (at : ℕ) (content : Content) (site : ℕ) → P content → P (content_at world site) → P (content_at (with_content world at content) site)
 each_site P world at content site new old =
     ⊎_elim (λ e. subst P (sym e.0) new) (λ e. subst P (sym e) old) (set_cases world.sites (at - 1) (site - 1) content no_content)
 
@@ -102,7 +102,7 @@ amended_items world coherent site old bound =
     amendment_items (content_at world site) (next_id_at world site) old bound (coherent.1.sites_amend site) (next_is_new (content_at world site) site (next_id_at world site).counter refl)
 
 -- ---- equal items
-same_id : (id other : SiteCounter) (one two : Record) → addition id one ≡ addition other two → id ≡ other
+pub same_id : (id other : SiteCounter) (one two : Record) → addition id one ≡ addition other two → id ≡ other
 same_id id other one two e = cc
 
 same_one : (id other : SiteCounter) (one two : Record) → addition id one ≡ addition other two → one ≡ two
@@ -114,10 +114,10 @@ site_of other two id one e = ap (λ (i : SiteCounter). i.site) (same_id other id
 same_gone : (id other : SiteCounter) → withdrawal id ≡ withdrawal other → id ≡ other
 same_gone id other e = cc
 
-same_new : (other second id old : SiteCounter) → replacement other second ≡ replacement id old → other ≡ id
+pub same_new : (other second id old : SiteCounter) → replacement other second ≡ replacement id old → other ≡ id
 same_new other second id old e = cc
 
-same_old : (other second id old : SiteCounter) → replacement other second ≡ replacement id old → second ≡ old
+pub same_old : (other second id old : SiteCounter) → replacement other second ≡ replacement id old → second ≡ old
 same_old other second id old e = cc
 
 -- ---- items that a site makes
@@ -246,7 +246,7 @@ last_cases (y ∷ xs) zero x d = inr refl
 last_cases (y ∷ xs) (suc i) x d = last_cases xs i x d
 
 -- and so has a property of all packets
-each_packet : (P : Content → Type 0) (world : World) (part : Content) (number : ℕ) → P part → P (packet_at world number) → P (packet_at (send world part) number)
+pub each_packet : (P : Content → Type 0) (world : World) (part : Content) (number : ℕ) → P part → P (packet_at world number) → P (packet_at (send world part) number)
 each_packet P world part number new old = ⊎_elim (λ e. subst P (sym e) new) (λ e. subst P (sym e) old) (last_cases world.packets (number - 1) part no_content)
 
 pub sent_whole : (world : World) (all part : Content) → IsWhole world all → IsPart part all → AllAmend part → IsWhole (send world part) all

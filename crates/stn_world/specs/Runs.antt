@@ -2,9 +2,11 @@
 use Rattle.std.specs.Prelude.{ℕ, List, [], ◌∷◌, ◌++◌, length, filter, Bool, true, false, is_some, if◌then◌else◌}
 use Rattle.std.specs.List.{Contains}
 use Rattle.stn_lift.specs.PlanSource.{PlanSource}
-use Rattle.stn_records.specs.Content.{Content, Item, addition, withdrawal, replacement}
+use Rattle.stn_records.specs.Id.{SiteCounter}
+use Rattle.stn_records.specs.declared.record.Record.{Record}
+use Rattle.stn_records.specs.Content.{Content, Item, addition, withdrawal, replacement, HasItem}
 use Rattle.stn_replica.specs.Held.{plain, executed}
-use Rattle.stn_world.specs.World.{World, opening_world, next_id_at}
+use Rattle.stn_world.specs.World.{World, opening_world, next_id_at, content_at}
 use Rattle.stn_world.specs.Steps.{Step, added, finished, amended, withdrew, step_refusal, stepped, run}
 
 -- an item that was made, and the site that made it
@@ -53,3 +55,8 @@ InEachRun P = (source : PlanSource) (sites : ℕ) (steps : List Step) → P (run
 -- what all sites and all packets hold
 abbrev pub states_of : World → List Content
 states_of world = world.sites ++ world.packets
+
+-- the state has each record of an amendment with the entry by which it replaces another: the one that the site that made it has
+abbrev pub HasEntries : World → Content → Type 0
+HasEntries world state = (id old : SiteCounter) (one : Record) → HasItem state (addition id one) → HasItem (content_at world id.site) (replacement id old)
+    → HasItem state (replacement id old)

@@ -7,7 +7,7 @@ ghost use Rattle.stn_replica.specs.Calls.{Replaces};
 ghost use Rattle.stn_replica.specs.Report.{IsReport};
 ghost use Rattle.stn_world.specs.World.{World, HasSite, HasPacket, opening_world, content_at, packet_at};
 ghost use Rattle.stn_world.specs.Steps.{Step, merged, delivered, IsAccepted, run, Brings, TookAt, TookSameAt, TookSameItemsAt};
-ghost use Rattle.stn_world.specs.Runs.{Making, WasMade, records_made, states_of, InEachRun};
+ghost use Rattle.stn_world.specs.Runs.{Making, WasMade, records_made, states_of, HasEntries, InEachRun};
 
 use stn_replica::{one_report, same_counts_same_bytes};
 
@@ -43,6 +43,12 @@ pub fn only_made_items()
     ensures held { InEachRun (λ now items. (one : Making) → Contains items one → HasItem (content_at now one.site) one.item) }
     ensures at_sites { InEachRun (λ now items. (site : ℕ) (item : Item) → HasItem (content_at now site) item → WasMade items item) }
     ensures in_packets { InEachRun (λ now items. (number : ℕ) (item : Item) → HasItem (packet_at now number) item → WasMade items item) }
+{}
+
+/// The law that an amendment is whole: in each run a site or a packet that has the record of an amendment
+/// has the entry by which it replaces another id, too.
+pub fn amendments_are_whole()
+    ensures { InEachRun (λ now items. (state : Content) → Contains (states_of now) state → HasEntries now state) }
 {}
 
 /// The law that in each run what a site took from a packet or from another site it holds ever after,
