@@ -17,7 +17,7 @@ import time
 from pathlib import Path
 
 TOP = Path(__file__).resolve().parent.parent
-PROGRAM = TOP / "crates" / "stn" / "out" / "launcher" / "stn"
+PROGRAM = TOP / "out" / "stn"
 HORIZON = 31_536_000_000
 # Over how many milliseconds the events of a hidden schedule are spread: the same at every horizon, so that figures compare.
 SPREAD = 1_000_000_000
@@ -216,7 +216,7 @@ OTHERS = {made.__name__: made for made in (frames, feed)}
 
 
 def main():
-    subprocess.run([str(TOP / "stn")], stdin=subprocess.DEVNULL, stdout=subprocess.DEVNULL, stderr=None, check=False)
+    subprocess.run([str(TOP / "stn"), "build"], stdout=subprocess.DEVNULL, check=True)
     print(f"{os.cpu_count()} processors, {processor()}")
     with tempfile.TemporaryDirectory() as name:
         folder = Path(name)

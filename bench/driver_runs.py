@@ -4,7 +4,7 @@
 
 usage: bench/driver_runs.py PROGRAM
 
-PROGRAM is the built program (crates/stn/out/launcher/stn, which ./stn builds). A run is checked by bench/plans.py,
+PROGRAM is the built program, whose path ./stn build prints. A run is checked by bench/plans.py,
 which reads domains and plans by the formats alone:
 
 - each step takes its planned duration, with the tolerance;

@@ -3,7 +3,7 @@
 
 usage: bench/shared_logs.py PROGRAM
 
-PROGRAM is the built program (crates/stn/out/launcher/stn, which ./stn builds). The logs are made in a fresh folder, which is
+PROGRAM is the built program, whose path ./stn build prints. The logs are made in a fresh folder, which is
 removed at the end. What can't be tried here, as for lack of rights, is said so.
 """
 import fcntl

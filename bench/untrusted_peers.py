@@ -1,7 +1,7 @@
 #!/usr/bin/env python3
 """Peers that can't be trusted, and logs that change meanwhile: runs `serve` and `send` of the built program against them.
 
-usage: bench/untrusted_peers.py [PROGRAM]    with no name: the one that ./stn builds
+usage: bench/untrusted_peers.py [PROGRAM]    with no name: the one that ./stn build makes
 It says `passed`, or what failed. It takes about a minute.
 """
 import os
@@ -15,7 +15,7 @@ import time
 from pathlib import Path
 
 TOP = Path(__file__).resolve().parent.parent
-PROGRAM = TOP / "crates" / "stn" / "out" / "launcher" / "stn"
+PROGRAM = TOP / "out" / "stn"
 # A session may take so long, and a machine that does other work at the same time so much longer.
 SECONDS = 2
 SLACK = 4
