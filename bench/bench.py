@@ -182,6 +182,55 @@ def frames(folder):
     print(row, flush=True)
 
 
+def bounded_log(records):
+    """A log of a bare plan of 256 steps and so many random records of site 1 that have a schedule."""
+    rng = random.Random(6)
+    schedule = [0] + [rng.randrange(SPREAD) for _ in range(512)]
+    listed = []
+    for number in range(records):
+        first, second = rng.sample(range(513), 2)
+        gap = schedule[second] - schedule[first]
+        low = max(-SPREAD, gap - rng.randrange(1_000_000))
+        high = min(SPREAD, gap + rng.randrange(1_000_000))
+        listed.append(struct.pack(">HHBHHQQ", 1, number + 1, 0, first, second, low + HORIZON, high + HORIZON))
+    times = " ".join(text(time) for time in schedule[1:])
+    return frame(struct.pack(">BBH", 7, 0, 256)) + frame(struct.pack(">BH", 8, records) + b"".join(listed) + struct.pack(">H", 0)), times
+
+
+def commands(folder):
+    """Single commands on a log of 4,000 records over 256 steps."""
+    made, times = bounded_log(4000)
+    log, nothing = folder / "commands.log", folder / "nothing"
+    nothing.write_bytes(b"")
+    for words in ("add s1 e256 --lo=-1000000", "done s1 500", "withdraw 1.2000", "records", f"check {times}", "report", "why e128",
+                  "draw", "next 0", "ready 0", "rehearse 0"):
+        command, *rest = words.split()
+        words = [command, "commands.log", "1", *rest]
+        log.write_bytes(made)
+        best, done = timed(words, folder, nothing)
+        log.write_bytes(made)
+        count = instructions(words, folder, nothing)
+        row = f"{command}: {len(done.stdout)} bytes printed, status {done.returncode}, {best:.3f} s"
+        print(row if count is None else f"{row}, {count / 1e6:.1f} million instructions", flush=True)
+
+
+def crowded(folder):
+    """Single commands on a log of a plan of 256 steps that all interfere."""
+    domain, _, plan = "\n".join(dense()[1:-2]).partition("\nend\nplan\n")
+    log, nothing = folder / "crowded.log", folder / "nothing"
+    nothing.write_bytes(b"")
+    (folder / "domain.pddl").write_text(domain + "\n")
+    (folder / "plan.txt").write_text(plan.removesuffix("\nend") + "\n")
+    subprocess.run([str(PROGRAM), "init", log.name, "1", "domain.pddl", "plan.txt"], cwd=folder, stdout=subprocess.DEVNULL, check=True)
+    for words in ("report", "why e128", "draw", "next 0"):
+        command, *rest = words.split()
+        words = [command, log.name, "1", *rest]
+        best, done = timed(words, folder, nothing)
+        count = instructions(words, folder, nothing)
+        row = f"crowded {command}: {len(done.stdout)} bytes printed, status {done.returncode}, {best:.3f} s"
+        print(row if count is None else f"{row}, {count / 1e6:.1f} million instructions", flush=True)
+
+
 def send_pieces(port, data, piece):
     """Sends the bytes in pieces, and reads all that comes back."""
     with socket.create_connection(("127.0.0.1", port)) as link:
@@ -212,7 +261,7 @@ def feed(folder):
         served.wait()
 
 
-OTHERS = {made.__name__: made for made in (frames, feed)}
+OTHERS = {made.__name__: made for made in (frames, commands, crowded, feed)}
 
 
 def main():
