@@ -9,7 +9,7 @@ use Rattle.std.specs.FinMap.{is_sorted}
 use Rattle.std.specs.FinMap.Entries.{below_all}
 use Rattle.stn_records.specs.Id.{SiteCounter, id_cmp, lesser_of}
 use Rattle.std.specs.Map.{keys_of}
-use Rattle.stn_records.specs.Sorted.{past_id}
+use Rattle.stn_records.specs.Sorted.{first_key, past_id}
 use Rattle.stn_records.specs.Content.{same_ids}
 use Rattle.stn_records.specs.ContentLaws.{ids_total, ids_exact, lesser_none}
 use Rattle.stn_records.proofs.Entries.{less_is, less_back, greater_back, below_less}
@@ -82,7 +82,7 @@ module _ {X : Type 0} where
   absent_below id (e ∷ es) h = ap (λ r. is_eq r || is_member same_ids (keys_of es) id) (less_is (id_cmp id e.0) (and_parts _ _ h).0) ∙ absent_below id es (and_parts _ _ h).1
 
   -- past an id that is not above the first, the list has its other keys
-  pub past_members : (id : SiteCounter) (es : List (SiteCounter × X)) → is_sorted id_cmp es ≡ true → NotAbove id (slice_get (keys_of es) 0) → (q : SiteCounter) → is_member same_ids (keys_of (past_id id es)) q ≡ (is_member same_ids (keys_of es) q && not (same_ids q id))
+  pub past_members : (id : SiteCounter) (es : List (SiteCounter × X)) → is_sorted id_cmp es ≡ true → NotAbove id (first_key es) → (q : SiteCounter) → is_member same_ids (keys_of (past_id id es)) q ≡ (is_member same_ids (keys_of es) q && not (same_ids q id))
   past_members id [] h n q = refl
   past_members id (e ∷ es) h n q =
       elim (id_cmp e.0 id) as (λ r. id_cmp e.0 id ≡ r → is_lt r ≡ false → is_member same_ids (keys_of (cond (is_eq r) es (e ∷ es))) q ≡ ((same_ids q e.0 || is_member same_ids (keys_of es) q) && not (same_ids q id))) [
@@ -115,11 +115,11 @@ module _ {X : Type 0} where
   past_shorter id [] = omega arith
   past_shorter id (e ∷ es) = elim (is_eq (id_cmp e.0 id)) as (λ b. length (cond b es (e ∷ es)) ≤ suc (length es)) [ true ↦ omega arith | false ↦ omega arith ]
 
-  pub past_first : (id : SiteCounter) (es : List (SiteCounter × X)) → slice_get (keys_of es) 0 ≡ Some id → suc (length (past_id id es)) ≡ length es
+  pub past_first : (id : SiteCounter) (es : List (SiteCounter × X)) → first_key es ≡ Some id → suc (length (past_id id es)) ≡ length es
   past_first id [] e = absurd (false≢true (ap is_some e))
   past_first id (e ∷ es) f = ap (λ r. suc (length (cond (is_eq r) es (e ∷ es)))) (ap (λ x. id_cmp e.0 x) (sym (same_Some e.0 id f)) ∙ tied_itself ids_total e.0)
 
-  first_member : (id : SiteCounter) (es : List (SiteCounter × X)) → slice_get (keys_of es) 0 ≡ Some id → is_member same_ids (keys_of es) id ≡ true
+  first_member : (id : SiteCounter) (es : List (SiteCounter × X)) → first_key es ≡ Some id → is_member same_ids (keys_of es) id ≡ true
   first_member id [] e = absurd (false≢true (ap is_some e))
   first_member id (e ∷ es) f = ap (λ x. same_ids id x || is_member same_ids (keys_of es) id) (same_Some e.0 id f) ∙ ap (λ r. is_eq r || is_member same_ids (keys_of es) id) (tied_itself ids_total id)
 
@@ -166,7 +166,7 @@ module _ {X Y : Type 0} (a : List (SiteCounter × X)) (b : List (SiteCounter × 
 
   -- the least of the first ids
   abbrev pub least_first : Option SiteCounter
-  least_first = lesser_of (lesser_of (slice_get (keys_of a) 0) (slice_get (keys_of b) 0)) (lesser_of (slice_get (keys_of c) 0) (slice_get (keys_of d) 0))
+  least_first = lesser_of (lesser_of (first_key a) (first_key b)) (lesser_of (first_key c) (first_key d))
 
   pub keys_length : length (all_keys a b c d) ≡ length a + length b + length c + length d
   keys_length = omega (arith, length-append (keys_of a ++ keys_of b) (keys_of c ++ keys_of d), length-append (keys_of a) (keys_of b), length-append (keys_of c) (keys_of d), length-map a (λ (e : SiteCounter × X). e.0), length-map b (λ (e : SiteCounter × Y). e.0), length-map c (λ (e : SiteCounter × X). e.0), length-map d (λ (e : SiteCounter × Y). e.0))
@@ -179,7 +179,7 @@ module _ {X Y : Type 0} (a : List (SiteCounter × X)) (b : List (SiteCounter × 
       no_keys [] e = refl
       no_keys (k ∷ ks) e = absurd (false≢true (ap is_some (sym e)))
 
-      by : (a : List (SiteCounter × X)) (b : List (SiteCounter × Y)) (c : List (SiteCounter × X)) (d : List (SiteCounter × Y)) → lesser_of (lesser_of (slice_get (keys_of a) 0) (slice_get (keys_of b) 0)) (lesser_of (slice_get (keys_of c) 0) (slice_get (keys_of d) 0)) ≡ None → distinct_count same_ids (all_keys a b c d) ≡ 0
+      by : (a : List (SiteCounter × X)) (b : List (SiteCounter × Y)) (c : List (SiteCounter × X)) (d : List (SiteCounter × Y)) → lesser_of (lesser_of (first_key a) (first_key b)) (lesser_of (first_key c) (first_key d)) ≡ None → distinct_count same_ids (all_keys a b c d) ≡ 0
       by a b c d e =
           let both = lesser_none _ _ e in
           let left = lesser_none _ _ both.0 in
@@ -198,8 +198,8 @@ module _ {X Y : Type 0} (a : List (SiteCounter × X)) (b : List (SiteCounter × 
     pub one_counted : is_sorted id_cmp a ≡ true → is_sorted id_cmp b ≡ true → is_sorted id_cmp c ≡ true → is_sorted id_cmp d ≡ true → suc (distinct_count same_ids (all_keys (past_id id a) (past_id id b) (past_id id c) (past_id id d))) ≡ distinct_count same_ids (all_keys a b c d)
     one_counted p q r s =
         let two = lesser_least _ _ id least in
-        let left = not_above_within (slice_get (keys_of a) 0) (slice_get (keys_of b) 0) id two.0 in
-        let right = not_above_within (slice_get (keys_of c) 0) (slice_get (keys_of d) 0) id two.1 in
+        let left = not_above_within (first_key a) (first_key b) id two.0 in
+        let right = not_above_within (first_key c) (first_key d) id two.1 in
         less_one (all_keys a b c d) (all_keys (past_id id a) (past_id id b) (past_id id c) (past_id id d)) id among (λ k.
         past_four k ∙ without_both _ _ _ _ (same_ids k id)
         (without_both _ _ _ _ (same_ids k id) (past_members id a p left.0 k) (past_members id b q left.1 k))
@@ -215,9 +215,3 @@ module _ {X Y : Type 0} (a : List (SiteCounter × X)) (b : List (SiteCounter × 
         (λ l. ⊎_elim (λ x. let n = past_first id a x in omega (arith, past_shorter id b, past_shorter id c, past_shorter id d)) (λ x. let n = past_first id b x in omega (arith, past_shorter id a, past_shorter id c, past_shorter id d)) (lesser_member _ _ id l))
         (λ r. ⊎_elim (λ x. let n = past_first id c x in omega (arith, past_shorter id a, past_shorter id b, past_shorter id d)) (λ x. let n = past_first id d x in omega (arith, past_shorter id a, past_shorter id b, past_shorter id c)) (lesser_member _ _ id r))
         (lesser_member _ _ id least)
-
--- the least of the first ids, as it is read
-pub least_read : (fa fb fc fd f g h k l m n : Option SiteCounter) → f ≡ fa → g ≡ fb → h ≡ fc → k ≡ fd → l ≡ lesser_of f g → m ≡ lesser_of h k → n ≡ lesser_of l m → lesser_of (lesser_of fa fb) (lesser_of fc fd) ≡ n
-least_read fa fb fc fd f g h k l m n a b c d p q r =
-    (λ i. lesser_of (lesser_of (sym a i) (sym b i)) (lesser_of (sym c i) (sym d i)))
-    ∙ (λ i. lesser_of (sym p i) (sym q i)) ∙ sym r

@@ -1,6 +1,5 @@
--- The first id in dispute, of what two lists have left.
-use Rattle.std.proofs.Common.{◌≡◌, ℕ, ◌<◌, Bool, true, false, cond, not, List, [], ◌∷◌, length, get_or, drop, Option, Some, None, find, Less, Equal, Greater, is_lt, is_eq, ◌+◌, sym, refl, ap, ◌∙◌}
-use Rattle.std.proofs.lemmas.List.{get_or_default}
+-- The first id in dispute of two lists, by their first entries.
+use Rattle.std.proofs.Common.{◌≡◌, Bool, true, false, cond, not, List, [], ◌∷◌, Option, Some, None, find, Less, Equal, Greater, is_lt, is_eq, length, ◌⊎◌, ⊎_elim, arith, sym, refl, ap, ◌∙◌}
 use Rattle.std.proofs.lemmas.Bool.{and_parts, and_from}
 use Rattle.std.specs.Cmp.{tied_back, tied_itself}
 use Rattle.std.specs.FinMap as fin
@@ -8,19 +7,16 @@ use Rattle.std.specs.FinMap.{FinMap, is_sorted, get-entries}
 use Rattle.std.specs.FinMap.Entries.{below_all}
 use Rattle.stn_records.specs.Id.{SiteCounter, id_cmp}
 use Rattle.stn_records.specs.Maps.{differ, dispute}
+use Rattle.stn_records.specs.Sorted.{dispute_of}
 use Rattle.std.specs.Map.{keys_of}
 use Rattle.stn_records.specs.ContentLaws.{ids_total}
 use Rattle.stn_records.specs.MapLaws.{none_found}
-use Rattle.stn_records.proofs.Entries.{front, less_is, greater_back, tied_less, below_less, find_below, passed_over, rest_sorted}
+use Rattle.stn_records.proofs.Entries.{less_is, greater_back, tied_less, below_less, find_below, passed_over}
 
 module _ {X : Type 0} (equal : X → X → Bool) where
   -- whether an id has different values in two lists
-  abbrev pub in_dispute : List (SiteCounter × X) → List (SiteCounter × X) → SiteCounter → Bool
+  abbrev in_dispute : List (SiteCounter × X) → List (SiteCounter × X) → SiteCounter → Bool
   in_dispute xs ys id = differ equal (fin.find id_cmp id xs) (fin.find id_cmp id ys)
-
-  -- the first such id of the first list
-  abbrev pub dispute_of : List (SiteCounter × X) → List (SiteCounter × X) → Option SiteCounter
-  dispute_of xs ys = find (in_dispute xs ys) (keys_of xs)
 
   -- two tests that answer alike above an id find alike among entries above it
   found_above : (b : SiteCounter) (p q : SiteCounter → Bool) → ((k : SiteCounter) → id_cmp b k ≡ Less → p k ≡ q k) → (es : List (SiteCounter × X)) → below_all id_cmp b es ≡ true → find p (keys_of es) ≡ find q (keys_of es)
@@ -36,7 +32,7 @@ module _ {X : Type 0} (equal : X → X → Bool) where
   no_difference (Some x) = refl
 
   -- the first id of ours comes first: theirs has no value of it
-  pub ours_first : (x : SiteCounter × X) (xs : List (SiteCounter × X)) (y : SiteCounter × X) (ys : List (SiteCounter × X)) → is_sorted id_cmp (x ∷ xs) ≡ true → is_sorted id_cmp (y ∷ ys) ≡ true → id_cmp x.0 y.0 ≡ Less → dispute_of xs (y ∷ ys) ≡ dispute_of (x ∷ xs) (y ∷ ys)
+  pub ours_first : (x : SiteCounter × X) (xs : List (SiteCounter × X)) (y : SiteCounter × X) (ys : List (SiteCounter × X)) → is_sorted id_cmp (x ∷ xs) ≡ true → is_sorted id_cmp (y ∷ ys) ≡ true → id_cmp x.0 y.0 ≡ Less → dispute_of equal xs (y ∷ ys) ≡ dispute_of equal (x ∷ xs) (y ∷ ys)
   ours_first x xs y ys g h l =
       let none = find_below ids_total x.0 (y ∷ ys) (and_from _ _ (ap is_lt l) (below_less ids_total x.0 y.0 ys l (and_parts _ _ h).0)) in
       let agreed : in_dispute (x ∷ xs) (y ∷ ys) x.0 ≡ false = ap (differ equal (fin.find id_cmp x.0 (x ∷ xs))) none ∙ no_difference _ in
@@ -44,7 +40,7 @@ module _ {X : Type 0} (equal : X → X → Bool) where
       ∙ sym (ap (λ b. cond b (Some x.0) (find (in_dispute (x ∷ xs) (y ∷ ys)) (keys_of xs))) agreed)
 
   -- the first id of theirs comes first: no id of ours is its
-  pub theirs_first : (x : SiteCounter × X) (xs : List (SiteCounter × X)) (y : SiteCounter × X) (ys : List (SiteCounter × X)) → is_sorted id_cmp (x ∷ xs) ≡ true → is_sorted id_cmp (y ∷ ys) ≡ true → id_cmp x.0 y.0 ≡ Greater → dispute_of (x ∷ xs) ys ≡ dispute_of (x ∷ xs) (y ∷ ys)
+  pub theirs_first : (x : SiteCounter × X) (xs : List (SiteCounter × X)) (y : SiteCounter × X) (ys : List (SiteCounter × X)) → is_sorted id_cmp (x ∷ xs) ≡ true → is_sorted id_cmp (y ∷ ys) ≡ true → id_cmp x.0 y.0 ≡ Greater → dispute_of equal (x ∷ xs) ys ≡ dispute_of equal (x ∷ xs) (y ∷ ys)
   theirs_first x xs y ys g h t =
       let l = greater_back ids_total x.0 y.0 t in
       found_above y.0 (in_dispute (x ∷ xs) ys) (in_dispute (x ∷ xs) (y ∷ ys)) (λ k a. ap (differ equal (fin.find id_cmp k (x ∷ xs))) (sym (passed_over ids_total k y ys a))) (x ∷ xs) (and_from _ _ (ap is_lt l) (below_less ids_total y.0 x.0 xs l (and_parts _ _ g).0))
@@ -55,53 +51,24 @@ module _ {X : Type 0} (equal : X → X → Bool) where
       ap (λ v. differ equal v (fin.find id_cmp x.0 (y ∷ ys))) (found_first x.0 x xs (tied_itself ids_total x.0))
       ∙ ap (differ equal (Some x.1)) (found_first x.0 y ys t)
 
-  pub both_agree : (x : SiteCounter × X) (xs : List (SiteCounter × X)) (y : SiteCounter × X) (ys : List (SiteCounter × X)) → is_sorted id_cmp (x ∷ xs) ≡ true → is_sorted id_cmp (y ∷ ys) ≡ true → id_cmp x.0 y.0 ≡ Equal → equal x.1 y.1 ≡ true → dispute_of xs ys ≡ dispute_of (x ∷ xs) (y ∷ ys)
+  pub both_agree : (x : SiteCounter × X) (xs : List (SiteCounter × X)) (y : SiteCounter × X) (ys : List (SiteCounter × X)) → is_sorted id_cmp (x ∷ xs) ≡ true → is_sorted id_cmp (y ∷ ys) ≡ true → id_cmp x.0 y.0 ≡ Equal → equal x.1 y.1 ≡ true → dispute_of equal xs ys ≡ dispute_of equal (x ∷ xs) (y ∷ ys)
   both_agree x xs y ys g h t s =
       found_above x.0 (in_dispute xs ys) (in_dispute (x ∷ xs) (y ∷ ys)) (λ k a i.
       differ equal (sym (passed_over ids_total k x xs a) i) (sym (passed_over ids_total k y ys (tied_less ids_total y.0 x.0 k (tied_back ids_total x.0 y.0 t) a)) i)) xs (and_parts _ _ g).0
       ∙ sym (ap (λ b. cond b (Some x.0) (find (in_dispute (x ∷ xs) (y ∷ ys)) (keys_of xs))) (at_both x xs y ys t ∙ ap not s))
 
-  pub both_differ : (x : SiteCounter × X) (xs : List (SiteCounter × X)) (y : SiteCounter × X) (ys : List (SiteCounter × X)) → id_cmp x.0 y.0 ≡ Equal → equal x.1 y.1 ≡ false → dispute_of (x ∷ xs) (y ∷ ys) ≡ Some x.0
+  pub both_differ : (x : SiteCounter × X) (xs : List (SiteCounter × X)) (y : SiteCounter × X) (ys : List (SiteCounter × X)) → id_cmp x.0 y.0 ≡ Equal → equal x.1 y.1 ≡ false → dispute_of equal (x ∷ xs) (y ∷ ys) ≡ Some x.0
   both_differ x xs y ys t s = ap (λ b. cond b (Some x.0) (find (in_dispute (x ∷ xs) (y ∷ ys)) (keys_of xs))) (at_both x xs y ys t ∙ ap not s)
 
   -- where one list is at its end, nothing is in dispute
-  pub no_more : (xs : List (SiteCounter × X)) → dispute_of xs [] ≡ None
+  no_more : (xs : List (SiteCounter × X)) → dispute_of equal xs [] ≡ None
   no_more xs = none_found (in_dispute xs []) (keys_of xs) (λ k. no_difference (fin.find id_cmp k xs))
 
-  -- one step of two cursors
-  module _ (ours theirs : List (SiteCounter × X)) (i j : ℕ) (x y : SiteCounter × X) (in_ours : i < length ours) (in_theirs : j < length theirs) (g : is_sorted id_cmp ours ≡ true) (h : is_sorted id_cmp theirs ≡ true) where
-    ours_sorted : is_sorted id_cmp (get_or ours i x ∷ drop (i + 1) ours) ≡ true
-    ours_sorted = rest_sorted ids_total ours i x in_ours g
-
-    theirs_sorted : is_sorted id_cmp (get_or theirs j y ∷ drop (j + 1) theirs) ≡ true
-    theirs_sorted = rest_sorted ids_total theirs j y in_theirs h
-
-    opened : dispute_of (get_or ours i x ∷ drop (i + 1) ours) (get_or theirs j y ∷ drop (j + 1) theirs) ≡ dispute_of (drop i ours) (drop j theirs)
-    opened k = dispute_of (sym (front ours i x in_ours) k) (sym (front theirs j y in_theirs) k)
-
-    pub step_less : id_cmp (get_or ours i x).0 (get_or theirs j y).0 ≡ Less → dispute_of (drop (i + 1) ours) (drop j theirs) ≡ dispute_of (drop i ours) (drop j theirs)
-    step_less t = ap (dispute_of (drop (i + 1) ours)) (front theirs j y in_theirs)
-        ∙ ours_first (get_or ours i x) (drop (i + 1) ours) (get_or theirs j y) (drop (j + 1) theirs) ours_sorted theirs_sorted t ∙ opened
-
-    pub step_greater : id_cmp (get_or ours i x).0 (get_or theirs j y).0 ≡ Greater → dispute_of (drop i ours) (drop (j + 1) theirs) ≡ dispute_of (drop i ours) (drop j theirs)
-    step_greater t = ap (λ l. dispute_of l (drop (j + 1) theirs)) (front ours i x in_ours)
-        ∙ theirs_first (get_or ours i x) (drop (i + 1) ours) (get_or theirs j y) (drop (j + 1) theirs) ours_sorted theirs_sorted t ∙ opened
-
-    module _ (r s : SiteCounter × X) (answer : Bool) (told : answer ≡ equal (get_or ours i r).1 (get_or theirs j s).1) where
-      answered : equal (get_or ours i x).1 (get_or theirs j y).1 ≡ answer
-      answered =
-          let a = get_or_default ours i x r in_ours in
-          let b = get_or_default theirs j y s in_theirs in
-          (λ k. equal (a k).1 (b k).1) ∙ sym told
-
-      pub step_equal : id_cmp (get_or ours i x).0 (get_or theirs j y).0 ≡ Equal → answer ≡ true → dispute_of (drop (i + 1) ours) (drop (j + 1) theirs) ≡ dispute_of (drop i ours) (drop j theirs)
-      step_equal t agree = both_agree (get_or ours i x) (drop (i + 1) ours) (get_or theirs j y) (drop (j + 1) theirs) ours_sorted theirs_sorted t (answered ∙ agree) ∙ opened
-
-      pub stop_equal : (z : SiteCounter × X) → id_cmp (get_or ours i x).0 (get_or theirs j y).0 ≡ Equal → answer ≡ false → Some (get_or ours i z).0 ≡ dispute_of (drop i ours) (drop j theirs)
-      stop_equal z t differs =
-          ap (λ (e : SiteCounter × X). Some e.0) (get_or_default ours i z x in_ours)
-          ∙ sym (both_differ (get_or ours i x) (drop (i + 1) ours) (get_or theirs j y) (drop (j + 1) theirs) t (answered ∙ differs)) ∙ opened
+  pub ended : (xs ys : List (SiteCounter × X)) → (length xs ≡ 0) ⊎ (length ys ≡ 0) → None ≡ dispute_of equal xs ys
+  ended [] ys end = refl
+  ended (x ∷ xs) [] end = sym (no_more (x ∷ xs))
+  ended (x ∷ xs) (y ∷ ys) end = ⊎_elim (λ e. absurd (omega arith)) (λ e. absurd (omega arith)) end
 
 -- the dispute of two maps, as it is read from their entries
-pub disputed : {X : Type 0} (equal : X → X → Bool) (a b : FinMap id_cmp X) (xs ys : List (SiteCounter × X)) → xs ≡ fin.entries a → ys ≡ fin.entries b → find (λ id. differ equal (fin.find id_cmp id xs) (fin.find id_cmp id ys)) (keys_of xs) ≡ dispute equal a b
-disputed equal a b xs ys p q i = find (λ id. differ equal ((ap (fin.find id_cmp id) p ∙ sym (get-entries a id)) i) ((ap (fin.find id_cmp id) q ∙ sym (get-entries b id)) i)) (keys_of (p i))
+pub disputed : {X : Type 0} (equal : X → X → Bool) (a b : FinMap id_cmp X) → dispute_of equal (fin.entries a) (fin.entries b) ≡ dispute equal a b
+disputed equal a b i = find (λ id. differ equal (sym (get-entries a id) i) (sym (get-entries b id) i)) (fin.keys a)

@@ -1,5 +1,5 @@
 -- Lists of entries whose keys rise: what is found in them, and in their merge.
-use Rattle.std.proofs.Common.{◌≡◌, ℕ, zero, suc, ◌+◌, ◌<◌, ◌≤◌, Bool, true, false, cond, T, List, [], ◌∷◌, ◌++◌, length, get_or, take, drop, Option, Some, None, Ordering, Less, Equal, Greater, is_lt, is_eq, sym, refl, ap, subst, ◌∙◌, inl, inr, arith, add-one, ◌⊎◌, append_assoc, append-nil, ◌-◌, length-drop, take_all, drop-cons}
+use Rattle.std.proofs.Common.{◌≡◌, ℕ, zero, suc, ◌+◌, ◌<◌, ◌≤◌, Bool, true, false, cond, T, List, [], ◌∷◌, ◌++◌, length, get_or, drop, Option, Some, None, Ordering, Less, Equal, Greater, is_lt, is_eq, sym, refl, ap, subst, ◌∙◌, ⊎_elim, arith, add-one, ◌⊎◌, append_assoc, append-nil, drop-cons}
 use Rattle.std.proofs.lemmas.Bool.{false≢true, and_parts, and_from}
 use Rattle.std.specs.Option.{option_or}
 use Rattle.std.specs.List.{insert, IsAllAdjacentAnswer}
@@ -76,19 +76,16 @@ module _ {K X : Type 0} {R : K → K → Ordering} (o : IsTotalOrder R) where
   sorted_drop (suc i) [] h = h
   sorted_drop (suc i) (e ∷ es) h = sorted_drop i es (and_parts _ _ h).1
 
-  -- and so does what is left from an entry on
-  pub rest_sorted : (es : List (K × X)) (i : ℕ) (d : K × X) → i < length es → is_sorted R es ≡ true → is_sorted R (get_or es i d ∷ drop (i + 1) es) ≡ true
-  rest_sorted es i d within h = subst (λ l. is_sorted R l ≡ true) (front es i d within) (sorted_drop i es h)
-
-  next_rises : (es : List (K × X)) → is_sorted R es ≡ true → (k : ℕ) (d : K × X) → suc k < length es → is_lt (R (get_or es (suc k) d).0 (get_or es k d).0) ≡ false
-  next_rises [] h k d high = absurd (omega arith)
-  next_rises (e ∷ []) h k d high = absurd (omega arith)
-  next_rises (e ∷ f ∷ es) h zero d high = ap is_lt (less_back o e.0 f.0 (less_is (R e.0 f.0) ((and_parts _ _ (and_parts _ _ h).0).0)))
-  next_rises (e ∷ f ∷ es) h (suc k) d high = next_rises (f ∷ es) (and_parts _ _ h).1 k d (omega arith)
+  -- each key is less than the next
+  rising_on : (es : List (K × X)) → is_sorted R es ≡ true → (k : ℕ) (d : K × X) → suc k < length es → is_lt (R (get_or es k d).0 (get_or es (suc k) d).0) ≡ true
+  rising_on [] h k d high = absurd (omega arith)
+  rising_on (e ∷ []) h k d high = absurd (omega arith)
+  rising_on (e ∷ f ∷ es) h zero d high = (and_parts _ _ (and_parts _ _ h).0).0
+  rising_on (e ∷ f ∷ es) h (suc k) d high = rising_on (f ∷ es) (and_parts _ _ h).1 k d (omega arith)
 
   -- neighbours rise
   pub neighbours_rise : (es : List (K × X)) → is_sorted R es ≡ true → IsSortedBy (λ a b. is_lt (R a.0 b.0)) es
-  neighbours_rise es h k d low high = rw add-one (next_rises es h k d (omega arith))
+  neighbours_rise es h k d low high = rw add-one (ap is_lt (less_back o _ _ (less_is _ (rising_on es h k d (omega arith)))))
 
   -- entries whose neighbours rise are in order, and those of a list in order rise
   pub risen : (es : List (K × X)) → ((k : ℕ) (d : K × X) → k + 1 < length es → true ≡ is_lt (R (get_or es k d).0 (get_or es (k + 1) d).0)) → is_sorted R es ≡ true
@@ -98,12 +95,6 @@ module _ {K X : Type 0} {R : K → K → Ordering} (o : IsTotalOrder R) where
       let first : is_lt (R e.0 f.0) ≡ true = sym (h 0 e (omega arith)) in
       let rest = risen (f ∷ es) (λ k d l. rw add-one (rw add-one at (h (suc k) d (omega arith)))) in
       and_from _ _ (and_from _ _ first (below_less e.0 f.0 es (less_is _ first) (and_parts _ _ rest).0)) rest
-
-  pub rising_on : (es : List (K × X)) → is_sorted R es ≡ true → (k : ℕ) (d : K × X) → suc k < length es → is_lt (R (get_or es k d).0 (get_or es (suc k) d).0) ≡ true
-  rising_on [] h k d high = absurd (omega arith)
-  rising_on (e ∷ []) h k d high = absurd (omega arith)
-  rising_on (e ∷ f ∷ es) h zero d high = (and_parts _ _ (and_parts _ _ h).0).0
-  rising_on (e ∷ f ∷ es) h (suc k) d high = rising_on (f ∷ es) (and_parts _ _ h).1 k d (omega arith)
 
   -- a test of neighbours tells whether the entries are in order
   pub rising_test : (es : List (K × X)) (r : Bool) → IsAllAdjacentAnswer (λ x y b. b ≡ is_lt (R x.0 y.0)) es r → IsTrue r ↔ IsTrue (is_sorted R es)
@@ -214,15 +205,12 @@ merge-nil R [] = refl
 merge-nil R (x ∷ xs) = ap (λ l. x ∷ l) (merge-nil R xs)
 
 -- where one list is at its end, the merge is the other
-pub rest_merged : {K X : Type 0} (R : K → K → Ordering) (xs ys : List (K × X)) → (xs ≡ []) ⊎ (ys ≡ []) → xs ++ ys ≡ merge R xs ys
-rest_merged R xs ys (inl e) = ap (λ l. l ++ ys) e ∙ sym (ap (λ l. merge R l ys) e)
-rest_merged R xs ys (inr e) = ap (λ l. xs ++ l) e ∙ append-nil xs ∙ sym (ap (merge R xs) e ∙ merge-nil R xs)
+rest_merged : {K X : Type 0} (R : K → K → Ordering) (xs ys : List (K × X)) → (length xs ≡ 0) ⊎ (length ys ≡ 0) → xs ++ ys ≡ merge R xs ys
+rest_merged R [] ys end = refl
+rest_merged R (x ∷ xs) [] end = append-nil (x ∷ xs) ∙ sym (merge-nil R (x ∷ xs))
+rest_merged R (x ∷ xs) (y ∷ ys) end = ⊎_elim (λ e. absurd (omega arith)) (λ e. absurd (omega arith)) end
 
 -- the merge so far and what both lists have left are the merge
-pub merge_ends : {K X : Type 0} (R : K → K → Ordering) (all more last whole xs ys : List (K × X)) → (xs ≡ []) ⊎ (ys ≡ []) → all ++ merge R xs ys ≡ whole → more ≡ all ++ xs → last ≡ more ++ ys → last ≡ whole
+pub merge_ends : {K X : Type 0} (R : K → K → Ordering) (all more last whole xs ys : List (K × X)) → (length xs ≡ 0) ⊎ (length ys ≡ 0) → all ++ merge R xs ys ≡ whole → more ≡ all ++ xs → last ≡ more ++ ys → last ≡ whole
 merge_ends R all more last whole xs ys end is first second =
     second ∙ ap (λ l. l ++ ys) first ∙ append_assoc all xs ys ∙ ap (λ l. all ++ l) (rest_merged R xs ys end) ∙ is
-
--- the rest of a list, as it is read
-pub rest_taken : {X : Type 0} (xs : List X) (i : ℕ) → take (length xs - i) (drop i xs) ≡ drop i xs
-rest_taken xs i = let all : length (drop i xs) ≤ length xs - i = omega (arith, length-drop i xs) in rw take_all refl

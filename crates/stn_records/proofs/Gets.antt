@@ -1,61 +1,41 @@
 -- What is found in the entries of a finite map, and what holds of each of them.
-use Rattle.std.proofs.Common.{◌≡◌, Bool, true, false, cond, ◌&&◌, T, List, [], ◌∷◌, Some, None, is_some, Ordering, Less, Equal, Greater, is_lt, is_eq, sym, refl, ap, subst, ◌∙◌, All}
+use Rattle.std.proofs.Common.{◌≡◌, true, false, cond, List, [], ◌∷◌, Some, is_some, Ordering, is_eq, sym, refl, ap, subst, ◌∙◌, All}
 use Rattle.std.specs.List.{AllByRecursion}
-use Rattle.std.proofs.lemmas.Bool.{false≢true}
+use Rattle.std.proofs.lemmas.Bool.{false≢true, and_parts}
 use Rattle.std.proofs.lemmas.List.Elements.{All-from_recursion, recursion_from_All}
+use Rattle.std.proofs.lemmas.Option.{same_Some}
 use Rattle.std.specs.Ordering.{eq_by_cmp}
 use Rattle.std.specs.Cmp.{IsTotalOrder, tied_itself, Equal-is}
-use Rattle.std.specs.FinMap.{FinMap, IsAntisymmetric, entries, entries_sorted, get, get-entries, find, is_sorted}
+use Rattle.std.specs.FinMap.{FinMap, IsAntisymmetric, entries, get, get-entries, find, is_sorted}
 use Rattle.std.specs.FinMap.Entries.{below_all}
-
-and_left : (a b : Bool) → T (a && b) → T a
-and_left true b h = tt
-and_left false b h = h
-
-and_right : (a b : Bool) → T (a && b) → T b
-and_right true b h = h
-and_right false b h = absurd h
-
-less_is : (r : Ordering) → T (is_lt r) → r ≡ Less
-less_is Less h = refl
-less_is Equal h = absurd h
-less_is Greater h = absurd h
+use Rattle.stn_records.proofs.Entries.{in_order, find_below}
 
 module _ {K X : Type 0} {R : K → K → Ordering} (o : IsTotalOrder R) (exact : IsAntisymmetric R) where
-  -- nothing is found of a key below each
-  not_below : (q : K) (es : List (K × X)) → T (below_all R q es) → find R q es ≡ None
-  not_below q [] h = refl
-  not_below q (e ∷ es) h =
-      ap (λ r. cond (is_eq r) (Some e.1) (find R q es)) (less_is (R q e.0) (and_left _ _ h)) ∙ not_below q es (and_right _ _ h)
-
-  found_behind : (q : K) (v : X) (e : K × X) (es : List (K × X)) → T (below_all R e.0 es) → find R q es ≡ Some v → find R q (e ∷ es) ≡ Some v
+  found_behind : (q : K) (v : X) (e : K × X) (es : List (K × X)) → below_all R e.0 es ≡ true → find R q es ≡ Some v → find R q (e ∷ es) ≡ Some v
   found_behind q v e es below found =
       elim (eq_by_cmp R q e.0) as (λ b. eq_by_cmp R q e.0 ≡ b → cond b (Some e.1) (find R q es) ≡ Some v) [
-        | true ↦ λ t. absurd (false≢true (ap is_some (sym (not_below e.0 es below) ∙ ap (λ k. find R k es) (sym (exact q e.0 ((Equal-is (R q e.0)).0 t))) ∙ found)))
+        | true ↦ λ t. absurd (false≢true (ap is_some (sym (find_below o e.0 es below) ∙ ap (λ k. find R k es) (sym (exact q e.0 ((Equal-is (R q e.0)).0 t))) ∙ found)))
         | false ↦ λ t. found
       ] refl
 
-  each_found : (es : List (K × X)) → T (is_sorted R es) → (P : K × X → Type 0) → ((q : K) (v : X) → find R q es ≡ Some v → P (q, v)) → AllByRecursion P es
+  each_found : (es : List (K × X)) → is_sorted R es ≡ true → (P : K × X → Type 0) → ((q : K) (v : X) → find R q es ≡ Some v → P (q, v)) → AllByRecursion P es
   each_found [] sorted P f = tt
   each_found (e ∷ es) sorted P f = (
     f e.0 e.1 (ap (λ r. cond (is_eq r) (Some e.1) (find R e.0 es)) (tied_itself o e.0)),
-    each_found es (and_right _ _ sorted) P (λ q v found. f q v (found_behind q v e es (and_left _ _ sorted) found)),
+    each_found es (and_parts _ _ sorted).1 P (λ q v found. f q v (found_behind q v e es (and_parts _ _ sorted).0 found)),
   )
 
   -- what holds of each key and its value holds of each entry
   pub entries_from_get : (m : FinMap R X) (P : K × X → Type 0) → ((q : K) (v : X) → get m q ≡ Some v → P (q, v)) → All P (entries m)
-  entries_from_get m P f = All-from_recursion P (entries m) (each_found (entries m) (entries_sorted m) P (λ q v found. f q v (get-entries m q ∙ found)))
+  entries_from_get m P f = All-from_recursion P (entries m) (each_found (entries m) (in_order m) P (λ q v found. f q v (get-entries m q ∙ found)))
 
   found_each : (es : List (K × X)) (P : K × X → Type 0) → AllByRecursion P es → (q : K) (v : X) → find R q es ≡ Some v → P (q, v)
   found_each [] P h q v found = absurd (false≢true (ap is_some found))
   found_each (e ∷ es) P h q v found =
       elim (eq_by_cmp R q e.0) as (λ b. eq_by_cmp R q e.0 ≡ b → cond b (Some e.1) (find R q es) ≡ Some v → P (q, v)) [
-        | true ↦ λ t is. let same : ◌≡◌ {A = K × X} e (q, v) = λ i. (sym (exact q e.0 ((Equal-is (R q e.0)).0 t)) i, value is i) in subst P same h.0
+        | true ↦ λ t is. let same : ◌≡◌ {A = K × X} e (q, v) = λ i. (sym (exact q e.0 ((Equal-is (R q e.0)).0 t)) i, same_Some e.1 v is i) in subst P same h.0
         | false ↦ λ t is. found_each es P h.1 q v is
       ] refl found
-    where
-      value : Some e.1 ≡ Some v → e.1 ≡ v
-      value is = cc
 
   -- and the way back
   pub get_from_entries : (m : FinMap R X) (P : K × X → Type 0) → All P (entries m) → (q : K) (v : X) → get m q ≡ Some v → P (q, v)

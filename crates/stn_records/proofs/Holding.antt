@@ -1,150 +1,60 @@
 -- Whether all that one site holds is held by another.
-use Rattle.std.proofs.Common.{◌≡◌, ℕ, ◌+◌, ◌<◌, ◌≤◌, ◌↔◌, ◌⊎◌, Bool, true, false, cond, ◌&&◌, List, [], ◌∷◌, length, get_or, drop, eqb, length-drop, drop_of_length-le, Option, Some, None, is_some, option_and_then, Less, Equal, Greater, is_lt, is_eq, sym, refl, ap, subst, ◌∙◌, inl, inr, ⊎_elim, arith}
-use Rattle.std.proofs.lemmas.Bool.{false≢true, cases_lt, and_from, and_parts, not-true, le-leb}
-use Rattle.std.proofs.lemmas.Bool.Decides.{nat_tests}
+use Rattle.std.proofs.Common.{◌≡◌, ◌↔◌, Bool, true, false, cond, ◌&&◌, ◌≤◌, List, [], ◌∷◌, Option, Some, None, is_some, option_and_then, Less, Equal, Greater, is_lt, is_eq, sym, refl, ap, subst, ◌∙◌, inl, inr, ⊎_elim}
+use Rattle.std.proofs.lemmas.Bool.{false≢true, and_from, and_parts, not-true, le-leb}
+use Rattle.std.proofs.lemmas.List.Sums.{AllPass-from_list_all, list_all-from_AllPass}
+use Rattle.std.proofs.lemmas.Option.{same_Some}
 use Rattle.std.specs.Bool.{Decides}
-use Rattle.std.proofs.lemmas.List.{get_or_default}
 use Rattle.std.specs.Prelude.{IsTrue}
-use Rattle.std.specs.List.{list_all}
-use Rattle.std.specs.Cmp.{tied_back, tied_itself, Equal-is}
+use Rattle.std.specs.Cmp.{tied_back}
 use Rattle.std.specs.FinMap as fin
 use Rattle.std.specs.FinMap.{FinMap, is_sorted, get-entries}
 use Rattle.std.specs.FinMap.Entries.{below_all}
-use Rattle.stn_records.specs.Id.{SiteCounter, id_cmp, same_ids}
-use Rattle.stn_records.specs.Record.{same_records}
-use Rattle.stn_records.specs.Sorted.{is_there, has_keys, has_entries}
+use Rattle.stn_records.specs.Id.{SiteCounter, id_cmp}
+use Rattle.stn_records.specs.Maps.{HasEntries}
+use Rattle.stn_records.specs.Sorted.{is_there, has_entries}
 use Rattle.stn_records.specs.Join.{passing}
 use Rattle.stn_records.specs.JoinLaws.{first_step, join_is}
 use Rattle.stn_records.specs.Content.{Content, addition, withdrawal, replacement, IsPart, most_known, is_within, known_count, dispute_contents, join_contents, taken}
-use Rattle.stn_records.specs.ContentLaws.{ids_total, ids_exact, ids_decide, records_decide, contents_join, contents_dispute}
-use Rattle.stn_records.proofs.Entries.{in_order, front, less_is, greater_back, below_less, find_below, passed_over, rest_sorted}
+use Rattle.stn_records.specs.ContentLaws.{ids_total, ids_exact, contents_join, contents_dispute}
+use Rattle.stn_records.proofs.Entries.{less_is, greater_back, below_less, find_below, passed_over}
+use Rattle.stn_records.proofs.Gets.{entries_from_get, get_from_entries}
 
--- whether each entry of theirs passes a test with what ours has of its id, by two cursors; what is not there fails
-module _ {X : Type 0} (test : Option X → X → Bool) (fails : (x : X) → test None x ≡ false) where
-  abbrev each_passes : List (SiteCounter × X) → List (SiteCounter × X) → Bool
-  each_passes ours theirs = list_all (λ entry. test (fin.find id_cmp entry.0 ours) entry.1) theirs
-
+module _ {X : Type 0} (same : X → X → Bool) where
   -- an entry of ours before all of theirs is none of theirs
-  first_passed : (x : SiteCounter × X) (xs ys : List (SiteCounter × X)) → below_all id_cmp x.0 ys ≡ true → each_passes xs ys ≡ each_passes (x ∷ xs) ys
+  first_passed : (x : SiteCounter × X) (xs ys : List (SiteCounter × X)) → below_all id_cmp x.0 ys ≡ true → has_entries same xs ys ≡ has_entries same (x ∷ xs) ys
   first_passed x xs [] h = refl
   first_passed x xs (y ∷ ys) h =
       let below = and_parts _ _ h in
-      λ i. test (sym (passed_over ids_total y.0 x xs (less_is _ below.0)) i) y.1 && first_passed x xs ys below.1 i
+      λ i. is_there same (sym (passed_over ids_total y.0 x xs (less_is _ below.0)) i) y.1 && first_passed x xs ys below.1 i
 
-  ours_first : (x y : SiteCounter × X) (xs ys : List (SiteCounter × X)) → is_sorted id_cmp (y ∷ ys) ≡ true → id_cmp x.0 y.0 ≡ Less → each_passes xs (y ∷ ys) ≡ each_passes (x ∷ xs) (y ∷ ys)
+  pub ours_first : (x y : SiteCounter × X) (xs ys : List (SiteCounter × X)) → is_sorted id_cmp (y ∷ ys) ≡ true → id_cmp x.0 y.0 ≡ Less → has_entries same xs (y ∷ ys) ≡ has_entries same (x ∷ xs) (y ∷ ys)
   ours_first x y xs ys h l = first_passed x xs (y ∷ ys) (and_from _ _ (ap is_lt l) (below_less ids_total x.0 y.0 ys l (and_parts _ _ h).0))
 
-  both_first : (x y : SiteCounter × X) (xs ys : List (SiteCounter × X)) → is_sorted id_cmp (y ∷ ys) ≡ true → id_cmp x.0 y.0 ≡ Equal → each_passes (x ∷ xs) (y ∷ ys) ≡ (test (Some x.1) y.1 && each_passes xs ys)
+  pub both_first : (x y : SiteCounter × X) (xs ys : List (SiteCounter × X)) → is_sorted id_cmp (y ∷ ys) ≡ true → id_cmp x.0 y.0 ≡ Equal → has_entries same (x ∷ xs) (y ∷ ys) ≡ (same x.1 y.1 && has_entries same xs ys)
   both_first x y xs ys h t =
       let below : below_all id_cmp x.0 ys ≡ true = ap (λ k. below_all id_cmp k ys) (ids_exact x.0 y.0 t) ∙ (and_parts _ _ h).0 in
-      λ i. test (cond (is_eq (tied_back ids_total x.0 y.0 t i)) (Some x.1) (fin.find id_cmp y.0 xs)) y.1 && sym (first_passed x xs ys below) i
+      λ i. is_there same (cond (is_eq (tied_back ids_total x.0 y.0 t i)) (Some x.1) (fin.find id_cmp y.0 xs)) y.1 && sym (first_passed x xs ys below) i
 
-  theirs_first : (x y : SiteCounter × X) (xs ys : List (SiteCounter × X)) → is_sorted id_cmp (x ∷ xs) ≡ true → id_cmp x.0 y.0 ≡ Greater → each_passes (x ∷ xs) (y ∷ ys) ≡ false
+  pub theirs_first : (x y : SiteCounter × X) (xs ys : List (SiteCounter × X)) → is_sorted id_cmp (x ∷ xs) ≡ true → id_cmp x.0 y.0 ≡ Greater → has_entries same (x ∷ xs) (y ∷ ys) ≡ false
   theirs_first x y xs ys g t =
       let l = greater_back ids_total x.0 y.0 t in
       let none = find_below ids_total y.0 (x ∷ xs) (and_from _ _ (ap is_lt l) (below_less ids_total y.0 x.0 xs l (and_parts _ _ g).0)) in
-      ap (λ b. b && each_passes (x ∷ xs) ys) (ap (λ o. test o y.1) none ∙ fails y.1)
+      ap (λ b. b && has_entries same (x ∷ xs) ys) (ap (λ o. is_there same o y.1) none)
 
-  -- one step of two cursors
-  module _ (ours theirs : List (SiteCounter × X)) (i j : ℕ) (x y : SiteCounter × X) (in_ours : i < length ours) (in_theirs : j < length theirs) (g : is_sorted id_cmp ours ≡ true) (h : is_sorted id_cmp theirs ≡ true) where
-    ours_sorted : is_sorted id_cmp (get_or ours i x ∷ drop (i + 1) ours) ≡ true
-    ours_sorted = rest_sorted ids_total ours i x in_ours g
+module _ {X : Type 0} (same : X → X → Bool) (decides : (x y : X) → Decides (same x y) (x ≡ y)) where
+  is_own : (o : Option X) (x : X) → (is_there same o x ≡ true) ↔ (o ≡ Some x)
+  is_own None x = (λ e. absurd (false≢true e), λ e. absurd (false≢true (ap is_some e)))
+  is_own (Some y) x = (λ e. ap Some ((decides y x).0 e), λ e. (decides y x).1 (same_Some y x e))
 
-    theirs_sorted : is_sorted id_cmp (get_or theirs j y ∷ drop (j + 1) theirs) ≡ true
-    theirs_sorted = rest_sorted ids_total theirs j y in_theirs h
-
-    opened : each_passes (get_or ours i x ∷ drop (i + 1) ours) (get_or theirs j y ∷ drop (j + 1) theirs) ≡ each_passes (drop i ours) (drop j theirs)
-    opened k = each_passes (sym (front ours i x in_ours) k) (sym (front theirs j y in_theirs) k)
-
-    pub step_less : id_cmp (get_or ours i x).0 (get_or theirs j y).0 ≡ Less → each_passes (drop (i + 1) ours) (drop j theirs) ≡ each_passes (drop i ours) (drop j theirs)
-    step_less t = ap (each_passes (drop (i + 1) ours)) (front theirs j y in_theirs)
-        ∙ ours_first (get_or ours i x) (get_or theirs j y) (drop (i + 1) ours) (drop (j + 1) theirs) theirs_sorted t ∙ opened
-
-    pub stop_greater : id_cmp (get_or ours i x).0 (get_or theirs j y).0 ≡ Greater → false ≡ each_passes (drop i ours) (drop j theirs)
-    stop_greater t = sym (theirs_first (get_or ours i x) (get_or theirs j y) (drop (i + 1) ours) (drop (j + 1) theirs) ours_sorted t) ∙ opened
-
-    -- both have the id, and what ours has of it passes or fails
-    pub both_read : (passes : Bool) → test (Some (get_or ours i x).1) (get_or theirs j y).1 ≡ passes → id_cmp (get_or ours i x).0 (get_or theirs j y).0 ≡ Equal → (passes && each_passes (drop (i + 1) ours) (drop (j + 1) theirs)) ≡ each_passes (drop i ours) (drop j theirs)
-    both_read passes is t = ap (λ b. b && each_passes (drop (i + 1) ours) (drop (j + 1) theirs)) (sym is)
-        ∙ sym (both_first (get_or ours i x) (get_or theirs j y) (drop (i + 1) ours) (drop (j + 1) theirs) theirs_sorted t) ∙ opened
-
-  -- without entries of ours, all of theirs pass where there are none
-  none_pass : (ys : List (SiteCounter × X)) → 0 < length ys → false ≡ each_passes [] ys
-  none_pass [] h = absurd (omega arith)
-  none_pass (y ∷ ys) h = sym (ap (λ b. b && each_passes [] ys) (fails y.1))
-
-  -- at the end of ours or of theirs, all of theirs pass where none of it is left
-  pub ended : (ours theirs : List (SiteCounter × X)) (i j : ℕ) → j ≤ length theirs → (length ours ≤ i) ⊎ (length theirs ≤ j) → eqb j (length theirs) ≡ each_passes (drop i ours) (drop j theirs)
-  ended ours theirs i j few end = elim (cases_lt j (length theirs)) [
-    | inl more ↦ (let none : length ours ≤ i = ⊎_elim (λ h. h) (λ h. absurd (omega arith)) end in
-        differs j (length theirs) more ∙ none_pass (drop j theirs) (omega (arith, length-drop j theirs)) ∙ ap (λ l. each_passes l (drop j theirs)) (sym (drop_of_length-le ours none)))
-    | inr all ↦ (let same : j ≡ length theirs = omega arith in
-        equals j (length theirs) same ∙ ap (each_passes (drop i ours)) (sym (drop_of_length-le theirs all)))
-  ]
+  -- each entry of theirs is one of ours exactly where the one map has the other's entries
+  pub held : (a b : FinMap id_cmp X) → IsTrue (has_entries same (fin.entries a) (fin.entries b)) ↔ HasEntries a b
+  held a b = (
+    λ all e there. get-entries a e.0 ∙ (is_own (fin.find id_cmp e.0 (fin.entries a)) e.1).0 (get_from_entries ids_total ids_exact b (λ f. test f ≡ true) (AllPass-from_list_all test (fin.entries b) all) e.0 e.1 there),
+    λ all. list_all-from_AllPass test (fin.entries b) (entries_from_get ids_total ids_exact b (λ f. test f ≡ true) (λ q v there. (is_own (fin.find id_cmp q (fin.entries a)) v).1 (sym (get-entries a q) ∙ all (q, v) there))),
+  )
     where
-      differs : (a b : ℕ) → a < b → eqb a b ≡ false
-      differs a b h = grind (arith, nat_tests)
-
-      equals : (a b : ℕ) → a ≡ b → eqb a b ≡ true
-      equals a b h = grind (arith, nat_tests)
-
-module _ {X : Type 0} where
-  -- what a test says of each entry it says of what is found
-  tested_found : (p : SiteCounter × X → Bool) (es : List (SiteCounter × X)) → list_all p es ≡ true → (q : SiteCounter) (v : X) → fin.find id_cmp q es ≡ Some v → p (q, v) ≡ true
-  tested_found p [] h q v f = absurd (false≢true (ap is_some f))
-  tested_found p (e ∷ es) h q v f =
-      let passes = and_parts _ _ h in
-      elim (is_eq (id_cmp q e.0)) as (λ b. is_eq (id_cmp q e.0) ≡ b → cond b (Some e.1) (fin.find id_cmp q es) ≡ Some v → p (q, v) ≡ true) [
-        | true ↦ λ t is. let same : ◌≡◌ {A = SiteCounter × X} e (q, v) = λ i. (sym (ids_exact q e.0 ((Equal-is (id_cmp q e.0)).0 t)) i, value is i) in subst (λ z. p z ≡ true) same passes.0
-        | false ↦ λ t is. tested_found p es passes.1 q v is
-      ] refl f
-    where
-      value : Some e.1 ≡ Some v → e.1 ≡ v
-      value is = cc
-
-  found_behind : (q : SiteCounter) (v : X) (e : SiteCounter × X) (es : List (SiteCounter × X)) → below_all id_cmp e.0 es ≡ true → fin.find id_cmp q es ≡ Some v → fin.find id_cmp q (e ∷ es) ≡ Some v
-  found_behind q v e es below found =
-      elim (is_eq (id_cmp q e.0)) as (λ b. is_eq (id_cmp q e.0) ≡ b → cond b (Some e.1) (fin.find id_cmp q es) ≡ Some v) [
-        | true ↦ λ t. absurd (false≢true (ap is_some (sym (find_below ids_total e.0 es below) ∙ ap (λ k. fin.find id_cmp k es) (sym (ids_exact q e.0 ((Equal-is (id_cmp q e.0)).0 t))) ∙ found)))
-        | false ↦ λ t. found
-      ] refl
-
-  -- and the way back
-  found_tested : (p : SiteCounter × X → Bool) (es : List (SiteCounter × X)) → is_sorted id_cmp es ≡ true → ((q : SiteCounter) (v : X) → fin.find id_cmp q es ≡ Some v → p (q, v) ≡ true) → list_all p es ≡ true
-  found_tested p [] sorted f = refl
-  found_tested p (e ∷ es) sorted f =
-      let parts = and_parts _ _ sorted in
-      and_from _ _ (f e.0 e.1 (ap (λ r. cond (is_eq r) (Some e.1) (fin.find id_cmp e.0 es)) (tied_itself ids_total e.0)))
-      (found_tested p es parts.1 (λ q v found. f q v (found_behind q v e es parts.0 found)))
-
-  -- where each entry of theirs passes a test that only its own value passes, ours has all that theirs has
-  module _ (test : Option X → X → Bool) (own : (o : Option X) (x : X) → (test o x ≡ true) ↔ (o ≡ Some x)) (a b : FinMap id_cmp X) where
-    pub has_all : list_all (λ entry. test (fin.find id_cmp entry.0 (fin.entries a)) entry.1) (fin.entries b) ≡ true → (q : SiteCounter) (v : X) → fin.get b q ≡ Some v → fin.get a q ≡ Some v
-    has_all passes q v there =
-        get-entries a q ∙ (own (fin.find id_cmp q (fin.entries a)) v).0 (tested_found (λ entry. test (fin.find id_cmp entry.0 (fin.entries a)) entry.1) (fin.entries b) passes q v (sym (get-entries b q) ∙ there))
-
-    -- and the way back
-    pub all_pass : ((q : SiteCounter) (v : X) → fin.get b q ≡ Some v → fin.get a q ≡ Some v) → list_all (λ entry. test (fin.find id_cmp entry.0 (fin.entries a)) entry.1) (fin.entries b) ≡ true
-    all_pass all =
-        found_tested (λ entry. test (fin.find id_cmp entry.0 (fin.entries a)) entry.1) (fin.entries b) (in_order b)
-        (λ q v found. (own (fin.find id_cmp q (fin.entries a)) v).1 (sym (get-entries a q) ∙ all q v (get-entries b q ∙ found)))
-
--- the two tests
-is_own : {X : Type 0} (same : X → X → Bool) → ((x y : X) → Decides (same x y) (x ≡ y)) → (o : Option X) (r : X) → (is_there same o r ≡ true) ↔ (o ≡ Some r)
-is_own same decides None r = (λ e. absurd (false≢true e), λ e. absurd (false≢true (ap is_some e)))
-is_own {X} same decides (Some x) r = (λ e. ap Some ((decides x r).0 e), λ e. (decides x r).1 (value e))
-  where
-    value : Some x ≡ Some r → x ≡ r
-    value e = cc
-
-is_own_id : (o : Option (Unit {0})) (u : Unit {0}) → (is_some o ≡ true) ↔ (o ≡ Some u)
-is_own_id None u = (λ e. absurd (false≢true e), λ e. ap is_some e)
-is_own_id (Some x) u = (λ e. refl, λ e. refl)
-
--- a test of two values that was read at their places
-pub answered : {X : Type 0} (same : X → X → Bool) (ours theirs : List (SiteCounter × X)) (i j : ℕ) (x y r s : SiteCounter × X) → i < length ours → j < length theirs → (answer : Bool) → answer ≡ same (get_or ours i r).1 (get_or theirs j s).1 → same (get_or ours i x).1 (get_or theirs j y).1 ≡ answer
-answered same ours theirs i j x y r s in_ours in_theirs answer told =
-    (λ k. same (get_or_default ours i x r in_ours k).1 (get_or_default theirs j y s in_theirs k).1) ∙ sym told
+      test : SiteCounter × X → Bool
+      test entry = is_there same (fin.find id_cmp entry.0 (fin.entries a)) entry.1
 
 module _ (a b : Content) where
   -- what b holds is what a holds already
@@ -161,21 +71,17 @@ module _ (a b : Content) where
       none_of None e = refl
       none_of (Some x) e = absurd (false≢true (sym e))
 
-  -- all that b holds is held by a exactly where its ids, its records and its entries are
-  pub told_part : IsTrue (has_keys (fin.entries a.tombstones) (fin.entries b.tombstones) && (has_entries same_records (fin.entries a.additions) (fin.entries b.additions) && has_entries same_ids (fin.entries a.replacements) (fin.entries b.replacements))) ↔ IsPart b a
+  -- all that b holds is held by a exactly where each part of it is
+  pub told_part : IsPart b a ↔ (HasEntries a.tombstones b.tombstones × HasEntries a.additions b.additions × HasEntries a.replacements b.replacements)
   told_part = (
-    λ held. let parts = and_parts _ _ held in let rest = and_parts _ _ parts.1 in ours parts.0 rest.0 rest.1,
-    λ inside. and_from _ _
-        (all_pass (λ o _. is_some o) is_own_id a.tombstones b.tombstones (λ q v there. inside (withdrawal q) there))
-        (and_from _ _
-        (all_pass (is_there same_records) (is_own same_records records_decide) a.additions b.additions (λ q v there. inside (addition q v) there))
-        (all_pass (is_there same_ids) (is_own same_ids ids_decide) a.replacements b.replacements (λ q v there. inside (replacement q v) there))),
+    λ inside. (λ e. inside (withdrawal e.0), λ e. inside (addition e.0 e.1), λ e. inside (replacement e.0 e.1)),
+    λ parts. of_parts parts,
   )
     where
-      ours : has_keys (fin.entries a.tombstones) (fin.entries b.tombstones) ≡ true → has_entries same_records (fin.entries a.additions) (fin.entries b.additions) ≡ true → has_entries same_ids (fin.entries a.replacements) (fin.entries b.replacements) ≡ true → IsPart b a
-      ours tombs adds olds (addition id r) h = has_all (is_there same_records) (is_own same_records records_decide) a.additions b.additions adds id r h
-      ours tombs adds olds (withdrawal id) h = has_all (λ o _. is_some o) is_own_id a.tombstones b.tombstones tombs id tt h
-      ours tombs adds olds (replacement id old) h = has_all (is_there same_ids) (is_own same_ids ids_decide) a.replacements b.replacements olds id old h
+      of_parts : HasEntries a.tombstones b.tombstones × HasEntries a.additions b.additions × HasEntries a.replacements b.replacements → IsPart b a
+      of_parts parts (addition id r) = parts.1 (id, r)
+      of_parts parts (withdrawal id) = parts.0 (id, tt)
+      of_parts parts (replacement id old) = parts.2 (id, old)
 
   -- and then a take leaves a as it is
   pub told_taken : known_count a ≤ most_known → IsPart b a ↔ (taken a b ≡ Some a)
@@ -185,15 +91,13 @@ module _ (a b : Content) where
     λ is item h. (contents_join.union a b a (joined_is is) item).1 (inr h),
   )
 
-  -- three tests of the parts, in turn
-  pub last_told : (x y z : Bool) → x ≡ has_keys (fin.entries a.tombstones) (fin.entries b.tombstones) → y ≡ has_entries same_records (fin.entries a.additions) (fin.entries b.additions) → z ≡ has_entries same_ids (fin.entries a.replacements) (fin.entries b.replacements) → x ≡ true → y ≡ true → (z ≡ true) ↔ IsPart b a
-  last_told x y z ids records entries passed too = (
-    λ e. told_part.0 (and_from _ _ (sym ids ∙ passed) (and_from _ _ (sym records ∙ too) (sym entries ∙ e))),
-    λ inside. entries ∙ (and_parts _ _ (and_parts _ _ (told_part.1 inside)).1).1,
-  )
+-- what is told of the parts as they stand inside two sites
+module _ (a b : Content) {s t : Content} (p : s ≡ a) (q : t ≡ b) where
+  outside : (z : Bool) → IsTrue z ↔ IsPart t s → IsTrue z ↔ IsPart b a
+  outside z told = subst (λ u. IsTrue z ↔ IsPart b u) p (subst (λ u. IsTrue z ↔ IsPart u s) q told)
 
-  pub ids_missed : (x v : Bool) → x ≡ has_keys (fin.entries a.tombstones) (fin.entries b.tombstones) → x ≡ false → v ≡ false → (v ≡ true) ↔ IsPart b a
-  ids_missed x v ids missed is = (λ e. absurd (false≢true (sym is ∙ e)), λ inside. absurd (false≢true (sym missed ∙ ids ∙ (and_parts _ _ (told_part.1 inside)).0)))
+  pub last_told : (z : Bool) → HasEntries s.tombstones t.tombstones → HasEntries s.additions t.additions → (IsTrue z ↔ HasEntries s.replacements t.replacements) → IsTrue z ↔ IsPart b a
+  last_told z tombstones additions told = outside z (λ e. (told_part s t).1 (tombstones, additions, told.0 e), λ inside. told.1 ((told_part s t).0 inside).2)
 
-  pub records_missed : (y v : Bool) → y ≡ has_entries same_records (fin.entries a.additions) (fin.entries b.additions) → y ≡ false → v ≡ false → (v ≡ true) ↔ IsPart b a
-  records_missed y v records missed is = (λ e. absurd (false≢true (sym is ∙ e)), λ inside. absurd (false≢true (sym missed ∙ records ∙ (and_parts _ _ (and_parts _ _ (told_part.1 inside)).1).0)))
+  pub missed : (z : Bool) → z ≡ false → (HasEntries s.tombstones t.tombstones × HasEntries s.additions t.additions → ⊥) → IsTrue z ↔ IsPart b a
+  missed z is none = outside z (λ e. absurd (false≢true (sym is ∙ e)), λ inside. let parts = (told_part s t).0 inside in absurd (none (parts.0, parts.1)))

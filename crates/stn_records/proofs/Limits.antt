@@ -19,7 +19,8 @@ use Rattle.std.proofs.lemmas.Map.Entries.{length-keys_of}
 use Rattle.stn_records.proofs.Entries.{less_is, in_order}
 use Rattle.stn_records.proofs.KnownIds.{fewer, same_count, one_more, member-append, known_member, known_fewer, keys_within, there_is}
 use Rattle.stn_records.proofs.Proper.{retained_value}
-use Rattle.stn_records.proofs.Replaced.{gone, inserted_key, replaced_by_withdrawal, replaced_in_join, replaced_withdrawn, replaced_amended, replaced_of_nothing}
+use Rattle.stn_records.proofs.OneItem.{gone}
+use Rattle.stn_records.proofs.Replaced.{or_swap, inserted_key, replaced_by_withdrawal, replaced_in_join, replaced_withdrawn, replaced_amended, replaced_of_nothing}
 
 keys_apart : {X : Type 0} (x : SiteCounter) (es : List (SiteCounter × X)) → below_all id_cmp x es ≡ true → AllByRecursion (λ y. same_ids x y ≡ false) (keys_of es)
 keys_apart x [] h = tt
@@ -90,25 +91,20 @@ with_member s id r q = ap (λ o. is_some o || is_replaced s q) (get-insert ids_t
     by true o = refl
     by false o = refl
 
-swapped : (a b c : Bool) → (a || (b || c)) ≡ (b || (a || c))
-swapped true true c = refl
-swapped true false c = refl
-swapped false b c = refl
-
 tombed_member : (s : Content) (id : SiteCounter) (q : SiteCounter) → is_known (with_tombstone s id) q ≡ (same_ids q id || is_known s q)
 tombed_member s id q =
     ap (λ set. fin.contains_key s.additions q || fin.contains_key set q) (sym (replaced_withdrawn s id))
     ∙ ap (λ b. fin.contains_key s.additions q || b) (inserted_key (replaced_set s) id q)
-    ∙ swapped (fin.contains_key s.additions q) (same_ids q id) (is_replaced s q)
+    ∙ or_swap (fin.contains_key s.additions q) (same_ids q id) (is_replaced s q)
 
 -- an amendment is known by both its ids
 amended_member : (s : Content) (id old : SiteCounter) (bound : Difference) → ((z : SiteCounter) → fin.get s.replacements id ≡ Some z → z ≡ old) → (q : SiteCounter) → is_known (with_amendment s id old bound) q ≡ (same_ids q id || (same_ids q old || is_known s q))
 amended_member s id old bound agrees q =
     ap (λ set. fin.contains_key (fin.insert s.additions id (plain bound)) q || fin.contains_key set q) (sym (replaced_amended s id old bound agrees))
     ∙ ap (λ b. fin.contains_key (fin.insert s.additions id (plain bound)) q || b) (inserted_key (replaced_set s) old q)
-    ∙ swapped (fin.contains_key (fin.insert s.additions id (plain bound)) q) (same_ids q old) (is_replaced s q)
+    ∙ or_swap (fin.contains_key (fin.insert s.additions id (plain bound)) q) (same_ids q old) (is_replaced s q)
     ∙ ap (λ b. same_ids q old || b) (with_member s id (plain bound) q)
-    ∙ swapped (same_ids q old) (same_ids q id) (is_known s q)
+    ∙ or_swap (same_ids q old) (same_ids q id) (is_known s q)
 
 -- an id more counts where it is not among the others
 counted : (x : SiteCounter) (xs : List SiteCounter) (b : Bool) → is_member same_ids xs x ≡ b → distinct_count same_ids (x ∷ xs) ≡ distinct_count same_ids xs + cond b 0 1

@@ -1,18 +1,15 @@
 -- Contents that are made of lists of entries.
-use Rattle.std.proofs.Common.{◌≡◌, ◌↔◌, ℕ, ◌<◌, length, Bool, true, false, not, ◌&&◌, eqb, cond, List, [], ◌∷◌, get_or, Some, is_some, is_eq, sym, refl, ap, subst, ◌∙◌, All}
+use Rattle.std.proofs.Common.{◌≡◌, ◌↔◌, ℕ, ◌<◌, length, Bool, true, false, not, ◌&&◌, eqb, List, get_or, Some, sym, refl, ap, ◌∙◌, All}
 use Rattle.std.proofs.lemmas.Bool.{false≢true}
 use Rattle.std.proofs.lemmas.Bool.Decides.{Decides-eqb, Decides-and, Decides-like}
 use Rattle.std.specs.Bool.{Decides}
-use Rattle.std.proofs.lemmas.List.{get_or_default}
-use Rattle.std.proofs.lemmas.List.Elements.{All-same, recursion_from_All}
-use Rattle.std.specs.List.{AllByRecursion}
+use Rattle.std.proofs.lemmas.List.Elements.{All-same}
 use Rattle.std.specs.FinMap as fin
-use Rattle.std.specs.FinMap.{get-entries, is_sorted}
+use Rattle.std.specs.FinMap.{get-entries, is_sorted, same_entries_map}
 use Rattle.stn_records.specs.Id.{SiteCounter, id_cmp}
-use Rattle.stn_records.specs.Record.{IsProper}
 use Rattle.stn_records.specs.declared.record.Record.{Record}
 use Rattle.stn_records.specs.declared.record.Mark.TheVariants.{Plain}
-use Rattle.stn_records.specs.Content.{RecordMap, Content, AllProper, AllAmend, IsAmendment}
+use Rattle.stn_records.specs.Content.{RecordMap, Content, AllAmend, IsAmendment}
 use Rattle.std.specs.Cmp.{tied_itself}
 use Rattle.stn_records.specs.ContentLaws.{ids_total, ids_exact}
 use Rattle.stn_records.proofs.Gets.{entries_from_get, get_from_entries}
@@ -25,25 +22,12 @@ entry_at m es place e is within read =
     ∙ find_at ids_total es (ap (is_sorted id_cmp) is ∙ in_order m) e.0 place e within (ap (λ (f : SiteCounter × Record). id_cmp e.0 f.0) (sym read) ∙ tied_itself ids_total e.0)
     ∙ ap (λ (f : SiteCounter × Record). Some f.1) (sym read)
 
-abbrev pub IsProperEntry : SiteCounter × Record → Type 0
-IsProperEntry entry = IsProper entry.1.mark entry.1.bound
+-- contents with the same three parts are one
+pub same_content : (s t : Content) → s.additions ≡ t.additions → s.tombstones ≡ t.tombstones → s.replacements ≡ t.replacements → s ≡ t
+same_content s t p q r i = record { additions = p i; tombstones = q i; replacements = r i }
 
-found_proper : (es : List (SiteCounter × Record)) → AllByRecursion IsProperEntry es → (id : SiteCounter) (r : Record) → fin.find id_cmp id es ≡ Some r → IsProper r.mark r.bound
-found_proper [] all id r e = absurd (false≢true (ap is_some e))
-found_proper (entry ∷ es) all id r e =
-    elim (is_eq (id_cmp id entry.0)) as (λ b. cond b (Some entry.1) (fin.find id_cmp id es) ≡ Some r → IsProper r.mark r.bound) [
-      | true ↦ λ f. let same : entry.1 ≡ r = cc in subst (λ (s : Record). IsProper s.mark s.bound) same all.0
-      | false ↦ λ f. found_proper es all.1 id r f
-    ] e
-
--- the Done records of a map are proper where those of its entries are, and only there
-pub proper_of_entries : (m : RecordMap) (es : List (SiteCounter × Record)) → All IsProperEntry es → fin.entries m ≡ es → AllProper m
-proper_of_entries m es all is id r e = found_proper (fin.entries m) (recursion_from_All IsProperEntry (fin.entries m) (All-same IsProperEntry (fin.entries m) es is all)) id r (sym (get-entries m id) ∙ e)
-
-pub entries_of_proper : (m : RecordMap) (es : List (SiteCounter × Record)) → AllProper m → fin.entries m ≡ es → All IsProperEntry es
-entries_of_proper m es proper is k d within =
-    let there = entry_at m es k (get_or es k d) (sym is) within (get_or_default es k d (get_or es k d) within) in
-    proper (get_or es k d).0 (get_or es k d).1 there
+pub same_lists : (s t : Content) → fin.entries s.additions ≡ fin.entries t.additions → fin.entries s.tombstones ≡ fin.entries t.tombstones → fin.entries s.replacements ≡ fin.entries t.replacements → s ≡ t
+same_lists s t p q r = same_content s t (same_entries_map _ _ p) (same_entries_map _ _ q) (same_entries_map _ _ r)
 
 -- the entries of a content are amendments where those of the list are, and only there
 pub amends_of_entries : (s : Content) (es : List (SiteCounter × SiteCounter)) → es ≡ fin.entries s.replacements → All (λ e. IsAmendment s.additions e.0 e.1) es → AllAmend s

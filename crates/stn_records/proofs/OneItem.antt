@@ -9,6 +9,7 @@ use Rattle.std.specs.FinMap as fin
 use Rattle.stn_net.specs.Difference.{Difference}
 use Rattle.stn_records.specs.Id.{SiteCounter, id_cmp}
 use Rattle.stn_records.specs.declared.record.Record.{Record}
+use Rattle.stn_records.specs.Maps.{AgreesAt}
 use Rattle.stn_records.specs.JoinLaws.{join_is}
 
 -- what an insertion leaves of an id is the value put in, or what was there
@@ -31,45 +32,43 @@ kept_value m id x q y same e = elim (is_eq (id_cmp q id)) as (λ b. is_eq (id_cm
   | false ↦ λ t. e
 ] refl)
 
+-- a map and the one entry have together what the map has with the entry put in
+put : {X : Type 0} (m : FinMap id_cmp X) (id : SiteCounter) (x : X) → AgreesAt m id x → (q : SiteCounter) (y : X) → (fin.get (fin.insert m id x) q ≡ Some y) ↔ ((fin.get m q ≡ Some y) ⊎ (fin.get {R = id_cmp} (fin.insert fin.empty id x) q ≡ Some y))
+put m id x agrees q y = (
+  λ h. ⊎_elim (λ here. inr (ap (fin.get (fin.insert fin.empty id x)) here.0 ∙ inserted_here fin.empty id x ∙ ap Some here.1)) inl (inserted_value m id x q y h),
+  λ h. ⊎_elim (kept_value m id x q y agrees) (λ one. ⊎_elim (λ here. ap (fin.get (fin.insert m id x)) here.0 ∙ inserted_here m id x ∙ ap Some here.1) (λ none. absurd (false≢true (ap is_some (sym (get-empty id_cmp q) ∙ none)))) (inserted_value fin.empty id x q y one)) h,
+)
+
+-- and with no entry what it has
+left : {X : Type 0} (m : FinMap id_cmp X) (q : SiteCounter) (y : X) → (fin.get m q ≡ Some y) ↔ ((fin.get m q ≡ Some y) ⊎ (fin.get {R = id_cmp} fin.empty q ≡ Some y))
+left m q y = (inl, λ h. ⊎_elim (λ x. x) (λ none. absurd (false≢true (ap is_some (sym (get-empty id_cmp q) ∙ none)))) h)
+
 -- a content and one record, which it has or whose id is new, join to the content with the record
-pub record_joins : (s : Content) (id : SiteCounter) (r : Record) → ((z : Record) → fin.get s.additions id ≡ Some z → z ≡ r) → join_contents s (one_record id r) ≡ Some (with_record s id r)
-record_joins s id r same = join_is contents_join s (one_record id r) (with_record s id r) union_of
+pub record_joins : (s : Content) (id : SiteCounter) (r : Record) → AgreesAt s.additions id r → join_contents s (one_record id r) ≡ Some (with_record s id r)
+record_joins s id r agrees = join_is contents_join s (one_record id r) (with_record s id r) items
   where
-    union_of : (item : Item) → HasItem (with_record s id r) item ↔ (HasItem s item ⊎ HasItem (one_record id r) item)
-    union_of (addition q y) = (
-      λ h. ⊎_elim (λ here. inr (ap (fin.get (fin.insert fin.empty id r)) here.0 ∙ inserted_here fin.empty id r ∙ ap Some here.1)) inl (inserted_value s.additions id r q y h),
-      λ h. ⊎_elim (kept_value s.additions id r q y same) (λ one. ⊎_elim (λ here. ap (fin.get (fin.insert s.additions id r)) here.0 ∙ inserted_here s.additions id r ∙ ap Some here.1) (λ none. absurd (false≢true (ap is_some (sym (get-empty id_cmp q) ∙ none)))) (inserted_value fin.empty id r q y one)) h,
-    )
-    union_of (withdrawal q) = (inl, λ h. ⊎_elim (λ x. x) (λ none. absurd (false≢true (ap is_some (sym (get-empty id_cmp q) ∙ none)))) h)
-    union_of (replacement q o) = (inl, λ h. ⊎_elim (λ x. x) (λ none. absurd (false≢true (ap is_some (sym (get-empty id_cmp q) ∙ none)))) h)
+    items : (item : Item) → HasItem (with_record s id r) item ↔ (HasItem s item ⊎ HasItem (one_record id r) item)
+    items (addition q y) = put s.additions id r agrees q y
+    items (withdrawal q) = left s.tombstones q tt
+    items (replacement q y) = left s.replacements q y
 
 -- a content and one withdrawn id join to the content with the id withdrawn
 pub tombstone_joins : (s : Content) (id : SiteCounter) → join_contents s (one_tombstone id) ≡ Some (with_tombstone s id)
-tombstone_joins s id = join_is contents_join s (one_tombstone id) (with_tombstone s id) union_of
+tombstone_joins s id = join_is contents_join s (one_tombstone id) (with_tombstone s id) items
   where
-    union_of : (item : Item) → HasItem (with_tombstone s id) item ↔ (HasItem s item ⊎ HasItem (one_tombstone id) item)
-    union_of (addition q y) = (inl, λ h. ⊎_elim (λ x. x) (λ none. absurd (false≢true (ap is_some (sym (get-empty id_cmp q) ∙ none)))) h)
-    union_of (withdrawal q) = (
-      λ h. ⊎_elim (λ here. inr (ap (fin.get (fin.insert fin.empty id tt)) here.0 ∙ inserted_here fin.empty id tt)) inl (inserted_value s.tombstones id tt q tt h),
-      λ h. ⊎_elim (kept_value s.tombstones id tt q tt (λ z e. refl)) (λ one. ⊎_elim (λ here. ap (fin.get (fin.insert s.tombstones id tt)) here.0 ∙ inserted_here s.tombstones id tt) (λ none. absurd (false≢true (ap is_some (sym (get-empty id_cmp q) ∙ none)))) (inserted_value fin.empty id tt q tt one)) h,
-    )
-    union_of (replacement q o) = (inl, λ h. ⊎_elim (λ x. x) (λ none. absurd (false≢true (ap is_some (sym (get-empty id_cmp q) ∙ none)))) h)
+    items : (item : Item) → HasItem (with_tombstone s id) item ↔ (HasItem s item ⊎ HasItem (one_tombstone id) item)
+    items (addition q y) = left s.additions q y
+    items (withdrawal q) = put s.tombstones id tt (λ z e. refl) q tt
+    items (replacement q y) = left s.replacements q y
 
 -- a content and one amendment, whose record and entry it has or whose id is new, join to the content with the amendment
-pub amendment_joins : (s : Content) (id old : SiteCounter) (bound : Difference) → ((z : Record) → fin.get s.additions id ≡ Some z → z ≡ plain bound) → ((z : SiteCounter) → fin.get s.replacements id ≡ Some z → z ≡ old)
-    → join_contents s (one_amendment id old bound) ≡ Some (with_amendment s id old bound)
-amendment_joins s id old bound same same_old = join_is contents_join s (one_amendment id old bound) (with_amendment s id old bound) union_of
+pub amendment_joins : (s : Content) (id old : SiteCounter) (bound : Difference) → AgreesAt s.additions id (plain bound) → AgreesAt s.replacements id old → join_contents s (one_amendment id old bound) ≡ Some (with_amendment s id old bound)
+amendment_joins s id old bound agrees same = join_is contents_join s (one_amendment id old bound) (with_amendment s id old bound) items
   where
-    put : {X : Type 0} (m : FinMap id_cmp X) (x : X) → ((z : X) → fin.get m id ≡ Some z → z ≡ x) → (q : SiteCounter) (y : X) → (fin.get (fin.insert m id x) q ≡ Some y) ↔ ((fin.get m q ≡ Some y) ⊎ (fin.get {R = id_cmp} (fin.insert fin.empty id x) q ≡ Some y))
-    put m x agrees q y = (
-      λ h. ⊎_elim (λ here. inr (ap (fin.get (fin.insert fin.empty id x)) here.0 ∙ inserted_here fin.empty id x ∙ ap Some here.1)) inl (inserted_value m id x q y h),
-      λ h. ⊎_elim (kept_value m id x q y agrees) (λ one. ⊎_elim (λ here. ap (fin.get (fin.insert m id x)) here.0 ∙ inserted_here m id x ∙ ap Some here.1) (λ none. absurd (false≢true (ap is_some (sym (get-empty id_cmp q) ∙ none)))) (inserted_value fin.empty id x q y one)) h,
-    )
-
-    union_of : (item : Item) → HasItem (with_amendment s id old bound) item ↔ (HasItem s item ⊎ HasItem (one_amendment id old bound) item)
-    union_of (addition q y) = put s.additions (plain bound) same q y
-    union_of (withdrawal q) = (inl, λ h. ⊎_elim (λ x. x) (λ none. absurd (false≢true (ap is_some (sym (get-empty id_cmp q) ∙ none)))) h)
-    union_of (replacement q y) = put s.replacements old same_old q y
+    items : (item : Item) → HasItem (with_amendment s id old bound) item ↔ (HasItem s item ⊎ HasItem (one_amendment id old bound) item)
+    items (addition q y) = put s.additions id (plain bound) agrees q y
+    items (withdrawal q) = left s.tombstones q tt
+    items (replacement q y) = put s.replacements id old same q y
 
 -- what is there already changes nothing
 pub again : {X : Type 0} (m : FinMap id_cmp X) (id : SiteCounter) (x : X) → fin.get m id ≡ Some x → m ≡ fin.insert m id x
@@ -81,15 +80,16 @@ again {X} m id x e = fin.same_map ids_total ids_exact m (fin.insert m id x) (λ 
       | false ↦ λ t. refl
     ] refl
 
+-- what a set has at an id that is there
+pub gone : (o : Option (Unit {0})) → is_some o ≡ true → o ≡ Some tt
+gone None e = absurd (false≢true e)
+gone (Some x) e = refl
+
 pub record_again : (s : Content) (id : SiteCounter) (r : Record) → fin.get s.additions id ≡ Some r → s ≡ with_record s id r
 record_again s id r e i = record s { additions = again s.additions id r e i }
 
 pub tombstone_again : (s : Content) (id : SiteCounter) → fin.contains_key s.tombstones id ≡ true → s ≡ with_tombstone s id
-tombstone_again s id there i = record s { tombstones = again s.tombstones id tt (unit (fin.get s.tombstones id) there) i }
-  where
-    unit : (o : Option (Unit {0})) → is_some o ≡ true → o ≡ Some tt
-    unit None e = absurd (false≢true e)
-    unit (Some x) e = refl
+tombstone_again s id there i = record s { tombstones = again s.tombstones id tt (gone (fin.get s.tombstones id) there) i }
 
 pub amendment_again : (s : Content) (id old : SiteCounter) (bound : Difference) → fin.get s.additions id ≡ Some (plain bound) → fin.get s.replacements id ≡ Some old → s ≡ with_amendment s id old bound
 amendment_again s id old bound there entry i = record s { additions = again s.additions id (plain bound) there i; replacements = again s.replacements id old entry i }

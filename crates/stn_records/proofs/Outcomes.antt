@@ -1,20 +1,20 @@
 -- What each call leaves.
 use Rattle.std.proofs.Common.{◌≡◌, ◌≢◌, ℕ, ◌+◌, ◌<◌, ◌≤◌, ◌↔◌, Bool, true, false, cond, List, length, Some, None, is_some, option_and_then, Equal, sym, refl, ap, subst, ◌∙◌, inl, inr, ⊎_elim, arith, Result, Ok, Err, OnOk, OnErr, IsTrue, le_trans, nat_le}
-use Rattle.std.proofs.lemmas.Bool.{false≢true, cases_lt, leb-true, le-leb, or_left, or_right}
+use Rattle.std.proofs.lemmas.Bool.{false≢true, cases_lt, leb-true, le-leb, or_right}
 use Rattle.std.specs.FinMap as fin
 use Rattle.std.specs.FinMap.{get-empty, get-retain_keys}
 use Rattle.std.specs.Set.{is_member}
 use Rattle.stn_net.specs.Difference.{Difference}
 use Rattle.stn_records.specs.Id.{SiteCounter, id_cmp, same_ids}
-use Rattle.stn_records.specs.Record.{IsProper}
+use Rattle.stn_records.specs.Record.{IsProper, IsProperRecord}
 use Rattle.stn_records.specs.declared.record.Record.{Record}
 use Rattle.stn_records.specs.MapLaws.{get-union, either_value}
 use Rattle.stn_records.specs.Join.{passing}
 use Rattle.stn_records.specs.Content.{most_known, dispute_contents, taken, is_within, IsSound, IsAmendment, AllAmend, part_of, RecordMap, Content, addition, known_count, known_in_either, is_known, is_replaced, replaced_set, joined_contents, no_content, plain, with_record, with_tombstone, with_amendment}
 use Rattle.stn_records.specs.ContentLaws.{ids_total, ids_exact, contents_undisputed}
-use Rattle.stn_records.proofs.OneItem.{inserted_value, inserted_here, kept_value}
-use Rattle.stn_records.proofs.Replaced.{items_back, gone, replaced_by_withdrawal}
-use Rattle.stn_records.proofs.Proper.{empty_proper, insert_proper, union_proper, retain_proper, retained_value}
+use Rattle.stn_records.proofs.OneItem.{gone, inserted_value, inserted_here, kept_value}
+use Rattle.stn_records.proofs.Replaced.{items_back, replaced_by_withdrawal}
+use Rattle.stn_records.proofs.Proper.{empty_fits, insert_fits, union_fits, retain_fits, retained_value}
 use Rattle.stn_records.proofs.Limits.{known_within, together, record_limited, tombstone_limited, part_limited, empty_limited}
 
 -- what a call leaves that changes all or nothing
@@ -28,11 +28,11 @@ amends_kept m id r agrees q old a = record { added = (a.added.0, kept_value m id
 
 -- which changes leave a sound content
 pub empty_sound : IsSound no_content
-empty_sound = record { proper = empty_proper; amends = λ id old e. absurd (false≢true (ap is_some (sym (get-empty id_cmp id) ∙ e))); limited = empty_limited }
+empty_sound = record { proper = empty_fits IsProperRecord; amends = λ id old e. absurd (false≢true (ap is_some (sym (get-empty id_cmp id) ∙ e))); limited = empty_limited }
 
 pub record_sound : (s : Content) (id : SiteCounter) (r : Record) → IsSound s → IsProper r.mark r.bound → ((z : Record) → fin.get s.additions id ≡ Some z → z ≡ r) → (is_known s id ≡ false → known_count s < most_known) → IsSound (with_record s id r)
 record_sound s id r sound proper agrees room = record {
-  proper = insert_proper s.additions id r sound.proper proper;
+  proper = insert_fits IsProperRecord s.additions id r sound.proper proper;
   amends = λ q old e. amends_kept s.additions id r agrees q old (sound.amends q old e);
   limited = record_limited s id r room sound.limited;
 }
@@ -42,7 +42,7 @@ tombstone_sound s id sound room = record { proper = sound.proper; amends = sound
 
 pub amendment_sound : (s : Content) (id old : SiteCounter) (bound : Difference) → IsSound s → id ≢ old → ((z : Record) → fin.get s.additions id ≡ Some z → z ≡ plain bound) → ((z : SiteCounter) → fin.get s.replacements id ≡ Some z → z ≡ old) → known_count (with_amendment s id old bound) ≤ most_known → IsSound (with_amendment s id old bound)
 amendment_sound s id old bound sound apart agrees alike few = record {
-  proper = insert_proper s.additions id (plain bound) sound.proper tt;
+  proper = insert_fits IsProperRecord s.additions id (plain bound) sound.proper tt;
   amends = λ q o e. ⊎_elim
       (λ here. record {
         added = (bound, ap (fin.get (fin.insert s.additions id (plain bound))) here.0 ∙ inserted_here s.additions id (plain bound));
@@ -55,7 +55,7 @@ amendment_sound s id old bound sound apart agrees alike few = record {
 
 pub joined_sound : (s t all : Content) → IsSound s → IsSound t → dispute_contents s t ≡ None → known_in_either s t ≤ most_known → all ≡ joined_contents s t → IsSound all
 joined_sound s t all p q none few is = subst IsSound (sym is) (record {
-  proper = union_proper s.additions t.additions p.proper q.proper;
+  proper = union_fits IsProperRecord s.additions t.additions p.proper q.proper;
   amends = λ id old e. ⊎_elim
       (λ h. let a = p.amends id old h in record { added = (a.added.0, items_back s t none (addition id (plain a.added.0)) (inl a.added.1)); other = a.other })
       (λ h. let a = q.amends id old h in record { added = (a.added.0, items_back s t none (addition id (plain a.added.0)) (inr a.added.1)); other = a.other })
@@ -81,15 +81,12 @@ part_sound s part records tombstones sound is =
     let few = part_limited s records tombstones in
     let most = sound.limited in
     subst IsSound (sym is) (record {
-      proper = retain_proper s.additions (λ id. is_member same_ids records id) sound.proper;
+      proper = retain_fits IsProperRecord s.additions (λ id. is_member same_ids records id) sound.proper;
       amends = amends_part s (λ id. is_member same_ids records id) sound.amends;
       limited = le_trans few most;
     })
 
--- an id of a record or a replaced one is known
-pub known_by_record : (s : Content) (id : SiteCounter) → fin.contains_key s.additions id ≡ true → is_known s id ≡ true
-known_by_record s id e = or_left _ _ e
-
+-- a replaced id is known
 pub known_by_replaced : (s : Content) (id : SiteCounter) → is_replaced s id ≡ true → is_known s id ≡ true
 known_by_replaced s id e = or_right _ _ e
 

@@ -1,26 +1,27 @@
 -- What a search for an id finds, and what an edit at that place does.
-use Rattle.std.proofs.Common.{◌≡◌, ◌<◌, Bool, Equal, ℕ, zero, suc, is_eq, is_ok, ⊎_elim, true, false, cond, List, [], ◌∷◌, length, get_or, Some, None, Result, Ok, Err, IfOk, IfErr, filter, sym, refl, ap, ◌∙◌, arith, ◌||◌}
+use Rattle.std.proofs.Common.{◌≡◌, ◌<◌, Bool, Equal, ℕ, zero, suc, is_eq, is_ok, ⊎_elim, true, false, cond, List, [], ◌∷◌, length, get_or, Option, Some, None, Result, Ok, Err, IfOk, IfErr, filter, sym, refl, ap, subst, ◌∙◌, arith, ◌||◌, All}
 use Rattle.std.specs.List.Sorted.{IsSearchInRange, IsBinarySearchResult, IsSorted, IsPermutation}
 use Rattle.std.specs.Cmp.{tied_back}
-use Rattle.std.specs.Prelude.{◌↔◌}
+use Rattle.std.specs.Prelude.{IsTrue}
 use Rattle.std.proofs.lemmas.List.{get_or_default}
-use Rattle.std.proofs.lemmas.Bool.{false≢true, cases_lt, or_right}
+use Rattle.std.proofs.lemmas.Bool.{cases_lt, or_right}
 use Rattle.std.specs.Option.{option_or}
 use Rattle.std.specs.List.{insert}
 use Rattle.std.specs.Set.{is_member}
 use Rattle.std.specs.FinMap as fin
-use Rattle.std.specs.FinMap.{FinMap, is_sorted, put, entries-from_sorted, get-from_sorted, entries-insert, entries_sorted, same_entries_map, same_map, get-retain_keys, empty_of_len, len-entries}
-use Rattle.std.specs.FinMap.Entries.{is_sorted-put, is_sorted-where_key, find-where_key}
+use Rattle.std.specs.FinMap.{FinMap, is_sorted, put, entries-from_sorted, get-from_sorted, get-entries, entries-insert, same_entries_map, same_map, get-retain_keys, empty_of_len, len-entries}
+use Rattle.std.specs.FinMap.Entries.{is_sorted-where_key, find-where_key}
 use Rattle.std.proofs.lemmas.List.Sorted.{searchable_from_sorted, list_any-IsPermutation}
-use Rattle.std.proofs.lemmas.List.Elements.{filter_agree}
+use Rattle.std.proofs.lemmas.List.Elements.{All-same, filter_agree}
 use Rattle.stn_records.specs.Id.{SiteCounter, id_cmp}
 use Rattle.stn_records.specs.Sorted.{IsPlaceOf, IsGapFor, merge}
-use Rattle.stn_records.specs.Maps.{union, AgreesAt}
+use Rattle.stn_records.specs.Maps.{union, AgreesAt, AllFit}
 use Rattle.stn_records.proofs.OneItem.{again}
+use Rattle.stn_records.proofs.Gets.{get_from_entries}
 use Rattle.stn_records.specs.MapLaws.{get-union}
 use Rattle.stn_records.specs.Content.{same_ids}
 use Rattle.stn_records.specs.ContentLaws.{ids_total, ids_exact}
-use Rattle.stn_records.proofs.Entries.{holds, T_true, less_back, greater_back, neighbours_rise, find_at, find_gap, put_gap, sorted-merge, find-merge}
+use Rattle.stn_records.proofs.Entries.{holds, T_true, in_order, less_back, greater_back, neighbours_rise, find_at, find_gap, put_gap, sorted-merge, find-merge}
 
 alike : (p : SiteCounter → Bool) (q x : SiteCounter) → id_cmp q x ≡ Equal → p x ≡ p q
 alike p q x t = ap p (sym (ids_exact q x t))
@@ -46,99 +47,73 @@ module _ {X : Type 0} where
         };
       }
 
-  -- the entries of the map of a list in order
-  pub entries_of_sorted : (es : List (SiteCounter × X)) (m : FinMap id_cmp X) → is_sorted id_cmp es ≡ true → fin.from_sorted es ≡ m → fin.entries m ≡ es
-  entries_of_sorted es m sorted is = ap fin.entries (sym is) ∙ entries-from_sorted id_cmp es (holds _ sorted)
-
-  -- the map of the entries, where they are in order
+  -- the map of a list in order has its entries
   pub map_of_sorted : (es : List (SiteCounter × X)) → is_sorted id_cmp es ≡ true → fin.entries (fin.from_sorted {R = id_cmp} es) ≡ es
   map_of_sorted es sorted = entries-from_sorted id_cmp es (holds _ sorted)
 
-  -- the entries of a map are in order
-  pub entries_rise : (m : FinMap id_cmp X) (es : List (SiteCounter × X)) → fin.entries m ≡ es → is_sorted id_cmp es ≡ true
-  entries_rise m es is = ap (is_sorted id_cmp) (sym is) ∙ T_true _ (entries_sorted m)
+  pub entries_of_sorted : (es : List (SiteCounter × X)) (m : FinMap id_cmp X) → is_sorted id_cmp es ≡ true → fin.from_sorted es ≡ m → fin.entries m ≡ es
+  entries_of_sorted es m sorted is = ap fin.entries (sym is) ∙ map_of_sorted es sorted
 
-  -- what the map has of an id is what is found in the list
-  pub get_of_sorted : (es : List (SiteCounter × X)) (m : FinMap id_cmp X) (id : SiteCounter) → is_sorted id_cmp es ≡ true → fin.from_sorted es ≡ m → fin.get m id ≡ fin.find id_cmp id es
-  get_of_sorted es m id sorted is = ap (λ n. fin.get n id) (sym is) ∙ get-from_sorted id_cmp es id (holds _ sorted)
+  -- a list that is the entries of a map makes that map, and is in order
+  pub made_is : (es : List (SiteCounter × X)) (m : FinMap id_cmp X) → es ≡ fin.entries m → fin.from_sorted es ≡ m
+  made_is es m is = ap fin.from_sorted is ∙ same_entries_map _ m (map_of_sorted (fin.entries m) (in_order m))
 
-  -- the map of the list with an entry put in
-  pub put_sorted : (es : List (SiteCounter × X)) (id : SiteCounter) (x : X) → is_sorted id_cmp es ≡ true → is_sorted id_cmp (put id_cmp id x es) ≡ true
-  put_sorted es id x sorted = T_true _ (is_sorted-put id_cmp ids_total id x es (holds _ sorted))
+  pub made : (Fits : X → Type 0) (es : List (SiteCounter × X)) (m : FinMap id_cmp X) → es ≡ fin.entries m → AllFit Fits m → IsTrue (is_sorted id_cmp es) × AllFit Fits (fin.from_sorted {R = id_cmp} es)
+  made Fits es m is fits = (ap (is_sorted id_cmp) is ∙ in_order m, subst (AllFit Fits) (sym (made_is es m is)) fits)
 
-  pub put_inserts : (es : List (SiteCounter × X)) (m : FinMap id_cmp X) (id : SiteCounter) (x : X) → is_sorted id_cmp es ≡ true → fin.from_sorted es ≡ m → fin.from_sorted (put id_cmp id x es) ≡ fin.insert m id x
-  put_inserts es m id x sorted is = same_entries_map _ _
-      (entries-from_sorted id_cmp (put id_cmp id x es) (holds _ (put_sorted es id x sorted))
-      ∙ ap (put id_cmp id x) (sym (entries_of_sorted es m sorted is))
-      ∙ sym (entries-insert ids_total m id x))
+  -- the values of a list in order are fit in its map
+  pub listed_fits : (Fits : X → Type 0) (es seen : List (SiteCounter × X)) → seen ≡ es → is_sorted id_cmp es ≡ true → All (λ e. Fits e.1) seen → AllFit Fits (fin.from_sorted {R = id_cmp} es)
+  listed_fits Fits es seen read sorted all = get_from_entries ids_total ids_exact (fin.from_sorted {R = id_cmp} es) (λ e. Fits e.1) (All-same (λ e. Fits e.1) (fin.entries (fin.from_sorted {R = id_cmp} es)) seen (map_of_sorted es sorted ∙ sym read) all)
 
-  -- the map of the merge is the union
-  pub merge_unites : (xs ys : List (SiteCounter × X)) (a b : FinMap id_cmp X) → is_sorted id_cmp xs ≡ true → is_sorted id_cmp ys ≡ true → fin.from_sorted xs ≡ a → fin.from_sorted ys ≡ b → fin.from_sorted (merge id_cmp xs ys) ≡ union a b
-  merge_unites xs ys a b g h p q = same_map ids_total ids_exact _ _ (λ id.
-      get-from_sorted id_cmp (merge id_cmp xs ys) id (holds _ (sorted-merge ids_total xs ys g h))
-      ∙ find-merge ids_total id xs ys g h
-      ∙ ap (λ v. option_or v (fin.find id_cmp id ys)) (sym (get_of_sorted xs a id g p))
-      ∙ ap (option_or (fin.get a id)) (sym (get_of_sorted ys b id h q))
+  same_listed : (es : List (SiteCounter × X)) (m : FinMap id_cmp X) → is_sorted id_cmp es ≡ true → ((id : SiteCounter) → fin.find id_cmp id es ≡ fin.get m id) → es ≡ fin.entries m
+  same_listed es m sorted found = sym (map_of_sorted es sorted) ∙ ap fin.entries (same_map ids_total ids_exact _ m (λ id. get-from_sorted id_cmp es id (holds _ sorted) ∙ found id))
+
+  -- the merge of two maps' entries is the entries of the union
+  pub merge_entries : (a b : FinMap id_cmp X) → merge id_cmp (fin.entries a) (fin.entries b) ≡ fin.entries (union a b)
+  merge_entries a b = same_listed _ (union a b) (sorted-merge ids_total (fin.entries a) (fin.entries b) (in_order a) (in_order b)) (λ id.
+      find-merge ids_total id (fin.entries a) (fin.entries b) (in_order a) (in_order b)
+      ∙ (λ i. option_or (sym (get-entries a id) i) (sym (get-entries b id) i))
       ∙ sym (get-union ids_total ids_exact a b id))
 
-  -- the entries with wanted ids are in order, and their map is what the map retains
-  pub wanted_sorted : (p : SiteCounter → Bool) (es : List (SiteCounter × X)) → is_sorted id_cmp es ≡ true → is_sorted id_cmp (filter (λ e. p e.0) es) ≡ true
-  wanted_sorted p es sorted = T_true _ (is_sorted-where_key id_cmp p es (holds _ sorted))
-
-  pub wanted_retained : (p : SiteCounter → Bool) (es : List (SiteCounter × X)) (m : FinMap id_cmp X) → is_sorted id_cmp es ≡ true → fin.from_sorted es ≡ m → fin.from_sorted (filter (λ e. p e.0) es) ≡ fin.retain_keys m p
-  wanted_retained p es m sorted is = same_map ids_total ids_exact _ _ (λ id.
-      get-from_sorted id_cmp (filter (λ e. p e.0) es) id (holds _ (wanted_sorted p es sorted))
-      ∙ find-where_key id_cmp p id (alike p id) es
-      ∙ ap (λ v. cond (p id) v None) (sym (get_of_sorted es m id sorted is))
+  -- and those with wanted ids are the entries that the map retains
+  pub wanted_entries : (p : SiteCounter → Bool) (m : FinMap id_cmp X) → filter (λ e. p e.0) (fin.entries m) ≡ fin.entries (fin.retain_keys m p)
+  wanted_entries p m = same_listed _ (fin.retain_keys m p) (T_true _ (is_sorted-where_key id_cmp p (fin.entries m) (holds _ (in_order m)))) (λ id.
+      find-where_key id_cmp p id (alike p id) (fin.entries m)
+      ∙ ap (λ v. cond (p id) v None) (sym (get-entries m id))
       ∙ sym (get-retain_keys m p id (alike p id)))
 
-  -- the value of the entry that was read at the place of the id
-  pub read_at_place : (es seen : List (SiteCounter × X)) (m : FinMap id_cmp X) (id : SiteCounter) (at : ℕ) (entry : SiteCounter × X) → is_sorted id_cmp es ≡ true → fin.from_sorted es ≡ m → seen ≡ es → IsPlaceOf seen id at → entry ≡ get_or es at entry → Some entry.1 ≡ fin.get m id
-  read_at_place es seen m id at entry sorted is same place read =
-      sym (get_of_sorted es m id sorted is ∙ ap (fin.find id_cmp id) (sym same) ∙ place.found entry (ap (λ l. get_or l at entry) same ∙ sym read))
+  -- where the entries of a map were searched for an id
+  module _ (m : FinMap id_cmp X) (seen : List (SiteCounter × X)) (id : SiteCounter) (at : ℕ) (read : seen ≡ fin.entries m) where
+    found_in : (v : Option X) → fin.find id_cmp id seen ≡ v → fin.get m id ≡ v
+    found_in v found = get-entries m id ∙ ap (fin.find id_cmp id) (sym read) ∙ found
 
-  -- at a gap the map has nothing
-  pub none_at_gap : (es seen : List (SiteCounter × X)) (m : FinMap id_cmp X) (id : SiteCounter) (at : ℕ) → is_sorted id_cmp es ≡ true → fin.from_sorted es ≡ m → seen ≡ es → IsGapFor seen id at → None ≡ fin.get m id
-  none_at_gap es seen m id at sorted is same gap = sym (get_of_sorted es m id sorted is ∙ ap (fin.find id_cmp id) (sym same) ∙ gap.absent)
+    -- the value of the entry at the place
+    pub read_at_place : (d : SiteCounter × X) → IsPlaceOf seen id at → Some (get_or seen at d).1 ≡ fin.get m id
+    read_at_place d place =
+        let entry = get_or seen at d in
+        sym (found_in (Some entry.1) (place.found entry (get_or_default seen at entry d place.in_range)))
 
-  put_in_gap : (es seen : List (SiteCounter × X)) (id : SiteCounter) (at : ℕ) (x : X) → seen ≡ es → IsGapFor seen id at → insert es at (id, x) ≡ put id_cmp id x es
-  put_in_gap es seen id at x same gap = ap (λ l. insert l at (id, x)) (sym same) ∙ gap.inserted x ∙ ap (put id_cmp id x) same
+    -- at a gap the map has nothing
+    pub none_at_gap : IsGapFor seen id at → None ≡ fin.get m id
+    none_at_gap gap = sym (found_in None gap.absent)
 
-  -- an entry in its gap leaves the list in order
-  pub inserted_sorted : (es seen now : List (SiteCounter × X)) (id : SiteCounter) (at : ℕ) (x : X) (done : Bool) → is_sorted id_cmp es ≡ true → seen ≡ es → IsGapFor seen id at → now ≡ cond done (insert es at (id, x)) es → is_sorted id_cmp now ≡ true
-  inserted_sorted es seen now id at x true sorted same gap is = ap (is_sorted id_cmp) (is ∙ put_in_gap es seen id at x same gap) ∙ put_sorted es id x sorted
-  inserted_sorted es seen now id at x false sorted same gap is = ap (is_sorted id_cmp) is ∙ sorted
+    -- an entry that was put into its gap is in the map
+    pub inserted_entries : (es now : List (SiteCounter × X)) (x : X) → IsGapFor seen id at → fin.entries m ≡ es → now ≡ insert es at (id, x) → now ≡ fin.entries (fin.insert m id x)
+    inserted_entries es now x gap same is =
+        is ∙ ap (λ l. insert l at (id, x)) (sym same ∙ sym read) ∙ gap.inserted x ∙ ap (put id_cmp id x) read ∙ sym (entries-insert ids_total m id x)
 
-  -- and makes the map with the entry
-  pub inserted_is : (es seen now : List (SiteCounter × X)) (m : FinMap id_cmp X) (id : SiteCounter) (at : ℕ) (x : X) → is_sorted id_cmp es ≡ true → fin.from_sorted es ≡ m → seen ≡ es → IsGapFor seen id at → now ≡ insert es at (id, x) → fin.from_sorted now ≡ fin.insert m id x
-  inserted_is es seen now m id at x sorted is same gap new = ap fin.from_sorted (new ∙ put_in_gap es seen id at x same gap) ∙ put_inserts es m id x sorted is
-
-  -- an entry that is there already changes nothing
-  pub there_already : (es seen : List (SiteCounter × X)) (m : FinMap id_cmp X) (id : SiteCounter) (at : ℕ) (x : X) → is_sorted id_cmp es ≡ true → fin.from_sorted es ≡ m → seen ≡ es → IsPlaceOf seen id at → AgreesAt m id x → m ≡ fin.insert m id x
-  there_already es seen m id at x sorted is same place agrees =
-      let entry = get_or seen at (id, x) in
-      let there = get_of_sorted es m id sorted is ∙ ap (fin.find id_cmp id) (sym same) ∙ place.found entry (get_or_default seen at entry (id, x) place.in_range) in
-      again m id x (there ∙ ap Some (agrees entry.1 there))
-
-  -- the merge of two lists in order, as it is read
-  pub united_sorted : (seen seen' xs ys all : List (SiteCounter × X)) → seen ≡ xs → seen' ≡ ys → is_sorted id_cmp xs ≡ true → is_sorted id_cmp ys ≡ true → all ≡ merge id_cmp seen seen' → is_sorted id_cmp all ≡ true
-  united_sorted seen seen' xs ys all p q g h is =
-      ap (is_sorted id_cmp) (is ∙ (λ i. merge id_cmp (p i) (q i))) ∙ sorted-merge ids_total xs ys g h
-
-  pub united_is : (seen seen' xs ys all : List (SiteCounter × X)) (a b : FinMap id_cmp X) → seen ≡ xs → seen' ≡ ys → is_sorted id_cmp xs ≡ true → is_sorted id_cmp ys ≡ true → fin.from_sorted xs ≡ a → fin.from_sorted ys ≡ b → all ≡ merge id_cmp seen seen' → fin.from_sorted all ≡ union a b
-  united_is seen seen' xs ys all a b p q g h u v is =
-      ap fin.from_sorted (is ∙ (λ i. merge id_cmp (p i) (q i))) ∙ merge_unites xs ys a b g h u v
-
-  -- the entries that are wanted, as they are read
-  pub part_sorted : (p : SiteCounter → Bool) (seen es all : List (SiteCounter × X)) → seen ≡ es → is_sorted id_cmp es ≡ true → all ≡ filter (λ e. p e.0) seen → is_sorted id_cmp all ≡ true
-  part_sorted p seen es all same sorted is = ap (is_sorted id_cmp) (is ∙ ap (filter (λ e. p e.0)) same) ∙ wanted_sorted p es sorted
-
-  pub part_is : (p : SiteCounter → Bool) (seen es all : List (SiteCounter × X)) (m : FinMap id_cmp X) → seen ≡ es → is_sorted id_cmp es ≡ true → fin.from_sorted es ≡ m → all ≡ filter (λ e. p e.0) seen → fin.from_sorted all ≡ fin.retain_keys m p
-  part_is p seen es all m same sorted view is = ap fin.from_sorted (is ∙ ap (filter (λ e. p e.0)) same) ∙ wanted_retained p es m sorted view
+    -- one that is there already changes nothing
+    pub there_already : (x : X) → IsPlaceOf seen id at → AgreesAt m id x → m ≡ fin.insert m id x
+    there_already x place agrees =
+        let there = sym (read_at_place (id, x) place) in
+        again m id x (there ∙ ap Some (agrees (get_or seen at (id, x)).1 there))
 
 -- the map of no entry
 pub nothing_sorted : (X : Type 0) → (let m : FinMap id_cmp X = fin.from_sorted [] in m) ≡ fin.empty
 nothing_sorted X = let m : FinMap id_cmp X = fin.from_sorted [] in empty_of_len m (len-entries m ∙ ap length (entries-from_sorted id_cmp [] tt))
+
+pub nothing_listed : (X : Type 0) → (let m : FinMap id_cmp X = fin.empty in [] ≡ fin.entries m)
+nothing_listed X = sym (map_of_sorted [] refl) ∙ ap fin.entries (nothing_sorted X)
 
 -- an id at a place is a member, and one that is at none is not
 member_at : (ids : List SiteCounter) (id : SiteCounter) (at : ℕ) → at < length ids → id_cmp (get_or ids at id) id ≡ Equal → is_member same_ids ids id ≡ true

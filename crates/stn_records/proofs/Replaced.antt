@@ -1,7 +1,8 @@
 -- An id that is replaced is withdrawn, or some record replaces it.
-use Rattle.std.proofs.Common.{◌≡◌, ◌⊎◌, inl, inr, ⊎_elim, Bool, true, false, cond, ◌||◌, List, [], ◌∷◌, map, ℕ, ◌+◌, ◌<◌, get_or, drop, Option, Some, None, is_some, length, arith, sym, refl, ap, subst, ◌∙◌, All}
+use Rattle.std.proofs.Common.{◌≡◌, ◌⊎◌, inl, inr, ⊎_elim, Bool, true, false, cond, ◌||◌, List, [], ◌∷◌, map, ℕ, ◌+◌, ◌<◌, get_or, drop, Option, Some, None, is_some, length, sym, refl, ap, subst, ◌∙◌, All}
 use Rattle.std.proofs.lemmas.Bool.{false≢true, or_left, or_right, or_cases}
 use Rattle.std.proofs.lemmas.List.Elements.{All-head, All-tail}
+use Rattle.std.proofs.lemmas.Option.{same_Some}
 use Rattle.std.specs.Ordering.{eq_by_cmp}
 use Rattle.std.specs.FinMap as fin
 use Rattle.std.specs.FinMap.{get-insert, get-entries}
@@ -15,7 +16,8 @@ use Rattle.stn_records.specs.ContentLaws.{ids_total, ids_exact, ids_decide, cont
 use Rattle.std.specs.Option.{option_or}
 use Rattle.stn_records.proofs.Entries.{front}
 use Rattle.stn_records.proofs.Gets.{entries_from_get}
-use Rattle.stn_records.proofs.OneItem.{inserted_value, inserted_here, kept_value}
+use Rattle.stn_records.proofs.Places.{nothing_listed}
+use Rattle.stn_records.proofs.OneItem.{gone, inserted_value, inserted_here, kept_value}
 
 pub inserted_key : (m : IdSet) (id q : SiteCounter) → fin.contains_key (fin.insert m id tt) q ≡ (same_ids q id || fin.contains_key m q)
 inserted_key m id q = ap is_some (get-insert ids_total m id tt q) ∙ by (same_ids q id)
@@ -41,19 +43,12 @@ value_entry (e ∷ es) P q all there = ⊎_elim
     (λ later. value_entry es P q (All-tail (λ e. P e.0 e.1) e es all) later)
     (or_cases _ _ there)
 
-same_value : (x y : SiteCounter) → Some x ≡ Some y → y ≡ x
-same_value x y e = cc
-
 found_value : (es : List (SiteCounter × SiteCounter)) (k q : SiteCounter) → fin.find id_cmp k es ≡ Some q → is_member same_ids (map (λ e. e.1) es) q ≡ true
 found_value [] k q e = absurd (false≢true (ap is_some e))
 found_value (x ∷ es) k q e = elim (eq_by_cmp id_cmp k x.0) as (λ b. cond b (Some x.1) (fin.find id_cmp k es) ≡ Some q → (same_ids q x.1 || is_member same_ids (map (λ e. e.1) es) q) ≡ true) [
-  | true ↦ λ is. or_left _ _ ((ids_decide q x.1).1 (same_value x.1 q is))
+  | true ↦ λ is. or_left _ _ ((ids_decide q x.1).1 (sym (same_Some x.1 q is)))
   | false ↦ λ is. or_right _ _ (found_value es k q is)
 ] e
-
-pub gone : (o : Option (Unit {0})) → is_some o ≡ true → o ≡ Some tt
-gone None e = absurd (false≢true e)
-gone (Some tt) e = refl
 
 pub replaced_cases : (s : Content) (id : SiteCounter) → is_replaced s id ≡ true → HasItem s (withdrawal id) ⊎ ((other : SiteCounter) × HasItem s (replacement other id))
 replaced_cases s id e = ⊎_elim
@@ -121,19 +116,19 @@ module _ (s t : Content) (none : dispute_contents s t ≡ None) where
   pub replaced_joined : union (replaced_set s) (replaced_set t) ≡ replaced_set (joined_contents s t)
   replaced_joined = same_sets _ _ (λ q. union_key (replaced_set s) (replaced_set t) q ∙ sym (replaced_in_join q))
 
+pub or_swap : (a b c : Bool) → (a || (b || c)) ≡ (b || (a || c))
+or_swap true true c = refl
+or_swap true false c = refl
+or_swap false b c = refl
+
 -- to put in an id before or after others is the same
 pub put_before : (t : IdSet) (ids : List SiteCounter) (id : SiteCounter) → fin.insert (with_ids t ids) id tt ≡ with_ids (fin.insert t id tt) ids
 put_before t ids id = same_sets _ _ (λ q.
     inserted_key (with_ids t ids) id q
     ∙ ap (λ b. same_ids q id || b) (with_ids_member t ids q)
-    ∙ swapped (same_ids q id) (is_member same_ids ids q) (fin.contains_key t q)
+    ∙ or_swap (same_ids q id) (is_member same_ids ids q) (fin.contains_key t q)
     ∙ ap (λ b. is_member same_ids ids q || b) (sym (inserted_key t id q))
     ∙ sym (with_ids_member (fin.insert t id tt) ids q))
-  where
-    swapped : (a b c : Bool) → (a || (b || c)) ≡ (b || (a || c))
-    swapped true true c = refl
-    swapped true false c = refl
-    swapped false b c = refl
 
 -- the first entry of the rest may be put in first
 pub put_next : (all new : IdSet) (es : List (SiteCounter × SiteCounter)) (i : ℕ) (e : SiteCounter × SiteCounter) → i < length es → new ≡ fin.insert all (get_or es i e).1 tt → with_ids new (map (λ e. e.1) (drop (i + 1) es)) ≡ with_ids all (map (λ e. e.1) (drop i es))
@@ -165,16 +160,9 @@ replaced_amended s id old bound agrees = same_sets _ _ (λ q. inserted_key (repl
         (λ w. ⊎_elim (λ here. or_left _ _ ((ids_decide q old).1 (sym here.1))) (λ there. or_right _ _ (replaced_by_entry s w.0 q there)) (inserted_value s.replacements id old w.0 q w.1))
         (replaced_cases (with_amendment s id old bound) q e)
 
-none_of_length : {A : Type 0} (es : List A) → length es ≡ 0 → es ≡ []
-none_of_length [] e = refl
-none_of_length (x ∷ es) e = absurd (omega arith)
-
-abbrev no_entries : ReplacementMap
-no_entries = fin.empty
-
 -- without entries the withdrawn ids alone are replaced
-pub replaced_of_nothing : (t : IdSet) → with_ids t (fin.values no_entries) ≡ t
-replaced_of_nothing t = ap (λ es. with_ids t (map (λ (e : SiteCounter × SiteCounter). e.1) es)) (none_of_length (fin.entries no_entries) (sym (fin.len-entries no_entries) ∙ fin.len-empty id_cmp SiteCounter))
+pub replaced_of_nothing : (t : IdSet) → (let none : ReplacementMap = fin.empty in with_ids t (fin.values none) ≡ t)
+replaced_of_nothing t = ap (λ es. with_ids t (map (λ (e : SiteCounter × SiteCounter). e.1) es)) (sym (nothing_listed SiteCounter))
 
 -- the set of replaced ids that is kept beside the three parts stays theirs
 pub kept_by_nothing : (t w : IdSet) (r : ReplacementMap) → t ≡ fin.empty → r ≡ fin.empty → w ≡ fin.empty → w ≡ with_ids t (fin.values r)

@@ -8,7 +8,7 @@ use Rattle.std.specs.FinMap.{FinMap}
 use Rattle.stn_net.specs.Difference.{Difference}
 use Rattle.stn_records.specs.Id.{SiteCounter, id_cmp, coded_id, lesser_of}
 pub use Rattle.stn_records.specs.Id.{same_ids}
-use Rattle.stn_records.specs.Record.{IsProper, same_records, coded_record}
+use Rattle.stn_records.specs.Record.{IsProperRecord, same_records, coded_record}
 use Rattle.stn_records.specs.Maps as maps
 use Rattle.stn_records.specs.Join.{join_within}
 use Rattle.stn_records.specs.declared.record.Mark.{Mark}
@@ -63,45 +63,13 @@ HasItem s (replacement id old) = map.get s.replacements id ≡ Some old
 abbrev pub IsPart : Content → Content → Type 0
 IsPart part whole = (item : Item) → HasItem part item → HasItem whole item
 
--- the map has the record of the id, the set the id, and the map the entry
-abbrev pub HasRecord : RecordMap → SiteCounter × Record → Type 0
-HasRecord = maps.HasEntry
-
-abbrev pub HasId : IdSet → SiteCounter × Unit {0} → Type 0
-HasId = maps.HasEntry
-
-abbrev pub HasReplacement : ReplacementMap → SiteCounter × SiteCounter → Type 0
-HasReplacement = maps.HasEntry
-
 -- each Done record of the map is proper
 abbrev pub AllProper : RecordMap → Type 0
-AllProper m = (id : SiteCounter) (r : Record) → map.get m id ≡ Some r → IsProper r.mark r.bound
-
--- the least id at which two maps have different records
-abbrev pub dispute_records : RecordMap → RecordMap → Option SiteCounter
-dispute_records = maps.dispute same_records
-
--- the union of two maps of records, where no id is in dispute
-abbrev pub join_records : RecordMap → RecordMap → Option RecordMap
-join_records = maps.join same_records
-
--- no two sets of ids are in dispute, so their union is always there
-abbrev pub dispute_ids : IdSet → IdSet → Option SiteCounter
-dispute_ids a b = None
-
-abbrev pub join_ids : IdSet → IdSet → Option IdSet
-join_ids a b = Some (maps.union a b)
-
--- the least id that replaces different ids, and the union of two maps of entries, where no id is in dispute
-abbrev pub dispute_replacements : ReplacementMap → ReplacementMap → Option SiteCounter
-dispute_replacements = maps.dispute same_ids
-
-abbrev pub join_replacements : ReplacementMap → ReplacementMap → Option ReplacementMap
-join_replacements = maps.join same_ids
+AllProper = maps.AllFit IsProperRecord
 
 -- the least id in dispute, in the records or in what they replace
 abbrev pub dispute_contents : Content → Content → Option SiteCounter
-dispute_contents a b = lesser_of (dispute_records a.additions b.additions) (dispute_replacements a.replacements b.replacements)
+dispute_contents a b = lesser_of (maps.dispute same_records a.additions b.additions) (maps.dispute same_ids a.replacements b.replacements)
 
 -- the unions of the three parts
 abbrev pub joined_contents : Content → Content → Content

@@ -4,7 +4,7 @@ use Rattle.std.specs.Prelude.{◌≡◌, ℕ, Bool, true, false, cond, not, ◌�
 use Rattle.std.specs.Bool.{Decides}
 use Rattle.std.specs.Cmp.{IsTotalOrder, nat_cmp_total, Equal-is, tied_itself}
 use Rattle.std.specs.Ordering.{nat_cmp, is_eq, is_lt}
-use Rattle.std.specs.FinMap.{IsAntisymmetric}
+use Rattle.std.specs.FinMap.{FinMap, IsAntisymmetric}
 use Rattle.std.specs.FinMap as map
 use Rattle.std.proofs.Common.{sym, ap, subst, ◌∙◌}
 use Rattle.std.proofs.lemmas.Bool.{false≢true}
@@ -20,8 +20,9 @@ use Rattle.stn_records.specs.declared.record.Record.{Record}
 use Rattle.stn_records.specs.Join.{IsJoin}
 use Rattle.stn_records.specs.JoinLaws.{commutes, regroups, repeats}
 use Rattle.stn_records.specs.Maps as maps
+use Rattle.stn_records.specs.Maps.{same_units}
 use Rattle.stn_records.specs.MapLaws.{map_join, join_undisputed, undisputed, disputes, chosen}
-use Rattle.stn_records.specs.Content.{RecordMap, IdSet, ReplacementMap, Content, Item, addition, withdrawal, replacement, HasItem, dispute_records, join_records, dispute_ids, join_ids, dispute_replacements, join_replacements, dispute_contents, join_contents, joined_contents}
+use Rattle.stn_records.specs.Content.{RecordMap, IdSet, ReplacementMap, Content, Item, addition, withdrawal, replacement, HasItem, dispute_contents, join_contents, joined_contents}
 
 -- ids that compare alike are one
 pub ids_exact : IsAntisymmetric id_cmp
@@ -49,39 +50,52 @@ records_decide r s = Decides-like _
     (λ e. (ap (λ (d : Record). d.mark) e, ap (λ (d : Record). d.bound) e))
     (Decides-and _ _ (marks_decide r.mark s.mark) (bounds_decide r.bound s.bound))
 
--- the join of two maps of records is the union of their entries
-pub records_join : IsJoin {C = RecordMap} {I = SiteCounter × Record} (maps.HasEntry {R = id_cmp}) join_records
-records_join = map_join ids_total ids_exact same_records records_decide
-
--- a set of ids as the join of maps to nothing
-abbrev same_units : Unit {0} → Unit {0} → Bool
-same_units a b = true
-
-units_decide : (a b : Unit {0}) → Decides (same_units a b) (a ≡ b)
+-- a set has no two values
+pub units_decide : (a b : Unit {0}) → Decides (same_units a b) (a ≡ b)
 units_decide a b = (λ _. refl, λ _. refl)
+
+-- the test of two ids tells whether they are equal
+pub ids_decide : (a b : SiteCounter) → Decides (same_ids a b) (a ≡ b)
+ids_decide a b = (λ e. ids_exact a b ((Equal-is (id_cmp a b)).0 e), λ e. subst (λ c. same_ids a c ≡ true) e (ap is_eq (tied_itself ids_total a)))
+
+-- the join of two maps from ids is the union of their entries, whatever the values are
+module _ {X : Type 0} (same : X → X → Bool) (decides : (x y : X) → Decides (same x y) (x ≡ y)) where
+  pub maps_join : IsJoin {C = FinMap id_cmp X} {I = SiteCounter × X} (maps.HasEntry {R = id_cmp}) (maps.join same)
+  maps_join = map_join ids_total ids_exact same decides
+
+  pub maps_commute : (a b : FinMap id_cmp X) → maps.join same a b ≡ maps.join same b a
+  maps_commute = commutes maps_join
+
+  pub maps_regroup : (a b c : FinMap id_cmp X) → option_and_then (λ ab. maps.join same ab c) (maps.join same a b) ≡ option_and_then (λ bc. maps.join same a bc) (maps.join same b c)
+  maps_regroup = regroups maps_join
+
+  pub maps_repeat : (a : FinMap id_cmp X) → maps.join same a a ≡ Some a
+  maps_repeat = repeats maps_join
+
+  pub maps_dispute : (a b : FinMap id_cmp X) → is_some (maps.join same a b) ≡ not (is_some (maps.dispute same a b))
+  maps_dispute = disputes ids_total ids_exact same decides
+
+  pub maps_undisputed : (a b : FinMap id_cmp X) → maps.dispute same a b ≡ None → maps.join same a b ≡ Some (maps.union a b)
+  maps_undisputed = join_undisputed ids_total ids_exact same decides
 
 never : (o p : Option (Unit {0})) → maps.differ same_units o p ≡ false
 never None p = refl
 never (Some x) None = refl
 never (Some x) (Some y) = refl
 
-no_dispute : (a b : IdSet) → maps.dispute same_units a b ≡ None
-no_dispute a b = undisputed ids_total ids_exact same_units units_decide a b (λ q. never (map.get a q) (map.get b q))
+-- two sets are never in dispute
+pub sets_agree : (a b : IdSet) → maps.join same_units a b ≡ Some (maps.union a b)
+sets_agree a b = maps_undisputed same_units units_decide a b (undisputed ids_total ids_exact same_units units_decide a b (λ q. never (map.get a q) (map.get b q)))
 
-ids_joined : (a b : IdSet) → maps.join same_units a b ≡ join_ids a b
-ids_joined a b = join_undisputed ids_total ids_exact same_units units_decide a b (no_dispute a b)
+-- the joins of the three parts
+pub records_join : IsJoin {C = RecordMap} {I = SiteCounter × Record} (maps.HasEntry {R = id_cmp}) (maps.join same_records)
+records_join = maps_join same_records records_decide
 
--- the union of two sets of ids is the union of their items
-pub ids_join : IsJoin {C = IdSet} {I = SiteCounter × Unit {0}} (maps.HasEntry {R = id_cmp}) join_ids
-ids_join = subst (IsJoin {C = IdSet} {I = SiteCounter × Unit {0}} (maps.HasEntry {R = id_cmp})) (λ i a b. ids_joined a b i) (map_join ids_total ids_exact same_units units_decide)
+pub ids_join : IsJoin {C = IdSet} {I = SiteCounter × Unit {0}} (maps.HasEntry {R = id_cmp}) (maps.join same_units)
+ids_join = maps_join same_units units_decide
 
--- the test of two ids tells whether they are equal
-pub ids_decide : (a b : SiteCounter) → Decides (same_ids a b) (a ≡ b)
-ids_decide a b = (λ e. ids_exact a b ((Equal-is (id_cmp a b)).0 e), λ e. subst (λ c. same_ids a c ≡ true) e (ap is_eq (tied_itself ids_total a)))
-
--- the join of two maps of entries is the union of their entries
-pub replacements_join : IsJoin {C = ReplacementMap} {I = SiteCounter × SiteCounter} (maps.HasEntry {R = id_cmp}) join_replacements
-replacements_join = map_join ids_total ids_exact same_ids ids_decide
+pub replacements_join : IsJoin {C = ReplacementMap} {I = SiteCounter × SiteCounter} (maps.HasEntry {R = id_cmp}) (maps.join same_ids)
+replacements_join = maps_join same_ids ids_decide
 
 -- where the lesser of two is none, neither is there
 pub lesser_none : (f g : Option SiteCounter) → lesser_of f g ≡ None → (f ≡ None) × (g ≡ None)
@@ -94,23 +108,25 @@ lesser_none (Some x) (Some y) e = absurd (false≢true (elim (is_lt (id_cmp y x)
 pub contents_undisputed : (a b : Content) → dispute_contents a b ≡ None → join_contents a b ≡ Some (joined_contents a b)
 contents_undisputed a b none = ap (λ v. cond (is_some v) None (Some (joined_contents a b))) none
 
--- a join of contents is one of each part
-pub parts : (a b c : Content) → join_contents a b ≡ Some c → (join_records a.additions b.additions ≡ Some c.additions) × (join_ids a.tombstones b.tombstones ≡ Some c.tombstones) × (join_replacements a.replacements b.replacements ≡ Some c.replacements)
+-- each part is the join of the parts
+record IsJoined (a b c : Content) : Type 0 where
+  additions : maps.join same_records a.additions b.additions ≡ Some c.additions
+  tombstones : maps.join same_units a.tombstones b.tombstones ≡ Some c.tombstones
+  replacements : maps.join same_ids a.replacements b.replacements ≡ Some c.replacements
+
+parts : (a b c : Content) → join_contents a b ≡ Some c → IsJoined a b c
 parts a b c e =
     let is = chosen (dispute_contents a b) (joined_contents a b) c e in
-    let none = lesser_none (dispute_records a.additions b.additions) (dispute_replacements a.replacements b.replacements) is.0 in (
-      join_undisputed ids_total ids_exact same_records records_decide a.additions b.additions none.0 ∙ ap (λ (s : Content). Some s.additions) is.1,
-      ap (λ (s : Content). Some s.tombstones) is.1,
-      join_undisputed ids_total ids_exact same_ids ids_decide a.replacements b.replacements none.1 ∙ ap (λ (s : Content). Some s.replacements) is.1,
-    )
+    let none = lesser_none (maps.dispute same_records a.additions b.additions) (maps.dispute same_ids a.replacements b.replacements) is.0 in
+    record {
+      additions = maps_undisputed same_records records_decide a.additions b.additions none.0 ∙ ap (λ (s : Content). Some s.additions) is.1;
+      tombstones = sets_agree a.tombstones b.tombstones ∙ ap (λ (s : Content). Some s.tombstones) is.1;
+      replacements = maps_undisputed same_ids ids_decide a.replacements b.replacements none.1 ∙ ap (λ (s : Content). Some s.replacements) is.1;
+    }
 
--- a part that has a join is not in dispute
-undisputed_part : {C : Type 0} (v : Option SiteCounter) (join : Option C) (c : C) → is_some join ≡ not (is_some v) → join ≡ Some c → v ≡ None
-undisputed_part None join c is e = refl
-undisputed_part (Some x) join c is e = absurd (false≢true (sym is ∙ ap is_some e))
-
-none_of_either : (f g : Option SiteCounter) → f ≡ None → g ≡ None → lesser_of f g ≡ None
-none_of_either f g p q = (λ i. lesser_of (p i) (q i))
+-- parts that have joins are not in dispute
+undisputed_part : {X : Type 0} (same : X → X → Bool) (a b c : FinMap id_cmp X) → maps.join same a b ≡ Some c → maps.dispute same a b ≡ None
+undisputed_part same a b c e = (chosen (maps.dispute same a b) (maps.union a b) c e).0
 
 -- the join of two contents is the union of their items
 pub contents_join : IsJoin HasItem join_contents
@@ -124,52 +140,16 @@ contents_join = record {
   defined = λ a b c f g.
       let additions = records_join.defined a.additions b.additions c.additions (λ e. f (addition e.0 e.1)) (λ e. g (addition e.0 e.1)) in
       let replacements = replacements_join.defined a.replacements b.replacements c.replacements (λ e. f (replacement e.0 e.1)) (λ e. g (replacement e.0 e.1)) in
-      let none = none_of_either (dispute_records a.additions b.additions) (dispute_replacements a.replacements b.replacements)
-      (undisputed_part (dispute_records a.additions b.additions) (join_records a.additions b.additions) additions.0 (disputes ids_total ids_exact same_records records_decide a.additions b.additions) additions.1)
-      (undisputed_part (dispute_replacements a.replacements b.replacements) (join_replacements a.replacements b.replacements) replacements.0 (disputes ids_total ids_exact same_ids ids_decide a.replacements b.replacements) replacements.1) in
+      let ours = undisputed_part same_records a.additions b.additions additions.0 additions.1 in
+      let theirs = undisputed_part same_ids a.replacements b.replacements replacements.0 replacements.1 in
+      let none : dispute_contents a b ≡ None = λ i. lesser_of (ours i) (theirs i) in
       (joined_contents a b, contents_undisputed a b none);
 }
   where
-    item_union : (a b c : Content) → (join_records a.additions b.additions ≡ Some c.additions) × (join_ids a.tombstones b.tombstones ≡ Some c.tombstones) × (join_replacements a.replacements b.replacements ≡ Some c.replacements) → (item : Item) → HasItem c item ↔ (HasItem a item ⊎ HasItem b item)
-    item_union a b c all (addition id r) = records_join.union a.additions b.additions c.additions all.0 (id, r)
-    item_union a b c all (withdrawal id) = ids_join.union a.tombstones b.tombstones c.tombstones all.1 (id, tt)
-    item_union a b c all (replacement id old) = replacements_join.union a.replacements b.replacements c.replacements all.2 (id, old)
-
-pub records_commute : (a b : RecordMap) → join_records a b ≡ join_records b a
-records_commute = commutes records_join
-
-pub records_regroup : (a b c : RecordMap) → option_and_then (λ ab. join_records ab c) (join_records a b) ≡ option_and_then (λ bc. join_records a bc) (join_records b c)
-records_regroup = regroups records_join
-
-pub records_repeat : (a : RecordMap) → join_records a a ≡ Some a
-records_repeat = repeats records_join
-
-pub records_dispute : (a b : RecordMap) → is_some (join_records a b) ≡ not (is_some (dispute_records a b))
-records_dispute = disputes ids_total ids_exact same_records records_decide
-
-pub ids_commute : (a b : IdSet) → join_ids a b ≡ join_ids b a
-ids_commute = commutes ids_join
-
-pub ids_regroup : (a b c : IdSet) → option_and_then (λ ab. join_ids ab c) (join_ids a b) ≡ option_and_then (λ bc. join_ids a bc) (join_ids b c)
-ids_regroup = regroups ids_join
-
-pub ids_repeat : (a : IdSet) → join_ids a a ≡ Some a
-ids_repeat = repeats ids_join
-
-pub ids_dispute : (a b : IdSet) → is_some (join_ids a b) ≡ not (is_some (dispute_ids a b))
-ids_dispute a b = refl
-
-pub replacements_commute : (a b : ReplacementMap) → join_replacements a b ≡ join_replacements b a
-replacements_commute = commutes replacements_join
-
-pub replacements_regroup : (a b c : ReplacementMap) → option_and_then (λ ab. join_replacements ab c) (join_replacements a b) ≡ option_and_then (λ bc. join_replacements a bc) (join_replacements b c)
-replacements_regroup = regroups replacements_join
-
-pub replacements_repeat : (a : ReplacementMap) → join_replacements a a ≡ Some a
-replacements_repeat = repeats replacements_join
-
-pub replacements_dispute : (a b : ReplacementMap) → is_some (join_replacements a b) ≡ not (is_some (dispute_replacements a b))
-replacements_dispute = disputes ids_total ids_exact same_ids ids_decide
+    item_union : (a b c : Content) → IsJoined a b c → (item : Item) → HasItem c item ↔ (HasItem a item ⊎ HasItem b item)
+    item_union a b c all (addition id r) = records_join.union a.additions b.additions c.additions all.additions (id, r)
+    item_union a b c all (withdrawal id) = ids_join.union a.tombstones b.tombstones c.tombstones all.tombstones (id, tt)
+    item_union a b c all (replacement id old) = replacements_join.union a.replacements b.replacements c.replacements all.replacements (id, old)
 
 pub contents_commute : (a b : Content) → join_contents a b ≡ join_contents b a
 contents_commute = commutes contents_join

@@ -4,6 +4,7 @@ use Rattle.std.specs.Prelude.{◌≡◌, ℕ, ◌<◌, Bool, true, false, cond, 
 use Rattle.std.specs.List.Sorted.{IsPermutation}
 use Rattle.std.proofs.Common.{zero, suc, get_or, arith, sym, ap, subst, ◌∙◌, inl, inr, ⊎_elim}
 use Rattle.std.proofs.lemmas.Bool.{false≢true}
+use Rattle.std.proofs.lemmas.Option.{same_Some}
 use Rattle.std.proofs.lemmas.List.Sorted.{All-permutation, Contains-permutation, IsPermutation-sym}
 use Rattle.stn_time.proofs.Each.{All-left, All-right}
 use Rattle.stn_records.specs.Join.{join_all, HeldByOne, SameItems, Takes, alone, both, contents_of, outcome_of, passing, join_within, IsJoin}
@@ -53,15 +54,7 @@ module _ {C I : Type 0} {Holds : C → I → Type 0} {join : C → C → Option 
 
   moved_left : (a b c d : C) → option_and_then (λ bc. join a bc) (join b c) ≡ Some d → option_and_then (λ ab. join ab c) (join a b) ≡ Some d
   moved_left a b c d e =
-      let first = first_step (λ bc. join a bc) (join b c) d e in
-      let bc = j.union b c first.0 first.1 in
-      let abc = j.union a first.0 d first.2 in
-      let second = j.defined a b d (λ i h. (abc i).1 (inl h)) (λ i h. (abc i).1 (inr ((bc i).1 (inl h)))) in
-      let ab = j.union a b second.0 second.1 in
-      both_steps (λ x. join x c) (join a b) second.0 second.1 ∙ join_is second.0 c d (λ i. (
-        λ h. ⊎_elim (λ x. inl ((ab i).1 (inl x))) (λ y. ⊎_elim (λ z. inl ((ab i).1 (inr z))) inr ((bc i).0 y)) ((abc i).0 h),
-        λ h. ⊎_elim (λ x. ⊎_elim (λ z. (abc i).1 (inl z)) (λ z. (abc i).1 (inr ((bc i).1 (inl z)))) ((ab i).0 x)) (λ y. (abc i).1 (inr ((bc i).1 (inr y)))) h,
-      ))
+      (λ i. option_and_then (λ x. commutes x c i) (commutes a b i)) ∙ moved_right c b a d ((λ i. option_and_then (λ x. commutes x a i) (commutes c b i)) ∙ e)
 
   pub regroups : (a b c : C) → option_and_then (λ ab. join ab c) (join a b) ≡ option_and_then (λ bc. join a bc) (join b c)
   regroups a b c = same_options _ _ (moved_right a b c) (moved_left a b c)
@@ -76,12 +69,9 @@ module _ {C I : Type 0} {Holds : C → I → Type 0} {join : C → C → Option 
   one_gathers : (a c : C) → a ≡ c → Gathers (a ∷ []) c
   one_gathers a c e i = (λ h. inl (subst (λ x. Holds x i) (sym e) h), λ h. ⊎_elim (λ x. subst (λ y. Holds y i) e x) absurd h)
 
-  same_value : (a c : C) → Some a ≡ Some c → a ≡ c
-  same_value a c e = cc
-
   -- what the join of a list has
   pub gathers : (a : C) (contents : List C) (c : C) → join_all join a contents ≡ Some c → Gathers (a ∷ contents) c
-  gathers a [] c e i = one_gathers a c (same_value a c e) i
+  gathers a [] c e i = one_gathers a c (same_Some a c e) i
   gathers a (b ∷ bs) c e i =
       let first = first_step (λ ab. join_all join ab bs) (join a b) c e in
       let rest = gathers first.0 bs c first.2 i in
@@ -146,7 +136,7 @@ module _ {C I : Type 0} {Holds : C → I → Type 0} {join : C → C → Option 
   module _ (test : C → Bool) (smaller : (c d : C) → ((item : I) → Holds c item → Holds d item) → test d ≡ true → test c ≡ true) where
     passed : (c d : C) → passing test c ≡ Some d → (c ≡ d) × (test c ≡ true)
     passed c d = elim (test c) as (λ b. cond b (Some c) None ≡ Some d → (c ≡ d) × (b ≡ true)) [
-      | true ↦ λ e. (same_value c d e, refl)
+      | true ↦ λ e. (same_Some c d e, refl)
       | false ↦ λ e. absurd (false≢true (ap is_some e))
     ]
 
@@ -155,7 +145,7 @@ module _ {C I : Type 0} {Holds : C → I → Type 0} {join : C → C → Option 
 
     -- what takes leave has the items of the contents, and passes the test
     left_by_takes : (takes : Takes C) (c : C) → All (λ x. test x ≡ true) (contents_of takes) → outcome_of (join_within test join) takes ≡ Some c → Gathers (contents_of takes) c × (test c ≡ true)
-    left_by_takes (alone a) c within e = let is = same_value a c e in (one_gathers a c is, subst (λ x. test x ≡ true) is (within 0 a (omega arith)))
+    left_by_takes (alone a) c within e = let is = same_Some a c e in (one_gathers a c is, subst (λ x. test x ≡ true) is (within 0 a (omega arith)))
     left_by_takes (both ours theirs) c within e =
         let first = first_step (λ a. option_and_then (λ b. join_within test join a b) (outcome_of (join_within test join) theirs)) (outcome_of (join_within test join) ours) c e in
         let second = first_step (λ b. join_within test join first.0 b) (outcome_of (join_within test join) theirs) c first.2 in

@@ -10,6 +10,7 @@ use Rattle.std.specs.FinMap.{FinMap, IsAntisymmetric, get, entries, get-insert, 
 use Rattle.std.specs.FinMap as fin
 use Rattle.std.proofs.Common.{sym, ap, subst, ◌∙◌, inl, inr, ⊎_elim}
 use Rattle.std.proofs.lemmas.Bool.{false≢true}
+use Rattle.std.proofs.lemmas.Option.{same_Some}
 use Rattle.stn_records.specs.Join.{IsJoin}
 use Rattle.stn_records.specs.JoinLaws.{same_options}
 use Rattle.stn_records.specs.Maps.{differ, with_entries, union, dispute, join, HasEntry}
@@ -17,9 +18,6 @@ use Rattle.stn_records.specs.Maps.{differ, with_entries, union, dispute, join, H
 pub or_after : {X : Type 0} (b : Bool) (x : X) (o p : Option X) → cond b (Some x) (option_or o p) ≡ option_or (cond b (Some x) o) p
 or_after true x o p = refl
 or_after false x o p = refl
-
-same_value : {X : Type 0} (x y : X) → Some x ≡ Some y → x ≡ y
-same_value x y e = cc
 
 -- a value of either is one of the first, or of the second where the two agree
 pub either_value : {X : Type 0} (o p : Option X) (x : X) → option_or o p ≡ Some x → (o ≡ Some x) ⊎ (p ≡ Some x)
@@ -33,7 +31,7 @@ none_found p (k ∷ ks) f = ap (λ b. cond b (Some k) (find p ks)) (f k) ∙ non
 
 -- a choice that gives a value had no dispute
 pub chosen : {K C : Type 0} (v : Option K) (u c : C) → cond (is_some v) None (Some u) ≡ Some c → (v ≡ None) × (u ≡ c)
-chosen None u c e = (refl, same_value u c e)
+chosen None u c e = (refl, same_Some u c e)
 chosen (Some k) u c e = absurd (false≢true (ap is_some e))
 
 module _ {X : Type 0} (same : X → X → Bool) (decides : (x y : X) → Decides (same x y) (x ≡ y)) where
@@ -48,7 +46,7 @@ module _ {X : Type 0} (same : X → X → Bool) (decides : (x y : X) → Decides
   alike_agree : (o p q : Option X) → ((x : X) → o ≡ Some x → q ≡ Some x) → ((x : X) → p ≡ Some x → q ≡ Some x) → differ same o p ≡ false
   alike_agree None p q f g = refl
   alike_agree (Some x) None q f g = refl
-  alike_agree (Some x) (Some y) q f g = ap not ((decides x y).1 (same_value x y (sym (f x refl) ∙ g y refl)))
+  alike_agree (Some x) (Some y) q f g = ap not ((decides x y).1 (same_Some x y (sym (f x refl) ∙ g y refl)))
 
 module _ {K X : Type 0} {R : K → K → Ordering} (o : IsTotalOrder R) (exact : IsAntisymmetric R) where
   get-with_entries : (m : FinMap R X) (es : List (K × X)) (q : K) → get (with_entries m es) q ≡ option_or (fin.find R q es) (get m q)
@@ -78,10 +76,6 @@ module _ {K X : Type 0} {R : K → K → Ordering} (o : IsTotalOrder R) (exact :
     -- the maps agree at each key
     abbrev pub Agree : FinMap R X → FinMap R X → Type 0
     Agree a b = (q : K) → differ same (get a q) (get b q) ≡ false
-
-    absent_agrees : (p v : Option X) → is_some p ≡ false → differ same p v ≡ false
-    absent_agrees None v e = refl
-    absent_agrees (Some x) v e = absurd (false≢true (sym e))
 
     agree_at : (a b : FinMap R X) → dispute same a b ≡ None → (q : K) (p : Option X) → get a q ≡ p → differ same (get a q) (get b q) ≡ false
     agree_at a b none q None e = ap (λ v. differ same v (get b q)) e

@@ -1,5 +1,5 @@
 -- The union of two finite maps, and their join, which is there where the maps agree.
-use Rattle.std.specs.Prelude.{◌≡◌, Bool, false, not, List, [], ◌∷◌, Option, Some, None, is_some, find, if◌then◌else◌}
+use Rattle.std.specs.Prelude.{◌≡◌, Bool, true, false, not, List, [], ◌∷◌, Option, Some, None, is_some, find, if◌then◌else◌}
 use Rattle.std.specs.declared.cmp.Ordering.{Ordering}
 use Rattle.std.specs.FinMap as map
 use Rattle.std.specs.FinMap.{FinMap}
@@ -8,6 +8,10 @@ use Rattle.std.specs.FinMap.{FinMap}
 abbrev pub differ : {X : Type 0} → (X → X → Bool) → Option X → Option X → Bool
 differ same (Some x) (Some y) = not (same x y)
 differ same _ _ = false
+
+-- two values of a set are equal
+abbrev pub same_units : Unit {0} → Unit {0} → Bool
+same_units a b = true
 
 module _ {K X : Type 0} {R : K → K → Ordering} where
   -- the map with the entries put in, the first one last
@@ -30,6 +34,14 @@ module _ {K X : Type 0} {R : K → K → Ordering} where
   -- the map has the entry
   abbrev pub HasEntry : FinMap R X → K × X → Type 0
   HasEntry m entry = map.get m entry.0 ≡ Some entry.1
+
+  -- the whole has each entry of the part
+  abbrev pub HasEntries : FinMap R X → FinMap R X → Type 0
+  HasEntries whole part = (entry : K × X) → HasEntry part entry → HasEntry whole entry
+
+  -- each value of the map is fit
+  abbrev pub AllFit : (X → Type 0) → FinMap R X → Type 0
+  AllFit Fits m = (k : K) (x : X) → map.get m k ≡ Some x → Fits x
 
   -- what the map has at the key, if anything, is the value
   abbrev pub AgreesAt : FinMap R X → K → X → Type 0

@@ -11,6 +11,9 @@ abbrev pub IsProper : Mark → Difference → Type 0
 IsProper Plain bound = Unit {0}
 IsProper Done bound = (bound.from ≡ 0) × (bound.lo ≡ bound.hi)
 
+abbrev pub IsProperRecord : Record → Type 0
+IsProperRecord r = IsProper r.mark r.bound
+
 -- whether two records are equal
 abbrev pub same_marks : Mark → Mark → Bool
 same_marks Plain Plain = true

@@ -1,18 +1,18 @@
 -- For proofs alone: no public clause cites these words.
 -- Lists of entries in the order of their ids.
-use Rattle.std.specs.Prelude.{◌≡◌, ℕ, ◌<◌, ◌≤◌, Bool, false, List, [], ◌∷◌, length, insert, slice_index_or, Option, Some, None, is_some, All, IsTrue, if◌then◌else◌}
+use Rattle.std.specs.Prelude.{◌≡◌, ℕ, ◌<◌, ◌≤◌, Bool, false, List, [], ◌∷◌, length, insert, slice_index_or, Option, Some, None, slice_get, find as first_such, if◌then◌else◌}
 use Rattle.std.specs.List.{list_all}
 use Rattle.std.specs.declared.cmp.Ordering.{Ordering}
 use Rattle.std.specs.Ordering.{eq_by_cmp}
-use Rattle.std.specs.FinMap.{find, put, is_sorted}
+use Rattle.std.specs.FinMap.{find, put}
 use Rattle.std.specs.FinMap.Entries.{by_order}
+use Rattle.std.specs.Map.{keys_of}
 use Rattle.stn_records.specs.Id.{SiteCounter, id_cmp}
-use Rattle.stn_records.specs.Record.{IsProper}
-use Rattle.stn_records.specs.declared.record.Record.{Record}
+use Rattle.stn_records.specs.Maps.{differ}
 
--- each id of theirs is one of ours
-abbrev pub has_keys : {X : Type 0} → List (SiteCounter × X) → List (SiteCounter × X) → Bool
-has_keys ours theirs = list_all (λ entry. is_some (find id_cmp entry.0 ours)) theirs
+-- the first id at which the two have different values
+abbrev pub dispute_of : {X : Type 0} → (X → X → Bool) → List (SiteCounter × X) → List (SiteCounter × X) → Option SiteCounter
+dispute_of same ours theirs = first_such (λ id. differ same (find id_cmp id ours) (find id_cmp id theirs)) (keys_of ours)
 
 -- each entry of theirs is one of ours
 abbrev pub is_there : {X : Type 0} → (X → X → Bool) → Option X → X → Bool
@@ -21,11 +21,6 @@ is_there same (Some there) one = same there one
 
 abbrev pub has_entries : {X : Type 0} → (X → X → Bool) → List (SiteCounter × X) → List (SiteCounter × X) → Bool
 has_entries same ours theirs = list_all (λ entry. is_there same (find id_cmp entry.0 ours) entry.1) theirs
-
--- the ids of each list rise, and each Done record is proper
-abbrev pub AreLists : List (SiteCounter × Record) → List (SiteCounter × Unit {0}) → List (SiteCounter × SiteCounter) → Type 0
-AreLists additions tombstones replacements =
-    All (λ entry. IsProper entry.1.mark entry.1.bound) additions × IsTrue (is_sorted id_cmp additions) × IsTrue (is_sorted id_cmp tombstones) × IsTrue (is_sorted id_cmp replacements)
 
 -- the entry at the place has the id
 pub record IsPlaceOf {X : Type 0} (entries : List (SiteCounter × X)) (id : SiteCounter) (place : ℕ) : Type 0 where
@@ -55,7 +50,10 @@ module _ {K X : Type 0} (R : K → K → Ordering) where
   merge [] ys = ys
   merge (x ∷ xs) ys = merge_from x (merge xs) ys
 
--- the entries after the first, where that has the id
+-- the first id, and the entries after the first, where that has the id
+abbrev pub first_key : {X : Type 0} → List (SiteCounter × X) → Option SiteCounter
+first_key entries = slice_get (keys_of entries) 0
+
 abbrev pub past_id : {X : Type 0} → SiteCounter → List (SiteCounter × X) → List (SiteCounter × X)
 past_id id [] = []
 past_id id (entry ∷ rest) = if eq_by_cmp id_cmp entry.0 id then rest else (entry ∷ rest)

@@ -1,27 +1,40 @@
-ghost use Rattle.std.specs.Prelude.{◌≡◌, ◌↔◌, IsTrue, IfOk, OnOk, OnErr};
+ghost use Rattle.std.specs.Prelude.{◌≡◌, Some, IsTrue, IfOk, IfSome, OnOk, OnErr, ◌↔◌};
 ghost use Rattle.std.specs.Set.{is_member};
 ghost use Rattle.std.specs.FinMap.{is_sorted};
 ghost use Rattle.std.specs.FinMap as map;
 ghost use Rattle.stn_records.specs.Id.{id_cmp};
-ghost use Rattle.stn_records.specs.Maps.{union as union_of, AgreesAt};
+ghost use Rattle.stn_records.specs.Maps.{union as union_of, dispute as dispute_of, AgreesAt, AllFit, HasEntries};
 ghost use Rattle.stn_records.specs.Content.{same_ids, AllHeld};
 
 use crate::id::Id;
-use crate::sorted::{kept, merged, place_of};
+use crate::join::{Join, JoinFault};
+use crate::map_value::MapValue;
+use crate::record::Record;
+use crate::sorted::{are_fit, first_dispute, has_entries, is_rising, kept, merged, place_of};
 use std::alloc::Allocator;
 use std::marker::Model;
 use stn_time::Memory;
 
-/// A map from ids, in their order.
+/// The records that were added, by their ids.
+pub type Additions<A> = IdMap<Record, A>;
+
+/// The ids that were withdrawn.
+pub type Tombstones<A> = IdMap<(), A>;
+
+/// The ids that records replace, by the ids of these records.
+pub type Amendments<A> = IdMap<Id, A>;
+
+/// A map from ids, in their order, to values that are fit.
 #[derive(Drop)]
-pub(crate) struct IdMap<X, A: Allocator> {
+pub struct IdMap<X: MapValue, A: Allocator> {
     entries: Vec<(Id, X), A>,
 }
 
-impl<X, A: Allocator> Model for IdMap<X, A> {
+impl<X: MapValue, A: Allocator> Model for IdMap<X, A> {
     ghost use Rattle.std.specs.Prelude.{IsTrue};
     ghost use Rattle.std.specs.FinMap as map;
     ghost use Rattle.stn_records.specs.Id.{id_cmp, coded_id};
+    ghost use Rattle.stn_records.specs.Maps.{AllFit};
 
     ghost Value = { map.FinMap id_cmp X };
 
@@ -29,11 +42,12 @@ impl<X, A: Allocator> Model for IdMap<X, A> {
 
     ghost view = { λ m. map.from_sorted m.entries.items };
 
-    ghost invariant = { λ m. IsTrue (map.is_sorted id_cmp m.entries.items) };
+    ghost invariant = { λ m. IsTrue (map.is_sorted id_cmp m.entries.items) × AllFit X.Fits (map.from_sorted {R = id_cmp} m.entries.items) };
 }
 
-impl<X: Copy, A: Allocator + Copy> IdMap<X, A> {
-    pub(crate) fn new(alloc: A) -> Self
+impl<X: MapValue, A: Allocator + Copy> IdMap<X, A> {
+    /// No entry.
+    pub fn new(alloc: A) -> Self
         ensures { result ≡ map.empty }
     {
         IdMap {
@@ -41,32 +55,48 @@ impl<X: Copy, A: Allocator + Copy> IdMap<X, A> {
         }
     }
 
-    // The map with these entries, whose ids rise.
-    pub(crate) fn from_entries(entries: Vec<(Id, X), A>) -> Self
-        requires { IsTrue (is_sorted id_cmp entries.items) }
-        ensures { map.entries result ≡ entries.items }
+    // The map with these entries; none where their ids don't rise, or a value is not fit.
+    pub(crate) fn from_entries(entries: Vec<(Id, X), A>) -> Option<Self>
+        ensures made { IfSome result (λ m. map.entries m ≡ entries.items) }
+        ensures fit { IfSome result (AllFit X.Fits) }
+        ensures all { (m : map.FinMap id_cmp X) → AllFit X.Fits m → map.entries m ≡ entries.items → result ≡ Some m }
     {
-        IdMap { entries }
+        if is_rising(&entries) && are_fit(&entries) {
+            Some(IdMap { entries })
+        } else {
+            None
+        }
     }
 
     pub(crate) fn allocator(&self) -> A {
         *self.entries.allocator()
     }
 
-    pub(crate) fn entries(&self) -> &[(Id, X)]
+    /// The entries, in order of id.
+    pub fn entries(&self) -> &[(Id, X)]
         ensures value { result.now ≡ map.entries self.now }
         ensures sorted { IsTrue (is_sorted id_cmp (map.entries self.now)) }
+        ensures fit { AllFit X.Fits self.now }
     {
         &self.entries
     }
 
-    pub(crate) fn get(&self, id: Id) -> Option<X>
+    /// The value of the id.
+    pub fn get(&self, id: Id) -> Option<X>
         ensures { result ≡ map.get self.now id }
     {
-        match place_of(&self.entries, id) {
-            Ok(place) => Some(self.entries[place].1),
+        let entries = self.entries();
+        match place_of(entries, id) {
+            Ok(place) => Some(entries[place].1),
             Err(_) => None,
         }
+    }
+
+    /// Whether the id has a value.
+    pub fn contains(&self, id: Id) -> bool
+        ensures { result ≡ map.contains_key self.now id }
+    {
+        self.get(id).is_some()
     }
 
     pub(crate) fn has_all(&self, ids: &[Id]) -> bool
@@ -80,9 +110,10 @@ impl<X: Copy, A: Allocator + Copy> IdMap<X, A> {
         true
     }
 
-    // Puts in an entry, unless it is there.
-    pub(crate) fn insert(&mut self, id: Id, value: X) -> Result<(), Memory>
-        requires { AgreesAt self.old id value }
+    /// Puts in an entry, unless it is there; if memory runs out, nothing is changed.
+    pub fn insert(&mut self, id: Id, value: X) -> Result<(), Memory>
+        requires fit { X.Fits value }
+        requires agrees { AgreesAt self.old id value }
         ensures inserted { OnOk result (self.new ≡ map.insert self.old id value) }
         ensures kept { OnErr result (self.new ≡ self.old) }
     {
@@ -92,9 +123,9 @@ impl<X: Copy, A: Allocator + Copy> IdMap<X, A> {
         Ok(())
     }
 
-    // The same entries, and this one.
     pub(crate) fn with(&self, id: Id, value: X) -> Result<Self, Memory>
-        requires { AgreesAt self.now id value }
+        requires fit { X.Fits value }
+        requires agrees { AgreesAt self.now id value }
         ensures { IfOk result (λ all. all ≡ map.insert self.now id value) }
     {
         let mut all = self.copy()?;
@@ -102,11 +133,26 @@ impl<X: Copy, A: Allocator + Copy> IdMap<X, A> {
         Ok(all)
     }
 
+    /// The least id at which the two have different values.
+    pub fn dispute(&self, other: &Self) -> Option<Id>
+        ensures { result ≡ dispute_of X.same self.now other.now }
+    {
+        first_dispute(self.entries(), other.entries())
+    }
+
+    // Whether each entry of the other is here too.
+    pub(crate) fn holds(&self, other: &Self) -> bool
+        ensures { IsTrue result ↔ HasEntries self.now other.now }
+    {
+        has_entries(self.entries(), other.entries())
+    }
+
+    // The entries of both; of an id of both, that of self.
     pub(crate) fn union(&self, other: &Self) -> Result<Self, Memory>
         ensures { IfOk result (λ all. all ≡ union_of self.now other.now) }
     {
         Ok(IdMap {
-            entries: merged(self.allocator(), &self.entries, &other.entries)?,
+            entries: merged(self.allocator(), self.entries(), other.entries())?,
         })
     }
 
@@ -114,7 +160,7 @@ impl<X: Copy, A: Allocator + Copy> IdMap<X, A> {
         ensures { IfOk result (λ part. part ≡ map.retain_keys self.now (λ id. is_member same_ids wanted.now id)) }
     {
         Ok(IdMap {
-            entries: kept(self.allocator(), &self.entries, wanted)?,
+            entries: kept(self.allocator(), self.entries(), wanted)?,
         })
     }
 
@@ -122,7 +168,31 @@ impl<X: Copy, A: Allocator + Copy> IdMap<X, A> {
         ensures { IfOk result (λ copy. copy ≡ self.now) }
     {
         Ok(IdMap {
-            entries: Vec::from_slice(self.allocator(), &self.entries)?,
+            entries: Vec::from_slice(self.allocator(), self.entries())?,
         })
     }
+}
+
+impl<X: MapValue, A: Allocator + Copy> Join for IdMap<X, A> {
+    ghost use Rattle.stn_records.specs.Maps.{join as join_of, dispute as dispute_of};
+    ghost use Rattle.stn_records.specs.ContentLaws.{maps_commute, maps_regroup, maps_repeat, maps_dispute};
+
+    ghost join = { join_of X.same };
+
+    ghost dispute = { dispute_of X.same };
+
+    fn joined(&self, other: &Self) -> Result<Self, JoinFault> {
+        match self.dispute(other) {
+            Some(id) => Err(JoinFault::Clash(id)),
+            None => Ok(self.union(other)?),
+        }
+    }
+
+    ghost commutes = { maps_commute X.same X.decides };
+
+    ghost regroups = { maps_regroup X.same X.decides };
+
+    ghost repeats = { maps_repeat X.same X.decides };
+
+    ghost disputes = { maps_dispute X.same X.decides };
 }

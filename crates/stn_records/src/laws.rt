@@ -1,10 +1,14 @@
-ghost use Rattle.std.specs.Prelude.{◌≡◌, List, ◌∷◌, None, true, All, option_and_then};
+ghost use Rattle.std.specs.Prelude.{◌≡◌, List, ◌∷◌, None, Some, true, All, option_and_then};
+ghost use Rattle.std.specs.FinMap.{FinMap};
 ghost use Rattle.std.specs.FinMap as map;
 ghost use Rattle.stn_net.specs.Difference.{Difference};
 ghost use Rattle.std.specs.List.Sorted.{IsPermutation};
 ghost use Rattle.stn_records.specs.Join.{Takes, contents_of, outcome_of, passing, join_all, SameItems};
-ghost use Rattle.stn_records.specs.Id.{SiteCounter};
-ghost use Rattle.stn_records.specs.Content.{Content, RecordMap, IdSet, ReplacementMap, HasItem, HasRecord, HasId, HasReplacement, CountsSame, is_known, is_within, join_contents, join_records, join_ids, join_replacements, known_count, live_of, plain, replaced_count, taken, with_amendment, with_record, with_tombstone};
+ghost use Rattle.stn_records.specs.Id.{SiteCounter, id_cmp};
+ghost use Rattle.stn_records.specs.Maps.{HasEntry, join, same_units, union};
+ghost use Rattle.stn_records.specs.Content.{Content, IdSet, HasItem, CountsSame, is_known, is_within, join_contents, known_count, live_of, plain, replaced_count, taken, with_amendment, with_record, with_tombstone};
+
+use crate::map_value::MapValue;
 
 /// Takes of states, in any order and grouping, leave the join of their list, where that is there and
 /// knows at most 4,096 ids; where it is not, one of the takes is refused. A list of states is given
@@ -20,19 +24,14 @@ pub fn states_by_items_alone()
     ensures { (a b : Content) (ours theirs : List Content) → SameItems HasItem (a ∷ ours) (b ∷ theirs) → join_all join_contents a ours ≡ join_all join_contents b theirs }
 {}
 
-/// Two lists of additions with the same entries have one join, or none.
-pub fn additions_by_items_alone()
-    ensures { (a b : RecordMap) (ours theirs : List RecordMap) → SameItems HasRecord (a ∷ ours) (b ∷ theirs) → join_all join_records a ours ≡ join_all join_records b theirs }
+/// Two lists of maps with the same entries have one join, or none.
+pub fn maps_by_items_alone<X: MapValue>()
+    ensures { (a b : FinMap id_cmp X) (ours theirs : List (FinMap id_cmp X)) → SameItems HasEntry (a ∷ ours) (b ∷ theirs) → join_all (join X.same) a ours ≡ join_all (join X.same) b theirs }
 {}
 
-/// Two lists of sets of withdrawn ids with the same ids have one join, or none.
-pub fn tombstones_by_items_alone()
-    ensures { (a b : IdSet) (ours theirs : List IdSet) → SameItems HasId (a ∷ ours) (b ∷ theirs) → join_all join_ids a ours ≡ join_all join_ids b theirs }
-{}
-
-/// Two lists of amendments with the same entries have one join, or none.
-pub fn amendments_by_items_alone()
-    ensures { (a b : ReplacementMap) (ours theirs : List ReplacementMap) → SameItems HasReplacement (a ∷ ours) (b ∷ theirs) → join_all join_replacements a ours ≡ join_all join_replacements b theirs }
+/// Two sets of withdrawn ids are never in dispute: their join is their union.
+pub fn tombstones_agree()
+    ensures { (a b : IdSet) → join same_units a b ≡ Some (union a b) }
 {}
 
 /// Two states with the same additions and the same replaced ids have the same live records and the

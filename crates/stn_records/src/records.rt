@@ -2,22 +2,19 @@ ghost use Rattle.std.specs.Prelude.{◌≡◌, ◌≢◌, cond, ◌+◌, ◌<◌
 ghost use Rattle.std.specs.FinMap as fin;
 ghost use Rattle.stn_records.specs.Id.{most_counter, SiteCounter, id_cmp};
 ghost use Rattle.stn_records.specs.Record.{IsProper};
-ghost use Rattle.stn_records.specs.Content.{most_known, Content, IsSound, IsPart, AllHeld, no_content, one_record, one_tombstone, one_amendment, with_record, with_tombstone, with_amendment, plain, is_known as is_known_in, is_live as is_live_in, known_count, known_in_either, live_of, listed, next_counter as next_counter_of, part_of, replaced_set, dispute_contents, join_contents, taken as taken_of, HasAnother};
-ghost use Rattle.stn_records.specs.Maps.{differ};
-ghost use Rattle.stn_records.specs.Sorted.{AreLists};
+ghost use Rattle.stn_records.specs.Content.{most_known, Content, IsSound, IsPart, AllHeld, no_content, one_record, one_tombstone, one_amendment, with_record, with_tombstone, with_amendment, plain, is_known as is_known_in, is_live as is_live_in, is_replaced as is_replaced_in, AllProper, known_count, known_in_either, live_of, listed, next_counter as next_counter_of, part_of, replaced_set, dispute_contents, join_contents, taken as taken_of, HasAnother};
 ghost use Rattle.stn_records.specs.Refusals.{amend_refusal as amend_refusal_of, replace_refusal as replace_refusal_of, clashes as clashes_in, is_too_much};
 
 use crate::MOST_KNOWN;
-use crate::additions::{Additions, are_proper};
-use crate::amendments::Amendments;
 use crate::faults::{
     AmendFault, BuryFault, CounterSpent, PartFault, RecordsFault, ReplaceFault, WithdrawFault,
 };
 use crate::id::{Id, Site};
-use crate::record::{Mark, Record, Value};
-use crate::sorted::{count_ids, greatest_counter, is_rising};
+use crate::id_map::{Additions, Amendments, Tombstones};
+use crate::map_value::MapValue;
+use crate::record::{Mark, Record};
+use crate::sorted::{count_ids, greatest_counter};
 use crate::state::State;
-use crate::tombstones::Tombstones;
 use std::alloc::Allocator;
 use std::marker::Model;
 use stn_net::Bound;
@@ -70,14 +67,16 @@ impl<A: Allocator + Copy> Records<A> {
         ensures sound { IfOk result (λ made. IfSome made IsSound) }
         ensures all { (s : Content) → IsSound s → fin.entries s.additions ≡ additions.items → fin.entries s.tombstones ≡ tombstones.items → fin.entries s.replacements ≡ replacements.items → IfOk result (λ made. made ≡ Some s) }
     {
-        if !are_lists(&additions, &tombstones, &replacements) {
+        let Some(additions) = Additions::from_entries(additions) else {
             return Ok(None);
-        }
-        let state = State::of(
-            Additions::from_entries(additions),
-            Tombstones::from_entries(tombstones),
-            Amendments::from_entries(replacements),
-        )?;
+        };
+        let Some(tombstones) = Tombstones::from_entries(tombstones) else {
+            return Ok(None);
+        };
+        let Some(replacements) = Amendments::from_entries(replacements) else {
+            return Ok(None);
+        };
+        let state = State::of(additions, tombstones, replacements)?;
         if !state.all_amend() || state.known() > MOST_KNOWN {
             return Ok(None);
         }
@@ -118,7 +117,7 @@ impl<A: Allocator + Copy> Records<A> {
                 }
             }
             None => {
-                if !self.state.is_replaced(id) && self.is_full() {
+                if !self.is_replaced(id) && self.is_full() {
                     return Err(RecordsFault::Full);
                 }
                 self.state.add(id, added)?;
@@ -139,13 +138,10 @@ impl<A: Allocator + Copy> Records<A> {
         ensures unknown { IsErrOf result WithdrawFault.Unknown ↔ (is_known_in self.old id ≡ false) }
         ensures kept { OnErr result (self.new ≡ self.old) }
     {
-        if self.state.tombstones().contains(id) {
-            return Ok(());
-        }
         if !self.is_known(id) {
             return Err(WithdrawFault::Unknown);
         }
-        self.state.withdraw(id)?;
+        self.put_tombstone(id)?;
         Ok(())
     }
 
@@ -161,14 +157,23 @@ impl<A: Allocator + Copy> Records<A> {
         ensures full { IsErrOf result BuryFault.Full ↔ (is_known_in self.old id ≡ false) × (known_count self.old ≡ most_known) }
         ensures kept { OnErr result (self.new ≡ self.old) }
     {
-        if self.state.tombstones().contains(id) {
-            return Ok(());
-        }
         if !self.is_known(id) && self.is_full() {
             return Err(BuryFault::Full);
         }
-        self.state.withdraw(id)?;
+        self.put_tombstone(id)?;
         Ok(())
+    }
+
+    fn put_tombstone(&mut self, id: Id) -> Result<(), Memory>
+        requires room { is_known_in self.old id ≡ false → known_count self.old < most_known }
+        ensures withdrawn { OnOk result (self.new ≡ with_tombstone self.old id) }
+        ensures again { fin.contains_key self.old.tombstones id ≡ true → IsOk result }
+        ensures kept { OnErr result (self.new ≡ self.old) }
+    {
+        if self.state.tombstones().contains(id) {
+            return Ok(());
+        }
+        self.state.withdraw(id)
     }
 
     /// Adds a Plain record that replaces a known id for good, in one step. An equal record that is
@@ -185,8 +190,7 @@ impl<A: Allocator + Copy> Records<A> {
         ensures refused { (fault : AmendFault) → fault ≢ AmendFault.Memory → IsErrOf result fault ↔ (amend_refusal_of self.old id old bound ≡ Some fault) }
         ensures kept { OnErr result (self.new ≡ self.old) }
     {
-        let _ = &self.state;
-        if let Some(fault) = self.amend_refusal(id, old, bound) {
+        if let Some(fault) = self.state.amend_refusal(id, old, bound) {
             return Err(fault);
         }
         self.put_amendment(id, old, bound)?;
@@ -208,79 +212,13 @@ impl<A: Allocator + Copy> Records<A> {
         ensures refused { (fault : ReplaceFault) → fault ≢ ReplaceFault.Memory → IsErrOf result fault ↔ (replace_refusal_of self.old id old bound ≡ Some fault) }
         ensures kept { OnErr result (self.new ≡ self.old) }
     {
-        let _ = &self.state;
-        if let Some(fault) = self.replace_refusal(id, old, bound) {
+        if let Some(fault) = self.state.replace_refusal(id, old, bound) {
             return Err(fault);
         }
         self.put_amendment(id, old, bound)?;
         Ok(())
     }
 
-    // Why the amendment is refused.
-    fn amend_refusal(&self, id: Id, old: Id, bound: Bound) -> Option<AmendFault>
-        ensures { result ≡ amend_refusal_of self.now id old bound }
-    {
-        if id == old {
-            return Some(AmendFault::SelfReplace);
-        }
-        if self.clashes(id, old, bound) {
-            return Some(AmendFault::Clash(id));
-        }
-        if !self.is_known(old) {
-            return Some(AmendFault::Unknown);
-        }
-        if self.is_too_much_amended(id, old, bound) {
-            return Some(AmendFault::Full);
-        }
-        None
-    }
-
-    // Why the replacement is refused.
-    fn replace_refusal(&self, id: Id, old: Id, bound: Bound) -> Option<ReplaceFault>
-        ensures { result ≡ replace_refusal_of self.now id old bound }
-    {
-        if id == old {
-            return Some(ReplaceFault::SelfReplace);
-        }
-        if self.clashes(id, old, bound) {
-            return Some(ReplaceFault::Clash(id));
-        }
-        if self.is_too_much_amended(id, old, bound) {
-            return Some(ReplaceFault::Full);
-        }
-        None
-    }
-
-    // Whether the id has another record, or replaces another id.
-    fn clashes(&self, id: Id, old: Id, bound: Bound) -> bool
-        ensures { result ≡ clashes_in self.now id old bound }
-    {
-        let mark = Mark::Plain;
-        is_another(self.state.additions().get(id), Record { mark, bound })
-            || is_another(self.state.replacements().get(id), old)
-    }
-
-    // Whether more than 4,096 ids would be known with the amendment. They are counted only where the
-    // lists are long enough.
-    fn is_too_much_amended(&self, id: Id, old: Id, bound: Bound) -> bool
-        requires apart { id ≢ old }
-        requires agrees { clashes_in self.now id old bound ≡ false }
-        ensures { result ≡ is_too_much self.now id old bound }
-    {
-        let new = self.newly_known(old) + self.newly_known(id);
-        let added = self.state.additions().entries().len();
-        let replaced = self.state.replaced().len();
-        added + replaced + new > MOST_KNOWN && self.known() + new > MOST_KNOWN
-    }
-
-    // How many ids more are known with this one.
-    fn newly_known(&self, id: Id) -> usize
-        ensures { result ≡ cond (is_known_in self.now id) 0 1 }
-    {
-        if self.is_known(id) { 0 } else { 1 }
-    }
-
-    // Adds the amendment, unless it is there.
     fn put_amendment(&mut self, id: Id, old: Id, bound: Bound) -> Result<(), Memory>
         requires other { id ≢ old }
         requires agrees { clashes_in self.old id old bound ≡ false }
@@ -378,8 +316,8 @@ impl<A: Allocator + Copy> Records<A> {
         ensures sound { IsSound self.now }
     {
         let mut all = Vec::new(self.state.additions().allocator());
-        for &(id, held) in self.state.additions().entries() {
-            if !self.state.is_replaced(id) {
+        for &(id, held) in self.added() {
+            if !self.is_replaced(id) {
                 all.push((id, held.mark, held.bound))?;
             }
         }
@@ -393,8 +331,8 @@ impl<A: Allocator + Copy> Records<A> {
         ensures spent { IsErr result ↔ (most_counter < next_counter_of self.now site) }
         ensures new { IfOk result (λ counter. is_known_in self.now (record { site = site; counter = counter }) ≡ false) }
     {
-        let added = greatest_counter(self.state.additions().entries(), site);
-        let replaced = greatest_counter(self.state.replaced(), site);
+        let added = greatest_counter(self.added(), site);
+        let replaced = greatest_counter(self.replaced(), site);
         added.max(replaced).checked_add(1).ok_or(CounterSpent)
     }
 
@@ -407,33 +345,33 @@ impl<A: Allocator + Copy> Records<A> {
         self.state.known()
     }
 
-    // Whether 4,096 ids are known. They are counted only where the two lists are long enough.
+    // The ids are counted only where the two lists are long enough.
     fn is_full(&self) -> bool
-        ensures { IsTrue result ↔ (known_count self.now ≡ most_known) }
+        ensures full { IsTrue result ↔ (known_count self.now ≡ most_known) }
+        ensures sound { IsSound self.now }
     {
-        let added = self.state.additions().entries().len();
-        let replaced = self.state.replaced().len();
+        let added = self.added().len();
+        let replaced = self.replaced().len();
         added + replaced >= MOST_KNOWN && self.known() >= MOST_KNOWN
     }
 
-    // Whether both know more than 4,096 ids together. They are counted only where the four lists are long enough.
+    // The ids are counted only where the four lists are long enough.
     fn is_too_much_with(&self, other: &Records<A>) -> bool
         ensures { IsTrue result ↔ (most_known < known_in_either self.now other.now) }
     {
-        let ours = self.state.additions().entries().len() + self.state.replaced().len();
-        let theirs = other.state.additions().entries().len() + other.state.replaced().len();
+        let ours = self.added().len() + self.replaced().len();
+        let theirs = other.added().len() + other.replaced().len();
         ours + theirs > MOST_KNOWN && self.known_with(other) > MOST_KNOWN
     }
 
-    // How many ids both know together.
     fn known_with(&self, other: &Records<A>) -> usize
         ensures { result ≡ known_in_either self.now other.now }
     {
         count_ids(
-            self.state.additions().entries(),
-            self.state.replaced(),
-            other.state.additions().entries(),
-            other.state.replaced(),
+            self.added(),
+            self.replaced(),
+            other.added(),
+            other.replaced(),
         )
     }
 
@@ -441,7 +379,7 @@ impl<A: Allocator + Copy> Records<A> {
     pub fn is_live(&self, id: Id) -> bool
         ensures { result ≡ is_live_in self.now id }
     {
-        self.state.additions().get(id).is_some() && !self.state.is_replaced(id)
+        self.state.additions().contains(id) && !self.is_replaced(id)
     }
 
     /// Whether the id is known.
@@ -449,6 +387,21 @@ impl<A: Allocator + Copy> Records<A> {
         ensures { result ≡ is_known_in self.now id }
     {
         self.state.is_known(id)
+    }
+
+    fn added(&self) -> &[(Id, Record)]
+        ensures value { result.now ≡ fin.entries self.now.additions }
+        ensures sorted { IsTrue (fin.is_sorted id_cmp (fin.entries self.now.additions)) }
+        ensures proper { AllProper self.now.additions }
+        ensures sound { IsSound self.now }
+    {
+        self.state.additions().entries()
+    }
+
+    fn is_replaced(&self, id: Id) -> bool
+        ensures { result ≡ is_replaced_in self.now id }
+    {
+        self.state.is_replaced(id)
     }
 
     /// The replaced ids, those that were withdrawn and those that records replace, in order, each
@@ -466,7 +419,7 @@ impl<A: Allocator + Copy> Records<A> {
         ensures value { result ≡ option_map listed (slice_get (fin.entries self.now.additions) place) }
         ensures proper { IfSome result (λ entry. IsProper entry.1 entry.2) }
     {
-        let (id, held) = *self.state.additions().entries().get(place)?;
+        let (id, held) = *self.added().get(place)?;
         Some((id, held.mark, held.bound))
     }
 
@@ -484,25 +437,5 @@ impl<A: Allocator + Copy> Records<A> {
     {
         let entry = *self.state.replacements().entries().get(place)?;
         Some(entry)
-    }
-}
-
-// Whether the ids of each list rise, and each Done record is proper.
-fn are_lists(additions: &[(Id, Record)], tombstones: &[(Id, ())], replacements: &[(Id, Id)]) -> bool
-    ensures { IsTrue result ↔ AreLists additions.now tombstones.now replacements.now }
-{
-    are_proper(additions)
-        && is_rising(additions)
-        && is_rising(tombstones)
-        && is_rising(replacements)
-}
-
-// Whether a value is there, and is another.
-fn is_another<X: Value>(there: Option<X>, one: X) -> bool
-    ensures { result ≡ differ X.same there (Some one) }
-{
-    match there {
-        Some(held) => !held.is_same(&one),
-        None => false,
     }
 }

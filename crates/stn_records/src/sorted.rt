@@ -1,23 +1,19 @@
 // Lists of entries in the order of their ids.
-ghost use Rattle.std.specs.Prelude.{◌≡◌, ◌↔◌, ◌+◌, ◌^◌, ◌<◌, ◌≤◌, ◌++◌, IsTrue, IfOk, IfErr, OnOk, [], Some, None, length, filter, find, slice_get};
+ghost use Rattle.std.specs.Prelude.{◌≡◌, ◌↔◌, ◌+◌, ◌^◌, ◌<◌, ◌++◌, All, IsTrue, IfOk, IfErr, length, filter};
 ghost use Rattle.std.specs.Set.{distinct_count, is_member};
 ghost use Rattle.std.specs.List.Sorted.{IsSorted};
-ghost use Rattle.std.specs.FinMap.{is_sorted};
-ghost use Rattle.std.specs.FinMap as fin;
-ghost use Rattle.std.specs.FinMap.Entries.{by_order};
-ghost use Rattle.stn_records.specs.Id.{id_cmp, lesser_of};
-ghost use Rattle.stn_records.specs.Maps.{differ};
-ghost use Rattle.stn_records.specs.Content.{same_ids, greatest_counter as greatest_of};
 ghost use Rattle.std.specs.Map.{keys_of};
-ghost use Rattle.stn_records.specs.Sorted.{has_keys, has_entries as has_entries_of, IsPlaceOf, IsGapFor, IsEndOf, merge, past_id};
+ghost use Rattle.std.specs.FinMap.{is_sorted};
+ghost use Rattle.stn_records.specs.Id.{id_cmp, lesser_of};
+ghost use Rattle.stn_records.specs.Content.{same_ids, greatest_counter as greatest_of};
+ghost use Rattle.stn_records.specs.Sorted.{dispute_of, first_key, has_entries as has_entries_of, IsPlaceOf, IsGapFor, IsEndOf, merge, past_id};
 
 use crate::id::{Id, Site};
-use crate::record::Value;
+use crate::map_value::MapValue;
 use std::alloc::Allocator;
 use std::cmp::Ordering;
 use stn_time::Memory;
 
-// Whether the ids rise.
 pub(crate) fn is_rising<X>(entries: &[(Id, X)]) -> bool
     ensures { IsTrue result ↔ IsTrue (is_sorted id_cmp entries.now) }
 {
@@ -33,6 +29,12 @@ pub(crate) fn place_of<X>(entries: &[(Id, X)], id: Id) -> Result<usize, usize>
     entries.binary_search_by_key(&id, |entry| entry.0)
 }
 
+pub(crate) fn are_fit<X: MapValue>(entries: &[(Id, X)]) -> bool
+    ensures { IsTrue result ↔ All (λ entry. X.Fits entry.1) entries.now }
+{
+    entries.iter().all(|entry| entry.1.is_fit())
+}
+
 // The entries of both; at an id of both, that of ours.
 pub(crate) fn merged<X: Copy, A: Allocator + Copy>(
     alloc: A,
@@ -42,117 +44,86 @@ pub(crate) fn merged<X: Copy, A: Allocator + Copy>(
     ensures { IfOk result (λ all. all.items ≡ merge id_cmp ours.now theirs.now) }
 {
     let mut all = Vec::with_capacity(alloc, ours.len().saturating_add(theirs.len()))?;
-    append_merged(&mut all, ours, theirs)?;
+    let mut left = ours;
+    let mut right = theirs;
+    while let (Some((our, rest)), Some((their, others))) = (
+        left.split_first(),
+        right.split_first(),
+    ) {
+        let next = match our.0.cmp(&their.0) {
+            Ordering::Less => {
+                left = rest;
+                *our
+            }
+            Ordering::Equal => {
+                left = rest;
+                right = others;
+                *our
+            }
+            Ordering::Greater => {
+                right = others;
+                *their
+            }
+        };
+        all.push(next)?;
+    }
+    all.extend_from_slice(left)?;
+    all.extend_from_slice(right)?;
     Ok(all)
 }
 
-// Puts the entries of both into an empty list.
-fn append_merged<X: Copy, A: Allocator>(
-    all: &mut Vec<(Id, X), A>,
-    ours: &[(Id, X)],
-    theirs: &[(Id, X)],
-) -> Result<(), Memory>
-    requires { all.old.items ≡ [] }
-    ensures { OnOk result (all.new.items ≡ merge id_cmp ours.now theirs.now) }
-{
-    let mut i = 0;
-    let mut j = 0;
-    while i < ours.len() && j < theirs.len() {
-        let (entry, of_ours, of_theirs) = first_of(ours[i], theirs[j]);
-        all.push(entry)?;
-        i += of_ours;
-        j += of_theirs;
-    }
-    all.extend_from_slice(&ours[i..])?;
-    all.extend_from_slice(&theirs[j..])?;
-    Ok(())
-}
-
-// The entry with the lesser id, that of ours where they are equal, and how many entries of ours and
-// of theirs have its id.
-fn first_of<X: Copy>(our: (Id, X), their: (Id, X)) -> ((Id, X), usize, usize)
-    ensures first { result ≡ by_order (id_cmp our.0 their.0) (our, 1, 0) (our, 1, 1) (their, 0, 1) }
-    ensures ours { result.1 ≤ 1 }
-    ensures theirs { result.2 ≤ 1 }
-    ensures some { 1 ≤ result.1 + result.2 }
-{
-    match our.0.cmp(&their.0) {
-        Ordering::Less => (our, 1, 0),
-        Ordering::Equal => (our, 1, 1),
-        Ordering::Greater => (their, 0, 1),
-    }
-}
-
-// The least id at which both have a value, and the values differ.
-pub(crate) fn first_dispute<X: Value>(ours: &[(Id, X)], theirs: &[(Id, X)]) -> Option<Id>
+pub(crate) fn first_dispute<X: MapValue>(ours: &[(Id, X)], theirs: &[(Id, X)]) -> Option<Id>
     requires ours { IsTrue (is_sorted id_cmp ours.now) }
     requires theirs { IsTrue (is_sorted id_cmp theirs.now) }
-    ensures { result ≡ find (λ id. differ X.same (fin.find id_cmp id ours.now) (fin.find id_cmp id theirs.now)) (keys_of ours.now) }
+    ensures { result ≡ dispute_of X.same ours.now theirs.now }
 {
-    let mut i = 0;
-    let mut j = 0;
-    while i < ours.len() && j < theirs.len() {
-        match ours[i].0.cmp(&theirs[j].0) {
-            Ordering::Less => i += 1,
+    let mut left = ours;
+    let mut right = theirs;
+    while let (Some((our, rest)), Some((their, others))) = (
+        left.split_first(),
+        right.split_first(),
+    ) {
+        match our.0.cmp(&their.0) {
+            Ordering::Less => left = rest,
             Ordering::Equal => {
-                if !ours[i].1.is_same(&theirs[j].1) {
-                    return Some(ours[i].0);
+                if !our.1.is_same(&their.1) {
+                    return Some(our.0);
                 }
-                i += 1;
-                j += 1;
+                left = rest;
+                right = others;
             }
-            Ordering::Greater => j += 1,
+            Ordering::Greater => right = others,
         }
     }
     None
 }
 
-// Whether each id of theirs is one of ours.
-pub(crate) fn has_ids<X>(ours: &[(Id, X)], theirs: &[(Id, X)]) -> bool
-    requires ours { IsTrue (is_sorted id_cmp ours.now) }
-    requires theirs { IsTrue (is_sorted id_cmp theirs.now) }
-    ensures { result ≡ has_keys ours.now theirs.now }
-{
-    let mut i = 0;
-    let mut j = 0;
-    while i < ours.len() && j < theirs.len() {
-        match ours[i].0.cmp(&theirs[j].0) {
-            Ordering::Less => i += 1,
-            Ordering::Equal => {
-                i += 1;
-                j += 1;
-            }
-            Ordering::Greater => return false,
-        }
-    }
-    j == theirs.len()
-}
-
-// Whether each entry of theirs is one of ours.
-pub(crate) fn has_entries<X: Value>(ours: &[(Id, X)], theirs: &[(Id, X)]) -> bool
+pub(crate) fn has_entries<X: MapValue>(ours: &[(Id, X)], theirs: &[(Id, X)]) -> bool
     requires ours { IsTrue (is_sorted id_cmp ours.now) }
     requires theirs { IsTrue (is_sorted id_cmp theirs.now) }
     ensures { result ≡ has_entries_of X.same ours.now theirs.now }
 {
-    let mut i = 0;
-    let mut j = 0;
-    while i < ours.len() && j < theirs.len() {
-        match ours[i].0.cmp(&theirs[j].0) {
-            Ordering::Less => i += 1,
+    let mut left = ours;
+    let mut right = theirs;
+    while let (Some((our, rest)), Some((their, others))) = (
+        left.split_first(),
+        right.split_first(),
+    ) {
+        match our.0.cmp(&their.0) {
+            Ordering::Less => left = rest,
             Ordering::Equal => {
-                if !ours[i].1.is_same(&theirs[j].1) {
+                if !our.1.is_same(&their.1) {
                     return false;
                 }
-                i += 1;
-                j += 1;
+                left = rest;
+                right = others;
             }
             Ordering::Greater => return false,
         }
     }
-    j == theirs.len()
+    right.is_empty()
 }
 
-// The entries whose ids are wanted.
 pub(crate) fn kept<X: Copy, A: Allocator + Copy>(
     alloc: A,
     entries: &[(Id, X)],
@@ -183,7 +154,6 @@ fn among<X: Copy, A: Allocator + Copy>(
     Ok(all)
 }
 
-// Whether the id is among ids in order.
 fn has_id(ids: &[Id], id: Id) -> bool
     requires { IsSorted id_cmp ids.now }
     ensures { result ≡ is_member same_ids ids.now id }
@@ -191,7 +161,6 @@ fn has_id(ids: &[Id], id: Id) -> bool
     ids.binary_search(&id).is_ok()
 }
 
-// The greatest counter of the site, or 0.
 pub(crate) fn greatest_counter<X>(entries: &[(Id, X)], site: Site) -> u16
     requires { IsTrue (is_sorted id_cmp entries.now) }
     ensures { result ≡ greatest_of site (keys_of entries.now) }
@@ -214,7 +183,6 @@ fn end_of<X>(entries: &[(Id, X)], site: Site) -> usize
     entries.partition_point(|entry| entry.0.site() <= site)
 }
 
-// How many ids four lists have together, each counted once.
 pub(crate) fn count_ids<X, Y>(a: &[(Id, X)], b: &[(Id, Y)], c: &[(Id, X)], d: &[(Id, Y)]) -> usize
     requires a { IsTrue (is_sorted id_cmp a.now) }
     requires b { IsTrue (is_sorted id_cmp b.now) }
@@ -228,10 +196,7 @@ pub(crate) fn count_ids<X, Y>(a: &[(Id, X)], b: &[(Id, Y)], c: &[(Id, X)], d: &[
     let mut rest_c = c;
     let mut rest_d = d;
     let mut count = 0;
-    while let Some(id) = lesser(
-        lesser(first(rest_a), first(rest_b)),
-        lesser(first(rest_c), first(rest_d)),
-    ) {
+    while let Some(id) = least_first(rest_a, rest_b, rest_c, rest_d) {
         rest_a = past(rest_a, id);
         rest_b = past(rest_b, id);
         rest_c = past(rest_c, id);
@@ -241,9 +206,14 @@ pub(crate) fn count_ids<X, Y>(a: &[(Id, X)], b: &[(Id, Y)], c: &[(Id, X)], d: &[
     count
 }
 
-// The first id.
+fn least_first<X, Y>(a: &[(Id, X)], b: &[(Id, Y)], c: &[(Id, X)], d: &[(Id, Y)]) -> Option<Id>
+    ensures { result ≡ lesser_of (lesser_of (first_key a.now) (first_key b.now)) (lesser_of (first_key c.now) (first_key d.now)) }
+{
+    lesser(lesser(first(a), first(b)), lesser(first(c), first(d)))
+}
+
 fn first<X>(entries: &[(Id, X)]) -> Option<Id>
-    ensures { result ≡ slice_get (keys_of entries.now) 0 }
+    ensures { result ≡ first_key entries.now }
 {
     let (entry, _) = entries.split_first()?;
     Some(entry.0)

@@ -1,18 +1,19 @@
-ghost use Rattle.std.specs.Prelude.{◌≡◌, ◌↔◌, None, All, IfOk, IsTrue, OnOk, OnErr};
+ghost use Rattle.std.specs.Prelude.{◌≡◌, ◌≤◌, ◌≢◌, ◌↔◌, cond, false, Some, None, All, IfOk, IsTrue, OnOk, OnErr};
 ghost use Rattle.std.specs.FinMap as map;
 ghost use Rattle.stn_records.specs.Id.{id_cmp};
 ghost use Rattle.stn_records.specs.Record.{IsProper};
-ghost use Rattle.stn_records.specs.Maps.{union as union_of, AgreesAt};
+ghost use Rattle.stn_records.specs.Maps.{AgreesAt, differ};
+ghost use Rattle.stn_records.specs.Refusals.{amend_refusal as amend_refusal_of, replace_refusal as replace_refusal_of, clashes as clashes_in, is_too_much};
 ghost use Rattle.stn_records.specs.Content.{Content, no_content, dispute_contents, join_contents, joined_contents, is_known as is_known_in, is_replaced as is_replaced_in, known_count, part_of, replaced_set, with_amendment, with_record, with_tombstone, with_ids, plain, AllAmend, IsAmendment, IsPart};
 
-use crate::additions::Additions;
-use crate::amendments::Amendments;
+use crate::MOST_KNOWN;
+use crate::faults::{AmendFault, ReplaceFault};
 use crate::id::Id;
-use crate::id_map::IdMap;
+use crate::id_map::{Additions, Amendments, Tombstones};
 use crate::join::{Join, JoinFault};
+use crate::map_value::MapValue;
 use crate::record::{Mark, Record};
-use crate::sorted::{count_ids, has_entries, has_ids, lesser};
-use crate::tombstones::Tombstones;
+use crate::sorted::{count_ids, lesser};
 use std::alloc::Allocator;
 use std::marker::Model;
 use stn_net::Bound;
@@ -26,7 +27,7 @@ pub struct State<A: Allocator> {
     pub(crate) tombstones: Tombstones<A>,
     pub(crate) replacements: Amendments<A>,
     // The withdrawn ids and those that records replace, so that a search among them is short.
-    pub(crate) replaced: IdMap<(), A>,
+    pub(crate) replaced: Tombstones<A>,
 }
 
 impl<A: Allocator> Model for State<A> {
@@ -51,11 +52,10 @@ impl<A: Allocator + Copy> State<A> {
             additions: Additions::new(alloc),
             tombstones: Tombstones::new(alloc),
             replacements: Amendments::new(alloc),
-            replaced: IdMap::new(alloc),
+            replaced: Tombstones::new(alloc),
         }
     }
 
-    // The three parts as a state.
     pub(crate) fn of(
         additions: Additions<A>,
         tombstones: Tombstones<A>,
@@ -93,7 +93,6 @@ impl<A: Allocator + Copy> State<A> {
         &self.replacements
     }
 
-    // The withdrawn ids and those that records replace, in order, each once.
     pub(crate) fn replaced(&self) -> &[(Id, ())]
         ensures value { result.now ≡ map.entries (replaced_set self.now) }
         ensures sorted { IsTrue (map.is_sorted id_cmp (map.entries (replaced_set self.now))) }
@@ -101,28 +100,24 @@ impl<A: Allocator + Copy> State<A> {
         self.replaced.entries()
     }
 
-    // Whether the id was withdrawn, or a record replaces it.
     pub(crate) fn is_replaced(&self, id: Id) -> bool
         ensures { result ≡ is_replaced_in self.now id }
     {
-        self.replaced.get(id).is_some()
+        self.replaced.contains(id)
     }
 
-    // Whether the id was added, or is replaced.
     pub(crate) fn is_known(&self, id: Id) -> bool
         ensures { result ≡ is_known_in self.now id }
     {
-        self.additions.get(id).is_some() || self.is_replaced(id)
+        self.additions.contains(id) || self.is_replaced(id)
     }
 
-    // How many ids are known.
     pub(crate) fn known(&self) -> usize
         ensures { result ≡ known_count self.now }
     {
         count_ids(self.additions.entries(), self.replaced(), &[], &[])
     }
 
-    // Adds the record of a new id.
     pub(crate) fn add(&mut self, id: Id, added: Record) -> Result<(), Memory>
         requires proper { IsProper added.mark added.bound }
         requires new { map.get self.old.additions id ≡ None }
@@ -132,14 +127,13 @@ impl<A: Allocator + Copy> State<A> {
         self.additions.insert(id, added)
     }
 
-    // Withdraws an id that was not withdrawn.
     pub(crate) fn withdraw(&mut self, id: Id) -> Result<(), Memory>
         requires { map.get self.old.tombstones id ≡ None }
         ensures withdrawn { OnOk result (self.new ≡ with_tombstone self.old id) }
         ensures kept { OnErr result (self.new ≡ self.old) }
     {
         let replaced = self.replaced.with(id, ())?;
-        self.tombstones.insert(id)?;
+        self.tombstones.insert(id, ())?;
         self.replaced = replaced;
         Ok(())
     }
@@ -154,29 +148,26 @@ impl<A: Allocator + Copy> State<A> {
         let replacements = self.replacements.with(id, old)?;
         let replaced = self.replaced.with(old, ())?;
         let mark = Mark::Plain;
-        self.additions.put(id, Record { mark, bound })?;
+        self.additions.insert(id, Record { mark, bound })?;
         self.replacements = replacements;
         self.replaced = replaced;
         Ok(())
     }
 
-    // Whether each entry is of a Plain record of another id.
     pub(crate) fn all_amend(&self) -> bool
         ensures { IsTrue result ↔ AllAmend self.now }
     {
         are_amendments(&self.additions, self.replacements.entries())
     }
 
-    // Whether all that the other holds is held already.
     pub(crate) fn holds(&self, other: &Self) -> bool
         ensures { IsTrue result ↔ IsPart other.now self.now }
     {
-        has_ids(self.tombstones.entries(), other.tombstones.entries())
-            && has_entries(self.additions.entries(), other.additions.entries())
-            && has_entries(self.replacements.entries(), other.replacements.entries())
+        self.tombstones.holds(&other.tombstones)
+            && self.additions.holds(&other.additions)
+            && self.replacements.holds(&other.replacements)
     }
 
-    // The least id in dispute.
     pub(crate) fn dispute(&self, other: &Self) -> Option<Id>
         ensures { result ≡ dispute_contents self.now other.now }
     {
@@ -186,30 +177,16 @@ impl<A: Allocator + Copy> State<A> {
         )
     }
 
-    // The three parts of both.
     pub(crate) fn union(&self, other: &Self) -> Result<Self, Memory>
         requires { dispute_contents self.now other.now ≡ None }
         ensures { IfOk result (λ all. all ≡ joined_contents self.now other.now) }
     {
-        let additions = self.additions.union(&other.additions)?;
-        let replacements = self.replacements.union(&other.replacements)?;
-        let (tombstones, replaced) = self.united_ids(other)?;
         Ok(State {
-            additions,
-            tombstones,
-            replacements,
-            replaced,
+            additions: self.additions.union(&other.additions)?,
+            tombstones: self.tombstones.union(&other.tombstones)?,
+            replacements: self.replacements.union(&other.replacements)?,
+            replaced: self.replaced.union(&other.replaced)?,
         })
-    }
-
-    // The ids that were withdrawn in either, and all that are replaced in either.
-    fn united_ids(&self, other: &Self) -> Result<(Tombstones<A>, IdMap<(), A>), Memory>
-        ensures tombstones { IfOk result (λ ids. ids.0 ≡ union_of self.now.tombstones other.now.tombstones) }
-        ensures replaced { IfOk result (λ ids. ids.1 ≡ union_of (replaced_set self.now) (replaced_set other.now)) }
-    {
-        let tombstones = self.tombstones.union(&other.tombstones)?;
-        let replaced = self.replaced.union(&other.replaced)?;
-        Ok((tombstones, replaced))
     }
 
     // The records of the first list with what they replace, and the withdrawn ids of the second.
@@ -223,29 +200,76 @@ impl<A: Allocator + Copy> State<A> {
         )
     }
 
-    // The same state again.
     pub(crate) fn copy(&self) -> Result<Self, Memory>
         ensures { IfOk result (λ copy. copy ≡ self.now) }
     {
-        let additions = self.additions.copy()?;
-        let replacements = self.replacements.copy()?;
-        let (tombstones, replaced) = self.copied_ids()?;
         Ok(State {
-            additions,
-            tombstones,
-            replacements,
-            replaced,
+            additions: self.additions.copy()?,
+            tombstones: self.tombstones.copy()?,
+            replacements: self.replacements.copy()?,
+            replaced: self.replaced.copy()?,
         })
     }
 
-    // The withdrawn ids again, and all that are replaced.
-    fn copied_ids(&self) -> Result<(Tombstones<A>, IdMap<(), A>), Memory>
-        ensures tombstones { IfOk result (λ ids. ids.0 ≡ self.now.tombstones) }
-        ensures replaced { IfOk result (λ ids. ids.1 ≡ replaced_set self.now) }
+    pub(crate) fn amend_refusal(&self, id: Id, old: Id, bound: Bound) -> Option<AmendFault>
+        ensures { result ≡ amend_refusal_of self.now id old bound }
     {
-        let tombstones = self.tombstones.copy()?;
-        let replaced = self.replaced.copy()?;
-        Ok((tombstones, replaced))
+        if id == old {
+            return Some(AmendFault::SelfReplace);
+        }
+        if self.clashes(id, old, bound) {
+            return Some(AmendFault::Clash(id));
+        }
+        if !self.is_known(old) {
+            return Some(AmendFault::Unknown);
+        }
+        if self.is_too_much_amended(id, old, bound) {
+            return Some(AmendFault::Full);
+        }
+        None
+    }
+
+    pub(crate) fn replace_refusal(&self, id: Id, old: Id, bound: Bound) -> Option<ReplaceFault>
+        ensures { result ≡ replace_refusal_of self.now id old bound }
+    {
+        if id == old {
+            return Some(ReplaceFault::SelfReplace);
+        }
+        if self.clashes(id, old, bound) {
+            return Some(ReplaceFault::Clash(id));
+        }
+        if self.is_too_much_amended(id, old, bound) {
+            return Some(ReplaceFault::Full);
+        }
+        None
+    }
+
+    fn clashes(&self, id: Id, old: Id, bound: Bound) -> bool
+        ensures { result ≡ clashes_in self.now id old bound }
+    {
+        let mark = Mark::Plain;
+        is_another(self.additions.get(id), Record { mark, bound })
+            || is_another(self.replacements.get(id), old)
+    }
+
+    // The ids are counted only where the lists are long enough.
+    fn is_too_much_amended(&self, id: Id, old: Id, bound: Bound) -> bool
+        requires apart { id ≢ old }
+        requires agrees { clashes_in self.now id old bound ≡ false }
+        ensures { result ≡ is_too_much self.now id old bound }
+    {
+        let new = self.newly_known(old) + self.newly_known(id);
+        let added = self.additions.entries().len();
+        let replaced = self.replaced.entries().len();
+        added + replaced + new > MOST_KNOWN && self.known() + new > MOST_KNOWN
+    }
+
+    // How many ids more are known with this one.
+    fn newly_known(&self, id: Id) -> usize
+        ensures count { result ≡ cond (is_known_in self.now id) 0 1 }
+        ensures most { result ≤ 1 }
+    {
+        if self.is_known(id) { 0 } else { 1 }
     }
 }
 
@@ -273,21 +297,19 @@ impl<A: Allocator + Copy> Join for State<A> {
     ghost disputes = { contents_dispute };
 }
 
-// The withdrawn ids, and those that the entries replace.
 fn replaced_of<A: Allocator + Copy>(
     tombstones: &Tombstones<A>,
     replacements: &Amendments<A>,
-) -> Result<IdMap<(), A>, Memory>
+) -> Result<Tombstones<A>, Memory>
     ensures { IfOk result (λ all. all ≡ with_ids tombstones.now (map.values replacements.now)) }
 {
-    let mut all = tombstones.ids()?;
+    let mut all = tombstones.copy()?;
     for entry in replacements.entries() {
         all.insert(entry.1, ())?;
     }
     Ok(all)
 }
 
-// Whether each entry is of a Plain record of another id than it replaces.
 fn are_amendments<A: Allocator + Copy>(additions: &Additions<A>, entries: &[(Id, Id)]) -> bool
     ensures { IsTrue result ↔ All (λ entry. IsAmendment additions.now entry.0 entry.1) entries.now }
 {
@@ -296,7 +318,6 @@ fn are_amendments<A: Allocator + Copy>(additions: &Additions<A>, entries: &[(Id,
         .all(|entry| is_amendment(additions, entry.0, entry.1))
 }
 
-// Whether the id is of a Plain record, and another than the old one.
 fn is_amendment<A: Allocator + Copy>(additions: &Additions<A>, id: Id, old: Id) -> bool
     ensures { IsTrue result ↔ IsAmendment additions.now id old }
 {
@@ -305,6 +326,16 @@ fn is_amendment<A: Allocator + Copy>(additions: &Additions<A>, id: Id, old: Id) 
             Mark::Plain => id != old,
             Mark::Done => false,
         },
+        None => false,
+    }
+}
+
+// Whether a value is there, and is another.
+fn is_another<X: MapValue>(there: Option<X>, one: X) -> bool
+    ensures { result ≡ differ X.same there (Some one) }
+{
+    match there {
+        Some(held) => !held.is_same(&one),
         None => false,
     }
 }

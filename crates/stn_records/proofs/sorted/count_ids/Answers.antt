@@ -1,18 +1,16 @@
-use Rattle.std.proofs.Common.{◌≡◌, length, ap, ◌∙◌, arith, slice_get}
+use Rattle.std.proofs.Common.{◌≡◌, length, ap, sym, ◌∙◌, arith}
 use Rattle.std.proofs.lemmas.Map.Made.{distinct_count-le}
 use Rattle.std.specs.Set.{distinct_count}
 use Rattle.std.specs.FinMap.{is_sorted}
 use Rattle.stn_records.specs.Id.{id_cmp}
-use Rattle.std.specs.Map.{keys_of}
 use Rattle.stn_records.specs.Sorted.{past_id}
 use Rattle.stn_records.specs.Content.{same_ids}
-use Rattle.stn_records.proofs.Counts.{all_keys, least_read, one_counted, fewer_left, none_left, keys_length, past_sorted}
+use Rattle.stn_records.proofs.Counts.{all_keys, one_counted, fewer_left, none_left, keys_length, past_sorted}
 use Rattle.stn_records.proofs.sorted.count_ids.Goals as goal
 
 pub overflow_add-count : goal.overflow_add-count
 overflow_add-count g c =
-    let least = least_read (slice_get (keys_of c.loop-id.rest_a.now) 0) (slice_get (keys_of c.loop-id.rest_b.now) 0) (slice_get (keys_of c.loop-id.rest_c.now) 0) (slice_get (keys_of c.loop-id.rest_d.now) 0) c.first.result c.first-in-loop-id.result c.first-in-loop-id-2.result c.first-in-loop-id-3.result c.lesser.result c.lesser-in-loop-id.result c.lesser-in-loop-id-2.result c.first.ensures c.first-in-loop-id.ensures c.first-in-loop-id-2.ensures c.first-in-loop-id-3.ensures c.lesser.ensures c.lesser-in-loop-id.ensures c.lesser-in-loop-id-2.ensures ∙ c.in-Some.is in
-    let counted = one_counted c.loop-id.rest_a.now c.loop-id.rest_b.now c.loop-id.rest_c.now c.loop-id.rest_d.now c.in-Some.id least c.loop-id.invariant.a c.loop-id.invariant.b c.loop-id.invariant.c c.loop-id.invariant.d in
+    let counted = one_counted c.loop-id.rest_a.now c.loop-id.rest_b.now c.loop-id.rest_c.now c.loop-id.rest_d.now c.in-Some.id (sym c.least_first.ensures ∙ c.in-Some.is) c.loop-id.invariant.a c.loop-id.invariant.b c.loop-id.invariant.c c.loop-id.invariant.d in
     let most = distinct_count-le same_ids (all_keys c.args.a.now c.args.b.now c.args.c.now c.args.d.now) in
     let long = keys_length c.args.a.now c.args.b.now c.args.c.now c.args.d.now in
     let so_far = c.loop-id.invariant.counted in
@@ -21,18 +19,12 @@ overflow_add-count g c =
 
 pub loop-id-smaller : goal.loop-id-smaller
 loop-id-smaller g c =
-    let least = least_read (slice_get (keys_of c.loop-id.rest_a.now) 0) (slice_get (keys_of c.loop-id.rest_b.now) 0) (slice_get (keys_of c.loop-id.rest_c.now) 0) (slice_get (keys_of c.loop-id.rest_d.now) 0) c.first.result c.first-in-loop-id.result c.first-in-loop-id-2.result c.first-in-loop-id-3.result c.lesser.result c.lesser-in-loop-id.result c.lesser-in-loop-id-2.result c.first.ensures c.first-in-loop-id.ensures c.first-in-loop-id-2.ensures c.first-in-loop-id-3.ensures c.lesser.ensures c.lesser-in-loop-id.ensures c.lesser-in-loop-id-2.ensures ∙ c.in-Some.is in
-    let fewer = fewer_left c.loop-id.rest_a.now c.loop-id.rest_b.now c.loop-id.rest_c.now c.loop-id.rest_d.now c.in-Some.id least in
-    let a = ap length c.past-rest_a.ensures in
-    let b = ap length c.past-rest_b.ensures in
-    let d = ap length c.past-rest_c.ensures in
-    let e = ap length c.past-rest_d.ensures in
-    omega (arith, fewer, a, b, d, e)
+    let fewer = fewer_left c.loop-id.rest_a.now c.loop-id.rest_b.now c.loop-id.rest_c.now c.loop-id.rest_d.now c.in-Some.id (sym c.least_first.ensures ∙ c.in-Some.is) in
+    omega (arith, fewer, ap length c.past-rest_a.ensures, ap length c.past-rest_b.ensures, ap length c.past-rest_c.ensures, ap length c.past-rest_d.ensures)
 
 pub loop-id-preserved : goal.loop-id-preserved
 loop-id-preserved g c =
-    let least = least_read (slice_get (keys_of c.loop-id.rest_a.now) 0) (slice_get (keys_of c.loop-id.rest_b.now) 0) (slice_get (keys_of c.loop-id.rest_c.now) 0) (slice_get (keys_of c.loop-id.rest_d.now) 0) c.first.result c.first-in-loop-id.result c.first-in-loop-id-2.result c.first-in-loop-id-3.result c.lesser.result c.lesser-in-loop-id.result c.lesser-in-loop-id-2.result c.first.ensures c.first-in-loop-id.ensures c.first-in-loop-id-2.ensures c.first-in-loop-id-3.ensures c.lesser.ensures c.lesser-in-loop-id.ensures c.lesser-in-loop-id-2.ensures ∙ c.in-Some.is in
-    let counted = one_counted c.loop-id.rest_a.now c.loop-id.rest_b.now c.loop-id.rest_c.now c.loop-id.rest_d.now c.in-Some.id least c.loop-id.invariant.a c.loop-id.invariant.b c.loop-id.invariant.c c.loop-id.invariant.d in
+    let counted = one_counted c.loop-id.rest_a.now c.loop-id.rest_b.now c.loop-id.rest_c.now c.loop-id.rest_d.now c.in-Some.id (sym c.least_first.ensures ∙ c.in-Some.is) c.loop-id.invariant.a c.loop-id.invariant.b c.loop-id.invariant.c c.loop-id.invariant.d in
     let read : distinct_count same_ids (all_keys c.past-rest_a.result.now c.past-rest_b.result.now c.past-rest_c.result.now c.past-rest_d.result.now) ≡ distinct_count same_ids (all_keys (past_id c.in-Some.id c.loop-id.rest_a.now) (past_id c.in-Some.id c.loop-id.rest_b.now) (past_id c.in-Some.id c.loop-id.rest_c.now) (past_id c.in-Some.id c.loop-id.rest_d.now))
     = λ i. distinct_count same_ids (all_keys (c.past-rest_a.ensures i) (c.past-rest_b.ensures i) (c.past-rest_c.ensures i) (c.past-rest_d.ensures i)) in
     let so_far = c.loop-id.invariant.counted in
@@ -46,7 +38,6 @@ loop-id-preserved g c =
 
 pub returns : goal.returns
 returns g c =
-    let least = least_read (slice_get (keys_of c.loop-id.rest_a.now) 0) (slice_get (keys_of c.loop-id.rest_b.now) 0) (slice_get (keys_of c.loop-id.rest_c.now) 0) (slice_get (keys_of c.loop-id.rest_d.now) 0) c.first.result c.first-in-loop-id.result c.first-in-loop-id-2.result c.first-in-loop-id-3.result c.lesser.result c.lesser-in-loop-id.result c.lesser-in-loop-id-2.result c.first.ensures c.first-in-loop-id.ensures c.first-in-loop-id-2.ensures c.first-in-loop-id-3.ensures c.lesser.ensures c.lesser-in-loop-id.ensures c.lesser-in-loop-id-2.ensures ∙ c.in_default.is in
-    let none = none_left c.loop-id.rest_a.now c.loop-id.rest_b.now c.loop-id.rest_c.now c.loop-id.rest_d.now least in
+    let none = none_left c.loop-id.rest_a.now c.loop-id.rest_b.now c.loop-id.rest_c.now c.loop-id.rest_d.now (sym c.least_first.ensures ∙ c.in_default.is) in
     let so_far = c.loop-id.invariant.counted in
     omega (arith, none, so_far)

@@ -1,42 +1,55 @@
-use Rattle.std.proofs.Common.{sym, ap, ◌∙◌, arith, drop_of_length-le}
-use Rattle.stn_records.proofs.Disputes.{dispute_of, step_less, step_equal, step_greater, stop_equal, no_more}
-use Rattle.std.proofs.Common.{drop}
+use Rattle.std.proofs.Common.{sym, ap, ◌∙◌, inl, inr}
+use Rattle.std.proofs.lemmas.Bool.{and_parts}
+use Rattle.std.specs.FinMap.{is_sorted}
+use Rattle.stn_records.specs.Id.{id_cmp}
+use Rattle.stn_records.specs.Sorted.{dispute_of}
+use Rattle.stn_records.proofs.Disputes.{ours_first, theirs_first, both_agree, ended}
 use Rattle.stn_records.proofs.sorted.first_dispute.Goals as goal
-use Rattle.stn_records.proofs.sorted.first_dispute.Goals.{then-loop-i-test+else-j-theirs, else-loop-i-test}
+use Rattle.stn_records.proofs.sorted.first_dispute.Goals.{in_default, in_default-2}
 
-pub loop-i-preserved-in-Less : goal.loop-i-preserved-in-Less
-loop-i-preserved-in-Less g c = record {
-  same = step_less g.X.Value.same c.args.ours.now c.args.theirs.now c.loop-i.i c.loop-i.j c.index-ours-i.result c.index-theirs-j.result c.loop-i-test.true c.if-j-theirs.true c.requires.ours c.requires.theirs (sym c.cmp.ensures ∙ c.in-Less.is) ∙ c.loop-i.invariant.same;
-  ours = omega arith;
-  theirs = omega arith;
-}
+pub loop-our-preserved-in-Less : goal.loop-our-preserved-in-Less
+loop-our-preserved-in-Less g c =
+    let p = c.in-Some-Some.ensures.cases.0 in
+    let q = c.in-Some-Some.ensures'.cases.0 in
+    let ours = ap (is_sorted id_cmp) (sym p) ∙ c.loop-our.invariant.ours in
+    let theirs = ap (is_sorted id_cmp) (sym q) ∙ c.loop-our.invariant.theirs in
+    record {
+      same = ap (dispute_of g.X.MapValue.same c.in-Some-Some.rest.now) q
+          ∙ ours_first g.X.MapValue.same c.in-Some-Some.our.now c.in-Some-Some.rest.now c.in-Some-Some.their.now c.in-Some-Some.others.now ours theirs (sym c.cmp.ensures ∙ c.in-Less.is)
+          ∙ (λ i. dispute_of g.X.MapValue.same (sym p i) (sym q i)) ∙ c.loop-our.invariant.same;
+      ours = (and_parts _ _ ours).1;
+      theirs = c.loop-our.invariant.theirs;
+    }
 
-pub returns-then-not-is_same : goal.returns-then-not-is_same
-returns-then-not-is_same g c =
-    stop_equal g.X.Value.same c.args.ours.now c.args.theirs.now c.loop-i.i c.loop-i.j c.index-ours-i.result c.index-theirs-j.result c.loop-i-test.true c.if-j-theirs.true c.requires.ours c.requires.theirs
-    c.index-ours-i-in-Equal.result c.index-theirs-j-in-Equal.result c.is_same.result c.is_same.ensures c.index-ours-i-then-not-is_same.result (sym c.cmp.ensures ∙ c.in-Equal.is) c.if-not-is_same.true
-    ∙ c.loop-i.invariant.same
+pub loop-our-preserved-else-not-is_same : goal.loop-our-preserved-else-not-is_same
+loop-our-preserved-else-not-is_same g c =
+    let p = c.in-Some-Some.ensures.cases.0 in
+    let q = c.in-Some-Some.ensures'.cases.0 in
+    let ours = ap (is_sorted id_cmp) (sym p) ∙ c.loop-our.invariant.ours in
+    let theirs = ap (is_sorted id_cmp) (sym q) ∙ c.loop-our.invariant.theirs in
+    record {
+      same = both_agree g.X.MapValue.same c.in-Some-Some.our.now c.in-Some-Some.rest.now c.in-Some-Some.their.now c.in-Some-Some.others.now ours theirs (sym c.cmp.ensures ∙ c.in-Equal.is) (sym c.is_same.ensures ∙ c.if-not-is_same.false)
+          ∙ (λ i. dispute_of g.X.MapValue.same (sym p i) (sym q i)) ∙ c.loop-our.invariant.same;
+      ours = (and_parts _ _ ours).1;
+      theirs = (and_parts _ _ theirs).1;
+    }
 
-pub loop-i-preserved-in-Equal : goal.loop-i-preserved-in-Equal
-loop-i-preserved-in-Equal g c = record {
-  same = step_equal g.X.Value.same c.args.ours.now c.args.theirs.now c.loop-i.i c.loop-i.j c.index-ours-i.result c.index-theirs-j.result c.loop-i-test.true c.if-j-theirs.true c.requires.ours c.requires.theirs
-      c.index-ours-i-in-Equal.result c.index-theirs-j-in-Equal.result c.is_same.result c.is_same.ensures (sym c.cmp.ensures ∙ c.in-Equal.is) c.if-not-is_same.false
-      ∙ c.loop-i.invariant.same;
-  ours = omega arith;
-  theirs = omega arith;
-}
-
-pub loop-i-preserved : goal.loop-i-preserved
-loop-i-preserved g c = record {
-  same = step_greater g.X.Value.same c.args.ours.now c.args.theirs.now c.loop-i.i c.loop-i.j c.index-ours-i.result c.index-theirs-j.result c.loop-i-test.true c.if-j-theirs.true c.requires.ours c.requires.theirs (sym c.cmp.ensures ∙ c.in-Greater.is) ∙ c.loop-i.invariant.same;
-  ours = omega arith;
-  theirs = omega arith;
-}
+pub loop-our-preserved : goal.loop-our-preserved
+loop-our-preserved g c =
+    let p = c.in-Some-Some.ensures.cases.0 in
+    let q = c.in-Some-Some.ensures'.cases.0 in
+    let ours = ap (is_sorted id_cmp) (sym p) ∙ c.loop-our.invariant.ours in
+    let theirs = ap (is_sorted id_cmp) (sym q) ∙ c.loop-our.invariant.theirs in
+    record {
+      same = ap (λ l. dispute_of g.X.MapValue.same l c.in-Some-Some.others.now) p
+          ∙ theirs_first g.X.MapValue.same c.in-Some-Some.our.now c.in-Some-Some.rest.now c.in-Some-Some.their.now c.in-Some-Some.others.now ours theirs (sym c.cmp.ensures ∙ c.in-Greater.is)
+          ∙ (λ i. dispute_of g.X.MapValue.same (sym p i) (sym q i)) ∙ c.loop-our.invariant.same;
+      ours = c.loop-our.invariant.ours;
+      theirs = (and_parts _ _ theirs).1;
+    }
 
 -- one of the lists is at its end
 pub returns : goal.returns
 returns g c =
-    elim c.loop-i-test.branch [
-      | then-loop-i-test+else-j-theirs w ↦ sym (no_more g.X.Value.same (drop c.loop-i.i c.args.ours.now)) ∙ ap (dispute_of g.X.Value.same (drop c.loop-i.i c.args.ours.now)) (sym (drop_of_length-le c.args.theirs.now w.if-j-theirs.false)) ∙ c.loop-i.invariant.same
-      | else-loop-i-test w ↦ ap (λ l. dispute_of g.X.Value.same l (drop c.loop-i.j c.args.theirs.now)) (sym (drop_of_length-le c.args.ours.now w.loop-i-test.false)) ∙ c.loop-i.invariant.same
-    ]
+    ended g.X.MapValue.same c.loop-our.left.now c.loop-our.right.now (elim c.match-split_first.branch [ in_default w ↦ inr w.in_default.ensures'.cases | in_default-2 w ↦ inl w.in_default.ensures.cases ])
+    ∙ c.loop-our.invariant.same

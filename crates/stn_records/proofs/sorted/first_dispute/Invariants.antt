@@ -1,13 +1,15 @@
-use Rattle.std.proofs.Common.{◌≡◌, ◌≤◌, ◌+◌, ◌-◌, length, drop}
-use Rattle.stn_records.proofs.Disputes.{dispute_of}
+use Rattle.std.proofs.Common.{◌≡◌, true, ◌+◌, length}
+use Rattle.std.specs.FinMap.{is_sorted}
+use Rattle.stn_records.specs.Id.{id_cmp}
+use Rattle.stn_records.specs.Sorted.{dispute_of}
 use Rattle.stn_records.proofs.sorted.first_dispute.Given as goal
 
-abbrev pub invariant-loop-i : goal.invariant-loop-i
-invariant-loop-i g l = record {
-  same : dispute_of g.X.Value.same (drop l.i l.ours) (drop l.j l.theirs) ≡ dispute_of g.X.Value.same l.ours l.theirs;
-  ours : l.i ≤ length l.ours;
-  theirs : l.j ≤ length l.theirs;
+abbrev pub invariant-loop-our : goal.invariant-loop-our
+invariant-loop-our g l = record {
+  same : dispute_of g.X.MapValue.same l.left l.right ≡ dispute_of g.X.MapValue.same l.fn.ours l.fn.theirs;
+  ours : is_sorted id_cmp l.left ≡ true;
+  theirs : is_sorted id_cmp l.right ≡ true;
 }
 
-abbrev pub decreases-loop-i : goal.decreases-loop-i
-decreases-loop-i g l = (length l.ours + length l.theirs) - (l.i + l.j)
+abbrev pub decreases-loop-our : goal.decreases-loop-our
+decreases-loop-our g l = length l.left + length l.right

@@ -1,41 +1,42 @@
-use Rattle.std.proofs.Common.{refl, sym, ◌∙◌, inl, inr, true, false, arith}
-use Rattle.stn_records.specs.Sorted.{is_there}
-use Rattle.stn_records.proofs.Holding.{step_less, both_read, stop_greater, ended, answered}
+use Rattle.std.proofs.Common.{◌&&◌, sym, ap, ◌∙◌}
+use Rattle.std.proofs.lemmas.Bool.{and_parts}
+use Rattle.std.specs.FinMap.{is_sorted}
+use Rattle.stn_records.specs.Id.{id_cmp}
+use Rattle.stn_records.specs.Sorted.{has_entries}
+use Rattle.stn_records.proofs.Holding.{ours_first, both_first, theirs_first}
 use Rattle.stn_records.proofs.sorted.has_entries.Goals as goal
-use Rattle.stn_records.proofs.sorted.has_entries.Goals.{then-loop-i-test+else-j-theirs, else-loop-i-test}
-
-pub loop-i-preserved-in-Less : goal.loop-i-preserved-in-Less
-loop-i-preserved-in-Less g c = record {
-  same = step_less (is_there g.X.Value.same) (λ _. refl) c.args.ours.now c.args.theirs.now c.loop-i.i c.loop-i.j c.index-ours-i.result c.index-theirs-j.result c.loop-i-test.true c.if-j-theirs.true c.requires.ours c.requires.theirs (sym c.cmp.ensures ∙ c.in-Less.is) ∙ c.loop-i.invariant.same;
-  ours = omega arith;
-  theirs = omega arith;
-}
-
-pub returns-then-not-is_same : goal.returns-then-not-is_same
-returns-then-not-is_same g c =
-    both_read (is_there g.X.Value.same) (λ _. refl) c.args.ours.now c.args.theirs.now c.loop-i.i c.loop-i.j c.index-ours-i.result c.index-theirs-j.result c.loop-i-test.true c.if-j-theirs.true c.requires.ours c.requires.theirs false
-    (answered g.X.Value.same c.args.ours.now c.args.theirs.now c.loop-i.i c.loop-i.j c.index-ours-i.result c.index-theirs-j.result c.index-ours-i-in-Equal.result c.index-theirs-j-in-Equal.result c.loop-i-test.true c.if-j-theirs.true c.is_same.result c.is_same.ensures ∙ c.if-not-is_same.true)
-    (sym c.cmp.ensures ∙ c.in-Equal.is)
-    ∙ c.loop-i.invariant.same
-
-pub loop-i-preserved : goal.loop-i-preserved
-loop-i-preserved g c = record {
-  same = both_read (is_there g.X.Value.same) (λ _. refl) c.args.ours.now c.args.theirs.now c.loop-i.i c.loop-i.j c.index-ours-i.result c.index-theirs-j.result c.loop-i-test.true c.if-j-theirs.true c.requires.ours c.requires.theirs true
-      (answered g.X.Value.same c.args.ours.now c.args.theirs.now c.loop-i.i c.loop-i.j c.index-ours-i.result c.index-theirs-j.result c.index-ours-i-in-Equal.result c.index-theirs-j-in-Equal.result c.loop-i-test.true c.if-j-theirs.true c.is_same.result c.is_same.ensures ∙ c.if-not-is_same.false)
-      (sym c.cmp.ensures ∙ c.in-Equal.is)
-      ∙ c.loop-i.invariant.same;
-  ours = omega arith;
-  theirs = omega arith;
-}
 
 pub returns-in-Greater : goal.returns-in-Greater
 returns-in-Greater g c =
-    stop_greater (is_there g.X.Value.same) (λ _. refl) c.args.ours.now c.args.theirs.now c.loop-i.i c.loop-i.j c.index-ours-i.result c.index-theirs-j.result c.loop-i-test.true c.if-j-theirs.true c.requires.ours c.requires.theirs (sym c.cmp.ensures ∙ c.in-Greater.is) ∙ c.loop-i.invariant.same
+    let p = c.in-Some-Some.ensures.cases.0 in
+    let q = c.in-Some-Some.ensures'.cases.0 in
+    sym (theirs_first g.X.MapValue.same c.in-Some-Some.our.now c.in-Some-Some.their.now c.in-Some-Some.rest.now c.in-Some-Some.others.now (ap (is_sorted id_cmp) (sym p) ∙ c.loop-our.invariant.ours) (sym c.cmp.ensures ∙ c.in-Greater.is))
+    ∙ (λ i. has_entries g.X.MapValue.same (sym p i) (sym q i)) ∙ c.loop-our.invariant.same
 
--- one of the lists is at its end
-pub returns : goal.returns
-returns g c =
-    elim c.loop-i-test.branch [
-      | then-loop-i-test+else-j-theirs w ↦ ended (is_there g.X.Value.same) (λ _. refl) c.args.ours.now c.args.theirs.now c.loop-i.i c.loop-i.j c.loop-i.invariant.theirs (inr w.if-j-theirs.false) ∙ c.loop-i.invariant.same
-      | else-loop-i-test w ↦ ended (is_there g.X.Value.same) (λ _. refl) c.args.ours.now c.args.theirs.now c.loop-i.i c.loop-i.j c.loop-i.invariant.theirs (inl w.loop-i-test.false) ∙ c.loop-i.invariant.same
-    ]
+pub loop-our-preserved-in-Less : goal.loop-our-preserved-in-Less
+loop-our-preserved-in-Less g c =
+    let p = c.in-Some-Some.ensures.cases.0 in
+    let q = c.in-Some-Some.ensures'.cases.0 in
+    let ours = ap (is_sorted id_cmp) (sym p) ∙ c.loop-our.invariant.ours in
+    record {
+      same = ap (has_entries g.X.MapValue.same c.in-Some-Some.rest.now) q
+          ∙ ours_first g.X.MapValue.same c.in-Some-Some.our.now c.in-Some-Some.their.now c.in-Some-Some.rest.now c.in-Some-Some.others.now (ap (is_sorted id_cmp) (sym q) ∙ c.loop-our.invariant.theirs) (sym c.cmp.ensures ∙ c.in-Less.is)
+          ∙ (λ i. has_entries g.X.MapValue.same (sym p i) (sym q i)) ∙ c.loop-our.invariant.same;
+      ours = (and_parts _ _ ours).1;
+      theirs = c.loop-our.invariant.theirs;
+    }
+
+pub loop-our-preserved : goal.loop-our-preserved
+loop-our-preserved g c =
+    let p = c.in-Some-Some.ensures.cases.0 in
+    let q = c.in-Some-Some.ensures'.cases.0 in
+    let ours = ap (is_sorted id_cmp) (sym p) ∙ c.loop-our.invariant.ours in
+    let theirs = ap (is_sorted id_cmp) (sym q) ∙ c.loop-our.invariant.theirs in
+    let told = sym c.is_same.ensures ∙ c.if-not-is_same.false in
+    record {
+      same = (λ i. sym told i && has_entries g.X.MapValue.same c.in-Some-Some.rest.now c.in-Some-Some.others.now)
+          ∙ sym (both_first g.X.MapValue.same c.in-Some-Some.our.now c.in-Some-Some.their.now c.in-Some-Some.rest.now c.in-Some-Some.others.now theirs (sym c.cmp.ensures ∙ c.in-Equal.is))
+          ∙ (λ i. has_entries g.X.MapValue.same (sym p i) (sym q i)) ∙ c.loop-our.invariant.same;
+      ours = (and_parts _ _ ours).1;
+      theirs = (and_parts _ _ theirs).1;
+    }

@@ -1,13 +1,15 @@
-use Rattle.std.proofs.Common.{◌≡◌, ◌≤◌, ◌+◌, ◌-◌, length, drop}
+use Rattle.std.proofs.Common.{◌≡◌, true, ◌+◌, length}
+use Rattle.std.specs.FinMap.{is_sorted}
+use Rattle.stn_records.specs.Id.{id_cmp}
 use Rattle.stn_records.specs.Sorted.{has_entries}
 use Rattle.stn_records.proofs.sorted.has_entries.Given as goal
 
-abbrev pub invariant-loop-i : goal.invariant-loop-i
-invariant-loop-i g l = record {
-  same : has_entries g.X.Value.same (drop l.i l.ours) (drop l.j l.theirs) ≡ has_entries g.X.Value.same l.ours l.theirs;
-  ours : l.i ≤ length l.ours;
-  theirs : l.j ≤ length l.theirs;
+abbrev pub invariant-loop-our : goal.invariant-loop-our
+invariant-loop-our g l = record {
+  same : has_entries g.X.MapValue.same l.left l.right ≡ has_entries g.X.MapValue.same l.fn.ours l.fn.theirs;
+  ours : is_sorted id_cmp l.left ≡ true;
+  theirs : is_sorted id_cmp l.right ≡ true;
 }
 
-abbrev pub decreases-loop-i : goal.decreases-loop-i
-decreases-loop-i g l = (length l.ours + length l.theirs) - (l.i + l.j)
+abbrev pub decreases-loop-our : goal.decreases-loop-our
+decreases-loop-our g l = length l.left + length l.right

@@ -1,10 +1,11 @@
-use Rattle.std.proofs.Common.{sym, ap, ◌∙◌}
+use Rattle.std.proofs.Common.{sym, ap, subst, ◌∙◌}
 use Rattle.std.specs.FinMap.{is_sorted}
 use Rattle.stn_records.specs.Id.{id_cmp}
+use Rattle.stn_records.specs.Maps.{AllFit}
 use Rattle.stn_records.proofs.Places.{entries_of_sorted}
 use Rattle.stn_records.proofs.id_map.IdMap.entries.Goals as goal
 
 pub returns : goal.returns
 returns g c =
-    let is = entries_of_sorted c.self.inside.entries.items c.args.self.now c.self.invariant c.self.view_is in
-    record { value = c.deref.ensures.value ∙ sym is; sorted = ap (is_sorted id_cmp) is ∙ c.self.invariant }
+    let is = entries_of_sorted c.self.inside.entries.items c.args.self.now c.self.invariant.0 c.self.view_is in
+    record { value = c.deref.ensures.value ∙ sym is; sorted = ap (is_sorted id_cmp) is ∙ c.self.invariant.0; fit = subst (AllFit g.X.MapValue.Fits) c.self.view_is c.self.invariant.1 }

@@ -1,10 +1,18 @@
+use Rattle.std.proofs.Common.{ap, ◌∙◌, filter}
+use Rattle.std.specs.FinMap as fin
 use Rattle.std.specs.Set.{is_member}
+use Rattle.stn_records.specs.Id.{SiteCounter}
 use Rattle.stn_records.specs.Content.{same_ids}
-use Rattle.stn_records.proofs.Places.{part_sorted, part_is}
+use Rattle.stn_records.proofs.Places.{made, made_is, wanted_entries}
+use Rattle.stn_records.proofs.Proper.{retain_fits}
 use Rattle.stn_records.proofs.id_map.IdMap.part.Goals as goal
 
 pub invariant_of-result : goal.invariant_of-result
-invariant_of-result g c = part_sorted (λ id. is_member same_ids c.args.wanted.now id) c.deref.result.now c.self.inside.entries.items c.in_ok-kept.field-0.items c.deref.ensures.value c.self.invariant c.in_ok-kept.ensures
+invariant_of-result g c =
+    let p = λ (id : SiteCounter). is_member same_ids c.args.wanted.now id in
+    made g.X.MapValue.Fits c.in_ok-kept.field-0.items (fin.retain_keys c.args.self.now p) (c.in_ok-kept.ensures ∙ ap (filter (λ e. p e.0)) c.entries.ensures.value ∙ wanted_entries p c.args.self.now) (retain_fits g.X.MapValue.Fits c.args.self.now p c.entries.ensures.fit)
 
 pub returns : goal.returns
-returns g c = part_is (λ id. is_member same_ids c.args.wanted.now id) c.deref.result.now c.self.inside.entries.items c.in_ok-kept.field-0.items c.args.self.now c.deref.ensures.value c.self.invariant c.self.view_is c.in_ok-kept.ensures
+returns g c =
+    let p = λ (id : SiteCounter). is_member same_ids c.args.wanted.now id in
+    made_is c.in_ok-kept.field-0.items (fin.retain_keys c.args.self.now p) (c.in_ok-kept.ensures ∙ ap (filter (λ e. p e.0)) c.entries.ensures.value ∙ wanted_entries p c.args.self.now)

@@ -1,8 +1,16 @@
-use Rattle.stn_records.proofs.Places.{united_sorted, united_is}
+use Rattle.std.proofs.Common.{◌∙◌}
+use Rattle.stn_records.specs.Id.{id_cmp}
+use Rattle.stn_records.specs.Maps.{union}
+use Rattle.stn_records.specs.Sorted.{merge}
+use Rattle.stn_records.proofs.Places.{made, made_is, merge_entries}
+use Rattle.stn_records.proofs.Proper.{union_fits}
 use Rattle.stn_records.proofs.id_map.IdMap.union.Goals as goal
 
 pub invariant_of-result : goal.invariant_of-result
-invariant_of-result g c = united_sorted c.deref.result.now c.deref-2.result.now c.self.inside.entries.items c.other.inside.entries.items c.in_ok-merged.field-0.items c.deref.ensures.value c.deref-2.ensures.value c.self.invariant c.other.invariant c.in_ok-merged.ensures
+invariant_of-result g c = made g.X.MapValue.Fits c.in_ok-merged.field-0.items (union c.args.self.now c.args.other.now)
+    (c.in_ok-merged.ensures ∙ (λ i. merge id_cmp (c.entries.ensures.value i) (c.entries-2.ensures.value i)) ∙ merge_entries c.args.self.now c.args.other.now)
+    (union_fits g.X.MapValue.Fits c.args.self.now c.args.other.now c.entries.ensures.fit c.entries-2.ensures.fit)
 
 pub returns : goal.returns
-returns g c = united_is c.deref.result.now c.deref-2.result.now c.self.inside.entries.items c.other.inside.entries.items c.in_ok-merged.field-0.items c.args.self.now c.args.other.now c.deref.ensures.value c.deref-2.ensures.value c.self.invariant c.other.invariant c.self.view_is c.other.view_is c.in_ok-merged.ensures
+returns g c = made_is c.in_ok-merged.field-0.items (union c.args.self.now c.args.other.now)
+    (c.in_ok-merged.ensures ∙ (λ i. merge id_cmp (c.entries.ensures.value i) (c.entries-2.ensures.value i)) ∙ merge_entries c.args.self.now c.args.other.now)

@@ -2,7 +2,7 @@ use Rattle.std.proofs.Common.{◌≡◌, Some, None, is_some, sym, ap, subst, �
 use Rattle.std.proofs.lemmas.Bool.{false≢true}
 use Rattle.std.specs.FinMap as fin
 use Rattle.stn_records.specs.declared.record.Record.{Record}
-use Rattle.stn_records.specs.Content.{Content, IsSound, is_replaced, join_contents, one_record, with_record}
+use Rattle.stn_records.specs.Content.{Content, IsSound, join_contents, one_record, with_record}
 use Rattle.stn_records.specs.ContentLaws.{records_decide}
 use Rattle.stn_records.proofs.OneItem.{record_again, record_joins}
 use Rattle.stn_records.proofs.Outcomes.{record_sound, known_by_replaced, no_room_needed, room_left}
@@ -19,9 +19,9 @@ invariant_of-self-in-None g c =
     let added = c.in_ok-add-in-None.ensures.added ∙ ap (λ (s : Content). with_record s c.args.id r) c.self.view_is in
     let sound = subst IsSound c.self.view_is c.self.invariant in
     subst IsSound (sym added) (record_sound c.args.self.now c.args.id r sound c.requires (λ z e. absurd (false≢true (ap is_some (sym (none g c) ∙ e)))) (elim c.else-not-is_replaced.branch [
-      | else-not-is_replaced-via-then-not-is_replaced+else-is_full w ↦ λ unknown. room_left c.args.self.now w.is_full.result w.is_full.ensures sound.limited w.if-is_full.false
+      | else-not-is_replaced-via-then-not-is_replaced+else-is_full w ↦ λ unknown. room_left c.args.self.now w.is_full.result w.is_full.ensures.full sound.limited w.if-is_full.false
       | else-not-is_replaced-via-else-not-is_replaced w ↦ no_room_needed c.args.self.now c.args.id (known_by_replaced c.args.self.now c.args.id
-          (ap (λ (s : Content). is_replaced s c.args.id) (sym c.self.view_is) ∙ sym c.is_replaced.ensures ∙ w.if-not-is_replaced.false))
+          (sym c.is_replaced.ensures ∙ w.if-not-is_replaced.false))
     ]))
 
 pub returns-after-is_same-clause-added : goal.returns-after-is_same-clause-added

@@ -1,7 +1,6 @@
-use Rattle.std.proofs.Common.{◌≡◌, true, ◌+◌, ◌<◌, ◌≤◌, ℕ, ltb, length, ap, ◌∙◌, arith}
+use Rattle.std.proofs.Common.{◌≡◌, true, ◌+◌, ◌<◌, ◌≤◌, ℕ, ltb, length, ap, arith}
 use Rattle.std.proofs.lemmas.Bool.Decides.{nat_tests}
-use Rattle.std.specs.FinMap as fin
-use Rattle.stn_records.specs.Content.{Content, known_in_either, replaced_set}
+use Rattle.stn_records.specs.Content.{known_in_either}
 use Rattle.stn_records.proofs.Limits.{known_together}
 use Rattle.stn_records.proofs.records.Records.is_too_much_with.Goals as goal
 
@@ -11,12 +10,8 @@ more a b e = grind (arith, nat_tests)
 -- all four lists together are too short
 pub returns-else-ours-theirs-gt-MOST_KNOWN : goal.returns-else-ours-theirs-gt-MOST_KNOWN
 returns-else-ours-theirs-gt-MOST_KNOWN g c =
-    let a = ap length (c.entries.ensures.value ∙ ap fin.entries c.additions.ensures ∙ ap (λ (s : Content). fin.entries s.additions) c.self.view_is) in
-    let b = ap length (c.replaced.ensures.value ∙ ap (λ (s : Content). fin.entries (replaced_set s)) c.self.view_is) in
-    let d = ap length (c.entries-2.ensures.value ∙ ap fin.entries c.additions-2.ensures ∙ ap (λ (s : Content). fin.entries s.additions) c.other.view_is) in
-    let e = ap length (c.replaced-2.ensures.value ∙ ap (λ (s : Content). fin.entries (replaced_set s)) c.other.view_is) in
     let short = c.if-ours-theirs-gt-MOST_KNOWN.false in
-    let few : known_in_either c.args.self.now c.args.other.now ≤ 4096 = omega (arith, known_together c.args.self.now c.args.other.now, a, b, d, e, short) in (
-      λ long. let many = more 4096 (length c.entries.result.now + length c.replaced.result.now + (length c.entries-2.result.now + length c.replaced-2.result.now)) long in absurd (omega (arith, many, short)),
+    let few : known_in_either c.args.self.now c.args.other.now ≤ 4096 = omega (arith, known_together c.args.self.now c.args.other.now, ap length c.added.ensures.value, ap length c.replaced.ensures.value, ap length c.added-2.ensures.value, ap length c.replaced-2.ensures.value, short) in (
+      λ long. let many = more 4096 (length c.added.result.now + length c.replaced.result.now + (length c.added-2.result.now + length c.replaced-2.result.now)) long in absurd (omega (arith, many, short)),
       λ many. absurd (omega (arith, many, few)),
     )

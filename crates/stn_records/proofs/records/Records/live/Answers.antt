@@ -1,5 +1,5 @@
 use Rattle.std.proofs.Common.{◌≡◌, ◌<◌, ◌+◌, ℕ, Bool, true, false, not, cond, List, [], ◌∷◌, ◌++◌, Vec, length, get_or, drop, filter, map, append_assoc, sym, ap, ◌∙◌}
-use Rattle.stn_records.specs.Content.{Content, is_replaced, listed}
+use Rattle.stn_records.specs.Content.{is_replaced, listed}
 use Rattle.stn_records.specs.Id.{SiteCounter}
 use Rattle.stn_records.specs.declared.record.Record.{Record}
 use Rattle.stn_records.proofs.Entries.{front}
@@ -15,11 +15,11 @@ next_left f h all whole es k d within at wanted told is =
 
 pub loop-id-preserved : goal.loop-id-preserved
 loop-id-preserved g c =
-    let items = c.entries-id-items.result.now in
+    let items = c.added-id-items.result.now in
     let f : SiteCounter × Record → Bool = λ entry. not (is_replaced c.args.self.now entry.0) in
     let rest = map listed (filter f (drop (c.loop-id.id-index + 1) items)) in
     let one = c.loop-id-item.result in
-    let told : is_replaced c.args.self.now one.0 ≡ c.is_replaced.result = ap (λ (s : Content). is_replaced s one.0) (sym c.self.view_is) ∙ sym c.is_replaced.ensures in
+    let told : is_replaced c.args.self.now one.0 ≡ c.is_replaced.result = sym c.is_replaced.ensures in
     elim c.if-not-is_replaced.branch [
       | then-not-is_replaced+in_ok-push w ↦
           ap (λ l. l ++ rest) (ap (λ (v : Vec _ _). v.items) w.all-is ∙ w.in_ok-push.ensures.items) ∙ append_assoc c.loop-id.all.items (listed one ∷ []) rest

@@ -4,5 +4,5 @@ use Rattle.stn_records.proofs.records.Records.record_at.Goals as goal
 
 pub returns-clause-proper : goal.returns-clause-proper
 returns-clause-proper g c =
-    c.entries.ensures.proper c.in_ok-id.field-0.now.0 c.in_ok-id.field-0.now.1
-    (entry_at c.additions.result.now c.entries.result.now c.args.place c.in_ok-id.field-0.now c.entries.ensures.value (ltb-true _ _ (sym c.in_ok-id.ensures.lookup.0)) c.in_ok-id.ensures.lookup.1)
+    c.added.ensures.proper c.in_ok-id.field-0.now.0 c.in_ok-id.field-0.now.1
+    (entry_at c.args.self.now.additions c.added.result.now c.args.place c.in_ok-id.field-0.now c.added.ensures.value (ltb-true _ _ (sym c.in_ok-id.ensures.lookup.0)) c.in_ok-id.ensures.lookup.1)

@@ -2,6 +2,7 @@ use Rattle.std.proofs.Common.{◌≡◌, Some, is_some, Err, refl, sym, ap, subs
 use Rattle.std.proofs.lemmas.Bool.{false≢true}
 use Rattle.std.proofs.lemmas.Result.{err_from_is_err_and}
 use Rattle.stn_records.specs.Content.{IsSound}
+use Rattle.stn_records.specs.Refusals.{replace_refusal}
 use Rattle.stn_records.specs.declared.faults.ReplaceFault.TheVariants.{Memory}
 use Rattle.stn_records.proofs.OneItem.{amendment_again, amendment_joins}
 use Rattle.stn_records.proofs.Amending.{replace_again, replace_unrefused, no_clash}
@@ -9,7 +10,7 @@ use Rattle.stn_records.proofs.records.Records.replace.Goals as goal
 
 pub returns-in-Some : goal.returns-in-Some
 returns-in-Some g c =
-    let seen = sym c.replace_refusal.ensures ∙ c.in-Some.is in
+    let seen = ap (λ s. replace_refusal s c.args.id c.args.old c.args.bound) (sym c.self.view_is) ∙ sym c.replace_refusal.ensures ∙ c.in-Some.is in
     record {
       amended = tt;
       joined = tt;
@@ -22,14 +23,14 @@ returns-in-Some g c =
     }
 
 pub put_amendment-requires-clause-agrees : goal.put_amendment-requires-clause-agrees
-put_amendment-requires-clause-agrees g c = (replace_unrefused c.args.self.now c.args.id c.args.old c.args.bound (sym c.replace_refusal.ensures ∙ c.in_default.is)).0
+put_amendment-requires-clause-agrees g c = (replace_unrefused c.args.self.now c.args.id c.args.old c.args.bound (ap (λ s. replace_refusal s c.args.id c.args.old c.args.bound) (sym c.self.view_is) ∙ sym c.replace_refusal.ensures ∙ c.in_default.is)).0
 
 pub put_amendment-requires-clause-room : goal.put_amendment-requires-clause-room
-put_amendment-requires-clause-room g c = (replace_unrefused c.args.self.now c.args.id c.args.old c.args.bound (sym c.replace_refusal.ensures ∙ c.in_default.is)).1
+put_amendment-requires-clause-room g c = (replace_unrefused c.args.self.now c.args.id c.args.old c.args.bound (ap (λ s. replace_refusal s c.args.id c.args.old c.args.bound) (sym c.self.view_is) ∙ sym c.replace_refusal.ensures ∙ c.in_default.is)).1
 
 pub returns-in_err-put_amendment : goal.returns-in_err-put_amendment
 returns-in_err-put_amendment g c =
-    let none = sym c.replace_refusal.ensures ∙ c.in_default.is in
+    let none = ap (λ s. replace_refusal s c.args.id c.args.old c.args.bound) (sym c.self.view_is) ∙ sym c.replace_refusal.ensures ∙ c.in_default.is in
     let returned = err_from_is_err_and c.from_residual.result c.from_residual.ensures.1 in
     record {
       amended = rw returned.1 tt;
@@ -44,7 +45,7 @@ returns-in_err-put_amendment g c =
 
 pub returns : goal.returns
 returns g c =
-    let none = sym c.replace_refusal.ensures ∙ c.in_default.is in
+    let none = ap (λ s. replace_refusal s c.args.id c.args.old c.args.bound) (sym c.self.view_is) ∙ sym c.replace_refusal.ensures ∙ c.in_default.is in
     let amended = c.in_ok-put_amendment.ensures.amended in
     let agrees = (replace_unrefused c.args.self.now c.args.id c.args.old c.args.bound none).0 in
     let both = no_clash c.args.self.now c.args.id c.args.old c.args.bound agrees in

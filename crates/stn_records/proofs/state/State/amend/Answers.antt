@@ -1,7 +1,8 @@
-use Rattle.std.proofs.Common.{◌≡◌, refl, ap, ◌∙◌}
+use Rattle.std.proofs.Common.{refl, ap, ◌∙◌}
 use Rattle.std.proofs.lemmas.Result.{err_from_is_err_and}
 use Rattle.std.specs.FinMap as fin
 use Rattle.stn_records.specs.Content.{Content, with_amendment}
+use Rattle.stn_records.proofs.Lists.{same_content}
 use Rattle.stn_records.proofs.Replaced.{kept_by_amendment}
 use Rattle.stn_records.proofs.state.State.amend.Goals as goal
 
@@ -13,13 +14,10 @@ pub returns-in_err-replaced : goal.returns-in_err-replaced
 returns-in_err-replaced g c =
     let returned = err_from_is_err_and c.from_residual-in_err-replaced.result c.from_residual-in_err-replaced.ensures.1 in record { amended = rw returned.1 tt; kept = rw returned.1 refl }
 
-pub returns-in_err-put : goal.returns-in_err-put
-returns-in_err-put g c =
-    let returned = err_from_is_err_and c.from_residual-in_err-put.result c.from_residual-in_err-put.ensures.1 in
-    let before : Content = record { additions = c.self.inside.additions; tombstones = c.self.inside.tombstones; replacements = c.self.inside.replacements } in
-    let now : Content = record { additions = c.put.new.self; tombstones = c.self.inside.tombstones; replacements = c.self.inside.replacements } in
-    let same : now ≡ before = λ i. record { additions = c.in_err-put.ensures.kept i; tombstones = c.self.inside.tombstones; replacements = c.self.inside.replacements } in
-    record { amended = rw returned.1 tt; kept = rw returned.1 (same ∙ c.self.view_is) }
+pub returns-in_err-insert : goal.returns-in_err-insert
+returns-in_err-insert g c =
+    let returned = err_from_is_err_and c.from_residual-in_err-insert.result c.from_residual-in_err-insert.ensures.1 in
+    record { amended = rw returned.1 tt; kept = rw returned.1 (same_content _ _ c.in_err-insert.ensures.kept refl refl ∙ c.self.view_is) }
 
 pub invariant_of-self-2 : goal.invariant_of-self-2
 invariant_of-self-2 g c =
@@ -27,8 +25,7 @@ invariant_of-self-2 g c =
     (ap (λ (s : Content). fin.get s.replacements c.args.id) c.self.view_is ∙ c.requires.new) c.in_ok-replacements.ensures c.in_ok-replaced.ensures
 
 pub returns : goal.returns
-returns g c =
-    let before : Content = record { additions = c.self.inside.additions; tombstones = c.self.inside.tombstones; replacements = c.self.inside.replacements } in
-    let now : Content = record { additions = c.put.new.self; tombstones = c.self.inside.tombstones; replacements = c.in_ok-replacements.replacements } in
-    let made : now ≡ with_amendment before c.args.id c.args.old c.args.bound = λ i. record { additions = c.in_ok-put.ensures.inserted i; tombstones = c.self.inside.tombstones; replacements = c.in_ok-replacements.ensures i } in
-    record { amended = made ∙ ap (λ (s : Content). with_amendment s c.args.id c.args.old c.args.bound) c.self.view_is; kept = tt }
+returns g c = record {
+  amended = same_content _ _ c.in_ok-insert.ensures.inserted refl c.in_ok-replacements.ensures ∙ ap (λ (s : Content). with_amendment s c.args.id c.args.old c.args.bound) c.self.view_is;
+  kept = tt;
+}

@@ -1,33 +1,17 @@
-use Rattle.std.proofs.Common.{◌≡◌, ap, sym, ◌∙◌}
+use Rattle.std.proofs.Common.{sym, ◌∙◌}
 use Rattle.std.proofs.lemmas.Bool.{false≢true}
-use Rattle.std.specs.FinMap as fin
-use Rattle.stn_records.specs.Id.{same_ids}
-use Rattle.stn_records.specs.Record.{same_records}
-use Rattle.stn_records.specs.Sorted.{has_keys, has_entries}
-use Rattle.stn_records.specs.Content.{Content}
-use Rattle.stn_records.proofs.Holding.{last_told, ids_missed, records_missed}
+use Rattle.stn_records.proofs.Holding.{last_told, missed}
 use Rattle.stn_records.proofs.state.State.holds.Goals as goal
-use Rattle.stn_records.proofs.state.State.holds.Goals.{then-has_ids, else-has_ids}
+use Rattle.stn_records.proofs.state.State.holds.Goals.{then-holds, else-holds}
 
-pub returns-then-has_entries : goal.returns-then-has_entries
-returns-then-has_entries g c =
-    let ids : c.has_ids.result ≡ has_keys (fin.entries c.args.self.now.tombstones) (fin.entries c.args.other.now.tombstones) =
-    c.has_ids.ensures ∙ (λ i. has_keys ((c.entries.ensures.value ∙ ap (λ (s : Content). fin.entries s.tombstones) c.self.view_is) i) ((c.entries-2.ensures.value ∙ ap (λ (s : Content). fin.entries s.tombstones) c.other.view_is) i)) in
-    let olds : c.has_entries-then-has_entries.result ≡ has_entries same_ids (fin.entries c.args.self.now.replacements) (fin.entries c.args.other.now.replacements) =
-    c.has_entries-then-has_entries.ensures ∙ (λ i. has_entries same_ids ((c.entries-then-has_entries.ensures.value ∙ ap (λ (s : Content). fin.entries s.replacements) c.self.view_is) i) ((c.entries-then-has_entries-2.ensures.value ∙ ap (λ (s : Content). fin.entries s.replacements) c.other.view_is) i)) in
-    elim c.if-has_ids.branch [
-      | then-has_ids w ↦ last_told c.args.self.now c.args.other.now c.has_ids.result w.has_entries.result c.has_entries-then-has_entries.result ids
-          (w.has_entries.ensures ∙ (λ i. has_entries same_records ((w.entries-then-has_ids.ensures.value ∙ ap (λ (s : Content). fin.entries s.additions) c.self.view_is) i) ((w.entries-then-has_ids-2.ensures.value ∙ ap (λ (s : Content). fin.entries s.additions) c.other.view_is) i)))
-          olds w.if-has_ids.true (sym w.value-is ∙ c.if-has_entries.true)
-      | else-has_ids w ↦ absurd (false≢true (sym w.if-has_ids.false ∙ sym w.value-is ∙ c.if-has_entries.true))
-    ]
+pub returns-then-holds-2 : goal.returns-then-holds-2
+returns-then-holds-2 g c = elim c.if-holds.branch [
+  | then-holds w ↦ last_told c.args.self.now c.args.other.now c.self.view_is c.other.view_is c.holds-then-holds-2.result (c.holds.ensures.0 w.if-holds.true) (w.holds-then-holds.ensures.0 (sym w.value-is ∙ c.if-holds-2.true)) c.holds-then-holds-2.ensures
+  | else-holds w ↦ absurd (false≢true (sym w.if-holds.false ∙ sym w.value-is ∙ c.if-holds-2.true))
+]
 
-pub returns-else-has_entries : goal.returns-else-has_entries
-returns-else-has_entries g c = elim c.if-has_ids.branch [
-  | then-has_ids w ↦ records_missed c.args.self.now c.args.other.now w.has_entries.result c.if-has_ids.value
-      (w.has_entries.ensures ∙ (λ i. has_entries same_records ((w.entries-then-has_ids.ensures.value ∙ ap (λ (s : Content). fin.entries s.additions) c.self.view_is) i) ((w.entries-then-has_ids-2.ensures.value ∙ ap (λ (s : Content). fin.entries s.additions) c.other.view_is) i)))
-      (sym w.value-is ∙ c.if-has_entries.false) c.if-has_entries.false
-  | else-has_ids w ↦ ids_missed c.args.self.now c.args.other.now c.has_ids.result c.if-has_ids.value
-      (c.has_ids.ensures ∙ (λ i. has_keys ((c.entries.ensures.value ∙ ap (λ (s : Content). fin.entries s.tombstones) c.self.view_is) i) ((c.entries-2.ensures.value ∙ ap (λ (s : Content). fin.entries s.tombstones) c.other.view_is) i)))
-      w.if-has_ids.false c.if-has_entries.false
+pub returns-else-holds-2 : goal.returns-else-holds-2
+returns-else-holds-2 g c = elim c.if-holds.branch [
+  | then-holds w ↦ missed c.args.self.now c.args.other.now c.self.view_is c.other.view_is c.if-holds.value c.if-holds-2.false (λ both. false≢true (sym (sym w.value-is ∙ c.if-holds-2.false) ∙ w.holds-then-holds.ensures.1 both.1))
+  | else-holds w ↦ missed c.args.self.now c.args.other.now c.self.view_is c.other.view_is c.if-holds.value c.if-holds-2.false (λ both. false≢true (sym w.if-holds.false ∙ c.holds.ensures.1 both.0))
 ]

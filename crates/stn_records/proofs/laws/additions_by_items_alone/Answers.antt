@@ -1,6 +1,0 @@
-use Rattle.stn_records.specs.JoinLaws.{by_items_alone}
-use Rattle.stn_records.specs.ContentLaws.{records_join}
-use Rattle.stn_records.proofs.laws.additions_by_items_alone.Goals as goal
-
-pub returns : goal.returns
-returns c = by_items_alone records_join

@@ -1,0 +1,13 @@
+use Rattle.std.proofs.Common.{inl, inr}
+use Rattle.stn_records.specs.Id.{id_cmp}
+use Rattle.stn_records.specs.Sorted.{merge}
+use Rattle.stn_records.proofs.Entries.{merge_ends}
+use Rattle.stn_records.proofs.sorted.merged.Goals as goal
+use Rattle.stn_records.proofs.sorted.merged.Goals.{in_default, in_default-2}
+
+-- one of the lists is at its end
+pub returns : goal.returns
+returns g c =
+    merge_ends id_cmp c.loop-our.all.items c.extend_from_slice.new.self.items c.extend_from_slice-2.new.self.items (merge id_cmp c.args.ours.now c.args.theirs.now) c.loop-our.left.now c.loop-our.right.now
+    (elim c.match-split_first.branch [ in_default w ↦ inr w.in_default.ensures'.cases | in_default-2 w ↦ inl w.in_default.ensures.cases ])
+    c.loop-our.invariant c.in_ok-extend_from_slice.ensures.items c.in_ok-extend_from_slice-2.ensures.items
