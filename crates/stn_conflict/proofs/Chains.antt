@@ -9,7 +9,7 @@ use Rattle.stn_matrix.proofs.Tightest.{tightest_unique}
 use Rattle.stn_conflict.specs.declared.links.Link.{Link}
 use Rattle.stn_conflict.specs.Arcs.{Arc, arc_of, IsChain, weight_of}
 use Rattle.stn_conflict.specs.Named.{IsTight, IsTightChain, IsFirstStep, IsWay}
-use Rattle.stn_conflict.proofs.Distances.{arc_before}
+use Rattle.stn_conflict.proofs.Tightness.{arc_before}
 
 -- one chain and a link that begins where it ends are a chain
 pub chain-push : (bounds : List Difference) (links : List Link) (link : Link) (x y : ℕ) → IsChain bounds links x y → link.place < length bounds → (arc_of bounds link).from ≡ y → IsChain bounds (links ++ link ∷ []) x (arc_of bounds link).to

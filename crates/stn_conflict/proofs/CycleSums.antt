@@ -1,10 +1,10 @@
 use Rattle.std.proofs.Common.{◌≡◌, ℕ, ◌<◌, ◌≤◌, List, [], ◌∷◌, ◌++◌, length, take, sym, subst, ap, refl, ◌∙◌, arith}
-use Rattle.std.specs.Prelude.{ℤ, pos, ◌+ℤ◌, ◌-ℤ◌, ◌≤ℤ◌, ◌<ℤ◌}
+use Rattle.std.specs.Prelude.{ℤ, pos, neg_ℤ, ◌*ℤ◌, ◌+ℤ◌, ◌-ℤ◌, ◌≤ℤ◌, ◌<ℤ◌}
 use Rattle.std.proofs.lemmas.Int.{ints}
 use Rattle.std.proofs.lemmas.List.{take_more}
 use Rattle.std.specs.List.{AllByRecursion}
 use Rattle.std.proofs.lemmas.List.Elements.{All-from_recursion}
-use Rattle.stn_time.specs.Time.{IsWithinHorizon}
+use Rattle.stn_time.specs.Time.{horizon, IsWithinHorizon}
 use Rattle.stn_net.specs.Difference.{Difference}
 use Rattle.stn_net.specs.Schedule.{IsSchedule, HasSchedule}
 use Rattle.stn_matrix.specs.Tightest.{IsTightest}
@@ -16,7 +16,7 @@ use Rattle.stn_conflict.specs.Arcs.{arc, arc_of, bound_at, IsChain, weight_of, I
 use Rattle.stn_conflict.specs.Culprit.{IsRefusedSide, IsCulprit}
 use Rattle.stn_conflict.specs.Named.{IsWay, IsNamedCycle}
 use Rattle.stn_conflict.specs.Search.{IsCycleOf, IsWayOf}
-use Rattle.stn_conflict.proofs.Distances.{tightest_self, link_kept}
+use Rattle.stn_conflict.proofs.Tightness.{tightest_self, link_kept}
 use Rattle.stn_conflict.proofs.Between.{refused_lower}
 use Rattle.stn_conflict.proofs.OneCycle.{way_unique}
 use Rattle.stn_conflict.proofs.Chains.{way_is_tight, weight_of_tight, chain_before}
@@ -65,15 +65,15 @@ places_of_chain bounds [] x y chain = tt
 places_of_chain bounds (link ∷ links) x y chain = (chain.0, places_of_chain bounds links _ y chain.2)
 
 -- the culprit's link and the way back over the bounds before it are a named cycle, with all that is told of it
-pub cycle_of_way : (bounds : List Difference) (events : ℕ) (link : Link) (links : List Link) (self far sum : ℤ) → IsCulprit bounds link → (bound_at bounds link.place).lo ≤ℤ (bound_at bounds link.place).hi → IsTightest (take link.place bounds) (arc_of bounds link).to (arc_of bounds link).to self → IsTightest (take link.place bounds) (arc_of bounds link).to (arc_of bounds link).from far → IsWithinHorizon (arc_of bounds link).weight → IsWithinHorizon far → IsWay (take link.place bounds) (arc_of bounds link).to (arc_of bounds link).from links → length links ≤ events → sum ≡ (arc_of bounds link).weight +ℤ far → IsCycleOf bounds events (link ∷ links) sum
-cycle_of_way bounds events link links self far sum culprit ordered here there (wl, wh) (fl, fh) way short total =
+pub cycle_of_way : (bounds : List Difference) (events : ℕ) (link : Link) (links : List Link) (self far sum : ℤ) → IsCulprit bounds link → (bound_at bounds link.place).lo ≤ℤ (bound_at bounds link.place).hi → IsTightest (take link.place bounds) (arc_of bounds link).to (arc_of bounds link).to self → IsTightest (take link.place bounds) (arc_of bounds link).to (arc_of bounds link).from far → neg_ℤ (pos 2 *ℤ horizon) ≤ℤ sum → IsWay (take link.place bounds) (arc_of bounds link).to (arc_of bounds link).from links → length links ≤ events → sum ≡ (arc_of bounds link).weight +ℤ far → IsCycleOf bounds events (link ∷ links) sum
+cycle_of_way bounds events link links self far sum culprit ordered here there least way short total =
     let named : IsNamedCycle bounds (link ∷ links) = (culprit, way) in
     let negative = named_negative bounds link links self far ordered here there named in
     record {
       named = named;
       negative = negative;
       sum_is = total ∙ sym (weight_of_named bounds link links self far here there named);
-      least = omega (arith, ints, total);
+      least = least;
       places = All-from_recursion (λ l. l.place < length bounds) (link ∷ links) (places_of_chain bounds (link ∷ links) _ _ negative.closed.1);
       short = omega arith;
     }
@@ -92,12 +92,13 @@ negative_no_schedule bounds links cycle (time, is) =
     omega (arith, ints, cycle.negative, chain_kept bounds links x x time is chain)
 
 -- a way, with all that is told of it
-pub told_of_way : (bounds : List Difference) (start x count : ℕ) (links : List Link) (self far sum : ℤ) → sum ≡ far → IsTightest bounds start start self
+pub told_of_way : (bounds : List Difference) (start x count : ℕ) (links : List Link) (self far sum : ℤ) → sum ≡ far → IsWithinHorizon sum → IsTightest bounds start start self
     → IsTightest bounds start x far → IsWay bounds start x links → length links < count → IsWayOf bounds start x count links sum
-told_of_way bounds start x count links self far sum is here there way short = record {
+told_of_way bounds start x count links self far sum is within here there way short = record {
   way = way;
   sum_is = is ∙ sym (weight_of_way bounds start x links self far here there way);
   tightest = rw is there;
+  within = within;
   places = All-from_recursion (λ l. l.place < length bounds) links (places_of_chain bounds links _ _ way.chain);
   short = short;
   empty = λ same. ap length (way_unique bounds start x links [] way (record { chain = same; first = tt }));

@@ -12,10 +12,9 @@ use Rattle.stn_conflict.specs.declared.links.Link.{Link}
 use Rattle.stn_conflict.specs.declared.links.Side.{Side}
 use Rattle.stn_conflict.specs.declared.links.Side.TheVariants.{Upper, Lower}
 use Rattle.stn_conflict.specs.Arcs.{arc, arc_of, bound_at, IsChain}
-use Rattle.stn_conflict.specs.Distances.{AreDistances}
+use Rattle.stn_conflict.specs.Relaxation.{AreDistances}
 use Rattle.stn_conflict.specs.Named.{IsTight, IsTightChain, IsLevel}
-use Rattle.stn_conflict.specs.Search.{HasLevelsUpTo, AreStepsBack}
-use Rattle.stn_conflict.proofs.Distances.{tightest_self, link_reaches, link_among}
+use Rattle.stn_conflict.proofs.Tightness.{tightest_self, link_reaches, link_among}
 use Rattle.stn_conflict.proofs.Chains.{chain-push}
 
 pub some_or_none : (o : Option ℕ) → (o ≡ None) ⊎ ((k : ℕ) × (o ≡ Some k))
@@ -33,16 +32,6 @@ pub record IsClosed (bounds : List Difference) (start : ℕ) (levels : ℕ → O
       → (link : Link) × IsTight bounds start link × ((arc_of bounds link).to ≡ x) × (levels (arc_of bounds link).from ≡ Some i)
   pub on : (link : Link) → IsTight bounds start link → (i : ℕ) → levels (arc_of bounds link).from ≡ Some i
       → (k : ℕ) × (levels (arc_of bounds link).to ≡ Some k) × (k ≤ suc i)
-
--- a round that gave no level ends the search
-pub closed_at_end : (bounds : List Difference) (start level : ℕ) (levels : ℕ → Option ℕ) (back : ℕ → Option Link) → HasLevelsUpTo bounds start level levels → HasLevelsUpTo bounds start (suc level) levels
-    → AreStepsBack bounds start levels back → IsClosed bounds start levels
-closed_at_end bounds start level levels back now more steps = record {
-  zero_at_start = now.zero_at_start;
-  only = now.only;
-  back = λ x i at. let (link, is, tight, ends, from) = steps.step x i at in (link, tight, ends, from);
-  on = λ link tight i from. more.on link tight i from (omega (arith, now.under _ i from));
-}
 
 -- tight links lead from a level to one that is higher by their number at most
 pub level_along : (bounds : List Difference) (start : ℕ) (levels : ℕ → Option ℕ) (closed : IsClosed bounds start levels) (links : List Link) (x y i : ℕ) → IsChain bounds links x y → AllByRecursion (IsTight bounds start) links → levels x ≡ Some i → (k : ℕ) × (levels y ≡ Some k) × (k ≤ i + length links)

@@ -1,12 +1,14 @@
-pub mod Distances
+pub mod Tightness
 pub mod Between
 pub mod Chains
 pub mod CycleSums
 pub mod LevelTable
 pub mod OneCycle
-pub mod Rounds
+pub mod Walks
+pub mod Rows
 pub mod Steps
 pub mod Known
 pub mod Relaxing
 pub mod Searches
 pub mod Found
+pub mod Turned

@@ -12,7 +12,7 @@ use Rattle.stn_conflict.specs.declared.links.Side.TheVariants.{Upper, Lower}
 use Rattle.stn_conflict.specs.Arcs.{arc_of, bound_at, rank, side_rank}
 use Rattle.stn_conflict.specs.Culprit.{IsRefusedSide, IsCulprit}
 use Rattle.stn_conflict.specs.Named.{IsLevel, IsStep, IsFirstStep, IsWay, IsNamedCycle}
-use Rattle.stn_conflict.proofs.Distances.{schedule_before}
+use Rattle.stn_conflict.proofs.Tightness.{schedule_before}
 use Rattle.stn_conflict.proofs.Chains.{IsPushedChain, chain-unpush, last_of}
 
 link_same : (p q : ℕ) (s t : Side) → p ≡ q → s ≡ t → (let one : Link = record { place = p; side = s } in let other : Link = record { place = q; side = t } in one ≡ other)

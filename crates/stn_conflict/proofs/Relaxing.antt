@@ -1,19 +1,20 @@
-use Rattle.std.proofs.Common.{◌≡◌, ◌≢◌, inl, inr, ℕ, ◌+◌, ◌<◌, ◌≤◌, List, length, set, take, replicate, sym, subst, ap, refl, ◌∙◌, arith}
+use Rattle.std.proofs.Common.{◌≡◌, ◌≢◌, inl, inr, ℕ, ◌+◌, ◌<◌, ◌≤◌, List, ◌++◌, length, set, take, replicate, sym, subst, ap, refl, ◌∙◌, arith}
 use Rattle.std.specs.Prelude.{ℤ, pos, negsuc, neg_ℤ, ◌+ℤ◌, ◌-ℤ◌, ◌≤ℤ◌, ◌<ℤ◌, All, unsigned_abs}
 use Rattle.std.proofs.lemmas.Int.{ints}
 use Rattle.std.proofs.lemmas.Bool.{cases_eq}
 use Rattle.std.proofs.lemmas.List.{take-take, get_or-set_same, get_or-set_other, get_or-replicate, length-set, length-replicate}
-use Rattle.std.proofs.lemmas.List.Elements.{All-from_get_or, All-take}
+use Rattle.std.proofs.lemmas.List.Elements.{All-from_get_or, All-take, All-append}
 use Rattle.std.proofs.lemmas.List.Sums.{sum_by-set}
-use Rattle.stn_time.specs.Time.{horizon}
+use Rattle.stn_time.specs.Time.{horizon, IsWithinHorizon}
 use Rattle.stn_net.specs.Difference.{Difference, NamesEvents}
 use Rattle.stn_net.specs.Schedule.{Meets, IsSchedule, HasSchedule, times_of}
 use Rattle.stn_net.specs.Horizon.{horizon_bounds}
 use Rattle.stn_matrix.proofs.Widest.{horizon_times}
 use Rattle.stn_conflict.specs.declared.links.Link.{Link}
 use Rattle.stn_conflict.specs.Arcs.{arc_of, bound_at, rank}
-use Rattle.stn_conflict.specs.Distances.{NamesAmong, AreEstimates, AreDistances, IsRelaxed, room}
-use Rattle.stn_conflict.proofs.Distances.{schedule_before, link_kept, link_among}
+use Rattle.stn_conflict.specs.Relaxation.{NamesAmong, IsNetwork, AreEstimates, AreDistances, IsRelaxed, room}
+use Rattle.stn_conflict.proofs.Tightness.{schedule_before, link_kept, link_among}
+use Rattle.stn_conflict.proofs.Known.{known_first}
 use Rattle.stn_conflict.proofs.LevelTable.{meets_moved}
 use Rattle.stn_conflict.proofs.OneCycle.{rank_tells}
 
@@ -25,33 +26,49 @@ among_events bounds events count long named = λ k d below.
     let to = ends.to in
     (omega arith, omega arith)
 
--- where the horizon bounds come first, no event comes later after another than the horizon, nor earlier
-pub bare_estimates : (bounds : List Difference) (events start : ℕ) (far : List ℤ) → far ≡ set (replicate (events + 1) horizon) start (pos 0) → start ≤ events
-    → take events bounds ≡ horizon_bounds events → All (NamesEvents events) bounds → AreEstimates bounds start far
-bare_estimates bounds events start far e within begins named =
+-- bounds that begin with the horizon bounds keep all events within the horizon of each other
+pub network_known : (events : ℕ) (bounds : List Difference) → take events bounds ≡ horizon_bounds events → All (NamesEvents events) bounds → IsNetwork events bounds
+network_known events bounds begins named = record {
+  named = named;
+  apart = λ time s x y xs ys.
+      let s' : IsSchedule (horizon_bounds events) time = subst (λ l. IsSchedule l time) begins (schedule_before bounds events time s) in
+      let first = horizon_times events time s' x xs in
+      let second = horizon_times events time s' y ys in
+      omega (arith, ints);
+}
+
+-- bounds of a plan and more bounds after them
+pub network_of : (events : ℕ) (base extra : List Difference) → take events base ≡ horizon_bounds events → All (NamesEvents events) base → All (NamesEvents events) extra → IsNetwork events (base ++ extra)
+network_of events base extra begins base_named extra_named =
+    network_known events (base ++ extra) (known_first events base extra begins) (All-append (NamesEvents events) base extra base_named extra_named)
+
+-- and so do those before a place past the horizon bounds
+pub network_before : (events place : ℕ) (bounds : List Difference) → events ≤ place → take events bounds ≡ horizon_bounds events → All (NamesEvents events) bounds → IsNetwork events (take place bounds)
+network_before events place bounds past begins named =
+    network_known events (take place bounds) (take-take events place bounds past ∙ begins) (All-take (NamesEvents events) place bounds named)
+
+-- a network has no event later after another than the horizon, nor earlier
+pub network_estimates : (bounds : List Difference) (events start : ℕ) (far : List ℤ) → far ≡ set (replicate (events + 1) horizon) start (pos 0) → start ≤ events
+    → IsNetwork events bounds → AreEstimates bounds start far
+network_estimates bounds events start far e within network =
     let old = replicate (events + 1) horizon in
     let old_long = length-replicate {A = ℤ} (events + 1) horizon in
     let long : length far ≡ events + 1 = ap length e ∙ length-set old start (pos 0) ∙ old_long in
     let there : start < length old = omega arith in
     let here : times_of far start ≡ pos 0 = ap (λ l. times_of l start) e ∙ get_or-set_same old start (pos 0) (pos 0) there in
-    let others : (x : ℕ) → x < length far → x ≢ start → times_of far x ≡ horizon = λ x below differs.
-    let below' : x < events + 1 = omega arith in
-    ap (λ l. times_of l x) e ∙ get_or-set_other old start x (pos 0) (pos 0) differs ∙ get_or-replicate (events + 1) x horizon (pos 0) below' in
-    let times : (time : ℕ → ℤ) → IsSchedule bounds time → (x : ℕ) → x < length far → (pos 0 ≤ℤ time x) × (time x ≤ℤ horizon) = λ time s x below.
-    horizon_times events time (subst (λ l. IsSchedule l time) begins (schedule_before bounds events time s)) x (omega arith) in
     record {
-      named = among_events bounds events (length far) long named;
+      named = among_events bounds events (length far) long network.named;
       start_named = omega arith;
       own = here;
-      within = λ x below. elim (cases_eq x start) [
-        | inl same ↦ (let at : times_of far x ≡ pos 0 = ap (times_of far) same ∙ here in (omega (arith, ints), omega (arith, ints)))
-        | inr differs ↦ (let at = others x below differs in (omega (arith, ints), omega (arith, ints)))
-      ];
       sound = λ time s x below. elim (cases_eq x start) [
         | inl same ↦ (let at : times_of far x ≡ pos 0 = ap (times_of far) same ∙ here in let now : time x ≡ time start = ap time same in omega (arith, ints))
-        | inr differs ↦ (let at = others x below differs in let end = times time s x below in let begin = times time s start (omega arith) in omega (arith, ints))
+        | inr differs ↦
+            let below' : x < events + 1 = omega arith in
+            let at = ap (λ l. times_of l x) e ∙ get_or-set_other old start x (pos 0) (pos 0) differs ∙ get_or-replicate (events + 1) x horizon (pos 0) below' in
+            let near = network.apart time s start x within (omega arith) in
+            omega (arith, ints)
       ];
-      least = λ time s x below. (let end = times time s x below in let begin = times time s start (omega arith) in omega (arith, ints));
+      least = λ time s x below. (let near = network.apart time s x start (omega arith) within in omega (arith, ints));
     }
 
 -- estimates for bounds are estimates for more of them
@@ -64,7 +81,6 @@ estimates_of_more bounds events low middle start far more long named h =
       named = All-take (NamesAmong (length far)) middle bounds (among_events bounds events (length far) long named);
       start_named = h.start_named;
       own = h.own;
-      within = h.within;
       sound = λ time s. h.sound time (back time s);
       least = λ time s. h.least time (back time s);
     }
@@ -90,12 +106,12 @@ refused_at_start bounds start far link way h there is same less (time, s) =
 
 -- and so does one beyond the horizon
 pub refused_beyond : (bounds : List Difference) (start : ℕ) (far : List ℤ) (link : Link) (way : ℤ) → AreEstimates bounds start far → link.place < length bounds
-    → way ≡ times_of far (arc_of bounds link).from +ℤ (arc_of bounds link).weight → way <ℤ neg_ℤ horizon → ¬ HasSchedule bounds
-refused_beyond bounds start far link way h there is less (time, s) =
+    → way ≡ times_of far (arc_of bounds link).from +ℤ (arc_of bounds link).weight → way ≤ℤ horizon → ¬ IsWithinHorizon way → ¬ HasSchedule bounds
+refused_beyond bounds start far link way h there is most beyond (time, s) =
     let sound = way_sound bounds start far link time h there s in
     let ends = link_among bounds (length far) link h.named there in
     let least = h.least time s (arc_of bounds link).to ends.1 in
-    omega (arith, ints)
+    beyond (omega (arith, ints), most)
 
 -- a natural number is its own absolute value
 abs_is : (z : ℤ) → pos 0 ≤ℤ z → pos (unsigned_abs z) ≡ z
@@ -113,7 +129,6 @@ relaxed_estimates bounds start far link x way h there to is apart least less =
     let xs : x < length far = rw to ends.1 in
     let here : times_of (set far x way) x ≡ way = get_or-set_same far x way (pos 0) xs in
     let others : (y : ℕ) → y ≢ x → times_of (set far x way) y ≡ times_of far y = λ y differs. get_or-set_other far x y way (pos 0) differs in
-    let old = h.within x xs in
     let falls = sum_by-set (λ (z : ℤ). unsigned_abs (z +ℤ horizon)) far x way (pos 0) xs in
     let now = abs_is (way +ℤ horizon) (omega (arith, ints)) in
     let then = abs_is (times_of far x +ℤ horizon) (omega (arith, ints)) in (
@@ -121,10 +136,6 @@ relaxed_estimates bounds start far link x way h there to is apart least less =
         named = rw long h.named;
         start_named = omega (arith, h.start_named);
         own = others start (λ e. apart (sym e)) ∙ h.own;
-        within = λ y below. elim (cases_eq y x) [
-          | inl same ↦ (let at : times_of (set far x way) y ≡ way = ap (times_of (set far x way)) same ∙ here in (omega (arith, ints), omega (arith, ints)))
-          | inr differs ↦ (let at = others y differs in let w = h.within y (omega arith) in (omega (arith, ints), omega (arith, ints)))
-        ];
         sound = λ time s y below. elim (cases_eq y x) [
           | inl same ↦ (
               let at : times_of (set far x way) y ≡ way = ap (times_of (set far x way)) same ∙ here in
@@ -158,7 +169,6 @@ settled bounds start far h relaxed =
       record {
         named = h.named;
         start_named = h.start_named;
-        within = h.within;
         tightest = λ x below. record { bound = λ other is. h.sound other is x below; attained = (time, s, (let own = h.own in omega (arith, ints))) };
       },
     )

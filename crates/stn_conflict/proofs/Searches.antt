@@ -4,7 +4,7 @@ use Rattle.std.specs.Prelude.{IfSome}
 use Rattle.std.specs.Option.{option_or}
 use Rattle.stn_net.specs.Difference.{Difference}
 use Rattle.stn_conflict.specs.declared.relaxation.Search.{Search}
-use Rattle.stn_conflict.specs.Distances.{HasTables, IsSearch}
+use Rattle.stn_conflict.specs.Relaxation.{HasTables, IsSearch}
 
 module _ {A : Type 0} where
   -- of as many events as it has estimates

@@ -1,17 +1,21 @@
-use Rattle.std.proofs.Common.{◌≡◌, ℕ, zero, suc, ◌<◌, Option, Some, None, List, [], ◌∷◌, ◌++◌, length, eqb, eqb-true, eq-eqb, sym, subst, ap, refl, ◌∙◌, arith, to_z, of_z, w64}
+use Rattle.std.proofs.Common.{◌≡◌, ◌≢◌, inl, inr, ℕ, zero, suc, ◌+◌, ◌*◌, ◌<◌, ◌≤◌, Option, Some, None, List, [], ◌∷◌, ◌++◌, length, eqb, eqb-true, eq-eqb, sym, subst, ap, refl, ◌∙◌, arith, to_z, of_z, w64}
 use Rattle.std.specs.Prelude.{ℤ, ◌+ℤ◌, IsTrue, reverse}
 use Rattle.std.specs.List.{AllByRecursion}
+use Rattle.std.specs.Option.{option_or}
 use Rattle.std.proofs.lemmas.List.{reverse-append}
+use Rattle.std.proofs.lemmas.Bool.{cases_eq}
 use Rattle.std.proofs.lemmas.Int.{ints}
 use Rattle.stn_time.specs.Time.{IsWithinHorizon}
 use Rattle.stn_net.specs.Difference.{Difference}
 use Rattle.stn_matrix.specs.Tightest.{IsTightest}
 use Rattle.stn_conflict.specs.declared.links.Link.{Link}
-use Rattle.stn_conflict.specs.Arcs.{arc_of, IsChain}
+use Rattle.stn_conflict.specs.declared.links.Side.{Side}
+use Rattle.stn_conflict.specs.declared.links.Side.TheVariants.{Upper, Lower}
+use Rattle.stn_conflict.specs.Arcs.{arc_of, rank, side_rank, IsChain}
 use Rattle.stn_conflict.specs.Named.{IsTight, IsLevel, IsStep, IsFirstStep}
-use Rattle.stn_conflict.specs.Search.{HasLevels, AreStepsBack}
-use Rattle.stn_conflict.proofs.Distances.{tight_from_sum, sum_from_tight}
-use Rattle.stn_conflict.proofs.LevelTable.{some_same}
+use Rattle.stn_conflict.specs.Search.{HasLevels, AreFirstSteps}
+use Rattle.stn_conflict.proofs.Tightness.{tight_from_sum, sum_from_tight}
+use Rattle.stn_conflict.proofs.OneCycle.{rank_tells}
 
 -- what a test of a sum of two times says
 pub sum_test : (m w n : ℤ) → IsWithinHorizon m → IsWithinHorizon w → IsWithinHorizon n
@@ -44,6 +48,14 @@ entries_from_step bounds start events levels link x y has from to step =
     let (level, low, high) = step.level in
     (level, ap levels from ∙ (has.level _ level).1 low, ap levels to ∙ (has.level _ (suc level)).1 high)
 
+-- the links of so many bounds have the first ranks
+pub rank_within : (count : ℕ) (link : Link) → link.place < count → rank link < 2 * count
+rank_within count link there = omega (arith, side_low link.side)
+  where
+    side_low : (side : Side) → side_rank side ≤ 1
+    side_low Upper = omega arith
+    side_low Lower = omega arith
+
 -- the start alone has the level 0
 level_zero : (bounds : List Difference) (start x : ℕ) → IsLevel bounds start x 0 → x ≡ start
 level_zero bounds start x is =
@@ -54,50 +66,85 @@ level_zero bounds start x is =
     empty [] chain long = sym chain
     empty (link ∷ links) chain long = absurd (omega arith)
 
+-- before any link is looked at no step is kept
+pub steps_none : (bounds : List Difference) (start : ℕ) (steps : ℕ → Option Link) → ((x : ℕ) → steps x ≡ None) → AreFirstSteps bounds start 0 steps
+steps_none bounds start steps none = record {
+  first = λ x link at. (let n = none x in absurd (cc));
+  none = λ x at link below. absurd (omega arith);
+}
+
+-- a step is kept at its end where none is
+pub steps_keep : (bounds : List Difference) (start seen : ℕ) (steps kept : ℕ → Option Link) (link : Link) → rank link ≡ seen → IsStep bounds start link
+    → kept (arc_of bounds link).to ≡ option_or (steps (arc_of bounds link).to) (Some link) → ((x : ℕ) → x ≢ (arc_of bounds link).to → kept x ≡ steps x)
+    → AreFirstSteps bounds start seen steps → AreFirstSteps bounds start (seen + 1) kept
+steps_keep bounds start seen steps kept link at step here others h = record {
+  first = λ x one is.
+      elim (cases_eq x (arc_of bounds link).to) [
+        | inl same ↦ (let (first, ends) = at_end (steps (arc_of bounds link).to) refl one (sym here ∙ ap kept (sym same) ∙ is) in (first, ends ∙ sym same))
+        | inr differs ↦ h.first x one (sym (others x differs) ∙ is)
+      ];
+  none = λ x is other below ends other_step.
+      elim (cases_eq x (arc_of bounds link).to) [
+        | inl same ↦ never (steps (arc_of bounds link).to) (sym here ∙ ap kept (sym same) ∙ is)
+        | inr differs ↦ elim (cases_eq (rank other) seen) [
+          | inl equal ↦ differs (sym ends ∙ ap (λ l. (arc_of bounds l).to) (rank_tells other link (equal ∙ sym at)))
+          | inr less ↦ h.none x (sym (others x differs) ∙ is) other (omega arith) ends other_step
+        ]
+      ];
+}
+  where
+    at_end : (old : Option Link) → steps (arc_of bounds link).to ≡ old → (one : Link) → option_or old (Some link) ≡ Some one → IsFirstStep bounds start one × ((arc_of bounds one).to ≡ (arc_of bounds link).to)
+    at_end None was one is =
+        let e : link ≡ one = cc in
+        let first : IsFirstStep bounds start link = record { step = step; first = λ other below same. h.none _ was other (omega arith) same } in
+        (subst (IsFirstStep bounds start) e first, ap (λ l. (arc_of bounds l).to) (sym e))
+    at_end (Some old) was one is = h.first (arc_of bounds link).to one (was ∙ is)
+
+    never : (old : Option Link) → ¬ (option_or old (Some link) ≡ None)
+    never None is = cc
+    never (Some old) is = cc
+
+-- a link that is no step changes nothing
+pub steps_pass : (bounds : List Difference) (start seen : ℕ) (steps : ℕ → Option Link) (link : Link) → rank link ≡ seen → ¬ IsStep bounds start link
+    → AreFirstSteps bounds start seen steps → AreFirstSteps bounds start (seen + 1) steps
+steps_pass bounds start seen steps link at apart h = record {
+  first = h.first;
+  none = λ x is other below ends step.
+      elim (cases_eq (rank other) seen) [
+        | inl equal ↦
+            let e : other ≡ link = rank_tells other link (equal ∙ sym at) in
+            apart (subst (IsStep bounds start) e step)
+        | inr less ↦ h.none x is other (omega arith) ends step
+      ];
+}
+
 -- the link is the first step to the event
 pub record IsStepBack (bounds : List Difference) (start : ℕ) (levels : ℕ → Option ℕ) (x : ℕ) (link : Link) : Type 0 where
   pub first : IsFirstStep bounds start link
   pub ends : (arc_of bounds link).to ≡ x
   pub lower : (level : ℕ) × (levels (arc_of bounds link).from ≡ Some level) × (levels x ≡ Some (suc level))
 
--- the link beside an event's level is the first step to it
-pub first_step_back : (bounds : List Difference) (start count : ℕ) (levels : ℕ → Option ℕ) (back : ℕ → Option Link) (x : ℕ) (link : Link) → HasLevels bounds start count levels
-    → AreStepsBack bounds start levels back → x < count → back x ≡ Some link → IsStepBack bounds start levels x link
-first_step_back bounds start count levels back x link has steps within is =
-    let (level, at) = has.every x within in
-    by_level level at
-  where
-    by_level : (level : ℕ) → levels x ≡ Some level → IsStepBack bounds start levels x link
-    by_level zero at = (let none = ap back (level_zero bounds start x ((has.level x 0).0 at)) ∙ steps.none in absurd (cc))
-    by_level (suc level) at =
-        let (kept, kept_is, kept_tight, kept_ends, kept_from) = steps.step x level at in
-        let same : kept ≡ link = cc in
-        let tight : IsTight bounds start link = subst (IsTight bounds start) same kept_tight in
-        let ends : (arc_of bounds link).to ≡ x = ap (λ l. (arc_of bounds l).to) (sym same) ∙ kept_ends in
-        let from : levels (arc_of bounds link).from ≡ Some level = ap (λ l. levels (arc_of bounds l).from) (sym same) ∙ kept_from in
-        let end_at : levels (arc_of bounds link).to ≡ Some (suc level) = ap levels ends ∙ at in
-        record {
-          first = record {
-            step = step_from_entries bounds start count levels link _ _ has refl refl tight (level, from, end_at);
-            first = λ other below same step.
-                let (k, low, high) = entries_from_step bounds start count levels other _ _ has refl refl step in
-                let k_is : k ≡ level = omega (arith, some_same (levels x) (suc k) (suc level) (sym (ap levels (same ∙ ends)) ∙ high) at) in
-                steps.first x level at link is other below step.tight (same ∙ ends) (low ∙ ap Some k_is);
-          };
-          ends = ends;
-          lower = (level, from, at);
-        }
+-- the step that is kept of an event begins one level lower
+pub first_step_back : (bounds : List Difference) (start count seen : ℕ) (levels : ℕ → Option ℕ) (steps : ℕ → Option Link) (x : ℕ) (link : Link) → HasLevels bounds start count levels
+    → AreFirstSteps bounds start seen steps → steps x ≡ Some link → IsStepBack bounds start levels x link
+first_step_back bounds start count seen levels steps x link has h is =
+    let (first, ends) = h.first x link is in
+    let (level, low, high) = entries_from_step bounds start count levels link _ _ has refl refl first.step in
+    record { first = first; ends = ends; lower = (level, low, sym (ap levels ends) ∙ high) }
 
--- the start alone has no link beside its level
-pub at_start : (bounds : List Difference) (start count : ℕ) (levels : ℕ → Option ℕ) (back : ℕ → Option Link) (x : ℕ) → HasLevels bounds start count levels
-    → AreStepsBack bounds start levels back → x < count → back x ≡ None → x ≡ start
-at_start bounds start count levels back x has steps within is =
+-- the start alone has no step
+pub at_start : (bounds : List Difference) (start count : ℕ) (levels : ℕ → Option ℕ) (steps : ℕ → Option Link) (x : ℕ) → HasLevels bounds start count levels
+    → AreFirstSteps bounds start (2 * length bounds) steps → x < count → steps x ≡ None → x ≡ start
+at_start bounds start count levels steps x has h within is =
     let (level, at) = has.every x within in
     by_level level at
   where
     by_level : (level : ℕ) → levels x ≡ Some level → x ≡ start
     by_level zero at = level_zero bounds start x ((has.level x 0).0 at)
-    by_level (suc level) at = (let (link, some, tight, ends, from) = steps.step x level at in absurd (cc))
+    by_level (suc level) at =
+        let (link, tight, ends, from) = has.back x level at in
+        let step = step_from_entries bounds start count levels link _ _ has refl refl tight (level, from, ap levels ends ∙ at) in
+        absurd (h.none x is link (rank_within (length bounds) link tight.there) ends step)
 
 -- a first step added before a way to its end
 pub chain_before_way : (bounds : List Difference) (start here x : ℕ) (links : List Link) (link : Link) → IsFirstStep bounds start link → (arc_of bounds link).to ≡ here → IsChain bounds (reverse links) here x → AllByRecursion (IsFirstStep bounds start) (reverse links) → IsChain bounds (reverse (links ++ link ∷ [])) (arc_of bounds link).from x × AllByRecursion (IsFirstStep bounds start) (reverse (links ++ link ∷ []))

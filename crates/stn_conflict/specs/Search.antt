@@ -1,56 +1,72 @@
 -- For proofs alone: no public clause cites these words.
-use Rattle.std.specs.Prelude.{◌≡◌, ◌≢◌, ℕ, ℤ, pos, neg_ℤ, ◌*ℤ◌, ◌≤ℤ◌, suc, ◌+◌, ◌<◌, ◌≤◌, ◌↔◌, List, length, take, All, Option, Some, None, slice_index_or}
-use Rattle.stn_time.specs.Time.{horizon}
+use Rattle.std.specs.Prelude.{◌≡◌, ℕ, ℤ, pos, neg_ℤ, ◌*ℤ◌, ◌≤ℤ◌, suc, ◌+◌, ◌<◌, ◌≤◌, ◌↔◌, List, length, take, All, Option, Some, None, is_some, count_by, slice_index_or}
+use Rattle.stn_time.specs.Time.{horizon, IsWithinHorizon}
 use Rattle.stn_net.specs.Difference.{Difference}
 use Rattle.stn_net.specs.Schedule.{HasSchedule}
 use Rattle.stn_matrix.specs.Tightest.{IsTightest}
+use Rattle.stn_conflict.specs.declared.levels.Walk.{Walk}
 use Rattle.stn_conflict.specs.declared.links.Link.{Link}
 use Rattle.stn_conflict.specs.Arcs.{arc_of, rank, weight_of, IsNegativeCycle}
-use Rattle.stn_conflict.specs.Named.{IsTight, IsLevel, IsWay, IsNamedCycle}
+use Rattle.stn_conflict.specs.Named.{IsTight, IsLevel, IsStep, IsFirstStep, IsWay, IsNamedCycle}
 
 -- the level that a table has of an event, if it has one yet
 abbrev pub level_at : List (Option ℕ) → ℕ → Option ℕ
 level_at levels event = slice_index_or levels event None
 
--- the events whose level is at most `level` have it, and no other event has one
-pub record HasLevelsUpTo (bounds : List Difference) (start level : ℕ) (levels : ℕ → Option ℕ) : Type 0 where
-  pub zero_at_start : levels start ≡ Some 0
-  pub only : (x : ℕ) → levels x ≡ Some 0 → x ≡ start
-  pub under : (x i : ℕ) → levels x ≡ Some i → i ≤ level
-  pub on : (link : Link) → IsTight bounds start link → (i : ℕ) → levels (arc_of bounds link).from ≡ Some i → i < level
-      → (k : ℕ) × (levels (arc_of bounds link).to ≡ Some k) × (k ≤ suc i)
+-- the event at a place of those that a walk has reached
+abbrev pub event_at : List ℕ → ℕ → ℕ
+event_at reached place = slice_index_or reached place 0
 
--- the link that a table keeps beside the level of an event, if there is one
-abbrev pub link_of : List (Option Link) → ℕ → Option Link
-link_of back event = slice_index_or back event None
-
--- beside the start's level there is no link; the link beside each level above 0 is tight, ends there and begins one level lower, and
--- no link before it does so too
-pub record AreStepsBack (bounds : List Difference) (start : ℕ) (levels : ℕ → Option ℕ) (back : ℕ → Option Link) : Type 0 where
-  pub none : back start ≡ None
-  pub step : (x i : ℕ) → levels x ≡ Some (suc i)
-      → (link : Link) × (back x ≡ Some link) × IsTight bounds start link × ((arc_of bounds link).to ≡ x) × (levels (arc_of bounds link).from ≡ Some i)
-  pub first : (x i : ℕ) → levels x ≡ Some (suc i) → (link : Link) → back x ≡ Some link → (other : Link) → rank other < rank link
-      → IsTight bounds start other → (arc_of bounds other).to ≡ x → levels (arc_of bounds other).from ≢ Some i
-
--- a tight link from an event of this level to an event without one
-pub record LeadsOn (bounds : List Difference) (start level : ℕ) (levels : ℕ → Option ℕ) (link : Link) : Type 0 where
+-- a tight link to an event without a level
+pub record LeadsOn (bounds : List Difference) (start : ℕ) (levels : ℕ → Option ℕ) (link : Link) : Type 0 where
   pub tight : IsTight bounds start link
-  pub from : levels (arc_of bounds link).from ≡ Some level
   pub to : levels (arc_of bounds link).to ≡ None
 
--- each entry is its event's level, and each of the first so many events has one
+-- the link leads to a level that is higher than this one by one at most
+abbrev pub IsFollowed : List Difference → (ℕ → Option ℕ) → Link → ℕ → Type 0
+IsFollowed bounds levels link level = (k : ℕ) × (levels (arc_of bounds link).to ≡ Some k) × (k ≤ suc level)
+
+-- a walk over tight links from `start`, breadth first (Moore, 1959): the events that have a level, in the order in which they got it, and the
+-- tight links from the first `seen` of them followed
+pub record IsWalk (bounds : List Difference) (start seen : ℕ) (levels : ℕ → Option ℕ) (reached : List ℕ) : Type 0 where
+  pub zero_at_start : levels start ≡ Some 0
+  pub only : (x : ℕ) → levels x ≡ Some 0 → x ≡ start
+  pub back : (x i : ℕ) → levels x ≡ Some (suc i)
+      → (link : Link) × IsTight bounds start link × ((arc_of bounds link).to ≡ x) × (levels (arc_of bounds link).from ≡ Some i)
+  pub every : (x i : ℕ) → levels x ≡ Some i → (k : ℕ) × (k < length reached) × (event_at reached k ≡ x)
+  pub each : (k : ℕ) → k < length reached → (i : ℕ) × (levels (event_at reached k) ≡ Some i) × (i ≤ k)
+  pub rising : (j k i m : ℕ) → j ≤ k → k < length reached → levels (event_at reached j) ≡ Some i → levels (event_at reached k) ≡ Some m → i ≤ m
+  pub near : (k i m : ℕ) → seen < length reached → k < length reached → levels (event_at reached seen) ≡ Some i → levels (event_at reached k) ≡ Some m → m ≤ suc i
+  pub followed : (k i : ℕ) → k < seen → levels (event_at reached k) ≡ Some i → (link : Link) → IsTight bounds start link
+      → (arc_of bounds link).from ≡ event_at reached k → IsFollowed bounds levels link i
+
+-- a walk among so many events, each of which got its level once
+pub record IsWalkOf {A : Type 0} (bounds : List Difference) (start count seen : ℕ) (walk : Walk A) : Type 0 where
+  pub whole : length walk.levels.items ≡ count
+  pub counted : length walk.reached.items ≤ count_by is_some walk.levels.items
+  pub steps : IsWalk bounds start seen (level_at walk.levels.items) walk.reached.items
+
+-- each entry is its event's level, each of the first so many events has one, and a step leads to each level but the start's
 pub record HasLevels (bounds : List Difference) (start count : ℕ) (levels : ℕ → Option ℕ) : Type 0 where
   pub level : (x level : ℕ) → (levels x ≡ Some level) ↔ IsLevel bounds start x level
   pub every : (x : ℕ) → x < count → (level : ℕ) × (levels x ≡ Some level)
   pub most : (x level : ℕ) → levels x ≡ Some level → level < count
+  pub back : (x i : ℕ) → levels x ≡ Some (suc i)
+      → (link : Link) × IsTight bounds start link × ((arc_of bounds link).to ≡ x) × (levels (arc_of bounds link).from ≡ Some i)
 
--- a table of so many events' levels, and beside each level the link that marked it
-pub record IsLevelTable (bounds : List Difference) (start count : ℕ) (table : List (Option ℕ)) (back : List (Option Link)) : Type 0 where
+-- a table of so many events' levels
+pub record AreLevels (bounds : List Difference) (start count : ℕ) (table : List (Option ℕ)) : Type 0 where
   pub whole : length table ≡ count
-  pub beside : length back ≡ count
   pub levels : HasLevels bounds start count (level_at table)
-  pub steps : AreStepsBack bounds start (level_at table) (link_of back)
+
+-- the link that a table keeps for an event, if there is one
+abbrev pub link_of : List (Option Link) → ℕ → Option Link
+link_of steps event = slice_index_or steps event None
+
+-- the first step to each event, among the first so many links: the steps that are kept are such, and where none is kept there is none
+pub record AreFirstSteps (bounds : List Difference) (start seen : ℕ) (steps : ℕ → Option Link) : Type 0 where
+  pub first : (x : ℕ) (link : Link) → steps x ≡ Some link → IsFirstStep bounds start link × ((arc_of bounds link).to ≡ x)
+  pub none : (x : ℕ) → steps x ≡ None → (link : Link) → rank link < seen → (arc_of bounds link).to ≡ x → ¬ IsStep bounds start link
 
 -- the bounds have a schedule before this place, and none with the bound at it
 pub record IsFirstRefused (bounds : List Difference) (events place : ℕ) : Type 0 where
@@ -73,6 +89,7 @@ pub record IsWayOf (bounds : List Difference) (start x count : ℕ) (links : Lis
   pub way : IsWay bounds start x links
   pub sum_is : sum ≡ weight_of bounds links
   pub tightest : IsTightest bounds start x sum
+  pub within : IsWithinHorizon sum
   pub places : All (λ link. link.place < length bounds) links
   pub short : length links < count
   pub empty : start ≡ x → length links ≡ 0

@@ -1,107 +1,149 @@
-ghost use Rattle.std.specs.Prelude.{◌≡◌, suc, ◌+◌, ◌<◌, ◌≤◌, ◌↔◌, is_some, false, length, count_by, IsTrue, IfOk};
+ghost use Rattle.std.specs.Prelude.{◌≡◌, ◌+◌, ◌*◌, ◌<◌, ◌≤◌, ◌↔◌, length, IsTrue, IfOk, OnOk};
 ghost use Rattle.stn_net.specs.Event.{most_events};
-ghost use Rattle.stn_conflict.specs.Distances.{AreDistances};
-ghost use Rattle.stn_conflict.specs.Named.{IsTight};
-ghost use Rattle.stn_conflict.specs.Search.{level_at, link_of, LeadsOn, HasLevelsUpTo, AreStepsBack, IsLevelTable};
+ghost use Rattle.stn_conflict.specs.Relaxation.{AreDistances, AreRows};
+ghost use Rattle.stn_conflict.specs.Named.{IsTight, IsStep};
+ghost use Rattle.stn_conflict.specs.Search.{level_at, link_of, LeadsOn, IsWalkOf, AreFirstSteps, AreLevels};
 
 use crate::links::Link;
 use crate::listed::{Listed, link_at};
 use std::alloc::Allocator;
 use stn_net::Event;
-use stn_time::Memory;
+use stn_time::{Memory, Ms};
 
-// The levels of events, and beside the level of each the link that marked it; none beside that of the start.
+// A walk over tight links: the levels of the events that it has reached, and these events in their order.
 #[derive(Drop)]
-pub(crate) struct Levels<A: Allocator> {
+pub(crate) struct Walk<A: Allocator> {
     pub levels: Vec<Option<u16>, A>,
-    pub back: Vec<Option<Link>, A>,
+    reached: Vec<Event, A>,
 }
 
 // Whether the link's end can be as far after `start` as the link allows when its beginning is as far
 // as it can be.
-fn is_tight(bounds: &Listed<'_>, far: &[i64], start: Event, link: Link) -> bool
+fn is_tight(bounds: &Listed<'_>, far: &[Ms], start: Event, link: Link) -> bool
     requires far { AreDistances bounds.now start far.now }
     requires there { link.place < length bounds.now }
     ensures { IsTrue result ↔ IsTight bounds.now start link }
 {
     let arc = bounds.arc(link);
-    let begin = far[usize::from(arc.from.number())];
-    let end = far[usize::from(arc.to.number())];
-    begin + arc.weight == end
+    let begin = far[usize::from(arc.from.number())].get();
+    let end = far[usize::from(arc.to.number())].get();
+    begin + arc.weight.get() == end
 }
 
-// Whether the link leads from an event of this level to one that has no level yet.
+// Whether the link is a tight one of the bounds to an event that has no level yet.
 fn leads_on(
     bounds: &Listed<'_>,
-    far: &[i64],
+    far: &[Ms],
     start: Event,
     levels: &[Option<u16>],
-    level: u16,
     link: Link,
 ) -> bool
     requires far { AreDistances bounds.now start far.now }
     requires whole { length levels.now ≡ length far.now }
-    requires there { link.place < length bounds.now }
-    ensures { IsTrue result ↔ LeadsOn bounds.now start level (level_at levels.now) link }
+    ensures { IsTrue result ↔ LeadsOn bounds.now start (level_at levels.now) link }
 {
-    let arc = bounds.arc(link);
-    levels[usize::from(arc.from.number())] == Some(level)
-        && levels[usize::from(arc.to.number())].is_none()
+    link.place < bounds.len()
+        && levels[usize::from(bounds.arc(link).to.number())].is_none()
         && is_tight(bounds, far, start, link)
 }
 
-// Gives the next level to each event that has none and to which a tight link leads from this level,
-// and keeps the first such link; whether there was one.
-fn mark_level(
+// Follows the tight links from the event at a place of those that were reached: gives the next level to each event
+// that has none.
+fn follow<A: Allocator + Copy>(
     bounds: &Listed<'_>,
-    far: &[i64],
+    outgoing: &[Vec<Link, A>],
+    far: &[Ms],
     start: Event,
-    levels: &mut [Option<u16>],
-    back: &mut [Option<Link>],
-    level: u16,
-) -> bool
+    walk: &mut Walk<A>,
+    place: usize,
+) -> Result<(), Memory>
     requires far { AreDistances bounds.now start far.now }
-    requires few { level ≤ most_events }
-    requires whole { length levels.old ≡ length far.now }
-    requires beside { length back.old ≡ length far.now }
-    requires marked { HasLevelsUpTo bounds.now start level (level_at levels.old) }
-    requires steps { AreStepsBack bounds.now start (level_at levels.old) (link_of back.old) }
-    ensures marked { HasLevelsUpTo bounds.now start (suc level) (level_at levels.new) }
-    ensures steps { AreStepsBack bounds.now start (level_at levels.new) (link_of back.new) }
-    ensures more { IsTrue result → count_by is_some levels.old < count_by is_some levels.new }
-    ensures same { result ≡ false → levels.new ≡ levels.old }
+    requires few { length far.now ≤ most_events + 1 }
+    requires rows { AreRows bounds.now (length far.now) outgoing.now }
+    requires there { place < length walk.old.reached.items }
+    requires walk { IsWalkOf bounds.now start (length far.now) place walk.old }
+    ensures { OnOk result (IsWalkOf bounds.now start (length far.now) (place + 1) walk.new) }
 {
-    let mut found = false;
-    for index in 0..bounds.links() {
-        let link = link_at(index);
-        if leads_on(bounds, far, start, levels, level, link) {
-            let end = usize::from(bounds.arc(link).to.number());
-            levels[end] = Some(level + 1);
-            back[end] = Some(link);
-            found = true;
+    let event = usize::from(walk.reached[place].number());
+    let level = walk.levels[event].unwrap();
+    for link in &outgoing[event] {
+        if leads_on(bounds, far, start, &walk.levels, *link) {
+            let end = bounds.arc(*link).to;
+            walk.levels[usize::from(end.number())] = Some(level + 1);
+            walk.reached.push(end)?;
         }
     }
-    found
+    Ok(())
 }
 
-// The table of the events' levels.
+// The level of each event, breadth first over the tight links (Moore, 1959).
 pub(crate) fn levels_from<A: Allocator + Copy>(
     alloc: A,
     bounds: &Listed<'_>,
-    far: &[i64],
+    outgoing: &[Vec<Link, A>],
+    far: &[Ms],
     start: Event,
-) -> Result<Levels<A>, Memory>
+) -> Result<Vec<Option<u16>, A>, Memory>
     requires far { AreDistances bounds.now start far.now }
     requires few { length far.now ≤ most_events + 1 }
-    ensures { IfOk result
-        (λ table. IsLevelTable bounds.now start (length far.now) table.levels.items table.back.items) }
+    requires rows { AreRows bounds.now (length far.now) outgoing.now }
+    ensures { IfOk result (λ levels. AreLevels bounds.now start (length far.now) levels.items) }
 {
-    let mut levels = vec![in alloc; None; far.len()]?;
-    let mut back = vec![in alloc; None; far.len()]?;
-    levels[usize::from(start.number())] = Some(0);
-    let mut level = 0;
-    while mark_level(bounds, far, start, &mut levels, &mut back, level) {
-        level += 1;
+    let mut walk = Walk {
+        levels: vec![in alloc; None; far.len()]?,
+        reached: Vec::new(alloc),
+    };
+    walk.levels[usize::from(start.number())] = Some(0);
+    walk.reached.push(start)?;
+    let mut place = 0;
+    while place < walk.reached.len() {
+        follow(bounds, outgoing, far, start, &mut walk, place)?;
+        place += 1;
     }
-    Ok(Levels { levels, back })
+    Ok(walk.levels)
+}
+
+// Whether the link is tight and begins one level lower than it ends.
+fn is_step(
+    bounds: &Listed<'_>,
+    far: &[Ms],
+    start: Event,
+    levels: &[Option<u16>],
+    link: Link,
+) -> bool
+    requires far { AreDistances bounds.now start far.now }
+    requires few { length far.now ≤ most_events + 1 }
+    requires levels { AreLevels bounds.now start (length far.now) levels.now }
+    requires there { link.place < length bounds.now }
+    ensures { IsTrue result ↔ IsStep bounds.now start link }
+{
+    let arc = bounds.arc(link);
+    let begin = levels[usize::from(arc.from.number())].unwrap();
+    let end = levels[usize::from(arc.to.number())].unwrap();
+    begin + 1 == end && is_tight(bounds, far, start, link)
+}
+
+// The first step to each event, where there is one.
+pub(crate) fn first_steps<A: Allocator + Copy>(
+    alloc: A,
+    bounds: &Listed<'_>,
+    far: &[Ms],
+    start: Event,
+    levels: &[Option<u16>],
+) -> Result<Vec<Option<Link>, A>, Memory>
+    requires far { AreDistances bounds.now start far.now }
+    requires few { length far.now ≤ most_events + 1 }
+    requires levels { AreLevels bounds.now start (length far.now) levels.now }
+    ensures long { IfOk result (λ steps. length steps.items ≡ length far.now) }
+    ensures first { IfOk result (λ steps. AreFirstSteps bounds.now start (2 * length bounds.now) (link_of steps.items)) }
+{
+    let mut steps = vec![in alloc; None; far.len()]?;
+    for index in 0..bounds.links() {
+        let link = link_at(index);
+        if is_step(bounds, far, start, levels, link) {
+            let end = usize::from(bounds.arc(link).to.number());
+            steps[end] = steps[end].or(Some(link));
+        }
+    }
+    Ok(steps)
 }

@@ -1,14 +1,18 @@
-//! One cycle of bounds that contradict each other, and one way of bounds from event to event: the same wherever the
-//! bounds are the same.
+//! One cycle of bounds that contradict each other, one way of bounds from event to event, and the tightest differences
+//! between one event and all others: the same wherever the bounds are the same.
 #![tactic(auto)]
 
-pub use links::{Cycle, Link, Side, Way, negative_cycle_is_conflict, one_named_cycle, one_way};
+pub use links::{
+    Cycle, Distances, Link, Side, Way, negative_cycle_is_conflict, one_named_cycle, one_way,
+};
+pub use reach::distances;
 pub use search::cycle;
 pub use ways::way;
 
 mod levels;
 mod links;
 mod listed;
+mod reach;
 mod relaxation;
 mod search;
 mod ways;

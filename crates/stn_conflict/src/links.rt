@@ -5,6 +5,7 @@ ghost use Rattle.stn_conflict.specs.Arcs.{IsNegativeCycle};
 ghost use Rattle.stn_conflict.specs.Named.{IsNamedCycle, IsWay};
 
 use std::alloc::Allocator;
+use stn_time::Ms;
 
 /// One of the two sides of a bound.
 #[derive(Clone, Copy, Debug, PartialEq, Eq)]
@@ -42,6 +43,15 @@ pub struct Way<A: Allocator> {
     pub links: Vec<Link, A>,
     /// The sum of what they allow, in milliseconds: `hi` of an upper side, `-lo` of a lower.
     pub sum: i64,
+}
+
+/// The tightest differences between one event and each of a plan's events, the origin first.
+#[derive(Drop)]
+pub struct Distances<A: Allocator> {
+    /// How long after the one event each event can come at the most.
+    pub from: Vec<Ms, A>,
+    /// How long after each event the one event can come at the most.
+    pub to: Vec<Ms, A>,
 }
 
 /// The law that bounds have one way at most from an event to another, so that all who hold the same bounds are told the

@@ -1,15 +1,24 @@
-ghost use Rattle.std.specs.Prelude.{◌≡◌, ◌*◌, ◌<◌, ◌≤◌, ◌++◌, length, take};
-ghost use Rattle.stn_time.specs.Time.{IsWithinHorizon};
+ghost use Rattle.std.specs.Prelude.{◌≡◌, ◌*◌, ◌<◌, ◌≤◌, ◌≤ℤ◌, ◌++◌, length, take};
 ghost use Rattle.stn_conflict.specs.Arcs.{arc_of, bound_at, rank};
+ghost use Rattle.stn_conflict.specs.Directions.{facing};
 
 use crate::links::{Link, Side};
 use std::marker::Model;
 use stn_net::{Bound, Event};
+use stn_time::Ms;
+
+// Whether links lead from their beginnings to their ends, or the other way round.
+#[derive(Clone, Copy)]
+pub(crate) enum Direction {
+    Forward,
+    Backward,
+}
 
 // Bounds that stand in two slices, one after the other, as far as a place: the list of them, which
-// is never copied.
+// is never copied, with all of them turned round where the direction is backward.
 #[derive(Drop)]
 pub(crate) struct Listed<'a> {
+    direction: Direction,
     base: &'a [Bound],
     extra: &'a [Bound],
     end: usize,
@@ -18,27 +27,29 @@ pub(crate) struct Listed<'a> {
 impl<'a> Model for Listed<'a> {
     ghost use Rattle.std.specs.Prelude.{◌+◌, ◌≤◌, ◌++◌, List, length, take};
     ghost use Rattle.stn_net.specs.Difference.{Difference};
+    ghost use Rattle.stn_conflict.specs.Directions.{facing};
 
     ghost Value = { List Difference };
 
-    ghost view = { λ l. take l.end (l.base.now ++ l.extra.now) };
+    ghost view = { λ l. facing l.direction (take l.end (l.base.now ++ l.extra.now)) };
 
     ghost invariant = { λ l. l.end ≤ length l.base.now + length l.extra.now };
 }
 
-// What a side of a bound says: `to` comes at most `weight` milliseconds after `from`.
+// What a side of a bound says: `to` comes at most `weight` after `from`.
 #[derive(Clone, Copy)]
 pub(crate) struct Arc {
     pub from: Event,
     pub to: Event,
-    pub weight: i64,
+    pub weight: Ms,
 }
 
 impl<'a> Listed<'a> {
-    pub fn new(base: &'a [Bound], extra: &'a [Bound]) -> Listed<'a>
-        ensures { result ≡ base.now ++ extra.now }
+    pub fn new(direction: Direction, base: &'a [Bound], extra: &'a [Bound]) -> Listed<'a>
+        ensures { result ≡ facing direction (base.now ++ extra.now) }
     {
         Listed {
+            direction,
             base,
             extra,
             end: base.len() + extra.len(),
@@ -64,20 +75,10 @@ impl<'a> Listed<'a> {
         ensures { result ≡ take place self.now }
     {
         Listed {
+            direction: self.direction,
             base: self.base,
             extra: self.extra,
             end: place,
-        }
-    }
-
-    pub fn bound(&self, place: usize) -> Bound
-        requires { place < length self.now }
-        ensures { result ≡ bound_at self.now place }
-    {
-        if place < self.base.len() {
-            self.base[place]
-        } else {
-            self.extra[place - self.base.len()]
         }
     }
 
@@ -86,21 +87,37 @@ impl<'a> Listed<'a> {
         ensures from { result.from ≡ (arc_of self.now link).from }
         ensures to { result.to ≡ (arc_of self.now link).to }
         ensures weight { result.weight ≡ (arc_of self.now link).weight }
-        ensures within { IsWithinHorizon result.weight }
+        ensures ordered { (bound_at self.now link.place).lo ≤ℤ (bound_at self.now link.place).hi }
     {
-        let bound = self.bound(link.place);
+        let bound = bound_in(self.base, self.extra, link.place);
+        let (from, to) = match self.direction {
+            Direction::Forward => (bound.from(), bound.to()),
+            Direction::Backward => (bound.to(), bound.from()),
+        };
         match link.side {
             Side::Upper => Arc {
-                from: bound.from(),
-                to: bound.to(),
-                weight: bound.hi().get(),
+                from,
+                to,
+                weight: bound.hi(),
             },
             Side::Lower => Arc {
-                from: bound.to(),
-                to: bound.from(),
-                weight: -bound.lo().get(),
+                from: to,
+                to: from,
+                weight: -bound.lo(),
             },
         }
+    }
+}
+
+// The bound at a place of two slices, one after the other.
+fn bound_in(base: &[Bound], extra: &[Bound], place: usize) -> Bound
+    requires { place < length (base.now ++ extra.now) }
+    ensures { result ≡ bound_at (base.now ++ extra.now) place }
+{
+    if place < base.len() {
+        base[place]
+    } else {
+        extra[place - base.len()]
     }
 }
 

@@ -7,23 +7,28 @@
 // bounds, and ends at the event; a fresh event costs no more than a look at its links; and the distances are found only
 // after a pass over all links that lowered none.
 
-ghost use Rattle.std.specs.Prelude.{◌≡◌, ◌+◌, ◌<◌, ◌≤◌, ◌↔◌, ℕ, false, length, take, All, IsTrue, IsErr, IsOk, IfOk, IfSome, OnOk, List};
+ghost use Rattle.std.specs.Prelude.{◌≡◌, ◌+◌, ◌<◌, ◌≤◌, ◌↔◌, ℕ, false, length, All, IsTrue, IsErr, IsOk, IfOk, IfSome, OnOk, List};
 ghost use Rattle.stn_net.specs.Event.{most_events};
 ghost use Rattle.stn_net.specs.Difference.{Difference, NamesEvents};
 ghost use Rattle.stn_net.specs.Schedule.{HasSchedule};
-ghost use Rattle.stn_net.specs.Horizon.{horizon_bounds};
-ghost use Rattle.stn_conflict.specs.Distances.{NamesAmong, AreEstimates, AreDistances, IsRelaxed, IsSearch, HasTables, IsArcTo, room};
-ghost use Rattle.stn_time.specs.Time.{IsWithinHorizon};
+ghost use Rattle.stn_conflict.specs.Relaxation.{AreRows, NamesAmong, AreEstimates, AreDistances, IsRelaxed, IsNetwork, IsSearch, HasTables, IsArcTo, room};
+ghost use Rattle.stn_time.specs.Time.{horizon};
 
 use crate::links::Link;
 use crate::listed::{Arc, Listed, link_at};
 use std::alloc::Allocator;
 use stn_net::Event;
-use stn_time::{HORIZON, Memory};
+use stn_time::{HORIZON, Memory, Ms};
 
 // The bounds have no schedule.
 #[derive(Clone, Copy)]
 struct NoSchedule;
+
+fn horizon() -> Ms
+    ensures { result ≡ horizon }
+{
+    Ms::new(HORIZON).unwrap()
+}
 
 // The links of the bounds by the event at which they begin, in their order.
 pub(crate) fn outgoing_links<A: Allocator + Copy>(
@@ -32,7 +37,7 @@ pub(crate) fn outgoing_links<A: Allocator + Copy>(
     bounds: &Listed<'_>,
 ) -> Result<Vec<Vec<Link, A>, A>, Memory>
     requires { All (NamesEvents events) bounds.now }
-    ensures { IfOk result (λ outgoing. length outgoing.items ≡ events + 1) }
+    ensures { IfOk result (λ outgoing. AreRows bounds.now (events + 1) outgoing.items) }
 {
     let mut outgoing = Vec::new(alloc);
     for _ in 0..usize::from(events) + 1 {
@@ -53,7 +58,7 @@ pub(crate) struct Search<'a, A: Allocator> {
     // The event from which the distances are sought.
     start: Event,
     // For each event an estimate of its distance, which is never too small.
-    pub far: Vec<i64, A>,
+    pub far: Vec<Ms, A>,
     // For each event the link that lowered its estimate last.
     by: Vec<Option<Link>, A>,
     // The events whose estimates were lowered since their links were looked at.
@@ -70,7 +75,7 @@ impl<'a, A: Allocator + Copy> Search<'a, A> {
         Ok(Search {
             outgoing,
             start: Event::origin(),
-            far: vec![in alloc; HORIZON; count]?,
+            far: vec![in alloc; horizon(); count]?,
             by: vec![in alloc; None; count]?,
             fresh: vec![in alloc; false; count]?,
         })
@@ -79,8 +84,7 @@ impl<'a, A: Allocator + Copy> Search<'a, A> {
     // Finds the distances from an event, where the bounds have a schedule.
     pub fn distances(&mut self, events: u16, bounds: &Listed<'_>, start: Event)
         requires tables { HasTables (events + 1) self.old }
-        requires begins { take events bounds.now ≡ horizon_bounds events }
-        requires named { All (NamesEvents events) bounds.now }
+        requires network { IsNetwork events bounds.now }
         requires start { start ≤ events }
         requires possible { HasSchedule bounds.now }
         ensures tables { HasTables (events + 1) self.new }
@@ -90,19 +94,18 @@ impl<'a, A: Allocator + Copy> Search<'a, A> {
         self.settle(bounds);
     }
 
-    // Begins again from an event, with the estimates that the horizon bounds alone allow.
+    // Begins again from an event, with the estimates that the horizon allows.
     pub fn begin(&mut self, start: Event)
         requires tables { HasTables (length self.old.far.items) self.old }
         requires start { start < length self.old.far.items }
         ensures start { self.new.start ≡ start }
         ensures tables { HasTables (length self.old.far.items) self.new }
         ensures estimates { (bounds : List Difference) (events : ℕ) → length self.old.far.items ≡ events + 1
-            → take events bounds ≡ horizon_bounds events → All (NamesEvents events) bounds
-            → AreEstimates bounds start self.new.far.items }
+            → IsNetwork events bounds → AreEstimates bounds start self.new.far.items }
     {
         self.start = start;
-        self.far.fill(HORIZON);
-        self.far[usize::from(start.number())] = 0;
+        self.far.fill(horizon());
+        self.far[usize::from(start.number())] = Ms::new(0).unwrap();
     }
 
     // Lowers the estimates until they are the distances, and answers true; false exactly where the bounds, of which the
@@ -230,14 +233,17 @@ impl<'a, A: Allocator + Copy> Search<'a, A> {
     {
         let arc = bounds.arc(link);
         let end = usize::from(arc.to.number());
-        let way = self.far[usize::from(arc.from.number())] + arc.weight;
-        if self.far[end] <= way {
+        let way = self.far[usize::from(arc.from.number())].get() + arc.weight.get();
+        if self.far[end].get() <= way {
             return Ok(false);
         }
-        if arc.to == self.start || way < -HORIZON {
+        if arc.to == self.start {
             return Err(NoSchedule);
         }
-        self.far[end] = way;
+        let Some(lower) = Ms::new(way) else {
+            return Err(NoSchedule);
+        };
+        self.far[end] = lower;
         self.by[end] = Some(link);
         self.fresh[end] = true;
         Ok(true)
@@ -258,7 +264,7 @@ impl<'a, A: Allocator + Copy> Search<'a, A> {
             let Some(arc) = self.lowered_by(bounds, here) else {
                 return false;
             };
-            sum += arc.weight;
+            sum += arc.weight.get();
             here = arc.from;
             if here == start {
                 return sum < 0;
@@ -288,7 +294,6 @@ impl<'a, A: Allocator + Copy> Search<'a, A> {
         requires tables { HasTables (length self.now.far.items) self.now }
         requires event { event < length self.now.far.items }
         ensures arc { IfSome result (λ arc. IsArcTo bounds.now event arc.from arc.weight) }
-        ensures within { IfSome result (λ arc. IsWithinHorizon arc.weight) }
     {
         let link = self.by[usize::from(event.number())]?;
         if link.place >= bounds.len() {

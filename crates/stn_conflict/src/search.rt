@@ -4,19 +4,19 @@ ghost use Rattle.stn_net.specs.Event.{most_events};
 ghost use Rattle.stn_net.specs.Difference.{NamesEvents};
 ghost use Rattle.stn_net.specs.Schedule.{HasSchedule};
 ghost use Rattle.stn_net.specs.Horizon.{horizon_bounds};
-ghost use Rattle.stn_conflict.specs.Arcs.{arc, weight_of, IsNegativeCycle};
+ghost use Rattle.stn_conflict.specs.Arcs.{arc, bound_at, weight_of, IsNegativeCycle};
 ghost use Rattle.stn_conflict.specs.Culprit.{IsRefusedSide};
-ghost use Rattle.stn_conflict.specs.Distances.{AreDistances, AreEstimates, HasTables};
+ghost use Rattle.stn_conflict.specs.Relaxation.{AreDistances, AreEstimates, AreRows, HasTables, IsNetwork};
 ghost use Rattle.stn_conflict.specs.Named.{IsNamedCycle};
 ghost use Rattle.stn_conflict.specs.Search.{IsCycleOf, IsFirstRefused};
 
 use crate::links::{Cycle, Link, Side};
-use crate::listed::Listed;
+use crate::listed::{Direction, Listed};
 use crate::relaxation::{Search, outgoing_links};
 use crate::ways::way_back;
 use std::alloc::Allocator;
 use stn_net::{Bound, Event};
-use stn_time::Memory;
+use stn_time::{Memory, Ms};
 
 /// The named cycle of the bounds of `base` followed by those of `extra`, with places counted from
 /// 0 through both; none exactly where these bounds have a schedule. There are so many `events`
@@ -46,7 +46,7 @@ pub fn cycle<A: Allocator + Copy>(
     ensures short { IfOk result (λ found. IfSome found
         (λ cycle. length cycle.links.items ≤ events + 1)) }
 {
-    let bounds = Listed::new(base, extra);
+    let bounds = Listed::new(Direction::Forward, base, extra);
     cycle_of(alloc, events, &bounds)
 }
 
@@ -63,26 +63,9 @@ fn cycle_of<A: Allocator + Copy>(
         (λ cycle. IsCycleOf bounds.now events cycle.links.items cycle.sum)) }
 {
     let outgoing = outgoing_links(alloc, events, bounds)?;
-    searched_cycle(alloc, events, bounds, &outgoing)
-}
-
-// The same, by a search over these rows of links.
-fn searched_cycle<A: Allocator + Copy>(
-    alloc: A,
-    events: u16,
-    bounds: &Listed<'_>,
-    outgoing: &[Vec<Link, A>],
-) -> Result<Option<Cycle<A>>, Memory>
-    requires few { events ≤ most_events }
-    requires rows { length outgoing.now ≡ events + 1 }
-    requires begins { take events bounds.now ≡ horizon_bounds events }
-    requires named { All (NamesEvents events) bounds.now }
-    ensures { IfOk result (λ found. MatchOption found (HasSchedule bounds.now)
-        (λ cycle. IsCycleOf bounds.now events cycle.links.items cycle.sum)) }
-{
-    let mut search = Search::new(alloc, outgoing)?;
+    let mut search = Search::new(alloc, &outgoing)?;
     match first_refused(alloc, events, bounds, &mut search)? {
-        Some(place) => Ok(Some(named(alloc, events, bounds, &mut search, place)?)),
+        Some(place) => Ok(Some(named(alloc, events, bounds, &outgoing, &mut search, place)?)),
         None => Ok(None),
     }
 }
@@ -115,7 +98,7 @@ fn first_between<A: Allocator + Copy>(
     events: u16,
     bounds: &Listed<'_>,
     search: &mut Search<'_, A>,
-    known: &mut [i64],
+    known: &mut [Ms],
 ) -> usize
     requires begins { take events bounds.now ≡ horizon_bounds events }
     requires named { All (NamesEvents events) bounds.now }
@@ -141,29 +124,31 @@ fn first_between<A: Allocator + Copy>(
     low
 }
 
-// The side of a bound that other bounds refuse; the search then has the distances over these from the
-// event at which the side's link ends.
+// The side of the bound at a place that the bounds before it refuse; the search then has the distances over these
+// from the event at which the side's link ends.
 fn refused_side<A: Allocator + Copy>(
     events: u16,
     bounds: &Listed<'_>,
     search: &mut Search<'_, A>,
-    bound: &Bound,
+    place: usize,
 ) -> Side
-    requires begins { take events bounds.now ≡ horizon_bounds events }
-    requires named { All (NamesEvents events) bounds.now }
+    requires network { IsNetwork events (take place bounds.now) }
     requires tables { HasTables (events + 1) search.old }
-    requires possible { HasSchedule bounds.now }
-    requires bound { NamesEvents events bound.now }
-    ensures side { IsRefusedSide bounds.now bound.now result }
-    ensures ordered { bound.now.lo ≤ℤ bound.now.hi }
+    requires there { place < length bounds.now }
+    requires named { NamesEvents events (bound_at bounds.now place) }
+    requires possible { HasSchedule (take place bounds.now) }
+    ensures side { IsRefusedSide (take place bounds.now) (bound_at bounds.now place) result }
     ensures tables { HasTables (events + 1) search.new }
-    ensures distances { AreDistances bounds.now (arc bound.now result).to search.new.far.items }
+    ensures distances { AreDistances (take place bounds.now) (arc (bound_at bounds.now place) result).to search.new.far.items }
 {
-    search.distances(events, bounds, bound.to());
-    if search.far[usize::from(bound.from().number())] + bound.hi().get() < 0 {
-        return Side::Upper;
+    let before = bounds.before(place);
+    let side = Side::Upper;
+    let upper = bounds.arc(Link { place, side });
+    search.distances(events, &before, upper.to);
+    if search.far[usize::from(upper.from.number())].get() + upper.weight.get() < 0 {
+        return side;
     }
-    search.distances(events, bounds, bound.from());
+    search.distances(events, &before, upper.from);
     Side::Lower
 }
 
@@ -172,27 +157,26 @@ fn named<A: Allocator + Copy>(
     alloc: A,
     events: u16,
     bounds: &Listed<'_>,
+    outgoing: &[Vec<Link, A>],
     search: &mut Search<'_, A>,
     place: usize,
 ) -> Result<Cycle<A>, Memory>
     requires begins { take events bounds.now ≡ horizon_bounds events }
     requires named { All (NamesEvents events) bounds.now }
+    requires rows { AreRows bounds.now (events + 1) outgoing.now }
     requires tables { HasTables (events + 1) search.old }
     requires first { IsFirstRefused bounds.now events place }
     ensures { IfOk result (λ cycle. IsCycleOf bounds.now events cycle.links.items cycle.sum) }
 {
-    let before = bounds.before(place);
-    let bound = bounds.bound(place);
-    let link = Link {
-        place,
-        side: refused_side(events, &before, search, &bound),
-    };
+    let side = refused_side(events, bounds, search, place);
+    let link = Link { place, side };
     let arc = bounds.arc(link);
-    let mut links = way_back(alloc, &before, &search.far, arc.to, arc.from)?;
+    let before = bounds.before(place);
+    let mut links = way_back(alloc, &before, outgoing, &search.far, arc.to, arc.from)?;
     links.push(link)?;
     links.reverse();
     Ok(Cycle {
         links,
-        sum: arc.weight + search.far[usize::from(arc.from.number())],
+        sum: arc.weight.get() + search.far[usize::from(arc.from.number())].get(),
     })
 }

@@ -1,21 +1,22 @@
 ghost use Rattle.std.specs.Prelude.{◌≡◌, ◌+◌, ◌<◌, ◌≤◌, ◌↔◌, ◌++◌, length, take, reverse, All, IsNone, IfOk, IfSome, MatchOption};
+ghost use Rattle.stn_time.specs.Time.{IsWithinHorizon};
 ghost use Rattle.stn_net.specs.Event.{most_events};
 ghost use Rattle.stn_net.specs.Difference.{NamesEvents};
 ghost use Rattle.stn_net.specs.Schedule.{HasSchedule};
 ghost use Rattle.stn_net.specs.Horizon.{horizon_bounds};
 ghost use Rattle.stn_matrix.specs.Tightest.{IsTightest};
 ghost use Rattle.stn_conflict.specs.Arcs.{weight_of};
-ghost use Rattle.stn_conflict.specs.Distances.{AreDistances};
+ghost use Rattle.stn_conflict.specs.Relaxation.{AreDistances, AreRows, IsNetwork};
 ghost use Rattle.stn_conflict.specs.Named.{IsWay};
 ghost use Rattle.stn_conflict.specs.Search.{IsWayOf};
 
-use crate::levels::levels_from;
+use crate::levels::{first_steps, levels_from};
 use crate::links::{Link, Way};
-use crate::listed::Listed;
+use crate::listed::{Direction, Listed};
 use crate::relaxation::{Search, outgoing_links};
 use std::alloc::Allocator;
 use stn_net::{Bound, Event};
-use stn_time::Memory;
+use stn_time::{Memory, Ms};
 
 /// The way from one event to another over the bounds of `base` followed by those of `extra`, with places
 /// counted from 0 through both: the sides of bounds that let `to` come at most `sum` after `from`; none exactly
@@ -40,12 +41,13 @@ pub fn way<A: Allocator + Copy>(
     ensures sum { IfOk result (λ found. IfSome found
         (λ way. way.sum ≡ weight_of (base.now ++ extra.now) way.links.items)) }
     ensures tightest { IfOk result (λ found. IfSome found (λ way. IsTightest (base.now ++ extra.now) from to way.sum)) }
+    ensures within { IfOk result (λ found. IfSome found (λ way. IsWithinHorizon way.sum)) }
     ensures places { IfOk result (λ found. IfSome found
         (λ way. All (λ link. link.place < length (base.now ++ extra.now)) way.links.items)) }
     ensures short { IfOk result (λ found. IfSome found (λ way. length way.links.items ≤ events)) }
     ensures empty { IfOk result (λ found. IfSome found (λ way. from ≡ to → length way.links.items ≡ 0)) }
 {
-    let bounds = Listed::new(base, extra);
+    let bounds = Listed::new(Direction::Forward, base, extra);
     way_over(alloc, events, &bounds, from, to)
 }
 
@@ -58,39 +60,17 @@ fn way_over<A: Allocator + Copy>(
     to: Event,
 ) -> Result<Option<Way<A>>, Memory>
     requires few { events ≤ most_events }
-    requires begins { take events bounds.now ≡ horizon_bounds events }
-    requires named { All (NamesEvents events) bounds.now }
+    requires network { IsNetwork events bounds.now }
     requires from { from ≤ events }
     requires to { to ≤ events }
     ensures { IfOk result (λ found. MatchOption found (¬ HasSchedule bounds.now)
         (λ way. IsWayOf bounds.now from to (events + 1) way.links.items way.sum)) }
 {
     let outgoing = outgoing_links(alloc, events, bounds)?;
-    searched_way(alloc, events, bounds, &outgoing, from, to)
-}
-
-// The same, by a search over these rows of links.
-fn searched_way<A: Allocator + Copy>(
-    alloc: A,
-    events: u16,
-    bounds: &Listed<'_>,
-    outgoing: &[Vec<Link, A>],
-    from: Event,
-    to: Event,
-) -> Result<Option<Way<A>>, Memory>
-    requires few { events ≤ most_events }
-    requires rows { length outgoing.now ≡ events + 1 }
-    requires begins { take events bounds.now ≡ horizon_bounds events }
-    requires named { All (NamesEvents events) bounds.now }
-    requires from { from ≤ events }
-    requires to { to ≤ events }
-    ensures { IfOk result (λ found. MatchOption found (¬ HasSchedule bounds.now)
-        (λ way. IsWayOf bounds.now from to (events + 1) way.links.items way.sum)) }
-{
-    let mut search = Search::new(alloc, outgoing)?;
+    let mut search = Search::new(alloc, &outgoing)?;
     search.begin(from);
     if search.settle(bounds) {
-        Ok(Some(way_to(alloc, bounds, &search.far, from, to)?))
+        Ok(Some(way_to(alloc, bounds, &outgoing, &search.far, from, to)?))
     } else {
         Ok(None)
     }
@@ -100,42 +80,46 @@ fn searched_way<A: Allocator + Copy>(
 fn way_to<A: Allocator + Copy>(
     alloc: A,
     bounds: &Listed<'_>,
-    far: &[i64],
+    outgoing: &[Vec<Link, A>],
+    far: &[Ms],
     start: Event,
     end: Event,
 ) -> Result<Way<A>, Memory>
     requires far { AreDistances bounds.now start far.now }
     requires few { length far.now ≤ most_events + 1 }
+    requires rows { AreRows bounds.now (length far.now) outgoing.now }
     requires end { end < length far.now }
     ensures { IfOk result (λ way. IsWayOf bounds.now start end (length far.now) way.links.items way.sum) }
 {
-    let mut links = way_back(alloc, bounds, far, start, end)?;
+    let mut links = way_back(alloc, bounds, outgoing, far, start, end)?;
     links.reverse();
     Ok(Way {
         links,
-        sum: far[usize::from(end.number())],
+        sum: far[usize::from(end.number())].get(),
     })
 }
 
-// The way from `start` to `end`, its last link first: each is the one that marked the level of the
-// event to which the way has come.
+// The way from `start` to `end`, its last link first: each is the first step to the event to which the way has come.
 pub(crate) fn way_back<A: Allocator + Copy>(
     alloc: A,
     bounds: &Listed<'_>,
-    far: &[i64],
+    outgoing: &[Vec<Link, A>],
+    far: &[Ms],
     start: Event,
     end: Event,
 ) -> Result<Vec<Link, A>, Memory>
     requires far { AreDistances bounds.now start far.now }
     requires few { length far.now ≤ most_events + 1 }
+    requires rows { AreRows bounds.now (length far.now) outgoing.now }
     requires end { end < length far.now }
     ensures way { IfOk result (λ links. IsWay bounds.now start end (reverse links.items)) }
     ensures short { IfOk result (λ links. length links.items < length far.now) }
 {
-    let table = levels_from(alloc, bounds, far, start)?;
+    let levels = levels_from(alloc, bounds, outgoing, far, start)?;
+    let steps = first_steps(alloc, bounds, far, start, &levels)?;
     let mut links = Vec::new(alloc);
     let mut here = end;
-    while let Some(link) = table.back[usize::from(here.number())] {
+    while let Some(link) = steps[usize::from(here.number())] {
         links.push(link)?;
         here = bounds.arc(link).from;
     }

@@ -1,7 +1,10 @@
-use Rattle.std.proofs.Common.{◌≡◌, ◌<◌, ◌∙◌, length}
+use Rattle.std.proofs.Common.{◌≡◌, ◌<◌, ◌∙◌, length, arith}
+use Rattle.std.specs.Prelude.{pos}
+use Rattle.std.proofs.lemmas.Int.{ints}
+use Rattle.std.proofs.lemmas.List.{get_or_read}
 use Rattle.stn_net.specs.Schedule.{times_of}
 use Rattle.stn_conflict.specs.Arcs.{arc_of}
-use Rattle.stn_conflict.proofs.Distances.{link_among}
+use Rattle.stn_conflict.proofs.Tightness.{link_among}
 use Rattle.stn_conflict.proofs.Steps.{sum_test, tight_decided}
 use Rattle.stn_conflict.proofs.levels.is_tight.Goals as goal
 
@@ -27,5 +30,8 @@ returns c =
     let end : c.from-2.result < length far = rw to ends.1 in
     let decided = tight_decided bounds c.args.start c.args.link c.from.result c.from-2.result arc.weight (times_of far c.from.result) (times_of far c.from-2.result) c.requires.there
     from to c.arc-arc.ensures.weight (c.requires.far.tightest c.from.result begin) (c.requires.far.tightest c.from-2.result end) in
-    let test = sum_test (times_of far c.from.result) arc.weight (times_of far c.from-2.result) (c.requires.far.within c.from.result begin) c.arc-arc.ensures.within (c.requires.far.within c.from-2.result end) in
-    (λ t. decided.0 (test.0 t), λ t. test.1 (decided.1 t))
+    let test = sum_test c.get-begin.result c.get.result c.get-end.result c.get-begin.ensures.within c.get.ensures.within c.get-end.ensures.within in
+    let begin_is : c.get-begin.result ≡ times_of far c.from.result = c.get-begin.ensures.value ∙ get_or_read far _ _ begin c.index-far-from.is (pos 0) in
+    let end_is : c.get-end.result ≡ times_of far c.from-2.result = c.get-end.ensures.value ∙ get_or_read far _ _ end c.index-far-from-2.is (pos 0) in
+    let weight_is = c.get.ensures.value in
+    (λ t. decided.0 (omega (arith, ints, test.0 t)), λ t. test.1 (omega (arith, ints, decided.1 t)))

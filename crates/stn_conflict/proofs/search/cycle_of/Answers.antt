@@ -1,17 +1,18 @@
-use Rattle.std.proofs.Common.{length, ap, ◌∙◌}
-use Rattle.std.proofs.lemmas.Result.{err_from_is_err_and}
+use Rattle.std.proofs.Common.{length, ap, ◌∙◌, rules}
 use Rattle.stn_conflict.proofs.search.cycle_of.Goals as goal
 
-pub returns-in_err-outgoing : goal.returns-in_err-outgoing
-returns-in_err-outgoing g c = let p = err_from_is_err_and c.from_residual.result c.from_residual.ensures.1 in rw p.1 tt
-
-pub searched_cycle-requires : goal.searched_cycle-requires
-searched_cycle-requires g c = record {
-  few = c.requires.few;
-  rows = ap length c.deref.ensures.value ∙ c.in_ok-outgoing.ensures;
+pub first_refused-requires : goal.first_refused-requires
+first_refused-requires g c = record {
   begins = c.requires.begins;
   named = c.requires.named;
+  tables = rw (ap length c.deref.ensures.value ∙ c.in_ok-outgoing.ensures.long) at c.in_ok-search.ensures;
 }
 
-pub returns : goal.returns
-returns g c = c.searched_cycle.ensures
+pub named-requires : goal.named-requires
+named-requires g c = record {
+  begins = c.requires.begins;
+  named = c.requires.named;
+  tables = c.first_refused.ensures.tables;
+  rows = rw c.deref-in-Some.ensures.value c.in_ok-outgoing.ensures;
+  first = search rules;
+}

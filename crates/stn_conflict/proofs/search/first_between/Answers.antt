@@ -1,7 +1,7 @@
 use Rattle.std.proofs.Common.{◌≡◌, ◌+◌, ◌-◌, ◌/◌, ◌∙◌, length, take, ap, refl, sym, subst, arith}
 use Rattle.std.proofs.lemmas.Bool.{false≢true}
 use Rattle.stn_net.specs.Schedule.{HasSchedule}
-use Rattle.stn_conflict.specs.Distances.{HasTables}
+use Rattle.stn_conflict.specs.Relaxation.{HasTables}
 use Rattle.stn_conflict.proofs.Known.{more_than_known}
 use Rattle.stn_conflict.proofs.Relaxing.{estimates_of_more}
 use Rattle.stn_conflict.proofs.search.first_between.Goals as goal

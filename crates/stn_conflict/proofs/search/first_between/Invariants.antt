@@ -1,6 +1,6 @@
 use Rattle.std.proofs.Common.{◌≡◌, ◌<◌, ◌≤◌, ◌+◌, ◌-◌, length, take}
 use Rattle.stn_net.specs.Schedule.{HasSchedule}
-use Rattle.stn_conflict.specs.Distances.{AreEstimates, HasTables}
+use Rattle.stn_conflict.specs.Relaxation.{AreEstimates, HasTables}
 use Rattle.stn_conflict.proofs.search.first_between.Given as goal
 
 abbrev pub invariant-loop-high : goal.invariant-loop-high

@@ -1,10 +1,8 @@
 use Rattle.std.proofs.Common.{◌≡◌, ◌+◌, ◌∙◌, length, take, refl, sym, subst, arith}
 use Rattle.std.proofs.lemmas.Bool.{false≢true}
-use Rattle.std.proofs.lemmas.List.Elements.{All-take}
 use Rattle.std.proofs.lemmas.Result.{err_from_is_err_and}
-use Rattle.stn_net.specs.Difference.{NamesEvents}
-use Rattle.stn_conflict.specs.Distances.{HasTables}
-use Rattle.stn_conflict.proofs.Known.{begins_before}
+use Rattle.stn_conflict.specs.Relaxation.{HasTables}
+use Rattle.stn_conflict.proofs.Relaxing.{network_known, network_before}
 use Rattle.stn_conflict.proofs.Searches.{tables_of}
 use Rattle.stn_conflict.proofs.search.first_refused.Goals as goal
 
@@ -18,7 +16,7 @@ pub settle-requires : goal.settle-requires
 settle-requires g c = record {
   tables = tables_of _ _ c.begin.ensures.tables;
   from = refl;
-  estimates = rw c.begin.ensures.start (c.begin.ensures.estimates c.args.bounds.now c.args.events c.requires.tables.far c.requires.begins c.requires.named);
+  estimates = rw c.begin.ensures.start (c.begin.ensures.estimates c.args.bounds.now c.args.events c.requires.tables.far (network_known c.args.events c.args.bounds.now c.requires.begins c.requires.named));
 }
 
 pub first_between-requires : goal.first_between-requires
@@ -31,8 +29,8 @@ first_between-requires g c =
       begins = c.requires.begins;
       named = c.requires.named;
       tables = subst (λ n. HasTables n c.settle.new.self) long c.settle.ensures.search.tables;
-      known = rw start (c.begin.ensures.estimates (take c.args.events bounds) c.args.events c.requires.tables.far (begins_before c.args.events bounds c.requires.begins)
-          (All-take (NamesEvents c.args.events) c.args.events bounds c.requires.named));
+      known = rw start (c.begin.ensures.estimates (take c.args.events bounds) c.args.events c.requires.tables.far
+          (network_before c.args.events c.args.events bounds (omega arith) c.requires.begins c.requires.named));
       long = long;
       none = λ has. false≢true (sym c.if-settle.false ∙ c.settle.ensures.possible.1 has);
     })

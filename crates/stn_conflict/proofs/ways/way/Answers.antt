@@ -1,19 +1,16 @@
 use Rattle.std.proofs.Common.{◌+◌, arith}
 use Rattle.std.specs.Prelude.{◌++◌}
-use Rattle.std.proofs.lemmas.List.Elements.{All-append}
-use Rattle.stn_net.specs.Difference.{NamesEvents}
 use Rattle.stn_net.specs.Schedule.{HasSchedule}
 use Rattle.stn_conflict.specs.Search.{IsWayOf}
 use Rattle.stn_conflict.proofs.Found.{found_none, told_of_found_way}
-use Rattle.stn_conflict.proofs.Known.{known_first}
+use Rattle.stn_conflict.proofs.Relaxing.{network_of}
 use Rattle.stn_conflict.proofs.ways.way.Goals as goal
 
 pub way_over-requires : goal.way_over-requires
 way_over-requires g c =
     rw c.new-bounds.ensures (record {
       few = c.requires.few;
-      begins = known_first c.args.events c.args.base.now c.args.extra.now c.requires.begins;
-      named = All-append (NamesEvents c.args.events) c.args.base.now c.args.extra.now c.requires.base_named c.requires.extra_named;
+      network = network_of c.args.events c.args.base.now c.args.extra.now c.requires.begins c.requires.base_named c.requires.extra_named;
       from = c.requires.from;
       to = c.requires.to;
     })
@@ -28,6 +25,7 @@ returns g c =
       way = told _ (λ way h. h.way);
       sum = told _ (λ way h. h.sum_is);
       tightest = told _ (λ way h. h.tightest);
+      within = told _ (λ way h. h.within);
       places = told _ (λ way h. h.places);
       short = told _ (λ way h. (let short = h.short in omega arith));
       empty = told _ (λ way h. h.empty);

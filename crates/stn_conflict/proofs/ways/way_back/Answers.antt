@@ -3,29 +3,29 @@ use Rattle.std.specs.Prelude.{reverse, unwrap_or}
 use Rattle.std.proofs.lemmas.List.{length_push, get_or_read}
 use Rattle.stn_conflict.specs.Arcs.{IsChain}
 use Rattle.stn_conflict.specs.Search.{level_at, link_of}
-use Rattle.stn_conflict.proofs.Distances.{link_among}
+use Rattle.stn_conflict.proofs.Tightness.{link_among}
 use Rattle.stn_conflict.proofs.OneCycle.{level_of_start}
 use Rattle.stn_conflict.proofs.LevelTable.{some_same}
 use Rattle.stn_conflict.proofs.Steps.{IsStepBack, first_step_back, at_start, chain_before_way}
 use Rattle.stn_conflict.proofs.ways.way_back.Given.{Over}
 use Rattle.stn_conflict.proofs.ways.way_back.Goals as goal
 
--- the link that is taken is the one beside the event's level, and its first step
-taken : (g : Over) (c : goal.In_ok-push g) → IsStepBack c.args.bounds.now c.args.start (level_at c.in_ok-table.table.levels.items) c.loop-link.here c.in-Some.link
+-- the link that is taken is the first step to the event
+taken : (g : Over) (c : goal.In_ok-push g) → IsStepBack c.args.bounds.now c.args.start (level_at c.in_ok-levels.levels.items) c.loop-link.here c.in-Some.link
 taken g c =
-    let table = c.in_ok-table.table in
+    let steps = c.in_ok-steps.steps.items in
     let place : c.from.result ≡ c.loop-link.here = c.from.ensures ∙ c.number.ensures.value in
-    let below : c.from.result < length table.back.items = omega (arith, c.loop-link.invariant.within, c.in_ok-table.ensures.beside) in
-    let read = get_or_read table.back.items _ _ below c.index.ensures None ∙ ap (link_of table.back.items) place in
-    first_step_back c.args.bounds.now c.args.start (length c.args.far.now) (level_at table.levels.items) (link_of table.back.items) c.loop-link.here c.in-Some.link
-    c.in_ok-table.ensures.levels c.in_ok-table.ensures.steps c.loop-link.invariant.within (sym read ∙ c.in-Some.is)
+    let below : c.from.result < length steps = omega (arith, c.loop-link.invariant.within, c.in_ok-steps.ensures.long) in
+    let read = get_or_read steps _ _ below c.index.ensures None ∙ ap (link_of steps) place in
+    first_step_back c.args.bounds.now c.args.start (length c.args.far.now) _ (level_at c.in_ok-levels.levels.items) (link_of steps) c.loop-link.here c.in-Some.link
+    c.in_ok-levels.ensures.levels c.in_ok-steps.ensures.first (sym read ∙ c.in-Some.is)
 
 pub arc-here-requires : goal.arc-here-requires
 arc-here-requires g c = (taken g c).first.step.tight.there
 
 pub loop-link-smaller : goal.loop-link-smaller
 loop-link-smaller g c =
-    let levels = c.in_ok-table.table.levels.items in
+    let levels = c.in_ok-levels.levels.items in
     let (k, low, high) = (taken g c.before).lower in
     let from = c.arc-here.ensures.from in
     omega (arith, ap (λ x. unwrap_or (level_at levels x) 0) from, ap (λ o. unwrap_or o 0) low, ap (λ o. unwrap_or o 0) high)
@@ -33,7 +33,7 @@ loop-link-smaller g c =
 pub loop-link-preserved : goal.loop-link-preserved
 loop-link-preserved g c =
     let bounds = c.args.bounds.now in
-    let levels = c.in_ok-table.table.levels.items in
+    let levels = c.in_ok-levels.levels.items in
     let links = c.loop-link.links.items in
     let link = c.in-Some.link in
     let step = taken g c.before in
@@ -49,24 +49,22 @@ loop-link-preserved g c =
       short = λ level at. omega (arith, ap length items, length_push links link, some_same _ level k (sym (ap (level_at levels) from) ∙ at) low, h.short _ high);
     }
 
--- the way has come to its start
-ended : (g : Over) (c : goal.After-drop-table-3 g) → c.loop-link.here ≡ c.args.start
-ended g c =
-    let table = c.in_ok-table.table in
+pub returns : goal.returns
+returns g c =
+    let bounds = c.args.bounds.now in
+    let levels = c.in_ok-levels.levels.items in
+    let steps = c.in_ok-steps.steps.items in
+    let h = c.loop-link.invariant in
     let place : c.from.result ≡ c.loop-link.here = c.from.ensures ∙ c.number.ensures.value in
-    let below : c.from.result < length table.back.items = omega (arith, c.loop-link.invariant.within, c.in_ok-table.ensures.beside) in
-    let read = get_or_read table.back.items _ _ below c.index.ensures None ∙ ap (link_of table.back.items) place in
-    at_start c.args.bounds.now c.args.start (length c.args.far.now) (level_at table.levels.items) (link_of table.back.items) c.loop-link.here
-    c.in_ok-table.ensures.levels c.in_ok-table.ensures.steps c.loop-link.invariant.within (sym read ∙ c.in_default.is)
-
-pub returns-clause-way : goal.returns-clause-way
-returns-clause-way g c = record {
-  chain = subst (λ z. IsChain c.args.bounds.now (reverse c.loop-link.links.items) z c.args.end) (ended g c) c.loop-link.invariant.chain;
-  first = c.loop-link.invariant.first;
-}
-
-pub returns-clause-short : goal.returns-clause-short
-returns-clause-short g c =
-    let levels = c.in_ok-table.table.levels.items in
-    let at = (c.in_ok-table.ensures.levels.level c.args.start 0).1 (level_of_start c.args.bounds.now c.args.start) in
-    omega (arith, c.loop-link.invariant.short 0 (ap (level_at levels) (ended g c) ∙ at))
+    let below : c.from.result < length steps = omega (arith, h.within, c.in_ok-steps.ensures.long) in
+    let read = get_or_read steps _ _ below c.index.ensures None ∙ ap (link_of steps) place in
+    let ended : c.loop-link.here ≡ c.args.start = at_start bounds c.args.start (length c.args.far.now) (level_at levels) (link_of steps) c.loop-link.here
+    c.in_ok-levels.ensures.levels c.in_ok-steps.ensures.first h.within (sym read ∙ c.in_default.is) in
+    let at = (c.in_ok-levels.ensures.levels.level c.args.start 0).1 (level_of_start bounds c.args.start) in
+    record {
+      way = record {
+        chain = subst (λ z. IsChain bounds (reverse c.loop-link.links.items) z c.args.end) ended h.chain;
+        first = h.first;
+      };
+      short = omega (arith, h.short 0 (ap (level_at levels) ended ∙ at));
+    }

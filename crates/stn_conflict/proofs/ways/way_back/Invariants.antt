@@ -11,8 +11,8 @@ invariant-loop-link g l = record {
   within : l.here < length l.far;
   chain : IsChain l.bounds (reverse l.links.items) l.here l.fn.end;
   first : AllByRecursion (IsFirstStep l.bounds l.fn.start) (reverse l.links.items);
-  short : (level : ℕ) → level_at l.table.levels.items l.here ≡ Some level → length l.links.items + level < length l.far;
+  short : (level : ℕ) → level_at l.levels.items l.here ≡ Some level → length l.links.items + level < length l.far;
 }
 
 abbrev pub decreases-loop-link : goal.decreases-loop-link
-decreases-loop-link g l = unwrap_or (level_at l.table.levels.items l.here) 0
+decreases-loop-link g l = unwrap_or (level_at l.levels.items l.here) 0

@@ -1,19 +1,40 @@
-use Rattle.std.proofs.Common.{length, ap, ◌∙◌}
-use Rattle.std.proofs.lemmas.Result.{err_from_is_err_and}
+use Rattle.std.proofs.Common.{◌≡◌, ◌+◌, ◌∙◌, length, ap, refl, sym, arith}
+use Rattle.std.proofs.lemmas.Bool.{false≢true}
+use Rattle.stn_conflict.proofs.Searches.{tables_of}
 use Rattle.stn_conflict.proofs.ways.way_over.Goals as goal
 
-pub returns-in_err-outgoing : goal.returns-in_err-outgoing
-returns-in_err-outgoing g c = let p = err_from_is_err_and c.from_residual.result c.from_residual.ensures.1 in rw p.1 tt
+pub new-requires : goal.new-requires
+new-requires g c = omega (arith, ap length c.deref.ensures.value, c.in_ok-outgoing.ensures.long, c.requires.few)
 
-pub searched_way-requires : goal.searched_way-requires
-searched_way-requires g c = record {
-  few = c.requires.few;
-  rows = ap length c.deref.ensures.value ∙ c.in_ok-outgoing.ensures;
-  begins = c.requires.begins;
-  named = c.requires.named;
-  from = c.requires.from;
-  to = c.requires.to;
+pub begin-requires : goal.begin-requires
+begin-requires g c = record {
+  tables = tables_of _ _ c.in_ok-search.ensures;
+  start = omega (arith, c.in_ok-search.ensures.far, ap length c.deref.ensures.value, c.in_ok-outgoing.ensures.long, c.requires.from);
 }
 
+pub settle-requires : goal.settle-requires
+settle-requires g c =
+    let long : length c.in_ok-search.search.far.items ≡ c.args.events + 1 = c.in_ok-search.ensures.far ∙ ap length c.deref.ensures.value ∙ c.in_ok-outgoing.ensures.long in
+    record {
+      tables = tables_of _ _ c.begin.ensures.tables;
+      from = refl;
+      estimates = rw c.begin.ensures.start (c.begin.ensures.estimates c.args.bounds.now c.args.events long c.requires.network);
+    }
+
+pub way_to-requires : goal.way_to-requires
+way_to-requires g c =
+    let long : length c.settle.new.self.far.items ≡ c.args.events + 1 = c.settle.ensures.search.tables.far ∙ c.begin.ensures.tables.far ∙ c.in_ok-search.ensures.far ∙ ap length c.deref.ensures.value ∙ c.in_ok-outgoing.ensures.long in
+    rw (c.deref-then-settle.ensures.value, c.deref-then-settle-2.ensures.value) (record {
+      far = rw c.begin.ensures.start at (c.settle.ensures.distances c.if-settle.true);
+      few = omega (arith, c.requires.few);
+      rows = rw long c.in_ok-outgoing.ensures;
+      end = omega (arith, c.requires.to);
+    })
+
+pub returns-then-settle : goal.returns-then-settle
+returns-then-settle g c =
+    let long : length c.settle.new.self.far.items ≡ c.args.events + 1 = c.settle.ensures.search.tables.far ∙ c.begin.ensures.tables.far ∙ c.in_ok-search.ensures.far ∙ ap length c.deref.ensures.value ∙ c.in_ok-outgoing.ensures.long in
+    rw (c.deref-then-settle-2.ensures.value, long) at c.in_ok-way_to.ensures
+
 pub returns : goal.returns
-returns g c = c.searched_way.ensures
+returns g c = λ has. false≢true (sym c.if-settle.false ∙ c.settle.ensures.possible.1 has)

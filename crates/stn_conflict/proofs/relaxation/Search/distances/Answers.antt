@@ -1,5 +1,5 @@
 use Rattle.std.proofs.Common.{subst, refl, ◌∙◌}
-use Rattle.stn_conflict.specs.Distances.{AreDistances, HasTables}
+use Rattle.stn_conflict.specs.Relaxation.{AreDistances, HasTables}
 use Rattle.stn_conflict.proofs.Searches.{tables_of}
 use Rattle.stn_conflict.proofs.relaxation.Search.distances.Goals as goal
 
@@ -10,7 +10,7 @@ pub settle-requires : goal.settle-requires
 settle-requires g c = record {
   tables = tables_of _ _ c.begin.ensures.tables;
   from = refl;
-  estimates = rw c.begin.ensures.start (c.begin.ensures.estimates c.args.bounds.now c.args.events c.requires.tables.far c.requires.begins c.requires.named);
+  estimates = rw c.begin.ensures.start (c.begin.ensures.estimates c.args.bounds.now c.args.events c.requires.tables.far c.requires.network);
 }
 
 pub returns-clause-tables : goal.returns-clause-tables

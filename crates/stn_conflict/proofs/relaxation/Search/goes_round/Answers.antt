@@ -7,7 +7,8 @@ use Rattle.stn_conflict.proofs.relaxation.Search.goes_round.Goals as goal
 pub returns-then-eq : goal.returns-then-eq
 returns-then-eq g c = λ t has.
     let arc = c.in-Some.arc in
-    let heavy = c.in-Some.ensures.within in
+    let (low, high) = c.get-sum.ensures.within in
+    let weight = c.get-sum.ensures.value in
     let (link, there, is) = c.in-Some.ensures.arc in
     let (within, kept) = back_over c.args.bounds.now (length c.args.self.now.far.items) c.far_back-start.result c.loop.here arc.from c.loop.here arc.weight _ link
     c.requires.named there (sym (ap (λ (a : Arc). a.from) is)) (sym (ap (λ (a : Arc). a.to) is)) (sym (ap (λ (a : Arc). a.weight) is)) refl c.loop.invariant.kept in
@@ -23,7 +24,8 @@ returns-then-eq g c = λ t has.
 pub loop-preserved : goal.loop-preserved
 loop-preserved g c =
     let arc = c.in-Some.arc in
-    let heavy = c.in-Some.ensures.within in
+    let (low, high) = c.get-sum.ensures.within in
+    let weight = c.get-sum.ensures.value in
     let (link, there, is) = c.in-Some.ensures.arc in
     let (within, kept) = back_over c.args.bounds.now (length c.args.self.now.far.items) c.far_back-start.result c.loop.here arc.from c.loop.here arc.weight _ link
     c.requires.named there (sym (ap (λ (a : Arc). a.from) is)) (sym (ap (λ (a : Arc). a.to) is)) (sym (ap (λ (a : Arc). a.weight) is)) refl c.loop.invariant.kept in

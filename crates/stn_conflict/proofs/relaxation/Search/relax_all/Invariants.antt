@@ -1,5 +1,5 @@
 use Rattle.std.proofs.Common.{◌≡◌, ◌<◌, ◌≤◌, true, false, length}
-use Rattle.stn_conflict.specs.Distances.{IsSearch, room}
+use Rattle.stn_conflict.specs.Relaxation.{IsSearch, room}
 use Rattle.stn_conflict.proofs.Relaxing.{AreLookedAt}
 use Rattle.stn_conflict.proofs.relaxation.Search.relax_all.Given as goal
 

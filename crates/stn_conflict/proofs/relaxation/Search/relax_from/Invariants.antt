@@ -1,6 +1,6 @@
 use Rattle.std.proofs.Common.{◌<◌, ◌≤◌, length}
 use Rattle.std.specs.Prelude.{IfSome}
-use Rattle.stn_conflict.specs.Distances.{IsSearch, room}
+use Rattle.stn_conflict.specs.Relaxation.{IsSearch, room}
 use Rattle.stn_conflict.proofs.relaxation.Search.relax_from.Given as goal
 
 abbrev pub invariant-loop-link : goal.invariant-loop-link

@@ -1,7 +1,7 @@
-use Rattle.std.proofs.Common.{refl, sym, subst, arith}
+use Rattle.std.proofs.Common.{refl, subst}
 use Rattle.std.proofs.lemmas.Bool.{false≢true}
 use Rattle.std.proofs.lemmas.Result.{err_from_is_err_and}
-use Rattle.stn_conflict.specs.Distances.{AreDistances}
+use Rattle.stn_conflict.specs.Relaxation.{AreDistances}
 use Rattle.stn_conflict.proofs.Relaxing.{settled}
 use Rattle.stn_conflict.proofs.Searches.{goes_on, own}
 use Rattle.stn_conflict.proofs.relaxation.Search.relax_until_met.Goals as goal

@@ -1,5 +1,5 @@
 use Rattle.std.proofs.Common.{length}
-use Rattle.stn_conflict.specs.Distances.{IsSearch, room}
+use Rattle.stn_conflict.specs.Relaxation.{IsSearch, room}
 use Rattle.stn_conflict.proofs.relaxation.Search.relax_until_met.Given as goal
 
 abbrev pub invariant-loop-self : goal.invariant-loop-self

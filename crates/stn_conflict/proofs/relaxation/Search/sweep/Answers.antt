@@ -2,7 +2,7 @@ use Rattle.std.proofs.Common.{ℕ, ◌<◌, length, refl, arith}
 use Rattle.std.proofs.lemmas.Bool.{false≢true}
 use Rattle.std.proofs.lemmas.Option.{IfSome_then}
 use Rattle.std.proofs.lemmas.Result.{err_from_is_err_and}
-use Rattle.stn_conflict.specs.Distances.{room}
+use Rattle.stn_conflict.specs.Relaxation.{room}
 use Rattle.stn_conflict.proofs.Searches.{goes_on, some_or}
 use Rattle.stn_conflict.proofs.relaxation.Search.sweep.Goals as goal
 use Rattle.stn_conflict.proofs.relaxation.Search.sweep.Goals.{then-index+in_ok-found, else-index}

@@ -12,7 +12,7 @@ use Rattle.stn_conflict.specs.declared.links.Link.{Link}
 use Rattle.stn_conflict.specs.declared.links.Side.{Side}
 use Rattle.stn_conflict.specs.declared.links.Side.TheVariants.{Upper, Lower}
 use Rattle.stn_conflict.specs.Arcs.{arc, arc_of, bound_at}
-use Rattle.stn_conflict.specs.Distances.{NamesAmong}
+use Rattle.stn_conflict.specs.Relaxation.{NamesAmong}
 use Rattle.stn_conflict.specs.Named.{IsTight}
 
 -- an event lies at 0 from itself

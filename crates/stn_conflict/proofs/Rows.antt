@@ -1,0 +1,120 @@
+-- Rows of links, by the event at which they begin.
+use Rattle.std.proofs.Common.{◌≡◌, ◌≢◌, inl, inr, ℕ, zero, suc, ◌+◌, ◌-◌, ◌*◌, ◌<◌, List, [], ◌∷◌, ◌++◌, length, map, set, take, refl, sym, subst, ap, ◌∙◌, arith}
+use Rattle.std.specs.Prelude.{Vec, slice_index_or}
+use Rattle.std.specs.List.{Contains}
+use Rattle.std.proofs.lemmas.Bool.{cases_eq, cases_lt}
+use Rattle.std.proofs.lemmas.List.{map-set, map-append, get_or-map, get_or_default, length-map, length-set, length-take, get_or-set_same, get_or-set_other, get_or_append_left, get_or-append_right}
+use Rattle.std.proofs.lemmas.List.Elements.{Contains-push, Contains-append_left, Contains-push_cases}
+use Rattle.stn_net.specs.Difference.{Difference}
+use Rattle.stn_conflict.specs.declared.links.Link.{Link}
+use Rattle.stn_conflict.specs.Arcs.{Arc, arc_of, rank}
+use Rattle.stn_conflict.specs.Relaxation.{row_of, AreRows}
+use Rattle.stn_conflict.proofs.OneCycle.{rank_tells}
+use Rattle.stn_conflict.proofs.Steps.{rank_within}
+use Rattle.stn_conflict.proofs.Tightness.{arc_before}
+
+module _ {A : Type 0} where
+  -- the links of each row
+  abbrev lists : List (Vec Link A) → List (List Link)
+  lists rows = map (λ row. row.items) rows
+
+  -- the rows of the links that have been looked at: those of rank below `seen`
+  pub record AreRowsTo (bounds : List Difference) (count seen : ℕ) (rows : List (Vec Link A)) : Type 0 where
+    pub long : length rows ≡ count
+    pub every : (link : Link) → rank link < seen → Contains (row_of rows (arc_of bounds link).from) link
+    pub begin : (x : ℕ) (link : Link) → Contains (row_of rows x) link → (arc_of bounds link).from ≡ x
+
+  -- one more empty row
+  pub rows_empty : (rows : List (Vec Link A)) (row : Vec Link A) → ((x : ℕ) → row_of rows x ≡ []) → row.items ≡ [] → (x : ℕ) → row_of (rows ++ row ∷ []) x ≡ []
+  rows_empty rows row none empty x =
+      let whole : lists (rows ++ row ∷ []) ≡ lists rows ++ [] ∷ [] = map-append (λ (r : Vec Link A). r.items) rows (row ∷ []) ∙ ap (λ l. lists rows ++ l ∷ []) empty in
+      ap (λ l. slice_index_or l x []) whole ∙ elim (cases_lt x (length (lists rows))) [
+        | inl below ↦ get_or_append_left (lists rows) ([] ∷ []) [] x below ∙ none x
+        | inr past ↦ get_or-append_right (lists rows) ([] ∷ []) (length (lists rows)) x [] refl past ∙ only (x - length (lists rows))
+      ]
+    where
+      only : (k : ℕ) → slice_index_or {A = List Link} ([] ∷ []) k [] ≡ []
+      only zero = refl
+      only (suc k) = refl
+
+  -- empty rows are those of no links
+  pub rows_of_none : (bounds : List Difference) (count : ℕ) (rows : List (Vec Link A)) → length rows ≡ count → ((x : ℕ) → row_of rows x ≡ []) → AreRowsTo bounds count 0 rows
+  rows_of_none bounds count rows long none = record {
+    long = long;
+    every = λ link below. absurd (omega arith);
+    begin = λ x link has. absurd (nothing link (subst (λ l. Contains l link) (none x) has));
+  }
+    where
+      nothing : (link : Link) → ¬ Contains [] link
+      nothing link (k, below, at) = omega arith
+
+  -- the next link in its row
+  pub rows_push : (bounds : List Difference) (count seen from : ℕ) (rows : List (Vec Link A)) (row : Vec Link A) (link : Link) → AreRowsTo bounds count seen rows → rank link ≡ seen
+      → from ≡ (arc_of bounds link).from → from < count → row.items ≡ row_of rows from ++ link ∷ [] → AreRowsTo bounds count (seen + 1) (set rows from row)
+  rows_push bounds count seen from rows row link h at is there items = record {
+    long = length-set rows from row ∙ h.long;
+    every = λ other below.
+        let x = (arc_of bounds other).from in
+        elim (cases_eq x from) [
+          | inl same ↦ elim (cases_eq (rank other) seen) [
+            | inl equal ↦
+                let e : link ≡ other = sym (rank_tells other link (equal ∙ sym at)) in
+                subst (λ l. Contains l other) (sym (ap (row_of (set rows from row)) same ∙ here)) (subst (Contains (row_of rows from ++ link ∷ [])) e (Contains-push (row_of rows from) link))
+            | inr less ↦
+                let old = subst (λ z. Contains (row_of rows z) other) same (h.every other (omega arith)) in
+                subst (λ l. Contains l other) (sym (ap (row_of (set rows from row)) same ∙ here)) (Contains-append_left (row_of rows from) (link ∷ []) other old)
+          ]
+          | inr apart ↦ elim (cases_eq (rank other) seen) [
+            | inl equal ↦ absurd (apart (ap (λ l. (arc_of bounds l).from) (rank_tells other link (equal ∙ sym at)) ∙ sym is))
+            | inr less ↦ subst (λ l. Contains l other) (sym (others x apart)) (h.every other (omega arith))
+          ]
+        ];
+    begin = λ x other has.
+        elim (cases_eq x from) [
+          | inl same ↦ elim (Contains-push_cases (row_of rows from) link other (subst (λ l. Contains l other) (ap (row_of (set rows from row)) same ∙ here) has)) [
+            | inl old ↦ h.begin from other old ∙ sym same
+            | inr e ↦ ap (λ l. (arc_of bounds l).from) (sym e) ∙ sym is ∙ sym same
+          ]
+          | inr apart ↦ h.begin x other (subst (λ l. Contains l other) (others x apart) has)
+        ];
+  }
+    where
+      whole : lists (set rows from row) ≡ set (lists rows) from (row_of rows from ++ link ∷ [])
+      whole = map-set (λ (r : Vec Link A). r.items) rows from row ∙ ap (set (lists rows) from) items
+
+      here : row_of (set rows from row) from ≡ row_of rows from ++ link ∷ []
+      here =
+          let long = length-map rows (λ (r : Vec Link A). r.items) in
+          let below : from < length (lists rows) = omega (arith, h.long) in
+          ap (λ l. slice_index_or l from []) whole ∙ get_or-set_same (lists rows) from (row_of rows from ++ link ∷ []) [] below
+
+      others : (x : ℕ) → x ≢ from → row_of (set rows from row) x ≡ row_of rows x
+      others x apart = ap (λ l. slice_index_or l x []) whole ∙ get_or-set_other (lists rows) from x (row_of rows from ++ link ∷ []) [] apart
+
+  -- where all links have been looked at, the rows are those of the bounds
+  pub rows_of_all : (bounds : List Difference) (count : ℕ) (rows : List (Vec Link A)) → AreRowsTo bounds count (2 * length bounds) rows → AreRows bounds count rows
+  rows_of_all bounds count rows h = record {
+    long = h.long;
+    every = λ link there. h.every link (rank_within (length bounds) link there);
+    begin = λ x link has there. h.begin x link has;
+  }
+
+  -- the rows of bounds are those of the first of them, too
+  pub rows_before : (bounds : List Difference) (count place : ℕ) (rows : List (Vec Link A)) → AreRows bounds count rows → AreRows (take place bounds) count rows
+  rows_before bounds count place rows h = record {
+    long = h.long;
+    every = λ link there.
+        let e = arc_before bounds place link (omega (arith, there, length-take place bounds)) in
+        subst (λ (a : Arc). Contains (row_of rows a.from) link) (sym e) (h.every link (omega (arith, there, length-take place bounds)));
+    begin = λ x link has there.
+        let e = arc_before bounds place link (omega (arith, there, length-take place bounds)) in
+        ap (λ (a : Arc). a.from) e ∙ h.begin x link has (omega (arith, there, length-take place bounds));
+  }
+
+  -- a row that is read
+  pub row_is : (rows : List (Vec Link A)) (x : ℕ) (row : Vec Link A) → x < length rows → row ≡ slice_index_or rows x row → row_of rows x ≡ row.items
+  row_is rows x row below is = get_or-map (λ (r : Vec Link A). r.items) rows x row [] below ∙ ap (λ (r : Vec Link A). r.items) (sym is)
+
+-- a link that is read from a row stands in it
+pub in_row : (row : List Link) (k : ℕ) (none : Link) → k < length row → Contains row (slice_index_or row k none)
+in_row row k none below = (k, below, get_or_default row k (slice_index_or row k none) none below)

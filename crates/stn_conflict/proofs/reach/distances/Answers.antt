@@ -1,0 +1,28 @@
+use Rattle.std.proofs.Common.{refl}
+use Rattle.std.specs.Prelude.{◌++◌}
+use Rattle.stn_net.specs.Schedule.{HasSchedule}
+use Rattle.stn_conflict.specs.Distances.{AreDistancesFrom}
+use Rattle.stn_conflict.proofs.Relaxing.{network_of}
+use Rattle.stn_conflict.proofs.Turned.{network_turned, has_turned, distances_of_turned}
+use Rattle.stn_conflict.proofs.reach.distances.Goals as goal
+
+pub distances_from-requires-clause-network : goal.distances_from-requires-clause-network
+distances_from-requires-clause-network g c =
+    rw c.new-onward.ensures (network_of c.args.events c.args.base.now c.args.extra.now c.requires.begins c.requires.base_named c.requires.extra_named)
+
+pub distances_from-requires-2-clause-network : goal.distances_from-requires-2-clause-network
+distances_from-requires-2-clause-network g c =
+    rw c.new-back.ensures (network_turned c.args.events (c.args.base.now ++ c.args.extra.now)
+    (network_of c.args.events c.args.base.now c.args.extra.now c.requires.begins c.requires.base_named c.requires.extra_named))
+
+pub returns-in_default-2-clause-none : goal.returns-in_default-2-clause-none
+returns-in_default-2-clause-none g c =
+    let bounds = c.args.base.now ++ c.args.extra.now in
+    let refused : ¬ HasSchedule c.new-back.result = rw c.in_default-2.is at c.in_ok-to.ensures in
+    (λ e has. refused (rw c.new-back.ensures (has_turned bounds has)), λ e. refl)
+
+pub returns-clause-to : goal.returns-clause-to
+returns-clause-to g c =
+    let bounds = c.args.base.now ++ c.args.extra.now in
+    let far : AreDistancesFrom c.new-back.result c.args.events c.args.event c.in-Some-2.to.items = rw c.in-Some-2.is at c.in_ok-to.ensures in
+    distances_of_turned bounds c.args.events c.args.event c.in-Some-2.to.items (rw c.new-back.ensures at far)

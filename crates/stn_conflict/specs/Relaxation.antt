@@ -1,0 +1,70 @@
+-- For proofs alone: no public clause cites these words.
+use Rattle.std.specs.Prelude.{◌≡◌, ℕ, ℤ, pos, neg_ℤ, ◌+ℤ◌, ◌-ℤ◌, ◌≤ℤ◌, ◌<◌, ◌≤◌, ◌+◌, List, [], length, map, All, Contains, Vec, slice_index_or, sum_by, unsigned_abs}
+use Rattle.stn_time.specs.Time.{horizon}
+use Rattle.stn_net.specs.Event.{most_events}
+use Rattle.stn_net.specs.Difference.{Difference, NamesEvents}
+use Rattle.stn_net.specs.Schedule.{IsSchedule, times_of}
+use Rattle.stn_matrix.specs.Tightest.{IsTightest}
+use Rattle.stn_conflict.specs.declared.links.Link.{Link}
+use Rattle.stn_conflict.specs.declared.relaxation.Search.{Search}
+use Rattle.stn_conflict.specs.Arcs.{arc_of}
+
+-- both events of the bound are among the first so many
+abbrev pub NamesAmong : ℕ → Difference → Type 0
+NamesAmong count bound = (bound.from < count) × (bound.to < count)
+
+-- the bounds are about so many events and the origin, and keep any two of these within the horizon of each other
+pub record IsNetwork (events : ℕ) (bounds : List Difference) : Type 0 where
+  pub named : All (NamesEvents events) bounds
+  pub apart : (time : ℕ → ℤ) → IsSchedule bounds time → (x y : ℕ) → x ≤ events → y ≤ events → (time y -ℤ time x) ≤ℤ horizon
+
+-- in no schedule of the bounds does an event come later after `start` than its estimate says, and `start` itself is
+-- estimated at 0 (Cormen, Leiserson, Rivest and Stein, 2009)
+pub record AreEstimates (bounds : List Difference) (start : ℕ) (far : List ℤ) : Type 0 where
+  pub named : All (NamesAmong (length far)) bounds
+  pub start_named : start < length far
+  pub own : times_of far start ≡ pos 0
+  pub sound : (time : ℕ → ℤ) → IsSchedule bounds time → (x : ℕ) → x < length far → (time x -ℤ time start) ≤ℤ times_of far x
+  pub least : (time : ℕ → ℤ) → IsSchedule bounds time → (x : ℕ) → x < length far → neg_ℤ horizon ≤ℤ (time x -ℤ time start)
+
+-- the distances are the tightest differences from `start` to each event
+pub record AreDistances (bounds : List Difference) (start : ℕ) (far : List ℤ) : Type 0 where
+  pub named : All (NamesAmong (length far)) bounds
+  pub start_named : start < length far
+  pub tightest : (x : ℕ) → x < length far → IsTightest bounds start x (times_of far x)
+
+-- the estimate at the link's end is no more than that at its beginning and the link allow
+abbrev pub IsRelaxed : List Difference → List ℤ → Link → Type 0
+IsRelaxed bounds far link = times_of far (arc_of bounds link).to ≤ℤ (times_of far (arc_of bounds link).from +ℤ (arc_of bounds link).weight)
+
+-- how far the estimates can fall before one of them is beyond the horizon
+abbrev pub room : List ℤ → ℕ
+room far = sum_by (λ z. unsigned_abs (z +ℤ horizon)) far
+
+-- each table of a search has one entry for each of so many events
+pub record HasTables {A : Type 0} (count : ℕ) (search : Search A) : Type 0 where
+  pub few : count ≤ most_events + 1
+  pub far : length search.far.items ≡ count
+  pub outgoing : length search.outgoing.now ≡ count
+  pub by : length search.by.items ≡ count
+  pub fresh : length search.fresh.items ≡ count
+
+-- the search has estimates of the distances of so many events from `start`
+pub record IsSearch {A : Type 0} (bounds : List Difference) (start count : ℕ) (search : Search A) : Type 0 where
+  pub tables : HasTables count search
+  pub from : search.start ≡ start
+  pub estimates : AreEstimates bounds start search.far.items
+
+-- some link of the bounds leads from the one event to the other, and has this weight
+abbrev pub IsArcTo : List Difference → ℕ → ℕ → ℤ → Type 0
+IsArcTo bounds to from weight = (link : Link) × (link.place < length bounds) × (arc_of bounds link ≡ record { from = from; to = to; weight = weight })
+
+-- the links of the row at a place
+abbrev pub row_of : {A : Type 0} → List (Vec Link A) → ℕ → List Link
+row_of rows place = slice_index_or (map (λ row. row.items) rows) place []
+
+-- there is a row for each of so many events; each link of the bounds stands in the row of the event at which it begins, and in no other
+pub record AreRows {A : Type 0} (bounds : List Difference) (count : ℕ) (rows : List (Vec Link A)) : Type 0 where
+  pub long : length rows ≡ count
+  pub every : (link : Link) → link.place < length bounds → Contains (row_of rows (arc_of bounds link).from) link
+  pub begin : (x : ℕ) (link : Link) → Contains (row_of rows x) link → link.place < length bounds → (arc_of bounds link).from ≡ x

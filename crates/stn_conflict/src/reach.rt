@@ -1,0 +1,70 @@
+ghost use Rattle.std.specs.Prelude.{◌≡◌, ◌↔◌, ◌≤◌, ◌++◌, take, All, IsNone, IfOk, IfSome, MatchOption};
+ghost use Rattle.stn_net.specs.Event.{most_events};
+ghost use Rattle.stn_net.specs.Difference.{NamesEvents};
+ghost use Rattle.stn_net.specs.Schedule.{HasSchedule};
+ghost use Rattle.stn_net.specs.Horizon.{horizon_bounds};
+ghost use Rattle.stn_conflict.specs.Distances.{AreDistancesFrom, AreDistancesTo};
+ghost use Rattle.stn_conflict.specs.Relaxation.{IsNetwork};
+
+use crate::links::Distances;
+use crate::listed::{Direction, Listed};
+use crate::relaxation::{Search, outgoing_links};
+use std::alloc::Allocator;
+use stn_net::{Bound, Event};
+use stn_time::{Memory, Ms};
+
+/// The tightest differences between `event` and each event, both ways, over the bounds of `base` followed by
+/// those of `extra`; none exactly where these bounds have no schedule. There are so many `events` beside the
+/// origin, `base` begins with their horizon bounds, and all bounds are about them. It fails only if memory runs
+/// out.
+pub fn distances<A: Allocator + Copy>(
+    alloc: A,
+    events: u16,
+    base: &[Bound],
+    extra: &[Bound],
+    event: Event,
+) -> Result<Option<Distances<A>>, Memory>
+    requires few { events ≤ most_events }
+    requires begins { take events base.now ≡ horizon_bounds events }
+    requires base_named { All (NamesEvents events) base.now }
+    requires extra_named { All (NamesEvents events) extra.now }
+    requires event { event ≤ events }
+    ensures none { IfOk result (λ found. IsNone found ↔ ¬ HasSchedule (base.now ++ extra.now)) }
+    ensures from { IfOk result (λ found. IfSome found
+        (λ distances. AreDistancesFrom (base.now ++ extra.now) events event distances.from.items)) }
+    ensures to { IfOk result (λ found. IfSome found
+        (λ distances. AreDistancesTo (base.now ++ extra.now) events event distances.to.items)) }
+{
+    let onward = Listed::new(Direction::Forward, base, extra);
+    let Some(from) = distances_from(alloc, events, &onward, event)? else {
+        return Ok(None);
+    };
+    let back = Listed::new(Direction::Backward, base, extra);
+    let Some(to) = distances_from(alloc, events, &back, event)? else {
+        return Ok(None);
+    };
+    Ok(Some(Distances { from, to }))
+}
+
+// The tightest differences from an event, or none where the bounds have no schedule.
+fn distances_from<A: Allocator + Copy>(
+    alloc: A,
+    events: u16,
+    bounds: &Listed<'_>,
+    event: Event,
+) -> Result<Option<Vec<Ms, A>>, Memory>
+    requires few { events ≤ most_events }
+    requires network { IsNetwork events bounds.now }
+    requires event { event ≤ events }
+    ensures { IfOk result (λ found. MatchOption found (¬ HasSchedule bounds.now)
+        (λ far. AreDistancesFrom bounds.now events event far.items)) }
+{
+    let outgoing = outgoing_links(alloc, events, bounds)?;
+    let mut search = Search::new(alloc, &outgoing)?;
+    search.begin(event);
+    if search.settle(bounds) {
+        Ok(Some(search.far))
+    } else {
+        Ok(None)
+    }
+}
