@@ -1,5 +1,6 @@
 #!/usr/bin/env python3
-"""Looks up what the documents show and name: each listing in what the gate runs, each link, and each path of the repository.
+"""Looks up what the documents show and name: each listing in what the gate runs, each link, each path of the repository, and
+the numbers of refusals in their table.
 
 usage: docs/listings.py
 
@@ -10,6 +11,8 @@ listings for a shell (`sh`), and those of two terminals (`console`), whose two e
 
 A link has to lead to a file, and where it names an anchor, to a heading of it. A path begins at the top, at a crate or at a
 folder of a crate, and a file of `specs/` and `proofs/` is also named without its ending; a name alone is that of some file.
+
+The help of the program and FORMATS.md list the numbers of all refusals: just those of the table that the proofs cite.
 """
 import os
 import re
@@ -19,6 +22,7 @@ from pathlib import Path
 TOP = Path(__file__).resolve().parent.parent
 CRATES = TOP / "crates"
 LISTED = [TOP / "README.md", TOP / "docs" / "GUIDE.md"]
+FORMATS = TOP / "docs" / "FORMATS.md"
 DOCUMENTS = [TOP / "README.md", *sorted((TOP / "docs").glob("*.md")), TOP / "bench" / "README.md"]
 LINK = re.compile(r"\]\(([^()\s]+)\)")
 PATH = re.compile(r"(?<![\w./~-])(?:\./)?[\w.-]+(?:/[\w.-]*)+|(?<![\w./-])[\w-]+\.(?:md|py|antt|rt)\b")
@@ -124,8 +128,53 @@ def missing_paths():
                 yield document, number, f"no such file: {match[0]}"
 
 
+def section(path, first, last):
+    """The lines of a file between the first that begins so and the next that begins so."""
+    lines = lines_of(path)
+    begins = next(place for place, line in enumerate(lines) if line.startswith(first))
+    ends = next(place for place, line in enumerate(lines) if place > begins and line.startswith(last))
+    return lines[begins + 1:ends]
+
+
+def table_numbers(path):
+    """The numbers of the definition: its lines `number_of <name> = <number>`."""
+    found = (re.fullmatch(r"number_of \w+ = (\d+)", line) for line in lines_of(path))
+    return [int(match[1]) for match in found if match]
+
+
+def help_numbers(path):
+    """The numbers of the help, each before two spaces and what it means."""
+    lines = section(path, "A refusal is printed as", "Status:")
+    return [int(number) for line in lines for number in re.findall(r"(?:^|  ) *(\d+)  (?=\S)", line)]
+
+
+def format_numbers(path):
+    """The numbers of the table of codes: those of the first cell of each row, `1, 2, 3` or `11 to 16`."""
+    for line in section(path, "## Codes", "## "):
+        cell = re.match(r"\| (\d[^|]*) \|", line)
+        for part in cell[1].split(", ") if cell else []:
+            ends = [int(number) for number in part.split(" to ")]
+            yield from range(ends[0], ends[-1] + 1)
+
+
+def differences():
+    """Where a list of refusals differs from the table that the proofs cite, or has a number twice."""
+    table = table_numbers(CRATES / "stn_refusal" / "specs" / "Codes.antt")
+    lists = {
+        path: list(numbers(path)) for path, numbers in ((CRATES / "stn_line" / "src" / "help.rt", help_numbers), (FORMATS, format_numbers))
+    }
+    for path, numbers in lists.items():
+        for number in sorted(set(table) | set(numbers)):
+            if number not in numbers:
+                yield path, 1, f"the list of refusals lacks {number}"
+            elif number not in table:
+                yield path, 1, f"{number} is no refusal"
+            elif numbers.count(number) > 1:
+                yield path, 1, f"the list of refusals has {number} twice"
+
+
 def main():
-    wrong = [*not_run(), *dead_links(), *missing_paths()]
+    wrong = [*not_run(), *dead_links(), *missing_paths(), *differences()]
     for document, number, what in wrong:
         print(f"{document.relative_to(TOP)}:{number}: {what}")
     sys.exit(1 if wrong else 0)
