@@ -3,7 +3,8 @@ use Rattle.std.proofs.Common.{◌≡◌, ℕ, ◌+◌, ◌<◌, true, false, con
 use Rattle.std.specs.Option.{option_map}
 use Rattle.std.proofs.Math.Seq.{take-append_seam}
 use Rattle.stn_text.specs.Lines.{IsCutBehindLine, lines_of, words_of}
-use Rattle.stn_exec.specs.declared.answer.Refusal.TheVariants as refusal
+use Rattle.stn_refusal.specs.declared.code.Code.TheVariants.{Line}
+use Rattle.stn_refusal.specs.Refusals.{refused_at}
 use Rattle.stn_exec.specs.Blocks.{Block, is_alone, with_text, line_text, block_from}
 use Rattle.stn_exec.specs.Script.{Found, next_line, bare_part, files_part, first_part, based}
 
@@ -78,7 +79,7 @@ sought_none number text at left sought none =
     sym (sought.same ∙ ap (option_map (with_text sought.front)) (ap (block_from at) none ∙ block_from-none at))
 
 -- ---- the first part, by the line that was found
-pub based-none : (last : ℕ) (lines : List (List ℕ)) → None ≡ next_line 1 lines → based last lines ≡ Err (refusal.Line last)
+pub based-none : (last : ℕ) (lines : List (List ℕ)) → None ≡ next_line 1 lines → based last lines ≡ Err (refused_at Line last)
 unfolding based
 based-none last lines e = ap (first_part last) (sym e)
 

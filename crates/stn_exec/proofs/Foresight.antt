@@ -14,8 +14,9 @@ use Rattle.stn_lift.specs.PlanSource.{PlanSource}
 use Rattle.stn_records.specs.Content.{Content}
 use Rattle.stn_replica.specs.Bounds.{all_bounds}
 use Rattle.stn_replica.specs.Dispatch.{done_events}
-use Rattle.stn_exec.specs.declared.answer.Refusal.TheVariants as refusal
-use Rattle.stn_exec.specs.Answer.{refusal_text}
+use Rattle.stn_refusal.specs.declared.code.Code.TheVariants as code
+use Rattle.stn_refusal.specs.Printed.{refusal_text}
+use Rattle.stn_refusal.specs.Refusals.{refusal_of}
 use Rattle.stn_exec.specs.Dispatch.{next_text, IsNextText, all_done_text, run_line, runs_text, SaysRuns, IsRestText, IsOverdueAt, IsRehearseText, IsRefusedRehearsal}
 
 pub one_next_text : (source : PlanSource) (state : Content) (now : ℤ) (text other : List ℕ) → IsNextText source state now text → IsNextText source state now other → text ≡ other
@@ -44,7 +45,7 @@ runs_ended (Err fault) runs place old lines new past each last = tt
 
 -- the refusal that names the event, of an answer that names one as overdue
 abbrev overdue_text : Next → List ℕ
-overdue_text (Overdue event) = refusal_text (refusal.Overdue event)
+overdue_text (Overdue event) = refusal_text (refusal_of code.Overdue event)
 overdue_text (Run time event) = []
 overdue_text AllDone = []
 
@@ -86,18 +87,18 @@ overdue_at source state now fault event is (inr late) = subst (IsOverdueAt sourc
 -- a rehearsal that was refused, and what was appended for it
 pub overdue_said : {E : Type 0} (result : Result Bool E) (source : PlanSource) (state : Content) (now : ℤ) (fault : RehearseFault) (old kept new : List ℕ) → kept ≡ old
     → (fault ≡ rehearse_fault.Memory) ⊎ ((other : ℕ) × (fault ≡ rehearse_fault.Overdue other) × IsOverdueAt source state now other)
-    → OnOk result ((event : ℕ) × (fault ≡ rehearse_fault.Overdue event) × (new ≡ kept ++ refusal_text (refusal.Overdue event)))
+    → OnOk result ((event : ℕ) × (fault ≡ rehearse_fault.Overdue event) × (new ≡ kept ++ refusal_text (refusal_of code.Overdue event)))
     → OnOk result ((text : List ℕ) × IsRehearseText source state now text × (new ≡ old ++ text))
 overdue_said (Ok refused) source state now fault old kept new same late said = (
-  refusal_text (refusal.Overdue said.0),
+  refusal_text (refusal_of code.Overdue said.0),
   inr (record { event = said.0; overdue = overdue_at source state now fault said.0 said.1 late; line = refl }),
-  said.2 ∙ ap (λ (l : List ℕ). l ++ refusal_text (refusal.Overdue said.0)) same,
+  said.2 ∙ ap (λ (l : List ℕ). l ++ refusal_text (refusal_of code.Overdue said.0)) same,
 )
 overdue_said (Err lack) source state now fault old kept new same late said = tt
 
 pub overdue_counted : {E : Type 0} (result : Result Bool E) (source : PlanSource) (state : Content) (now : ℤ) (fault : RehearseFault) (kept new : List ℕ)
     → (fault ≡ rehearse_fault.Memory) ⊎ ((other : ℕ) × (fault ≡ rehearse_fault.Overdue other) × IsOverdueAt source state now other)
-    → OnOk result ((event : ℕ) × (fault ≡ rehearse_fault.Overdue event) × (new ≡ kept ++ refusal_text (refusal.Overdue event)))
+    → OnOk result ((event : ℕ) × (fault ≡ rehearse_fault.Overdue event) × (new ≡ kept ++ refusal_text (refusal_of code.Overdue event)))
     → IfOk result (λ refused. refused ≡ true) → IfOk result (λ refused. Decides refused (IsRefusedRehearsal source state now))
 overdue_counted (Ok refused) source state now fault kept new late said told =
     (λ _. (said.0, overdue_at source state now fault said.0 said.1 late), λ _. told)

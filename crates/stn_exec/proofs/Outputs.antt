@@ -7,7 +7,8 @@ use Rattle.stn_records.specs.Content.{Content}
 use Rattle.stn_replica.specs.Report.{IsReport}
 use Rattle.stn_questions.specs.declared.asked.Question.{Question}
 use Rattle.stn_questions.specs.Answer.{IsAnswer}
-use Rattle.stn_exec.specs.Effect.{Reply, said, reported, foreseen, rehearsed, told}
+use Rattle.stn_refusal.specs.declared.failure.Failure.TheVariants.{Refused, Failed}
+use Rattle.stn_exec.specs.Effect.{Reply, said, declined, reported, foreseen, rehearsed, told}
 use Rattle.stn_exec.proofs.Foresight.{one_next_text, one_rehearse_text}
 use Rattle.stn_exec.specs.Output.{IsReplyText, IsOutput, IsRefusal, CountsRefusals}
 
@@ -22,6 +23,8 @@ OneAnswer = (source : PlanSource) → (state : Content) → (question : Question
 one_text : OneReport → OneAnswer
     → (reply : Reply) (text other : List ℕ) → IsReplyText reply text → IsReplyText reply other → text ≡ other
 one_text unique alone (said answer) text other p q = p ∙ sym q
+one_text unique alone (declined (Refused refusal)) text other p q = p ∙ sym q
+one_text unique alone (declined (Failed fault)) text other p q = absurd p
 one_text unique alone (reported source state) text other p q = unique source state text other p q
 one_text unique alone (foreseen source state now) text other p q = one_next_text source state now text other p q
 one_text unique alone (rehearsed source state now) text other p q = one_rehearse_text source state now text other p q

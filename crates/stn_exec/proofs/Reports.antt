@@ -21,11 +21,11 @@ use Rattle.stn_world.proofs.Sendings.{part_free, all_free}
 use Rattle.stn_world.specs.Whole.{IsCoherent}
 use Rattle.stn_world.proofs.Whole.{coherent_at_first}
 use Rattle.stn_world.proofs.Runs.{run_stays, run_keeps, coherent_run}
-use Rattle.stn_net.specs.declared.bound.BoundFault.TheVariants.{NoEvent}
+use Rattle.stn_refusal.specs.declared.code.Code.TheVariants as code
+use Rattle.stn_refusal.specs.declared.failure.Failure.{Failure}
+use Rattle.stn_refusal.specs.Refusals.{refused}
 use Rattle.stn_questions.specs.declared.asked.Question.{Question}
 use Rattle.stn_questions.specs.Answer.{IsAnswer}
-use Rattle.stn_exec.specs.declared.answer.Refusal.{Refusal}
-use Rattle.stn_exec.specs.declared.answer.Refusal.TheVariants as refusal
 use Rattle.stn_exec.specs.declared.answer.Answer.{Answer}
 use Rattle.stn_exec.specs.Command.{Inquiry, Action, add, done, amend, withdraw, merge, send_all, send, deliver, report, check, next, rehearse, ask, Command, sites_command, command_of}
 use Rattle.stn_exec.specs.Effect.{Effect, Reply, reported, foreseen, rehearsed, refusing, refusing_time, difference_read, question_asked, is_of_no_event, making, sending, sent_step, asked, asking, told, action_effect, command_effect, action_step, step_of}
@@ -36,7 +36,7 @@ use Rattle.stn_exec.proofs.Effects.{there_effect}
 use Rattle.stn_exec.proofs.Scripts.{line_outcome-skipped, line_outcome-run, line_effect-is, script_outcome-is}
 
 -- ---- what a command leaves is what its step leaves
-making_run : {T : Type 0} (world : World) (step : T → Step) (made : Answer) (read : Result T Refusal)
+making_run : {T : Type 0} (world : World) (step : T → Step) (made : Answer) (read : Result T Failure)
     → (making world step made read).world ≡ run world (option_to_list (option_map step (result_ok read)))
 making_run world step made (Ok value) = refl
 making_run world step made (Err cause) = refl
@@ -49,14 +49,14 @@ sending_run world site part held free = by_cause (send_refusal world site held)
     by_cause None = ap (λ o. cond (is_some o) world (after world (sent site part))) (sym free)
     by_cause (Some cause) = refl
 
-asked_stays : (world : World) (reply : ℤ → Reply) (read : Result ℤ Refusal) → (asked world reply read).world ≡ world
+asked_stays : (world : World) (reply : ℤ → Reply) (read : Result ℤ Failure) → (asked world reply read).world ≡ world
 asked_stays world reply (Ok now) = refl
 asked_stays world reply (Err cause) = refl
 
-asking_stays : (world : World) (site : ℕ) (read : Result Question Refusal) → (asking world site read).world ≡ world
+asking_stays : (world : World) (site : ℕ) (read : Result Question Failure) → (asking world site read).world ≡ world
 asking_stays world site (Ok question) = by (is_of_no_event world.source question)
   where
-    by : (b : Bool) → (cond b (refusing world (refusal.Bound NoEvent)) (record { world = world; reply = told world.source (content_at world site) question })).world ≡ world
+    by : (b : Bool) → (cond b (refusing world (refused code.NoEvent)) (record { world = world; reply = told world.source (content_at world site) question })).world ≡ world
     by true = refl
     by false = refl
 asking_stays world site (Err cause) = refl
@@ -84,7 +84,7 @@ refused_run world step refused = ap (λ o. cond (is_some o) world (after world s
 unsent_run : (world : World) (site : ℕ) (part : Content) (held : Bool) → ¬ HasSite world site → run world (option_to_list (sent_step world site part held)) ≡ world
 unsent_run world site part held missing = ap (λ o. run world (option_to_list (cond (is_some o) None (Some (sent site part))))) (no_site world site _ missing)
 
-unmade_run : {T : Type 0} (world : World) (step : T → Step) (read : Result T Refusal) → ((value : T) → step_refusal world (step value) ≡ Some NoSite)
+unmade_run : {T : Type 0} (world : World) (step : T → Step) (read : Result T Failure) → ((value : T) → step_refusal world (step value) ≡ Some NoSite)
     → run world (option_to_list (option_map step (result_ok read))) ≡ world
 unmade_run world step (Ok value) refused = refused_run world (step value) (refused value)
 unmade_run world step (Err cause) refused = refl
@@ -108,7 +108,7 @@ missing_run world site (ask inquiry) missing = refl
 effect_run : (world : World) (site : ℕ) (action : Action) → IsCoherent world → (command_effect world (sites_command site action)).world ≡ run world (option_to_list (action_step world site action))
 effect_run world site action coherent = tested (has_site world site) refl
   where
-    tested : (b : Bool) → has_site world site ≡ b → (cond b (action_effect world site action) (refusing world refusal.NoSite)).world ≡ run world (option_to_list (action_step world site action))
+    tested : (b : Bool) → has_site world site ≡ b → (cond b (action_effect world site action) (refusing world (refused code.NoSite))).world ≡ run world (option_to_list (action_step world site action))
     tested true e = there_run world site action ((site_decides world site).0 e) coherent
     tested false e = sym (missing_run world site action (λ there. false≢true (sym e ∙ (site_decides world site).1 there)))
 
@@ -254,8 +254,8 @@ same_bytes law script other output last text last_text at there site others one 
 asked_reply : (world : World) (site : ℕ) (inquiry : Inquiry) (question : Question) → question_asked inquiry ≡ Ok question → is_of_no_event world.source question ≡ false
     → (action_effect world site (ask inquiry)).reply ≡ told world.source (content_at world site) question
 asked_reply world site inquiry question is there =
-    ap (λ (read : Result Question Refusal). (asking world site read).reply) is
-    ∙ ap (λ (b : Bool). (cond b (refusing world (refusal.Bound NoEvent)) (record { world = world; reply = told world.source (content_at world site) question })).reply) there
+    ap (λ (read : Result Question Failure). (asking world site read).reply) is
+    ∙ ap (λ (b : Bool). (cond b (refusing world (refused code.NoEvent)) (record { world = world; reply = told world.source (content_at world site) question })).reply) there
 
 pub answers : (script output text : List ℕ) (at : LineOf script) (site : ℕ) (question : Question) → AsksSite at site question → PrintsAt at output text
     → IsAnswer at.start.source (content_at (world_at at) site) question text

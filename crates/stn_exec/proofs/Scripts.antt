@@ -1,26 +1,34 @@
 -- The heading and the lines of a script, one after the other.
-use Rattle.std.proofs.Common.{◌≡◌, ℕ, ℤ, ⊎_elim, ◌+◌, ◌<◌, ◌≤◌, true, false, cond, List, [], ◌∷◌, ◌++◌, length, Option, Some, None, Result, Ok, Err, Bool, IfSome, IfOk, OnOk, refl, sym, ap, ◌∙◌, arith, codes, append_assoc, subst}
+use Rattle.std.proofs.Common.{◌≡◌, ℕ, ℤ, ⊎_elim, ◌+◌, ◌<◌, ◌≤◌, true, false, cond, List, [], ◌∷◌, ◌++◌, length, Option, Some, None, Result, Ok, Err, Bool, IfSome, IfOk, OnOk, inl, inr, refl, sym, ap, ◌∙◌, arith, codes, append_assoc, subst}
 use Rattle.std.proofs.KnownBytes.{Appends-nil, Appends-trans}
-use Rattle.std.proofs.lemmas.Bool.{cases_lt}
+use Rattle.std.proofs.lemmas.Bool.{cases_lt, false≢true}
 use Rattle.std.proofs.lemmas.Bool.Decides.{nat_tests}
 use Rattle.stn_device.specs.Bytes.{AppendsPart}
 use Rattle.stn_text.specs.Lines.{lines_of, words_of}
-use Rattle.stn_exec.specs.declared.answer.Refusal.{Refusal}
-use Rattle.stn_exec.specs.declared.answer.Refusal.TheVariants as refusal
-use Rattle.stn_exec.specs.declared.heading.HeadingFault.{HeadingFault}
-use Rattle.stn_exec.specs.declared.heading.HeadingFault.TheVariants as heading_fault
-use Rattle.stn_exec.specs.Heading.{IsHeadingFault}
-use Rattle.stn_exec.specs.Effect.{Reply, said, rehearsed, Effect, and_then}
+use Rattle.stn_refusal.specs.declared.code.Code.TheVariants.{NoSite}
+use Rattle.stn_refusal.specs.declared.refusal.Refusal.{Refusal}
+use Rattle.stn_refusal.specs.declared.failure.Failure.{Failure}
+use Rattle.stn_refusal.specs.declared.failure.Failure.TheVariants.{Refused}
+use Rattle.stn_refusal.specs.Printed.{refusal_text}
+use Rattle.stn_refusal.specs.Refusals.{refused, out_of_memory}
+use Rattle.stn_exec.specs.Heading.{IsHeadingFailure}
+use Rattle.stn_exec.specs.Effect.{Reply, said, declined, rehearsed, Effect, and_then}
 use Rattle.stn_exec.specs.Dispatch.{IsRehearseText, IsRefusedRehearsal}
 use Rattle.stn_records.specs.Content.{Content}
 use Rattle.std.specs.Bool.{Decides}
 use Rattle.stn_exec.specs.Command.{Command, command_of}
 use Rattle.stn_lift.specs.PlanSource.{PlanSource, events_of}
+use Rattle.stn_records.specs.Id.{IsSite}
+use Rattle.stn_world.specs.declared.faults.SitesFault.{SitesFault}
+use Rattle.stn_world.specs.declared.faults.SitesFault.TheVariants as sites_fault
+use Rattle.stn_world.specs.Failures.{sites_failure}
+use Rattle.stn_world.specs.Faults.{IsSitesFault}
 use Rattle.stn_world.specs.World.{World, opening_world}
 use Rattle.stn_exec.specs.declared.answer.Answer.{Answer}
-use Rattle.stn_exec.specs.Answer.{answer_text, is_refusal}
+use Rattle.stn_exec.specs.Answer.{answer_text}
 use Rattle.stn_exec.specs.Output.{IsReplyText, IsOutput, CountsRefusals, WritesOutput, WritesOutputPart}
 use Rattle.stn_exec.specs.Running.{IsReplied}
+use Rattle.stn_exec.specs.Saying.{IsEffect, Declines}
 use Rattle.stn_exec.proofs.Outputs.{counts_join, one_refusal}
 use Rattle.stn_exec.specs.Script.{Outcome, nothing_run, followed_by, form_effect, is_skipped, line_effect, effect_outcome, line_outcome, lines_outcome, next_line, Part, part_of, sites_of, Based, Start, based, with_sites, heading_of, started, last_line, script_outcome}
 
@@ -47,32 +55,44 @@ next_line-skip number line lines e = ap (λ t. cond t (next_line (number + 1) li
 pub sites_of-some : (sites : ℕ) → 1 ≤ sites → sites ≤ 64 → sites_of sites ≡ Ok sites
 sites_of-some sites least most = grind (arith, nat_tests)
 
-pub sites_of-none : (sites : ℕ) → (1 ≤ sites → ¬ (sites ≤ 64)) → sites_of sites ≡ Err refusal.NoSite
+pub sites_of-none : (sites : ℕ) → (1 ≤ sites → ¬ (sites ≤ 64)) → sites_of sites ≡ Err (refused NoSite)
 sites_of-none sites none = ⊎_elim (λ few. some few) (λ many. past many) (cases_lt sites 1)
   where
-    some : sites < 1 → sites_of sites ≡ Err refusal.NoSite
+    some : sites < 1 → sites_of sites ≡ Err (refused NoSite)
     some few = grind (arith, nat_tests)
 
-    past : 1 ≤ sites → sites_of sites ≡ Err refusal.NoSite
+    past : 1 ≤ sites → sites_of sites ≡ Err (refused NoSite)
     past least = let many : 64 < sites = omega_many least in grind (arith, nat_tests)
       where
         omega_many : 1 ≤ sites → 64 < sites
         omega_many least = ⊎_elim (λ lt. lt) (λ le. absurd (none least le)) (cases_lt 64 sites)
 
 -- the faults of the heading in their order, and the heading
-pub heading-base : (last : ℕ) (lines : List (List ℕ)) (fault : HeadingFault) → IsHeadingFault (based last lines) fault → IsHeadingFault (heading_of last lines) fault
-heading-base last lines (heading_fault.Refused cause) e = ap (λ r. and_then r (with_sites last)) e
-heading-base last lines heading_fault.Memory e = tt
+pub fails_first : {A B : Type 0} (first : Result A Failure) (rest : A → Result B Failure) (failure : Failure) → IsHeadingFailure first failure → IsHeadingFailure (and_then first rest) failure
+fails_first first rest failure (inl lack) = inl lack
+fails_first first rest failure (inr e) = inr (ap (λ r. and_then r rest) e)
 
-pub heading-fault : (last : ℕ) (lines : List (List ℕ)) (base : Based) (cause : Refusal) → based last lines ≡ Ok base
+-- a heading that is refused, and not for lack of memory
+pub heading-refused : {T : Type 0} (wanted : Result T Failure) (refusal : Refusal) → IsHeadingFailure wanted (Refused refusal) → wanted ≡ Err (Refused refusal)
+heading-refused wanted refusal (inl lack) = absurd (cc)
+heading-refused wanted refusal (inr is) = is
+
+pub heading-fault : (last : ℕ) (lines : List (List ℕ)) (base : Based) (cause : Failure) → based last lines ≡ Ok base
     → part_of last (codes "sites") (next_line base.number base.lines) ≡ Err cause → heading_of last lines ≡ Err cause
 unfolding with_sites
 heading-fault last lines base cause e f = ap (λ r. and_then r (with_sites last)) e ∙ rw f refl
 
-pub heading-none : (last : ℕ) (lines : List (List ℕ)) (base : Based) (sites : Part) → based last lines ≡ Ok base
-    → part_of last (codes "sites") (next_line base.number base.lines) ≡ Ok sites → sites_of sites.value ≡ Err refusal.NoSite → heading_of last lines ≡ Err refusal.NoSite
+heading-none : (last : ℕ) (lines : List (List ℕ)) (base : Based) (sites : Part) → based last lines ≡ Ok base
+    → part_of last (codes "sites") (next_line base.number base.lines) ≡ Ok sites → sites_of sites.value ≡ Err (refused NoSite) → heading_of last lines ≡ Err (refused NoSite)
 unfolding with_sites
 heading-none last lines base sites e f none = ap (λ r. and_then r (with_sites last)) e ∙ rw f (rw none refl)
+
+pub heading-unopened : (last : ℕ) (lines : List (List ℕ)) (base : Based) (sites : Part) (count : ℕ) (fault : SitesFault) (failure : Failure) → based last lines ≡ Ok base
+    → part_of last (codes "sites") (next_line base.number base.lines) ≡ Ok sites → (1 ≤ sites.value → sites.value ≤ 64 → IsSite count) → IsSitesFault count fault
+    → failure ≡ sites_failure fault → IsHeadingFailure (heading_of last lines) failure
+heading-unopened last lines base sites count sites_fault.Memory failure e f site none gives = inl gives
+heading-unopened last lines base sites count sites_fault.NoSite failure e f site none gives =
+    inr (heading-none last lines base sites e f (sites_of-none sites.value (λ least most. none (site least most))) ∙ ap Err (sym gives))
 
 pub heading-made : (last : ℕ) (lines : List (List ℕ)) (base : Based) (sites : Part) → based last lines ≡ Ok base
     → part_of last (codes "sites") (next_line base.number base.lines) ≡ Ok sites → sites_of sites.value ≡ Ok sites.value
@@ -172,7 +192,7 @@ IfSome-all None P each = tt
 IfSome-all (Some x) P each = each x
 
 -- a script by its heading
-pub script_outcome-is : (script : List ℕ) (start : Result Start Refusal) → start ≡ heading_of (last_line script) (lines_of script) → started start ≡ script_outcome script
+pub script_outcome-is : (script : List ℕ) (start : Result Start Failure) → start ≡ heading_of (last_line script) (lines_of script) → started start ≡ script_outcome script
 unfolding script_outcome
 script_outcome-is script start e = ap started e
 
@@ -186,11 +206,30 @@ opened_outcome script start world number lines read opening at behind =
     ∙ script_outcome-is script (Ok start) (sym read)))
 
 -- an answer that was appended
-pub said_replied : {E : Type 0} (result : Result Bool E) (world : World) (old new : List ℕ) (answer : Answer) → OnOk result (new ≡ old ++ answer_text answer) → IfOk result (λ refused. refused ≡ is_refusal answer)
-    → IfOk result (IsReplied world old new (record { world = world; reply = said answer }))
-said_replied (Ok refused) world old new answer e f =
-    record { text = answer_text answer; left = refl; printed = refl; appended = e; answered = (λ yes. sym f ∙ yes, λ yes. f ∙ yes) }
-said_replied (Err fault) world old new answer e f = tt
+pub said_replied : (world : World) (old new : List ℕ) (answer : Answer) (effect : Effect) → record { world = world; reply = said answer } ≡ effect
+    → new ≡ old ++ answer_text answer → IsReplied world old new effect false
+said_replied world old new answer effect same appended =
+    subst (λ (given : Effect). IsReplied world old new given false) same
+    (record { text = answer_text answer; left = refl; printed = refl; appended = appended; answered = (λ yes. absurd (false≢true yes), λ no. absurd no) })
+
+-- a refusal that was appended
+pub declined_replied : (world : World) (old new : List ℕ) (refusal : Refusal) (effect : Effect) → record { world = world; reply = declined (Refused refusal) } ≡ effect
+    → new ≡ old ++ refusal_text refusal → IsReplied world old new effect true
+declined_replied world old new refusal effect same appended =
+    subst (λ (given : Effect). IsReplied world old new given true) same
+    (record { text = refusal_text refusal; left = refl; printed = refl; appended = appended; answered = (λ _. tt, λ _. refl) })
+
+-- why a call was declined was appended, or memory ran out
+pub declined_said : {E : Type 0} (result : Result Bool E) (failure : Failure) (world : World) (old new : List ℕ) (effect : Effect) → Declines failure old new result
+    → IsEffect (Err failure) world effect → IfOk result (IsReplied world old new effect)
+declined_said result failure world old new effect declines (inr same) = declines world effect same
+declined_said result failure world old new effect declines (inl lack) =
+    unsaid result (declines world (record { world = world; reply = declined out_of_memory }) (ap (λ (cause : Failure). record { world = world; reply = declined cause }) lack))
+  where
+    unsaid : {E : Type 0} (given : Result Bool E) → IfOk given (IsReplied world old new (record { world = world; reply = declined out_of_memory }))
+        → IfOk given (IsReplied world old new effect)
+    unsaid (Ok refused) is = absurd (is.printed)
+    unsaid (Err fault) is = tt
 
 -- a rehearsal that was appended
 pub rehearsal_replied : {E : Type 0} (result : Result Bool E) (world : World) (old new : List ℕ) (source : PlanSource) (state : Content) (now : ℤ) (effect : Effect)

@@ -1,6 +1,9 @@
 -- What the commands `next` and `rehearse` print.
 use Rattle.std.specs.Prelude.{◌≡◌, ◌⊎◌, ℕ, ℤ, List, [], ◌∷◌, ◌++◌, codes}
 use Rattle.std.specs.List.{flat_map}
+use Rattle.stn_refusal.specs.declared.code.Code.TheVariants as code
+use Rattle.stn_refusal.specs.Printed.{refusal_text}
+use Rattle.stn_refusal.specs.Refusals.{refusal_of}
 use Rattle.stn_time.specs.Text.{printed}
 use Rattle.stn_net.specs.Event.{event_text}
 use Rattle.stn_net.specs.Schedule.{HasSchedule}
@@ -13,8 +16,7 @@ use Rattle.stn_lift.specs.PlanSource.{PlanSource}
 use Rattle.stn_records.specs.Content.{Content}
 use Rattle.stn_replica.specs.Bounds.{all_bounds}
 use Rattle.stn_replica.specs.Dispatch.{done_events, IsRestOfPlan}
-use Rattle.stn_exec.specs.declared.answer.Refusal.TheVariants as refusal
-use Rattle.stn_exec.specs.Answer.{line_with_event, refusal_text}
+use Rattle.stn_exec.specs.Answer.{line_with_event}
 
 abbrev pub all_done_text : List ℕ
 all_done_text = codes "all done" ++ 10 ∷ []
@@ -71,7 +73,7 @@ pub record IsOverdueAt (source : PlanSource) (state : Content) (now : ℤ) (even
 pub record SaysOverdue (source : PlanSource) (state : Content) (now : ℤ) (text : List ℕ) : Type 0 where
   pub event : ℕ
   pub overdue : IsOverdueAt source state now event
-  pub line : text ≡ refusal_text (refusal.Overdue event)
+  pub line : text ≡ refusal_text (refusal_of code.Overdue event)
 
 -- the text that a site's `rehearse` prints
 abbrev pub IsRehearseText : PlanSource → Content → ℤ → List ℕ → Type 0

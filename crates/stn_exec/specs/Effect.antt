@@ -1,12 +1,15 @@
 -- What commands do at the sites of a world.
-use Rattle.std.specs.Prelude.{ℕ, ◌+◌, Bool, true, false, nat_lt, if◌then◌else◌, List, [], ◌∷◌, length, codes, ℤ, pos, neg_ℤ, Option, Some, None, is_some, option_map, option_and_then, Result, Ok, Err}
+use Rattle.std.specs.Prelude.{ℕ, ◌+◌, Bool, true, false, nat_lt, if◌then◌else◌, List, [], ◌∷◌, length, codes, ℤ, pos, neg_ℤ, Option, Some, None, is_some, option_map, Result, Ok, Err}
 use Rattle.std.specs.Option.{option_map_or}
 use Rattle.std.specs.Result.{result_ok}
 use Rattle.std.specs.Str.{bytes_eq}
+use Rattle.stn_refusal.specs.declared.code.Code.TheVariants.{NoEvent, NoSite}
+use Rattle.stn_refusal.specs.declared.failure.Failure.{Failure}
+use Rattle.stn_refusal.specs.Refusals.{refused}
 use Rattle.stn_time.specs.Time.{horizon}
 use Rattle.stn_time.specs.declared.reading.TimeFault.{TimeFault}
 use Rattle.stn_time.specs.TimeOf.{time_of}
-use Rattle.stn_net.specs.declared.bound.BoundFault.TheVariants.{NoEvent}
+use Rattle.stn_time.specs.Failures.{time_failure}
 use Rattle.stn_net.specs.Difference.{Difference}
 use Rattle.stn_net.specs.Schedule.{times_of}
 use Rattle.stn_lift.specs.PlanSource.{PlanSource, events_of}
@@ -16,21 +19,20 @@ use Rattle.stn_replica.specs.Names.{broken_bound}
 use Rattle.stn_questions.specs.declared.asked.Question.{Question}
 use Rattle.stn_questions.specs.declared.asked.Question.TheVariants as question
 use Rattle.stn_world.specs.declared.faults.WorldFault.{WorldFault}
+use Rattle.stn_world.specs.Failures.{world_failure}
 use Rattle.stn_world.specs.Parts.{holds_all}
 use Rattle.stn_world.specs.World.{World, has_site, content_at, next_id_at}
 use Rattle.stn_world.specs.Steps.{Step, added, finished, amended, withdrew, merged, sent, delivered, step_refusal, send_refusal, after}
-use Rattle.stn_exec.specs.declared.answer.Refusal.{Refusal}
-use Rattle.stn_exec.specs.declared.answer.Refusal.TheVariants as refusal
 use Rattle.stn_exec.specs.declared.answer.Answer.{Answer}
 use Rattle.stn_exec.specs.declared.answer.Answer.TheVariants as answer
 use Rattle.stn_exec.specs.Command as inquiry
 use Rattle.stn_exec.specs.Command.{Inquiry, Action, add, done, amend, withdraw, merge, send_all, send, deliver, report, check, next, rehearse, ask, Command}
-use Rattle.stn_exec.specs.Refusals.{refusal_of}
 
--- what a line prints: an answer; or, of what a site holds, the report, what comes next from a time on, the rest of the plan from a
--- time on, or the answer to a question
+-- what a line prints: an answer, or why there is none; or, of what a site holds, the report, what comes next from a time on, the rest
+-- of the plan from a time on, or the answer to a question
 pub data Reply : Type 0 where
   said : Answer → Reply
+  declined : Failure → Reply
   reported : PlanSource → Content → Reply
   foreseen : PlanSource → Content → ℤ → Reply
   rehearsed : PlanSource → Content → ℤ → Reply
@@ -42,15 +44,15 @@ pub record Effect : Type 0 where
   pub reply : Reply
 
 -- a refused command changes nothing
-abbrev pub refusing : World → Refusal → Effect
-refusing world cause = record { world = world; reply = said (answer.Refused cause) }
+abbrev pub refusing : World → Failure → Effect
+refusing world cause = record { world = world; reply = declined cause }
 
 -- a call of the world, which leaves a world and answers what was made;
 -- where something refuses the call, that is the answer, and nothing changes
 abbrev pub answered : World → World → Answer → Option WorldFault → Effect
 answered world left made cause = record {
   world = if is_some cause then world else left;
-  reply = said (option_map_or answer.Refused (option_and_then refusal_of cause) made);
+  reply = option_map_or (λ fault. declined (world_failure fault)) cause (said made);
 }
 
 -- a call that is a step
@@ -68,31 +70,31 @@ and_then (Ok value) rest = rest value
 and_then (Err fault) rest = Err fault
 
 -- a faulty time refuses the command
-abbrev pub refusing_time : Result ℤ TimeFault → Result ℤ Refusal
+abbrev pub refusing_time : Result ℤ TimeFault → Result ℤ Failure
 refusing_time (Ok time) = Ok time
-refusing_time (Err fault) = Err (refusal.Time fault)
+refusing_time (Err fault) = Err (time_failure fault)
 
 -- a side of a bound: the open one where the word is `*`, else the time that the word spells
-abbrev pub side_of : ℤ → List ℕ → Result ℤ Refusal
+abbrev pub side_of : ℤ → List ℕ → Result ℤ Failure
 side_of open_side word = if bytes_eq word (codes "*") then Ok open_side else refusing_time (time_of word)
 
 -- the difference that an addition or an amendment names, where both sides can be read, the lower one first
-abbrev pub difference_read : ℕ → ℕ → List ℕ → List ℕ → Result Difference Refusal
+abbrev pub difference_read : ℕ → ℕ → List ℕ → List ℕ → Result Difference Failure
 difference_read from to lo hi =
     and_then (side_of (neg_ℤ horizon) lo) (λ low. and_then (side_of horizon hi) (λ high. Ok (difference from to low high)))
 
 -- a call that makes a record of what was read
-abbrev pub making : {T : Type 0} → World → (T → Step) → Answer → Result T Refusal → Effect
+abbrev pub making : {T : Type 0} → World → (T → Step) → Answer → Result T Failure → Effect
 making world step made (Ok value) = called world (step value) made
 making world step made (Err cause) = refusing world cause
 
 -- a question about what a site holds, from a time on
-abbrev pub asked : World → (ℤ → Reply) → Result ℤ Refusal → Effect
+abbrev pub asked : World → (ℤ → Reply) → Result ℤ Failure → Effect
 asked world reply (Ok now) = record { world = world; reply = reply now }
 asked world reply (Err cause) = refusing world cause
 
 -- the question that is asked, where its time can be read
-abbrev pub question_asked : Inquiry → Result Question Refusal
+abbrev pub question_asked : Inquiry → Result Question Failure
 question_asked inquiry.records = Ok question.Records
 question_asked inquiry.steps = Ok question.Steps
 question_asked inquiry.bounds = Ok question.Bounds
@@ -105,14 +107,14 @@ is_of_no_event source (question.Why event) = nat_lt (events_of source) event
 is_of_no_event source other = false
 
 -- a question of the plan and of what a site holds
-abbrev pub asking : World → ℕ → Result Question Refusal → Effect
+abbrev pub asking : World → ℕ → Result Question Failure → Effect
 asking world site (Ok question) =
-    if is_of_no_event world.source question then refusing world (refusal.Bound NoEvent)
+    if is_of_no_event world.source question then refusing world (refused NoEvent)
     else record { world = world; reply = told world.source (content_at world site) question }
 asking world site (Err cause) = refusing world cause
 
 -- the times that the words spell, or the first fault
-abbrev pub times_from : List (List ℕ) → Result (List ℤ) Refusal
+abbrev pub times_from : List (List ℕ) → Result (List ℤ) Failure
 times_from [] = Ok []
 times_from (word ∷ words) =
     and_then (refusing_time (time_of word)) (λ time. and_then (times_from words) (λ times. Ok (time ∷ times)))
@@ -122,9 +124,9 @@ abbrev pub times_answer : PlanSource → Content → List ℤ → Answer
 times_answer source state times = option_map_or answer.Broken (broken_bound source state (times_of times)) answer.Schedule
 
 -- a check of the times of the events from 1 on, where they can be read; the origin's time is 0
-abbrev pub check_answer : PlanSource → Content → Result (List ℤ) Refusal → Answer
-check_answer source state (Ok times) = times_answer source state (pos 0 ∷ times)
-check_answer source state (Err cause) = answer.Refused cause
+abbrev pub check_reply : PlanSource → Content → Result (List ℤ) Failure → Reply
+check_reply source state (Ok times) = said (times_answer source state (pos 0 ∷ times))
+check_reply source state (Err cause) = declined cause
 
 -- a command of a site that is there
 abbrev pub action_effect : World → ℕ → Action → Effect
@@ -139,7 +141,7 @@ action_effect world site (send records tombstones) =
     sending world site (part_of (content_at world site) records tombstones) (holds_all (content_at world site) records tombstones)
 action_effect world site (deliver packet) = called world (delivered site packet) answer.Delivered
 action_effect world site report = record { world = world; reply = reported world.source (content_at world site) }
-action_effect world site (check times) = record { world = world; reply = said (check_answer world.source (content_at world site) (times_from times)) }
+action_effect world site (check times) = record { world = world; reply = check_reply world.source (content_at world site) (times_from times) }
 action_effect world site (next now) = asked world (foreseen world.source (content_at world site)) (refusing_time (time_of now))
 action_effect world site (rehearse now) = asked world (rehearsed world.source (content_at world site)) (refusing_time (time_of now))
 action_effect world site (ask what) = asking world site (question_asked what)
@@ -147,7 +149,7 @@ action_effect world site (ask what) = asking world site (question_asked what)
 -- a command
 abbrev pub command_effect : World → Command → Effect
 command_effect world command =
-    if has_site world command.site then action_effect world command.site command.action else refusing world refusal.NoSite
+    if has_site world command.site then action_effect world command.site command.action else refusing world (refused NoSite)
 
 -- the step of a call that sends: none where the call is refused, since steps know no limit of packets
 abbrev pub sent_step : World → ℕ → Content → Bool → Option Step

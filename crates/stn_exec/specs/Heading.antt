@@ -1,16 +1,15 @@
 -- For proofs alone: no public clause cites these words.
 -- What the code has read of a heading.
-use Rattle.std.specs.Prelude.{◌≡◌, ◌∷◌, Result, Ok, Err, ⊤}
+use Rattle.std.specs.Prelude.{◌≡◌, ◌⊎◌, ◌∷◌, Result, Ok, Err}
+use Rattle.stn_refusal.specs.declared.failure.Failure.{Failure}
+use Rattle.stn_refusal.specs.Refusals.{out_of_memory}
 use Rattle.stn_lift.specs.PlanSource.{PlanSource}
 use Rattle.stn_text.specs.Lines.{lines_of, words_of}
 use Rattle.stn_world.specs.World.{World, opening_world}
-use Rattle.stn_exec.specs.declared.answer.Refusal.{Refusal}
 use Rattle.stn_exec.specs.declared.heading.FoundLine.{FoundLine}
 use Rattle.stn_exec.specs.declared.heading.HeadingPart.{HeadingPart}
 use Rattle.stn_exec.specs.declared.heading.Rest.{Rest}
 use Rattle.stn_exec.specs.declared.heading.HeadingBlock.{HeadingBlock}
-use Rattle.stn_exec.specs.declared.heading.HeadingFault.{HeadingFault}
-use Rattle.stn_exec.specs.declared.heading.HeadingFault.TheVariants as heading_fault
 use Rattle.stn_exec.specs.Blocks.{Block}
 use Rattle.stn_exec.specs.Script.{Found, Part, Based, Start}
 
@@ -36,14 +35,13 @@ abbrev pub seen_base : PlanSource → Rest → Based
 seen_base source rest = record { source = source; number = rest.number; lines = lines_of rest.text.now }
 
 -- the world and the commands are those that the heading gives
-pub record IsOpened (heading : Result Start Refusal) (world : World) (rest : Rest) : Type 0 where
+pub record IsOpened (heading : Result Start Failure) (world : World) (rest : Rest) : Type 0 where
   pub start : Start
   pub read : heading ≡ Ok start
   pub opening : world ≡ opening_world start.source start.sites
   pub number : start.number ≡ rest.number
   pub lines : start.lines ≡ lines_of rest.text.now
 
--- the refusal is the one wanted; lack of memory is none
-abbrev pub IsHeadingFault : {T : Type 0} → Result T Refusal → HeadingFault → Type 0
-IsHeadingFault wanted (heading_fault.Refused cause) = wanted ≡ Err cause
-IsHeadingFault wanted heading_fault.Memory = ⊤
+-- memory ran out, or the failure is the one wanted
+abbrev pub IsHeadingFailure : {T : Type 0} → Result T Failure → Failure → Type 0
+IsHeadingFailure wanted failure = (failure ≡ out_of_memory) ⊎ (wanted ≡ Err failure)

@@ -1,8 +1,7 @@
-pub mod BaseRefusals
 pub mod Answer
+pub mod Failures
 pub mod Command
 pub mod Dispatch
-pub mod Refusals
 pub mod Effect
 pub mod Blocks
 pub mod Saying

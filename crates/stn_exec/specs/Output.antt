@@ -1,16 +1,20 @@
 -- The output that replies are, and how many of them are refusals.
-use Rattle.std.specs.Prelude.{◌≡◌, ℕ, ◌+◌, Bool, true, if◌then◌else◌, List, [], ◌∷◌, ◌++◌, Option}
+use Rattle.std.specs.Prelude.{◌≡◌, ℕ, ◌+◌, Bool, if◌then◌else◌, List, [], ◌∷◌, ◌++◌, Option, ⊤}
 use Rattle.std.specs.Bool.{Decides}
 use Rattle.std.specs.Io.KnownBytes.{Appends}
+use Rattle.stn_refusal.specs.declared.failure.Failure.TheVariants.{Refused, Failed}
+use Rattle.stn_refusal.specs.Printed.{refusal_text}
 use Rattle.stn_replica.specs.Report.{IsReport}
 use Rattle.stn_questions.specs.Answer.{IsAnswer}
-use Rattle.stn_exec.specs.Answer.{answer_text, is_refusal}
+use Rattle.stn_exec.specs.Answer.{answer_text}
 use Rattle.stn_exec.specs.Dispatch.{IsNextText, IsRehearseText, IsRefusedRehearsal}
-use Rattle.stn_exec.specs.Effect.{Reply, said, reported, foreseen, rehearsed, told}
+use Rattle.stn_exec.specs.Effect.{Reply, said, declined, reported, foreseen, rehearsed, told}
 
--- the text is printed for the reply
+-- the text is printed for the reply; where memory runs out, none is
 abbrev pub IsReplyText : Reply → List ℕ → Type 0
 IsReplyText (said answer) text = text ≡ answer_text answer
+IsReplyText (declined (Refused refusal)) text = text ≡ refusal_text refusal
+IsReplyText (declined (Failed fault)) text = ⊥
 IsReplyText (reported source state) text = IsReport source state text
 IsReplyText (foreseen source state now) text = IsNextText source state now text
 IsReplyText (rehearsed source state now) text = IsRehearseText source state now text
@@ -18,7 +22,7 @@ IsReplyText (told source state question) text = IsAnswer source state question t
 
 -- the reply is a refusal
 abbrev pub IsRefusal : Reply → Type 0
-IsRefusal (said answer) = is_refusal answer ≡ true
+IsRefusal (declined cause) = ⊤
 IsRefusal (rehearsed source state now) = IsRefusedRehearsal source state now
 IsRefusal other = ⊥
 

@@ -1,16 +1,17 @@
 -- A script: its heading, and the fold of its commands.
 use Rattle.std.specs.Prelude.{ℕ, ◌+◌, Bool, true, ◌==◌, ◌&&◌, nat_le, if◌then◌else◌, List, [], ◌∷◌, ◌++◌, codes, slice_index, count_by, Option, Some, None, Result, Ok, Err}
 use Rattle.std.specs.Str.{bytes_eq}
+use Rattle.stn_refusal.specs.declared.code.Code.TheVariants.{Line, NoSite}
+use Rattle.stn_refusal.specs.declared.failure.Failure.{Failure}
+use Rattle.stn_refusal.specs.Refusals.{refused, refused_at}
 use Rattle.stn_lift.specs.declared.fault.BaseFault.{BaseFault}
+use Rattle.stn_lift.specs.Failures.{base_failure}
 use Rattle.stn_lift.specs.PlanSource.{PlanSource, bare, files, events_of, base_of}
 use Rattle.stn_records.specs.Id.{most_sites}
 use Rattle.stn_text.specs.Lines.{is_line_end, lines_of, words_of}
 use Rattle.stn_text.specs.Numbers.{number_of}
 use Rattle.stn_world.specs.World.{World, opening_world}
-use Rattle.stn_exec.specs.declared.answer.Refusal.{Refusal}
-use Rattle.stn_exec.specs.declared.answer.Refusal.TheVariants as refusal
-use Rattle.stn_exec.specs.declared.answer.Answer.TheVariants as answer
-use Rattle.stn_exec.specs.Effect.{Reply, said, Effect, refusing, and_then, command_effect}
+use Rattle.stn_exec.specs.Effect.{Reply, declined, Effect, refusing, and_then, command_effect}
 use Rattle.stn_exec.specs.Command.{Command, command_of}
 use Rattle.stn_exec.specs.Blocks.{Block, is_alone, block_from}
 
@@ -34,7 +35,7 @@ followed_by first next = record {
 
 -- a line that is a command, or has another form
 abbrev pub form_effect : ℕ → World → Option Command → Effect
-form_effect number world None = refusing world (refusal.Line number)
+form_effect number world None = refusing world (refused_at Line number)
 form_effect number world (Some command) = command_effect world command
 
 -- the line has no words, or is a comment
@@ -92,18 +93,18 @@ pub record Part : Type 0 where
   pub found : Found
 
 -- the line, where it has its form
-abbrev pub part_with : Found → Option ℕ → Result Part Refusal
-part_with found None = Err (refusal.Line found.number)
+abbrev pub part_with : Found → Option ℕ → Result Part Failure
+part_with found None = Err (refused_at Line found.number)
 part_with found (Some value) = Ok (record { value = value; found = found })
 
 -- a part of the heading; where the script ends before it, the refusal names the last line
-abbrev pub part_of : ℕ → List ℕ → Option Found → Result Part Refusal
-part_of last name None = Err (refusal.Line last)
+abbrev pub part_of : ℕ → List ℕ → Option Found → Result Part Failure
+part_of last name None = Err (refused_at Line last)
 part_of last name (Some found) = part_with found (heading_number name found.words)
 
 -- there is a site, and no more than the most
-abbrev pub sites_of : ℕ → Result ℕ Refusal
-sites_of sites = if nat_le 1 sites && nat_le sites most_sites then Ok sites else Err refusal.NoSite
+abbrev pub sites_of : ℕ → Result ℕ Failure
+sites_of sites = if nat_le 1 sites && nat_le sites most_sites then Ok sites else Err (refused NoSite)
 
 -- where a part of a script begins: what the plan is made from, how many sites there are, the number of the first line, and the lines
 pub record Based : Type 0 where
@@ -118,67 +119,67 @@ pub record Start : Type 0 where
   pub lines : List (List ℕ)
 
 -- the source that has a base, or the refusal of its first fault
-abbrev pub refusing_fault : Result PlanSource BaseFault → Result PlanSource Refusal
+abbrev pub refusing_fault : Result PlanSource BaseFault → Result PlanSource Failure
 refusing_fault (Ok source) = Ok source
-refusing_fault (Err fault) = Err (refusal.Base fault)
+refusing_fault (Err fault) = Err (base_failure fault)
 
 -- the base of a source is made, and the lines from a number on stand after it
-abbrev pub with_base : PlanSource → ℕ → List (List ℕ) → Result Based Refusal
+abbrev pub with_base : PlanSource → ℕ → List (List ℕ) → Result Based Failure
 with_base source number lines =
     and_then (refusing_fault (base_of source)) (λ made. Ok (record { source = made; number = number; lines = lines }))
 
 -- the steps of a bare plan, by the line that says how many
-abbrev pub bare_part : Found → Result Based Refusal
+abbrev pub bare_part : Found → Result Based Failure
 bare_part found =
     and_then (part_with found (heading_number (codes "steps") found.words)) (λ steps.
     with_base (bare steps.value) (found.number + 1) found.behind)
 
 -- the block, where it ends; else the refusal names the last line of the script
-abbrev pub ended_block : ℕ → Option Block → Result Block Refusal
-ended_block last None = Err (refusal.Line last)
+abbrev pub ended_block : ℕ → Option Block → Result Block Failure
+ended_block last None = Err (refused_at Line last)
 ended_block last (Some block) = Ok block
 
 -- the block that begins with the line of a number
-abbrev pub block_at : ℕ → ℕ → List (List ℕ) → Result Block Refusal
+abbrev pub block_at : ℕ → ℕ → List (List ℕ) → Result Block Failure
 block_at last number lines = ended_block last (block_from number lines)
 
 -- the block of a name: a line that is its name alone, and the lines after that
-abbrev pub named_block : ℕ → List ℕ → Option Found → Result Block Refusal
-named_block last name None = Err (refusal.Line last)
+abbrev pub named_block : ℕ → List ℕ → Option Found → Result Block Failure
+named_block last name None = Err (refused_at Line last)
 named_block last name (Some found) =
-    if is_alone name found.words then block_at last (found.number + 1) found.behind else Err (refusal.Line found.number)
+    if is_alone name found.words then block_at last (found.number + 1) found.behind else Err (refused_at Line found.number)
 
 -- the texts of a domain and of a plan, after the line `domain`
-abbrev pub files_part : ℕ → Found → Result Based Refusal
+abbrev pub files_part : ℕ → Found → Result Based Failure
 files_part last found =
     and_then (block_at last (found.number + 1) found.behind) (λ domain.
     and_then (named_block last (codes "plan") (next_line domain.number domain.behind)) (λ plan.
     with_base (files domain.text plan.text) plan.number plan.behind))
 
 -- the first part of the heading, by its first line
-abbrev pub first_part : ℕ → Option Found → Result Based Refusal
-first_part last None = Err (refusal.Line last)
+abbrev pub first_part : ℕ → Option Found → Result Based Failure
+first_part last None = Err (refused_at Line last)
 first_part last (Some found) = if is_alone (codes "domain") found.words then files_part last found else bare_part found
 
 -- the first part of the heading: what the plan is made from, whose base is made when the part is complete
-unfoldable pub based : ℕ → List (List ℕ) → Result Based Refusal
+unfoldable pub based : ℕ → List (List ℕ) → Result Based Failure
 based last lines = first_part last (next_line 1 lines)
 
 -- the second part: the number of sites
-unfoldable pub with_sites : ℕ → Based → Result Start Refusal
+unfoldable pub with_sites : ℕ → Based → Result Start Failure
 with_sites last base =
     and_then (part_of last (codes "sites") (next_line base.number base.lines)) (λ sites.
     and_then (sites_of sites.value) (λ count.
     Ok (record { source = base.source; sites = count; number = sites.found.number + 1; lines = sites.found.behind })))
 
 -- the heading: where the commands begin, or the first fault
-abbrev pub heading_of : ℕ → List (List ℕ) → Result Start Refusal
+abbrev pub heading_of : ℕ → List (List ℕ) → Result Start Failure
 heading_of last lines = and_then (based last lines) (with_sites last)
 
 -- a fault of the heading is printed, and ends the run; else the commands are run, at sites that hold nothing yet
-abbrev pub started : Result Start Refusal → Outcome
+abbrev pub started : Result Start Failure → Outcome
 started (Ok start) = lines_outcome start.number (opening_world start.source start.sites) start.lines
-started (Err cause) = record { world = opening_world (bare 0) 0; replies = said (answer.Refused cause) ∷ []; commands = 0 }
+started (Err cause) = record { world = opening_world (bare 0) 0; replies = declined cause ∷ []; commands = 0 }
 
 -- the number of the line after the last LF
 abbrev pub last_line : List ℕ → ℕ

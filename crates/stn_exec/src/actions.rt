@@ -1,27 +1,25 @@
-ghost use Rattle.std.specs.Prelude.{◌≡◌, ℕ, ◌+◌, Some, Ok, Err, length, pos, neg_ℤ, IfOk, IfErr};
+ghost use Rattle.std.specs.Prelude.{◌≡◌, ℕ, ◌+◌, Ok, Err, length, pos, neg_ℤ, IfOk, IfErr};
 ghost use Rattle.stn_time.specs.Time.{horizon};
 ghost use Rattle.stn_time.specs.TimeOf.{time_of};
 ghost use Rattle.stn_net.specs.Schedule.{times_of};
 ghost use Rattle.stn_lift.specs.PlanSource.{events_of};
 ghost use Rattle.stn_text.specs.Lines.{words_of};
-ghost use Rattle.stn_exec.specs.declared.answer.Refusal.{Refusal};
-ghost use Rattle.stn_world.specs.declared.faults.WorldFault.TheVariants.{Replica};
-ghost use Rattle.stn_exec.specs.declared.answer.Answer.TheVariants.{Refused};
 ghost use Rattle.stn_exec.specs.Command.{add, done, amend, withdraw, merge, send_all, send, send_items, deliver};
-ghost use Rattle.stn_exec.specs.Refusals.{refusal_of};
 ghost use Rattle.stn_exec.specs.Running.{seen_inquiry};
-ghost use Rattle.stn_exec.specs.Effect.{said, refusing_time, side_of, difference_read, question_asked, action_effect, check_answer, times_answer, times_from};
+ghost use Rattle.stn_exec.specs.Effect.{refusing_time, side_of, difference_read, question_asked, action_effect, check_reply, times_answer, times_from};
+ghost use Rattle.stn_exec.specs.Saying.{IsReply, IsEffect};
 
-use crate::answer::{Answer, Refusal};
+use crate::answer::Answer;
 use crate::command::{Inquiry, read_records, read_tombstones};
-use std::alloc::{AllocError, Allocator};
+use std::alloc::Allocator;
 use stn_net::Event;
 use stn_questions::Question;
 use stn_records::Id;
-use stn_replica::{Replica as SiteReplica, ReplicaFault};
+use stn_refusal::Failure;
+use stn_replica::Replica;
 use stn_text::first_word;
-use stn_time::{HORIZON, Memory, Ms};
-use stn_world::{World, WorldFault};
+use stn_time::{HORIZON, Ms};
+use stn_world::World;
 
 /// Adds at a site the bound of these events and sides, which are words of a line.
 pub fn add<A: Allocator + Copy>(
@@ -31,17 +29,12 @@ pub fn add<A: Allocator + Copy>(
     to: Event,
     lo: &[u8],
     hi: &[u8],
-) -> Result<Answer, Memory>
-    ensures { IfOk result (λ answer. record { world = world.new; reply = said answer }
-        ≡ action_effect world.old site (add from to lo.now hi.now)) }
+) -> Result<Answer, Failure>
+    ensures { IsEffect result world.new (action_effect world.old site (add from to lo.now hi.now)) }
 {
-    match read_sides(lo, hi) {
-        Ok((low, high)) => match world.add(site, from, to, low, high) {
-            Ok(id) => Ok(Answer::Added(id)),
-            Err(fault) => refused(fault),
-        },
-        Err(refusal) => Ok(Answer::Refused(refusal)),
-    }
+    let (low, high) = read_sides(lo, hi)?;
+    let id = world.add(site, from, to, low, high)?;
+    Ok(Answer::Added(id))
 }
 
 /// Records at a site the time at which an event was executed, which is a word of a line.
@@ -50,17 +43,12 @@ pub fn done<A: Allocator + Copy>(
     site: u32,
     event: Event,
     time: &[u8],
-) -> Result<Answer, Memory>
-    ensures { IfOk result (λ answer. record { world = world.new; reply = said answer }
-        ≡ action_effect world.old site (done event time.now)) }
+) -> Result<Answer, Failure>
+    ensures { IsEffect result world.new (action_effect world.old site (done event time.now)) }
 {
-    match read_time(time) {
-        Ok(time) => match world.done(site, event, time) {
-            Ok(id) => Ok(Answer::Added(id)),
-            Err(fault) => refused(fault),
-        },
-        Err(refusal) => Ok(Answer::Refused(refusal)),
-    }
+    let time = read_time(time)?;
+    let id = world.done(site, event, time)?;
+    Ok(Answer::Added(id))
 }
 
 /// Amends a record at a site by the bound of these events and sides, which are words of a line.
@@ -72,17 +60,12 @@ pub fn amend<A: Allocator + Copy>(
     to: Event,
     lo: &[u8],
     hi: &[u8],
-) -> Result<Answer, Memory>
-    ensures { IfOk result (λ answer. record { world = world.new; reply = said answer }
-        ≡ action_effect world.old site (amend old from to lo.now hi.now)) }
+) -> Result<Answer, Failure>
+    ensures { IsEffect result world.new (action_effect world.old site (amend old from to lo.now hi.now)) }
 {
-    match read_sides(lo, hi) {
-        Ok((low, high)) => match world.amend(site, old, from, to, low, high) {
-            Ok(id) => Ok(Answer::Amended(id)),
-            Err(fault) => refused(fault),
-        },
-        Err(refusal) => Ok(Answer::Refused(refusal)),
-    }
+    let (low, high) = read_sides(lo, hi)?;
+    let id = world.amend(site, old, from, to, low, high)?;
+    Ok(Answer::Amended(id))
 }
 
 /// Withdraws a record at a site.
@@ -90,14 +73,11 @@ pub fn withdraw<A: Allocator + Copy>(
     world: &mut World<A>,
     site: u32,
     id: Id,
-) -> Result<Answer, Memory>
-    ensures { IfOk result (λ answer. record { world = world.new; reply = said answer }
-        ≡ action_effect world.old site (withdraw id)) }
+) -> Result<Answer, Failure>
+    ensures { IsEffect result world.new (action_effect world.old site (withdraw id)) }
 {
-    match world.withdraw(site, id) {
-        Ok(()) => Ok(Answer::Withdrawn(id)),
-        Err(fault) => refused(fault),
-    }
+    world.withdraw(site, id)?;
+    Ok(Answer::Withdrawn(id))
 }
 
 /// Takes in at a site all that another holds.
@@ -105,25 +85,19 @@ pub fn merge<A: Allocator + Copy>(
     world: &mut World<A>,
     site: u32,
     other: u32,
-) -> Result<Answer, Memory>
-    ensures { IfOk result (λ answer. record { world = world.new; reply = said answer }
-        ≡ action_effect world.old site (merge other)) }
+) -> Result<Answer, Failure>
+    ensures { IsEffect result world.new (action_effect world.old site (merge other)) }
 {
-    match world.merge(site, other) {
-        Ok(()) => Ok(Answer::Merged),
-        Err(fault) => refused(fault),
-    }
+    world.merge(site, other)?;
+    Ok(Answer::Merged)
 }
 
 /// Sends all that a site holds.
-pub fn send_all<A: Allocator + Copy>(world: &mut World<A>, site: u32) -> Result<Answer, Memory>
-    ensures { IfOk result (λ answer. record { world = world.new; reply = said answer }
-        ≡ action_effect world.old site send_all) }
+pub fn send_all<A: Allocator + Copy>(world: &mut World<A>, site: u32) -> Result<Answer, Failure>
+    ensures { IsEffect result world.new (action_effect world.old site send_all) }
 {
-    match world.send_all(site) {
-        Ok(number) => Ok(Answer::Sent(number)),
-        Err(fault) => refused(fault),
-    }
+    let number = world.send_all(site)?;
+    Ok(Answer::Sent(number))
 }
 
 /// Sends the records of a site that the words of a line name, with the ids that they replace, and the
@@ -133,9 +107,8 @@ pub fn send<A: Allocator + Copy>(
     world: &mut World<A>,
     site: u32,
     items: &[u8],
-) -> Result<Answer, Memory>
-    ensures { IfOk result (λ answer. record { world = world.new; reply = said answer }
-        ≡ action_effect world.old site (send_items (words_of items.now))) }
+) -> Result<Answer, Failure>
+    ensures { IsEffect result world.new (action_effect world.old site (send_items (words_of items.now))) }
 {
     let records = read_records(alloc, items)?;
     let tombstones = read_tombstones(alloc, items)?;
@@ -147,14 +120,11 @@ fn send_part<A: Allocator + Copy>(
     site: u32,
     records: &[Id],
     tombstones: &[Id],
-) -> Result<Answer, Memory>
-    ensures { IfOk result (λ answer. record { world = world.new; reply = said answer }
-        ≡ action_effect world.old site (send records.now tombstones.now)) }
+) -> Result<Answer, Failure>
+    ensures { IsEffect result world.new (action_effect world.old site (send records.now tombstones.now)) }
 {
-    match world.send(site, records, tombstones) {
-        Ok(number) => Ok(Answer::Sent(number)),
-        Err(fault) => refused(fault),
-    }
+    let number = world.send(site, records, tombstones)?;
+    Ok(Answer::Sent(number))
 }
 
 /// Takes in at a site all that a packet holds.
@@ -162,40 +132,35 @@ pub fn deliver<A: Allocator + Copy>(
     world: &mut World<A>,
     site: u32,
     packet: u32,
-) -> Result<Answer, Memory>
-    ensures { IfOk result (λ answer. record { world = world.new; reply = said answer }
-        ≡ action_effect world.old site (deliver packet)) }
+) -> Result<Answer, Failure>
+    ensures { IsEffect result world.new (action_effect world.old site (deliver packet)) }
 {
-    match world.deliver(site, packet) {
-        Ok(()) => Ok(Answer::Delivered),
-        Err(fault) => refused(fault),
-    }
+    world.deliver(site, packet)?;
+    Ok(Answer::Delivered)
 }
 
 /// Checks the times of the events from 1 on, which are the words of a line.
 pub fn check<A: Allocator + Copy>(
     alloc: A,
-    replica: &SiteReplica<A>,
+    replica: &Replica<A>,
     line: &[u8],
-) -> Result<Answer, Memory>
+) -> Result<Answer, Failure>
     requires { length (words_of line.now) ≡ events_of replica.now.source }
-    ensures { IfOk result (λ answer. answer ≡ check_answer replica.now.source replica.now.state (times_from (words_of line.now))) }
+    ensures { IsReply result (check_reply replica.now.source replica.now.state (times_from (words_of line.now))) }
 {
     let mut times = Vec::new(alloc);
     times.push(Ms::new(0).unwrap())?;
     let mut rest = line;
     while let Some((word, behind)) = first_word(rest) {
-        match read_time(word) {
-            Ok(time) => times.push(time)?,
-            Err(refusal) => return Ok(Answer::Refused(refusal)),
-        }
+        let time = read_time(word)?;
+        times.push(time)?;
         rest = behind;
     }
     Ok(check_times(replica, &times))
 }
 
 /// Checks the times of all events, the origin's, 0, first.
-pub fn check_times<A: Allocator + Copy>(replica: &SiteReplica<A>, times: &[Ms]) -> Answer
+pub fn check_times<A: Allocator + Copy>(replica: &Replica<A>, times: &[Ms]) -> Answer
     requires origin { times_of times.now 0 ≡ pos 0 }
     requires one_each { length times.now ≡ events_of replica.now.source + 1 }
     ensures { result ≡ times_answer replica.now.source replica.now.state times.now }
@@ -206,11 +171,11 @@ pub fn check_times<A: Allocator + Copy>(replica: &SiteReplica<A>, times: &[Ms]) 
     }
 }
 
-// Both sides of a bound, the lower one first, or the first refusal.
-fn read_sides(lo: &[u8], hi: &[u8]) -> Result<(Ms, Ms), Refusal>
+// Both sides of a bound, the lower one first, or the first failure.
+fn read_sides(lo: &[u8], hi: &[u8]) -> Result<(Ms, Ms), Failure>
     ensures low { IfOk result (λ sides. side_of (neg_ℤ horizon) lo.now ≡ Ok sides.0) }
     ensures high { IfOk result (λ sides. side_of horizon hi.now ≡ Ok sides.1) }
-    ensures refused { IfErr result (λ refusal. (from to : ℕ) → difference_read from to lo.now hi.now ≡ Err refusal) }
+    ensures refused { IfErr result (λ failure. (from to : ℕ) → difference_read from to lo.now hi.now ≡ Err failure) }
 {
     let low = read_side(lo, Ms::new(-HORIZON).unwrap())?;
     let high = read_side(hi, Ms::new(HORIZON).unwrap())?;
@@ -218,7 +183,7 @@ fn read_sides(lo: &[u8], hi: &[u8]) -> Result<(Ms, Ms), Refusal>
 }
 
 // The side of a bound that a word is: the open one for `*`, else a time.
-fn read_side(word: &[u8], open_side: Ms) -> Result<Ms, Refusal>
+fn read_side(word: &[u8], open_side: Ms) -> Result<Ms, Failure>
     ensures { result ≡ side_of open_side word.now }
 {
     if word == b"*".as_slice() {
@@ -228,17 +193,17 @@ fn read_side(word: &[u8], open_side: Ms) -> Result<Ms, Refusal>
 }
 
 /// The time that a word spells.
-pub fn read_time(word: &[u8]) -> Result<Ms, Refusal>
+pub fn read_time(word: &[u8]) -> Result<Ms, Failure>
     ensures { result ≡ refusing_time (time_of word.now) }
 {
     match Ms::read(word) {
         Ok(time) => Ok(time),
-        Err(fault) => Err(Refusal::Time(fault)),
+        Err(fault) => Err(Failure::from(fault)),
     }
 }
 
 /// The question that is asked, where its time can be read.
-pub fn question_asked(inquiry: &Inquiry<'_>) -> Result<Question, Refusal>
+pub fn question_asked(inquiry: &Inquiry<'_>) -> Result<Question, Failure>
     ensures { result ≡ question_asked (seen_inquiry inquiry.now) }
 {
     Ok(match inquiry {
@@ -248,32 +213,4 @@ pub fn question_asked(inquiry: &Inquiry<'_>) -> Result<Question, Refusal>
         Inquiry::Ready(now) => Question::Ready(read_time(now)?),
         Inquiry::Why(event) => Question::Why(*event),
     })
-}
-
-// The answer where a world refused a call; lack of memory is none.
-fn refused(fault: WorldFault) -> Result<Answer, Memory>
-    ensures { IfOk result (λ answer. (cause : Refusal) × (refusal_of fault ≡ Some cause) × (answer ≡ Refused cause)) }
-{
-    match fault {
-        WorldFault::NoSite => Ok(Answer::Refused(Refusal::NoSite)),
-        WorldFault::NoPacket => Ok(Answer::Refused(Refusal::NoPacket)),
-        WorldFault::TooManyPackets => Ok(Answer::Refused(Refusal::TooManyPackets)),
-        WorldFault::Replica(fault) => refused_by(fault),
-        WorldFault::Memory => Err(AllocError),
-    }
-}
-
-// The answer where a replica refused a call.
-fn refused_by(fault: ReplicaFault) -> Result<Answer, Memory>
-    ensures { IfOk result (λ answer. (cause : Refusal) × (refusal_of (Replica fault) ≡ Some cause) × (answer ≡ Refused cause)) }
-{
-    let refusal = match fault {
-        ReplicaFault::Bound(fault) => Refusal::Bound(fault),
-        ReplicaFault::CounterSpent => Refusal::CounterSpent,
-        ReplicaFault::Full => Refusal::Full,
-        ReplicaFault::Unknown => Refusal::Unknown,
-        ReplicaFault::Clash(id) => Refusal::Clash(id),
-        ReplicaFault::Memory => return Err(AllocError),
-    };
-    Ok(Answer::Refused(refusal))
 }

@@ -3,15 +3,18 @@ ghost use Rattle.std.specs.Bool.{Decides};
 ghost use Rattle.stn_net.specs.Schedule.{times_of};
 ghost use Rattle.stn_lift.specs.PlanSource.{events_of};
 ghost use Rattle.stn_windows.specs.declared.answers.RehearseFault.TheVariants.{Overdue, Memory as want_of_memory};
-ghost use Rattle.stn_exec.specs.declared.answer.Refusal.TheVariants as refusal;
-ghost use Rattle.stn_exec.specs.Answer.{answer_text, refusal_text};
+ghost use Rattle.stn_refusal.specs.declared.code.Code.TheVariants as code;
+ghost use Rattle.stn_refusal.specs.Printed.{refusal_text};
+ghost use Rattle.stn_refusal.specs.Refusals.{refusal_of};
+ghost use Rattle.stn_exec.specs.Answer.{answer_text};
 ghost use Rattle.stn_exec.specs.Dispatch.{run_line, runs_text, next_text, IsNextText, IsRestText, IsRehearseText, IsOverdueAt, IsRefusedRehearsal};
 ghost use Rattle.stn_exec.specs.Effect.{times_answer};
 
 use crate::actions::check_times;
-use crate::answer::{Refusal, append_event_line};
+use crate::answer::append_event_line;
 use std::alloc::{AllocError, Allocator};
 use stn_net::Event;
+use stn_refusal::{Code, Refusal};
 use stn_replica::Replica;
 use stn_time::{Memory, Ms};
 use stn_windows::{Next, RehearseFault};
@@ -108,12 +111,12 @@ pub fn append_rehearsal<A: Allocator + Copy, B: Allocator>(
 
 // Appends the refusal of a rehearsal in which an event is overdue.
 fn append_overdue<B: Allocator>(fault: RehearseFault, out: &mut Vec<u8, B>) -> Result<bool, Memory>
-    ensures text { OnOk result ((event : ℕ) × (fault ≡ Overdue event) × (out.new.items ≡ out.old.items ++ refusal_text (refusal.Overdue event))) }
+    ensures text { OnOk result ((event : ℕ) × (fault ≡ Overdue event) × (out.new.items ≡ out.old.items ++ refusal_text (refusal_of code.Overdue event))) }
     ensures refused { IfOk result (λ refused. refused ≡ true) }
 {
     match fault {
         RehearseFault::Overdue(event) => {
-            Refusal::Overdue(event).print(out)?;
+            Refusal::of(Code::Overdue, event.number()).print(out)?;
             Ok(true)
         }
         RehearseFault::Memory => Err(AllocError),

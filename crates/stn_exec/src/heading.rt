@@ -3,15 +3,15 @@ ghost use Rattle.std.specs.Option.{option_map};
 ghost use Rattle.stn_text.specs.Lines.{lines_of, words_of};
 ghost use Rattle.stn_lift.specs.PlanSource.{bare, files, plan_source, base_of};
 ghost use Rattle.stn_exec.specs.Blocks.{is_alone, block_from};
-ghost use Rattle.stn_exec.specs.Heading.{seen_found, seen_part, seen_block, seen_base, result_seen, IsOpened, IsHeadingFault};
+ghost use Rattle.stn_exec.specs.Heading.{seen_found, seen_part, seen_block, seen_base, result_seen, IsOpened, IsHeadingFailure};
 ghost use Rattle.stn_exec.specs.Script.{is_skipped, next_line, heading_number, part_of, refusing_fault, block_at, named_block, bare_part, files_part, based, heading_of};
 
-use crate::answer::Refusal;
-use std::alloc::{AllocError, AllocFailed, Allocator};
+use std::alloc::Allocator;
 use std::rc::Rc;
-use stn_lift::{Base, BaseFault, Source};
+use stn_lift::{Base, Source};
+use stn_refusal::{Code, Failure};
 use stn_text::{first_line, first_word, read_number};
-use stn_world::{SitesFault, World};
+use stn_world::World;
 
 /// A line that is not skipped: its number, its first word, what stands after the word, and the text
 /// after the line.
@@ -44,56 +44,17 @@ pub struct HeadingBlock<'a> {
     pub behind: Rest<'a>,
 }
 
-/// Why a heading opens no world.
-#[derive(Clone, Copy)]
-pub enum HeadingFault {
-    /// The heading is refused.
-    Refused(Refusal),
-    /// Memory was refused.
-    Memory,
-}
-
-impl From<Refusal> for HeadingFault {
-    ghost use Rattle.stn_exec.specs.declared.heading.HeadingFault.TheVariants.{Refused};
-
-    ghost from_gives = { λ refusal fault. fault ≡ Refused refusal };
-
-    fn from(refusal: Refusal) -> HeadingFault {
-        HeadingFault::Refused(refusal)
-    }
-}
-
-impl From<AllocError> for HeadingFault {
-    ghost use Rattle.stn_exec.specs.declared.heading.HeadingFault.TheVariants.{Memory};
-
-    ghost from_gives = { λ _ fault. fault ≡ Memory };
-
-    fn from(_error: AllocError) -> HeadingFault {
-        HeadingFault::Memory
-    }
-}
-
-impl<T: Drop> From<AllocFailed<T>> for HeadingFault {
-    ghost use Rattle.stn_exec.specs.declared.heading.HeadingFault.TheVariants.{Memory};
-
-    ghost from_gives = { λ _ fault. fault ≡ Memory };
-
-    fn from(_failed: AllocFailed<T>) -> HeadingFault {
-        HeadingFault::Memory
-    }
-}
-
 /// Reads the heading of a script: its sites, which hold nothing yet, and its commands; `last` is the
 /// number of the line after its last LF.
 pub fn open<A: Allocator + Copy>(
     alloc: A,
     last: u32,
     script: &[u8],
-) -> Result<(World<A>, Rest<'_>), HeadingFault>
+) -> Result<(World<A>, Rest<'_>), Failure>
     requires { length script.now < 2 ^ 31 }
     ensures opened { IfOk result (λ opened. IsOpened (heading_of last (lines_of script.now)) opened.0 opened.1) }
     ensures within { IfOk result (λ opened. opened.1.number + length opened.1.text.now ≤ length script.now + 1) }
-    ensures refused { IfErr result (IsHeadingFault (heading_of last (lines_of script.now))) }
+    ensures refused { IfErr result (IsHeadingFailure (heading_of last (lines_of script.now))) }
 {
     let (base, behind) = read_base(alloc, last, script)?;
     let sites = read_part(last, b"sites", behind.number, behind.text)?;
@@ -103,8 +64,7 @@ pub fn open<A: Allocator + Copy>(
     };
     match World::new(alloc, Rc::new(alloc, base)?, saturated(sites.value)) {
         Ok(world) => Ok((world, rest)),
-        Err(SitesFault::NoSite) => Err(HeadingFault::Refused(Refusal::NoSite)),
-        Err(SitesFault::Memory) => Err(HeadingFault::Memory),
+        Err(fault) => Err(Failure::from(fault)),
     }
 }
 
@@ -120,11 +80,11 @@ fn read_base<A: Allocator + Copy>(
     alloc: A,
     last: u32,
     script: &[u8],
-) -> Result<(Base<A>, Rest<'_>), HeadingFault>
+) -> Result<(Base<A>, Rest<'_>), Failure>
     requires { length script.now < 2 ^ 31 }
     ensures base { IfOk result (λ read. based last (lines_of script.now) ≡ Ok (seen_base read.0 read.1)) }
     ensures within { IfOk result (λ read. read.1.number + length read.1.text.now ≤ length script.now + 1) }
-    ensures refused { IfErr result (IsHeadingFault (based last (lines_of script.now))) }
+    ensures refused { IfErr result (IsHeadingFailure (based last (lines_of script.now))) }
 {
     match find_line(1, script) {
         Some(found) => {
@@ -134,7 +94,7 @@ fn read_base<A: Allocator + Copy>(
                 read_bare(alloc, found)
             }
         }
-        None => Err(HeadingFault::Refused(Refusal::Line(last))),
+        None => Err(Failure::refused_at(Code::Line, last)),
     }
 }
 
@@ -142,11 +102,11 @@ fn read_base<A: Allocator + Copy>(
 fn read_bare<A: Allocator + Copy>(
     alloc: A,
     found: FoundLine<'_>,
-) -> Result<(Base<A>, Rest<'_>), HeadingFault>
+) -> Result<(Base<A>, Rest<'_>), Failure>
     requires { found.number + 1 + length found.behind.now < 2 ^ 32 }
     ensures base { IfOk result (λ read. bare_part (seen_found found.entry) ≡ Ok (seen_base read.0 read.1)) }
     ensures within { IfOk result (λ read. read.1.number + length read.1.text.now ≤ found.entry.number + 1 + length found.entry.behind.now) }
-    ensures refused { IfErr result (IsHeadingFault (bare_part (seen_found found.entry))) }
+    ensures refused { IfErr result (IsHeadingFailure (bare_part (seen_found found.entry))) }
 {
     match read_value(b"steps", found.word, found.rest) {
         Some(steps) => {
@@ -157,14 +117,14 @@ fn read_bare<A: Allocator + Copy>(
             };
             Ok((base, rest))
         }
-        None => Err(HeadingFault::Refused(Refusal::Line(found.number))),
+        None => Err(Failure::refused_at(Code::Line, found.number)),
     }
 }
 
-// The base of a bare plan of so many steps, or its refusal.
-fn bare_base<A: Allocator + Copy>(alloc: A, steps: u16) -> Result<Base<A>, HeadingFault>
+// The base of a bare plan of so many steps.
+fn bare_base<A: Allocator + Copy>(alloc: A, steps: u16) -> Result<Base<A>, Failure>
     ensures made { IfOk result (λ base. refusing_fault (base_of (bare steps)) ≡ Ok base) }
-    ensures refused { IfErr result (IsHeadingFault (refusing_fault (base_of (bare steps)))) }
+    ensures refused { IfErr result (IsHeadingFailure (refusing_fault (base_of (bare steps)))) }
 {
     make_base(alloc, &Source::Bare(steps))
 }
@@ -174,11 +134,11 @@ fn read_files<A: Allocator + Copy>(
     alloc: A,
     last: u32,
     found: FoundLine<'_>,
-) -> Result<(Base<A>, Rest<'_>), HeadingFault>
+) -> Result<(Base<A>, Rest<'_>), Failure>
     requires { found.number + 1 + length found.behind.now < 2 ^ 32 }
     ensures base { IfOk result (λ read. files_part last (seen_found found.entry) ≡ Ok (seen_base read.0 read.1)) }
     ensures within { IfOk result (λ read. read.1.number + length read.1.text.now ≤ found.entry.number + 1 + length found.entry.behind.now) }
-    ensures refused { IfErr result (IsHeadingFault (files_part last (seen_found found.entry))) }
+    ensures refused { IfErr result (IsHeadingFailure (files_part last (seen_found found.entry))) }
 {
     let domain = read_block(last, found.number + 1, found.behind)?;
     let plan = read_named_block(last, b"plan", domain.behind.number, domain.behind.text)?;
@@ -186,30 +146,26 @@ fn read_files<A: Allocator + Copy>(
     Ok((base, plan.behind))
 }
 
-// The base of a domain and a plan, or the refusal of their first fault.
+// The base of a domain and a plan.
 fn base_of_files<A: Allocator + Copy>(
     alloc: A,
     domain: &[u8],
     plan: &[u8],
-) -> Result<Base<A>, HeadingFault>
+) -> Result<Base<A>, Failure>
     ensures made { IfOk result (λ base. refusing_fault (base_of (files domain.now plan.now)) ≡ Ok base) }
-    ensures refused { IfErr result (IsHeadingFault (refusing_fault (base_of (files domain.now plan.now)))) }
+    ensures refused { IfErr result (IsHeadingFailure (refusing_fault (base_of (files domain.now plan.now)))) }
 {
     let domain = Vec::from_slice(alloc, domain)?;
     let plan = Vec::from_slice(alloc, plan)?;
     make_base(alloc, &Source::Files(domain, plan))
 }
 
-// The base of a source, or the refusal of the source's first fault.
-fn make_base<A: Allocator + Copy>(alloc: A, source: &Source<A>) -> Result<Base<A>, HeadingFault>
+// The base of a source.
+fn make_base<A: Allocator + Copy>(alloc: A, source: &Source<A>) -> Result<Base<A>, Failure>
     ensures made { IfOk result (λ base. refusing_fault (base_of (plan_source source.now)) ≡ Ok base) }
-    ensures refused { IfErr result (IsHeadingFault (refusing_fault (base_of (plan_source source.now)))) }
+    ensures refused { IfErr result (IsHeadingFailure (refusing_fault (base_of (plan_source source.now)))) }
 {
-    match Base::from_source(alloc, source) {
-        Ok(base) => Ok(base),
-        Err(BaseFault::Memory) => Err(HeadingFault::Memory),
-        Err(fault) => Err(HeadingFault::Refused(Refusal::Base(fault))),
-    }
+    Ok(Base::from_source(alloc, source)?)
 }
 
 // The block after a line that is its name alone.
@@ -218,7 +174,7 @@ fn read_named_block<'a>(
     name: &[u8],
     number: u32,
     text: &'a [u8],
-) -> Result<HeadingBlock<'a>, Refusal>
+) -> Result<HeadingBlock<'a>, Failure>
     requires { number + length text.now < 2 ^ 32 }
     ensures block { result_seen seen_block result ≡ named_block last name.now (next_line number (lines_of text.now)) }
     ensures within { IfOk result (λ block. block.behind.number + length block.behind.text.now ≤ number + length text.now) }
@@ -228,22 +184,22 @@ fn read_named_block<'a>(
             if stands_alone(name, found.word, found.rest) {
                 read_block(last, found.number + 1, found.behind)
             } else {
-                Err(Refusal::Line(found.number))
+                Err(Failure::refused_at(Code::Line, found.number))
             }
         }
-        None => Err(Refusal::Line(last)),
+        None => Err(Failure::refused_at(Code::Line, last)),
     }
 }
 
 // The block whose first line has this number.
-fn read_block<'a>(last: u32, number: u32, text: &'a [u8]) -> Result<HeadingBlock<'a>, Refusal>
+fn read_block<'a>(last: u32, number: u32, text: &'a [u8]) -> Result<HeadingBlock<'a>, Failure>
     requires { number + length text.now < 2 ^ 32 }
     ensures block { result_seen seen_block result ≡ block_at last number (lines_of text.now) }
     ensures within { IfOk result (λ block. block.behind.number + length block.behind.text.now ≤ number + length text.now) }
 {
     match find_end(number, text) {
         Some(block) => Ok(block),
-        None => Err(Refusal::Line(last)),
+        None => Err(Failure::refused_at(Code::Line, last)),
     }
 }
 
@@ -295,7 +251,7 @@ fn read_part<'a>(
     name: &[u8],
     number: u32,
     text: &'a [u8],
-) -> Result<HeadingPart<'a>, Refusal>
+) -> Result<HeadingPart<'a>, Failure>
     requires { number + length text.now < 2 ^ 32 }
     ensures part { result_seen seen_part result ≡ part_of last name.now (next_line number (lines_of text.now)) }
     ensures within { IfOk result (λ part. part.found.number + 1 + length part.found.behind.now ≤ number + length text.now) }
@@ -303,9 +259,9 @@ fn read_part<'a>(
     match find_line(number, text) {
         Some(found) => match read_value(name, found.word, found.rest) {
             Some(value) => Ok(HeadingPart { value, found }),
-            None => Err(Refusal::Line(found.number)),
+            None => Err(Failure::refused_at(Code::Line, found.number)),
         },
-        None => Err(Refusal::Line(last)),
+        None => Err(Failure::refused_at(Code::Line, last)),
     }
 }
 

@@ -10,9 +10,9 @@ pub use stn_world::World;
 
 mod actions;
 mod answer;
-mod base_refusals;
 mod command;
 mod dispatch;
+mod failures;
 mod heading;
 mod laws;
 mod script;

@@ -4,28 +4,28 @@ ghost use Rattle.stn_device.specs.Counted.{counted_device, failure_count, KeepsC
 ghost use Rattle.stn_device.specs.Bytes.{most_bytes, ConsumesAtMost};
 ghost use Rattle.stn_lift.specs.PlanSource.{events_of};
 ghost use Rattle.stn_text.specs.Lines.{lines_of, words_of};
-ghost use Rattle.stn_exec.specs.Answer.{answer_text, is_refusal};
+ghost use Rattle.stn_refusal.specs.declared.failure.Failure.TheVariants.{Refused};
 ghost use Rattle.stn_world.specs.World.{HasSite, content_at};
 ghost use Rattle.stn_exec.specs.Command.{report, check, next, rehearse, ask};
 ghost use Rattle.stn_exec.specs.Effect.{action_effect, asking, command_effect};
 ghost use Rattle.stn_exec.specs.Output.{CountsRefusals, WritesOutput, WritesOutputPart};
 ghost use Rattle.stn_exec.specs.Running.{seen_inquiry, seen_action, seen_command, IsForEvents, IsReplied, IsRun};
-ghost use Rattle.stn_exec.specs.Saying.{Says};
+ghost use Rattle.stn_exec.specs.Saying.{Says, Declines};
 ghost use Rattle.stn_exec.specs.Script.{line_effect, line_outcome, lines_outcome, started, script_outcome, last_line};
 ghost use Rattle.stn_exec.specs.declared.script.RunFault.TheVariants.{Read, Write, Bound, Memory};
 
 use crate::actions::{
     add, amend, check, deliver, done, merge, question_asked, read_time, send, send_all, withdraw,
 };
-use crate::answer::{Answer, Refusal};
+use crate::answer::Answer;
 use crate::command::{Action, Command, Inquiry, read_command};
 use crate::dispatch::{append_next, append_rehearsal};
-use crate::heading::{HeadingFault, open, opening_word};
+use crate::heading::{open, opening_word};
 use std::alloc::{AllocError, Allocator};
 use std::io::{Read, Write};
 use stn_device::{Counted, MOST_BYTES, ReadFault, WriteFault, read_whole, write_whole};
-use stn_net::BoundFault;
 use stn_questions::{Question, WhyFault, print_answer};
+use stn_refusal::{Code, Failure, Refusal};
 use stn_replica::Replica;
 use stn_text::first_line;
 use stn_time::Memory;
@@ -145,7 +145,7 @@ fn reply_line<A: Allocator + Copy>(
 {
     match read_command(world.base().events(), word, rest) {
         Some(command) => reply_command(alloc, world, &command, out),
-        None => say(&Answer::Refused(Refusal::Line(number)), out),
+        None => decline(Failure::refused_at(Code::Line, number), out),
     }
 }
 
@@ -160,7 +160,7 @@ fn reply_command<A: Allocator + Copy>(
     ensures { IfOk result (IsReplied world.new out.old.items out.new.items (command_effect world.old (seen_command command.now))) }
 {
     if world.replica(command.site).is_none() {
-        return say(&Answer::Refused(Refusal::NoSite), out);
+        return decline(Failure::refused(Code::NoSite), out);
     }
     reply_action(alloc, world, command.site, &command.action, out)
 }
@@ -252,7 +252,7 @@ fn next_at<A: Allocator + Copy>(
             append_next(replica_at(world, site), time, out)?;
             Ok(false)
         }
-        Err(refusal) => say(&Answer::Refused(refusal), out),
+        Err(failure) => decline(failure, out),
     }
 }
 
@@ -268,7 +268,7 @@ fn rehearse_at<A: Allocator + Copy>(
 {
     match read_time(now) {
         Ok(time) => append_rehearsal(replica_at(world, site), time, out),
-        Err(refusal) => say(&Answer::Refused(refusal), out),
+        Err(failure) => decline(failure, out),
     }
 }
 
@@ -284,7 +284,7 @@ fn ask_at<A: Allocator + Copy>(
 {
     match question_asked(inquiry) {
         Ok(question) => answer_at(world, site, question, out),
-        Err(refusal) => say(&Answer::Refused(refusal), out),
+        Err(failure) => decline(failure, out),
     }
 }
 
@@ -300,28 +300,38 @@ fn answer_at<A: Allocator + Copy>(
 {
     match print_answer(replica_at(world, site), question, out) {
         Ok(()) => Ok(false),
-        Err(WhyFault::NoEvent) => say(&Answer::Refused(Refusal::Bound(BoundFault::NoEvent)), out),
+        Err(WhyFault::NoEvent) => decline(Failure::refused(Code::NoEvent), out),
         Err(WhyFault::Memory) => Err(AllocError),
     }
 }
 
-// Appends what a command answered. Whether it is a refusal.
+// Appends what a command answered, or why it is refused. Whether it is refused.
 fn say_outcome<A: Allocator>(
-    outcome: Result<Answer, Memory>,
+    outcome: Result<Answer, Failure>,
     out: &mut Vec<u8, A>,
 ) -> Result<bool, Memory>
     ensures { Says outcome out.old.items out.new.items result }
 {
-    say(&outcome?, out)
+    match outcome {
+        Ok(answer) => {
+            answer.print(out)?;
+            Ok(false)
+        }
+        Err(failure) => decline(failure, out),
+    }
 }
 
-// Appends an answer. Whether it is a refusal.
-fn say<A: Allocator>(answer: &Answer, out: &mut Vec<u8, A>) -> Result<bool, Memory>
-    ensures text { OnOk result (out.new.items ≡ out.old.items ++ answer_text answer.now) }
-    ensures refused { IfOk result (λ refused. refused ≡ is_refusal answer.now) }
+// Appends the line of a refusal: the command is refused. Where memory ran out, nothing is.
+fn decline<A: Allocator>(failure: Failure, out: &mut Vec<u8, A>) -> Result<bool, Memory>
+    ensures { Declines failure out.old.items out.new.items result }
 {
-    answer.print(out)?;
-    Ok(answer.is_refusal())
+    match failure {
+        Failure::Refused(refusal) => {
+            refusal.print(out)?;
+            Ok(true)
+        }
+        Failure::Failed(_) => Err(AllocError),
+    }
 }
 
 // Runs a script that was read whole.
@@ -338,8 +348,8 @@ fn run_script<W: Write, A: Allocator + Copy>(
         Ok((mut world, commands)) => {
             run_lines(alloc, &mut world, commands.number, commands.text, writer)
         }
-        Err(HeadingFault::Refused(refusal)) => refuse(alloc, refusal, writer),
-        Err(HeadingFault::Memory) => Err(RunFault::Memory),
+        Err(Failure::Refused(refusal)) => refuse(alloc, refusal, writer),
+        Err(Failure::Failed(_)) => Err(RunFault::Memory),
     }
 }
 
@@ -349,7 +359,7 @@ fn refuse<W: Write, A: Allocator + Copy>(
     refusal: Refusal,
     writer: &mut Counted<W>,
 ) -> Result<Ran, RunFault>
-    ensures run { IsRun (started (Err refusal))
+    ensures run { IsRun (started (Err (Refused refusal)))
         (W.contents (counted_device writer.old)) (W.contents (counted_device writer.new)) (failure_count writer.old) (failure_count writer.new) result }
 {
     let mut out = Vec::new(alloc);

@@ -1,12 +1,15 @@
 use Rattle.std.proofs.Common.{refl}
+use Rattle.std.proofs.lemmas.Result.{err_from_is_err_and}
 use Rattle.stn_world.specs.Steps.{merged}
 use Rattle.stn_exec.specs.declared.answer.Answer.TheVariants as answer
 use Rattle.stn_exec.proofs.Effects.{accepted_call, refused_call}
 use Rattle.stn_exec.proofs.actions.merge.Goals as goal
 
-pub returns-in-Ok : goal.returns-in-Ok
-returns-in-Ok g c = accepted_call (Unit {0}) tt c.args.world.now c.merge.new.self (merged c.args.site c.args.other) answer.Merged _ c.in-Ok.ensures.step refl
+pub returns-in_err-merge : goal.returns-in_err-merge
+returns-in_err-merge g c =
+    let returned = err_from_is_err_and c.from_residual.result c.from_residual.ensures.1 in
+    rw returned.1 (refused_call (Unit {0}) c.args.world.now c.merge.new.self (merged c.args.site c.args.other) answer.Merged c.in_err-merge.field-0.0 returned.0 _
+    c.in_err-merge.ensures.step returned.2 refl)
 
-pub returns-in-Err : goal.returns-in-Err
-returns-in-Err g c =
-    refused_call (Unit {0}) c.refused.result c.args.world.now c.merge.new.self (merged c.args.site c.args.other) answer.Merged c.in-Err.fault _ c.in-Err.ensures.step c.refused.ensures refl
+pub returns : goal.returns
+returns g c = accepted_call (Unit {0}) tt c.args.world.now c.merge.new.self (merged c.args.site c.args.other) answer.Merged _ c.in_ok-merge.ensures.step refl

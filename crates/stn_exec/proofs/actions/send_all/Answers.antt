@@ -1,12 +1,15 @@
 use Rattle.std.specs.Prelude.{true}
+use Rattle.std.proofs.lemmas.Result.{err_from_is_err_and}
 use Rattle.stn_world.specs.World.{content_at}
 use Rattle.stn_exec.proofs.Effects.{accepted_sending, refused_sending}
 use Rattle.stn_exec.proofs.actions.send_all.Goals as goal
 
-pub returns-in-Ok : goal.returns-in-Ok
-returns-in-Ok g c =
-    accepted_sending c.args.world.now c.send_all.new.self c.args.site c.in-Ok.number (content_at c.args.world.now c.args.site) true c.in-Ok.ensures.step
+pub returns-in_err-number : goal.returns-in_err-number
+returns-in_err-number g c =
+    let returned = err_from_is_err_and c.from_residual.result c.from_residual.ensures.1 in
+    rw returned.1 (refused_sending c.args.world.now c.send_all.new.self c.args.site (content_at c.args.world.now c.args.site) true
+    c.in_err-number.field-0.0 returned.0 c.in_err-number.ensures.step returned.2)
 
-pub returns-in-Err : goal.returns-in-Err
-returns-in-Err g c =
-    refused_sending c.refused.result c.args.world.now c.send_all.new.self c.args.site (content_at c.args.world.now c.args.site) true c.in-Err.fault c.in-Err.ensures.step c.refused.ensures
+pub returns : goal.returns
+returns g c =
+    accepted_sending c.args.world.now c.send_all.new.self c.args.site c.in_ok-number.number (content_at c.args.world.now c.args.site) true c.in_ok-number.ensures.step

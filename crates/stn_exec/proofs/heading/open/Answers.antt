@@ -1,10 +1,11 @@
-use Rattle.std.proofs.Common.{◌≡◌, ◌≤◌, ◌+◌, refl, sym, ap, ◌∙◌, arith}
+use Rattle.std.proofs.Common.{◌≡◌, ◌≤◌, ◌+◌, inl, inr, refl, sym, ap, ◌∙◌, arith}
 use Rattle.std.proofs.lemmas.Result.{err_from_is_err_and}
 use Rattle.stn_lift.specs.PlanSource.{PlanSource}
 use Rattle.stn_text.specs.Lines.{lines_of}
 use Rattle.stn_world.specs.World.{opening_world}
 use Rattle.stn_exec.specs.Heading.{seen_part, seen_base}
-use Rattle.stn_exec.proofs.Scripts.{heading-base, heading-fault, heading-none, heading-made, sites_of-some, sites_of-none}
+use Rattle.stn_exec.specs.Script.{based, with_sites}
+use Rattle.stn_exec.proofs.Scripts.{fails_first, heading-fault, heading-unopened, heading-made, sites_of-some}
 use Rattle.stn_exec.proofs.heading.open.Goals as goal
 
 pub returns-in_err-base : goal.returns-in_err-base
@@ -13,7 +14,7 @@ returns-in_err-base g c =
     record {
       opened = rw returned.1 tt;
       within = rw returned.1 tt;
-      refused = rw (returned.1, returned.2) (heading-base c.args.last (lines_of c.args.script.now) c.in_err-base.field-0.0 c.in_err-base.ensures.refused);
+      refused = rw (returned.1, returned.2) (fails_first (based c.args.last (lines_of c.args.script.now)) (with_sites c.args.last) c.in_err-base.field-0.0 c.in_err-base.ensures.refused);
     }
 
 pub returns-in_err-sites : goal.returns-in_err-sites
@@ -22,8 +23,8 @@ returns-in_err-sites g c =
     record {
       opened = rw returned.1 tt;
       within = rw returned.1 tt;
-      refused = rw (returned.1, returned.2) (heading-fault c.args.last (lines_of c.args.script.now) (seen_base c.in_ok-base.base c.in_ok-base.behind) c.in_err-sites.field-0.0
-          c.in_ok-base.ensures.base (sym c.in_err-sites.ensures.part));
+      refused = rw (returned.1, returned.2) (inr (heading-fault c.args.last (lines_of c.args.script.now) (seen_base c.in_ok-base.base c.in_ok-base.behind) c.in_err-sites.field-0.0
+          c.in_ok-base.ensures.base (sym c.in_err-sites.ensures.part)));
     }
 
 pub returns-in_err-new : goal.returns-in_err-new
@@ -32,7 +33,7 @@ returns-in_err-new g c =
     record {
       opened = rw returned.1 tt;
       within = rw returned.1 tt;
-      refused = rw (returned.1, returned.2) tt;
+      refused = rw (returned.1, returned.2) (inl refl);
     }
 
 pub returns-in-Ok : goal.returns-in-Ok
@@ -53,15 +54,13 @@ returns-in-Ok g c =
       refused = tt;
     }
 
-pub returns-in-Err-NoSite : goal.returns-in-Err-NoSite
-returns-in-Err-NoSite g c =
+pub returns-in-Err : goal.returns-in-Err
+returns-in-Err g c =
     let sites = c.in_ok-sites.sites in
     record {
       opened = tt;
       within = tt;
-      refused = heading-none c.args.last (lines_of c.args.script.now) (seen_base c.in_ok-base.base c.in_ok-base.behind) (seen_part sites) c.in_ok-base.ensures.base (sym c.in_ok-sites.ensures.part)
-          (sites_of-none sites.value (λ least most. (rw c.in-Err-NoSite.field-0-is at c.in-Err-NoSite.ensures.fault) (record { least = omega (arith, least, c.saturated.ensures); most = omega (arith, most, c.saturated.ensures) })));
+      refused = heading-unopened c.args.last (lines_of c.args.script.now) (seen_base c.in_ok-base.base c.in_ok-base.behind) (seen_part sites) c.saturated.result c.in-Err.fault c.from.result
+          c.in_ok-base.ensures.base (sym c.in_ok-sites.ensures.part)
+          (λ least most. record { least = omega (arith, least, c.saturated.ensures); most = omega (arith, most, c.saturated.ensures) }) c.in-Err.ensures.fault c.from.ensures;
     }
-
-pub returns-in-Err-Memory : goal.returns-in-Err-Memory
-returns-in-Err-Memory g c = record { opened = tt; within = tt; refused = tt }

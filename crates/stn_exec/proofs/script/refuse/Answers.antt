@@ -3,9 +3,9 @@ use Rattle.std.proofs.lemmas.Grind.{common_steps}
 use Rattle.std.proofs.lemmas.Result.{err_from_is_err_and}
 use Rattle.stn_device.specs.Bytes.{AppendsPart}
 use Rattle.stn_device.specs.Counted.{counted_device}
-use Rattle.stn_exec.specs.Answer.{refusal_text}
-use Rattle.stn_exec.specs.Effect.{said}
-use Rattle.stn_exec.specs.declared.answer.Answer.TheVariants.{Refused}
+use Rattle.stn_refusal.specs.declared.failure.Failure.TheVariants.{Refused}
+use Rattle.stn_refusal.specs.Printed.{refusal_text}
+use Rattle.stn_exec.specs.Effect.{declined}
 use Rattle.stn_exec.proofs.Scripts.{part-one}
 use Rattle.stn_exec.proofs.script.refuse.Goals as goal
 
@@ -17,7 +17,7 @@ returns-in_err-write_whole g c =
     let printed : c.deref.result.now ≡ refusal_text c.args.refusal = grind (arith, common_steps) in
     rw (p.1, p.2) (record {
       run = (
-        part-one before after (said (Refused c.args.refusal)) (refusal_text c.args.refusal) refl (subst (AppendsPart before after) printed c.in_err-write_whole.ensures.part),
+        part-one before after (declined (Refused c.args.refusal)) (refusal_text c.args.refusal) refl (subst (AppendsPart before after) printed c.in_err-write_whole.ensures.part),
         c.in_err-write_whole.ensures.failed,
       );
     })

@@ -3,11 +3,9 @@ use Rattle.stn_text.specs.Lines.{words_of}
 use Rattle.stn_lift.specs.PlanSource.{events_of}
 use Rattle.stn_exec.specs.Command.{command_of}
 use Rattle.stn_exec.specs.Running.{seen_command, IsReplied}
-use Rattle.stn_exec.specs.Effect.{Effect}
-use Rattle.stn_exec.specs.declared.answer.Answer.TheVariants.{Refused}
-use Rattle.stn_exec.specs.declared.answer.Refusal.TheVariants.{Line}
+use Rattle.stn_exec.specs.Effect.{Effect, declined}
 use Rattle.stn_exec.proofs.Fitting.{command_fits}
-use Rattle.stn_exec.proofs.Scripts.{line_effect-is, said_replied}
+use Rattle.stn_exec.proofs.Scripts.{line_effect-is}
 use Rattle.stn_exec.proofs.script.reply_line.Goals as goal
 
 pub reply_command-requires : goal.reply_command-requires
@@ -27,5 +25,4 @@ returns-in-None g c =
     let words = c.args.word.now ∷ words_of c.args.rest.now in
     let same = line_effect-is c.args.number c.args.world.now words None
     (c.in-None.ensures ∙ ap (λ e. command_of e words) (c.events.ensures.value ∙ ap events_of c.base.ensures)) in
-    subst (λ (effect : Effect). IfOk c.say.result (IsReplied c.args.world.now c.args.out.now.items c.say.new.out.items effect)) same
-    (said_replied c.say.result c.args.world.now c.args.out.now.items c.say.new.out.items (Refused (Line c.args.number)) c.say.ensures.text c.say.ensures.refused)
+    c.decline.ensures c.args.world.now _ (ap (λ cause. record { world = c.args.world.now; reply = declined cause }) c.refused_at.ensures ∙ same)

@@ -1,9 +1,11 @@
-use Rattle.std.proofs.Common.{◌≡◌, Err, refl, sym, ap, ◌∙◌, subst}
+use Rattle.std.proofs.Common.{Err, refl, sym, ap, ◌∙◌, subst}
 use Rattle.stn_device.specs.Counted.{counted_device, failure_count}
 use Rattle.stn_text.specs.Lines.{lines_of}
+use Rattle.stn_refusal.specs.declared.failure.Failure.TheVariants.{Refused}
+use Rattle.stn_exec.specs.Heading.{IsHeadingFailure}
 use Rattle.stn_exec.specs.Running.{IsRun}
 use Rattle.stn_exec.specs.Script.{Outcome, heading_of}
-use Rattle.stn_exec.proofs.Scripts.{opened_outcome, script_outcome-is, part-nil}
+use Rattle.stn_exec.proofs.Scripts.{heading-refused, opened_outcome, script_outcome-is, part-nil}
 use Rattle.stn_exec.proofs.script.run_script.Goals as goal
 
 pub returns-in-Ok : goal.returns-in-Ok
@@ -20,12 +22,13 @@ returns-in-Ok g c =
 pub returns-in-Err-Refused : goal.returns-in-Err-Refused
 returns-in-Err-Refused g c =
     let script = c.args.script.now in
-    let read : heading_of c.number_behind.result (lines_of script) ≡ Err c.in-Err-Refused.refusal = rw c.in-Err-Refused.field-0-is at c.in-Err-Refused.ensures.refused in
-    let whole = script_outcome-is script (Err c.in-Err-Refused.refusal) (sym read ∙ ap (λ n. heading_of n (lines_of script)) c.number_behind.ensures) in
+    let heading = heading_of c.number_behind.result (lines_of script) in
+    let read = heading-refused heading c.in-Err-Refused.refusal (subst (IsHeadingFailure heading) c.in-Err-Refused.field-0-is c.in-Err-Refused.ensures.refused) in
+    let whole = script_outcome-is script (Err (Refused c.in-Err-Refused.refusal)) (sym read ∙ ap (λ n. heading_of n (lines_of script)) c.number_behind.ensures) in
     record {
       run = subst (λ (o : Outcome). IsRun o (g.W.Write.contents (counted_device c.args.writer.now)) (g.W.Write.contents (counted_device c.refuse.new.writer))
           (failure_count c.args.writer.now) (failure_count c.refuse.new.writer) c.refuse.result) whole c.refuse.ensures.run;
     }
 
-pub returns-in-Err-Memory : goal.returns-in-Err-Memory
-returns-in-Err-Memory g c = record { run = (part-nil _ _, refl) }
+pub returns-in-Err-Failed : goal.returns-in-Err-Failed
+returns-in-Err-Failed g c = record { run = (part-nil _ _, refl) }

@@ -1,19 +1,16 @@
-use Rattle.std.proofs.Common.{◌≡◌, ◌++◌, ℕ, Bool, List, Result, Ok, IfOk, OnOk, subst}
-use Rattle.stn_world.specs.World.{World}
+use Rattle.std.proofs.Common.{Result, subst}
+use Rattle.stn_refusal.specs.declared.failure.Failure.{Failure}
 use Rattle.stn_exec.specs.declared.answer.Answer.{Answer}
-use Rattle.stn_exec.specs.Answer.{answer_text, is_refusal}
-use Rattle.stn_exec.specs.Effect.{Effect, said}
-use Rattle.stn_exec.specs.Running.{IsReplied}
-use Rattle.stn_exec.proofs.Scripts.{said_replied}
+use Rattle.stn_exec.specs.Saying.{IsEffect}
+use Rattle.stn_exec.proofs.Scripts.{said_replied, declined_said}
 use Rattle.stn_exec.proofs.script.say_outcome.Goals as goal
 
-outcome_said : {E F : Type 0} (outcome : Result Answer E) (given : Answer) (result : Result Bool F) (world : World) (old new : List ℕ) (effect : Effect) → outcome ≡ Ok given
-    → OnOk result (new ≡ old ++ answer_text given) → IfOk result (λ refused. refused ≡ is_refusal given)
-    → IfOk outcome (λ answer. record { world = world; reply = said answer } ≡ effect) → IfOk result (IsReplied world old new effect)
-outcome_said outcome given result world old new effect was text refused is =
-    let same = subst (λ o. IfOk o (λ answer. record { world = world; reply = said answer } ≡ effect)) was is in
-    subst (λ (e : Effect). IfOk result (IsReplied world old new e)) same (said_replied result world old new given text refused)
+pub returns-in_ok-print-in-Ok : goal.returns-in_ok-print-in-Ok
+returns-in_ok-print-in-Ok g c = λ world effect is.
+    said_replied world c.args.out.now.items c.print.new.out.items c.in-Ok.answer effect
+    (subst (λ (outcome : Result Answer Failure). IsEffect outcome world effect) c.in-Ok.is is) c.in_ok-print-in-Ok.ensures
 
-pub returns : goal.returns
-returns g c = λ world effect is.
-    outcome_said c.args.outcome c.in_ok-outcome.field-0 c.say.result world c.args.out.now.items c.say.new.out.items effect c.in_ok-outcome.was c.say.ensures.text c.say.ensures.refused is
+pub returns-in-Err : goal.returns-in-Err
+returns-in-Err g c = λ world effect is.
+    declined_said c.decline.result c.in-Err.failure world c.args.out.now.items c.decline.new.out.items effect c.decline.ensures
+    (subst (λ (outcome : Result Answer Failure). IsEffect outcome world effect) c.in-Err.is is)
