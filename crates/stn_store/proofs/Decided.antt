@@ -10,9 +10,10 @@ use Rattle.stn_log.specs.Log.{Log, IsLog, IsDecided, meaning_of}
 use Rattle.stn_log.specs.declared.fault.LoadFault.{LoadFault}
 use Rattle.stn_log.specs.declared.fault.LoadFault.TheVariants as load
 use Rattle.stn_store.specs.Bytes.{IsLogIn, IsTextIn}
-use Rattle.stn_store.specs.Causes.{of_load, of_read}
-use Rattle.stn_store.specs.declared.failure.Failure.TheVariants.{Failed}
-use Rattle.stn_store.specs.declared.failure.Fault.TheVariants.{Memory, Read, Bound}
+use Rattle.stn_device.specs.Failures.{read_failure}
+use Rattle.stn_log.specs.Failures.{load_failure}
+use Rattle.stn_refusal.specs.declared.failure.Failure.TheVariants.{Failed}
+use Rattle.stn_refusal.specs.declared.failure.Fault.TheVariants.{Memory, Read, Bound}
 
 at_end : (read rest : List ℕ) (meaning : Result Log LoadFault) → rest ≡ [] → IsLog read meaning → IsLog (read ++ rest) meaning
 at_end read rest meaning e log = subst (λ (bytes : List ℕ). IsLog bytes meaning) (sym (ap (λ (more : List ℕ). read ++ more) e ∙ append-nil read)) log
@@ -27,8 +28,8 @@ decided_log (Some bytes) (Some rest) meaning (read, consumed, inr all) = (read +
 
 -- why a log was not loaded
 pub load_failed : (known rest : Option (List ℕ)) (fault : LoadFault) → IfSome (meaning_of (Err fault)) (IsDecided known rest)
-    → (of_load fault ≡ Failed Memory) ⊎ ((of_load fault ≡ Failed Read)
-    ⊎ ((cause : LoadFault) × IsLogIn known (Err cause) × (of_load fault ≡ of_load cause)))
+    → (load_failure fault ≡ Failed Memory) ⊎ ((load_failure fault ≡ Failed Read)
+    ⊎ ((cause : LoadFault) × IsLogIn known (Err cause) × (load_failure fault ≡ load_failure cause)))
 load_failed known rest load.Memory decided = inl refl
 load_failed known rest load.Read decided = inr (inl refl)
 load_failed known rest load.Bound decided = inr (inr (_, decided_log known rest _ decided, refl))
@@ -44,8 +45,8 @@ decided_log_of known first rest meaning same decided =
 
 pub load_failed_of : (known first rest : Option (List ℕ)) (fault : LoadFault) → first ≡ known
     → IfSome (meaning_of (Err fault)) (IsDecided first rest)
-    → (of_load fault ≡ Failed Memory) ⊎ ((of_load fault ≡ Failed Read)
-    ⊎ ((cause : LoadFault) × IsLogIn known (Err cause) × (of_load fault ≡ of_load cause)))
+    → (load_failure fault ≡ Failed Memory) ⊎ ((load_failure fault ≡ Failed Read)
+    ⊎ ((cause : LoadFault) × IsLogIn known (Err cause) × (load_failure fault ≡ load_failure cause)))
 load_failed_of known first rest fault same decided = load_failed known rest fault
     (subst (λ (bytes : Option (List ℕ)). IfSome (meaning_of (Err fault)) (IsDecided bytes rest)) same decided)
 
@@ -71,7 +72,7 @@ text_unbound (Some bytes) first limit e limited long =
 -- why a text was not read
 pub text_failed : (known first : Option (List ℕ)) (limit : ℕ) (fault : ReadFault) → first ≡ option_map (take limit) known → limit ≡ most_text + 1
     → (fault ≡ read.Bound → IfSome first (λ input. most_text + 1 < length input))
-    → (of_read fault ≡ Failed Memory) ⊎ ((of_read fault ≡ Failed Read) ⊎ ((of_read fault ≡ Failed Bound) × (known ≡ None)))
+    → (read_failure fault ≡ Failed Memory) ⊎ ((read_failure fault ≡ Failed Read) ⊎ ((read_failure fault ≡ Failed Bound) × (known ≡ None)))
 text_failed known first limit read.Memory e limited long = inl refl
 text_failed known first limit read.Read e limited long = inr (inl refl)
 text_failed known first limit read.Bound e limited long = inr (inr (refl, text_unbound known first limit e limited (long refl)))

@@ -8,11 +8,13 @@ use Rattle.stn_replica.specs.Calls.{Accepted, Leaves}
 use Rattle.stn_replica.specs.Held.{Held}
 use Rattle.stn_log.specs.Log.{Log, log_held, log_text, IsLog}
 use Rattle.stn_log.specs.declared.fault.LoadFault.{LoadFault}
-use Rattle.stn_store.specs.Causes.{of_load, log_there}
-use Rattle.stn_store.specs.declared.failure.Failure.{Failure}
-use Rattle.stn_store.specs.declared.failure.Failure.TheVariants.{Refused, Failed}
-use Rattle.stn_store.specs.declared.failure.Fault.{Fault}
-use Rattle.stn_store.specs.declared.failure.Fault.TheVariants.{Memory, File}
+use Rattle.stn_log.specs.Failures.{load_failure}
+use Rattle.stn_refusal.specs.declared.code.Code.TheVariants.{LogThere}
+use Rattle.stn_refusal.specs.declared.failure.Failure.{Failure}
+use Rattle.stn_refusal.specs.declared.failure.Failure.TheVariants.{Refused, Failed}
+use Rattle.stn_refusal.specs.declared.failure.Fault.{Fault}
+use Rattle.stn_refusal.specs.declared.failure.Fault.TheVariants.{Memory, File}
+use Rattle.stn_refusal.specs.Refusals.{refused}
 
 -- bytes that were put under a name
 pub record Entry : Type 0 where
@@ -52,6 +54,10 @@ pub record Opens (entries : Option (List Entry)) (name : List ℕ) (site : ℕ) 
 abbrev pub IsMissing : Option (List Entry) → List ℕ → Failure → Type 0
 IsMissing entries name failure = Holds entries name None × (failure ≡ Failed File)
 
+-- a log is there already
+abbrev pub log_there : Failure
+log_there = refused LogThere
+
 -- something stands under a name, and so no new log is saved there
 abbrev pub IsTaken : Option (List Entry) → List ℕ → Failure → Type 0
 IsTaken entries name failure = IsThere entries name true × (failure ≡ log_there)
@@ -59,7 +65,7 @@ IsTaken entries name failure = IsThere entries name true × (failure ≡ log_the
 -- why a log is not opened: nothing is there, or its bytes have a fault
 abbrev pub IsUnopened : Option (List Entry) → List ℕ → Failure → Type 0
 IsUnopened entries name failure = IsMissing entries name failure
-    ⊎ ((fault : LoadFault) × Means entries name (Err fault) × (failure ≡ of_load fault))
+    ⊎ ((fault : LoadFault) × Means entries name (Err fault) × (failure ≡ load_failure fault))
 
 -- memory ran out, or a device failed as those of the store do
 abbrev pub IsLack : (Fault → Type 0) → Failure → Type 0

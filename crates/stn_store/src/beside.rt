@@ -3,7 +3,6 @@
 ghost use Rattle.std.specs.Prelude.{IfErr, ⊤};
 ghost use Rattle.stn_store.specs.Store.{IsLack};
 
-use crate::failure::{Failure, Fault};
 use std::alloc::Global;
 use std::fs::{self, File, Metadata, OpenFile, OpenOptions};
 use std::io::{self, ErrorKind};
@@ -11,6 +10,7 @@ use std::os::unix::fs::{MetadataExt, OpenOptionsExt, fchown};
 use std::rt::Files;
 use stn_device::Counted;
 use stn_log::save;
+use stn_refusal::{Failure, Fault};
 use stn_replica::Replica;
 
 /// Who may read and write a new file; the system takes away what the umask says.

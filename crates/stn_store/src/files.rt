@@ -4,7 +4,6 @@ ghost use Rattle.std.specs.Prelude.{IfErr, ⊤};
 ghost use Rattle.stn_store.specs.Store.{IsLack};
 
 use crate::beside::of_files;
-use crate::failure::{Failure, Fault};
 use crate::place::Place;
 use crate::reading::{read_log, read_text};
 use crate::store::Store;
@@ -13,6 +12,7 @@ use std::fs::{self, File};
 use std::io::ErrorKind;
 use std::rt::Files;
 use stn_records::Site;
+use stn_refusal::{Failure, Fault};
 use stn_replica::Replica;
 
 /// Files, each under its path.

@@ -4,16 +4,16 @@ ghost use Rattle.std.specs.Prelude.{◌≡◌, ◌++◌, [], ◌∷◌, option_m
 ghost use Rattle.stn_log.specs.Log.{log_held, log_text};
 ghost use Rattle.stn_store.specs.Store.{bytes_under};
 ghost use Rattle.stn_store.specs.Memory.{entries_of};
-ghost use Rattle.stn_store.specs.declared.failure.Failure.TheVariants.{Failed};
-ghost use Rattle.stn_store.specs.declared.failure.Fault.TheVariants as lack;
+ghost use Rattle.stn_refusal.specs.declared.failure.Failure.TheVariants.{Failed};
+ghost use Rattle.stn_refusal.specs.declared.failure.Fault.TheVariants as lack;
 
-use crate::failure::{Failure, Fault};
 use crate::reading::{read_log, read_text};
 use crate::store::Store;
 use std::alloc::Global;
 use stn_device::Counted;
 use stn_log::save;
 use stn_records::Site;
+use stn_refusal::{Code, Failure, Fault};
 use stn_replica::Replica;
 use stn_time::Memory;
 
@@ -80,7 +80,7 @@ impl MemoryStore {
 
 impl Store for MemoryStore {
     ghost use Rattle.std.specs.Prelude.{Some};
-    ghost use Rattle.stn_store.specs.declared.failure.Fault.TheVariants.{Read};
+    ghost use Rattle.stn_refusal.specs.declared.failure.Fault.TheVariants.{Read};
 
     ghost entries = { λ store. Some (entries_of store) };
 
@@ -118,7 +118,7 @@ impl Store for MemoryStore {
 
     fn save_new(&mut self, name: &str, replica: &Replica<Global>) -> Result<(), Failure> {
         if self.get(name).is_some() {
-            return Err(Failure::log_there());
+            return Err(Failure::refused(Code::LogThere));
         }
         self.save(name, replica)
     }

@@ -1,17 +1,17 @@
 //! The file of a log: where it is, how it is held, and how it is replaced.
 
 ghost use Rattle.std.specs.Prelude.{◌≡◌, ◌⊎◌, IfErr, ⊤};
-ghost use Rattle.stn_store.specs.Causes.{log_there};
+ghost use Rattle.stn_store.specs.Store.{log_there};
 ghost use Rattle.stn_store.specs.Store.{IsLack};
 
 use crate::beside::{NEW_MODE, make_beside, make_file, of_files, open_empty, write_beside};
-use crate::failure::{Failure, Fault};
 use std::alloc::Global;
 use std::fs::{self, File, Metadata};
 use std::io::ErrorKind;
 use std::os::unix::fs::MetadataExt;
 use std::path::Path;
 use std::rt::Files;
+use stn_refusal::{Code, Failure, Fault};
 use stn_replica::Replica;
 
 /// Where a log is, or is to be. The path is no link.
@@ -112,7 +112,9 @@ impl Place {
                 self.force_folder(rt);
                 Ok(())
             }
-            Err(error) if error.kind() == ErrorKind::AlreadyExists => Err(Failure::log_there()),
+            Err(error) if error.kind() == ErrorKind::AlreadyExists => Err(Failure::refused(
+                Code::LogThere,
+            )),
             Err(_) => Err(Failure::Failed(Fault::File)),
         }
     }

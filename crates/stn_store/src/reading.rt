@@ -3,17 +3,17 @@
 ghost use Rattle.std.specs.Prelude.{◌≡◌, ◌⊎◌, Ok, Err, None, IfOk, IfErr};
 ghost use Rattle.stn_log.specs.Log.{log_held};
 ghost use Rattle.stn_log.specs.declared.fault.LoadFault.{LoadFault as LoadFaultView};
-ghost use Rattle.stn_store.specs.Causes.{of_load};
+ghost use Rattle.stn_log.specs.Failures.{load_failure};
 ghost use Rattle.stn_store.specs.Bytes.{IsLogIn, IsTextIn};
-ghost use Rattle.stn_store.specs.declared.failure.Failure.TheVariants.{Failed};
-ghost use Rattle.stn_store.specs.declared.failure.Fault.TheVariants as lack;
+ghost use Rattle.stn_refusal.specs.declared.failure.Failure.TheVariants.{Failed};
+ghost use Rattle.stn_refusal.specs.declared.failure.Fault.TheVariants as lack;
 
-use crate::failure::Failure;
 use std::alloc::Global;
 use std::io::Read;
 use stn_device::{Counted, read_whole};
 use stn_log::load;
 use stn_records::Site;
+use stn_refusal::Failure;
 use stn_replica::Replica;
 use stn_text::MOST_TEXT;
 
@@ -29,7 +29,7 @@ pub fn read_log<R: Read + Drop>(
     ensures said { IfOk result (λ replica. IsLogIn (R.remaining reader) (Ok (log_held replica))) }
     ensures site { IfOk result (λ replica. replica.site ≡ site) }
     ensures failed { IfErr result (λ failure. (failure ≡ Failed lack.Memory) ⊎ (failure ≡ Failed lack.Read)
-        ⊎ ((fault : LoadFaultView) × IsLogIn (R.remaining reader) (Err fault) × (failure ≡ of_load fault))) }
+        ⊎ ((fault : LoadFaultView) × IsLogIn (R.remaining reader) (Err fault) × (failure ≡ load_failure fault))) }
 {
     let mut counted = Counted::new(reader);
     Ok(load(alloc, &mut counted, site)?)

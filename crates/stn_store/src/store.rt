@@ -3,11 +3,11 @@
 ghost use Rattle.std.specs.Prelude.{◌≡◌, ◌⊎◌, false, List, Option, OnOk, OnErr, IfOk, IfErr};
 ghost use Rattle.stn_log.specs.Log.{log_held};
 ghost use Rattle.stn_store.specs.Store.{Entry, IsThere, Opens, IsUnopened, Spells, IsMissing, IsTaken, IsLack, saved_too};
-ghost use Rattle.stn_store.specs.declared.failure.Fault.{Fault};
+ghost use Rattle.stn_refusal.specs.declared.failure.Fault.{Fault};
 
-use crate::failure::Failure;
 use std::alloc::Global;
 use stn_records::Site;
+use stn_refusal::Failure;
 use stn_replica::Replica;
 
 /// A store of logs and texts, each under a name. Several programs may use it at once.

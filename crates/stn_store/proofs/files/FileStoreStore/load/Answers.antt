@@ -4,7 +4,7 @@ use Rattle.stn_log.specs.Log.{log_held}
 use Rattle.stn_replica.specs.Held.{Held}
 use Rattle.stn_store.specs.Bytes.{IsLogIn}
 use Rattle.stn_store.specs.Store.{Opens}
-use Rattle.stn_store.specs.declared.failure.Failure.{Failure}
+use Rattle.stn_refusal.specs.declared.failure.Failure.{Failure}
 use Rattle.stn_store.proofs.files.FileStoreStore.load.Goals as goal
 
 of_files : (name : List ℕ) (site : ℕ) (known : Option (List ℕ)) (loaded : Result Held Failure)

@@ -1,9 +1,9 @@
 use Rattle.std.proofs.Common.{◌≡◌, ℕ, List, [], Some, None, refl, inl, inr}
 use Rattle.std.specs.Prelude.{◌⊎◌, ⊤}
 use Rattle.std.proofs.lemmas.Result.{IfErr-weaker}
-use Rattle.stn_store.specs.Causes.{log_there}
+use Rattle.stn_store.specs.Store.{log_there}
 use Rattle.stn_store.specs.Store.{IsTaken, IsLack}
-use Rattle.stn_store.specs.declared.failure.Failure.{Failure}
+use Rattle.stn_refusal.specs.declared.failure.Failure.{Failure}
 use Rattle.stn_store.proofs.files.FileStoreStore.save_new.Goals as goal
 
 of_files : (name : List ℕ) (failure : Failure) → (failure ≡ log_there) ⊎ IsLack (λ _. ⊤) failure

@@ -5,12 +5,12 @@ use Rattle.stn_log.specs.Log.{log_held}
 use Rattle.stn_log.specs.declared.fault.LoadFault.{LoadFault}
 use Rattle.stn_replica.specs.Held.{Held}
 use Rattle.stn_store.specs.Bytes.{IsLogIn}
-use Rattle.stn_store.specs.Causes.{of_load}
+use Rattle.stn_log.specs.Failures.{load_failure}
 use Rattle.stn_store.specs.Memory.{entries_of}
 use Rattle.stn_store.specs.Store.{Entry, Opens, IsUnopened, IsLack, bytes_under}
-use Rattle.stn_store.specs.declared.failure.Failure.{Failure}
-use Rattle.stn_store.specs.declared.failure.Failure.TheVariants.{Failed}
-use Rattle.stn_store.specs.declared.failure.Fault.TheVariants.{Memory, Read}
+use Rattle.stn_refusal.specs.declared.failure.Failure.{Failure}
+use Rattle.stn_refusal.specs.declared.failure.Failure.TheVariants.{Failed}
+use Rattle.stn_refusal.specs.declared.failure.Fault.TheVariants.{Memory, Read}
 use Rattle.stn_store.proofs.Lacks.{lack_of_memory}
 use Rattle.stn_store.proofs.memory.MemoryStoreStore.load.Goals as goal
 
@@ -22,7 +22,7 @@ of_memory entries name site known (Ok held) there said own =
 of_memory entries name site known (Err failure) there said own = tt
 
 why_unopened : (entries : List Entry) (name known : List ℕ) → bytes_under entries name ≡ Some known → (failure : Failure)
-    → (failure ≡ Failed Memory) ⊎ ((failure ≡ Failed Read) ⊎ ((fault : LoadFault) × IsLogIn (Some known) (Err fault) × (failure ≡ of_load fault)))
+    → (failure ≡ Failed Memory) ⊎ ((failure ≡ Failed Read) ⊎ ((fault : LoadFault) × IsLogIn (Some known) (Err fault) × (failure ≡ load_failure fault)))
     → IsUnopened (Some entries) name failure ⊎ IsLack (λ fault. fault ≡ Read) failure
 why_unopened entries name known there failure (inl memory) = inr (lack_of_memory (λ fault. fault ≡ Read) failure memory)
 why_unopened entries name known there failure (inr (inl read)) = inr (rw read (inr refl))
