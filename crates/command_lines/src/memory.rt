@@ -5,8 +5,9 @@ use std::alloc::Global;
 use std::io;
 use std::io::{Error, Write};
 use stn_line::{Task, task};
+use stn_refusal::{Failure, Refusal};
 use stn_shell::answer;
-use stn_store::{Failure, MemoryStore, Refusal};
+use stn_store::MemoryStore;
 
 /// Puts a text whose lines `|` parts under a name.
 pub fn put(alloc: Global, store: &mut MemoryStore, words: &str) -> io::Result<()> {

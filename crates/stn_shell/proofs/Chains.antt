@@ -5,7 +5,7 @@ use Rattle.stn_net.specs.Difference.{Difference}
 use Rattle.stn_records.specs.Id.{SiteCounter}
 use Rattle.stn_exec.specs.Effect.{and_then}
 use Rattle.stn_shell.specs.Words.{event_read, id_read, time_read, bound_read, amendment_read, execution_read}
-use Rattle.stn_store.specs.declared.failure.Failure.{Failure}
+use Rattle.stn_refusal.specs.declared.failure.Failure.{Failure}
 
 first_fails : {A B E : Type 0} (r : Result A E) (rest : A → Result B E) (fault : E) → r ≡ Err fault → and_then r rest ≡ Err fault
 first_fails r rest fault e = rw e refl

@@ -7,8 +7,8 @@ use Rattle.stn_replica.specs.Held.{Held}
 use Rattle.stn_session.specs.declared.session.Served.{Served}
 use Rattle.stn_session.specs.declared.session.ServeFault.{ServeFault}
 use Rattle.stn_store.specs.Store.{Entry, Opens, saved_too}
-use Rattle.stn_store.specs.declared.failure.Failure.{Failure}
-use Rattle.stn_store.specs.declared.failure.Fault.{Fault}
+use Rattle.stn_refusal.specs.declared.failure.Failure.{Failure}
+use Rattle.stn_refusal.specs.declared.failure.Fault.{Fault}
 use Rattle.stn_shell.specs.Connections.{IsSessionBetween, IsSavedSession, IsUnservedSession, Exchanges, IsSavedExchange}
 use Rattle.stn_shell.specs.Joining.{JoinsLog, SavesJoin, IsUnkept}
 use Rattle.stn_line.specs.declared.words.SiteLog.{SiteLog}

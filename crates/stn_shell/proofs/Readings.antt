@@ -4,7 +4,7 @@ use Rattle.std.specs.Borrow.{Bor}
 use Rattle.std.proofs.lemmas.List.{at_drop_more, at_drop_all}
 use Rattle.stn_exec.specs.Effect.{and_then}
 use Rattle.stn_shell.specs.Words.{time_read, each_read, times_read}
-use Rattle.stn_store.specs.declared.failure.Failure.{Failure}
+use Rattle.stn_refusal.specs.declared.failure.Failure.{Failure}
 
 -- so many times were read, and the words from a place on are left
 abbrev pub IsReadTo : List (Bor (List ℕ)) → ℕ → List ℤ → Type 0

@@ -12,8 +12,8 @@ use Rattle.stn_shell.specs.Printing.{Device, Prints}
 use Rattle.stn_store.specs.Store.{Entry}
 use Rattle.stn_line.specs.declared.words.SiteLog.{SiteLog}
 use Rattle.stn_shell.specs.Connections.{session_text, IsSavedSession, AreSessionsBetween, Serves, StopsAtSession, StopsServing}
-use Rattle.stn_store.specs.declared.failure.Failure.{Failure}
-use Rattle.stn_store.specs.declared.failure.Fault.{Fault}
+use Rattle.stn_refusal.specs.declared.failure.Failure.{Failure}
+use Rattle.stn_refusal.specs.declared.failure.Fault.{Fault}
 
 -- no session yet
 pub serves_none : (source : PlanSource) (log : SiteLog) (state : Content) (saves : Option (List Entry)) (device : Device)

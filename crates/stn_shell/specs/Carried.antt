@@ -15,10 +15,10 @@ use Rattle.stn_line.specs.declared.words.SiteLog.{SiteLog}
 use Rattle.stn_line.specs.declared.words.LogCommand.{LogCommand}
 use Rattle.stn_line.specs.declared.words.Task.{Task}
 use Rattle.stn_line.specs.declared.words.Task.TheVariants.{Run, Serve, Send, Command}
-use Rattle.stn_store.specs.declared.failure.Failure.{Failure}
-use Rattle.stn_store.specs.declared.failure.Failure.TheVariants.{Failed}
-use Rattle.stn_store.specs.declared.failure.Fault.{Fault}
-use Rattle.stn_store.specs.declared.failure.Fault.TheVariants.{Read, Write, Bound, Memory, Net}
+use Rattle.stn_refusal.specs.declared.failure.Failure.{Failure}
+use Rattle.stn_refusal.specs.declared.failure.Failure.TheVariants.{Failed}
+use Rattle.stn_refusal.specs.declared.failure.Fault.{Fault}
+use Rattle.stn_refusal.specs.declared.failure.Fault.TheVariants.{Read, Write, Bound, Memory, Net}
 
 -- a script was read to its end and its output printed; the status is 0 exactly where none of its lines was refused
 pub record RunsScript (unread rest old new : Device) (status : ℕ) : Type 0 where

@@ -5,10 +5,10 @@ use Rattle.stn_records.specs.Id.{SiteCounter, id_text}
 use Rattle.stn_replica.specs.Calls.{Leaves, added, amended, withdrew, took}
 use Rattle.stn_replica.specs.Held.{Held, difference, plain, executed}
 use Rattle.stn_replica.specs.Refusals.{add_refusal, amend_refusal, done_refusal, withdraw_refusal}
-use Rattle.stn_store.specs.Causes.{of_replica}
+use Rattle.stn_replica.specs.Failures.{replica_failure}
 use Rattle.stn_store.specs.Store.{Entry, Opens, IsLack, saved_too}
-use Rattle.stn_store.specs.declared.failure.Failure.{Failure}
-use Rattle.stn_store.specs.declared.failure.Fault.{Fault}
+use Rattle.stn_refusal.specs.declared.failure.Failure.{Failure}
+use Rattle.stn_refusal.specs.declared.failure.Fault.{Fault}
 use Rattle.stn_shell.specs.Refusals.{WithLog, IsMergeRefusal}
 use Rattle.stn_line.specs.declared.words.SiteLog.{SiteLog}
 use Rattle.stn_shell.specs.declared.changes.AskedBound.{AskedBound}
@@ -39,10 +39,10 @@ IsChange entries site (Merge other) old new text = IsMerge entries site other.no
 
 -- what refuses it, if something does
 abbrev pub IsChangeRefusal : Option (List Entry) → ℕ → Change → Held → Option Failure → Type 0
-IsChangeRefusal entries site (Add bound) held cause = cause ≡ option_map of_replica (add_refusal held (bound_of bound))
-IsChangeRefusal entries site (Amend replaced bound) held cause = cause ≡ option_map of_replica (amend_refusal held replaced (bound_of bound))
-IsChangeRefusal entries site (Withdraw id) held cause = cause ≡ option_map of_replica (withdraw_refusal held id)
-IsChangeRefusal entries site (Done event time) held cause = cause ≡ option_map of_replica (done_refusal held event)
+IsChangeRefusal entries site (Add bound) held cause = cause ≡ option_map replica_failure (add_refusal held (bound_of bound))
+IsChangeRefusal entries site (Amend replaced bound) held cause = cause ≡ option_map replica_failure (amend_refusal held replaced (bound_of bound))
+IsChangeRefusal entries site (Withdraw id) held cause = cause ≡ option_map replica_failure (withdraw_refusal held id)
+IsChangeRefusal entries site (Done event time) held cause = cause ≡ option_map replica_failure (done_refusal held event)
 IsChangeRefusal entries site (Merge other) held cause = WithLog entries other.now site (IsMergeRefusal held) cause
 
 -- a log that was changed and saved, and the text that is printed of it

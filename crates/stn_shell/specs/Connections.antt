@@ -2,15 +2,15 @@
 use Rattle.std.specs.Prelude.{◌≡◌, ◌⊎◌, ℕ, ◌<◌, List, [], ◌∷◌, ◌++◌, length, flat_map, codes, decimal, Option, Result, Ok, Err, IfOk, IfErr}
 use Rattle.stn_lift.specs.PlanSource.{PlanSource}
 use Rattle.stn_records.specs.Content.{Content}
-use Rattle.stn_store.specs.Causes.{of_reply}
+use Rattle.stn_session.specs.Failures.{reply_failure}
 use Rattle.stn_shell.specs.Printing.{Device, Prints, IsUnprinted}
 use Rattle.stn_store.specs.Store.{Entry}
 use Rattle.stn_shell.specs.Joining.{JoinsLog, IsUntaken, SavesJoin, IsUnkept}
 use Rattle.stn_line.specs.declared.words.SiteLog.{SiteLog}
-use Rattle.stn_store.specs.declared.failure.Failure.{Failure}
-use Rattle.stn_store.specs.declared.failure.Failure.TheVariants.{Failed}
-use Rattle.stn_store.specs.declared.failure.Fault.{Fault}
-use Rattle.stn_store.specs.declared.failure.Fault.TheVariants as fault
+use Rattle.stn_refusal.specs.declared.failure.Failure.{Failure}
+use Rattle.stn_refusal.specs.declared.failure.Failure.TheVariants.{Failed}
+use Rattle.stn_refusal.specs.declared.failure.Fault.{Fault}
+use Rattle.stn_refusal.specs.declared.failure.Fault.TheVariants as fault
 use Rattle.stn_session.specs.Session.{opening}
 use Rattle.stn_session.specs.Serving.{IsServed, IsBroken}
 use Rattle.stn_session.specs.Exchange.{IsReceived}
@@ -123,7 +123,7 @@ pub record Sends (source : PlanSource) (log : SiteLog) (first last : Content) (b
 abbrev pub StopsAsking : PlanSource → Content → Content → Failure → Type 0
 StopsAsking source first last failure =
     (((failure ≡ Failed fault.Write) ⊎ (failure ≡ Failed fault.Memory)) × (last ≡ first))
-    ⊎ ((cause : ReplyFault) × Exchanges source first last (Err cause) × (failure ≡ of_reply cause))
+    ⊎ ((cause : ReplyFault) × Exchanges source first last (Err cause) × (failure ≡ reply_failure cause))
 
 -- why a text was not told: nothing came of the exchange, or its state was not saved, and nothing was printed; or the text could not be
 -- printed, after the log was saved

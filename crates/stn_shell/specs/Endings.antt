@@ -5,8 +5,8 @@ use Rattle.stn_records.specs.Content.{Content}
 use Rattle.stn_shell.specs.Commands.{IsAnswered}
 use Rattle.stn_shell.specs.Refusals.{IsRefusalOf}
 use Rattle.stn_store.specs.Store.{Entry, IsThere, IsMissing, IsTaken, IsLack, Spells, saved_too}
-use Rattle.stn_store.specs.declared.failure.Failure.{Failure}
-use Rattle.stn_store.specs.declared.failure.Fault.{Fault}
+use Rattle.stn_refusal.specs.declared.failure.Failure.{Failure}
+use Rattle.stn_refusal.specs.declared.failure.Fault.{Fault}
 use Rattle.stn_line.specs.declared.words.SiteLog.{SiteLog}
 use Rattle.stn_line.specs.declared.words.LogCommand.{LogCommand}
 

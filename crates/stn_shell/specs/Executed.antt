@@ -9,9 +9,9 @@ use Rattle.stn_line.specs.declared.words.Task.{Task}
 use Rattle.stn_shell.specs.Carried.{IsCarriedOut, Stops}
 use Rattle.stn_shell.specs.Printing.{Device, Prints, BreaksOff, TellsFault, Tells}
 use Rattle.stn_store.specs.Store.{Entry}
-use Rattle.stn_store.specs.declared.failure.Failure.{Failure}
-use Rattle.stn_store.specs.declared.failure.Fault.{Fault}
-use Rattle.stn_store.specs.declared.failure.Fault.TheVariants.{Write, Memory}
+use Rattle.stn_refusal.specs.declared.failure.Failure.{Failure}
+use Rattle.stn_refusal.specs.declared.failure.Fault.{Fault}
+use Rattle.stn_refusal.specs.declared.failure.Fault.TheVariants.{Write, Memory}
 
 -- a task came to its end, and nothing stands on the standard error; or it stopped, and that was told
 abbrev pub Ends : (Fault → Type 0) → Option (List Entry) → Option (List Entry) → Task → Device → Device → Device → Device → Device → Device → ℕ → Type 0

@@ -6,8 +6,8 @@ use Rattle.stn_replica.specs.Held.{Held, holding_state}
 use Rattle.stn_shell.specs.Refusals.{IsMergeRefusal}
 use Rattle.stn_line.specs.declared.words.SiteLog.{SiteLog}
 use Rattle.stn_store.specs.Store.{Entry, IsThere, Opens, IsUnopened, IsLack, saved_too}
-use Rattle.stn_store.specs.declared.failure.Failure.{Failure}
-use Rattle.stn_store.specs.declared.failure.Fault.{Fault}
+use Rattle.stn_refusal.specs.declared.failure.Failure.{Failure}
+use Rattle.stn_refusal.specs.declared.failure.Fault.{Fault}
 
 -- a state joined with the one that the log says; a log that is gone says nothing
 abbrev pub JoinsLog : Option (List Entry) → SiteLog → PlanSource → Content → Content → Type 0

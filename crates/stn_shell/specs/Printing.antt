@@ -4,12 +4,12 @@ use Rattle.std.specs.Io.KnownBytes.{Appends}
 use Rattle.stn_device.specs.Bytes.{AppendsPart}
 use Rattle.stn_device.specs.Counted.{counted_device, failure_count}
 use Rattle.stn_device.specs.declared.counted.Counted.{Counted}
-use Rattle.stn_store.specs.Endings.{refusal_text, fault_text}
-use Rattle.stn_store.specs.declared.failure.Failure.{Failure}
-use Rattle.stn_store.specs.declared.failure.Failure.TheVariants.{Refused, Failed}
-use Rattle.stn_store.specs.declared.failure.Refusal.{Refusal}
-use Rattle.stn_store.specs.declared.failure.Fault.{Fault}
-use Rattle.stn_store.specs.declared.failure.Fault.TheVariants.{Write, Memory}
+use Rattle.stn_refusal.specs.Printed.{refusal_text, fault_text}
+use Rattle.stn_refusal.specs.declared.failure.Failure.{Failure}
+use Rattle.stn_refusal.specs.declared.failure.Failure.TheVariants.{Refused, Failed}
+use Rattle.stn_refusal.specs.declared.refusal.Refusal.{Refusal}
+use Rattle.stn_refusal.specs.declared.failure.Fault.{Fault}
+use Rattle.stn_refusal.specs.declared.failure.Fault.TheVariants.{Write, Memory}
 
 -- a reader or a writer: the bytes that it has left or holds, where these are known, and how many of its calls failed
 pub record Device : Type 0 where

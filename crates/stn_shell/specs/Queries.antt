@@ -6,7 +6,7 @@ use Rattle.stn_questions.specs.Answer.{IsAnswer}
 use Rattle.stn_picture.specs.Picture.{IsPicture}
 use Rattle.stn_exec.specs.Dispatch.{IsNextText, IsRestText}
 use Rattle.stn_store.specs.Store.{Entry, Opens}
-use Rattle.stn_store.specs.declared.failure.Failure.{Failure}
+use Rattle.stn_refusal.specs.declared.failure.Failure.{Failure}
 use Rattle.stn_shell.specs.Refusals.{IsQuestionRefusal, IsRehearseRefusal}
 use Rattle.stn_line.specs.declared.words.SiteLog.{SiteLog}
 use Rattle.stn_shell.specs.declared.queries.Query.{Query}

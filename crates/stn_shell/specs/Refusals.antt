@@ -9,18 +9,23 @@ use Rattle.stn_net.specs.declared.bound.BoundFault.TheVariants.{NoEvent}
 use Rattle.stn_questions.specs.declared.asked.Question.{Question}
 use Rattle.stn_questions.specs.Answer.{AsksOfNoEvent}
 use Rattle.stn_exec.specs.Dispatch.{IsOverdueAt, IsRefusedRehearsal}
-use Rattle.stn_store.specs.Causes.{of_base, of_bound, of_replica, refused_of, other_plan, log_there, no_such_word, of_loosening}
-use Rattle.stn_store.specs.Store.{Entry, IsThere, Spells, Opens, IsMissing, IsUnopened}
-use Rattle.stn_shell.specs.Words.{amendment_read, bound_read, execution_read, id_read, time_read, times_read, question_read, slack_read}
+use Rattle.stn_lift.specs.Failures.{base_failure}
+use Rattle.stn_net.specs.Failures.{bound_failure}
+use Rattle.stn_replica.specs.Failures.{replica_failure}
+use Rattle.stn_loosen.specs.Failures.{loosen_failure}
+use Rattle.stn_store.specs.Store.{Entry, log_there, IsThere, Spells, Opens, IsMissing, IsUnopened}
+use Rattle.stn_shell.specs.Words.{no_such_word, amendment_read, bound_read, execution_read, id_read, time_read, times_read, question_read, slack_read}
 use Rattle.stn_line.specs.declared.words.SiteLog.{SiteLog}
 use Rattle.stn_line.specs.declared.words.LogCommand.{LogCommand}
 use Rattle.stn_line.specs.declared.words.LogCommand.TheVariants.{Bare, Init, Loosen, Add, Amend, Withdraw, Done, Merge, Report, Next, Ask, Check, Rehearse, Draw}
 use Rattle.stn_loosen.specs.declared.fault.LoosenFault.TheVariants.{Full}
 use Rattle.stn_loosen.specs.Slack.{Slack}
 use Rattle.stn_loosen.specs.Loosened.{AreFewLoosened, AreTooMany}
-use Rattle.stn_store.specs.declared.failure.Failure.{Failure}
-use Rattle.stn_store.specs.declared.failure.Failure.TheVariants.{Failed}
-use Rattle.stn_store.specs.declared.failure.Fault.TheVariants.{Memory}
+use Rattle.stn_refusal.specs.declared.code.Code.TheVariants as code
+use Rattle.stn_refusal.specs.declared.failure.Failure.{Failure}
+use Rattle.stn_refusal.specs.declared.failure.Failure.TheVariants.{Failed}
+use Rattle.stn_refusal.specs.declared.failure.Fault.TheVariants.{Memory}
+use Rattle.stn_refusal.specs.Refusals.{refused, refused_of}
 
 -- words that can't be read refuse the command; else it goes on with what they say
 abbrev pub WithWords : {X : Type 0} → Result X Failure → (X → Option Failure → Type 0) → Option Failure → Type 0
@@ -44,30 +49,34 @@ WithLog entries name site Goes cause = ((failure : Failure) × IsUnopened entrie
 -- a source without a base does
 abbrev pub base_refusal_of : Result PlanSource BaseFault → Option Failure
 base_refusal_of (Ok source) = None
-base_refusal_of (Err fault) = Some (of_base fault)
+base_refusal_of (Err fault) = Some (base_failure fault)
 
 abbrev pub IsBaseRefusal : PlanSource → Option Failure → Type 0
 IsBaseRefusal source cause = cause ≡ base_refusal_of (base_of source)
 
 -- so does one whose loosened plan would have more records than a site may know
 abbrev pub IsLooseningRefusal : PlanSource → Slack → Option Failure → Type 0
-IsLooseningRefusal source slack cause = ((fault : BaseFault) × (base_of source ≡ Err fault) × (cause ≡ Some (of_base fault)))
-    ⊎ ((base_of source ≡ Ok source) × AreTooMany source slack × (cause ≡ Some (of_loosening Full)))
+IsLooseningRefusal source slack cause = ((fault : BaseFault) × (base_of source ≡ Err fault) × (cause ≡ Some (base_failure fault)))
+    ⊎ ((base_of source ≡ Ok source) × AreTooMany source slack × (cause ≡ Some (loosen_failure Full)))
     ⊎ ((base_of source ≡ Ok source) × ((records : List Difference) × AreFewLoosened source slack records) × (cause ≡ None))
+
+-- the bases of two logs differ
+abbrev pub other_plan : Failure
+other_plan = refused code.OtherPlan
 
 -- why a replica takes in nothing of another's: its plan is another one, or its own call refuses it
 abbrev pub IsMergeRefusal : Held → Held → Option Failure → Type 0
 IsMergeRefusal ours theirs cause = ((ours.source ≢ theirs.source) × (cause ≡ Some other_plan))
-    ⊎ ((ours.source ≡ theirs.source) × (cause ≡ option_map of_replica (take_refusal ours theirs.state)))
+    ⊎ ((ours.source ≡ theirs.source) × (cause ≡ option_map replica_failure (take_refusal ours theirs.state)))
 
 -- why a question is refused: it is about an event that the plan has not
 abbrev pub IsQuestionRefusal : Held → Question → Option Failure → Type 0
-IsQuestionRefusal held question cause = (AsksOfNoEvent held.source question × (cause ≡ Some (of_bound NoEvent)))
+IsQuestionRefusal held question cause = (AsksOfNoEvent held.source question × (cause ≡ Some (bound_failure NoEvent)))
     ⊎ ((¬ AsksOfNoEvent held.source question) × (cause ≡ None))
 
 -- why a rehearsal is: an event is overdue
 abbrev pub IsRehearseRefusal : Held → ℤ → Option Failure → Type 0
-IsRehearseRefusal held now cause = ((event : ℕ) × IsOverdueAt held.source held.state now event × (cause ≡ Some (refused_of 7 event)))
+IsRehearseRefusal held now cause = ((event : ℕ) × IsOverdueAt held.source held.state now event × (cause ≡ Some (refused_of code.Overdue event)))
     ⊎ ((¬ IsRefusedRehearsal held.source held.state now) × (cause ≡ None))
 
 -- why a check of times, the origin's first, is: there is not one time for each event
@@ -85,13 +94,13 @@ IsRefusalOf entries log (Loosen domain plan early late) = WithWords (slack_read 
     (λ slack. WhereFree entries log.name.now
     (WithText entries domain.now (λ actions. WithText entries plan.now (λ steps. IsLooseningRefusal (files actions steps) slack))))
 IsRefusalOf entries log (Add from to lo hi) = WithWords (bound_read from.now to.now lo hi)
-    (λ bound. WithLog entries log.name.now log.site (λ held cause. cause ≡ option_map of_replica (add_refusal held bound)))
+    (λ bound. WithLog entries log.name.now log.site (λ held cause. cause ≡ option_map replica_failure (add_refusal held bound)))
 IsRefusalOf entries log (Amend id from to lo hi) = WithWords (amendment_read id.now from.now to.now lo hi)
-    (λ said. WithLog entries log.name.now log.site (λ held cause. cause ≡ option_map of_replica (amend_refusal held said.0 said.1)))
+    (λ said. WithLog entries log.name.now log.site (λ held cause. cause ≡ option_map replica_failure (amend_refusal held said.0 said.1)))
 IsRefusalOf entries log (Withdraw id) = WithWords (id_read id.now)
-    (λ which. WithLog entries log.name.now log.site (λ held cause. cause ≡ option_map of_replica (withdraw_refusal held which)))
+    (λ which. WithLog entries log.name.now log.site (λ held cause. cause ≡ option_map replica_failure (withdraw_refusal held which)))
 IsRefusalOf entries log (Done event time) = WithWords (execution_read event.now time.now)
-    (λ said. WithLog entries log.name.now log.site (λ held cause. cause ≡ option_map of_replica (done_refusal held said.0)))
+    (λ said. WithLog entries log.name.now log.site (λ held cause. cause ≡ option_map replica_failure (done_refusal held said.0)))
 IsRefusalOf entries log (Merge other) = WithLog entries log.name.now log.site
     (λ ours. WithLog entries other.now log.site (IsMergeRefusal ours))
 IsRefusalOf entries log Report = WithLog entries log.name.now log.site (λ held cause. cause ≡ None)

@@ -12,10 +12,16 @@ use Rattle.stn_questions.specs.declared.asked.Question.TheVariants as question
 use Rattle.stn_loosen.specs.Slack.{Slack}
 use Rattle.stn_exec.specs.Command.{event_of, id_of}
 use Rattle.stn_exec.specs.Effect.{and_then}
-use Rattle.stn_store.specs.Causes.{of_time, no_such_word}
-use Rattle.stn_store.specs.declared.failure.Failure.{Failure}
+use Rattle.stn_time.specs.Failures.{time_failure}
+use Rattle.stn_refusal.specs.declared.code.Code.TheVariants.{Line}
+use Rattle.stn_refusal.specs.declared.failure.Failure.{Failure}
+use Rattle.stn_refusal.specs.Refusals.{refused_at}
 use Rattle.stn_line.specs.declared.words.Asked.{Asked}
 use Rattle.stn_line.specs.declared.words.Asked.TheVariants.{Records, Steps, Bounds, Ready, Why}
+
+-- a word is no event, no id, or a time below 0 where none may be
+abbrev pub no_such_word : Failure
+no_such_word = refused_at Line 0
 
 -- what a word names
 abbrev pub named : {X : Type 0} → Option X → Result X Failure
@@ -25,7 +31,7 @@ named None = Err no_such_word
 -- what a word spells
 abbrev pub spelled : Result ℤ TimeFault → Result ℤ Failure
 spelled (Ok time) = Ok time
-spelled (Err fault) = Err (of_time fault)
+spelled (Err fault) = Err (time_failure fault)
 
 abbrev pub event_read : List ℕ → Result ℕ Failure
 event_read word = named (event_of word)

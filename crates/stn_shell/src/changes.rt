@@ -12,10 +12,10 @@ ghost use Rattle.stn_shell.specs.Refusals.{WithLog, IsBaseRefusal, IsMergeRefusa
 ghost use Rattle.stn_shell.specs.Commands.{IsLoosened};
 ghost use Rattle.stn_shell.specs.Changes.{IsChange, IsChangeRefusal, IsMerge};
 ghost use Rattle.stn_shell.specs.declared.changes.Change.TheVariants.{Merge};
-ghost use Rattle.stn_store.specs.Causes.{of_replica};
+ghost use Rattle.stn_replica.specs.Failures.{replica_failure};
 ghost use Rattle.stn_store.specs.Store.{IsLack};
-ghost use Rattle.stn_store.specs.declared.failure.Failure.TheVariants.{Failed};
-ghost use Rattle.stn_store.specs.declared.failure.Fault.TheVariants as lack;
+ghost use Rattle.stn_refusal.specs.declared.failure.Failure.TheVariants.{Failed};
+ghost use Rattle.stn_refusal.specs.declared.failure.Fault.TheVariants as lack;
 
 use std::alloc::{Allocator, Global};
 use std::rc::Rc;
@@ -23,8 +23,9 @@ use stn_lift::{Base, Source};
 use stn_loosen::{Tolerance, loosened_replica};
 use stn_net::Event;
 use stn_records::{Id, Site};
+use stn_refusal::{Code, Failure};
 use stn_replica::{Replica, ReplicaFault};
-use stn_store::{Failure, Store};
+use stn_store::Store;
 use stn_time::{Memory, Ms};
 
 /// A bound between two events, as it is asked for: it may not be one.
@@ -130,7 +131,7 @@ fn withdraw(replica: &mut Replica<Global>, id: Id) -> Result<Id, ReplicaFault>
 fn id_line(alloc: Global, words: &[u8], id: Result<Id, ReplicaFault>) -> Result<Vec<u8>, Failure>
     ensures { MatchResult result
         (λ text. (given : SiteCounter) × (id ≡ Ok given) × (text.items ≡ words.now ++ (id_text given ++ 10 ∷ [])))
-        (λ failure. (failure ≡ Failed lack.Memory) ⊎ ((fault : ReplicaFaultView) × (id ≡ Err fault) × (failure ≡ of_replica fault))) }
+        (λ failure. (failure ≡ Failed lack.Memory) ⊎ ((fault : ReplicaFaultView) × (id ≡ Err fault) × (failure ≡ replica_failure fault))) }
 {
     let given = id?;
     let mut text = Vec::new(alloc);
@@ -203,7 +204,7 @@ pub fn take_in<A: Allocator + Copy>(
     ensures kept { OnErr result (replica.new ≡ replica.old) }
 {
     if !replica.base().same(other.base()) {
-        return Err(Failure::other_plan());
+        return Err(Failure::refused(Code::OtherPlan));
     }
     replica.take(other.records())?;
     Ok(())

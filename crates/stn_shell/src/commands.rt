@@ -20,8 +20,9 @@ use std::alloc::Global;
 use stn_lift::Source;
 use stn_line::{Asked, LogCommand, SiteLog};
 use stn_loosen::Tolerance;
+use stn_refusal::{Code, Failure, Fault};
 use stn_replica::Replica;
-use stn_store::{Failure, Fault, Store};
+use stn_store::Store;
 
 /// Does a command of a log: the answer. A refused command changes nothing; nor does one for which memory runs out or a device of
 /// the store fails.
@@ -97,7 +98,7 @@ fn find_free<S: Store>(store: &S, name: &str) -> Result<(), Failure>
         (λ failure. IsTaken (S.entries store.now) name.now failure ⊎ IsLack S.fails failure) }
 {
     if store.is_there(name)? {
-        Err(Failure::log_there())
+        Err(Failure::refused(Code::LogThere))
     } else {
         Ok(())
     }

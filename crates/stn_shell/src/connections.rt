@@ -4,7 +4,7 @@ ghost use Rattle.std.specs.Prelude.{◌≡◌, ◌⊎◌, ◌++◌, Result, Ok, 
 ghost use Rattle.stn_shell.specs.Connections.{end_text, fault_word, session_text, IsSessionBetween, IsSavedSession, IsUnservedSession, Serves, StopsAtSession, StopsServing, Exchanges, IsSavedExchange, Sends, StopsAsking, StopsSending};
 ghost use Rattle.stn_shell.specs.Joining.{JoinsLog, SavesJoin, IsUntaken, IsUnkept};
 ghost use Rattle.stn_shell.specs.Printing.{Device, device_of, Prints, IsUnprinted, Tells};
-ghost use Rattle.stn_store.specs.declared.failure.Failure.{Failure as FailureView};
+ghost use Rattle.stn_refusal.specs.declared.failure.Failure.{Failure as FailureView};
 ghost use Rattle.stn_session.specs.declared.session.Served.{Served as ServedView};
 ghost use Rattle.stn_session.specs.declared.session.ServeFault.{ServeFault as ServeFaultView};
 
@@ -18,9 +18,10 @@ use std::net::TcpListener;
 use std::time::{Clock, Duration};
 use stn_device::Counted;
 use stn_line::SiteLog;
+use stn_refusal::Failure;
 use stn_replica::Replica;
 use stn_session::{End, ServeFault, Served, receive_replies, send_requests, serve};
-use stn_store::{Failure, Store};
+use stn_store::Store;
 use stn_time::Memory;
 
 /// Where connections come in, how many are served, and how long each session may take.

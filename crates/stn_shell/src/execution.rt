@@ -9,8 +9,8 @@ ghost use Rattle.stn_shell.specs.Connections.{Serves, StopsServing, Sends, Stops
 ghost use Rattle.stn_shell.specs.Executed.{IsSaid, IsExecuted, Ends};
 ghost use Rattle.stn_shell.specs.Printing.{Device, device_of, Prints};
 ghost use Rattle.stn_store.specs.Store.{IsLack};
-ghost use Rattle.stn_store.specs.declared.failure.Failure.TheVariants.{Failed};
-ghost use Rattle.stn_store.specs.declared.failure.Fault.TheVariants as fault;
+ghost use Rattle.stn_refusal.specs.declared.failure.Failure.TheVariants.{Failed};
+ghost use Rattle.stn_refusal.specs.declared.failure.Fault.TheVariants as fault;
 ghost use Rattle.std.specs.Duration.{as_nanos};
 
 use crate::commands::answer;
@@ -26,8 +26,9 @@ use std::time::{Clock, Duration};
 use stn_device::{Counted, write_whole};
 use stn_exec::run;
 use stn_line::{LineFault, LogCommand, SiteLog, Task, task};
+use stn_refusal::{Failure, Fault};
 use stn_replica::Replica;
-use stn_store::{Failure, Fault, FileStore, Store};
+use stn_store::{FileStore, Store};
 
 /// Does the command of the words, of which the first is the program's name, and says its status: 0 where nothing was refused
 /// and no device failed, 1 where something was, 2 where the words are no command's. An answer or a refusal is printed to `out`,

@@ -7,8 +7,9 @@ ghost use Rattle.stn_store.specs.Store.{Opens};
 use crate::changes::take_in;
 use std::alloc::Global;
 use stn_line::SiteLog;
+use stn_refusal::Failure;
 use stn_replica::Replica;
-use stn_store::{Failure, Store};
+use stn_store::Store;
 
 /// Takes in what a log says. A log that is gone says nothing. A refusal or a fault changes nothing.
 pub fn take_log<S: Store>(

@@ -2,14 +2,14 @@
 
 ghost use Rattle.std.specs.Prelude.{◌≡◌, IfErr};
 ghost use Rattle.stn_device.specs.Counted.{failure_count};
-ghost use Rattle.stn_store.specs.declared.failure.Failure.TheVariants.{Failed};
-ghost use Rattle.stn_store.specs.declared.failure.Fault.TheVariants as fault;
+ghost use Rattle.stn_refusal.specs.declared.failure.Failure.TheVariants.{Failed};
+ghost use Rattle.stn_refusal.specs.declared.failure.Fault.TheVariants as fault;
 
 use std::io::{self, Error, ErrorKind};
 use std::net::{Net, Shutdown, TcpListener, TcpStream, ToSocketAddrs};
 use std::time::{Clock, Duration};
 use stn_device::{Connection, Counted, Deadline, MOST_BYTES, UntilDeadline, drain};
-use stn_store::{Failure, Fault};
+use stn_refusal::{Failure, Fault};
 
 /// A connection to another site, and when its time is over.
 #[derive(Drop)]

@@ -6,7 +6,7 @@ ghost use Rattle.stn_shell.specs.Printing.{device_of, Prints, IsUnprinted, Tells
 use std::alloc::Allocator;
 use std::io::Write;
 use stn_device::{Counted, write_whole};
-use stn_store::{Failure, Fault, Refusal};
+use stn_refusal::{Failure, Fault, Refusal};
 
 /// Prints a text.
 pub fn print<W: Write>(text: &[u8], out: &mut Counted<W>) -> Result<(), Failure>

@@ -6,7 +6,7 @@ use std::io::{ErrorKind, Write};
 use std::process::ExitCode;
 use std::{env, io};
 use stn_device::{Counted, write_whole};
-use stn_store::Fault;
+use stn_refusal::Fault;
 
 /// What is said of words that are no text.
 const NO_TEXT: &[u8] = b"error: a word of the command line is not UTF-8\n";

@@ -11,16 +11,17 @@ ghost use Rattle.stn_exec.specs.Dispatch.{IsNextText, IsRestText};
 ghost use Rattle.stn_exec.specs.Effect.{times_answer};
 ghost use Rattle.stn_shell.specs.Queries.{IsSaid, IsQueryRefusal};
 ghost use Rattle.stn_shell.specs.Refusals.{IsQuestionFailure, IsQuestionRefusal, IsCheckFailure, IsRehearseFailure, IsRehearseRefusal};
-ghost use Rattle.stn_store.specs.declared.failure.Failure.TheVariants.{Failed};
-ghost use Rattle.stn_store.specs.declared.failure.Fault.TheVariants as lack;
+ghost use Rattle.stn_refusal.specs.declared.failure.Failure.TheVariants.{Failed};
+ghost use Rattle.stn_refusal.specs.declared.failure.Fault.TheVariants as lack;
 
+use crate::words::no_such_word;
 use std::alloc::Allocator;
 use stn_exec::{append_check, append_next, append_rest};
 use stn_net::BoundFault;
 use stn_picture::print_picture;
 use stn_questions::{Question, WhyFault, print_answer};
+use stn_refusal::{Failure, Fault};
 use stn_replica::Replica;
-use stn_store::{Failure, Fault};
 use stn_time::Ms;
 
 /// What is asked of a log, as its words say.
@@ -106,7 +107,7 @@ pub fn check<A: Allocator + Copy>(
         (IsCheckFailure replica.now times.now) }
 {
     if times.len() != usize::from(replica.base().events()) + 1 {
-        return Err(Failure::no_such_word());
+        return Err(no_such_word());
     }
     let mut text = Vec::new(alloc);
     append_check(replica, times, &mut text)?;

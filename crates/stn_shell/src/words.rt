@@ -3,12 +3,12 @@
 ghost use Rattle.std.specs.Prelude.{◌≡◌, ◌⊎◌, pos, neg_ℤ, Ok, Err, IfOk, IfErr};
 ghost use Rattle.stn_time.specs.Time.{horizon};
 ghost use Rattle.stn_net.specs.Schedule.{times_of};
-ghost use Rattle.stn_store.specs.declared.failure.Failure.TheVariants.{Failed};
-ghost use Rattle.stn_store.specs.declared.failure.Fault.TheVariants as lack;
+ghost use Rattle.stn_refusal.specs.declared.failure.Failure.TheVariants.{Failed};
+ghost use Rattle.stn_refusal.specs.declared.failure.Fault.TheVariants as lack;
 ghost use Rattle.stn_replica.specs.Held.{difference};
 ghost use Rattle.stn_questions.specs.declared.asked.Question.TheVariants.{Ready, Why};
 ghost use Rattle.stn_exec.specs.Effect.{and_then};
-ghost use Rattle.stn_shell.specs.Words.{bound_read, event_read, id_read, time_read, times_read, side_read, question_read, slack_of, slack_read};
+ghost use Rattle.stn_shell.specs.Words.{no_such_word, bound_read, event_read, id_read, time_read, times_read, side_read, question_read, slack_of, slack_read};
 
 use crate::changes::AskedBound;
 use std::alloc::Allocator;
@@ -17,8 +17,15 @@ use stn_loosen::Tolerance;
 use stn_net::Event;
 use stn_questions::Question;
 use stn_records::Id;
-use stn_store::Failure;
+use stn_refusal::{Code, Failure};
 use stn_time::{HORIZON, Ms};
+
+/// A word is no event, no id, or a time below 0 where none may be.
+pub fn no_such_word() -> Failure
+    ensures { result ≡ no_such_word }
+{
+    Failure::refused_at(Code::Line, 0)
+}
 
 /// The event that a word names.
 pub fn read_event(word: &str) -> Result<Event, Failure>
@@ -26,7 +33,7 @@ pub fn read_event(word: &str) -> Result<Event, Failure>
 {
     match stn_exec::read_event(word.as_bytes()) {
         Some(event) => Ok(event),
-        None => Err(Failure::no_such_word()),
+        None => Err(no_such_word()),
     }
 }
 
@@ -36,7 +43,7 @@ pub fn read_id(word: &str) -> Result<Id, Failure>
 {
     match stn_exec::read_id(word.as_bytes()) {
         Some(id) => Ok(id),
-        None => Err(Failure::no_such_word()),
+        None => Err(no_such_word()),
     }
 }
 
@@ -106,7 +113,7 @@ fn tolerance(early: Ms, late: Ms) -> Result<Tolerance, Failure>
 {
     match Tolerance::new(early, late) {
         Some(tolerance) => Ok(tolerance),
-        None => Err(Failure::no_such_word()),
+        None => Err(no_such_word()),
     }
 }
 

@@ -13,7 +13,7 @@ returns-then-not-same g c = record {
         let yes = c.same.ensures.1 (rw (c.base.ensures, c.base-2.ensures) e) in
         let no = c.if-not-same.true in
         cc),
-    ap Some c.other_plan.ensures,
+    ap Some c.refused.ensures,
   ));
   kept = refl;
 }

@@ -1,5 +1,5 @@
 use Rattle.std.proofs.Common.{◌≡◌, ◌++◌, refl, ap, inl, ◌∙◌}
-use Rattle.stn_store.specs.Endings.{refusal_text}
+use Rattle.stn_refusal.specs.Printed.{refusal_text}
 use Rattle.stn_shell.proofs.printing.tell_refusal.Goals as goal
 
 pub returns-in-Ok-write_whole : goal.returns-in-Ok-write_whole
