@@ -22,6 +22,7 @@ from pathlib import Path
 TOP = Path(__file__).resolve().parent.parent
 CRATES = TOP / "crates"
 LISTED = [TOP / "README.md", TOP / "docs" / "GUIDE.md"]
+HELP = CRATES / "stn_line" / "src" / "help.rt"
 FORMATS = TOP / "docs" / "FORMATS.md"
 DOCUMENTS = [TOP / "README.md", *sorted((TOP / "docs").glob("*.md")), TOP / "bench" / "README.md"]
 LINK = re.compile(r"\]\(([^()\s]+)\)")
@@ -160,9 +161,7 @@ def format_numbers(path):
 def differences():
     """Where a list of refusals differs from the table that the proofs cite, or has a number twice."""
     table = table_numbers(CRATES / "stn_refusal" / "specs" / "Codes.antt")
-    lists = {
-        path: list(numbers(path)) for path, numbers in ((CRATES / "stn_line" / "src" / "help.rt", help_numbers), (FORMATS, format_numbers))
-    }
+    lists = {HELP: list(help_numbers(HELP)), FORMATS: list(format_numbers(FORMATS))}
     for path, numbers in lists.items():
         for number in sorted(set(table) | set(numbers)):
             if number not in numbers:
