@@ -1,41 +1,30 @@
 -- What an addition, an amendment, a withdrawal and a take make of a state.
-use Rattle.std.proofs.Common.{◌≡◌, ◌≢◌, ℕ, ◌<◌, ◌≤◌, Bool, true, false, cond, not, ◌&&◌, ◌||◌, List, [], ◌∷◌, ◌++◌, length, Option, Some, None, is_some, inl, inr, ⊎_elim, refl, sym, ap, subst, ◌∙◌, arith, All}
+use Rattle.std.proofs.Common.{◌≡◌, ◌≢◌, ◌<◌, ◌≤◌, Bool, true, false, not, ◌&&◌, ◌||◌, List, [], ◌∷◌, ◌++◌, length, Option, Some, None, is_some, inl, ⊎_elim, refl, sym, ap, subst, ◌∙◌, arith, All}
 use Rattle.std.proofs.lemmas.Bool.{false≢true, false_from_ne_true, cases_lt, or_cases}
 use Rattle.std.proofs.lemmas.List.Elements.{All-append, All-nil, All-push}
 use Rattle.std.specs.Ordering.{eq_by_cmp}
-use Rattle.std.specs.Cmp.{Equal-is, tied_itself}
-use Rattle.std.specs.FinMap.{get, insert, contains_key, get-insert, get-empty}
+use Rattle.std.specs.FinMap.{get, insert, contains_key}
 use Rattle.stn_net.specs.Difference.{Difference, NamesEvents}
 use Rattle.stn_net.specs.Schedule.{Meets}
 use Rattle.stn_matrix.specs.Table.{Table}
 use Rattle.stn_matrix.specs.Tightest.{IsExact}
 use Rattle.stn_records.specs.Id.{SiteCounter, id_cmp}
 use Rattle.stn_records.specs.declared.record.Record.{Record}
-use Rattle.stn_records.specs.Content.{Content, RecordMap, addition, is_live, is_replaced, is_known, no_content, plain, replaced_set, with_amendment, with_record, with_tombstone, join_contents, taken}
-use Rattle.stn_records.specs.ContentLaws.{ids_total, ids_exact, contents_join}
-use Rattle.stn_records.proofs.Holding.{joined_is}
+use Rattle.stn_records.specs.Content.{Content, addition, is_live, is_replaced, is_known, no_content, plain, replaced_set, with_amendment, with_record, with_tombstone, join_contents}
+use Rattle.stn_records.specs.ContentLaws.{contents_join}
 use Rattle.stn_records.proofs.Replaced.{replaced_by_withdrawal, inserted_key, replaced_withdrawn, replaced_amended}
-use Rattle.stn_replica.specs.Bounds.{bounds_of, live_bounds, RecordsName}
+use Rattle.stn_site.specs.Bounds.{bounds_of, live_bounds}
 use Rattle.stn_replica.specs.Invariant.{IsSettled}
 use Rattle.stn_replica.specs.Work.{is_risen, risen, KeepsLive}
 use Rattle.stn_replica.specs.Walk.{Extends}
-use Rattle.stn_replica.proofs.Counts.{unknown_absent, unknown_unreplaced}
-use Rattle.stn_records.proofs.Gets.{entries_from_get, get_from_entries}
-use Rattle.stn_replica.proofs.Live.{RisenHold, keeps_unless_replaced, falls_where_replaced, left_true, live_from_bounds, bounds_from_live, risen_from_bounds, old_hold, risen_hold, new_hold, live_named, nothing_live}
+use Rattle.stn_site.proofs.Counts.{unknown_absent, unknown_unreplaced}
+use Rattle.stn_site.proofs.Named.{same_id, itself, value_of, get_added, live_named, none_named}
+use Rattle.stn_replica.proofs.Live.{RisenHold, keeps_unless_replaced, falls_where_replaced, left_true, live_from_bounds, bounds_from_live, risen_from_bounds, old_hold, risen_hold, new_hold, nothing_live}
 use Rattle.stn_replica.proofs.Schedules.{schedule_before, met_behind, schedule_with, settled_same_schedules}
-
-same_id : (q id : SiteCounter) → eq_by_cmp id_cmp q id ≡ true → q ≡ id
-same_id q id t = ids_exact q id ((Equal-is (id_cmp q id)).0 t)
-
-itself : (id : SiteCounter) → eq_by_cmp id_cmp id id ≡ true
-itself id = (Equal-is (id_cmp id id)).1 (tied_itself ids_total id)
 
 last_false : (a : Bool) → (a && false) ≡ false
 last_false true = refl
 last_false false = refl
-
-value_of : {X : Type 0} (x y : X) → Some x ≡ Some y → x ≡ y
-value_of x y e = cc
 
 -- ---- an id that is replaced is not live
 pub replaced_dead : (s : Content) (id : SiteCounter) → is_replaced s id ≡ true → is_live s id ≡ false
@@ -66,33 +55,18 @@ contrary : (a : Bool) → (a && not a) ≢ true
 contrary true e = false≢true e
 contrary false e = false≢true e
 
--- what an insertion leaves
-get_inserted : (m : RecordMap) (id : SiteCounter) (r : Record) (q : SiteCounter) (b : Bool) → eq_by_cmp id_cmp q id ≡ b → get (insert m id r) q ≡ cond b (Some r) (get m q)
-get_inserted m id r q b t = get-insert ids_total m id r q ∙ ap (λ x. cond x (Some r) (get m q)) t
-
 module _ (s new : Content) (id : SiteCounter) (r : Record) (unknown : is_known s id ≡ false) (added : new.additions ≡ insert s.additions id r) where
-  get_added : (q : SiteCounter) (b : Bool) → eq_by_cmp id_cmp q id ≡ b → get new.additions q ≡ cond b (Some r) (get s.additions q)
-  get_added q b t = ap (λ m. get m q) added ∙ get_inserted s.additions id r q b t
-
   pub extends_added : Extends s new
   extends_added q v there =
       elim (eq_by_cmp id_cmp q id) as (λ b. eq_by_cmp id_cmp q id ≡ b → get new.additions q ≡ Some v) [
         | true ↦ λ t. absurd (false≢true (ap is_some (sym (unknown_absent s id unknown) ∙ ap (λ k. get s.additions k) (sym (same_id q id t)) ∙ there)))
-        | false ↦ λ t. get_added q false t ∙ there
+        | false ↦ λ t. get_added s new id r unknown added q false t ∙ there
       ] refl
-
-  pub named_added : (events : ℕ) → RecordsName events s → NamesEvents events r.bound → RecordsName events new
-  named_added events named this =
-      entries_from_get ids_total ids_exact new.additions (λ entry. NamesEvents events entry.1.bound) (λ q v there.
-      elim (eq_by_cmp id_cmp q id) as (λ b. eq_by_cmp id_cmp q id ≡ b → NamesEvents events v.bound) [
-        | true ↦ λ t. subst (λ (x : Record). NamesEvents events x.bound) (value_of r v (sym (get_added q true t) ∙ there)) this
-        | false ↦ λ t. get_from_entries ids_total ids_exact s.additions (λ entry. NamesEvents events entry.1.bound) named q v (sym (get_added q false t) ∙ there)
-      ] refl)
 
   -- where no id that was not replaced is replaced now, but for one that was not live, and not the new one
   module _ (more : (q : SiteCounter) → is_replaced s q ≡ true → is_replaced new q ≡ true) (dead : (q : SiteCounter) → is_replaced new q ≡ true → is_live s q ≡ false) (free : is_replaced new id ≡ false) where
     there_added : get new.additions id ≡ Some r
-    there_added = get_added id true (itself id)
+    there_added = get_added s new id r unknown added id true (itself id)
 
     rose_added : is_risen s new id ≡ true
     rose_added =
@@ -106,11 +80,11 @@ module _ (s new : Content) (id : SiteCounter) (r : Record) (unknown : is_known s
     alone_added : (q : SiteCounter) (v : Record) → get new.additions q ≡ Some v → is_risen s new q ≡ true → v ≡ r
     alone_added q v there rose =
         elim (eq_by_cmp id_cmp q id) as (λ b. eq_by_cmp id_cmp q id ≡ b → v ≡ r) [
-          | true ↦ λ t. sym (value_of r v (sym (get_added q true t) ∙ there))
+          | true ↦ λ t. sym (value_of r v (sym (get_added s new id r unknown added q true t) ∙ there))
           | false ↦ λ t.
               let now : is_live new q ≡ true = left_true (is_live new q) (not (is_live s q)) rose in
               let unreplaced = live_parts (is_some (get new.additions q)) (is_replaced new q) now in
-              let same : is_live new q ≡ is_live s q = λ i. is_some (get_added q false t i) && not ((unreplaced ∙ sym (stayed q unreplaced)) i) in
+              let same : is_live new q ≡ is_live s q = λ i. is_some (get_added s new id r unknown added q false t i) && not ((unreplaced ∙ sym (stayed q unreplaced)) i) in
               absurd (contrary (is_live s q) (ap (λ b. b && not (is_live s q)) (sym same) ∙ rose))
         ] refl
 
@@ -122,13 +96,13 @@ pub grown_with_record : (s : Content) (id : SiteCounter) (r : Record) → is_kno
 grown_with_record s id r unknown =
     grown s (with_record s id r) id r unknown refl (λ q e. e) (λ q e. replaced_dead s q e) (unknown_unreplaced s id unknown)
 
--- ---- an amendment under an id that replaces nothing
-module _ (s new : Content) (id old : SiteCounter) (bound : Difference) (is : new ≡ with_amendment s id old bound) (nothing : get s.replacements id ≡ None) where
+-- ---- an amendment under an id that replaces no other id
+module _ (s new : Content) (id old : SiteCounter) (bound : Difference) (is : new ≡ with_amendment s id old bound) (agrees : (z : SiteCounter) → get s.replacements id ≡ Some z → z ≡ old) where
   -- the old id is replaced, and those that were
   replaced_or_old : (q : SiteCounter) → is_replaced new q ≡ (eq_by_cmp id_cmp q old || is_replaced s q)
   replaced_or_old q =
       ap (λ t. is_replaced t q) is
-      ∙ ap (λ m. contains_key m q) (sym (replaced_amended s id old bound (λ z there. absurd (false≢true (ap is_some (sym nothing ∙ there))))))
+      ∙ ap (λ m. contains_key m q) (sym (replaced_amended s id old bound agrees))
       ∙ inserted_key (replaced_set s) old q
 
   -- where the old record was not live, the new one has become so, and no other changes
@@ -188,21 +162,6 @@ module _ (s new : Content) (id : SiteCounter) (r : Record) (g : IsGrown s new id
 pub extends_joined : (a b c : Content) → join_contents a b ≡ Some c → Extends a c
 extends_joined a b c e id r there = (contents_join.union a b c e (addition id r)).1 (inl there)
 
--- records of another state that are all held name what the records of this one do
-pub named_held : (events : ℕ) (a b : Content) → taken a b ≡ Some a → RecordsName events a → RecordsName events b
-named_held events a b is named =
-    entries_from_get ids_total ids_exact b.additions (λ entry. NamesEvents events entry.1.bound) (λ id r there.
-    get_from_entries ids_total ids_exact a.additions (λ entry. NamesEvents events entry.1.bound) named id r
-    ((contents_join.union a b a (joined_is a b is) (addition id r)).1 (inr there)))
-
-pub named_joined : (events : ℕ) (a b c : Content) → join_contents a b ≡ Some c → RecordsName events a → RecordsName events b → RecordsName events c
-named_joined events a b c e ours theirs =
-    entries_from_get ids_total ids_exact c.additions (λ entry. NamesEvents events entry.1.bound) (λ q v there.
-    ⊎_elim
-    (λ h. get_from_entries ids_total ids_exact a.additions (λ entry. NamesEvents events entry.1.bound) ours q v h)
-    (λ h. get_from_entries ids_total ids_exact b.additions (λ entry. NamesEvents events entry.1.bound) theirs q v h)
-    ((contents_join.union a b c e (addition q v)).0 there))
-
 -- ---- a withdrawal
 module _ (s : Content) (id : SiteCounter) where
   -- the id is replaced, and those that were
@@ -222,11 +181,6 @@ module _ (s : Content) (id : SiteCounter) where
       ] refl
 
 -- ---- nothing at first
-pub none_named : (events : ℕ) (none : Content) → none ≡ no_content → RecordsName events none
-none_named events none is =
-    entries_from_get ids_total ids_exact none.additions (λ entry. NamesEvents events entry.1.bound) (λ q v there.
-    absurd (false≢true (ap is_some (sym (get-empty id_cmp q) ∙ ap (λ (s : Content). get s.additions q) (sym is) ∙ there))))
-
 pub settled_at_first : (base : List Difference) (none : Content) (table : Table) → none ≡ no_content → IsExact base table → IsSettled (base ++ live_bounds none) table true
 settled_at_first base none table is exact =
     settled_same_schedules base (base ++ live_bounds none) table true

@@ -1,8 +1,8 @@
 -- The live records of a state, and those that become live from one state to the next.
-use Rattle.std.proofs.Common.{◌≡◌, ℕ, Bool, true, false, cond, not, ◌&&◌, List, [], ◌∷◌, ◌++◌, filter, Option, Some, None, is_some, refl, sym, ap, subst, ◌∙◌, All}
+use Rattle.std.proofs.Common.{◌≡◌, Bool, true, false, cond, not, ◌&&◌, List, [], ◌∷◌, ◌++◌, filter, Option, Some, None, is_some, refl, sym, ap, subst, ◌∙◌, All}
 use Rattle.std.specs.List.{AllByRecursion}
 use Rattle.std.proofs.lemmas.Bool.{false≢true}
-use Rattle.std.proofs.lemmas.List.Elements.{All-from_recursion, recursion_from_All, All-map, All-filter}
+use Rattle.std.proofs.lemmas.List.Elements.{All-from_recursion, recursion_from_All}
 use Rattle.std.specs.FinMap.{entries, get, contains_key, get-empty}
 use Rattle.stn_net.specs.Difference.{Difference, NamesEvents}
 use Rattle.stn_net.specs.Schedule.{HasSchedule, Meets}
@@ -11,7 +11,8 @@ use Rattle.stn_records.specs.Id.{SiteCounter, id_cmp}
 use Rattle.stn_records.specs.declared.record.Record.{Record}
 use Rattle.stn_records.specs.Content.{Content, is_live, is_replaced, live_of, no_content, replaced_set}
 use Rattle.stn_records.specs.ContentLaws.{ids_total, ids_exact}
-use Rattle.stn_replica.specs.Bounds.{bounds_of, live_bounds, RecordsName}
+use Rattle.stn_site.proofs.Named.{records_from_bounds, bounds_from_records}
+use Rattle.stn_site.specs.Bounds.{bounds_of, live_bounds}
 use Rattle.stn_replica.specs.Invariant.{IsSettled}
 use Rattle.stn_replica.specs.Work.{is_risen, risen, KeepsLive}
 use Rattle.stn_replica.specs.Walk.{Extends}
@@ -44,18 +45,6 @@ module _ {X : Type 0} (p : X → Bool) (P : X → Type 0) where
 
   pub All-passing : (xs : List X) → All P (filter p xs) → All (λ x. p x ≡ true → P x) xs
   All-passing xs h = All-from_recursion (λ x. p x ≡ true → P x) xs (tested xs (recursion_from_All P (filter p xs) h))
-
--- what holds of the bound of each record holds of each of the bounds
-module _ (P : Difference → Type 0) where
-  bounds_each : (records : List Entry) → AllByRecursion P (bounds_of records) → AllByRecursion (λ entry. P entry.1.bound) records
-  bounds_each [] h = tt
-  bounds_each (entry ∷ records) h = (h.0, bounds_each records h.1)
-
-  pub records_from_bounds : (records : List Entry) → All P (bounds_of records) → All (λ entry. P entry.1.bound) records
-  records_from_bounds records h = All-from_recursion (λ entry. P entry.1.bound) records (bounds_each records (recursion_from_All P (bounds_of records) h))
-
-  pub bounds_from_records : (records : List Entry) → All (λ entry. P entry.1.bound) records → All P (bounds_of records)
-  bounds_from_records records h = All-map P (λ entry. entry.1.bound) records h
 
 -- what holds of each live record holds of each bound of the live ones
 abbrev pub LiveHold : (Difference → Type 0) → Content → Type 0
@@ -203,10 +192,6 @@ settled_alike base old new table possible added live named settled =
     schedule_with base (live_bounds old) time (schedule_before base (live_bounds new) time s)
     (bounds_from_live (Meets time) old (λ id r there now. all id r (ap (λ m. get m id) added ∙ there) (live id ∙ now))))
     named settled
-
--- records that name some events, named by the bounds of the live ones
-pub live_named : (events : ℕ) (s : Content) → RecordsName events s → All (NamesEvents events) (live_bounds s)
-live_named events s named = bounds_from_records (NamesEvents events) (live_of s) (All-filter (λ entry. not (is_replaced s entry.0)) (λ entry. NamesEvents events entry.1.bound) (entries s.additions) named)
 
 pub nothing_live : (none : Content) → none ≡ no_content → (id : SiteCounter) → is_live none id ≡ false
 nothing_live none is id = ap (λ s. is_live s id) is ∙ ap (λ o. is_some o && not (is_replaced no_content id)) (get-empty id_cmp id)

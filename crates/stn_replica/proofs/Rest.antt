@@ -15,13 +15,13 @@ use Rattle.stn_records.specs.declared.record.Mark.TheVariants.{Plain, Done}
 use Rattle.stn_records.specs.declared.record.Record.{Record}
 use Rattle.stn_records.specs.Content.{Content, AllProper, live_of, is_replaced}
 use Rattle.stn_records.specs.ContentLaws.{ids_total, ids_exact}
-use Rattle.stn_replica.specs.Bounds.{all_bounds, live_bounds}
-use Rattle.stn_replica.specs.Report.{is_done}
+use Rattle.stn_site.specs.Bounds.{all_bounds, live_bounds}
+use Rattle.stn_site.specs.Report.{is_done, done_events}
 use Rattle.stn_windows.specs.Dispatch.{CanWaitUntil}
 use Rattle.stn_windows.specs.Rehearsal.{IsRehearsal, NeverFalls, RunsEachOnce, HasScheduleThrough}
-use Rattle.stn_replica.specs.Dispatch.{done_events, KeepsRecorded, IsRestOfPlan}
+use Rattle.stn_replica.specs.Dispatch.{KeepsRecorded, IsRestOfPlan}
 use Rattle.stn_records.proofs.Gets.{entries_from_get}
-use Rattle.stn_replica.proofs.Live.{records_from_bounds}
+use Rattle.stn_site.proofs.Named.{records_from_bounds}
 use Rattle.stn_replica.proofs.Schedules.{met_behind}
 
 -- the flags of the plan's events say which of them are done

@@ -1,6 +1,6 @@
 -- That a replica stays sound, and what its work is.
-use Rattle.std.proofs.Common.{◌≡◌, ◌≢◌, ℕ, ◌+◌, ◌<◌, ◌≤◌, Bool, true, false, List, [], ◌∷◌, ◌++◌, Option, Some, Ok, Err, IfSome, ⊎_elim, refl, sym, ap, subst, ◌∙◌, arith, All}
-use Rattle.std.proofs.lemmas.Bool.{false≢true, cases_lt}
+use Rattle.std.proofs.Common.{◌≡◌, ◌+◌, ◌≤◌, Bool, true, false, List, [], ◌∷◌, ◌++◌, Some, refl, sym, ap, subst, ◌∙◌, arith, All}
+use Rattle.std.proofs.lemmas.Bool.{false≢true}
 use Rattle.std.proofs.lemmas.List.Elements.{All-append}
 use Rattle.stn_net.specs.Difference.{Difference, NamesEvents}
 use Rattle.stn_net.specs.Schedule.{HasSchedule}
@@ -10,24 +10,14 @@ use Rattle.stn_lift.specs.PlanSource.{PlanSource, base_bounds, events_of}
 use Rattle.stn_records.specs.Id.{SiteCounter}
 use Rattle.stn_records.specs.declared.record.Record.{Record}
 use Rattle.stn_records.specs.Content.{Content, is_live, no_content, with_tombstone, join_contents}
-use Rattle.stn_replica.specs.Bounds.{all_bounds, live_bounds, bounds_of, RecordsName}
-use Rattle.stn_replica.specs.Held.{Held}
+use Rattle.stn_site.specs.Bounds.{all_bounds, live_bounds, bounds_of, RecordsName}
+use Rattle.stn_site.specs.Held.{Held}
 use Rattle.stn_replica.specs.Invariant.{IsSettled, IsSoundReplica}
 use Rattle.stn_replica.specs.Walk.{Extends}
 use Rattle.stn_replica.specs.Work.{risen, KeepsLive, SparesWork}
-use Rattle.stn_replica.proofs.Changes.{IsGrown, one_risen, settled_added, named_joined, withdrawn_dead, same_live, none_named, settled_at_first}
-use Rattle.stn_replica.proofs.Live.{live_named, settled_alike, settled_grown, conflict_stays}
-
--- what an option holds, from what it is
-pub held_is : {X : Type 0} (o : Option X) (x y : X) → o ≡ Some x → IfSome o (λ v. v ≡ y) → x ≡ y
-held_is o x y e h = subst (λ p. IfSome p (λ v. v ≡ y)) e h
-
-pub ok_not_err : {T E : Type 0} {x : T} {e : E} → Ok x ≢ Err e
-ok_not_err is = absurd (cc)
-
--- a number that cannot pass a limit
-pub not_past : (n : ℕ) → (65535 < n → false ≡ true) → n ≤ 65535
-not_past n h = ⊎_elim (λ past. absurd (false≢true (h past))) (λ within. within) (cases_lt 65535 n)
+use Rattle.stn_site.proofs.Named.{named_joined, none_named, live_named}
+use Rattle.stn_replica.proofs.Changes.{IsGrown, one_risen, settled_added, withdrawn_dead, same_live, settled_at_first}
+use Rattle.stn_replica.proofs.Live.{settled_alike, settled_grown, conflict_stays}
 
 -- the table is exact where the bounds have a schedule
 pub settled_exact : (bounds : List Difference) (table : Table) (possible : Bool) → possible ≡ true → IsSettled bounds table possible → IsExact bounds table

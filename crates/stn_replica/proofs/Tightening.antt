@@ -10,10 +10,10 @@ use Rattle.stn_matrix.specs.Tightest.{IsExact}
 use Rattle.stn_records.specs.Id.{SiteCounter}
 use Rattle.stn_records.specs.declared.record.Record.{Record}
 use Rattle.stn_records.specs.Content.{Content, is_replaced}
-use Rattle.stn_replica.specs.Bounds.{bounds_of, live_bounds}
+use Rattle.stn_site.specs.Bounds.{bounds_of, live_bounds}
 use Rattle.stn_replica.specs.Work.{is_risen}
 use Rattle.stn_replica.proofs.Schedules.{schedule_before}
-use Rattle.stn_replica.proofs.Walk.{bounds_seen, live_seen, live_ahead, live_parts, bounds_with_live}
+use Rattle.stn_site.proofs.Walk.{bounds_seen, live_seen, live_ahead, live_parts, bounds_with_live}
 
 -- those of the records that have become live
 abbrev pub risen_of : Content → Content → List (SiteCounter × Record) → List (SiteCounter × Record)

@@ -1,18 +1,13 @@
--- The rest of a replica's plan: which events are done, and the runs of those that are left.
-use Rattle.std.specs.Prelude.{◌≡◌, ℕ, ℤ, true, ◌+◌, Bool, List, map, All}
-use Rattle.std.specs.List.{range_with_len}
+-- The rest of a replica's plan: the runs of the events that are left.
+use Rattle.std.specs.Prelude.{◌≡◌, ℕ, ℤ, true, List, All}
 use Rattle.stn_net.specs.Schedule.{IsSchedule}
 use Rattle.stn_windows.specs.Dispatch.{CanWaitUntil}
 use Rattle.stn_windows.specs.Rehearsal.{IsRehearsal, NeverFalls, RunsEachOnce}
-use Rattle.stn_lift.specs.PlanSource.{PlanSource, events_of}
+use Rattle.stn_lift.specs.PlanSource.{PlanSource}
 use Rattle.stn_records.specs.Record.{is_done as marks_done}
 use Rattle.stn_records.specs.Content.{Content, live_of}
-use Rattle.stn_replica.specs.Bounds.{all_bounds}
-use Rattle.stn_replica.specs.Report.{is_done}
-
--- for each event of the plan, the origin first, whether some live record says that it is done
-abbrev pub done_events : PlanSource → Content → List Bool
-done_events source state = map (is_done state) (range_with_len 0 (events_of source + 1))
+use Rattle.stn_site.specs.Bounds.{all_bounds}
+use Rattle.stn_site.specs.Report.{done_events}
 
 -- the times have each event that a live record says is done at its recorded time
 abbrev pub KeepsRecorded : Content → (ℕ → ℤ) → Type 0

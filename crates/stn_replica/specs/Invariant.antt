@@ -6,7 +6,7 @@ use Rattle.stn_matrix.specs.Table.{Table}
 use Rattle.stn_matrix.specs.Tightest.{IsExact}
 use Rattle.stn_lift.specs.PlanSource.{PlanSource, base_bounds, events_of}
 use Rattle.stn_records.specs.Content.{Content}
-use Rattle.stn_replica.specs.Bounds.{all_bounds, RecordsName}
+use Rattle.stn_site.specs.Bounds.{all_bounds, RecordsName}
 
 -- the bounds have a schedule, and the table is exact for them; or they have none
 abbrev pub IsSettled : List Difference → Table → Bool → Type 0

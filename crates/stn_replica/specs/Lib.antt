@@ -1,13 +1,4 @@
-pub mod Held
-pub mod Bounds
-pub mod Names
 pub mod Invariant
 pub mod Work
 pub mod Walk
-pub mod FaultsOf
-pub mod Refusals
-pub mod Lines
-pub mod Report
-pub mod Calls
 pub mod Dispatch
-pub mod Failures

@@ -4,8 +4,8 @@ use Rattle.stn_net.specs.Schedule.{HasSchedule}
 use Rattle.stn_records.specs.Id.{SiteCounter}
 use Rattle.stn_records.specs.declared.record.Record.{Record}
 use Rattle.stn_records.specs.Content.{Content, is_live}
-use Rattle.stn_replica.specs.Bounds.{all_bounds}
-use Rattle.stn_replica.specs.Held.{Held}
+use Rattle.stn_site.specs.Bounds.{all_bounds}
+use Rattle.stn_site.specs.Held.{Held}
 
 -- the record of the id is live in the new state, and was not in the old
 abbrev pub is_risen : Content → Content → SiteCounter → Bool

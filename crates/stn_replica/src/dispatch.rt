@@ -3,14 +3,15 @@ ghost use Rattle.stn_net.specs.Event.{most_events};
 ghost use Rattle.stn_net.specs.Schedule.{HasSchedule};
 ghost use Rattle.stn_windows.specs.Dispatch.{IsNext};
 ghost use Rattle.stn_windows.specs.Rehearsal.{IsRehearseFault};
-ghost use Rattle.stn_replica.specs.Bounds.{all_bounds};
-ghost use Rattle.stn_replica.specs.Dispatch.{done_events, IsRestOfPlan};
+ghost use Rattle.stn_site.specs.Bounds.{all_bounds};
+ghost use Rattle.stn_site.specs.Report.{done_events};
+ghost use Rattle.stn_replica.specs.Dispatch.{IsRestOfPlan};
 
-use crate::done::EVENT_FLAGS;
 use crate::replica::Replica;
 use std::alloc::Allocator;
 use stn_matrix::Matrix;
 use stn_net::Event;
+use stn_site::EVENT_FLAGS;
 use stn_time::Ms;
 use stn_windows::{Next, RehearseFault, next, rehearse};
 

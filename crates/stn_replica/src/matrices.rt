@@ -1,8 +1,10 @@
-ghost use Rattle.std.specs.Prelude.{◌≡◌, ◌+◌, ◌≤◌, ◌++◌, ◌↔◌, ◌&&◌, not, List, [], ◌∷◌, length, IsTrue, IfOk};
-ghost use Rattle.stn_net.specs.Difference.{Difference, NamesEvents};
+ghost use Rattle.std.specs.Prelude.{◌≡◌, ◌+◌, ◌≤◌, ◌++◌, ◌↔◌, ◌&&◌, not, List, [], ◌∷◌, length, Some, IsTrue, IfOk};
+ghost use Rattle.std.specs.FinMap.{get, contains_key};
+ghost use Rattle.stn_net.specs.Difference.{Difference};
 ghost use Rattle.stn_matrix.specs.Tightest.{IsExact};
 ghost use Rattle.stn_lift.specs.PlanSource.{PlanSource, base_bounds, events_of};
-ghost use Rattle.stn_replica.specs.Bounds.{bounds_of, live_bounds, RecordsName};
+ghost use Rattle.stn_records.specs.declared.record.Record.{Record};
+ghost use Rattle.stn_site.specs.Bounds.{bounds_of, live_bounds, RecordsName};
 ghost use Rattle.stn_replica.specs.Invariant.{IsSettled, IsSoundReplica};
 ghost use Rattle.stn_replica.specs.Work.{risen, KeepsLive};
 ghost use Rattle.stn_replica.specs.Walk as walk;
@@ -13,7 +15,6 @@ use crate::plan_matrix::PlanMatrix;
 use std::alloc::Allocator;
 use stn_lift::Base;
 use stn_matrix::Matrix;
-use stn_net::Bound;
 use stn_records::{Id, Record, Records};
 use stn_time::Memory;
 
@@ -98,21 +99,25 @@ fn tighten_risen<A: Allocator + Copy>(
     true
 }
 
-// Takes one more bound, where the bounds so far have a schedule. Whether they have one with it.
-pub fn tighten_further<A: Allocator + Copy>(
+// Takes the bound of one more record, where the bounds so far have a schedule. Whether they have one with it.
+pub fn tighten_by<A: Allocator + Copy>(
     current: &mut Matrix<A>,
     possible: bool,
-    bound: Bound,
+    records: &Records<A>,
+    id: Id,
 ) -> bool
-    requires named { NamesEvents current.old.events bound }
+    requires named { RecordsName current.old.events records.now }
+    requires there { IsTrue (contains_key records.now.additions id) }
     requires counted { current.old.steps ≤ u64.MAX }
-    ensures settled { (bounds : List Difference) → IsSettled bounds current.old possible → IsSettled (bounds ++ bound ∷ []) current.new result }
+    ensures settled { (one : Record) → get records.now.additions id ≡ Some one → (bounds : List Difference)
+        → IsSettled bounds current.old possible → IsSettled (bounds ++ one.bound ∷ []) current.new result }
     ensures events { current.new.events ≡ current.old.events }
     ensures counted { current.new.steps ≤ u64.MAX }
     ensures least { current.old.steps ≤ current.new.steps }
     ensures most { current.new.steps ≤ current.old.steps + 1 }
 {
-    possible && current.tighten(bound)
+    let one = records.state().additions().get(id).unwrap();
+    possible && current.tighten(one.bound)
 }
 
 // Brings the current matrix up to records that hold all that was held before. Whether all bounds have a schedule then.
@@ -171,23 +176,4 @@ fn was_live(added: &[(Id, Record)], fallen: &[(Id, ())], id: Id) -> bool
     ensures { result ≡ (walk.begins_with id added.now && not (walk.begins_with id fallen.now)) }
 {
     begins_with(added, id) && !begins_with(fallen, id)
-}
-
-// Whether each record names the origin or one of so many events.
-pub fn all_name_events<A: Allocator + Copy>(records: &Records<A>, events: u16) -> bool
-    ensures { IsTrue result ↔ RecordsName events records.now }
-{
-    for (_, record) in records.state().additions().entries() {
-        if !names_events(&record.bound, events) {
-            return false;
-        }
-    }
-    true
-}
-
-// Whether both events of the bound are the origin or one of so many others.
-fn names_events(bound: &Bound, events: u16) -> bool
-    ensures { IsTrue result ↔ NamesEvents events bound.now }
-{
-    bound.from().number() <= events && bound.to().number() <= events
 }

@@ -1,43 +1,35 @@
-ghost use Rattle.std.specs.Prelude.{◌≡◌, ◌+◌, ◌≤◌, pos, true, false, length, All, None, unwrap_or, IsOk, IfOk, IfErr, IfSome, IfNone, OnOk, OnErr, MatchOption};
+ghost use Rattle.std.specs.Prelude.{◌≡◌, ◌+◌, ◌≤◌, pos, true, length, None, unwrap_or, IsOk, IfOk, IfErr, IfSome, OnOk, OnErr, MatchOption};
 ghost use Rattle.std.specs.FinMap.{contains_key};
 ghost use Rattle.std.specs.Rc.{rc_value};
-ghost use Rattle.stn_net.specs.Schedule.{HasSchedule, IsSchedule, Meets, NamesTimes, times_of};
+ghost use Rattle.stn_net.specs.Schedule.{HasSchedule, IsSchedule, times_of};
 ghost use Rattle.stn_matrix.specs.Tightest.{IsExact};
 ghost use Rattle.stn_windows.specs.Window.{IsWindow};
 ghost use Rattle.stn_lift.specs.PlanSource.{base_bounds, events_of};
-ghost use Rattle.stn_net.specs.Difference.{NamesEvents};
-ghost use Rattle.stn_records.specs.Record.{IsProper};
-ghost use Rattle.stn_records.specs.Content.{no_content, is_known, IsPart};
-ghost use Rattle.stn_replica.specs.Bounds.{all_bounds, live_bounds, RecordsName};
-ghost use Rattle.stn_replica.specs.Names.{broken_bound};
-ghost use Rattle.stn_replica.specs.Walk.{Extends, IsFirstBrokenRecord, RecordsTimed};
-ghost use Rattle.stn_replica.specs.Held.{difference, plain, executed};
+ghost use Rattle.stn_records.specs.Content.{no_content, IsPart};
+ghost use Rattle.stn_site.specs.Bounds.{all_bounds, RecordsName};
+ghost use Rattle.stn_site.specs.Names.{broken_bound};
+ghost use Rattle.stn_site.specs.Held.{difference, plain, executed};
+ghost use Rattle.stn_site.specs.Calls.{added, amended, withdrew, took, Leaves};
+ghost use Rattle.stn_site.specs.Refusals.{add_refusal, amend_refusal, done_refusal, withdraw_refusal, take_refusal};
 ghost use Rattle.stn_replica.specs.Work.{SparesWork};
-ghost use Rattle.stn_replica.specs.Calls.{added, amended, withdrew, took, Leaves};
-ghost use Rattle.stn_replica.specs.Refusals.{next_refusal, add_refusal, amend_refusal, done_refusal, withdraw_refusal, take_refusal};
 
-use crate::faults::ReplicaFault;
-use crate::matrices::{all_name_events, catch_up, rebuild, tighten_further};
-use crate::names::BoundName;
+use crate::matrices::{catch_up, rebuild, tighten_by};
 use crate::plan_matrix::PlanMatrix;
 use std::alloc::Allocator;
 use std::marker::Model;
 use std::rc::Rc;
 use stn_lift::Base;
 use stn_matrix::Matrix;
-use stn_net::{Bound, BoundFault, Event, first_broken};
-use stn_records::{Id, Mark, Records, Site};
+use stn_net::Event;
+use stn_records::{Id, Records, Site};
+use stn_site::{BoundName, ReplicaFault, SitePlan};
 use stn_time::{Memory, Ms};
 use stn_windows::window;
 
-/// One site's copy of a plan: the plan's base, what the site holds, and how far apart the events
-/// can be.
+/// One site's copy of a plan, with how far apart the events can be.
 #[derive(Drop)]
 pub struct Replica<A: Allocator> {
-    alloc: A,
-    site: Site,
-    base: Rc<Base<A>, A>,
-    records: Records<A>,
+    plan: SitePlan<A>,
     // The matrix of the plan's own bounds.
     opening: PlanMatrix<A>,
     // The matrix of all bounds, where they have a schedule.
@@ -46,17 +38,16 @@ pub struct Replica<A: Allocator> {
 }
 
 impl<A: Allocator> Model for Replica<A> {
-    ghost use Rattle.std.specs.Rc.{rc_value};
-    ghost use Rattle.stn_replica.specs.Held.{Held, coded_held};
+    ghost use Rattle.stn_site.specs.Held.{Held, coded_held};
     ghost use Rattle.stn_replica.specs.Invariant.{IsSoundReplica};
 
     ghost Value = { Held };
 
     ghost coded = { coded_held };
 
-    ghost view = { λ r. record { site = r.site; source = rc_value r.base; state = r.records; steps = r.current.steps } };
+    ghost view = { λ r. record { site = r.plan.site; source = r.plan.source; state = r.plan.state; steps = r.current.steps } };
 
-    ghost invariant = { λ r. IsSoundReplica (rc_value r.base) r.records r.opening r.current r.possible };
+    ghost invariant = { λ r. IsSoundReplica r.plan.source r.plan.state r.opening r.current r.possible };
 }
 
 impl<A: Allocator + Copy> Replica<A> {
@@ -66,8 +57,17 @@ impl<A: Allocator + Copy> Replica<A> {
         ensures source { IfOk result (λ replica. replica.source ≡ rc_value base) }
         ensures empty { IfOk result (λ replica. replica.state ≡ no_content) }
     {
-        let opening = PlanMatrix::new(alloc, &base)?;
-        Replica::opened(alloc, site, base, opening)
+        Replica::of(SitePlan::new(alloc, site, base))
+    }
+
+    /// The replica of a site that has this copy of the plan.
+    pub fn of(plan: SitePlan<A>) -> Result<Replica<A>, Memory>
+        ensures site { IfOk result (λ replica. replica.site ≡ plan.site) }
+        ensures source { IfOk result (λ replica. replica.source ≡ plan.source) }
+        ensures state { IfOk result (λ replica. replica.state ≡ plan.state) }
+    {
+        let opening = PlanMatrix::new(plan.alloc(), plan.base())?;
+        Replica::opened(plan, opening)
     }
 
     /// The replica of another site of the same plan that holds nothing yet. What both know of the plan's own bounds is shared, so
@@ -77,34 +77,26 @@ impl<A: Allocator + Copy> Replica<A> {
         ensures source { IfOk result (λ replica. replica.source ≡ self.now.source) }
         ensures empty { IfOk result (λ replica. replica.state ≡ no_content) }
     {
-        let base = self.base.clone()?;
+        let plan = self.plan.beside(site)?;
         let opening = self.opening.shared()?;
-        Replica::opened(self.alloc, site, base, opening)
+        Replica::opened(plan, opening)
     }
 
-    // The replica of a site that holds nothing yet, with the matrix of the plan's own bounds.
-    fn opened(
-        alloc: A,
-        site: Site,
-        base: Rc<Base<A>, A>,
-        opening: PlanMatrix<A>,
-    ) -> Result<Replica<A>, Memory>
-        requires exact { IsExact (base_bounds (rc_value base)) opening }
-        requires events { opening.events ≡ events_of (rc_value base) }
-        ensures site { IfOk result (λ replica. replica.site ≡ site) }
-        ensures source { IfOk result (λ replica. replica.source ≡ rc_value base) }
-        ensures empty { IfOk result (λ replica. replica.state ≡ no_content) }
+    // The replica of a site, with the matrix of the plan's own bounds.
+    fn opened(plan: SitePlan<A>, opening: PlanMatrix<A>) -> Result<Replica<A>, Memory>
+        requires exact { IsExact (base_bounds plan.source) opening }
+        requires events { opening.events ≡ events_of plan.source }
+        ensures site { IfOk result (λ replica. replica.site ≡ plan.site) }
+        ensures source { IfOk result (λ replica. replica.source ≡ plan.source) }
+        ensures state { IfOk result (λ replica. replica.state ≡ plan.state) }
     {
-        let mut current = Matrix::bare(alloc, base.events())?;
-        current.copy_from(opening.matrix());
+        let mut current = Matrix::bare(plan.alloc(), plan.base().events())?;
+        let possible = rebuild(&opening, &mut current, plan.records());
         Ok(Replica {
-            alloc,
-            site,
-            base,
-            records: Records::new(alloc),
+            plan,
             opening,
             current,
-            possible: true,
+            possible,
         })
     }
 
@@ -120,9 +112,9 @@ impl<A: Allocator + Copy> Replica<A> {
         ensures fault { IfErr result (λ fault. fault ≡ unwrap_or (add_refusal self.old (difference from to lo hi)) ReplicaFault.Memory) }
         ensures kept { OnErr result (self.new ≡ self.old) }
     {
-        let events = self.base.events();
-        let bound = Bound::new(events, from, to, lo, hi)?;
-        self.hold(Mark::Plain, bound)
+        let id = self.plan.add(from, to, lo, hi)?;
+        self.possible = tighten_by(&mut self.current, self.possible, self.plan.records(), id);
+        Ok(id)
     }
 
     /// Replaces a known id for good by a new record of a bound, under the site's next id, which is
@@ -145,32 +137,13 @@ impl<A: Allocator + Copy> Replica<A> {
         ensures fault { IfErr result (λ fault. fault ≡ unwrap_or (amend_refusal self.old old (difference from to lo hi)) ReplicaFault.Memory) }
         ensures kept { OnErr result (self.new ≡ self.old) }
     {
-        let bound = Bound::new(self.base.events(), from, to, lo, hi)?;
-        if !self.records.is_known(old) {
-            return Err(ReplicaFault::Unknown);
-        }
-        self.replace(old, bound)
-    }
-
-    // Replaces a known id by a new record under the site's next id, which is returned.
-    fn replace(&mut self, old: Id, bound: Bound) -> Result<Id, ReplicaFault>
-        requires named { NamesEvents (events_of self.old.source) bound }
-        requires known { is_known self.old.state old ≡ true }
-        ensures leaves { IfOk result (λ id. Leaves self.old (amended id old bound) self.new) }
-        ensures work { OnOk result (SparesWork self.old self.new) }
-        ensures accepted { OnOk result (next_refusal self.old ≡ None) }
-        ensures fault { IfErr result (λ fault. fault ≡ unwrap_or (next_refusal self.old) ReplicaFault.Memory) }
-        ensures kept { OnErr result (self.new ≡ self.old) }
-    {
-        let counter = self.records.next_counter(self.site)?;
-        let id = Id::new(self.site, counter).unwrap();
-        prove!(self.records.state().replacements().get(id).is_none());
-        let was_live = self.records.is_live(old);
-        self.records.amend(id, old, bound)?;
+        let was_live = self.plan.records().is_live(old);
+        let id = self.plan.amend(old, from, to, lo, hi)?;
+        let records = self.plan.records();
         if was_live {
-            self.possible = rebuild(&self.opening, &mut self.current, &self.records);
+            self.possible = rebuild(&self.opening, &mut self.current, records);
         } else {
-            self.possible = tighten_further(&mut self.current, self.possible, bound);
+            self.possible = tighten_by(&mut self.current, self.possible, records, id);
         }
         Ok(id)
     }
@@ -188,27 +161,8 @@ impl<A: Allocator + Copy> Replica<A> {
         ensures fault { IfErr result (λ fault. fault ≡ unwrap_or (done_refusal self.old event) ReplicaFault.Memory) }
         ensures kept { OnErr result (self.new ≡ self.old) }
     {
-        if event == Event::origin() {
-            return Err(ReplicaFault::Bound(BoundFault::NoEvent));
-        }
-        let bound = Bound::new(self.base.events(), Event::origin(), event, time, time)?;
-        self.hold(Mark::Done, bound)
-    }
-
-    // Adds a record under the site's next id, which is returned.
-    fn hold(&mut self, mark: Mark, bound: Bound) -> Result<Id, ReplicaFault>
-        requires named { NamesEvents (events_of self.old.source) bound }
-        requires proper { IsProper mark bound }
-        ensures leaves { IfOk result (λ id. Leaves self.old (added id (record { mark = mark; bound = bound })) self.new) }
-        ensures work { OnOk result (SparesWork self.old self.new) }
-        ensures accepted { OnOk result (next_refusal self.old ≡ None) }
-        ensures fault { IfErr result (λ fault. fault ≡ unwrap_or (next_refusal self.old) ReplicaFault.Memory) }
-        ensures kept { OnErr result (self.new ≡ self.old) }
-    {
-        let counter = self.records.next_counter(self.site)?;
-        let id = Id::new(self.site, counter).unwrap();
-        self.records.add(id, mark, bound)?;
-        self.possible = tighten_further(&mut self.current, self.possible, bound);
+        let id = self.plan.done(event, time)?;
+        self.possible = tighten_by(&mut self.current, self.possible, self.plan.records(), id);
         Ok(id)
     }
 
@@ -224,10 +178,10 @@ impl<A: Allocator + Copy> Replica<A> {
         ensures fault { IfErr result (λ fault. fault ≡ unwrap_or (withdraw_refusal self.old id) ReplicaFault.Memory) }
         ensures kept { OnErr result (self.new ≡ self.old) }
     {
-        let was_live = self.records.is_live(id);
-        self.records.withdraw(id)?;
+        let was_live = self.plan.records().is_live(id);
+        self.plan.withdraw(id)?;
         if was_live {
-            self.possible = rebuild(&self.opening, &mut self.current, &self.records);
+            self.possible = rebuild(&self.opening, &mut self.current, self.plan.records());
         }
         Ok(())
     }
@@ -246,34 +200,17 @@ impl<A: Allocator + Copy> Replica<A> {
         ensures fault { IfErr result (λ fault. fault ≡ unwrap_or (take_refusal self.old other.now) ReplicaFault.Memory) }
         ensures kept { OnErr result (self.new ≡ self.old) }
     {
-        if self.records.holds(other) {
-            return Ok(());
+        let held = self.plan.take_in(other)?;
+        if let Some(before) = &held {
+            self.possible = catch_up(
+                &self.opening,
+                &mut self.current,
+                self.possible,
+                before,
+                self.plan.records(),
+            );
         }
-        if !all_name_events(other, self.base.events()) {
-            return Err(ReplicaFault::Bound(BoundFault::NoEvent));
-        }
-        let records = self.records.joined(other)?;
-        self.take_over(records);
         Ok(())
-    }
-
-    // Holds these records, with all that is held already, in place of those held.
-    fn take_over(&mut self, records: Records<A>)
-        requires extends { Extends self.old.state records }
-        requires named { RecordsName (events_of self.old.source) records }
-        ensures site { self.new.site ≡ self.old.site }
-        ensures source { self.new.source ≡ self.old.source }
-        ensures state { self.new.state ≡ records }
-        ensures work { SparesWork self.old self.new }
-    {
-        self.possible = catch_up(
-            &self.opening,
-            &mut self.current,
-            self.possible,
-            &self.records,
-            &records,
-        );
-        self.records = records;
     }
 
     /// The earliest and the latest time of an event; none where all bounds have no schedule.
@@ -299,13 +236,16 @@ impl<A: Allocator + Copy> Replica<A> {
         ensures schedule { MatchOption result (IsSchedule (all_bounds self.now.source self.now.state) (times_of times.now))
             (λ _. ¬ IsSchedule (all_bounds self.now.source self.now.state) (times_of times.now)) }
     {
-        if let Some(place) = first_broken(self.base.bounds(), times) {
-            return Some(BoundName::Plan(place as u32 + 1));
-        }
-        match first_broken_record(&self.records, times) {
-            Some(id) => Some(BoundName::Record(id)),
-            None => None,
-        }
+        self.plan.check(times)
+    }
+
+    /// The site's copy of the plan, without a matrix.
+    pub fn plan(&self) -> &SitePlan<A>
+        ensures site { result.now.site ≡ self.now.site }
+        ensures source { result.now.source ≡ self.now.source }
+        ensures state { result.now.state ≡ self.now.state }
+    {
+        &self.plan
     }
 
     /// What the site holds.
@@ -313,21 +253,21 @@ impl<A: Allocator + Copy> Replica<A> {
         ensures value { result.now ≡ self.now.state }
         ensures named { RecordsName (events_of self.now.source) self.now.state }
     {
-        &self.records
+        self.plan.records()
     }
 
     /// The site.
     pub fn site(&self) -> Site
         ensures { result ≡ self.now.site }
     {
-        self.site
+        self.plan.site()
     }
 
     /// The plan's base.
     pub fn base(&self) -> &Base<A>
         ensures { result.now ≡ self.now.source }
     {
-        &self.base
+        self.plan.base()
     }
 
     /// The matrix of all bounds; none where they have no schedule.
@@ -346,32 +286,6 @@ impl<A: Allocator + Copy> Replica<A> {
 
     /// The allocator that the replica was made with.
     pub fn alloc(&self) -> A {
-        self.alloc
+        self.plan.alloc()
     }
-}
-
-// The id of the first live record whose bound the times break.
-fn first_broken_record<A: Allocator + Copy>(records: &Records<A>, times: &[Ms]) -> Option<Id>
-    requires origin { times_of times.now 0 ≡ pos 0 }
-    requires named { RecordsTimed times.now records.now }
-    ensures none { IfNone result (All (Meets (times_of times.now)) (live_bounds records.now)) }
-    ensures found { IfSome result (IsFirstBrokenRecord records.now (times_of times.now)) }
-{
-    for &(id, record) in records.state().additions().entries() {
-        let live = records.is_live(id);
-        if live && is_broken(record.bound, times) {
-            return Some(id);
-        }
-    }
-    None
-}
-
-// Whether the times break the bound.
-fn is_broken(bound: Bound, times: &[Ms]) -> bool
-    requires origin { times_of times.now 0 ≡ pos 0 }
-    requires named { NamesTimes times.now bound }
-    ensures met { result ≡ false → Meets (times_of times.now) bound }
-    ensures broken { result ≡ true → ¬ Meets (times_of times.now) bound }
-{
-    first_broken(&[bound], times).is_some()
 }

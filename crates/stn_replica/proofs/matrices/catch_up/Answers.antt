@@ -1,6 +1,6 @@
 use Rattle.std.proofs.Common.{refl, subst}
 use Rattle.std.proofs.lemmas.Bool.{false≢true}
-use Rattle.stn_replica.specs.Bounds.{RecordsName}
+use Rattle.stn_site.specs.Bounds.{RecordsName}
 use Rattle.stn_replica.proofs.Sound.{sound_rebuilt, sound_taken, sound_taken_in_conflict}
 use Rattle.stn_replica.proofs.matrices.catch_up.Goals as goal
 

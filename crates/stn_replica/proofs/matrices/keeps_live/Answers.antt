@@ -6,7 +6,7 @@ use Rattle.stn_records.specs.Content.{is_live, is_replaced, replaced_set}
 use Rattle.stn_records.proofs.Entries.{in_order}
 use Rattle.stn_replica.proofs.Ahead.{all_ahead, seen_there, seen_ahead}
 use Rattle.stn_replica.proofs.Live.{replaced_there, keeps_where_dead, falls_where_replaced}
-use Rattle.stn_replica.proofs.Places.{walked_are, seen_with, all_seen, next_of}
+use Rattle.stn_site.proofs.Places.{walked_are, seen_with, all_seen, next_of}
 use Rattle.stn_replica.proofs.matrices.keeps_live.Goals as goal
 
 pub loop-id-init : goal.loop-id-init

@@ -7,10 +7,10 @@ use Rattle.stn_records.specs.Id.{SiteCounter}
 use Rattle.stn_records.specs.declared.record.Record.{Record}
 use Rattle.stn_records.specs.Content.{is_replaced, replaced_set}
 use Rattle.stn_records.proofs.Entries.{in_order}
-use Rattle.stn_replica.specs.Bounds.{bounds_of}
+use Rattle.stn_site.specs.Bounds.{bounds_of}
 use Rattle.stn_replica.proofs.Ahead.{all_ahead, seen_there, seen_ahead}
-use Rattle.stn_replica.proofs.Places.{walked_are, one_more_seen, all_seen}
-use Rattle.stn_replica.proofs.Walk.{bounds_seen, one_more_dead}
+use Rattle.stn_site.proofs.Places.{walked_are, one_more_seen, all_seen}
+use Rattle.stn_site.proofs.Walk.{bounds_seen, one_more_dead}
 use Rattle.stn_replica.proofs.Tightening.{conflict_live, live_taken}
 use Rattle.stn_replica.proofs.matrices.tighten_live.Goals as goal
 use Rattle.stn_replica.proofs.matrices.tighten_live.Goals.{else-not-begins_with-via-then-not-begins_with+else-not-tighten, else-not-begins_with-via-else-not-begins_with}

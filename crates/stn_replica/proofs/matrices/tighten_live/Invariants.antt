@@ -4,7 +4,7 @@ use Rattle.stn_net.specs.Difference.{Difference}
 use Rattle.stn_matrix.specs.Tightest.{IsExact}
 use Rattle.stn_records.specs.Content.{replaced_set}
 use Rattle.stn_replica.proofs.Ahead.{IsAhead}
-use Rattle.stn_replica.proofs.Walk.{bounds_seen}
+use Rattle.stn_site.proofs.Walk.{bounds_seen}
 use Rattle.stn_replica.proofs.matrices.tighten_live.Given as goal
 
 abbrev pub invariant-loop-id : goal.invariant-loop-id

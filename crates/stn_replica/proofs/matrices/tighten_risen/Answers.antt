@@ -5,7 +5,7 @@ use Rattle.stn_records.specs.Content.{replaced_set}
 use Rattle.stn_records.proofs.Entries.{in_order}
 use Rattle.stn_replica.specs.Work.{is_risen}
 use Rattle.stn_replica.proofs.Ahead.{all_ahead, seen_there, seen_ahead, rises}
-use Rattle.stn_replica.proofs.Places.{walked_are, one_more_seen, all_seen, next_of}
+use Rattle.stn_site.proofs.Places.{walked_are, one_more_seen, all_seen, next_of}
 use Rattle.stn_replica.proofs.Live.{added_there}
 use Rattle.stn_replica.proofs.Tightening.{IsTightenedBy, none_taken, one_taken, none_more, taken_same, conflict_ahead, fewer_risen}
 use Rattle.stn_replica.proofs.matrices.tighten_risen.Goals as goal

@@ -1,37 +1,60 @@
-use Rattle.std.proofs.Common.{sym, ap, subst, ◌∙◌}
-use Rattle.std.proofs.lemmas.Bool.{eqb-true, eqb-false}
+use Rattle.std.proofs.Common.{is_some, refl, sym, ap, ◌∙◌, arith}
 use Rattle.std.proofs.lemmas.Result.{err_from_is_err_and}
-use Rattle.std.specs.Prelude.{unwrap_or}
-use Rattle.stn_net.specs.Difference.{IsFaultOf}
-use Rattle.stn_lift.specs.PlanSource.{events_of}
-use Rattle.stn_replica.specs.Held.{Held, difference}
-use Rattle.stn_replica.specs.declared.faults.ReplicaFault.TheVariants.{Memory}
-use Rattle.stn_replica.proofs.Refused.{done_origin, fixed_refused}
+use Rattle.std.specs.FinMap.{contains_key}
+use Rattle.stn_records.specs.declared.record.Record.{Record}
+use Rattle.stn_records.specs.Content.{Content}
+use Rattle.stn_site.specs.Held.{Held, executed}
+use Rattle.stn_replica.proofs.CatchingUp.{grown_by_addition, named_after, sound_with_one}
+use Rattle.stn_replica.proofs.Sound.{spares_added}
 use Rattle.stn_replica.proofs.replica.Replica.done.Goals as goal
 
-pub returns-then-eq-clause-fault : goal.returns-then-eq-clause-fault
-returns-then-eq-clause-fault g c =
-    ap (λ o. unwrap_or o Memory) (sym (done_origin c.args.self.now c.args.event (eqb-true c.args.event c.origin.result (sym c.if-eq.ensures) ∙ c.origin.ensures)))
+pub tighten_by-self-inside-requires-clause-named : goal.tighten_by-self-inside-requires-clause-named
+tighten_by-self-inside-requires-clause-named g c =
+    named_after c.self.inside.plan c.done.new.self c.self.inside.current c.records.result.now c.in_ok-id.ensures.leaves.source c.self.invariant.current_events c.records.ensures.value c.records.ensures.named
 
-pub returns-in_err-bound-clause-leaves : goal.returns-in_err-bound-clause-leaves
-returns-in_err-bound-clause-leaves g c = let p = err_from_is_err_and c.from_residual.result c.from_residual.ensures.1 in rw p.1 tt
+pub tighten_by-self-inside-requires-clause-there : goal.tighten_by-self-inside-requires-clause-there
+tighten_by-self-inside-requires-clause-there g c =
+    let one : Record = executed c.args.time c.args.event in
+    let more = grown_by_addition c.self.inside.plan c.done.new.self c.in_ok-id.id one c.in_ok-id.ensures.leaves in
+    ap (λ (s : Content). contains_key s.additions c.in_ok-id.id) c.records.ensures.value ∙ ap is_some more.there
 
-pub returns-in_err-bound-clause-work : goal.returns-in_err-bound-clause-work
-returns-in_err-bound-clause-work g c = let p = err_from_is_err_and c.from_residual.result c.from_residual.ensures.1 in rw p.1 tt
+pub invariant_of-self : goal.invariant_of-self
+invariant_of-self g c = rw c.in_err-id.ensures.kept c.self.invariant
 
-pub returns-in_err-bound-clause-accepted : goal.returns-in_err-bound-clause-accepted
-returns-in_err-bound-clause-accepted g c = let p = err_from_is_err_and c.from_residual.result c.from_residual.ensures.1 in rw p.1 tt
+pub invariant_of-self-2 : goal.invariant_of-self-2
+invariant_of-self-2 g c =
+    let one : Record = executed c.args.time c.args.event in
+    let leaves = c.in_ok-id.ensures.leaves in
+    let more = grown_by_addition c.self.inside.plan c.done.new.self c.in_ok-id.id one leaves in
+    let took = c.tighten_by-self-inside.ensures in
+    sound_with_one c.self.inside.plan c.done.new.self c.self.inside.opening c.self.inside.current c.tighten_by-self-inside.new.current c.self.inside.possible c.tighten_by-self-inside.result c.records.result.now
+    c.self.invariant leaves.source c.records.ensures.named c.records.ensures.value c.in_ok-id.id one more (record { settled = took.settled; events = took.events; counted = took.counted })
 
-pub returns-in_err-bound-clause-fault : goal.returns-in_err-bound-clause-fault
-returns-in_err-bound-clause-fault g c =
+pub returns-in_err-id : goal.returns-in_err-id
+returns-in_err-id g c =
     let p = err_from_is_err_and c.from_residual.result c.from_residual.ensures.1 in
-    let bound = difference c.origin-2.result c.args.event c.args.time c.args.time in
-    let events = c.events.ensures.value ∙ ap events_of c.deref.ensures ∙ ap (λ (h : Held). events_of h.source) c.self.view_is in
-    let fault = subst (λ n. IsFaultOf n bound c.in_err-bound.field-0.0) events c.in_err-bound.ensures.fault in
-    rw (p.1, p.2) (ap (λ o. unwrap_or o Memory) (sym (fixed_refused c.args.self.now c.origin-2.result c.args.event c.args.time c.in_err-bound.field-0.0 c.origin-2.ensures
-    (λ first. eqb-false c.args.event c.origin.result (sym c.if-eq.ensures) (first ∙ sym c.origin.ensures)) fault)))
+    record {
+      leaves = rw p.1 tt;
+      work = rw p.1 tt;
+      accepted = rw p.1 tt;
+      fault = rw (p.1, p.2, ← c.self.view_is) c.in_err-id.ensures.fault;
+      kept = rw p.1 (ap (λ (h : Held). record { site = h.site; source = h.source; state = h.state; steps = c.self.inside.current.steps }) c.in_err-id.ensures.kept ∙ c.self.view_is);
+    }
 
-pub returns-clause-leaves : goal.returns-clause-leaves
-returns-clause-leaves g c =
-    let fixed = c.in_ok-bound.ensures.made ∙ ap (λ origin. difference origin c.args.event c.args.time c.args.time) c.origin-2.ensures in
-    rw fixed at c.hold.ensures.leaves
+pub returns : goal.returns
+returns g c =
+    let one : Record = executed c.args.time c.args.event in
+    let leaves = c.in_ok-id.ensures.leaves in
+    let more = grown_by_addition c.self.inside.plan c.done.new.self c.in_ok-id.id one leaves in
+    let plan = c.done.new.self in
+    let new : Held = record { site = plan.site; source = plan.source; state = plan.state; steps = c.tighten_by-self-inside.new.current.steps } in
+    let before = ap (λ (h : Held). h.steps) c.self.view_is in
+    record {
+      leaves = rw (← c.self.view_is) (record { site = leaves.site; source = leaves.source; state = leaves.state });
+      work = spares_added c.args.self.now new c.self.inside.plan.state plan.state c.in_ok-id.id one more
+          (ap (λ (h : Held). h.state) (sym c.self.view_is)) refl
+          (omega (arith, before, c.tighten_by-self-inside.ensures.least)) (omega (arith, before, c.tighten_by-self-inside.ensures.most));
+      accepted = rw (← c.self.view_is) c.in_ok-id.ensures.accepted;
+      fault = tt;
+      kept = tt;
+    }

@@ -1,14 +1,4 @@
-use Rattle.std.proofs.Common.{◌≡◌, ◌∙◌, ap, map}
-use Rattle.std.proofs.lemmas.Result.{err_from_is_err_and, IfOk-weaker}
-use Rattle.stn_records.specs.Content.{Content, live_of, listed}
-use Rattle.stn_replica.specs.Names.{live_ids}
-use Rattle.stn_replica.proofs.Printing.{ids_are}
 use Rattle.stn_replica.proofs.replica.Replica.live_ids.Goals as goal
 
-pub returns-in_err-live : goal.returns-in_err-live
-returns-in_err-live g c = let p = err_from_is_err_and c.from_residual.result c.from_residual.ensures.1 in rw p.1 tt
-
 pub returns : goal.returns
-returns g c =
-    let live = c.deref.ensures.value ∙ c.in_ok-live.ensures.live ∙ ap (λ (s : Content). map listed (live_of s)) c.records.ensures.value in
-    IfOk-weaker c.ids_of.result _ (λ ids. ids.items ≡ live_ids c.args.self.now.state) (λ ids is. ids_are c.args.self.now.state c.deref.result.now ids.items live is) c.ids_of.ensures
+returns g c = rw c.plan.ensures.state at c.live_ids.ensures

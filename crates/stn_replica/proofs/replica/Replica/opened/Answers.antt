@@ -1,12 +1,25 @@
-use Rattle.std.proofs.Common.{ap, subst, sym, ◌∙◌, arith}
-use Rattle.std.specs.Rc.{rc_value}
-use Rattle.stn_matrix.specs.Tightest.{IsExact}
-use Rattle.stn_lift.specs.PlanSource.{base_bounds}
-use Rattle.stn_replica.proofs.Sound.{sound_at_first}
+use Rattle.std.proofs.Common.{ap, subst, sym, ◌∙◌, ◌++◌}
+use Rattle.stn_lift.specs.PlanSource.{base_bounds, events_of}
+use Rattle.stn_records.specs.Content.{Content}
+use Rattle.stn_site.specs.Bounds.{live_bounds, RecordsName}
+use Rattle.stn_replica.specs.Invariant.{IsSettled}
 use Rattle.stn_replica.proofs.replica.Replica.opened.Goals as goal
 
+pub rebuild-possible-requires-clause-events : goal.rebuild-possible-requires-clause-events
+rebuild-possible-requires-clause-events g c = c.in_ok-current.ensures.events ∙ c.events.ensures.value ∙ ap events_of c.base.ensures ∙ sym c.requires.events
+
+pub rebuild-possible-requires-clause-named : goal.rebuild-possible-requires-clause-named
+rebuild-possible-requires-clause-named g c =
+    subst (λ n. RecordsName n c.records.result.now) (sym (c.in_ok-current.ensures.events ∙ c.events.ensures.value ∙ ap events_of c.base.ensures))
+    (subst (λ (s : Content). RecordsName (events_of c.args.plan.source) s) (sym c.records.ensures.value) c.records.ensures.named)
+
 pub invariant_of-result : goal.invariant_of-result
-invariant_of-result g c =
-    let exact = c.copy_from.ensures.exact (base_bounds (rc_value c.args.base)) (subst (IsExact (base_bounds (rc_value c.args.base))) (sym c.matrix.ensures) c.requires.exact) in
-    sound_at_first (rc_value c.args.base) c.new.result c.args.opening c.copy_from.new.self c.new.ensures c.requires.exact c.requires.events
-    exact (c.copy_from.ensures.events ∙ (ap (λ t. t.events) c.matrix.ensures ∙ c.requires.events)) (omega (arith, c.copy_from.ensures.steps))
+invariant_of-result g c = record {
+  named = c.records.ensures.named;
+  opening_events = c.requires.events;
+  current_events = c.rebuild-possible.ensures.events ∙ c.in_ok-current.ensures.events ∙ c.events.ensures.value ∙ ap events_of c.base.ensures;
+  opening_exact = c.requires.exact;
+  settled = subst (λ (s : Content). IsSettled (base_bounds c.args.plan.source ++ live_bounds s) c.rebuild-possible.new.current c.rebuild-possible.result) c.records.ensures.value
+      (c.rebuild-possible.ensures.settled (base_bounds c.args.plan.source) c.requires.exact);
+  counted = c.rebuild-possible.ensures.counted;
+}

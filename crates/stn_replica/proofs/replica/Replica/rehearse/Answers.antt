@@ -1,6 +1,6 @@
 use Rattle.std.proofs.Common.{◌≡◌, Err, arith, rules}
-use Rattle.stn_replica.specs.Bounds.{all_bounds}
-use Rattle.stn_replica.specs.Dispatch.{done_events}
+use Rattle.stn_site.specs.Bounds.{all_bounds}
+use Rattle.stn_site.specs.Report.{done_events}
 use Rattle.stn_replica.proofs.Rest.{flags_are_done, rest_of_plan}
 use Rattle.stn_replica.proofs.replica.Replica.rehearse.Goals as goal
 

@@ -1,92 +1,28 @@
-use Rattle.std.proofs.Common.{◌≡◌, Some, refl, sym, ap, subst, ◌∙◌}
+use Rattle.std.proofs.Common.{◌≡◌, is_some, refl, sym, ap, subst, ◌∙◌}
 use Rattle.std.proofs.lemmas.Bool.{false≢true}
-use Rattle.std.proofs.lemmas.Result.{err_from_is_err_and}
-use Rattle.std.specs.Rc.{rc_value}
-use Rattle.stn_lift.specs.PlanSource.{events_of}
-use Rattle.stn_records.specs.Content.{IsPart, join_contents}
-use Rattle.stn_records.proofs.Holding.{joined_is}
-use Rattle.stn_replica.specs.Bounds.{RecordsName}
-use Rattle.stn_replica.specs.Held.{Held}
+use Rattle.std.specs.Prelude.{MatchOption}
+use Rattle.stn_records.specs.Content.{Content, IsPart}
+use Rattle.stn_site.specs.Held.{Held}
 use Rattle.stn_replica.specs.Walk.{Extends}
-use Rattle.stn_replica.proofs.Changes.{extends_joined, named_held}
-use Rattle.stn_replica.proofs.Refused.{take_fault, can_take, can_hold, unnamed_take}
-use Rattle.std.specs.Prelude.{unwrap_or}
-use Rattle.stn_replica.specs.declared.faults.ReplicaFault.TheVariants.{Memory}
-use Rattle.stn_replica.proofs.Sound.{named_taken, spares_same}
+use Rattle.stn_replica.proofs.Changes.{extends_joined}
 use Rattle.stn_replica.proofs.replica.Replica.take.Goals as goal
+use Rattle.stn_replica.proofs.replica.Replica.take.Goals.{in-Some, in_default}
 
-pub returns-then-holds : goal.returns-then-holds
-returns-then-holds g c =
-    let held : Held = record { site = c.self.inside.site; source = rc_value c.self.inside.base; state = c.self.inside.records; steps = c.self.inside.current.steps } in
-    let is = c.if-holds.ensures.taken.0 refl in
-    record {
-      leaves = record {
-        site = refl;
-        source = refl;
-        state = subst (λ (h : Held). join_contents h.state c.args.other.now ≡ Some h.state) c.self.view_is (joined_is c.self.inside.records c.args.other.now is);
-      };
-      work = spares_same c.args.self.now c.args.self.now refl;
-      again = λ part. (refl, refl);
-      accepted = rw (← c.self.view_is) (can_hold held c.args.other.now (named_held (events_of (rc_value c.self.inside.base)) c.self.inside.records c.args.other.now is c.self.invariant.named) is);
-      fault = tt;
-      kept = tt;
-    }
+pub catch_up-self-inside-requires-clause-extends : goal.catch_up-self-inside-requires-clause-extends
+catch_up-self-inside-requires-clause-extends g c =
+    let old = c.self.inside.plan in
+    let new = c.take_in.new.self in
+    let before : c.in-Some.before ≡ old.state = subst (λ o. MatchOption o (new ≡ old) (λ records. records ≡ old.state)) c.in-Some.is c.in_ok-held.ensures.before in
+    subst (λ (state : Content). Extends state c.records.result.now) (sym before)
+    (subst (λ (state : Content). Extends old.state state) (sym c.records.ensures.value) (extends_joined old.state c.args.other.now new.state c.in_ok-held.ensures.leaves.state))
 
-pub returns-then-not-all_name_events : goal.returns-then-not-all_name_events
-returns-then-not-all_name_events g c =
-    let unnamed : ¬ RecordsName (events_of (rc_value c.self.inside.base)) c.args.other.now =
-    λ named. false≢true (c.if-not-all_name_events.ensures.1 (subst (λ n. RecordsName n c.args.other.now) (sym (c.events.ensures.value ∙ ap events_of c.deref.ensures)) named)) in
-    let held : Held = record { site = c.self.inside.site; source = rc_value c.self.inside.base; state = c.self.inside.records; steps = c.self.inside.current.steps } in
-    record {
-      leaves = tt;
-      work = tt;
-      again = λ part. absurd (false≢true (c.if-holds.ensures.part.1 (subst (λ (h : Held). IsPart c.args.other.now h.state) (sym c.self.view_is) part)));
-      accepted = tt;
-      fault = rw (← c.self.view_is) (ap (λ o. unwrap_or o Memory) (sym (unnamed_take held c.args.other.now unnamed)));
-      kept = refl;
-    }
-
-pub returns-in_err-records : goal.returns-in_err-records
-returns-in_err-records g c =
-    let p = err_from_is_err_and c.from_residual.result c.from_residual.ensures.1 in
-    let theirs : RecordsName (events_of (rc_value c.self.inside.base)) c.args.other.now =
-    subst (λ n. RecordsName n c.args.other.now) (c.events.ensures.value ∙ ap events_of c.deref.ensures) (c.if-not-all_name_events.ensures.0 refl) in
-    let held : Held = record { site = c.self.inside.site; source = rc_value c.self.inside.base; state = c.self.inside.records; steps = c.self.inside.current.steps } in
-    record {
-      leaves = rw p.1 tt;
-      work = rw p.1 tt;
-      again = λ part. absurd (false≢true (c.if-holds.ensures.part.1 (subst (λ (h : Held). IsPart c.args.other.now h.state) (sym c.self.view_is) part)));
-      accepted = rw p.1 tt;
-      fault = rw (p.1, p.2, ← c.self.view_is) (take_fault held c.args.other.now _ c.in_err-records.field-0.0 theirs c.in_err-records.ensures.clash c.in_err-records.ensures.full);
-      kept = rw p.1 refl;
-    }
-
-pub take_over-requires : goal.take_over-requires
-take_over-requires g c =
-    let joined = extends_joined c.self.inside.records c.args.other.now c.in_ok-records.records c.in_ok-records.ensures.joined in
-    let theirs : RecordsName (events_of (rc_value c.self.inside.base)) c.args.other.now =
-    subst (λ n. RecordsName n c.args.other.now) (c.events.ensures.value ∙ ap events_of c.deref.ensures) (c.if-not-all_name_events.ensures.0 refl) in
-    let named = named_taken (rc_value c.self.inside.base) c.self.inside.records c.args.other.now c.in_ok-records.records c.self.inside.opening c.self.inside.current c.self.inside.possible c.self.invariant
-    c.in_ok-records.ensures.joined theirs in
-    record {
-      extends = subst (λ (h : Held). Extends h.state c.in_ok-records.records) c.self.view_is joined;
-      named = subst (λ (h : Held). RecordsName (events_of h.source) c.in_ok-records.records) c.self.view_is named;
-    }
-
-pub returns : goal.returns
-returns g c =
-    let theirs : RecordsName (events_of (rc_value c.self.inside.base)) c.args.other.now =
-    subst (λ n. RecordsName n c.args.other.now) (c.events.ensures.value ∙ ap events_of c.deref.ensures) (c.if-not-all_name_events.ensures.0 refl) in
-    let held : Held = record { site = c.self.inside.site; source = rc_value c.self.inside.base; state = c.self.inside.records; steps = c.self.inside.current.steps } in
-    record {
-      leaves = record {
-        site = c.take_over.ensures.site;
-        source = c.take_over.ensures.source;
-        state = ap (λ (h : Held). join_contents h.state c.args.other.now) (sym c.self.view_is) ∙ c.in_ok-records.ensures.joined ∙ ap Some (sym c.take_over.ensures.state);
-      };
-      work = c.take_over.ensures.work;
-      again = λ part. absurd (false≢true (c.if-holds.ensures.part.1 (subst (λ (h : Held). IsPart c.args.other.now h.state) (sym c.self.view_is) part)));
-      accepted = rw (← c.self.view_is) (can_take held c.args.other.now _ c.in_ok-records.records theirs c.in_ok-records.ensures.clash c.in_ok-records.ensures.full);
-      fault = tt;
-      kept = tt;
-    }
+pub returns-clause-again : goal.returns-clause-again
+returns-clause-again g c = λ part.
+    let old = c.self.inside.plan in
+    let mine : IsPart c.args.other.now old.state = subst (λ (h : Held). IsPart c.args.other.now h.state) (sym c.self.view_is) part in
+    elim c.match-held.branch [
+      | in-Some w ↦ absurd (false≢true (sym (c.in_ok-held.ensures.none.1 mine) ∙ ap is_some w.in-Some.is))
+      | in_default w ↦
+          let same = (c.in_ok-held.ensures.again mine).1 in
+          (refl, w.self-is ∙ ap (λ (h : Held). record { site = h.site; source = h.source; state = h.state; steps = c.self.inside.current.steps }) same ∙ c.self.view_is)
+    ]

@@ -1,9 +1,8 @@
-use Rattle.stn_replica.specs.Bounds.{all_bounds}
-use Rattle.std.specs.Rc.{rc_value}
+use Rattle.stn_site.specs.Bounds.{all_bounds}
 use Rattle.stn_replica.proofs.Sound.{settled_exact}
 use Rattle.stn_replica.proofs.replica.Replica.window.Goals as goal
 
 pub returns-then-self : goal.returns-then-self
 returns-then-self g c =
-    let exact = settled_exact (all_bounds (rc_value c.self.inside.base) c.self.inside.records) c.self.inside.current c.self.inside.possible c.if-self.true c.self.invariant.settled in
+    let exact = settled_exact (all_bounds (c.self.inside.plan.source) c.self.inside.plan.state) c.self.inside.current c.self.inside.possible c.if-self.true c.self.invariant.settled in
     rw (← c.self.view_is) (exact.possible, c.window.ensures _ exact)

@@ -1,5 +1,0 @@
-use Rattle.stn_replica.proofs.Items.{state_is_union}
-use Rattle.stn_replica.proofs.laws.state_is_union.Goals as goal
-
-pub returns : goal.returns
-returns c = state_is_union

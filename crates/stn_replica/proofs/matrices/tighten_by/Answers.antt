@@ -1,0 +1,35 @@
+use Rattle.std.proofs.Common.{◌≡◌, ◌++◌, [], ◌∷◌, is_some, sym, ap, subst, ◌∙◌}
+use Rattle.std.specs.FinMap.{get}
+use Rattle.stn_records.specs.declared.record.Record.{Record}
+use Rattle.stn_records.specs.Content.{Content}
+use Rattle.stn_net.specs.Difference.{NamesEvents}
+use Rattle.stn_records.specs.ContentLaws.{ids_total, ids_exact}
+use Rattle.stn_records.proofs.Gets.{get_from_entries}
+use Rattle.stn_site.proofs.Named.{value_of}
+use Rattle.stn_replica.specs.Invariant.{IsSettled}
+use Rattle.stn_replica.proofs.Schedules.{schedule_before, settled_tightened}
+use Rattle.stn_replica.proofs.Sound.{settled_exact, settled_conflict}
+use Rattle.stn_replica.proofs.matrices.tighten_by.Goals as goal
+
+pub unwrap-one-requires : goal.unwrap-one-requires
+unwrap-one-requires g c =
+    let found = c.get.ensures ∙ ap (λ m. get m c.args.id) (c.additions.ensures ∙ ap (λ (s : Content). s.additions) c.state.ensures.value) in
+    ap is_some found ∙ c.requires.there
+
+pub tighten-requires : goal.tighten-requires
+tighten-requires g c =
+    let found = c.get.ensures ∙ ap (λ m. get m c.args.id) (c.additions.ensures ∙ ap (λ (s : Content). s.additions) c.state.ensures.value) in
+    get_from_entries ids_total ids_exact c.args.records.now.additions (λ entry. NamesEvents c.args.current.now.events entry.1.bound) c.requires.named c.args.id c.unwrap-one.result (sym found ∙ c.unwrap-one.ensures)
+
+pub returns-then-possible-clause-settled : goal.returns-then-possible-clause-settled
+returns-then-possible-clause-settled g c = λ one there bounds settled.
+    let found = c.get.ensures ∙ ap (λ m. get m c.args.id) (c.additions.ensures ∙ ap (λ (s : Content). s.additions) c.state.ensures.value) in
+    let same : c.unwrap-one.result ≡ one = value_of c.unwrap-one.result one (sym c.unwrap-one.ensures ∙ found ∙ there) in
+    let exact = settled_exact bounds c.args.current.now c.args.possible c.if-possible.true settled in
+    subst (λ (r : Record). IsSettled (bounds ++ r.bound ∷ []) c.tighten.new.self c.tighten.result) same
+    (settled_tightened bounds c.unwrap-one.result.bound c.tighten.new.self c.tighten.result (c.tighten.ensures.possible bounds exact) (c.tighten.ensures.exact bounds exact))
+
+pub returns-else-possible-clause-settled : goal.returns-else-possible-clause-settled
+returns-else-possible-clause-settled g c = λ one there bounds settled.
+    subst (λ possible. IsSettled (bounds ++ one.bound ∷ []) c.args.current.now possible) (sym c.if-possible.false)
+    (λ s. settled_conflict bounds c.args.current.now c.args.possible c.if-possible.false settled (s.0, schedule_before bounds (one.bound ∷ []) s.0 s.1))

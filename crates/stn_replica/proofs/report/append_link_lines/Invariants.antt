@@ -1,9 +1,0 @@
-use Rattle.std.proofs.Common.{◌≡◌, ◌+◌, ◌*◌, ◌≤◌, ◌++◌, take, length}
-use Rattle.std.specs.List.{flat_map}
-use Rattle.stn_replica.specs.Lines.{link_line}
-use Rattle.stn_replica.specs.declared.lines.TheConstants.{MOST_LINE}
-use Rattle.stn_replica.proofs.report.append_link_lines.Given as goal
-
-abbrev pub invariant-loop-link : goal.invariant-loop-link
-invariant-loop-link g l = (l.out.items ≡ l.initial.out.items ++ flat_map (link_line l.base l.ids l.others) (take l.link-index l.links))
-    × (length l.out.items ≤ length l.initial.out.items + MOST_LINE * l.link-index)

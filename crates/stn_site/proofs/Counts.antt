@@ -1,0 +1,80 @@
+-- What counts of a state: its additions, and the ids that are replaced.
+use Rattle.std.proofs.Common.{◌≡◌, ◌↔◌, Bool, true, false, ◌||◌, Option, Some, None, is_some, inl, inr, ⊎_elim, refl, sym, ap, ◌∙◌}
+use Rattle.std.proofs.lemmas.Bool.{false≢true}
+use Rattle.std.specs.FinMap.{get}
+use Rattle.stn_records.specs.Id.{SiteCounter}
+use Rattle.stn_records.specs.Content.{Content, AllAmend, Item, addition, withdrawal, replacement, HasItem, CountsSame, is_known, is_replaced, replaced_set}
+use Rattle.stn_records.specs.ContentLaws.{records_join, ids_join}
+use Rattle.stn_records.proofs.Replaced.{replaced_cases, replaced_by_withdrawal, replaced_by_entry}
+use Rattle.stn_site.specs.Calls.{Replaces, CountAlike}
+
+not_there : {X : Type 0} (o : Option X) → is_some o ≡ false → o ≡ None
+not_there None e = refl
+not_there (Some x) e = absurd (false≢true (sym e))
+
+or_left : (a b : Bool) → (a || b) ≡ false → a ≡ false
+or_left true b e = absurd (false≢true (sym e))
+or_left false b e = refl
+
+or_right : (a b : Bool) → (a || b) ≡ false → b ≡ false
+or_right true b e = absurd (false≢true (sym e))
+or_right false b e = e
+
+-- an id that is not known was not added
+pub unknown_absent : (s : Content) (id : SiteCounter) → is_known s id ≡ false → get s.additions id ≡ None
+unknown_absent s id e = not_there (get s.additions id) (or_left _ _ e)
+
+-- and is not replaced
+pub unknown_unreplaced : (s : Content) (id : SiteCounter) → is_known s id ≡ false → is_replaced s id ≡ false
+unknown_unreplaced s id e = or_right _ _ e
+
+-- and replaces nothing
+pub replaces_nothing : (s : Content) (id : SiteCounter) → AllAmend s → is_known s id ≡ false → get s.replacements id ≡ None
+replaces_nothing s id amends unknown =
+    elim (get s.replacements id) as (λ o. get s.replacements id ≡ o → o ≡ None) [
+      | None ↦ λ e. refl
+      | Some old ↦ λ e. absurd (false≢true (ap is_some (sym (unknown_absent s id unknown) ∙ (amends id old e).added.1)))
+    ] refl
+
+-- an id is replaced where an item replaces it
+pub replaced_by_items : (s : Content) (old : SiteCounter) → (is_replaced s old ≡ true) ↔ Replaces (HasItem s) old
+replaced_by_items s old = (replaced_cases s old, λ h. ⊎_elim (replaced_by_withdrawal s old) (λ w. replaced_by_entry s w.0 old w.1) h)
+
+is_there : (o : Option (Unit {0})) (u : Unit {0}) → is_some o ≡ true → o ≡ Some u
+is_there None u e = absurd (false≢true e)
+is_there (Some x) u e = refl
+
+-- items that count alike are those of states with the same additions and the same replaced ids
+pub counts_alike : (s t : Content) → CountAlike (HasItem s) (HasItem t) ↔ CountsSame s t
+counts_alike s t = (
+  λ alike. record {
+    additions = records_join.same s.additions t.additions (λ e. alike.additions e.0 e.1);
+    replaced = ids_join.same (replaced_set s) (replaced_set t) (λ e. (
+      λ h. is_there (get (replaced_set t) e.0) e.1 ((replaced_by_items t e.0).1 ((alike.replaced e.0).0 ((replaced_by_items s e.0).0 (ap is_some h)))),
+      λ h. is_there (get (replaced_set s) e.0) e.1 ((replaced_by_items s e.0).1 ((alike.replaced e.0).1 ((replaced_by_items t e.0).0 (ap is_some h)))),
+    ));
+  },
+  λ same. record {
+    additions = λ id one. (λ h. ap (λ m. get m id) (sym same.additions) ∙ h, λ h. ap (λ m. get m id) same.additions ∙ h);
+    replaced = λ old. (
+      λ h. (replaced_by_items t old).0 (ap (λ m. is_some (get m old)) (sym same.replaced) ∙ (replaced_by_items s old).1 h),
+      λ h. (replaced_by_items s old).0 (ap (λ m. is_some (get m old)) same.replaced ∙ (replaced_by_items t old).1 h),
+    );
+  },
+)
+
+-- states count alike where the items that they are the unions of do
+pub alike_unions : (a b : Content) (P Q : Item → Type 0) → ((item : Item) → HasItem a item ↔ P item) → ((item : Item) → HasItem b item ↔ Q item) → CountAlike P Q → CountAlike (HasItem a) (HasItem b)
+alike_unions a b P Q here there alike = record {
+  additions = λ id r. through (here (addition id r)) (alike.additions id r) (there (addition id r));
+  replaced = λ old. through (replaces_same (HasItem a) P here old) (alike.replaced old) (replaces_same (HasItem b) Q there old);
+}
+  where
+    through : {A B C D : Type 0} → (A ↔ B) → (B ↔ C) → (D ↔ C) → A ↔ D
+    through f g h = (λ x. h.1 (g.0 (f.0 x)), λ y. f.1 (g.1 (h.0 y)))
+
+    replaces_same : (Has Have : Item → Type 0) → ((item : Item) → Has item ↔ Have item) → (old : SiteCounter) → Replaces Has old ↔ Replaces Have old
+    replaces_same Has Have same old = (
+      λ h. ⊎_elim (λ w. inl ((same (withdrawal old)).0 w)) (λ r. inr (r.0, (same (replacement r.0 old)).0 r.1)) h,
+      λ h. ⊎_elim (λ w. inl ((same (withdrawal old)).1 w)) (λ r. inr (r.0, (same (replacement r.0 old)).1 r.1)) h,
+    )

@@ -1,0 +1,15 @@
+pub mod Amended
+pub mod Broken
+pub mod Count
+pub mod Counts
+pub mod Flags
+pub mod Items
+pub mod Lengths
+pub mod Named
+pub mod OneReport
+pub mod Places
+pub mod Printing
+pub mod Refused
+pub mod Values
+pub mod Walk
+pub mod Windowing

@@ -1,0 +1,95 @@
+-- A plan and a state have one report.
+use Rattle.std.proofs.Common.{◌≡◌, ℕ, zero, suc, ◌+◌, ◌⊎◌, List, [], ◌∷◌, ◌++◌, codes, Bool, Some, length, map, inl, inr, sym, ap, subst, ◌∙◌, ⊎_elim}
+use Rattle.std.proofs.lemmas.List.Elements.{All-take}
+use Rattle.std.specs.List.{flat_map}
+use Rattle.stn_net.specs.Difference.{Difference}
+use Rattle.stn_net.specs.Schedule.{HasSchedule, Meets}
+use Rattle.stn_windows.proofs.Windows.{one_window}
+use Rattle.stn_lift.specs.PlanSource.{PlanSource, base_bounds, events_of, steps_of}
+use Rattle.stn_records.specs.Id.{SiteCounter}
+use Rattle.stn_records.specs.declared.record.Record.{Record}
+use Rattle.stn_records.specs.Content.{Content, live_of, replaced_count}
+use Rattle.stn_conflict.specs.declared.links.Link.{Link}
+use Rattle.stn_conflict.specs.Arcs.{weight_of, IsNegativeCycle}
+use Rattle.stn_conflict.specs.Named.{IsNamedCycle}
+use Rattle.stn_site.specs.Bounds.{all_bounds, bounds_of, live_bounds}
+use Rattle.stn_site.specs.Names.{live_ids}
+use Rattle.stn_site.specs.Lines.{line, plan_line, records_line, window_line, conflict_line, link_line}
+use Rattle.stn_site.specs.Report.{is_done, says_done, IsWindowLines, IsWindowsPart, IsConflictPart, IsReport, heading}
+
+abbrev Entries : Type 0
+Entries = List (SiteCounter × Record)
+
+one_lines : (bounds : List Difference) (done : ℕ → Bool) → HasSchedule bounds → (n : ℕ) (text other : List ℕ) → IsWindowLines bounds done n text → IsWindowLines bounds done n other → text ≡ other
+one_lines bounds done s zero text other p q = p ∙ sym q
+one_lines bounds done s (suc n) text other p q =
+    let ends = one_window bounds (suc n) p.1 p.2 q.1 q.2 s p.4 q.4 in
+    let before = one_lines bounds done s n p.0 q.0 p.3 q.3 in
+    p.5 ∙ (λ i. before i ++ window_line (suc n) (ends.0 i) (ends.1 i) (done (suc n))) ∙ sym q.5
+
+-- bounds with a named cycle have no schedule
+no_schedule : (bounds : List Difference) (links : List Link) → IsNamedCycle bounds links → ¬ HasSchedule bounds
+no_schedule bounds [] p s = p
+no_schedule bounds (link ∷ links) p s =
+    p.0.refused (s.0, record { origin = s.1.origin; met = All-take (Meets s.0) (link.place + 1) bounds s.1.met })
+
+one_rest : (source : PlanSource) (state : Content)
+    → ((bounds : List Difference) → (one other : List Link) → IsNamedCycle bounds one → IsNamedCycle bounds other → one ≡ other)
+    → (rest other : List ℕ) → IsWindowsPart source state rest ⊎ IsConflictPart source state rest → IsWindowsPart source state other ⊎ IsConflictPart source state other → rest ≡ other
+one_rest source state unique rest other p q =
+    ⊎_elim
+    (λ mine. ⊎_elim
+    (λ theirs. mine.whole ∙ ap (λ lines. line (codes "ok") ++ lines) (one_lines (all_bounds source state) (is_done state) mine.possible (events_of source) mine.lines theirs.lines mine.windows theirs.windows) ∙ sym theirs.whole)
+    (λ theirs. absurd (no_schedule (all_bounds source state) theirs.links theirs.named mine.possible)) q)
+    (λ mine. ⊎_elim
+    (λ theirs. absurd (no_schedule (all_bounds source state) mine.links mine.named theirs.possible))
+    (λ theirs. mine.whole
+    ∙ ap (λ links. conflict_line (weight_of (all_bounds source state) links) ++ flat_map (link_line (base_bounds source) (live_ids state) (live_bounds state)) links)
+    (unique (all_bounds source state) mine.links theirs.links mine.named theirs.named)
+    ∙ sym theirs.whole) q)
+    p
+
+-- where a list of bounds has one named cycle at most, a plan and a state have one report
+pub one_report : ((bounds : List Difference) → (one other : List Link) → IsNamedCycle bounds one → IsNamedCycle bounds other → one ≡ other)
+    → (source : PlanSource) (state : Content) (text other : List ℕ) → IsReport source state text → IsReport source state other → text ≡ other
+one_report unique source state text other p q =
+    p.whole ∙ ap (λ rest. heading source state ++ rest) (one_rest source state unique p.rest q.rest p.part q.part) ∙ sym q.whole
+
+-- equal states have one report
+pub same_states : (source : PlanSource) (s t : Content) (text other : List ℕ)
+    → ((state : Content) → (text other : List ℕ) → IsReport source state text → IsReport source state other → text ≡ other)
+    → Some s ≡ Some t → IsReport source s text → IsReport source t other → text ≡ other
+same_states source s t text other law is p q =
+    let same : s ≡ t = cc in
+    law t text other (subst (λ state. IsReport source state text) same p) q
+
+-- equal plans and equal states have one report
+pub same_reports : ((source : PlanSource) (state : Content) (text other : List ℕ) → IsReport source state text → IsReport source state other → text ≡ other)
+    → (a b : PlanSource) (s t : Content) (text other : List ℕ) → a ≡ b → s ≡ t → IsReport a s text → IsReport b t other → text ≡ other
+same_reports law a b s t text other plan state p q =
+    law b t text other (subst (λ x. IsReport b x text) state (subst (λ x. IsReport x s text) plan p)) q
+
+-- a report depends on the live records and the number of replaced ids alone
+pub counted_reports : (source : PlanSource) (s t : Content) (text : List ℕ) → live_of s ≡ live_of t → replaced_count s ≡ replaced_count t → IsReport source s text → IsReport source t text
+counted_reports source s t text live count p = record {
+  rest = p.rest;
+  part = ⊎_elim (λ windows. inl (windows_part windows)) (λ conflict. inr (conflict_part conflict)) p.part;
+  whole = p.whole ∙ (λ i. (plan_line (steps_of source) (events_of source) ++ records_line (length (live i)) (count i)) ++ p.rest);
+}
+  where
+    windows_part : IsWindowsPart source s p.rest → IsWindowsPart source t p.rest
+    windows_part w = record {
+      possible = subst (λ (records : Entries). HasSchedule (base_bounds source ++ bounds_of records)) live w.possible;
+      lines = w.lines;
+      windows = subst (λ (records : Entries). IsWindowLines (base_bounds source ++ bounds_of records) (says_done records) (events_of source) w.lines) live w.windows;
+      whole = w.whole;
+    }
+
+    conflict_part : IsConflictPart source s p.rest → IsConflictPart source t p.rest
+    conflict_part k = record {
+      links = k.links;
+      named = subst (λ (records : Entries). IsNamedCycle (base_bounds source ++ bounds_of records) k.links) live k.named;
+      negative = subst (λ (records : Entries). IsNegativeCycle (base_bounds source ++ bounds_of records) k.links) live k.negative;
+      whole = k.whole ∙ (λ i. conflict_line (weight_of (base_bounds source ++ bounds_of (live i)) k.links)
+          ++ flat_map (link_line (base_bounds source) (map (λ entry. entry.0) (live i)) (bounds_of (live i))) k.links);
+    }

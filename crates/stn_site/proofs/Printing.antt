@@ -1,0 +1,81 @@
+-- The parts of a report, from what was appended.
+use Rattle.std.proofs.Common.{◌≡◌, ℕ, ℤ, suc, ◌+◌, Bool, List, [], ◌∷◌, ◌++◌, length, map, Option, Some, IfSome, refl, sym, ap, subst, ◌∙◌, add-one, All}
+use Rattle.std.specs.Prelude.{Result, Ok, Err, is_ok, OnOk, OnErr, if◌then◌else◌}
+use Rattle.std.proofs.lemmas.List.{length-map}
+use Rattle.std.specs.List.{flat_map}
+use Rattle.stn_net.specs.Difference.{Difference, NamesEvents}
+use Rattle.stn_windows.specs.Window.{IsWindow}
+use Rattle.stn_lift.specs.PlanSource.{PlanSource, base_bounds}
+use Rattle.stn_records.specs.Id.{SiteCounter}
+use Rattle.stn_records.specs.declared.record.Mark.{Mark}
+use Rattle.stn_records.specs.declared.record.Record.{Record}
+use Rattle.stn_records.specs.Content.{Content, live_of, listed}
+use Rattle.stn_conflict.specs.declared.links.Link.{Link}
+use Rattle.stn_conflict.specs.Arcs.{weight_of, IsNegativeCycle}
+use Rattle.stn_conflict.specs.Named.{IsNamedCycle}
+use Rattle.stn_site.specs.Bounds.{all_bounds, live_bounds, RecordsName}
+use Rattle.stn_site.specs.Names.{live_ids}
+use Rattle.stn_site.specs.Lines.{window_line, conflict_line, link_line}
+use Rattle.stn_site.specs.Report.{IsWindowLines, IsConflictPart}
+use Rattle.stn_site.proofs.Named.{live_named}
+
+abbrev pub Listed : Type 0
+Listed = SiteCounter × Mark × Difference
+
+-- one more line
+pub one_more_line : (bounds : List Difference) (done : ℕ → Bool) (n event : ℕ) (earliest latest : ℤ) (text : List ℕ)
+    → IsWindowLines bounds done n text → event ≡ n + 1 → IsWindow bounds event earliest latest
+    → IsWindowLines bounds done (n + 1) (text ++ window_line event earliest latest (done event))
+one_more_line bounds done n event earliest latest text before is window =
+    let e : event ≡ suc n = is ∙ add-one n in
+    rw (add-one, e) (text, earliest, latest, before, subst (λ k. IsWindow bounds k earliest latest) e window, refl)
+
+ids_listed : (records : List (SiteCounter × Record)) → map (λ (entry : Listed). entry.0) (map listed records) ≡ map (λ entry. entry.0) records
+ids_listed [] = refl
+ids_listed (e ∷ records) = ap (λ rest. e.0 ∷ rest) (ids_listed records)
+
+bounds_listed : (records : List (SiteCounter × Record)) → map (λ (entry : Listed). entry.2) (map listed records) ≡ map (λ entry. entry.1.bound) records
+bounds_listed [] = refl
+bounds_listed (e ∷ records) = ap (λ rest. e.1.bound ∷ rest) (bounds_listed records)
+
+-- the ids and the bounds of the live records as they were listed
+pub ids_are : (state : Content) (live : List Listed) (ids : List SiteCounter) → live ≡ map listed (live_of state) → ids ≡ map (λ entry. entry.0) live → ids ≡ live_ids state
+ids_are state live ids is e = e ∙ ap (map (λ (entry : Listed). entry.0)) is ∙ ids_listed (live_of state)
+
+pub bounds_are : (state : Content) (live : List Listed) (bounds : List Difference) → live ≡ map listed (live_of state) → bounds ≡ map (λ entry. entry.2) live → bounds ≡ live_bounds state
+bounds_are state live bounds is e = e ∙ ap (map (λ (entry : Listed). entry.2)) is ∙ bounds_listed (live_of state)
+
+pub bounds_named : (state : Content) (events n : ℕ) (bounds : List Difference) → n ≡ events → bounds ≡ live_bounds state → RecordsName events state → All (NamesEvents n) bounds
+bounds_named state events n bounds e is named = subst (λ k. All (NamesEvents k) bounds) (sym e) (subst (All (NamesEvents events)) (sym is) (live_named events state named))
+
+-- there are as many ids as bounds
+pub one_each : (state : Content) (ids : List SiteCounter) (bounds : List Difference) → ids ≡ live_ids state → bounds ≡ live_bounds state → length ids ≡ length bounds
+one_each state ids bounds i b =
+    ap length i ∙ length-map (live_of state) (λ (entry : SiteCounter × Record). entry.0) ∙ sym (ap length b ∙ length-map (live_of state) (λ (entry : SiteCounter × Record). entry.1.bound))
+
+-- the conflict part
+pub conflict_part : (source : PlanSource) (state : Content) (base others : List Difference) (ids : List SiteCounter) (links : List Link) (sum : ℤ)
+    → base ≡ base_bounds source → ids ≡ live_ids state → others ≡ live_bounds state
+    → IsNamedCycle (base ++ others) links → IsNegativeCycle (base ++ others) links → sum ≡ weight_of (base ++ others) links
+    → IsConflictPart source state (conflict_line sum ++ flat_map (link_line base ids others) links)
+conflict_part source state base others ids links sum b i o named negative s =
+    let all : base ++ others ≡ all_bounds source state = ap (λ front. front ++ others) b ∙ ap (λ back. base_bounds source ++ back) o in
+    record {
+      links = links;
+      named = subst (λ bounds. IsNamedCycle bounds links) all named;
+      negative = subst (λ bounds. IsNegativeCycle bounds links) all negative;
+      whole = λ k. conflict_line ((s ∙ ap (λ bounds. weight_of bounds links) all) k) ++ flat_map (link_line (b k) (i k) (o k)) links;
+    }
+
+-- what a text that is appended whole or not at all leaves
+pub appended_ok : {T E : Type 0} (r : Result T E) (new old text : List ℕ) → new ≡ (if is_ok r then old ++ text else old) → OnOk r (new ≡ old ++ text)
+appended_ok (Ok _) new old text is = is
+appended_ok (Err _) new old text is = tt
+
+pub kept_err : {T E : Type 0} (r : Result T E) (new old text : List ℕ) → new ≡ (if is_ok r then old ++ text else old) → OnErr r (new ≡ old)
+kept_err (Ok _) new old text is = tt
+kept_err (Err _) new old text is = is
+
+-- what holds of the value that an option holds
+pub if_some : {X : Type 0} (o : Option X) (x : X) (P : X → Type 0) → o ≡ Some x → IfSome o P → P x
+if_some o x P e h = subst (λ p. IfSome p P) e h

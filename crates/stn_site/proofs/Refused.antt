@@ -1,0 +1,324 @@
+-- The first cause that refuses each call, from what its parts answer.
+use Rattle.std.proofs.Common.{◌≡◌, ◌≢◌, ℕ, ℤ, subst, ◌<◌, ◌≤◌, ◌<ℤ◌, ◌≤ℤ◌, int_lt, ⊎_elim, Bool, true, false, not, ◌&&◌, ◌↔◌, leb, ltb, Option, Some, None, is_some, Result, Ok, Err, refl, sym, ap, ◌∙◌, arith}
+use Rattle.std.specs.Prelude.{unwrap_or, ◌==◌, option_map}
+use Rattle.std.specs.Bool.{Decides, then_some}
+use Rattle.std.specs.Option.{option_or}
+use Rattle.std.specs.List.{list_all}
+use Rattle.std.specs.FinMap.{get, entries}
+use Rattle.std.proofs.lemmas.Bool.{false≢true, false_from_ne_true, true_from_ne_false}
+use Rattle.std.proofs.lemmas.Bool.Decides.{nat_tests, Decides-by_and}
+use Rattle.std.proofs.lemmas.Int.{ints}
+use Rattle.stn_net.specs.Difference.{Difference, NamesEvents, IsBoundWithin, IsFaultOf}
+use Rattle.stn_net.specs.declared.bound.BoundFault.{BoundFault}
+use Rattle.stn_net.specs.declared.bound.BoundFault.TheVariants.{NoEvent, SameEvent, Crossed}
+use Rattle.stn_windows.specs.Rehearsal.{fixed_at}
+use Rattle.stn_lift.specs.PlanSource.{events_of}
+use Rattle.stn_records.specs.Id.{most_counter, SiteCounter}
+use Rattle.stn_records.specs.declared.record.Record.{Record}
+use Rattle.stn_records.specs.declared.faults.RecordsFault.{RecordsFault}
+use Rattle.stn_records.specs.declared.faults.RecordsFault.TheVariants as records
+use Rattle.stn_records.specs.declared.faults.WithdrawFault.{WithdrawFault}
+use Rattle.stn_records.specs.declared.faults.WithdrawFault.TheVariants as withdraw
+use Rattle.stn_records.specs.Content.{most_known, Content, HasAnother, is_known, known_count, known_in_either, next_counter, dispute_contents, taken}
+use Rattle.stn_site.specs.declared.faults.ReplicaFault.TheVariants.{Bound, CounterSpent, Full, Unknown, Clash, Memory}
+use Rattle.stn_site.specs.Bounds.{RecordsName}
+use Rattle.stn_site.specs.FaultsOf.{of_records_fault, of_withdraw_fault}
+use Rattle.stn_site.specs.Held.{Held, difference}
+use Rattle.stn_site.specs.Refusals.{names_events, bound_refusal, next_refusal, add_refusal, amend_refusal, done_refusal, withdraw_refusal, records_name, take_refusal}
+use Rattle.stn_records.proofs.Outcomes.{too_many}
+use Rattle.stn_records.proofs.Holding.{held_agrees}
+use Rattle.stn_site.proofs.Counts.{unknown_absent}
+
+-- the first of several causes stands, or another is asked for
+first_stands : {X : Type 0} (stands : Bool) (cause : X) (others : Option X) → stands ≡ true → option_or (then_some stands cause) others ≡ Some cause
+first_stands true cause others e = refl
+first_stands false cause others e = absurd (false≢true e)
+
+first_passes : {X : Type 0} (stands : Bool) (cause : X) (others : Option X) → stands ≡ false → option_or (then_some stands cause) others ≡ others
+first_passes true cause others e = absurd (false≢true (sym e))
+first_passes false cause others e = refl
+
+stands : {X : Type 0} (test : Bool) (cause : X) → test ≡ true → then_some test cause ≡ Some cause
+stands test cause e = ap (λ b. then_some b cause) e
+
+passes : {X : Type 0} (test : Bool) (cause : X) → test ≡ false → then_some test cause ≡ None
+passes test cause e = ap (λ b. then_some b cause) e
+
+-- a call that failed, and one that did not
+abbrev pub failed : (A : Type 0) → RecordsFault → Result A RecordsFault
+failed A fault = Err fault
+
+abbrev pub succeeded : (A : Type 0) → A → Result A RecordsFault
+succeeded A x = Ok x
+
+-- ---- numbers
+less_true : (a b : ℕ) → a < b → ltb a b ≡ true
+less_true a b h = grind (arith, nat_tests)
+
+less_false : (a b : ℕ) → b ≤ a → ltb a b ≡ false
+less_false a b h = grind (arith, nat_tests)
+
+same_number : (a b : ℕ) → a ≡ b → (a == b) ≡ true
+same_number a b e = grind (arith, nat_tests)
+
+other_number : (a b : ℕ) → a ≢ b → (a == b) ≡ false
+other_number a b e = grind (arith, nat_tests)
+
+-- ---- additions
+pub next_spent : (held : Held) → most_counter < next_counter held.state held.site → next_refusal held ≡ Some CounterSpent
+next_spent held past = first_stands (ltb most_counter (next_counter held.state held.site)) CounterSpent _ (less_true most_counter (next_counter held.state held.site) past)
+
+pub next_full : (held : Held) → next_counter held.state held.site ≤ most_counter → known_count held.state ≡ most_known → next_refusal held ≡ Some Full
+next_full held counter full =
+    first_passes (ltb most_counter (next_counter held.state held.site)) CounterSpent _ (less_false most_counter (next_counter held.state held.site) counter)
+    ∙ stands (known_count held.state == most_known) Full (same_number (known_count held.state) most_known full)
+
+pub next_free : (held : Held) → next_counter held.state held.site ≤ most_counter → known_count held.state ≢ most_known → next_refusal held ≡ None
+next_free held counter room =
+    first_passes (ltb most_counter (next_counter held.state held.site)) CounterSpent _ (less_false most_counter (next_counter held.state held.site) counter)
+    ∙ passes (known_count held.state == most_known) Full (other_number (known_count held.state) most_known room)
+
+-- a record under the site's next id is refused only for want of room or of memory
+pub next_fault : (held : Held) (one : Record) (id : SiteCounter) (fault : RecordsFault)
+    → next_counter held.state held.site ≤ most_counter → is_known held.state id ≡ false
+    → ((other : SiteCounter) → failed (Unit {0}) fault ≡ Err (records.Clash other) → other ≡ id)
+    → ((failed (Unit {0}) fault ≡ Err (records.Clash id)) ↔ HasAnother (get held.state.additions id) one)
+    → ((failed (Unit {0}) fault ≡ Err records.Full) ↔ (is_known held.state id ≡ false) × (known_count held.state ≡ most_known))
+    → of_records_fault fault ≡ unwrap_or (next_refusal held) Memory
+next_fault held one id (records.Clash other) counter unknown clash refused full =
+    absurd (subst (λ o. HasAnother o one) (unknown_absent held.state id unknown) (refused.0 (ap (λ k. Err (records.Clash k)) (clash other refl))))
+next_fault held one id records.Full counter unknown clash refused full = ap (λ o. unwrap_or o Memory) (sym (next_full held counter (full.0 refl).1))
+next_fault held one id records.Memory counter unknown clash refused full =
+    ap (λ o. unwrap_or o Memory) (sym (next_free held counter (λ e. other_fault (full.1 (unknown, e)))))
+  where
+    other_fault : failed (Unit {0}) records.Memory ≢ Err records.Full
+    other_fault e = cc
+
+names_decides : (events : ℕ) (bound : Difference) → Decides (names_events events bound) (NamesEvents events bound)
+names_decides events bound = (λ e. record { from = (both bound.from bound.to events e).0; to = (both bound.from bound.to events e).1 }, λ named. all bound.from bound.to events named.from named.to)
+  where
+    both : (from to events : ℕ) → (leb from events && leb to events) ≡ true → (from ≤ events) × (to ≤ events)
+    both from to events e = (grind (arith, nat_tests), grind (arith, nat_tests))
+
+    all : (from to events : ℕ) → from ≤ events → to ≤ events → (leb from events && leb to events) ≡ true
+    all from to events a b = grind (arith, nat_tests)
+
+-- ---- bounds
+int_less : (a b : ℤ) → a <ℤ b → int_lt a b ≡ true
+int_less a b h = by (int_lt a b) refl
+  where
+    by : (t : Bool) → int_lt a b ≡ t → t ≡ true
+    by true e = refl
+    by false e = let over : b ≤ℤ a = omega (arith, ints) in absurd (omega (arith, ints))
+
+names_not : (events : ℕ) (bound : Difference) → ¬ NamesEvents events bound → names_events events bound ≡ false
+names_not events bound unnamed = false_from_ne_true (names_events events bound) (λ e. unnamed ((names_decides events bound).0 e))
+
+-- the first fault of a difference refuses it
+pub bound_refused : (events : ℕ) (bound : Difference) (fault : BoundFault) → IsFaultOf events bound fault → bound_refusal events bound ≡ Some fault
+bound_refused events bound NoEvent past =
+    first_stands (not (names_events events bound)) NoEvent _
+    (ap not (names_not events bound (λ named. ⊎_elim (λ h. omega (arith, h, named.from)) (λ h. omega (arith, h, named.to)) past)))
+bound_refused events bound SameEvent same =
+    first_passes (not (names_events events bound)) NoEvent _ (ap not ((names_decides events bound).1 same.0))
+    ∙ first_stands (bound.from == bound.to) SameEvent _ (same_number bound.from bound.to same.1)
+bound_refused events bound Crossed crossed =
+    first_passes (not (names_events events bound)) NoEvent _ (ap not ((names_decides events bound).1 crossed.0))
+    ∙ first_passes (bound.from == bound.to) SameEvent _ (other_number bound.from bound.to crossed.1)
+    ∙ stands (int_lt bound.hi bound.lo) Crossed (int_less bound.hi bound.lo crossed.2)
+
+int_not_less : (a b : ℤ) → b ≤ℤ a → int_lt a b ≡ false
+int_not_less a b h = false_from_ne_true (int_lt a b) (λ e. omega (arith, ints))
+
+-- a bound of the plan has no fault
+bound_passes : (events : ℕ) (bound : Difference) → IsBoundWithin events bound → bound_refusal events bound ≡ None
+bound_passes events bound within =
+    first_passes (not (names_events events bound)) NoEvent _ (ap not ((names_decides events bound).1 within.named))
+    ∙ first_passes (bound.from == bound.to) SameEvent _ (other_number bound.from bound.to within.differs)
+    ∙ passes (int_lt bound.hi bound.lo) Crossed (int_not_less bound.hi bound.lo within.ordered)
+
+-- so an addition of it is refused as the next record is, and an amendment by it, where the old id is known
+pub add_passes : (held : Held) (bound : Difference) → IsBoundWithin (events_of held.source) bound → add_refusal held bound ≡ next_refusal held
+add_passes held bound within = ap (λ o. option_or (option_map Bound o) (next_refusal held)) (bound_passes (events_of held.source) bound within)
+
+pub amend_known : (held : Held) (old : SiteCounter) (bound : Difference) → IsBoundWithin (events_of held.source) bound → is_known held.state old ≡ true → amend_refusal held old bound ≡ next_refusal held
+amend_known held old bound within known =
+    ap (λ o. option_or (option_map Bound o) (option_or (then_some (not (is_known held.state old)) Unknown) (next_refusal held))) (bound_passes (events_of held.source) bound within)
+    ∙ first_passes (not (is_known held.state old)) Unknown (next_refusal held) (ap not known)
+
+pub amend_unknown : (held : Held) (old : SiteCounter) (bound : Difference) → IsBoundWithin (events_of held.source) bound → is_known held.state old ≡ false → amend_refusal held old bound ≡ Some Unknown
+amend_unknown held old bound within unknown =
+    ap (λ o. option_or (option_map Bound o) (option_or (then_some (not (is_known held.state old)) Unknown) (next_refusal held))) (bound_passes (events_of held.source) bound within)
+    ∙ first_stands (not (is_known held.state old)) Unknown (next_refusal held) (ap not unknown)
+
+-- an addition of a difference with a fault is refused, and an amendment by it
+pub add_refused : (held : Held) (bound : Difference) (fault : BoundFault) → IsFaultOf (events_of held.source) bound fault → add_refusal held bound ≡ Some (Bound fault)
+add_refused held bound fault is = ap (λ o. option_or (option_map Bound o) (next_refusal held)) (bound_refused (events_of held.source) bound fault is)
+
+pub amend_refused : (held : Held) (old : SiteCounter) (bound : Difference) (fault : BoundFault) → IsFaultOf (events_of held.source) bound fault → amend_refusal held old bound ≡ Some (Bound fault)
+amend_refused held old bound fault is =
+    ap (λ o. option_or (option_map Bound o) (option_or (then_some (not (is_known held.state old)) Unknown) (next_refusal held))) (bound_refused (events_of held.source) bound fault is)
+
+-- a record of an event that was executed
+pub done_refused : (held : Held) (event : ℕ) → (ltb 0 event && leb event (events_of held.source)) ≡ false → done_refusal held event ≡ Some (Bound NoEvent)
+done_refused held event e = first_stands (not (ltb 0 event && leb event (events_of held.source))) (Bound NoEvent) _ (ap not e)
+
+pub done_origin : (held : Held) (event : ℕ) → event ≡ 0 → done_refusal held event ≡ Some (Bound NoEvent)
+done_origin held event is = done_refused held event (ap (λ n. ltb 0 n && leb n (events_of held.source)) is)
+
+-- the bound that fixes an event other than the origin is refused only where the plan has no such event
+pub fixed_refused : (held : Held) (origin event : ℕ) (time : ℤ) (fault : BoundFault) → origin ≡ 0 → event ≢ 0 → IsFaultOf (events_of held.source) (difference origin event time time) fault
+    → done_refusal held event ≡ Some (Bound fault)
+fixed_refused held origin event time NoEvent first other past = done_refused held event (past_last event (events_of held.source) (⊎_elim (λ h. omega (arith, h, first)) (λ h. h) past))
+  where
+    past_last : (event events : ℕ) → events < event → (ltb 0 event && leb event events) ≡ false
+    past_last event events h = grind (arith, nat_tests)
+fixed_refused held origin event time SameEvent first other same = absurd (other (sym same.1 ∙ first))
+fixed_refused held origin event time Crossed first other crossed = absurd (never time crossed.2)
+  where
+    never : (time : ℤ) → ¬ (time <ℤ time)
+    never time h = omega (arith, ints)
+
+-- ---- takes
+pub records_name-decides : (events : ℕ) (state : Content) → Decides (records_name events state) (RecordsName events state)
+records_name-decides events state =
+    Decides-by_and (λ (entry : SiteCounter × Record). names_events events entry.1.bound) (λ entry. NamesEvents events entry.1.bound)
+    (list_all (λ (entry : SiteCounter × Record). names_events events entry.1.bound)) (λ entry. names_decides events entry.1.bound) refl (λ _ _. refl) (entries state.additions)
+
+named_take : (held : Held) (other : Content) → RecordsName (events_of held.source) other
+    → take_refusal held other ≡ option_or (option_map Clash (dispute_contents held.state other)) (then_some (ltb most_known (known_in_either held.state other)) Full)
+named_take held other named =
+    first_passes (not (records_name (events_of held.source) other)) (Bound NoEvent) _ (ap not ((records_name-decides (events_of held.source) other).1 named))
+
+pub unnamed_take : (held : Held) (other : Content) → ¬ RecordsName (events_of held.source) other → take_refusal held other ≡ Some (Bound NoEvent)
+unnamed_take held other unnamed =
+    first_stands (not (records_name (events_of held.source) other)) (Bound NoEvent) _
+    (ap not (false_from_ne_true (records_name (events_of held.source) other) (λ e. unnamed ((records_name-decides (events_of held.source) other).0 e))))
+
+pub agreed_take : (held : Held) (other : Content) → RecordsName (events_of held.source) other → dispute_contents held.state other ≡ None
+    → take_refusal held other ≡ then_some (ltb most_known (known_in_either held.state other)) Full
+agreed_take held other named agreed =
+    named_take held other named ∙ ap (λ o. option_or (option_map Clash o) (then_some (ltb most_known (known_in_either held.state other)) Full)) agreed
+
+-- where the join neither clashes nor is too large
+joinable : (held : Held) (other : Content) → RecordsName (events_of held.source) other
+    → ((id : SiteCounter) → dispute_contents held.state other ≢ Some id)
+    → ¬ ((dispute_contents held.state other ≡ None) × (most_known < known_in_either held.state other))
+    → take_refusal held other ≡ None
+joinable held other named clash full =
+    let agreed = none (dispute_contents held.state other) clash in
+    agreed_take held other named agreed ∙ passes (ltb most_known (known_in_either held.state other)) Full (within most_known (known_in_either held.state other) (λ past. full (agreed, past)))
+  where
+    none : (o : Option SiteCounter) → ((id : SiteCounter) → o ≢ Some id) → o ≡ None
+    none None h = refl
+    none (Some id) h = absurd (h id refl)
+
+    within : (a b : ℕ) → ¬ (a < b) → ltb a b ≡ false
+    within a b h = let le : b ≤ a = omega arith in grind (arith, nat_tests)
+
+pub take_fault : (held : Held) (other : Content) (A : Type 0) (fault : RecordsFault) → RecordsName (events_of held.source) other
+    → ((id : SiteCounter) → (failed A fault ≡ Err (records.Clash id)) ↔ (dispute_contents held.state other ≡ Some id))
+    → ((failed A fault ≡ Err records.Full) ↔ (dispute_contents held.state other ≡ None) × (most_known < known_in_either held.state other))
+    → of_records_fault fault ≡ unwrap_or (take_refusal held other) Memory
+take_fault held other A (records.Clash id) named clash full =
+    sym (ap (λ o. unwrap_or o Memory) (named_take held other named
+    ∙ ap (λ o. option_or (option_map Clash o) (then_some (ltb most_known (known_in_either held.state other)) Full)) ((clash id).0 refl)))
+take_fault held other A records.Full named clash full =
+    sym (ap (λ o. unwrap_or o Memory) (agreed_take held other named (full.0 refl).0
+    ∙ stands (ltb most_known (known_in_either held.state other)) Full (less_true most_known (known_in_either held.state other) (full.0 refl).1)))
+take_fault held other A records.Memory named clash full =
+    sym (ap (λ o. unwrap_or o Memory) (joinable held other named (λ id e. other_clash id ((clash id).1 e)) (λ p. other_full (full.1 p))))
+  where
+    other_clash : (id : SiteCounter) → failed A records.Memory ≢ Err (records.Clash id)
+    other_clash id e = cc
+
+    other_full : failed A records.Memory ≢ Err records.Full
+    other_full e = cc
+
+pub can_take : (held : Held) (other : Content) (A : Type 0) (all : A) → RecordsName (events_of held.source) other
+    → ((id : SiteCounter) → (succeeded A all ≡ Err (records.Clash id)) ↔ (dispute_contents held.state other ≡ Some id))
+    → ((succeeded A all ≡ Err records.Full) ↔ (dispute_contents held.state other ≡ None) × (most_known < known_in_either held.state other))
+    → take_refusal held other ≡ None
+can_take held other A all named clash full = joinable held other named (λ id e. no_clash id ((clash id).1 e)) (λ p. no_full (full.1 p))
+  where
+    no_clash : (id : SiteCounter) → succeeded A all ≢ Err (records.Clash id)
+    no_clash id e = cc
+
+    no_full : succeeded A all ≢ Err records.Full
+    no_full e = cc
+
+-- where all is held already, nothing stands against a take
+pub can_hold : (held : Held) (other : Content) → RecordsName (events_of held.source) other → taken held.state other ≡ Some held.state → take_refusal held other ≡ None
+can_hold held other named is =
+    let agreed = held_agrees held.state other is in
+    joinable held other named
+    (λ id e. absurd (false≢true (ap is_some (sym agreed ∙ e))))
+    (λ p. absurd (false≢true (ap is_some (sym (too_many held.state other p.0 p.1) ∙ is))))
+
+-- ---- withdrawals
+abbrev pub unwithdrawn : WithdrawFault → Result (Unit {0}) WithdrawFault
+unwithdrawn fault = Err fault
+
+abbrev pub withdrawn : Unit {0} → Result (Unit {0}) WithdrawFault
+withdrawn done = Ok done
+
+pub withdraw_fault : (held : Held) (id : SiteCounter) (fault : WithdrawFault) → ((unwithdrawn fault ≡ Err withdraw.Unknown) ↔ (is_known held.state id ≡ false))
+    → of_withdraw_fault fault ≡ unwrap_or (withdraw_refusal held id) Memory
+withdraw_fault held id withdraw.Unknown unknown = sym (ap (λ b. unwrap_or (then_some (not b) Unknown) Memory) (unknown.0 refl))
+withdraw_fault held id withdraw.Memory unknown =
+    sym (ap (λ b. unwrap_or (then_some (not b) Unknown) Memory) (true_from_ne_false (is_known held.state id) (λ e. other_fault (unknown.1 e))))
+  where
+    other_fault : unwithdrawn withdraw.Memory ≢ Err withdraw.Unknown
+    other_fault e = cc
+
+pub can_withdraw : (held : Held) (id : SiteCounter) (done : Unit {0}) → ((withdrawn done ≡ Err withdraw.Unknown) ↔ (is_known held.state id ≡ false)) → withdraw_refusal held id ≡ None
+can_withdraw held id done unknown = passes (not (is_known held.state id)) Unknown (ap not (true_from_ne_false (is_known held.state id) (λ e. no_fault (unknown.1 e))))
+  where
+    no_fault : withdrawn done ≢ Err withdraw.Unknown
+    no_fault e = cc
+
+-- ---- what an accepted call tells
+pub or_none : {X : Type 0} (o p : Option X) → option_or o p ≡ None → (o ≡ None) × (p ≡ None)
+or_none None p e = (refl, e)
+or_none (Some x) p e = absurd (cc)
+
+pub mapped_none : {X Y : Type 0} (f : X → Y) (o : Option X) → option_map f o ≡ None → o ≡ None
+mapped_none f None e = refl
+mapped_none f (Some x) e = absurd (cc)
+
+pub untested : {X : Type 0} (b : Bool) (x : X) → then_some (not b) x ≡ None → b ≡ true
+untested true x e = refl
+untested false x e = absurd (cc)
+
+-- a bound that is accepted is about the plan's events
+sound_named : (held : Held) (bound : Difference) → option_map Bound (bound_refusal (events_of held.source) bound) ≡ None → NamesEvents (events_of held.source) bound
+sound_named held bound e =
+    let sound : bound_refusal (events_of held.source) bound ≡ None = mapped_none Bound (bound_refusal (events_of held.source) bound) e in
+    (names_decides (events_of held.source) bound).0 (untested (names_events (events_of held.source) bound) NoEvent (or_none (then_some (not (names_events (events_of held.source) bound)) NoEvent) _ sound).0)
+
+pub accepted_named : (held : Held) (bound : Difference) → add_refusal held bound ≡ None → NamesEvents (events_of held.source) bound
+accepted_named held bound e = sound_named held bound (or_none (option_map Bound (bound_refusal (events_of held.source) bound)) (next_refusal held) e).0
+
+-- so is an event that was executed
+pub executed_named : (held : Held) (time : ℤ) (event : ℕ) → done_refusal held event ≡ None → NamesEvents (events_of held.source) (fixed_at time event)
+executed_named held time event e =
+    let within : (ltb 0 event && leb event (events_of held.source)) ≡ true =
+    untested (ltb 0 event && leb event (events_of held.source)) (Bound NoEvent) (or_none (then_some (not (ltb 0 event && leb event (events_of held.source))) (Bound NoEvent)) (next_refusal held) e).0 in
+    record { from = omega arith; to = least event (events_of held.source) within }
+  where
+    least : (event events : ℕ) → (ltb 0 event && leb event events) ≡ true → event ≤ events
+    least event events e = grind (arith, nat_tests)
+
+-- and an id that may be withdrawn is known
+pub accepted_known : (held : Held) (id : SiteCounter) → withdraw_refusal held id ≡ None → is_known held.state id ≡ true
+accepted_known held id e = untested (is_known held.state id) Unknown e
+
+-- so is the bound of an amendment that is accepted
+pub amended_named : (held : Held) (old : SiteCounter) (bound : Difference) → amend_refusal held old bound ≡ None → NamesEvents (events_of held.source) bound
+amended_named held old bound e = sound_named held bound (or_none (option_map Bound (bound_refusal (events_of held.source) bound)) _ e).0
+
+-- and its old id is known
+pub amended_known : (held : Held) (old : SiteCounter) (bound : Difference) → amend_refusal held old bound ≡ None → is_known held.state old ≡ true
+amended_known held old bound e =
+    untested (is_known held.state old) Unknown
+    (or_none (then_some (not (is_known held.state old)) Unknown) (next_refusal held) (or_none (option_map Bound (bound_refusal (events_of held.source) bound)) _ e).1).0

@@ -1,0 +1,46 @@
+use Rattle.std.proofs.Common.{◌≡◌, true, refl, ap, ◌∙◌}
+use Rattle.std.proofs.lemmas.Bool.{false≢true}
+use Rattle.std.proofs.lemmas.Result.{err_from_is_err_and}
+use Rattle.std.specs.FinMap.{contains_key}
+use Rattle.std.specs.Rc.{rc_value}
+use Rattle.stn_records.specs.Content.{with_tombstone}
+use Rattle.stn_lift.specs.PlanSource.{events_of}
+use Rattle.stn_site.specs.Bounds.{RecordsName}
+use Rattle.stn_site.specs.Held.{Held}
+use Rattle.stn_site.proofs.Refused.{withdraw_fault, can_withdraw}
+use Rattle.stn_site.proofs.site_plan.SitePlan.withdraw.Goals as goal
+
+pub invariant_of-self-2 : goal.invariant_of-self-2
+invariant_of-self-2 g c =
+    let named : RecordsName (events_of (rc_value c.self.inside.base)) c.withdraw.new.self = rw c.in_ok-withdraw.ensures.withdrawn c.self.invariant in
+    named
+
+pub returns-in_err-withdraw : goal.returns-in_err-withdraw
+returns-in_err-withdraw g c =
+    let p = err_from_is_err_and c.from_residual.result c.from_residual.ensures.1 in
+    let held : Held = record { site = c.self.inside.site; source = rc_value c.self.inside.base; state = c.self.inside.records; steps = 0 } in
+    record {
+      leaves = rw p.1 tt;
+      again = λ there. absurd (false≢true (c.in_err-withdraw.ensures.again (ap (λ (h : Held). contains_key h.state.tombstones c.args.id) c.self.view_is ∙ there)).0);
+      accepted = rw p.1 tt;
+      fault = rw (p.1, p.2, ← c.self.view_is) (withdraw_fault held c.args.id c.in_err-withdraw.field-0.0 c.in_err-withdraw.ensures.unknown);
+      kept = rw p.1 ((λ i. record { site = c.self.inside.site; source = rc_value c.self.inside.base; state = c.in_err-withdraw.ensures.kept i; steps = 0 }) ∙ c.self.view_is);
+    }
+
+pub returns : goal.returns
+returns g c =
+    let held : Held = record { site = c.self.inside.site; source = rc_value c.self.inside.base; state = c.self.inside.records; steps = 0 } in
+    record {
+      leaves = record {
+        site = ap (λ (h : Held). h.site) c.self.view_is;
+        source = ap (λ (h : Held). h.source) c.self.view_is;
+        state = c.in_ok-withdraw.ensures.withdrawn ∙ ap (λ (h : Held). with_tombstone h.state c.args.id) c.self.view_is;
+      };
+      again = λ there.
+          let gone : contains_key c.self.inside.records.tombstones c.args.id ≡ true = ap (λ (h : Held). contains_key h.state.tombstones c.args.id) c.self.view_is ∙ there in
+          let same : c.withdraw.new.self ≡ c.self.inside.records = (c.in_ok-withdraw.ensures.again gone).1 in
+          (refl, (λ i. record { site = c.self.inside.site; source = rc_value c.self.inside.base; state = same i; steps = 0 }) ∙ c.self.view_is);
+      accepted = rw (← c.self.view_is) (can_withdraw held c.args.id c.in_ok-withdraw.field-0 c.in_ok-withdraw.ensures.unknown);
+      fault = tt;
+      kept = tt;
+    }

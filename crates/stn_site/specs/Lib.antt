@@ -1,0 +1,11 @@
+pub mod Held
+pub mod Bounds
+pub mod Names
+pub mod Walk
+pub mod FaultsOf
+pub mod Failures
+pub mod Refusals
+pub mod Lines
+pub mod Report
+pub mod Windows
+pub mod Calls

@@ -1,0 +1,22 @@
+//! One site's copy of a plan: what the site holds, its changes, and its report.
+#![tactic(auto)]
+
+pub use done::EVENT_FLAGS;
+pub use faults::ReplicaFault;
+pub use laws::{
+    one_report, same_counts_same_bytes, same_items_same_bytes, state_is_union, took_same_same_bytes,
+};
+pub use lines::{append_window_line, bound_at, bound_name};
+pub use names::BoundName;
+pub use report::append_link_lines;
+pub use site_plan::SitePlan;
+
+mod done;
+mod failures;
+mod faults;
+mod laws;
+mod lines;
+mod names;
+mod parts;
+mod report;
+mod site_plan;

@@ -1,0 +1,206 @@
+ghost use Rattle.std.specs.Prelude.{◌≡◌, ℕ, ◌+◌, ◌*◌, ◌<◌, ◌≤◌, ◌++◌, ◌^◌, ◌⊎◌, List, length, map, All, IfOk, OnOk, OnErr, MatchOption};
+ghost use Rattle.std.specs.List.{flat_map};
+ghost use Rattle.stn_net.specs.Event.{most_events};
+ghost use Rattle.stn_net.specs.Schedule.{HasSchedule};
+ghost use Rattle.stn_lift.specs.PlanSource.{events_of};
+ghost use Rattle.stn_records.specs.Content.{most_known, known_count, live_of, listed, replaced_count as replaced_count_of};
+ghost use Rattle.stn_site.specs.Bounds.{all_bounds, live_bounds, RecordsName};
+ghost use Rattle.stn_site.specs.Names.{live_ids};
+ghost use Rattle.stn_site.specs.Lines.{conflict_line, link_line};
+ghost use Rattle.stn_site.specs.Windows.{AreWindows};
+ghost use Rattle.stn_site.specs.Report.{most_report, IsWindowsPart, IsReport, IsConflictPart, heading};
+
+use crate::lines::{
+    MOST_LINE, append_conflict_line, append_link_line, append_plan_line, append_records_line,
+    append_window_line,
+};
+use crate::site_plan::SitePlan;
+use std::alloc::Allocator;
+use stn_conflict::{Cycle, Link, cycle};
+use stn_net::{Bound, Event};
+use stn_records::{Id, Mark, Records};
+use stn_time::{Memory, Ms};
+
+impl<A: Allocator + Copy> SitePlan<A> {
+    /// Appends the report, where the windows of the origin and of all events are known, in their order;
+    /// none where all bounds have no schedule. It says how many steps, events, live records and replaced
+    /// ids there are; then the window of each event, or else one cycle of bounds that contradict each
+    /// other. It depends on the plan and the state alone, and has at most 65,536 bytes. If memory runs
+    /// out, it appends nothing.
+    pub fn report_with<B: Allocator>(
+        &self,
+        windows: Option<&[(Ms, Ms)]>,
+        out: &mut Vec<u8, B>,
+    ) -> Result<(), Memory>
+        requires { MatchOption windows (¬ HasSchedule (all_bounds self.now.source self.now.state))
+            (λ windows. AreWindows (all_bounds self.now.source self.now.state) (events_of self.now.source) windows.now) }
+        ensures reported { OnOk result ((text : List ℕ) × IsReport self.now.source self.now.state text × (out.new.items ≡ out.old.items ++ text)) }
+        ensures short { OnOk result (length out.new.items ≤ length out.old.items + most_report) }
+        ensures kept { OnErr result (out.new.items ≡ out.old.items) }
+    {
+        let text = self.text(windows)?;
+        out.extend_from_slice(&text)
+    }
+
+    // The report.
+    fn text(&self, windows: Option<&[(Ms, Ms)]>) -> Result<Vec<u8, A>, Memory>
+        requires { MatchOption windows (¬ HasSchedule (all_bounds self.now.source self.now.state))
+            (λ windows. AreWindows (all_bounds self.now.source self.now.state) (events_of self.now.source) windows.now) }
+        ensures report { IfOk result (λ text. IsReport self.now.source self.now.state text.items) }
+        ensures short { IfOk result (λ text. length text.items ≤ most_report) }
+    {
+        let live = self.records().live()?;
+        let mut text = Vec::new(self.alloc());
+        self.append_heading(&live, &mut text)?;
+        self.append_part(windows, &live, &mut text)?;
+        Ok(text)
+    }
+
+    fn append_heading(&self, live: &[(Id, Mark, Bound)], out: &mut Vec<u8, A>) -> Result<(), Memory>
+        requires { live.now ≡ map listed (live_of self.now.state) }
+        ensures text { OnOk result (out.new.items ≡ out.old.items ++ heading self.now.source self.now.state) }
+        ensures short { OnOk result (length out.new.items ≤ length out.old.items + MOST_LINE * 2) }
+    {
+        let replaced = replaced_count(self.records());
+        append_plan_line(out, self.base().steps(), self.base().events())?;
+        append_records_line(out, live.len() as u16, replaced)?;
+        Ok(())
+    }
+
+    // The windows where all bounds have a schedule, and else the cycle.
+    fn append_part(
+        &self,
+        windows: Option<&[(Ms, Ms)]>,
+        live: &[(Id, Mark, Bound)],
+        out: &mut Vec<u8, A>,
+    ) -> Result<(), Memory>
+        requires windows { MatchOption windows (¬ HasSchedule (all_bounds self.now.source self.now.state))
+            (λ windows. AreWindows (all_bounds self.now.source self.now.state) (events_of self.now.source) windows.now) }
+        requires live { live.now ≡ map listed (live_of self.now.state) }
+        requires named { RecordsName (events_of self.now.source) self.now.state }
+        ensures part { OnOk result ((text : List ℕ) × (IsWindowsPart self.now.source self.now.state text ⊎ IsConflictPart self.now.source self.now.state text)
+            × (out.new.items ≡ out.old.items ++ text)) }
+        ensures short { OnOk result (length out.new.items ≤ length out.old.items + MOST_LINE * (most_events + 2)) }
+    {
+        match windows {
+            Some(known) => self.append_windows(known, out),
+            None => self.append_conflict(live, out),
+        }
+    }
+
+    // `ok` and the windows of the events.
+    fn append_windows(&self, windows: &[(Ms, Ms)], out: &mut Vec<u8, A>) -> Result<(), Memory>
+        requires { AreWindows (all_bounds self.now.source self.now.state) (events_of self.now.source) windows.now }
+        ensures part { OnOk result ((text : List ℕ) × IsWindowsPart self.now.source self.now.state text × (out.new.items ≡ out.old.items ++ text)) }
+        ensures short { OnOk result (length out.new.items ≤ length out.old.items + MOST_LINE * (most_events + 1)) }
+    {
+        let done = self.done_flags();
+        out.extend_from_slice(b"ok\n")?;
+        for before in 0..self.base().events() {
+            let event = Event::new(before + 1).unwrap();
+            let (earliest, latest) = windows[usize::from(before) + 1];
+            append_window_line(out, event, earliest, latest, done[usize::from(before) + 1])?;
+        }
+        Ok(())
+    }
+
+    pub(crate) fn append_conflict(
+        &self,
+        live: &[(Id, Mark, Bound)],
+        out: &mut Vec<u8, A>,
+    ) -> Result<(), Memory>
+        requires live { live.now ≡ map listed (live_of self.now.state) }
+        requires named { RecordsName (events_of self.now.source) self.now.state }
+        requires conflict { ¬ HasSchedule (all_bounds self.now.source self.now.state) }
+        ensures part { OnOk result ((text : List ℕ) × IsConflictPart self.now.source self.now.state text × (out.new.items ≡ out.old.items ++ text)) }
+        ensures short { OnOk result (length out.new.items ≤ length out.old.items + MOST_LINE * (most_events + 2)) }
+    {
+        let all_ids = ids_of(self.alloc(), live)?;
+        let all_others = bounds_of(self.alloc(), live)?;
+        self.append_named_cycle(&all_ids, &all_others, out)
+    }
+
+    // The named cycle of all bounds, by the ids and the bounds of the live records.
+    fn append_named_cycle(
+        &self,
+        ids: &[Id],
+        others: &[Bound],
+        out: &mut Vec<u8, A>,
+    ) -> Result<(), Memory>
+        requires ids { ids.now ≡ live_ids self.now.state }
+        requires others { others.now ≡ live_bounds self.now.state }
+        requires named { RecordsName (events_of self.now.source) self.now.state }
+        requires conflict { ¬ HasSchedule (all_bounds self.now.source self.now.state) }
+        ensures part { OnOk result ((text : List ℕ) × IsConflictPart self.now.source self.now.state text × (out.new.items ≡ out.old.items ++ text)) }
+        ensures short { OnOk result (length out.new.items ≤ length out.old.items + MOST_LINE * (most_events + 2)) }
+    {
+        let base = self.base().bounds();
+        let found = cycle(self.alloc(), self.base().events(), base, others)?;
+        let named = found.unwrap();
+        append_cycle(base, ids, others, &named, out)
+    }
+}
+
+pub fn ids_of<A: Allocator>(alloc: A, records: &[(Id, Mark, Bound)]) -> Result<Vec<Id, A>, Memory>
+    ensures { IfOk result (λ ids. ids.items ≡ map (λ entry. entry.0) records.now) }
+{
+    records.iter().map(|entry| entry.0).collect(alloc)
+}
+
+pub fn bounds_of<A: Allocator>(
+    alloc: A,
+    records: &[(Id, Mark, Bound)],
+) -> Result<Vec<Bound, A>, Memory>
+    ensures { IfOk result (λ bounds. bounds.items ≡ map (λ entry. entry.2) records.now) }
+{
+    records.iter().map(|entry| entry.2).collect(alloc)
+}
+
+// How many ids are replaced.
+fn replaced_count<A: Allocator + Copy>(records: &Records<A>) -> u16
+    ensures value { result ≡ replaced_count_of records.now }
+    ensures limited { known_count records.now ≤ most_known }
+{
+    records.replaced().len() as u16
+}
+
+// The sum of the cycle, and then its links.
+fn append_cycle<A: Allocator>(
+    base: &[Bound],
+    ids: &[Id],
+    others: &[Bound],
+    found: &Cycle<A>,
+    out: &mut Vec<u8, A>,
+) -> Result<(), Memory>
+    requires there { All (λ link. link.place < length base.now + length others.now) found.now.links.items }
+    requires few { length base.now < 2 ^ 32 }
+    requires one_each { length ids.now ≡ length others.now }
+    ensures text { OnOk result (out.new.items ≡ out.old.items
+        ++ (conflict_line found.now.sum ++ flat_map (link_line base.now ids.now others.now) found.now.links.items)) }
+    ensures short { OnOk result (length out.new.items ≤ length out.old.items + MOST_LINE * (length found.now.links.items + 1)) }
+{
+    append_conflict_line(out, found.sum)?;
+    append_link_lines(base, ids, others, &found.links, out)?;
+    Ok(())
+}
+
+/// Appends the line of each link, whose place is one of the plan's bounds followed by the others. After
+/// an error a part of them may stand there.
+pub fn append_link_lines<B: Allocator>(
+    base: &[Bound],
+    ids: &[Id],
+    others: &[Bound],
+    links: &[Link],
+    out: &mut Vec<u8, B>,
+) -> Result<(), Memory>
+    requires there { All (λ link. link.place < length base.now + length others.now) links.now }
+    requires few { length base.now < 2 ^ 32 }
+    requires one_each { length ids.now ≡ length others.now }
+    ensures text { OnOk result (out.new.items ≡ out.old.items ++ flat_map (link_line base.now ids.now others.now) links.now) }
+    ensures short { OnOk result (length out.new.items ≤ length out.old.items + MOST_LINE * length links.now) }
+{
+    for link in links {
+        append_link_line(out, base, ids, others, *link)?;
+    }
+    Ok(())
+}
