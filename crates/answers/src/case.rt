@@ -4,7 +4,7 @@ use stn_lift::BaseFault;
 use stn_log::LoadFault;
 use stn_net::BoundFault;
 use stn_pddl::DomainFault;
-use stn_replica::ReplicaFault;
+use stn_site::ReplicaFault;
 use stn_wire::WireFault;
 
 /// What becomes of some bytes as a frame, as a log or as a session.

@@ -9,7 +9,7 @@ use Rattle.stn_refusal.specs.Refusals.{refused}
 use Rattle.stn_time.specs.Time.{horizon}
 use Rattle.stn_net.specs.Difference.{Difference}
 use Rattle.stn_records.specs.Id.{SiteCounter}
-use Rattle.stn_replica.specs.Held.{difference}
+use Rattle.stn_site.specs.Held.{difference}
 use Rattle.stn_time.specs.TimeOf.{time_of}
 use Rattle.stn_lift.specs.PlanSource.{PlanSource, events_of}
 use Rattle.stn_records.specs.Content.{Content}

@@ -12,8 +12,8 @@ use Rattle.stn_windows.specs.Rehearsal.{IsRehearseFault}
 use Rattle.stn_windows.proofs.OneAnswer.{one_next, one_rehearsal}
 use Rattle.stn_lift.specs.PlanSource.{PlanSource}
 use Rattle.stn_records.specs.Content.{Content}
-use Rattle.stn_replica.specs.Bounds.{all_bounds}
-use Rattle.stn_replica.specs.Dispatch.{done_events}
+use Rattle.stn_site.specs.Bounds.{all_bounds}
+use Rattle.stn_site.specs.Report.{done_events}
 use Rattle.stn_refusal.specs.declared.code.Code.TheVariants as code
 use Rattle.stn_refusal.specs.Printed.{refusal_text}
 use Rattle.stn_refusal.specs.Refusals.{refusal_of}

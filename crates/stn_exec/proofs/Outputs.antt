@@ -4,7 +4,7 @@ use Rattle.std.specs.Bool.{Decides}
 use Rattle.std.proofs.lemmas.Bool.Decides.{same_from_decides}
 use Rattle.stn_lift.specs.PlanSource.{PlanSource}
 use Rattle.stn_records.specs.Content.{Content}
-use Rattle.stn_replica.specs.Report.{IsReport}
+use Rattle.stn_site.specs.Report.{IsReport}
 use Rattle.stn_questions.specs.declared.asked.Question.{Question}
 use Rattle.stn_questions.specs.Answer.{IsAnswer}
 use Rattle.stn_refusal.specs.declared.failure.Failure.TheVariants.{Refused, Failed}

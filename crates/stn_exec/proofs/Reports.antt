@@ -7,8 +7,8 @@ use Rattle.std.proofs.lemmas.List.Sums.{fold-append}
 use Rattle.stn_time.specs.TimeOf.{time_of}
 use Rattle.stn_lift.specs.PlanSource.{PlanSource, events_of}
 use Rattle.stn_text.specs.Lines.{lines_of, words_of}
-use Rattle.stn_replica.specs.Report.{IsReport}
-use Rattle.stn_replica.specs.Refusals.{withdraw_refusal}
+use Rattle.stn_site.specs.Report.{IsReport}
+use Rattle.stn_site.specs.Refusals.{withdraw_refusal}
 use Rattle.stn_world.specs.declared.faults.WorldFault.{WorldFault}
 use Rattle.stn_world.specs.declared.faults.WorldFault.TheVariants.{NoSite}
 use Rattle.stn_world.specs.Faults.{of_replica_fault}

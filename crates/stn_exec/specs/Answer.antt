@@ -2,7 +2,7 @@
 use Rattle.std.specs.Prelude.{ℕ, List, [], ◌∷◌, ◌++◌, codes, decimal}
 use Rattle.stn_net.specs.Event.{event_text}
 use Rattle.stn_records.specs.Id.{SiteCounter, id_text}
-use Rattle.stn_replica.specs.Names.{name_text}
+use Rattle.stn_site.specs.Names.{name_text}
 use Rattle.stn_exec.specs.declared.answer.Answer.{Answer}
 use Rattle.stn_exec.specs.declared.answer.Answer.TheVariants.{Added, Amended, Withdrawn, Merged, Sent, Delivered, Schedule, Broken}
 

@@ -14,8 +14,9 @@ use Rattle.stn_windows.specs.Dispatch.{IsNext}
 use Rattle.stn_windows.specs.Rehearsal.{IsRehearseFault}
 use Rattle.stn_lift.specs.PlanSource.{PlanSource}
 use Rattle.stn_records.specs.Content.{Content}
-use Rattle.stn_replica.specs.Bounds.{all_bounds}
-use Rattle.stn_replica.specs.Dispatch.{done_events, IsRestOfPlan}
+use Rattle.stn_site.specs.Bounds.{all_bounds}
+use Rattle.stn_replica.specs.Dispatch.{IsRestOfPlan}
+use Rattle.stn_site.specs.Report.{done_events}
 use Rattle.stn_exec.specs.Answer.{line_with_event}
 
 abbrev pub all_done_text : List ℕ

@@ -14,8 +14,8 @@ use Rattle.stn_net.specs.Difference.{Difference}
 use Rattle.stn_net.specs.Schedule.{times_of}
 use Rattle.stn_lift.specs.PlanSource.{PlanSource, events_of}
 use Rattle.stn_records.specs.Content.{Content, part_of}
-use Rattle.stn_replica.specs.Held.{difference}
-use Rattle.stn_replica.specs.Names.{broken_bound}
+use Rattle.stn_site.specs.Held.{difference}
+use Rattle.stn_site.specs.Names.{broken_bound}
 use Rattle.stn_questions.specs.declared.asked.Question.{Question}
 use Rattle.stn_questions.specs.declared.asked.Question.TheVariants as question
 use Rattle.stn_world.specs.declared.faults.WorldFault.{WorldFault}

@@ -4,7 +4,7 @@ use Rattle.std.specs.Bool.{Decides}
 use Rattle.std.specs.Io.KnownBytes.{Appends}
 use Rattle.stn_refusal.specs.declared.failure.Failure.TheVariants.{Refused, Failed}
 use Rattle.stn_refusal.specs.Printed.{refusal_text}
-use Rattle.stn_replica.specs.Report.{IsReport}
+use Rattle.stn_site.specs.Report.{IsReport}
 use Rattle.stn_questions.specs.Answer.{IsAnswer}
 use Rattle.stn_exec.specs.Answer.{answer_text}
 use Rattle.stn_exec.specs.Dispatch.{IsNextText, IsRehearseText, IsRefusedRehearsal}

@@ -1,11 +1,11 @@
 ghost use Rattle.std.specs.Prelude.{◌≡◌, ◌++◌, [], ◌∷◌, OnOk, codes};
-ghost use Rattle.stn_replica.specs.Names.{name_text};
+ghost use Rattle.stn_site.specs.Names.{name_text};
 ghost use Rattle.stn_exec.specs.Answer.{line_with, line_with_id, line_with_event, answer_text};
 
 use std::alloc::Allocator;
 use stn_net::Event;
 use stn_records::Id;
-use stn_replica::BoundName;
+use stn_site::BoundName;
 use stn_text::append_decimal;
 use stn_time::Memory;
 

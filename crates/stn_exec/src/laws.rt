@@ -1,7 +1,7 @@
 ghost use Rattle.std.specs.Prelude.{◌≡◌, ◌↔◌, ℕ, List, Ok};
 ghost use Rattle.stn_text.specs.Lines.{lines_of};
 ghost use Rattle.stn_records.specs.Content.{Item, HasItem};
-ghost use Rattle.stn_replica.specs.Report.{IsReport};
+ghost use Rattle.stn_site.specs.Report.{IsReport};
 ghost use Rattle.stn_questions.specs.declared.asked.Question.{Question};
 ghost use Rattle.stn_questions.specs.Answer.{AsksOfPlan, IsAnswer};
 ghost use Rattle.stn_world.specs.World.{opening_world, content_at};
@@ -12,7 +12,7 @@ ghost use Rattle.stn_exec.specs.Reports.{steps_of_lines, LineOf, first_world, st
 
 use stn_questions::one_answer;
 use stn_records::counts_same;
-use stn_replica::one_report;
+use stn_site::one_report;
 use stn_world::{sites_are_unions, sites_took_same_same_bytes};
 
 /// The law that a script has one output, and one number of refusals; it does nothing.

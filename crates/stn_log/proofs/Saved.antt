@@ -15,12 +15,12 @@ use Rattle.stn_records.specs.declared.record.Record.{Record}
 use Rattle.stn_records.specs.Maps.{differ, dispute, with_entries}
 use Rattle.stn_records.specs.Content.{most_known, Content, same_ids, with_ids, replaced_ids, known_ids, known_count, known_in_either, no_content, dispute_contents, joined_contents, IsSound}
 use Rattle.stn_records.proofs.Places.{nothing_sorted}
-use Rattle.stn_replica.specs.Bounds.{RecordsName}
-use Rattle.stn_replica.specs.Held.{holding_state}
-use Rattle.stn_replica.specs.Refusals.{take_refusal}
-use Rattle.stn_replica.specs.declared.faults.ReplicaFault.{ReplicaFault}
-use Rattle.stn_replica.specs.declared.faults.ReplicaFault.TheVariants.{Full}
-use Rattle.stn_replica.proofs.Refused.{agreed_take}
+use Rattle.stn_site.specs.Bounds.{RecordsName}
+use Rattle.stn_site.specs.Held.{holding_state}
+use Rattle.stn_site.specs.Refusals.{take_refusal}
+use Rattle.stn_site.specs.declared.faults.ReplicaFault.{ReplicaFault}
+use Rattle.stn_site.specs.declared.faults.ReplicaFault.TheVariants.{Full}
+use Rattle.stn_site.proofs.Refused.{agreed_take}
 use Rattle.stn_wire.specs.Spelling.{four}
 use Rattle.stn_wire.specs.Frame.{FrameContent, hello, records, body_of, spelling, IsFrame}
 use Rattle.stn_log.specs.Log.{Log, LogSoFar, so_far, log_text, opened, joined, taken, all_taken, all_taken_by, IsAnswer, IsLog}

@@ -8,11 +8,11 @@ use Rattle.stn_lift.specs.declared.fault.BaseFault.{BaseFault}
 use Rattle.stn_lift.specs.declared.fault.BaseFault.TheVariants as base
 use Rattle.stn_records.specs.Content.{Content, no_content, dispute_contents, join_contents, joined_contents}
 use Rattle.stn_records.specs.ContentLaws.{contents_dispute, contents_undisputed}
-use Rattle.stn_replica.specs.Calls.{Leaves, took}
-use Rattle.stn_replica.specs.Held.{Held}
-use Rattle.stn_replica.specs.Refusals.{take_refusal}
-use Rattle.stn_replica.specs.declared.faults.ReplicaFault.{ReplicaFault}
-use Rattle.stn_replica.specs.declared.faults.ReplicaFault.TheVariants as replica
+use Rattle.stn_site.specs.Calls.{Leaves, took}
+use Rattle.stn_site.specs.Held.{Held}
+use Rattle.stn_site.specs.Refusals.{take_refusal}
+use Rattle.stn_site.specs.declared.faults.ReplicaFault.{ReplicaFault}
+use Rattle.stn_site.specs.declared.faults.ReplicaFault.TheVariants as replica
 use Rattle.stn_log.specs.Faults.{of_base, of_replica}
 use Rattle.stn_log.specs.Log.{Log, log_held, so_far, opened, joined, taken_in}
 use Rattle.stn_log.specs.Opening.{IsRefused}

@@ -6,7 +6,7 @@ use Rattle.stn_refusal.specs.declared.failure.Fault.TheVariants as device
 use Rattle.stn_refusal.specs.Refusals.{refused, out_of_memory}
 use Rattle.stn_wire.specs.Failures.{wire_failure}
 use Rattle.stn_lift.specs.Failures.{base_failure}
-use Rattle.stn_replica.specs.Failures.{replica_failure}
+use Rattle.stn_site.specs.Failures.{replica_failure}
 use Rattle.stn_log.specs.declared.fault.SaveFault.{SaveFault}
 use Rattle.stn_log.specs.declared.fault.SaveFault.TheVariants as save
 use Rattle.stn_log.specs.declared.fault.LoadFault.{LoadFault}

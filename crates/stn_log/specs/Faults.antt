@@ -5,8 +5,8 @@ use Rattle.stn_stream.specs.declared.fault.StreamFault.TheVariants as stream
 use Rattle.stn_stream.specs.Stream.{wire_fault}
 use Rattle.stn_lift.specs.declared.fault.BaseFault.{BaseFault}
 use Rattle.stn_lift.specs.declared.fault.BaseFault.TheVariants as base
-use Rattle.stn_replica.specs.declared.faults.ReplicaFault.{ReplicaFault}
-use Rattle.stn_replica.specs.declared.faults.ReplicaFault.TheVariants as replica
+use Rattle.stn_site.specs.declared.faults.ReplicaFault.{ReplicaFault}
+use Rattle.stn_site.specs.declared.faults.ReplicaFault.TheVariants as replica
 use Rattle.stn_log.specs.declared.fault.LoadFault.{LoadFault}
 use Rattle.stn_log.specs.declared.fault.LoadFault.TheVariants.{Read, Bound, Frame, Base, Take, Memory}
 

@@ -6,9 +6,9 @@ use Rattle.stn_device.specs.Bytes.{most_bytes}
 use Rattle.stn_lift.specs.PlanSource.{PlanSource, base_of}
 use Rattle.stn_lift.specs.declared.fault.BaseFault.{BaseFault}
 use Rattle.stn_records.specs.Content.{Content, no_content, joined_contents}
-use Rattle.stn_replica.specs.declared.faults.ReplicaFault.{ReplicaFault}
-use Rattle.stn_replica.specs.Held.{Held, holding_state}
-use Rattle.stn_replica.specs.Refusals.{take_refusal}
+use Rattle.stn_site.specs.declared.faults.ReplicaFault.{ReplicaFault}
+use Rattle.stn_site.specs.Held.{Held, holding_state}
+use Rattle.stn_site.specs.Refusals.{take_refusal}
 use Rattle.stn_wire.specs.Frame.{FrameContent, old_hello, old_records, hello, records, spelling, IsFrame}
 use Rattle.stn_wire.specs.Front.{IsFront, faulty, unfinished}
 use Rattle.stn_log.specs.declared.version.Version.{Version}

@@ -6,7 +6,7 @@ ghost use Rattle.stn_log.specs.declared.fault.SaveFault.TheVariants as save;
 use std::alloc::{AllocError, AllocFailed};
 use stn_device::WriteFault;
 use stn_lift::BaseFault;
-use stn_replica::ReplicaFault;
+use stn_site::ReplicaFault;
 use stn_stream::{FrameFault, StreamFault};
 use stn_wire::WireFault;
 use thiserror::Error;

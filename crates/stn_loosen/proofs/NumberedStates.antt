@@ -11,8 +11,8 @@ use Rattle.stn_records.specs.Id.{SiteCounter, id_cmp}
 use Rattle.stn_records.specs.declared.record.Record.{Record}
 use Rattle.stn_records.specs.Content.{Content, no_content, RecordMap, IdSet, with_record, with_ids, replaced_set, is_replaced, known_ids, next_counter, greatest_counter}
 use Rattle.stn_records.specs.ContentLaws.{ids_total}
-use Rattle.stn_replica.specs.Held.{plain}
-use Rattle.stn_replica.specs.Bounds.{bounds_of, live_bounds, all_bounds}
+use Rattle.stn_site.specs.Held.{plain}
+use Rattle.stn_site.specs.Bounds.{bounds_of, live_bounds, all_bounds}
 use Rattle.stn_loosen.specs.Loosened.{bounds_with}
 use Rattle.stn_loosen.specs.Numbered.{numbered, Holds}
 

@@ -5,7 +5,7 @@ use Rattle.stn_net.specs.Difference.{Difference}
 use Rattle.stn_records.specs.Id.{SiteCounter}
 use Rattle.stn_records.specs.declared.record.Record.{Record}
 use Rattle.stn_records.specs.Content.{Content, no_content}
-use Rattle.stn_replica.specs.Held.{plain}
+use Rattle.stn_site.specs.Held.{plain}
 
 -- plain records of these bounds, with the site's ids from a counter on
 abbrev pub numbered : ℕ → ℕ → List Difference → List (SiteCounter × Record)

@@ -12,8 +12,8 @@ use Rattle.stn_matrix.specs.Table.{Table}
 use Rattle.stn_matrix.specs.Tightest.{IsExact}
 use Rattle.stn_lift.specs.PlanSource.{PlanSource, events_of}
 use Rattle.stn_records.specs.Content.{Content}
-use Rattle.stn_replica.specs.Bounds.{all_bounds}
-use Rattle.stn_replica.specs.Report.{is_done}
+use Rattle.stn_site.specs.Bounds.{all_bounds}
+use Rattle.stn_site.specs.Report.{is_done}
 use Rattle.stn_questions.specs.Steps.{steps_text}
 use Rattle.stn_picture.specs.Axis.{gap_of}
 use Rattle.stn_picture.specs.Picture.{windows_text, IsWindowsPicture}

@@ -12,9 +12,9 @@ use Rattle.stn_records.specs.Content.{Content, live_of}
 use Rattle.stn_conflict.specs.declared.links.Link.{Link}
 use Rattle.stn_conflict.specs.Arcs.{weight_of, IsNegativeCycle}
 use Rattle.stn_conflict.specs.Named.{IsNamedCycle}
-use Rattle.stn_replica.specs.Bounds.{bounds_of, all_bounds}
-use Rattle.stn_replica.specs.Lines.{conflict_line, link_line}
-use Rattle.stn_replica.specs.Report.{says_done, is_done, IsConflictPart, IsReport, heading}
+use Rattle.stn_site.specs.Bounds.{bounds_of, all_bounds}
+use Rattle.stn_site.specs.Lines.{conflict_line, link_line}
+use Rattle.stn_site.specs.Report.{says_done, is_done, IsConflictPart, IsReport, heading}
 use Rattle.stn_questions.specs.Steps.{steps_text}
 use Rattle.stn_picture.specs.declared.span.Span.{Span}
 use Rattle.stn_picture.specs.Axis.{gap_of}

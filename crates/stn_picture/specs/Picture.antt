@@ -5,9 +5,9 @@ use Rattle.stn_time.specs.Text.{printed}
 use Rattle.stn_net.specs.Schedule.{HasSchedule}
 use Rattle.stn_lift.specs.PlanSource.{PlanSource, events_of}
 use Rattle.stn_records.specs.Content.{Content}
-use Rattle.stn_replica.specs.Bounds.{all_bounds}
-use Rattle.stn_replica.specs.Lines.{window_line}
-use Rattle.stn_replica.specs.Report.{is_done, IsConflictPart}
+use Rattle.stn_site.specs.Bounds.{all_bounds}
+use Rattle.stn_site.specs.Lines.{window_line}
+use Rattle.stn_site.specs.Report.{is_done, IsConflictPart}
 use Rattle.stn_questions.specs.Steps.{steps_text}
 use Rattle.stn_picture.specs.declared.span.Span.{Span}
 use Rattle.stn_picture.specs.Escape.{escaped}

@@ -1,13 +1,13 @@
 ghost use Rattle.std.specs.Prelude.{◌≡◌, ℕ, List};
 ghost use Rattle.stn_lift.specs.PlanSource.{PlanSource};
 ghost use Rattle.stn_records.specs.Content.{Content};
-ghost use Rattle.stn_replica.specs.Held.{Held};
-ghost use Rattle.stn_replica.specs.Calls.{Accepted, CameBy, TookSame, TookSameItems};
+ghost use Rattle.stn_site.specs.Held.{Held};
+ghost use Rattle.stn_site.specs.Calls.{Accepted, CameBy, TookSame, TookSameItems};
 ghost use Rattle.stn_picture.specs.Picture.{IsPicture};
 
 use stn_conflict::negative_cycle_is_conflict;
 use stn_records::counts_same;
-use stn_replica::one_report;
+use stn_site::one_report;
 
 /// The law that a plan and a state have one picture; it does nothing.
 pub fn one_picture()

@@ -6,7 +6,7 @@ use crate::escape::append_escaped;
 use crate::span::Span;
 use itoa::Buffer;
 use std::alloc::Allocator;
-use stn_replica::append_window_line;
+use stn_site::append_window_line;
 use stn_time::{Memory, Ms};
 
 /// Appends the head of a picture of so many pixels' height.

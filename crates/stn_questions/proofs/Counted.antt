@@ -13,9 +13,9 @@ use Rattle.stn_records.specs.Content.{Content, live_of}
 use Rattle.stn_conflict.specs.declared.links.Link.{Link}
 use Rattle.stn_conflict.specs.Arcs.{weight_of, IsNegativeCycle}
 use Rattle.stn_conflict.specs.Named.{IsWay, IsNamedCycle}
-use Rattle.stn_replica.specs.Bounds.{bounds_of}
-use Rattle.stn_replica.specs.Lines.{line, window_line, conflict_line, link_line}
-use Rattle.stn_replica.specs.Report.{says_done, IsConflictPart}
+use Rattle.stn_site.specs.Bounds.{bounds_of}
+use Rattle.stn_site.specs.Lines.{line, window_line, conflict_line, link_line}
+use Rattle.stn_site.specs.Report.{says_done, IsConflictPart}
 use Rattle.stn_questions.specs.declared.asked.Question.{Question}
 use Rattle.stn_questions.specs.declared.asked.Question.TheVariants.{Records, Steps, Bounds, Ready, Why}
 use Rattle.stn_questions.specs.Bounds.{listed_line}

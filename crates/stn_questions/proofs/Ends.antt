@@ -12,10 +12,10 @@ use Rattle.stn_records.specs.Content.{Content}
 use Rattle.stn_conflict.specs.declared.links.Link.{Link}
 use Rattle.stn_conflict.specs.Arcs.{weight_of}
 use Rattle.stn_conflict.specs.Named.{IsWay}
-use Rattle.stn_replica.specs.Bounds.{all_bounds, live_bounds}
-use Rattle.stn_replica.specs.Names.{live_ids}
-use Rattle.stn_replica.specs.Lines.{line, window_line, link_line}
-use Rattle.stn_replica.specs.Report.{is_done}
+use Rattle.stn_site.specs.Bounds.{all_bounds, live_bounds}
+use Rattle.stn_site.specs.Names.{live_ids}
+use Rattle.stn_site.specs.Lines.{line, window_line, link_line}
+use Rattle.stn_site.specs.Report.{is_done}
 use Rattle.stn_questions.specs.Why.{end_text, IsWhyPart}
 
 -- the tightest difference from an event to the origin gives its earliest time

@@ -5,7 +5,7 @@ use Rattle.std.proofs.lemmas.List.Concat.{flat_map-append}
 use Rattle.std.specs.List.{flat_map, range_with_len}
 use Rattle.stn_net.specs.Difference.{Difference}
 use Rattle.stn_plan.specs.Steps.{PlannedStep}
-use Rattle.stn_replica.specs.Lines.{line}
+use Rattle.stn_site.specs.Lines.{line}
 use Rattle.stn_questions.specs.Durations.{least_of}
 use Rattle.stn_questions.specs.Steps.{step_line, step_lines}
 

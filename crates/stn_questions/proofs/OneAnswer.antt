@@ -13,11 +13,10 @@ use Rattle.stn_records.specs.Content.{Content}
 use Rattle.stn_conflict.specs.declared.links.Link.{Link}
 use Rattle.stn_conflict.specs.Arcs.{IsNegativeCycle}
 use Rattle.stn_conflict.specs.Named.{IsWay}
-use Rattle.stn_replica.specs.Bounds.{all_bounds, live_bounds}
-use Rattle.stn_replica.specs.Dispatch.{done_events}
-use Rattle.stn_replica.specs.Lines.{window_line, link_line}
-use Rattle.stn_replica.specs.Names.{live_ids}
-use Rattle.stn_replica.specs.Report.{is_done, IsConflictPart, IsReport, heading}
+use Rattle.stn_site.specs.Bounds.{all_bounds, live_bounds}
+use Rattle.stn_site.specs.Report.{done_events, is_done, IsConflictPart, IsReport, heading}
+use Rattle.stn_site.specs.Lines.{window_line, link_line}
+use Rattle.stn_site.specs.Names.{live_ids}
 use Rattle.stn_questions.specs.Ready.{AreReadyLines, ready_line, IsReadyAnswer, SaysReady, SaysConflict, IsReadyText}
 use Rattle.stn_questions.specs.Why.{end_text, IsWhyPart, IsWhyText}
 use Rattle.stn_questions.specs.declared.asked.Question.{Question}

@@ -10,10 +10,10 @@ use Rattle.stn_lift.specs.PlanSource.{PlanSource, base_bounds}
 use Rattle.stn_records.specs.Id.{SiteCounter}
 use Rattle.stn_records.specs.Content.{Content}
 use Rattle.stn_conflict.specs.Arcs.{bound_at}
-use Rattle.stn_replica.specs.declared.names.BoundName.{BoundName}
-use Rattle.stn_replica.specs.Bounds.{all_bounds, live_bounds}
-use Rattle.stn_replica.specs.Lines.{line}
-use Rattle.stn_replica.specs.Names.{live_ids, name_in, name_text}
+use Rattle.stn_site.specs.declared.names.BoundName.{BoundName}
+use Rattle.stn_site.specs.Bounds.{all_bounds, live_bounds}
+use Rattle.stn_site.specs.Lines.{line}
+use Rattle.stn_site.specs.Names.{live_ids, name_in, name_text}
 
 -- the lower side of a bound: `*` where it is open, that is, at the lower horizon; else its time
 abbrev pub lower_text : ℤ → List ℕ

@@ -10,9 +10,9 @@ use Rattle.stn_windows.specs.declared.answers.Next.{Next}
 use Rattle.stn_windows.specs.declared.answers.Next.TheVariants.{Run, AllDone, Overdue}
 use Rattle.stn_lift.specs.PlanSource.{PlanSource}
 use Rattle.stn_records.specs.Content.{Content}
-use Rattle.stn_replica.specs.Bounds.{all_bounds}
-use Rattle.stn_replica.specs.Dispatch.{done_events}
-use Rattle.stn_replica.specs.Lines.{line, times_text}
+use Rattle.stn_site.specs.Bounds.{all_bounds}
+use Rattle.stn_site.specs.Report.{done_events}
+use Rattle.stn_site.specs.Lines.{line, times_text}
 use Rattle.stn_questions.specs.declared.ready_event.ReadyEvent.{ReadyEvent}
 
 -- the first event has the earlier first time; where the first times are equal, it has no greater number

@@ -8,7 +8,7 @@ use Rattle.stn_records.specs.Id.{SiteCounter, id_cmp, same_ids, id_text}
 use Rattle.stn_records.specs.Record.{is_done as marks_done}
 use Rattle.stn_records.specs.declared.record.Record.{Record}
 use Rattle.stn_records.specs.Content.{Content, is_known}
-use Rattle.stn_replica.specs.Lines.{line, done_text}
+use Rattle.stn_site.specs.Lines.{line, done_text}
 use Rattle.stn_questions.specs.Bounds.{bound_text}
 
 -- each known id stands there once, and no other; they are in order

@@ -6,7 +6,7 @@ use Rattle.stn_time.specs.Text.{printed}
 use Rattle.stn_plan.specs.Steps.{PlannedStep, plan_of}
 use Rattle.stn_lift.specs.BaseBounds.{duration_of}
 use Rattle.stn_lift.specs.PlanSource.{PlanSource, bare, files, activities_of}
-use Rattle.stn_replica.specs.Lines.{line}
+use Rattle.stn_site.specs.Lines.{line}
 
 -- the action, and after a space each of its arguments
 abbrev pub words_text : List ℕ → List (List ℕ) → List ℕ

@@ -9,10 +9,10 @@ use Rattle.stn_records.specs.Content.{Content}
 use Rattle.stn_conflict.specs.declared.links.Link.{Link}
 use Rattle.stn_conflict.specs.Arcs.{weight_of}
 use Rattle.stn_conflict.specs.Named.{IsWay}
-use Rattle.stn_replica.specs.Bounds.{all_bounds, live_bounds}
-use Rattle.stn_replica.specs.Names.{live_ids}
-use Rattle.stn_replica.specs.Lines.{line, window_line, link_line}
-use Rattle.stn_replica.specs.Report.{is_done, IsConflictPart}
+use Rattle.stn_site.specs.Bounds.{all_bounds, live_bounds}
+use Rattle.stn_site.specs.Names.{live_ids}
+use Rattle.stn_site.specs.Lines.{line, window_line, link_line}
+use Rattle.stn_site.specs.Report.{is_done, IsConflictPart}
 
 -- `<word> <time>`, and the line of each link
 abbrev pub end_text : PlanSource → Content → List ℕ → ℤ → List Link → List ℕ

@@ -5,7 +5,8 @@ ghost use Rattle.stn_questions.specs.Bounds.{lower_text, upper_text, bound_text,
 use std::alloc::Allocator;
 use stn_net::Bound;
 use stn_records::Id;
-use stn_replica::{BoundName, Replica, bound_at, bound_name};
+use stn_replica::Replica;
+use stn_site::{BoundName, bound_at, bound_name};
 use stn_time::{HORIZON, Memory, Ms};
 
 /// Appends a line for each of all bounds, the plan's own first and then those of the live records: its

@@ -1,14 +1,14 @@
 ghost use Rattle.std.specs.Prelude.{◌≡◌, ℕ, List};
 ghost use Rattle.stn_lift.specs.PlanSource.{PlanSource};
 ghost use Rattle.stn_records.specs.Content.{Content};
-ghost use Rattle.stn_replica.specs.Held.{Held};
-ghost use Rattle.stn_replica.specs.Calls.{Accepted, CameBy, TookSame, TookSameItems};
+ghost use Rattle.stn_site.specs.Held.{Held};
+ghost use Rattle.stn_site.specs.Calls.{Accepted, CameBy, TookSame, TookSameItems};
 ghost use Rattle.stn_questions.specs.declared.asked.Question.{Question};
 ghost use Rattle.stn_questions.specs.Answer.{AsksOfPlan, IsAnswer};
 
 use stn_conflict::{negative_cycle_is_conflict, one_way};
 use stn_records::counts_same;
-use stn_replica::{one_report, took_same_same_bytes};
+use stn_site::{one_report, took_same_same_bytes};
 use stn_windows::next_unique;
 
 /// The law that a plan and a state have one answer to each question; it does nothing.

@@ -5,16 +5,17 @@ ghost use Rattle.stn_net.specs.Event.{most_events, event_text};
 ghost use Rattle.stn_net.specs.Schedule.{HasSchedule};
 ghost use Rattle.stn_matrix.specs.Tightest.{IsExact};
 ghost use Rattle.stn_windows.specs.Dispatch.{IsReady, AreReadyTimes};
-ghost use Rattle.stn_replica.specs.Bounds.{all_bounds};
-ghost use Rattle.stn_replica.specs.Dispatch.{done_events};
-ghost use Rattle.stn_replica.specs.Lines.{line};
+ghost use Rattle.stn_site.specs.Bounds.{all_bounds};
+ghost use Rattle.stn_site.specs.Report.{done_events};
+ghost use Rattle.stn_site.specs.Lines.{line};
 ghost use Rattle.stn_questions.specs.Ready.{AreReadyEvents, AreReadyLines, IsReadyAnswer, IsReadyText, ready_line};
 
 use crate::ready_event::ReadyEvent;
 use std::alloc::Allocator;
 use stn_matrix::Matrix;
 use stn_net::Event;
-use stn_replica::{EVENT_FLAGS, Replica};
+use stn_replica::Replica;
+use stn_site::EVENT_FLAGS;
 use stn_time::{Memory, Ms};
 use stn_windows::{Next, ready_times};
 

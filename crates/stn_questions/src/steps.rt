@@ -3,7 +3,7 @@ ghost use Rattle.std.specs.List.{flat_map, range_with_len};
 ghost use Rattle.stn_net.specs.Event.{most_steps};
 ghost use Rattle.stn_plan.specs.Views.{planned_step, word_of};
 ghost use Rattle.stn_lift.specs.PlanSource.{files};
-ghost use Rattle.stn_replica.specs.Lines.{line};
+ghost use Rattle.stn_site.specs.Lines.{line};
 ghost use Rattle.stn_questions.specs.Durations.{least_of, AreDurations};
 ghost use Rattle.stn_questions.specs.Steps.{words_text, step_line, step_lines, planned_steps, steps_text};
 

@@ -8,16 +8,17 @@ ghost use Rattle.stn_lift.specs.PlanSource.{events_of, base_bounds};
 ghost use Rattle.stn_conflict.specs.declared.links.Link.{Link};
 ghost use Rattle.stn_conflict.specs.Arcs.{weight_of};
 ghost use Rattle.stn_conflict.specs.Named.{IsWay};
-ghost use Rattle.stn_replica.specs.Bounds.{all_bounds, live_bounds};
-ghost use Rattle.stn_replica.specs.Names.{live_ids};
-ghost use Rattle.stn_replica.specs.Lines.{line, link_line};
+ghost use Rattle.stn_site.specs.Bounds.{all_bounds, live_bounds};
+ghost use Rattle.stn_site.specs.Names.{live_ids};
+ghost use Rattle.stn_site.specs.Lines.{line, link_line};
 ghost use Rattle.stn_questions.specs.Why.{IsWhyPart, IsWhyText};
 ghost use Rattle.stn_questions.specs.declared.why.WhyFault.TheVariants.{Memory as want_of_memory};
 
 use std::alloc::{AllocError, Allocator};
 use stn_conflict::way;
 use stn_net::Event;
-use stn_replica::{Replica, append_link_lines, append_window_line};
+use stn_replica::Replica;
+use stn_site::{append_link_lines, append_window_line};
 use stn_time::{Memory, Ms};
 use thiserror::Error;
 

@@ -5,12 +5,12 @@ use Rattle.std.proofs.lemmas.Bool.{false≢true}
 use Rattle.stn_refusal.specs.Refusals.{code_of}
 use Rattle.stn_records.specs.Content.{Content, dispute_contents, join_contents, joined_contents}
 use Rattle.stn_records.specs.ContentLaws.{contents_dispute, contents_undisputed}
-use Rattle.stn_replica.specs.Calls.{Leaves, took}
-use Rattle.stn_replica.specs.Failures.{replica_failure}
-use Rattle.stn_replica.specs.Held.{Held}
-use Rattle.stn_replica.specs.Refusals.{take_refusal}
-use Rattle.stn_replica.specs.declared.faults.ReplicaFault.{ReplicaFault}
-use Rattle.stn_replica.specs.declared.faults.ReplicaFault.TheVariants.{Memory}
+use Rattle.stn_site.specs.Calls.{Leaves, took}
+use Rattle.stn_site.specs.Failures.{replica_failure}
+use Rattle.stn_site.specs.Held.{Held}
+use Rattle.stn_site.specs.Refusals.{take_refusal}
+use Rattle.stn_site.specs.declared.faults.ReplicaFault.{ReplicaFault}
+use Rattle.stn_site.specs.declared.faults.ReplicaFault.TheVariants.{Memory}
 use Rattle.stn_wire.specs.Frame.{spelling, records, refused}
 use Rattle.stn_session.specs.Session.{Answer, take_code, taking}
 use Rattle.stn_session.specs.Turns.{IsAnswered}

@@ -4,7 +4,7 @@ use Rattle.std.specs.List.{AllByRecursion}
 use Rattle.std.specs.Io.KnownBytes.{Consumes, Appends, IsAtEnd}
 use Rattle.stn_device.specs.Bytes.{most_bytes}
 use Rattle.stn_records.specs.Content.{Content}
-use Rattle.stn_replica.specs.Report.{IsReport}
+use Rattle.stn_site.specs.Report.{IsReport}
 use Rattle.stn_wire.specs.Frame.{FrameContent, text, spelling, IsFrame}
 use Rattle.stn_wire.specs.Front.{IsFront, faulty, unfinished}
 use Rattle.stn_stream.specs.Stream.{wire_fault, frame_code}

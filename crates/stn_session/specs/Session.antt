@@ -6,9 +6,9 @@ use Rattle.stn_refusal.specs.declared.code.Code.{Code}
 use Rattle.stn_refusal.specs.declared.code.Code.TheVariants.{OtherPlan, Unexpected, OldVersion}
 use Rattle.stn_lift.specs.PlanSource.{PlanSource, bare, files}
 use Rattle.stn_records.specs.Content.{Content, joined_contents}
-use Rattle.stn_replica.specs.Failures.{replica_failure}
-use Rattle.stn_replica.specs.Held.{holding_state}
-use Rattle.stn_replica.specs.Refusals.{take_refusal}
+use Rattle.stn_site.specs.Failures.{replica_failure}
+use Rattle.stn_site.specs.Held.{holding_state}
+use Rattle.stn_site.specs.Refusals.{take_refusal}
 use Rattle.stn_wire.specs.Frame.{FrameContent, old_hello, old_records, hello, records, ask, text, refused, same}
 
 -- two plans are made from the same, byte for byte

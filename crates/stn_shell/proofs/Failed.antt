@@ -3,12 +3,12 @@ use Rattle.std.proofs.Common.{◌≡◌, ◌⊎◌, ℕ, List, [], ◌∷◌, �
 use Rattle.std.specs.Prelude.{unwrap_or, option_map}
 use Rattle.std.proofs.lemmas.Result.{MatchResult-weaker, IfOk-at_ok, IfErr-at_err}
 use Rattle.stn_records.specs.Id.{SiteCounter, id_text}
-use Rattle.stn_replica.specs.Calls.{Leaves, took}
-use Rattle.stn_replica.specs.Held.{Held}
-use Rattle.stn_replica.specs.Refusals.{take_refusal}
-use Rattle.stn_replica.specs.declared.faults.ReplicaFault.{ReplicaFault}
-use Rattle.stn_replica.specs.declared.faults.ReplicaFault.TheVariants.{Memory}
-use Rattle.stn_replica.specs.Failures.{replica_failure}
+use Rattle.stn_site.specs.Calls.{Leaves, took}
+use Rattle.stn_site.specs.Held.{Held}
+use Rattle.stn_site.specs.Refusals.{take_refusal}
+use Rattle.stn_site.specs.declared.faults.ReplicaFault.{ReplicaFault}
+use Rattle.stn_site.specs.declared.faults.ReplicaFault.TheVariants.{Memory}
+use Rattle.stn_site.specs.Failures.{replica_failure}
 use Rattle.stn_store.specs.Store.{Entry, Opens, IsLack}
 use Rattle.stn_refusal.specs.declared.failure.Failure.{Failure}
 use Rattle.stn_refusal.specs.declared.failure.Failure.TheVariants.{Failed}

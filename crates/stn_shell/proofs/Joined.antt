@@ -2,8 +2,8 @@
 use Rattle.std.proofs.Common.{◌≡◌, ◌∙◌, ℕ, List, Option, Result, Ok, Err, OnOk, OnErr, sym, ap, subst, inr}
 use Rattle.stn_lift.specs.PlanSource.{PlanSource}
 use Rattle.stn_records.specs.Content.{Content}
-use Rattle.stn_replica.specs.Calls.{Accepted, Leaves, took}
-use Rattle.stn_replica.specs.Held.{Held}
+use Rattle.stn_site.specs.Calls.{Accepted, Leaves, took}
+use Rattle.stn_site.specs.Held.{Held}
 use Rattle.stn_session.specs.declared.session.Served.{Served}
 use Rattle.stn_session.specs.declared.session.ServeFault.{ServeFault}
 use Rattle.stn_store.specs.Store.{Entry, Opens, saved_too}

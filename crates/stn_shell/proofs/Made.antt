@@ -6,7 +6,7 @@ use Rattle.stn_loosen.specs.Slack.{Slack}
 use Rattle.stn_loosen.specs.declared.fault.LoosenFault.{LoosenFault}
 use Rattle.stn_loosen.specs.declared.fault.LoosenFault.TheVariants as loosening
 use Rattle.stn_records.specs.Content.{Content, no_content}
-use Rattle.stn_replica.specs.Held.{Held}
+use Rattle.stn_site.specs.Held.{Held}
 use Rattle.stn_loosen.specs.Failures.{loosen_failure}
 use Rattle.stn_store.specs.Store.{Entry, IsThere, IsTaken, IsLack, saved_too}
 use Rattle.stn_refusal.specs.declared.failure.Failure.{Failure}

@@ -3,7 +3,7 @@ use Rattle.std.specs.Prelude.{◌≡◌, ◌⊎◌, ℕ, ◌<◌, ◌==◌, if�
 use Rattle.std.specs.Io.KnownBytes.{Consumes, IsAtEnd, Keeps}
 use Rattle.stn_device.specs.Bytes.{most_bytes}
 use Rattle.stn_records.specs.Content.{Content}
-use Rattle.stn_replica.specs.Held.{Held}
+use Rattle.stn_site.specs.Held.{Held}
 use Rattle.stn_exec.specs.Script.{script_outcome}
 use Rattle.stn_exec.specs.Output.{WritesOutput, WritesOutputPart, CountsRefusals}
 use Rattle.stn_shell.specs.Commands.{IsAnswered}

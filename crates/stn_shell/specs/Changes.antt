@@ -2,10 +2,10 @@
 use Rattle.std.specs.Prelude.{◌≡◌, ◌⊎◌, ℕ, List, [], ◌∷◌, ◌++◌, codes, Option, Some, None, option_map}
 use Rattle.stn_net.specs.Difference.{Difference}
 use Rattle.stn_records.specs.Id.{SiteCounter, id_text}
-use Rattle.stn_replica.specs.Calls.{Leaves, added, amended, withdrew, took}
-use Rattle.stn_replica.specs.Held.{Held, difference, plain, executed}
-use Rattle.stn_replica.specs.Refusals.{add_refusal, amend_refusal, done_refusal, withdraw_refusal}
-use Rattle.stn_replica.specs.Failures.{replica_failure}
+use Rattle.stn_site.specs.Calls.{Leaves, added, amended, withdrew, took}
+use Rattle.stn_site.specs.Held.{Held, difference, plain, executed}
+use Rattle.stn_site.specs.Refusals.{add_refusal, amend_refusal, done_refusal, withdraw_refusal}
+use Rattle.stn_site.specs.Failures.{replica_failure}
 use Rattle.stn_store.specs.Store.{Entry, Opens, IsLack, saved_too}
 use Rattle.stn_refusal.specs.declared.failure.Failure.{Failure}
 use Rattle.stn_refusal.specs.declared.failure.Fault.{Fault}

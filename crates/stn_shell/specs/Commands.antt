@@ -7,10 +7,10 @@ use Rattle.stn_lift.specs.BaseBounds.{KeepsOrder}
 use Rattle.stn_lift.specs.PlanSource.{PlanSource, bare, files, base_of, base_bounds, steps_of, events_of, interfere_in_plan, planned_of}
 use Rattle.stn_records.specs.Content.{Content, no_content}
 use Rattle.stn_records.specs.Id.{SiteCounter, id_text}
-use Rattle.stn_replica.specs.Calls.{added, amended, withdrew, took}
-use Rattle.stn_replica.specs.Held.{Held, plain, executed}
-use Rattle.stn_replica.specs.Bounds.{all_bounds}
-use Rattle.stn_replica.specs.Report.{IsReport}
+use Rattle.stn_site.specs.Calls.{added, amended, withdrew, took}
+use Rattle.stn_site.specs.Held.{Held, plain, executed}
+use Rattle.stn_site.specs.Bounds.{all_bounds}
+use Rattle.stn_site.specs.Report.{IsReport}
 use Rattle.stn_questions.specs.declared.asked.Question.{Question}
 use Rattle.stn_questions.specs.Answer.{IsAnswer}
 use Rattle.stn_picture.specs.Picture.{IsPicture}

@@ -2,7 +2,7 @@
 use Rattle.std.specs.Prelude.{◌≡◌, ◌⊎◌, true, false, List, Option, Some}
 use Rattle.stn_lift.specs.PlanSource.{PlanSource}
 use Rattle.stn_records.specs.Content.{Content, join_contents}
-use Rattle.stn_replica.specs.Held.{Held, holding_state}
+use Rattle.stn_site.specs.Held.{Held, holding_state}
 use Rattle.stn_shell.specs.Refusals.{IsMergeRefusal}
 use Rattle.stn_line.specs.declared.words.SiteLog.{SiteLog}
 use Rattle.stn_store.specs.Store.{Entry, IsThere, Opens, IsUnopened, IsLack, saved_too}

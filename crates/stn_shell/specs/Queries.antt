@@ -1,7 +1,7 @@
 -- What is said of a log, and what refuses it.
 use Rattle.std.specs.Prelude.{◌≡◌, ℕ, List, Option, None}
-use Rattle.stn_replica.specs.Held.{Held}
-use Rattle.stn_replica.specs.Report.{IsReport}
+use Rattle.stn_site.specs.Held.{Held}
+use Rattle.stn_site.specs.Report.{IsReport}
 use Rattle.stn_questions.specs.Answer.{IsAnswer}
 use Rattle.stn_picture.specs.Picture.{IsPicture}
 use Rattle.stn_exec.specs.Dispatch.{IsNextText, IsRestText}

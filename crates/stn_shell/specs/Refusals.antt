@@ -3,15 +3,15 @@ use Rattle.std.specs.Prelude.{◌≡◌, ◌≢◌, ◌⊎◌, ℕ, ℤ, ◌+◌
 use Rattle.stn_lift.specs.PlanSource.{PlanSource, bare, files, base_of, events_of}
 use Rattle.stn_lift.specs.declared.fault.BaseFault.{BaseFault}
 use Rattle.stn_net.specs.Difference.{Difference}
-use Rattle.stn_replica.specs.Held.{Held}
-use Rattle.stn_replica.specs.Refusals.{add_refusal, amend_refusal, done_refusal, withdraw_refusal, take_refusal}
+use Rattle.stn_site.specs.Held.{Held}
+use Rattle.stn_site.specs.Refusals.{add_refusal, amend_refusal, done_refusal, withdraw_refusal, take_refusal}
 use Rattle.stn_net.specs.declared.bound.BoundFault.TheVariants.{NoEvent}
 use Rattle.stn_questions.specs.declared.asked.Question.{Question}
 use Rattle.stn_questions.specs.Answer.{AsksOfNoEvent}
 use Rattle.stn_exec.specs.Dispatch.{IsOverdueAt, IsRefusedRehearsal}
 use Rattle.stn_lift.specs.Failures.{base_failure}
 use Rattle.stn_net.specs.Failures.{bound_failure}
-use Rattle.stn_replica.specs.Failures.{replica_failure}
+use Rattle.stn_site.specs.Failures.{replica_failure}
 use Rattle.stn_loosen.specs.Failures.{loosen_failure}
 use Rattle.stn_store.specs.Store.{Entry, log_there, IsThere, Spells, Opens, IsMissing, IsUnopened}
 use Rattle.stn_shell.specs.Words.{no_such_word, amendment_read, bound_read, execution_read, id_read, time_read, times_read, question_read, slack_read}

@@ -6,7 +6,7 @@ use Rattle.stn_time.specs.TimeOf.{time_of}
 use Rattle.stn_time.specs.declared.reading.TimeFault.{TimeFault}
 use Rattle.stn_net.specs.Difference.{Difference}
 use Rattle.stn_records.specs.Id.{SiteCounter}
-use Rattle.stn_replica.specs.Held.{difference}
+use Rattle.stn_site.specs.Held.{difference}
 use Rattle.stn_questions.specs.declared.asked.Question.{Question}
 use Rattle.stn_questions.specs.declared.asked.Question.TheVariants as question
 use Rattle.stn_loosen.specs.Slack.{Slack}

@@ -2,7 +2,7 @@
 
 ghost use Rattle.std.specs.Prelude.{◌≡◌, ◌⊎◌, ◌+◌, length, pos, Some, None, MatchResult};
 ghost use Rattle.stn_lift.specs.PlanSource.{events_of};
-ghost use Rattle.stn_replica.specs.Report.{IsReport};
+ghost use Rattle.stn_site.specs.Report.{IsReport};
 ghost use Rattle.stn_questions.specs.Answer.{IsAnswer};
 ghost use Rattle.stn_net.specs.Schedule.{times_of};
 ghost use Rattle.stn_picture.specs.Picture.{IsPicture};

@@ -5,7 +5,7 @@ ghost use Rattle.stn_time.specs.Time.{horizon};
 ghost use Rattle.stn_net.specs.Schedule.{times_of};
 ghost use Rattle.stn_refusal.specs.declared.failure.Failure.TheVariants.{Failed};
 ghost use Rattle.stn_refusal.specs.declared.failure.Fault.TheVariants as lack;
-ghost use Rattle.stn_replica.specs.Held.{difference};
+ghost use Rattle.stn_site.specs.Held.{difference};
 ghost use Rattle.stn_questions.specs.declared.asked.Question.TheVariants.{Ready, Why};
 ghost use Rattle.stn_exec.specs.Effect.{and_then};
 ghost use Rattle.stn_shell.specs.Words.{no_such_word, bound_read, event_read, id_read, time_read, times_read, side_read, question_read, slack_of, slack_read};

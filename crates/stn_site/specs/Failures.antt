@@ -3,8 +3,8 @@ use Rattle.stn_refusal.specs.declared.code.Code.TheVariants as code
 use Rattle.stn_refusal.specs.declared.failure.Failure.{Failure}
 use Rattle.stn_refusal.specs.Refusals.{refused, refused_for, out_of_memory}
 use Rattle.stn_net.specs.Failures.{bound_failure}
-use Rattle.stn_replica.specs.declared.faults.ReplicaFault.{ReplicaFault}
-use Rattle.stn_replica.specs.declared.faults.ReplicaFault.TheVariants as replica
+use Rattle.stn_site.specs.declared.faults.ReplicaFault.{ReplicaFault}
+use Rattle.stn_site.specs.declared.faults.ReplicaFault.TheVariants as replica
 
 abbrev pub replica_failure : ReplicaFault → Failure
 replica_failure (replica.Bound fault) = bound_failure fault

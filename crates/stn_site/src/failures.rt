@@ -1,5 +1,5 @@
 ghost use Rattle.std.specs.Prelude.{◌≡◌};
-ghost use Rattle.stn_replica.specs.Failures.{replica_failure};
+ghost use Rattle.stn_site.specs.Failures.{replica_failure};
 
 use crate::faults::ReplicaFault;
 use stn_refusal::{Code, Failure, Fault};

@@ -4,8 +4,8 @@ use Rattle.std.specs.Bool.{then_some}
 use Rattle.std.specs.Option.{option_or}
 use Rattle.std.specs.Str.{bytes_eq}
 use Rattle.stn_text.specs.Bytes.{most_text}
-use Rattle.stn_replica.specs.Calls.{Accepted, Leaves}
-use Rattle.stn_replica.specs.Held.{Held}
+use Rattle.stn_site.specs.Calls.{Accepted, Leaves}
+use Rattle.stn_site.specs.Held.{Held}
 use Rattle.stn_log.specs.Log.{Log, log_held, log_text, IsLog}
 use Rattle.stn_log.specs.declared.fault.LoadFault.{LoadFault}
 use Rattle.stn_log.specs.Failures.{load_failure}

@@ -3,7 +3,7 @@ use Rattle.std.proofs.Common.{◌≡◌, ◌↔◌, ⊎_elim, inl, inr, true}
 use Rattle.stn_records.specs.Id.{SiteCounter}
 use Rattle.stn_records.specs.Content.{Content, Item, addition, withdrawal, replacement, HasItem, is_replaced}
 use Rattle.stn_records.proofs.Replaced.{replaced_by_withdrawal, replaced_by_entry}
-use Rattle.stn_replica.specs.Calls.{Replaces, CountAlike}
+use Rattle.stn_site.specs.Calls.{Replaces, CountAlike}
 
 -- what replaces an id, among some items, does so among more
 pub replaces_more : (Has More : Item → Type 0) (id : SiteCounter) → ((item : Item) → Has item → More item) → Replaces Has id → Replaces More id

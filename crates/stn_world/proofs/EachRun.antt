@@ -10,10 +10,10 @@ use Rattle.std.proofs.lemmas.List.{get_or_default}
 use Rattle.std.proofs.lemmas.List.Elements.{Contains-append_cases}
 use Rattle.stn_records.specs.Id.{SiteCounter}
 use Rattle.stn_records.specs.Content.{most_known, Content, Item, HasItem, is_known, is_replaced, is_live, known_in_either, dispute_contents, no_content, IsPart}
-use Rattle.stn_replica.specs.declared.faults.ReplicaFault.TheVariants.{Full}
-use Rattle.stn_replica.specs.Calls.{Replaces}
-use Rattle.stn_replica.specs.Refusals.{take_refusal}
-use Rattle.stn_replica.proofs.Refused.{agreed_take}
+use Rattle.stn_site.specs.declared.faults.ReplicaFault.TheVariants.{Full}
+use Rattle.stn_site.specs.Calls.{Replaces}
+use Rattle.stn_site.specs.Refusals.{take_refusal}
+use Rattle.stn_site.proofs.Refused.{agreed_take}
 use Rattle.stn_world.specs.Faults.{of_replica_fault}
 use Rattle.stn_world.specs.World.{World, HasSite, HasPacket, content_at, packet_at, held_at}
 use Rattle.stn_world.specs.Steps.{Step, added, finished, amended, withdrew, merged, sent, delivered, IsAccepted, stepped, run, Brings}

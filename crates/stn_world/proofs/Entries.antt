@@ -11,8 +11,8 @@ use Rattle.stn_records.specs.declared.record.Record.{Record}
 use Rattle.stn_records.specs.Content.{Content, Item, addition, withdrawal, replacement, HasItem, no_content, plain, with_record, with_amendment, with_tombstone, joined_contents, IsPart}
 use Rattle.stn_records.specs.ContentLaws.{contents_join, contents_undisputed}
 use Rattle.stn_records.proofs.Counters.{next_is_new}
-use Rattle.stn_replica.specs.Held.{executed}
-use Rattle.stn_replica.proofs.Items.{nothing_there, addition_items, withdrawal_brought}
+use Rattle.stn_site.specs.Held.{executed}
+use Rattle.stn_site.proofs.Items.{nothing_there, addition_items, withdrawal_brought}
 use Rattle.stn_world.specs.declared.faults.WorldFault.{WorldFault}
 use Rattle.stn_world.specs.World.{World, HasSite, opening_world, content_at, packet_at, next_id_at, with_content, make, amend, withdraw, send}
 use Rattle.stn_world.specs.Steps.{Step, added, finished, amended, withdrew, merged, sent, delivered, step_refusal, IsAccepted, after, stepped, run}

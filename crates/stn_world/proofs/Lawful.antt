@@ -16,9 +16,9 @@ use Rattle.std.proofs.lemmas.Bool.{or_right, or_cases}
 use Rattle.std.proofs.lemmas.List.Folds.{list_any-append}
 use Rattle.stn_records.proofs.KnownIds.{fewer, known_member}
 use Rattle.stn_records.proofs.Counters.{next_is_new}
-use Rattle.stn_replica.specs.Held.{executed}
-use Rattle.stn_replica.proofs.Items.{addition_items, amendment_items, withdrawal_brought, nothing_there}
-use Rattle.stn_replica.proofs.Refused.{accepted_named, accepted_known, executed_named, amended_named, amended_known}
+use Rattle.stn_site.specs.Held.{executed}
+use Rattle.stn_site.proofs.Items.{addition_items, amendment_items, withdrawal_brought, nothing_there}
+use Rattle.stn_site.proofs.Refused.{accepted_named, accepted_known, executed_named, amended_named, amended_known}
 use Rattle.stn_world.specs.declared.faults.WorldFault.{WorldFault}
 use Rattle.stn_world.specs.World.{World, HasSite, opening_world, content_at, packet_at, held_at, next_id_at, with_content, make, amend, withdraw, send}
 use Rattle.stn_world.specs.Steps.{Step, added, finished, amended, withdrew, merged, sent, delivered, step_refusal, IsAccepted, after, stepped, run}

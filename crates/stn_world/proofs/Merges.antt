@@ -3,10 +3,10 @@ use Rattle.std.proofs.Common.{◌≡◌, ℕ, Bool, true, false, ltb, ap, sym, s
 use Rattle.std.specs.Prelude.{unwrap_or}
 use Rattle.std.specs.Bool.{then_some}
 use Rattle.stn_records.specs.Content.{most_known, known_in_either}
-use Rattle.stn_replica.specs.declared.faults.ReplicaFault.{ReplicaFault}
-use Rattle.stn_replica.specs.declared.faults.ReplicaFault.TheVariants as replica_fault
-use Rattle.stn_replica.specs.Refusals.{take_refusal}
-use Rattle.stn_replica.proofs.Refused.{agreed_take}
+use Rattle.stn_site.specs.declared.faults.ReplicaFault.{ReplicaFault}
+use Rattle.stn_site.specs.declared.faults.ReplicaFault.TheVariants as replica_fault
+use Rattle.stn_site.specs.Refusals.{take_refusal}
+use Rattle.stn_site.proofs.Refused.{agreed_take}
 use Rattle.stn_world.specs.Faults.{of_replica_fault}
 use Rattle.stn_world.specs.World.{World, held_at, content_at, packet_at}
 use Rattle.stn_world.specs.Steps.{IsMergeFault, IsDeliveryFault}

@@ -3,9 +3,9 @@ use Rattle.std.proofs.Common.{◌≡◌, ◌≢◌, ℕ, zero, suc, ◌-◌, ◌
 use Rattle.std.proofs.lemmas.List.{length-set, set-get_or, get_or-set_same, get_or_append_left, get_or_default}
 use Rattle.stn_lift.specs.PlanSource.{PlanSource}
 use Rattle.stn_records.specs.Content.{Content, IsPart, no_content, joined_contents}
-use Rattle.stn_replica.specs.Held.{Held}
-use Rattle.stn_replica.specs.Calls.{took, Leaves}
-use Rattle.stn_replica.specs.Refusals.{take_refusal}
+use Rattle.stn_site.specs.Held.{Held}
+use Rattle.stn_site.specs.Calls.{took, Leaves}
+use Rattle.stn_site.specs.Refusals.{take_refusal}
 use Rattle.stn_world.specs.World.{World, HasSite, content_at, with_content, merge}
 use Rattle.stn_world.specs.Sites.{world_of}
 use Rattle.stn_world.specs.Whole.{IsSites, held_in, IsCoherent, IsSoundWorld}

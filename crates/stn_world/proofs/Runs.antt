@@ -5,8 +5,8 @@ use Rattle.std.proofs.lemmas.List.{length-set, get_or-set_other}
 use Rattle.stn_lift.specs.PlanSource.{PlanSource}
 use Rattle.stn_records.specs.Content.{Content, Item, HasItem, no_content, plain, with_record, with_amendment, with_tombstone, joined_contents, addition, withdrawal, replacement, IsPart}
 use Rattle.stn_records.specs.ContentLaws.{contents_join}
-use Rattle.stn_replica.specs.Held.{executed}
-use Rattle.stn_replica.proofs.Items.{nothing_there, record_brought, withdrawal_brought, regroup}
+use Rattle.stn_site.specs.Held.{executed}
+use Rattle.stn_site.proofs.Items.{nothing_there, record_brought, withdrawal_brought, regroup}
 use Rattle.stn_world.specs.declared.faults.WorldFault.{WorldFault}
 use Rattle.stn_world.specs.World.{World, HasSite, opening_world, content_at, packet_at, next_id_at, with_content}
 use Rattle.stn_world.specs.Steps.{Step, added, finished, amended, withdrew, merged, sent, delivered, after, stepped, run, step_refusal, IsAccepted, Brings, TookAt}

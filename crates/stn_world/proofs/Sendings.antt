@@ -7,7 +7,7 @@ use Rattle.stn_records.specs.Id.{SiteCounter}
 use Rattle.stn_records.specs.Content.{Content, AllHeld, part_of}
 use Rattle.stn_records.specs.declared.faults.PartFault.{PartFault}
 use Rattle.stn_records.specs.declared.faults.PartFault.TheVariants as part_fault
-use Rattle.stn_replica.specs.declared.faults.ReplicaFault.TheVariants as replica_fault
+use Rattle.stn_site.specs.declared.faults.ReplicaFault.TheVariants as replica_fault
 use Rattle.stn_world.specs.declared.faults.WorldFault.TheVariants.{Replica, Memory}
 use Rattle.stn_world.specs.Faults.{of_part_fault}
 use Rattle.stn_world.specs.Parts.{holds_all}

@@ -7,13 +7,13 @@ use Rattle.std.specs.List.{range_with_len}
 use Rattle.stn_lift.specs.PlanSource.{PlanSource}
 use Rattle.stn_records.specs.Content.{Content, IsPart, no_content, with_record, with_amendment, with_tombstone, dispute_contents, join_contents, joined_contents}
 use Rattle.stn_records.specs.ContentLaws.{contents_dispute, contents_undisputed, contents_repeat}
-use Rattle.stn_replica.specs.Held.{Held, next_id}
+use Rattle.stn_site.specs.Held.{Held, next_id}
 use Rattle.stn_net.specs.Difference.{Difference}
 use Rattle.stn_records.specs.Id.{SiteCounter}
 use Rattle.stn_records.specs.declared.record.Record.{Record}
-use Rattle.stn_replica.specs.Refusals.{add_refusal, done_refusal, amend_refusal, withdraw_refusal, take_refusal}
+use Rattle.stn_site.specs.Refusals.{add_refusal, done_refusal, amend_refusal, withdraw_refusal, take_refusal}
 use Rattle.stn_world.specs.World.{World, most_packets, HasSite, HasPacket, content_at, packet_at, held_at, next_id_at, with_content, make, amend, withdraw, send, deliver}
-use Rattle.stn_replica.specs.Calls.{Accepted, added, amended, withdrew, took, Leaves}
+use Rattle.stn_site.specs.Calls.{Accepted, added, amended, withdrew, took, Leaves}
 use Rattle.stn_world.specs.Whole.{IsSites, IsCoherent, IsSoundWorld}
 use Rattle.stn_records.specs.Id.{most_sites}
 use Rattle.stn_world.proofs.Whole.{coherent_at_first}

@@ -11,11 +11,11 @@ use Rattle.stn_records.specs.Content.{Content, Item, addition, withdrawal, repla
 use Rattle.stn_records.specs.ContentLaws.{ids_total, ids_exact, contents_join, contents_dispute, contents_undisputed}
 use Rattle.stn_records.proofs.Replaced.{replaced_cases}
 use Rattle.stn_records.proofs.Counters.{next_is_new}
-use Rattle.stn_replica.specs.Bounds.{RecordsName}
-use Rattle.stn_replica.specs.Held.{executed}
+use Rattle.stn_site.specs.Bounds.{RecordsName}
+use Rattle.stn_site.specs.Held.{executed}
 use Rattle.stn_records.proofs.Gets.{entries_from_get}
-use Rattle.stn_replica.proofs.Items.{nothing_there, addition_items, amendment_items, withdrawal_brought}
-use Rattle.stn_replica.proofs.Refused.{accepted_named, accepted_known, executed_named, amended_named, amended_known}
+use Rattle.stn_site.proofs.Items.{nothing_there, addition_items, amendment_items, withdrawal_brought}
+use Rattle.stn_site.proofs.Refused.{accepted_named, accepted_known, executed_named, amended_named, amended_known}
 use Rattle.stn_world.specs.World.{World, HasSite, opening_world, content_at, packet_at, held_at, next_id_at, with_content, make, amend, withdraw, send}
 use Rattle.stn_world.specs.Steps.{Step, added, finished, amended, withdrew, merged, sent, delivered, after, IsAccepted}
 use Rattle.stn_world.specs.Whole.{IsWhole, IsCoherent}

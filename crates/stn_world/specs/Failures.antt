@@ -2,7 +2,7 @@
 use Rattle.stn_refusal.specs.declared.code.Code.TheVariants as code
 use Rattle.stn_refusal.specs.declared.failure.Failure.{Failure}
 use Rattle.stn_refusal.specs.Refusals.{refused, out_of_memory}
-use Rattle.stn_replica.specs.Failures.{replica_failure}
+use Rattle.stn_site.specs.Failures.{replica_failure}
 use Rattle.stn_world.specs.declared.faults.SitesFault.{SitesFault}
 use Rattle.stn_world.specs.declared.faults.SitesFault.TheVariants as sites
 use Rattle.stn_world.specs.declared.faults.WorldFault.{WorldFault}

@@ -3,8 +3,8 @@ use Rattle.std.specs.Prelude.{ℕ}
 use Rattle.stn_records.specs.Id.{IsSite}
 use Rattle.stn_records.specs.declared.faults.PartFault.{PartFault}
 use Rattle.stn_records.specs.declared.faults.PartFault.TheVariants as part_fault
-use Rattle.stn_replica.specs.declared.faults.ReplicaFault.{ReplicaFault}
-use Rattle.stn_replica.specs.declared.faults.ReplicaFault.TheVariants as replica_fault
+use Rattle.stn_site.specs.declared.faults.ReplicaFault.{ReplicaFault}
+use Rattle.stn_site.specs.declared.faults.ReplicaFault.TheVariants as replica_fault
 use Rattle.stn_world.specs.declared.faults.SitesFault.{SitesFault}
 use Rattle.stn_world.specs.declared.faults.SitesFault.TheVariants as sites_fault
 use Rattle.stn_world.specs.declared.faults.WorldFault.{WorldFault}

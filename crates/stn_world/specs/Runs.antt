@@ -5,7 +5,7 @@ use Rattle.stn_lift.specs.PlanSource.{PlanSource}
 use Rattle.stn_records.specs.Id.{SiteCounter}
 use Rattle.stn_records.specs.declared.record.Record.{Record}
 use Rattle.stn_records.specs.Content.{Content, Item, addition, withdrawal, replacement, HasItem}
-use Rattle.stn_replica.specs.Held.{plain, executed}
+use Rattle.stn_site.specs.Held.{plain, executed}
 use Rattle.stn_world.specs.World.{World, opening_world, next_id_at, content_at}
 use Rattle.stn_world.specs.Steps.{Step, added, finished, amended, withdrew, step_refusal, stepped, run}
 

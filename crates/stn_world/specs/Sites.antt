@@ -2,7 +2,7 @@
 use Rattle.std.specs.Prelude.{List, map}
 use Rattle.stn_lift.specs.PlanSource.{PlanSource}
 use Rattle.stn_records.specs.Content.{Content}
-use Rattle.stn_replica.specs.Held.{Held}
+use Rattle.stn_site.specs.Held.{Held}
 use Rattle.stn_world.specs.World.{World}
 
 -- what the replicas hold, in order of site

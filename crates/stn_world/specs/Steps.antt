@@ -5,10 +5,10 @@ use Rattle.std.specs.Option.{option_or}
 use Rattle.stn_net.specs.Difference.{Difference}
 use Rattle.stn_records.specs.Id.{SiteCounter}
 use Rattle.stn_records.specs.Content.{Content, Item, addition, withdrawal, replacement, HasItem}
-use Rattle.stn_replica.specs.declared.faults.ReplicaFault.TheVariants as replica_fault
-use Rattle.stn_replica.specs.Held.{plain, executed}
-use Rattle.stn_replica.specs.Calls.{CountAlike}
-use Rattle.stn_replica.specs.Refusals.{add_refusal, done_refusal, amend_refusal, withdraw_refusal, take_refusal}
+use Rattle.stn_site.specs.declared.faults.ReplicaFault.TheVariants as replica_fault
+use Rattle.stn_site.specs.Held.{plain, executed}
+use Rattle.stn_site.specs.Calls.{CountAlike}
+use Rattle.stn_site.specs.Refusals.{add_refusal, done_refusal, amend_refusal, withdraw_refusal, take_refusal}
 use Rattle.stn_world.specs.declared.faults.WorldFault.{WorldFault}
 use Rattle.stn_world.specs.declared.faults.WorldFault.TheVariants.{NoSite, TooManyPackets, NoPacket, Replica, Memory}
 use Rattle.stn_world.specs.Faults.{of_replica_fault}

@@ -7,7 +7,7 @@ use Rattle.stn_lift.specs.PlanSource.{PlanSource, bare, events_of}
 use Rattle.stn_records.specs.declared.record.Record.{Record}
 use Rattle.stn_records.specs.Id.{most_sites, SiteCounter}
 use Rattle.stn_records.specs.Content.{Content, no_content, addition, withdrawal, replacement, HasItem, IsPart, AllAmend}
-use Rattle.stn_replica.specs.Held.{Held}
+use Rattle.stn_site.specs.Held.{Held}
 use Rattle.stn_world.specs.World.{World, most_packets, content_at, packet_at}
 use Rattle.stn_world.specs.Sites.{world_of}
 

@@ -6,7 +6,7 @@ use Rattle.stn_lift.specs.PlanSource.{PlanSource, coded_source}
 use Rattle.stn_records.specs.declared.record.Record.{Record}
 use Rattle.stn_records.specs.Id.{SiteCounter}
 use Rattle.stn_records.specs.Content.{Content, coded_content, no_content, with_record, with_tombstone, with_amendment, joined_contents}
-use Rattle.stn_replica.specs.Held.{Held, next_id}
+use Rattle.stn_site.specs.Held.{Held, next_id}
 
 -- a program keeps at most so many packets
 abbrev pub most_packets : ℕ

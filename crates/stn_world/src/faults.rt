@@ -4,7 +4,7 @@ ghost use Rattle.stn_world.specs.declared.faults.SitesFault.TheVariants.{Memory}
 
 use std::alloc::{AllocError, AllocFailed};
 use stn_records::PartFault;
-use stn_replica::ReplicaFault;
+use stn_site::ReplicaFault;
 use thiserror::Error;
 
 /// Why there is no world of so many sites. The faults come in this order.

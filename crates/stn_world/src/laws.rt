@@ -3,13 +3,13 @@ ghost use Rattle.std.specs.List.{Contains};
 ghost use Rattle.stn_lift.specs.PlanSource.{PlanSource};
 ghost use Rattle.stn_records.specs.Id.{SiteCounter};
 ghost use Rattle.stn_records.specs.Content.{most_known, Content, Item, HasItem, is_known, is_live, dispute_contents, IsPart, CountsSame};
-ghost use Rattle.stn_replica.specs.Calls.{Replaces};
-ghost use Rattle.stn_replica.specs.Report.{IsReport};
+ghost use Rattle.stn_site.specs.Calls.{Replaces};
+ghost use Rattle.stn_site.specs.Report.{IsReport};
 ghost use Rattle.stn_world.specs.World.{World, HasSite, HasPacket, opening_world, content_at, packet_at};
 ghost use Rattle.stn_world.specs.Steps.{Step, merged, delivered, IsAccepted, run, Brings, TookAt, TookSameAt, TookSameItemsAt};
 ghost use Rattle.stn_world.specs.Runs.{Making, WasMade, records_made, states_of, HasEntries, InEachRun};
 
-use stn_replica::{one_report, same_counts_same_bytes};
+use stn_site::{one_report, same_counts_same_bytes};
 
 /// The law that what a site of a world holds is the union of what it took: after any run it has an
 /// addition, a withdrawal or an entry of an amendment exactly where one of the steps that were accepted

@@ -2,9 +2,9 @@ ghost use Rattle.std.specs.Prelude.{◌≡◌, ◌≢◌, ◌+◌, true, ◌-◌
 ghost use Rattle.std.specs.FinMap.{contains_key};
 ghost use Rattle.std.specs.Rc.{rc_value};
 ghost use Rattle.stn_records.specs.Id.{most_sites, IsSite};
-ghost use Rattle.stn_replica.specs.Held.{difference};
-ghost use Rattle.stn_replica.specs.Calls.{took, Leaves};
-ghost use Rattle.stn_replica.specs.Refusals.{take_refusal};
+ghost use Rattle.stn_site.specs.Held.{difference};
+ghost use Rattle.stn_site.specs.Calls.{took, Leaves};
+ghost use Rattle.stn_site.specs.Refusals.{take_refusal};
 ghost use Rattle.stn_records.specs.Content.{no_content, part_of, IsPart};
 ghost use Rattle.stn_world.specs.declared.faults.WorldFault.TheVariants.{NoSite, TooManyPackets, NoPacket};
 ghost use Rattle.stn_world.specs.Faults.{IsSitesFault};
@@ -20,7 +20,8 @@ use std::rc::Rc;
 use stn_lift::Base;
 use stn_net::Event;
 use stn_records::{Id, MOST_SITES, Records, Site};
-use stn_replica::{Replica, ReplicaFault};
+use stn_replica::Replica;
+use stn_site::ReplicaFault;
 use stn_time::{Memory, Ms};
 
 /// The greatest number of a packet.

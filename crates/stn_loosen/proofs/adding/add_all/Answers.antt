@@ -1,7 +1,7 @@
 use Rattle.std.proofs.Common.{◌≡◌, ◌+◌, [], ◌∷◌, ◌++◌, take, refl, sym, ap, subst, ◌∙◌}
 use Rattle.std.proofs.lemmas.List.{take_more}
 use Rattle.stn_records.specs.Content.{next_counter, with_record}
-use Rattle.stn_replica.specs.Held.{plain}
+use Rattle.stn_site.specs.Held.{plain}
 use Rattle.stn_loosen.specs.Numbered.{Holds}
 use Rattle.stn_loosen.proofs.NumberedStates.{holds_none, holds_more}
 use Rattle.stn_loosen.proofs.adding.add_all.Goals as goal

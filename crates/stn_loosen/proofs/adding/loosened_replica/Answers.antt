@@ -4,7 +4,7 @@ use Rattle.stn_net.specs.Difference.{Difference}
 use Rattle.stn_net.specs.Schedule.{IsSchedule}
 use Rattle.stn_lift.specs.BaseBounds.{KeepsOrder}
 use Rattle.stn_lift.specs.PlanSource.{bare, steps_of, events_of, interfere_in_plan, planned_of}
-use Rattle.stn_replica.specs.Bounds.{all_bounds}
+use Rattle.stn_site.specs.Bounds.{all_bounds}
 use Rattle.stn_loosen.specs.Loosened.{bounds_with, orders_of, Imply}
 use Rattle.stn_loosen.proofs.NumberedStates.{all_are}
 use Rattle.stn_loosen.proofs.adding.loosened_replica.Goals as goal

@@ -1,6 +1,6 @@
 use Rattle.std.proofs.Common.{subst}
 use Rattle.stn_lift.specs.PlanSource.{PlanSource}
-use Rattle.stn_replica.proofs.Items.{same_counts}
+use Rattle.stn_site.proofs.Items.{same_counts}
 use Rattle.stn_picture.specs.Picture.{IsPicture}
 use Rattle.stn_picture.proofs.OnePicture.{counted_picture}
 use Rattle.stn_picture.proofs.laws.same_pictures.Goals as goal

@@ -1,5 +1,5 @@
 use Rattle.std.proofs.lemmas.Result.{IfOk-weaker}
-use Rattle.stn_replica.specs.Bounds.{all_bounds}
+use Rattle.stn_site.specs.Bounds.{all_bounds}
 use Rattle.stn_picture.proofs.Drawing.{windows_picture}
 use Rattle.stn_picture.proofs.picture.drawn_of.Goals as goal
 

@@ -1,6 +1,6 @@
 use Rattle.std.proofs.Common.{◌++◌, ◌∙◌, refl, ap}
 use Rattle.std.proofs.lemmas.Result.{IfOk-weaker, err_from_is_err_and}
-use Rattle.stn_replica.proofs.Printing.{appended_ok, kept_err}
+use Rattle.stn_site.proofs.Printing.{appended_ok, kept_err}
 use Rattle.stn_picture.proofs.picture.print_picture.Goals as goal
 
 pub returns-in_err-text : goal.returns-in_err-text

@@ -1,7 +1,7 @@
 use Rattle.std.proofs.Common.{◌≡◌, ◌+◌, ◌≤◌, ◌++◌, [], ◌∷◌, slice_index_or, subst, sym, ap, ◌∙◌, false, arith}
 use Rattle.stn_net.specs.Event.{most_events}
-use Rattle.stn_replica.specs.Report.{is_done}
-use Rattle.stn_replica.proofs.Sound.{held_is}
+use Rattle.stn_site.specs.Report.{is_done}
+use Rattle.stn_site.proofs.Values.{held_is}
 use Rattle.stn_picture.specs.Spans.{AreSpans}
 use Rattle.stn_picture.proofs.Drawing.{one_more_span}
 use Rattle.stn_picture.proofs.picture.spans_of.Goals as goal

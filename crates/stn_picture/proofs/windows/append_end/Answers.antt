@@ -1,5 +1,5 @@
 use Rattle.std.proofs.Common.{◌+◌, ◌*◌, ◌++◌, ◌∙◌, ap, codes, decimal}
-use Rattle.stn_replica.specs.Lines.{window_line}
+use Rattle.stn_site.specs.Lines.{window_line}
 use Rattle.stn_picture.specs.Picture.{cut_text}
 use Rattle.stn_picture.proofs.Grown.{then, last}
 use Rattle.stn_picture.proofs.windows.append_end.Goals as goal

@@ -1,6 +1,6 @@
 use Rattle.std.proofs.Common.{subst}
 use Rattle.stn_lift.specs.PlanSource.{PlanSource}
-use Rattle.stn_replica.proofs.Items.{same_counts}
+use Rattle.stn_site.proofs.Items.{same_counts}
 use Rattle.stn_questions.specs.Answer.{IsAnswer}
 use Rattle.stn_questions.proofs.Counted.{counted_answer}
 use Rattle.stn_questions.proofs.OneAnswer.{same_answer}

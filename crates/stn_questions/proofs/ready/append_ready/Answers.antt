@@ -5,9 +5,9 @@ use Rattle.std.specs.List.{flat_map}
 use Rattle.stn_net.specs.Schedule.{HasSchedule}
 use Rattle.stn_matrix.specs.Tightest.{IsExact}
 use Rattle.stn_lift.specs.PlanSource.{events_of}
-use Rattle.stn_replica.specs.Bounds.{all_bounds}
-use Rattle.stn_replica.specs.Dispatch.{done_events}
-use Rattle.stn_replica.proofs.Printing.{if_some}
+use Rattle.stn_site.specs.Bounds.{all_bounds}
+use Rattle.stn_site.specs.Report.{done_events}
+use Rattle.stn_site.proofs.Printing.{if_some}
 use Rattle.stn_replica.proofs.Rest.{flags_are_done}
 use Rattle.stn_questions.specs.Ready.{AreReadyEvents, ready_line}
 use Rattle.stn_questions.proofs.ready.append_ready.Goals as goal

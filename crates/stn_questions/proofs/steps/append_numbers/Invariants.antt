@@ -1,6 +1,6 @@
 use Rattle.std.proofs.Common.{◌≡◌, ◌++◌, decimal}
 use Rattle.std.specs.List.{flat_map, range_with_len}
-use Rattle.stn_replica.specs.Lines.{line}
+use Rattle.stn_site.specs.Lines.{line}
 use Rattle.stn_questions.proofs.steps.append_numbers.Given as goal
 
 abbrev pub invariant-loop-before : goal.invariant-loop-before

@@ -2,7 +2,7 @@ use Rattle.std.proofs.Common.{ℕ, List, [], ◌∷◌, ◌++◌, ◌∙◌, map
 use Rattle.std.proofs.lemmas.Result.{IfOk-weaker}
 use Rattle.stn_time.specs.Text.{printed}
 use Rattle.stn_plan.specs.Views.{word_of}
-use Rattle.stn_replica.proofs.Printing.{appended_ok}
+use Rattle.stn_site.proofs.Printing.{appended_ok}
 use Rattle.stn_questions.specs.Steps.{words_text}
 use Rattle.stn_questions.proofs.steps.append_step_line.Goals as goal
 

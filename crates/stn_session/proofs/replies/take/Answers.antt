@@ -1,7 +1,7 @@
 use Rattle.std.proofs.Common.{◌++◌, inr, ap, ◌∙◌}
 use Rattle.std.proofs.lemmas.Result.{err_from_is_err_and}
 use Rattle.stn_records.specs.Content.{Content}
-use Rattle.stn_replica.specs.Held.{Held}
+use Rattle.stn_site.specs.Held.{Held}
 use Rattle.stn_wire.specs.Frame.{spelling, records}
 use Rattle.stn_session.proofs.Taken.{state_taken, taken_answered, refusal_answered}
 use Rattle.stn_session.proofs.replies.take.Goals as goal

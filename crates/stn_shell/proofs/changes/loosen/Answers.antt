@@ -3,8 +3,8 @@ use Rattle.std.proofs.lemmas.Result.{err_from_is_err_and}
 use Rattle.stn_net.specs.Schedule.{IsSchedule}
 use Rattle.stn_lift.specs.BaseBounds.{KeepsOrder}
 use Rattle.stn_lift.specs.PlanSource.{PlanSource, bare, base_of, base_bounds, steps_of, events_of, interfere_in_plan, planned_of, plan_source}
-use Rattle.stn_replica.specs.Held.{Held}
-use Rattle.stn_replica.specs.Bounds.{all_bounds}
+use Rattle.stn_site.specs.Held.{Held}
+use Rattle.stn_site.specs.Bounds.{all_bounds}
 use Rattle.stn_shell.specs.Commands.{IsLoosened}
 use Rattle.stn_shell.specs.Refusals.{IsLooseningRefusal}
 use Rattle.stn_shell.proofs.Made.{loosening_failed}

@@ -1,6 +1,6 @@
 use Rattle.std.proofs.Common.{refl, ap, inl, ◌∙◌}
 use Rattle.std.proofs.lemmas.Result.{err_from_is_err_and}
-use Rattle.stn_replica.specs.Held.{Held}
+use Rattle.stn_site.specs.Held.{Held}
 use Rattle.stn_shell.proofs.Joined.{saved_session, unkept_session}
 use Rattle.stn_shell.proofs.connections.serve_saved.Goals as goal
 

@@ -1,6 +1,6 @@
 use Rattle.std.proofs.Common.{refl, subst, inl, inr, ⊎_elim}
 use Rattle.std.proofs.lemmas.Result.{IfErr-weaker, err_from_is_err_and}
-use Rattle.stn_replica.specs.Calls.{took}
+use Rattle.stn_site.specs.Calls.{took}
 use Rattle.stn_store.specs.Store.{IsThere}
 use Rattle.stn_store.proofs.Lacks.{lack_of_memory}
 use Rattle.stn_shell.proofs.Joined.{join_taken, source_stays, site_stays}

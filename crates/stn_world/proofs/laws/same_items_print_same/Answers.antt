@@ -1,6 +1,6 @@
 use Rattle.std.proofs.Common.{refl}
 use Rattle.stn_records.specs.ContentLaws.{contents_join}
-use Rattle.stn_replica.proofs.OneReport.{same_reports}
+use Rattle.stn_site.proofs.OneReport.{same_reports}
 use Rattle.stn_world.specs.World.{content_at}
 use Rattle.stn_world.proofs.laws.same_items_print_same.Goals as goal
 

@@ -1,8 +1,8 @@
 use Rattle.std.proofs.Common.{◌<◌, ◌≡◌, ap, sym, ◌∙◌, get_or, length, arith}
 use Rattle.std.specs.Prelude.{unwrap_or}
 use Rattle.std.proofs.lemmas.Result.{on_ok_weaker, on_err_weaker, IfErr-weaker}
-use Rattle.stn_replica.specs.Held.{Held}
-use Rattle.stn_replica.specs.declared.faults.ReplicaFault.TheVariants.{Memory}
+use Rattle.stn_site.specs.Held.{Held}
+use Rattle.stn_site.specs.declared.faults.ReplicaFault.TheVariants.{Memory}
 use Rattle.stn_world.proofs.Pair.{one_front, one_back, changed_front, changed_back, kept_front, kept_back, left_front, left_back, moved_refusal, moved_part}
 use Rattle.stn_world.proofs.world.take_from.Goals as goal
 

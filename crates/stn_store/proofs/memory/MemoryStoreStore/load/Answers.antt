@@ -3,7 +3,7 @@ use Rattle.std.specs.Prelude.{◌⊎◌, IfOk}
 use Rattle.std.proofs.lemmas.Result.{IfErr-weaker}
 use Rattle.stn_log.specs.Log.{log_held}
 use Rattle.stn_log.specs.declared.fault.LoadFault.{LoadFault}
-use Rattle.stn_replica.specs.Held.{Held}
+use Rattle.stn_site.specs.Held.{Held}
 use Rattle.stn_store.specs.Bytes.{IsLogIn}
 use Rattle.stn_log.specs.Failures.{load_failure}
 use Rattle.stn_store.specs.Memory.{entries_of}

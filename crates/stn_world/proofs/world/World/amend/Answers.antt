@@ -1,9 +1,9 @@
 use Rattle.std.proofs.Common.{◌≡◌, refl, sym, ap, subst, ◌∙◌, arith}
 use Rattle.std.specs.Prelude.{option_map, unwrap_or}
 use Rattle.std.proofs.lemmas.Result.{err_from_is_err_and}
-use Rattle.stn_replica.specs.Held.{difference}
-use Rattle.stn_replica.specs.Refusals.{amend_refusal}
-use Rattle.stn_replica.specs.declared.faults.ReplicaFault.TheVariants as replica_fault
+use Rattle.stn_site.specs.Held.{difference}
+use Rattle.stn_site.specs.Refusals.{amend_refusal}
+use Rattle.stn_site.specs.declared.faults.ReplicaFault.TheVariants as replica_fault
 use Rattle.stn_world.specs.declared.faults.WorldFault.TheVariants.{Memory}
 use Rattle.stn_world.specs.Faults.{of_replica_fault}
 use Rattle.stn_world.specs.Steps.{amended, IsAccepted}

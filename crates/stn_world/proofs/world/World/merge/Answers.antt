@@ -2,8 +2,8 @@ use Rattle.std.proofs.Common.{◌≡◌, ◌<◌, length, refl, sym, ap, subst, 
 use Rattle.std.specs.Prelude.{unwrap_or}
 use Rattle.std.proofs.lemmas.Bool.{false≢true}
 use Rattle.std.proofs.lemmas.Result.{err_from_is_err_and}
-use Rattle.stn_replica.specs.Refusals.{take_refusal}
-use Rattle.stn_replica.specs.declared.faults.ReplicaFault.TheVariants as replica_fault
+use Rattle.stn_site.specs.Refusals.{take_refusal}
+use Rattle.stn_site.specs.declared.faults.ReplicaFault.TheVariants as replica_fault
 use Rattle.stn_world.specs.Steps.{merged, IsAccepted, IsMergeFault}
 use Rattle.stn_world.specs.World.{HasSite, held_at, content_at}
 use Rattle.stn_world.specs.Whole.{IsCoherent}

@@ -2,7 +2,7 @@ use Rattle.std.proofs.Common.{◌≡◌, ℕ, ◌+◌, suc, ◌++◌, List, [], 
 use Rattle.std.proofs.lemmas.Grind.{common_steps}
 use Rattle.std.proofs.lemmas.Result.{err_from_is_err_and}
 use Rattle.std.specs.Rc.{rc_value}
-use Rattle.stn_replica.specs.Held.{Held}
+use Rattle.stn_site.specs.Held.{Held}
 use Rattle.stn_records.specs.Content.{Content, no_content}
 use Rattle.stn_world.specs.Sites.{contents_of}
 use Rattle.stn_world.specs.Whole.{IsSoundWorld}

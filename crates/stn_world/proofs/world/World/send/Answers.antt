@@ -2,7 +2,7 @@ use Rattle.std.proofs.Common.{◌≡◌, List, refl, sym, ap, subst, ◌∙◌, 
 use Rattle.std.specs.Rc.{rc_value}
 use Rattle.std.proofs.lemmas.Result.{err_from_is_err_and}
 use Rattle.stn_records.specs.Content.{Content, part_of}
-use Rattle.stn_replica.proofs.Sound.{ok_not_err}
+use Rattle.stn_site.proofs.Values.{ok_not_err}
 use Rattle.stn_world.specs.Parts.{holds_all}
 use Rattle.stn_world.specs.Steps.{sent}
 use Rattle.stn_world.specs.Sites.{world_of}
