@@ -1,9 +1,11 @@
-use Rattle.std.proofs.Common.{◌++◌, inr, ap, ◌∙◌}
+use Rattle.std.proofs.Common.{◌≡◌, ◌++◌, Some, Ok, inr, ap, sym, ◌∙◌}
+use Rattle.std.specs.Result.{result_ok}
 use Rattle.std.proofs.lemmas.Result.{err_from_is_err_and}
+use Rattle.stn_refusal.specs.Refusals.{code_of}
 use Rattle.stn_records.specs.Content.{Content}
 use Rattle.stn_site.specs.Held.{Held}
 use Rattle.stn_wire.specs.Frame.{spelling, records}
-use Rattle.stn_session.proofs.Taken.{state_taken, taken_answered, refusal_answered}
+use Rattle.stn_session.proofs.Taken.{refused_code, state_taken, taken_answered, refusal_answered}
 use Rattle.stn_session.proofs.replies.take.Goals as goal
 
 pub returns-in_err-append_state-in-Ok : goal.returns-in_err-append_state-in-Ok
@@ -31,9 +33,12 @@ returns-in_ok-append_state-in-Ok g c =
 pub returns-in_ok-append_refused-in-Err : goal.returns-in_ok-append_refused-in-Err
 returns-in_ok-append_refused-in-Err g c =
     let kept = c.in-Err.ensures.kept in
+    let coded : c.ok_or.result ≡ Ok c.in_ok-ok_or-in-Err.field-0 = rw c.in_ok-ok_or-in-Err.is at c.branch-ok_or.ensures in
+    let given : refused_code c.in-Err.fault ≡ Some c.in_ok-ok_or-in-Err.field-0 =
+    ap code_of (sym c.from.ensures) ∙ (sym c.code.ensures ∙ (c.ok_or.ensures.ok_part ∙ ap result_ok coded)) in
     record {
       source = ap (λ (h : Held). h.source) kept;
       site = ap (λ (h : Held). h.site) kept;
-      answered = refusal_answered c.args.replica.now c.take.new.self c.args.theirs.now _ _ c.in-Err.fault _ c.in-Err.ensures.fault c.in_ok-code_of-in-Err.ensures kept c.in_ok-append_refused-in-Err.ensures;
+      answered = refusal_answered c.args.replica.now c.take.new.self c.args.theirs.now _ _ c.in-Err.fault _ c.in-Err.ensures.fault given kept c.in_ok-append_refused-in-Err.ensures;
       left = tt;
     }
