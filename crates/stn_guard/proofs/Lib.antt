@@ -1,0 +1,9 @@
+pub mod Owned
+pub mod Gluing
+pub mod Split
+pub mod Made
+pub mod OneGuard
+pub mod Steps
+pub mod Restricting
+pub mod Named
+pub mod Whole

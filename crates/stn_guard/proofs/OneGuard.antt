@@ -1,0 +1,62 @@
+-- One guard is made of bounds and owners.
+use Rattle.std.proofs.Common.{◌≡◌, ℕ, ◌+◌, ◌<◌, ℤ, List, [], ◌∷◌, ◌++◌, length, get_or, map, refl, sym, ap, subst, ◌∙◌, arith}
+use Rattle.std.specs.Prelude.{All, filter, ◌&&◌}
+use Rattle.std.specs.List.{range_with_len}
+use Rattle.std.proofs.lemmas.List.{same_lists}
+use Rattle.std.proofs.lemmas.List.Elements.{All-head, All-tail, All-weaker}
+use Rattle.std.proofs.lemmas.List.FromFn.{length-map-range_with_len, get_or-map-range_with_len}
+use Rattle.stn_net.specs.Difference.{Difference}
+use Rattle.stn_net.specs.Schedule.{HasSchedule}
+use Rattle.stn_windows.specs.Window.{IsWindow}
+use Rattle.stn_windows.proofs.Windows.{one_window}
+use Rattle.stn_guard.specs.declared.splitting.Arc.{Arc}
+use Rattle.stn_guard.specs.Making.{shared_arcs, window_bound, split_of, is_named, says_more, IsSplit, AreSplit, AreWindows, IsGuardOf}
+use Rattle.stn_guard.proofs.Split.{Implies, split_left, are_left}
+use Rattle.stn_guard.proofs.Made.{arcs_implied}
+
+pub one_pair : (bounds : List Difference) (event : ℕ) (one other : ℤ × ℤ) → HasSchedule bounds → IsWindow bounds event one.0 one.1 → IsWindow bounds event other.0 other.1 → one ≡ other
+one_pair bounds event one other possible these those =
+    let same = one_window bounds event one.0 one.1 other.0 other.1 possible these those in
+    let pair : (one.0, one.1) ≡ (other.0, other.1) = rw (same.0, same.1) refl in
+    pair
+
+one_split : (bounds : List Difference) (arc : Arc) (one other : List Difference) → HasSchedule bounds → IsSplit bounds arc one → IsSplit bounds arc other → one ≡ other
+one_split bounds arc one other possible these those =
+    let from = one_pair bounds arc.from these.from those.from possible these.from_window those.from_window in
+    let to = one_pair bounds arc.to these.to those.to possible these.to_window those.to_window in
+    these.split_is ∙ ap (λ pair. bounds ++ split_of arc pair these.to) from ∙ ap (λ pair. bounds ++ split_of arc those.from pair) to ∙ sym those.split_is
+
+one_end : (arcs : List Arc) (bounds one other : List Difference) → HasSchedule bounds → All (Implies bounds) arcs → AreSplit bounds arcs one → AreSplit bounds arcs other → one ≡ other
+one_end [] bounds one other possible implied these those = these ∙ sym those
+one_end (arc ∷ arcs) bounds one other possible implied these those =
+    let next = those.0 in
+    let same : these.0 ≡ next = one_split bounds arc these.0 next possible these.1 those.1 in
+    let first = split_left bounds arc next those.1 possible (All-head (Implies bounds) arc arcs implied) in
+    let still : All (Implies next) arcs = All-weaker (Implies bounds) (Implies next) (λ other given time schedule. given time (first.before time schedule)) arcs (All-tail (Implies bounds) arc arcs implied) in
+    one_end arcs next one other first.possible still (subst (λ n. AreSplit n arcs one) same these.2) those.2
+
+one_list : (owner : ℕ → ℕ) (events : ℕ) (bounds within one other : List Difference) → HasSchedule within
+    → AreWindows owner events bounds within one → AreWindows owner events bounds within other → one ≡ other
+one_list owner events bounds within one other possible these those =
+    these.windows_are ∙ ap (filter (λ bound. is_named owner bounds bound.to && says_more bound)) (same_lists (map first (range_with_len 1 events)) (map second (range_with_len 1 events))
+    (length-map-range_with_len first 1 events ∙ sym (length-map-range_with_len second 1 events))
+    (λ k d h.
+    let few : k < events = omega (arith, length-map-range_with_len first 1 events) in
+    get_or-map-range_with_len first 1 events k (1 + k) d few refl
+    ∙ ap (window_bound (1 + k)) (one_pair within (1 + k) (these.ends (1 + k)) (those.ends (1 + k)) possible (these.true_ends (1 + k) (omega arith)) (those.true_ends (1 + k) (omega arith)))
+    ∙ sym (get_or-map-range_with_len second 1 events k (1 + k) d few refl)))
+    ∙ sym those.windows_are
+  where
+    first : ℕ → Difference
+    first event = window_bound event (these.ends event)
+
+    second : ℕ → Difference
+    second event = window_bound event (those.ends event)
+
+pub one_made : (owner : ℕ → ℕ) (events : ℕ) (bounds one other : List Difference) → HasSchedule bounds
+    → IsGuardOf owner events bounds one → IsGuardOf owner events bounds other → one ≡ other
+one_made owner events bounds one other possible these those =
+    let implied = arcs_implied owner bounds in
+    let same : these.split ≡ those.split = one_end (shared_arcs owner bounds) bounds these.split those.split possible implied these.are_split those.are_split in
+    let left = are_left bounds (shared_arcs owner bounds) those.split those.are_split possible implied in
+    one_list owner events bounds those.split one other left.possible (subst (λ s. AreWindows owner events bounds s one) same these.windows) those.windows

@@ -1,0 +1,126 @@
+-- The windows of a matrix in which all shared bounds were split are the guard.
+use Rattle.std.proofs.Common.{◌≡◌, ℕ, zero, suc, take, replicate, ◌+◌, ◌<◌, ◌≤◌, ℤ, Bool, false, cond, ◌&&◌, ◌||◌, eqb, List, [], ◌∷◌, ◌++◌, length, get_or, map, refl, sym, ap, subst, ◌∙◌, arith}
+use Rattle.std.specs.Prelude.{All, filter, Result, Ok, Err, IfOk}
+use Rattle.std.specs.List.{range_with_len}
+use Rattle.std.proofs.lemmas.List.{length-take, take-append-le}
+use Rattle.std.proofs.lemmas.List.Elements.{All-head, All-tail, All-weaker}
+use Rattle.std.proofs.lemmas.List.Folds.{list_any-append}
+use Rattle.std.proofs.lemmas.List.FromFn.{length-map-range_with_len, get_or-map-range_with_len}
+use Rattle.stn_net.specs.Difference.{Difference, NamesEvents}
+use Rattle.stn_net.specs.Horizon.{horizon_bounds}
+use Rattle.stn_net.proofs.Horizons.{length-horizon_bounds}
+use Rattle.stn_matrix.specs.Table.{Table, far_of}
+use Rattle.stn_matrix.specs.Tightest.{IsExact}
+use Rattle.stn_windows.proofs.Windows.{window_of_exact}
+use Rattle.stn_guard.specs.declared.splitting.Arc.{Arc}
+use Rattle.stn_guard.specs.Owners.{is_shared}
+use Rattle.stn_guard.specs.Making.{shared_arcs, window_bound, is_named, says_more, IsGuardOf}
+use Rattle.stn_guard.specs.Splitting.{HasOwners, CanSplit, Splits, ends_of, is_kept, windows_of}
+use Rattle.stn_guard.proofs.Steps.{some_front, some_behind, splits_on, can_shared, arcs_append}
+use Rattle.stn_guard.proofs.Owned.{all_front, all_behind}
+
+-- tests that agree on the elements of a list keep the same ones
+filter_same : {X : Type 0} (p q : X → Bool) (xs : List X) → All (λ x. p x ≡ q x) xs → filter p xs ≡ filter q xs
+filter_same p q [] same = refl
+filter_same p q (x ∷ xs) same =
+    ap (λ t. cond t (x ∷ filter p xs) (filter p xs)) (All-head (λ y. p y ≡ q y) x xs same)
+    ∙ ap (λ rest. cond (q x) (x ∷ rest) rest) (filter_same p q xs (All-tail (λ y. p y ≡ q y) x xs same))
+
+-- these are the events that a shared bound names
+abbrev pub AreNamed : (ℕ → ℕ) → List Difference → List Bool → Type 0
+AreNamed owner bounds named = (event : ℕ) → event < length named → get_or named event false ≡ is_named owner bounds event
+
+pub named_both : (owner : ℕ → ℕ) (base extra : List Difference) (first second : List Bool) → length second ≡ length first → AreNamed owner base first
+    → ((event : ℕ) → event < length first → get_or second event false ≡ (get_or first event false || is_named owner extra event)) → AreNamed owner (base ++ extra) second
+named_both owner base extra first second long these more = λ event within.
+    let there : event < length first = omega (arith, long) in
+    more event there ∙ ap (λ t. t || is_named owner extra event) (these event there)
+    ∙ sym (list_any-append (λ bound. is_shared owner bound && ((eqb bound.from event) || (eqb bound.to event))) base extra)
+
+pub windows_named : (owner : ℕ → ℕ) (bounds : List Difference) (named : List Bool) (far : ℕ → ℕ → ℤ) (events : ℕ) → length named ≡ events + 1 → AreNamed owner bounds named
+    → windows_of named far events ≡ filter (λ bound. is_named owner bounds bound.to && says_more bound) (map (λ event. window_bound event (ends_of far event)) (range_with_len 1 events))
+windows_named owner bounds named far events long are =
+    filter_same (is_kept named) (λ bound. is_named owner bounds bound.to && says_more bound) (map at (range_with_len 1 events))
+    (λ k d h.
+    let few : k < events = omega (arith, length-map-range_with_len at 1 events) in
+    subst (λ bound. is_kept named bound ≡ (is_named owner bounds bound.to && says_more bound))
+    (sym (get_or-map-range_with_len at 1 events k (1 + k) d few refl))
+    (ap (λ t. t && says_more (at (1 + k))) (are (1 + k) (omega (arith, long)))))
+  where
+    at : ℕ → Difference
+    at event = window_bound event (ends_of far event)
+
+pub whole_guard : (owner : ℕ → ℕ) (base extra : List Difference) (old middle new : Table) (named : List Bool) (guard : List Difference) → IsExact (base ++ extra) old
+    → Splits (shared_arcs owner base) old middle → middle.events ≡ old.events → Splits (shared_arcs owner extra) middle new → new.events ≡ old.events
+    → length named ≡ new.events + 1 → AreNamed owner (base ++ extra) named → guard ≡ windows_of named (far_of new) new.events
+    → IsGuardOf owner old.events (base ++ extra) guard
+whole_guard owner base extra old middle new named guard exact first middle_same second new_same long are guard_is =
+    let bounds = base ++ extra in
+    let splits : Splits (shared_arcs owner bounds) old new =
+    subst (λ arcs. Splits arcs old new) (sym (arcs_append owner base extra)) (splits_on (shared_arcs owner base) (shared_arcs owner extra) old middle new first middle_same second) in
+    let done = splits bounds (can_shared owner bounds old exact) in
+    subst (λ events. IsGuardOf owner events bounds guard) new_same (record {
+      split = done.0;
+      are_split = done.1;
+      windows = record {
+        ends = ends_of (far_of new);
+        true_ends = λ event most. window_of_exact done.0 new event done.2 most;
+        windows_are = guard_is ∙ windows_named owner bounds named (far_of new) new.events long are;
+      };
+    })
+
+-- each bound of a part has owners
+owned : (owners : List ℕ) (events : ℕ) (bounds : List Difference) → length owners ≡ events + 1 → All (NamesEvents events) bounds → All (HasOwners owners) bounds
+owned owners events bounds long named =
+    All-weaker (NamesEvents events) (HasOwners owners) (λ b is. record { from = omega (arith, long, is.from); to = omega (arith, long, is.to) }) bounds named
+
+pub owned_front : (owners : List ℕ) (events : ℕ) (base extra : List Difference) → length owners ≡ events + 1 → All (NamesEvents events) (base ++ extra) → All (HasOwners owners) base
+owned_front owners events base extra long named = owned owners events base long (all_front (NamesEvents events) base extra named)
+
+pub owned_behind : (owners : List ℕ) (events : ℕ) (base extra : List Difference) → length owners ≡ events + 1 → All (NamesEvents events) (base ++ extra) → All (HasOwners owners) extra
+owned_behind owners events base extra long named = owned owners events extra long (all_behind (NamesEvents events) base extra named)
+
+-- the sides of both parts can be split
+can_both : (owner : ℕ → ℕ) (base extra : List Difference) (table : Table) → IsExact (base ++ extra) table
+    → (known : List Difference) × CanSplit known (shared_arcs owner base ++ shared_arcs owner extra) table
+can_both owner base extra table exact =
+    (base ++ extra, subst (λ arcs. CanSplit (base ++ extra) arcs table) (arcs_append owner base extra) (can_shared owner (base ++ extra) table exact))
+
+pub can_first : (owner : ℕ → ℕ) (base extra : List Difference) (table : Table) → IsExact (base ++ extra) table → (known : List Difference) × CanSplit known (shared_arcs owner base) table
+can_first owner base extra table exact = some_front (shared_arcs owner base) (shared_arcs owner extra) table (can_both owner base extra table exact)
+
+pub can_second : (owner : ℕ → ℕ) (base extra : List Difference) (old new : Table) → IsExact (base ++ extra) old → Splits (shared_arcs owner base) old new → new.events ≡ old.events
+    → (known : List Difference) × CanSplit known (shared_arcs owner extra) new
+can_second owner base extra old new exact splits same = some_behind (shared_arcs owner base) (shared_arcs owner extra) old new (can_both owner base extra old exact) splits same
+
+-- then the matrix is exact for some bounds
+pub exact_after : (arcs : List Arc) (old new : Table) → (known : List Difference) × CanSplit known arcs old → Splits arcs old new → (known : List Difference) × IsExact known new
+exact_after arcs old new can splits = let done = splits can.0 can.1 in (done.0, done.2)
+
+all_false : (n event : ℕ) → get_or (replicate n false) event false ≡ false
+all_false zero event = refl
+all_false (suc n) zero = refl
+all_false (suc n) (suc event) = all_false n event
+
+-- what is noted of both parts, in a list that was false
+pub noted : (owner : ℕ → ℕ) (base extra : List Difference) (n : ℕ) (items none first again second last : List Bool) → items ≡ replicate n false → none ≡ items
+    → length first ≡ length none → ((event : ℕ) → event < length none → get_or first event false ≡ (get_or none event false || is_named owner base event))
+    → again ≡ first
+    → length second ≡ length again → ((event : ℕ) → event < length again → get_or second event false ≡ (get_or again event false || is_named owner extra event))
+    → last ≡ second → AreNamed owner (base ++ extra) last
+noted owner base extra n items none first again second last filled is long these same still those end =
+    let at_first : AreNamed owner base first = (λ event within.
+    these event (omega (arith, long)) ∙ ap (λ t. t || is_named owner base event) (ap (λ xs. get_or xs event false) (is ∙ filled) ∙ all_false n event)) in
+    let then : AreNamed owner base again = subst (AreNamed owner base) (sym same) at_first in
+    subst (AreNamed owner (base ++ extra)) (sym end) (named_both owner base extra again second still then those)
+
+-- what follows of an answer
+pub if_ok : {X E : Type 0} (P Q : X → Type 0) → ((x : X) → P x → Q x) → (result : Result X E) → IfOk result P → IfOk result Q
+if_ok P Q more (Ok x) holds = more x holds
+if_ok P Q more (Err e) holds = tt
+
+-- the horizon bounds stand first in both parts together
+pub begins_both : (events : ℕ) (base extra : List Difference) → take events base ≡ horizon_bounds events → take events (base ++ extra) ≡ horizon_bounds events
+begins_both events base extra begins =
+    let within : events ≤ length base = omega (arith, ap length begins, length-take events base, length-horizon_bounds events) in
+    take-append-le events base extra within ∙ begins

@@ -1,0 +1,33 @@
+use Rattle.std.proofs.Common.{[], ◌∷◌, take, refl, sym, subst, ◌∙◌}
+use Rattle.std.proofs.lemmas.List.{take_all}
+use Rattle.stn_guard.specs.Owners.{owner_of}
+use Rattle.stn_guard.specs.Making.{shared_arcs}
+use Rattle.stn_guard.specs.Splitting.{Splits}
+use Rattle.stn_guard.proofs.Steps.{splits_none, splits_on, arcs_more, can_here}
+use Rattle.stn_guard.proofs.splitting.split_shared.Goals as goal
+
+pub loop-bound-init : goal.loop-bound-init
+loop-bound-init g c = record { splits = splits_none c.args.matrix.now; events = refl }
+
+pub split_bound-requires-clause-can : goal.split_bound-requires-clause-can
+split_bound-requires-clause-can g c =
+    can_here (owner_of c.args.owners.now) c.args.bounds.now c.loop-bound.bound-index c.bound-item.result c.args.matrix.now c.loop-bound.matrix c.loop-bound-test.true c.bound-item.is
+    c.requires.can c.loop-bound.invariant.splits c.loop-bound.invariant.events
+
+pub loop-bound-preserved : goal.loop-bound-preserved
+loop-bound-preserved g c =
+    let owner = owner_of c.args.owners.now in
+    record {
+      splits = subst (λ arcs. Splits arcs c.args.matrix.now c.split_bound.new.matrix)
+          (sym (arcs_more owner c.args.bounds.now c.loop-bound.bound-index c.bound-item.result c.loop-bound-test.true c.bound-item.is))
+          (splits_on (shared_arcs owner (take c.loop-bound.bound-index c.args.bounds.now)) (shared_arcs owner (c.bound-item.result ∷ [])) c.args.matrix.now c.loop-bound.matrix c.split_bound.new.matrix
+          c.loop-bound.invariant.splits c.loop-bound.invariant.events c.split_bound.ensures.splits);
+      events = c.split_bound.ensures.events ∙ c.loop-bound.invariant.events;
+    }
+
+pub returns-clause-splits : goal.returns-clause-splits
+returns-clause-splits g c =
+    subst (λ bounds. Splits (shared_arcs (owner_of c.args.owners.now) bounds) c.args.matrix.now c.loop-bound.matrix) (take_all c.loop-bound.bound-index c.args.bounds.now c.loop-bound-test.false) c.loop-bound.invariant.splits
+
+pub returns-clause-events : goal.returns-clause-events
+returns-clause-events g c = c.loop-bound.invariant.events

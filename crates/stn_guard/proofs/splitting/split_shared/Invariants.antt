@@ -1,0 +1,11 @@
+use Rattle.std.proofs.Common.{◌≡◌, take}
+use Rattle.stn_guard.specs.Owners.{owner_of}
+use Rattle.stn_guard.specs.Making.{shared_arcs}
+use Rattle.stn_guard.specs.Splitting.{Splits}
+use Rattle.stn_guard.proofs.splitting.split_shared.Given as goal
+
+abbrev pub invariant-loop-bound : goal.invariant-loop-bound
+invariant-loop-bound g l = record {
+  splits : Splits (shared_arcs (owner_of l.owners) (take l.bound-index l.bounds)) l.fn.matrix l.matrix;
+  events : l.matrix.events ≡ l.fn.matrix.events;
+}

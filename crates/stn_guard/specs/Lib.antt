@@ -1,0 +1,4 @@
+pub mod Owners
+pub mod Guard
+pub mod Making
+pub mod Splitting

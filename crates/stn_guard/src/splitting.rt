@@ -1,0 +1,145 @@
+ghost use Rattle.std.specs.Prelude.{◌≡◌, ◌≢◌, ◌≤◌, ◌-ℤ◌, ◌≤ℤ◌, List, [], ◌∷◌, ◌++◌, All};
+ghost use Rattle.stn_net.specs.Difference.{Difference, NamesEvents};
+ghost use Rattle.stn_net.specs.Schedule.{HasSchedule};
+ghost use Rattle.stn_time.specs.Time.{IsWithinHorizon};
+ghost use Rattle.stn_matrix.specs.Tightest.{IsExact};
+ghost use Rattle.stn_guard.specs.Owners.{owner_of, is_shared};
+ghost use Rattle.stn_guard.specs.Making.{arcs_of, shared_arcs, split_time, window_bound};
+ghost use Rattle.stn_guard.specs.Splitting.{CanSplit, HasOwners, LeavesTime, Splits};
+
+use std::alloc::Allocator;
+use stn_matrix::Matrix;
+use stn_net::{Bound, Event};
+use stn_records::Site;
+use stn_time::Ms;
+use stn_windows::window;
+
+// What a side of a bound says: `to` comes at most `weight` after `from`.
+#[derive(Clone, Copy)]
+pub(crate) struct Arc {
+    pub from: Event,
+    pub to: Event,
+    pub weight: Ms,
+}
+
+// Splits each side of the shared bounds, one after the other.
+pub(crate) fn split_shared<A: Allocator>(matrix: &mut Matrix<A>, bounds: &[Bound], owners: &[Site])
+    requires owned { All (HasOwners owners.now) bounds.now }
+    requires can { (known : List Difference) × CanSplit known (shared_arcs (owner_of owners.now) bounds.now) matrix.old }
+    ensures splits { Splits (shared_arcs (owner_of owners.now) bounds.now) matrix.old matrix.new }
+    ensures events { matrix.new.events ≡ matrix.old.events }
+{
+    for bound in bounds {
+        split_bound(matrix, bound, owners);
+    }
+}
+
+// Splits each side of the bound, where it is shared.
+fn split_bound<A: Allocator>(matrix: &mut Matrix<A>, bound: &Bound, owners: &[Site])
+    requires owned { HasOwners owners.now bound.now }
+    requires can { (known : List Difference) × CanSplit known (shared_arcs (owner_of owners.now) (bound.now ∷ [])) matrix.old }
+    ensures splits { Splits (shared_arcs (owner_of owners.now) (bound.now ∷ [])) matrix.old matrix.new }
+    ensures events { matrix.new.events ≡ matrix.old.events }
+{
+    if !is_shared(bound, owners) {
+        return;
+    }
+    split_sides(matrix, bound);
+}
+
+// Whether the bound is no site's own.
+pub(crate) fn is_shared(bound: &Bound, owners: &[Site]) -> bool
+    requires { HasOwners owners.now bound.now }
+    ensures { result ≡ is_shared (owner_of owners.now) bound.now }
+{
+    bound.from() != Event::origin()
+        && bound.to() != Event::origin()
+        && owners[usize::from(bound.from().number())] != owners[usize::from(bound.to().number())]
+}
+
+// Splits both sides of the bound, the upper first.
+fn split_sides<A: Allocator>(matrix: &mut Matrix<A>, bound: &Bound)
+    requires can { (known : List Difference) × CanSplit known (arcs_of bound.now) matrix.old }
+    ensures splits { Splits (arcs_of bound.now) matrix.old matrix.new }
+    ensures events { matrix.new.events ≡ matrix.old.events }
+{
+    let upper = Arc {
+        from: bound.from(),
+        to: bound.to(),
+        weight: bound.hi(),
+    };
+    let lower = Arc {
+        from: bound.to(),
+        to: bound.from(),
+        weight: -bound.lo(),
+    };
+    split(matrix, upper);
+    split(matrix, lower);
+}
+
+// Takes what splits the arc: nothing where the windows of its events imply it; else that `to` comes by a time in the
+// middle, and `from` no earlier than `weight` before that.
+fn split<A: Allocator>(matrix: &mut Matrix<A>, arc: Arc)
+    requires can { (known : List Difference) × CanSplit known (arc ∷ []) matrix.old }
+    ensures splits { Splits (arc ∷ []) matrix.old matrix.new }
+    ensures events { matrix.new.events ≡ matrix.old.events }
+{
+    let from = window(matrix, arc.from);
+    let to = window(matrix, arc.to);
+    if to.1.get() - from.0.get() <= arc.weight.get() {
+        return;
+    }
+    let (latest, earliest) = middle(&arc, &from, &to);
+    restrict(matrix, arc.to, to.0, latest);
+    restrict(matrix, arc.from, earliest, from.1);
+}
+
+// The time in the middle of those by which `to` may come, rounded down, and the time `weight` before it.
+fn middle(arc: &Arc, from: &(Ms, Ms), to: &(Ms, Ms)) -> (Ms, Ms)
+    requires { LeavesTime arc.now from.now to.now (split_time arc.now from.now to.now) }
+    ensures latest { result.0 ≡ split_time arc.now from.now to.now }
+    ensures earliest { result.1 ≡ split_time arc.now from.now to.now -ℤ arc.now.weight }
+{
+    let time = split_time(arc, from, to);
+    (
+        Ms::new(time).unwrap(),
+        Ms::new(time - arc.weight.get()).unwrap(),
+    )
+}
+
+// The first of these times.
+fn split_time(arc: &Arc, from: &(Ms, Ms), to: &(Ms, Ms)) -> i64
+    ensures time { result ≡ split_time arc.now from.now to.now }
+    ensures from { IsWithinHorizon from.now.0 × IsWithinHorizon from.now.1 }
+    ensures to { IsWithinHorizon to.now.0 × IsWithinHorizon to.now.1 }
+{
+    let weight = arc.weight.get();
+    let least = to.0.get().max(from.0.get() + weight);
+    let greatest = to.1.get().min(from.1.get() + weight);
+    (least + greatest).div_euclid(2)
+}
+
+// Takes the bound that the event comes from the one time to the other.
+fn restrict<A: Allocator>(matrix: &mut Matrix<A>, event: Event, earliest: Ms, latest: Ms)
+    requires beside { event ≢ 0 }
+    requires within { event ≤ matrix.old.events }
+    requires ordered { earliest ≤ℤ latest }
+    ensures exact { (bounds : List Difference) → IsExact bounds matrix.old
+        → HasSchedule (bounds ++ window_bound event (earliest, latest) ∷ [])
+        → IsExact (bounds ++ window_bound event (earliest, latest) ∷ []) matrix.new }
+    ensures events { matrix.new.events ≡ matrix.old.events }
+{
+    let bound = window_bound(matrix.events(), event, earliest, latest);
+    let _fits = matrix.tighten(bound);
+}
+
+// The bound that the event comes from the one time to the other.
+pub(crate) fn window_bound(events: u16, event: Event, earliest: Ms, latest: Ms) -> Bound
+    requires beside { event ≢ 0 }
+    requires within { event ≤ events }
+    requires ordered { earliest ≤ℤ latest }
+    ensures made { result ≡ window_bound event (earliest, latest) }
+    ensures named { NamesEvents events result }
+{
+    Bound::new(events, Event::origin(), event, earliest, latest).unwrap()
+}
