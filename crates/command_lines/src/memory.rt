@@ -4,7 +4,7 @@ use crate::{append_words, cut_word, text_of};
 use std::alloc::Global;
 use std::io;
 use std::io::{Error, Write};
-use stn_line::{Task, task};
+use stn_line::{Line, line};
 use stn_refusal::{Failure, Refusal};
 use stn_shell::answer;
 use stn_store::MemoryStore;
@@ -33,22 +33,22 @@ fn print_answer(rt: &HostRuntime, answer: Result<Vec<u8>, Failure>) -> io::Resul
     }
 }
 
-// Does a command of a log, and prints what it answers.
-fn run_task(rt: &HostRuntime, store: &mut MemoryStore, task: &Task<'_>) -> io::Result<()> {
-    match task {
-        Task::Command { log, command } => {
-            print_answer(rt, answer(rt.alloc(), store, log, command))
+// Does a command on a log, and prints what it answers.
+fn run_line(rt: &HostRuntime, store: &mut MemoryStore, line: &Line<'_>) -> io::Result<()> {
+    match line {
+        Line::Run | Line::Serve { .. } | Line::Send { .. } => {
+            Err(Error::other("no command of a log"))
         }
-        _ => Err(Error::other("no command of a log")),
+        _ => print_answer(rt, answer(rt.alloc(), store, line)),
     }
 }
 
 // Does the command of these words, and prints what it answers.
 fn run_words(rt: &HostRuntime, store: &mut MemoryStore, words: &[&str]) -> io::Result<()> {
-    match task(rt.alloc(), words) {
-        Ok(task) => {
-            let answer = run_task(rt, store, &task);
-            drop(task);
+    match line(rt.alloc(), words) {
+        Ok(line) => {
+            let answer = run_line(rt, store, &line);
+            drop(line);
             answer
         }
         Err(_) => Err(Error::other("no command of a log")),

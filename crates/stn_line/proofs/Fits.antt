@@ -12,7 +12,7 @@ use Rattle.clap.specs.Facts.{explicit_source, parser_of_value, unwrap_or_range}
 use Rattle.clap.specs.Values.{Accepts, is_request, refused_kind}
 use Rattle.clap.specs.ValueTests.{accepts}
 use Rattle.clap.proofs.ValueTestLemmas.{accepts-Accepts}
-use Rattle.clap.specs.Walk.{Row, Rule, Text, Held, Names, Outcome, Step, Waiting, Walk, action_of, arg_by_id, arg_by_index, arg_by_long, arg_by_short, at_row, attached_value, after_flag, bundle_met, finished, first_of, has_row, long_met, most_values, nothing_held, option_met, option_word, plain_word, positional_held, reacted, reading_by, rows_after, settled, settled_rows, short_met, subcommand_met, takes_several, takes_values, to_positional, used, values_or_missing, walk, walk_from, walked, stronger, with_default, with_values, without, word_met}
+use Rattle.clap.specs.Walk.{Row, Rule, Text, Held, Names, Outcome, Step, Waiting, Walk, action_of, arg_by_id, arg_by_index, arg_by_long, arg_by_short, at_row, attached_value, after_flag, bundle_met, finished, first_of, has_row, long_met, most_values, nothing_held, option_met, option_word, plain_word, positional_held, reacted, reading_by, rows_after, settled, settled_rows, short_met, subcommand_met, takes_several, takes_values, to_positional, used, values_or_missing, walk, walk_from, walked, stronger, with_default, without, word_met}
 use Rattle.clap.specs.Walk as walk
 use Rattle.stn_line.specs.Given.{Each, HasWordsAmong, IsGiven}
 use Rattle.clap.specs.Simple.{App, Shape, argument_words, built, entered, label_of, names_of, rows_at, subcommand_of}
@@ -66,8 +66,9 @@ abbrev pub IsPlain : Rule → Type 0
 IsPlain a = TakesOne a ⊎ Asks a ⊎ TakesMany a
 
 -- an argument of one of the three kinds, that no other of the list hides
-abbrev pub IsPlainIn : List Rule → Rule → Type 0
-IsPlainIn c a = IsPlain a × (arg_by_id c a.id ≡ Some a)
+pub record IsPlainIn (c : List Rule) (a : Rule) : Type 0 where
+  pub plain : IsPlain a
+  pub own : arg_by_id c a.id ≡ Some a
 
 -- the row has one value, that its argument takes
 pub record HasOne (c : List Rule) (r : Row) : Type 0 where
@@ -167,10 +168,10 @@ used_many c a values rows own many fit = rw many.action (changed_row c a.id chan
 module _ (c : List Rule) where
   -- a use without a fault leaves rows that fit
   fits_used : (a : Rule) (values : List Text) (rows : List Row) → IsPlainIn c a → use_fault false a values rows ≡ [] → Fit c rows → Fit c (used a values rows)
-  fits_used a values rows plain none fit = go plain.0
+  fits_used a values rows plain none fit = go plain.plain
     where
       own : arg_by_id c a.id ≡ Some a
-      own = plain.1
+      own = plain.own
 
       go : IsPlain a → Fit c (used a values rows)
       go (inr (inr many)) = used_many c a values rows own many fit
@@ -361,7 +362,7 @@ no_defaults c [] rows plain = refl
 no_defaults c (a ∷ rest) rows plain = ap (λ r. fold with_default r rest) (kept (has_row a.id rows)) ∙ no_defaults c rest rows plain.1
   where
     none : a.defaults ≡ []
-    none = defaults plain.0.0
+    none = defaults plain.0.plain
       where
         defaults : IsPlain a → a.defaults ≡ []
         defaults (inl one) = one.defaults
@@ -384,7 +385,7 @@ fits_first c rows a r found fit plain = go at.0
     same = (bytes_eq-Decides r.id a.id).0 at.1
 
     is_own : (rule : Rule) → arg_by_id c r.id ≡ Some rule → rule ≡ a
-    is_own rule own = let here : arg_by_id c a.id ≡ Some rule = ap (arg_by_id c) (sym same) ∙ own in same_Some _ _ (sym here ∙ plain.1)
+    is_own rule own = let here : arg_by_id c a.id ≡ Some rule = ap (arg_by_id c) (sym same) ∙ own in same_Some _ _ (sym here ∙ plain.own)
 
     go : RowFits c r → ((value : Text) × (r.values ≡ value ∷ []) × Accepts a.ignore_case (parser_of_value a.parser) value) ⊎ TakesMany a
     go (inl one) =

@@ -1,4 +1,4 @@
 mod Fits
 mod OfStn
+pub mod Shapes
 mod Values
-mod Shapes

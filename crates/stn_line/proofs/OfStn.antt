@@ -1,5 +1,5 @@
 -- The general law at the program's own commands.
-use Rattle.std.proofs.Common.{map, Option, Bor, option_map, subst, false, Bool, codes, cond, sym, ◌∷◌, ◌≡◌, ◌≢◌, ◌⊎◌, true, [], refl, inl, inr, Some, List}
+use Rattle.std.proofs.Common.{map, Option, Bor, option_map, subst, false, Bool, codes, cond, sym, ◌∷◌, ◌++◌, ◌≡◌, ◌≢◌, ◌⊎◌, true, [], refl, inl, inr, Some, None, List}
 use Rattle.std.specs.Prelude.{IsSomeAnd, find}
 use Rattle.std.specs.Str.{bytes_eq}
 use Rattle.std.proofs.lemmas.Slice.Eq.{bytes_eq-Decides}
@@ -9,14 +9,15 @@ use Rattle.clap.specs.Matches.{found_of, subcommand_name_of}
 use Rattle.clap.specs.Simple.{subcommand_rows, subcommand_rows_of}
 use Rattle.clap.specs.declared.parser.matches.ArgMatches.{ArgMatches}
 use Rattle.clap.specs.declared.parser.matches.ArgMatches.TheViews.{out-ArgMatches}
-use Rattle.clap.specs.Walk.{action_of, rows_of}
+use Rattle.clap.specs.Walk.{action_of, arg_by_id, rows_of}
 use Rattle.clap.specs.Words.{Row, Rule, Shape, Text, built, fault_of, is_simple, is_simple_and_free, subcommand_of}
 use Rattle.clap.specs.declared.builder.action.ArgAction.TheVariants.{Append, Set}
-use Rattle.clap.specs.declared.builder.value_parser.ValueParser.TheVariants.{String}
-use Rattle.stn_line.specs.Commands.{most_connections, most_read_steps, most_seconds, stn}
-use Rattle.stn_line.specs.Given.{Each, HasWords, HasWordsAmong, IsForLog, IsGiven, IsNumberThere, IsNumberWhereGiven, IsThere, IsThereOnLog}
+use Rattle.clap.specs.declared.builder.value_parser.ValueParser.{ValueParser}
+use Rattle.clap.specs.declared.builder.value_parser.ValueParser.TheVariants.{String, Unsigned}
+use Rattle.stn_line.specs.Commands.{commands, program, stn}
+use Rattle.stn_line.specs.Given.{Each, HasWords, HasWordsAmong, HoldsWord, HoldsWords, IsGiven}
 use Rattle.stn_line.proofs.Values.{at_value, entered_is}
-use Rattle.stn_line.proofs.Fits.{IsPlain, ReadsPlainly, command_given}
+use Rattle.stn_line.proofs.Fits.{IsPlainIn, ReadsPlainly, command_given}
 
 pub stn_simple : is_simple stn ≡ true
 unfolding stn
@@ -26,59 +27,69 @@ pub stn_free : is_simple_and_free stn ≡ true
 unfolding stn
 stn_free = refl
 
-takes_one : {a : Rule} → a.action ≡ Some Set → a.range ≡ Some (record { start_inclusive = 1; end_inclusive = 1 }) → a.defaults ≡ [] → IsPlain a
-takes_one action range defaults = inl (record { action = action; range = range; defaults = defaults })
+-- an argument of each of the three kinds, that no other of the list hides
+one : {c : List Rule} {a : Rule} → a.action ≡ Some Set → a.range ≡ Some (record { start_inclusive = 1; end_inclusive = 1 }) → a.defaults ≡ []
+    → arg_by_id c a.id ≡ Some a → IsPlainIn c a
+one action range defaults own = record { plain = inl (record { action = action; range = range; defaults = defaults }); own = own }
 
-asks : {a : Rule} → is_request (action_of a) ≡ true → a.defaults ≡ [] → IsPlain a
-asks action defaults = inr (inl (record { action = action; defaults = defaults }))
+asks : {c : List Rule} {a : Rule} → is_request (action_of a) ≡ true → a.defaults ≡ [] → arg_by_id c a.id ≡ Some a → IsPlainIn c a
+asks action defaults own = record { plain = inr (inl (record { action = action; defaults = defaults })); own = own }
 
-takes_many : {a : Rule} → a.action ≡ Some Append → parser_of_value a.parser ≡ String → a.defaults ≡ [] → a.required ≡ false → IsPlain a
-takes_many action parser defaults optional = inr (inr (record { action = action; parser = parser; defaults = defaults; optional = optional }))
+many : {c : List Rule} {a : Rule} → a.action ≡ Some Append → parser_of_value a.parser ≡ String → a.defaults ≡ [] → a.required ≡ false
+    → arg_by_id c a.id ≡ Some a → IsPlainIn c a
+many action parser defaults optional own = record {
+  plain = inr (inr (record { action = action; parser = parser; defaults = defaults; optional = optional }));
+  own = own;
+}
+
+reads : {commands : List Shape} {s : Shape} → find (λ x. bytes_eq x.name s.name) commands ≡ Some s → s.args_override_self ≡ false
+    → s.subcommand_negates_reqs ≡ false → Each (IsPlainIn s.rules) s.rules → ReadsPlainly commands s
+reads own again negates rules = record { own = own; again = again; negates = negates; rules = rules }
 
 all_plain : Each (ReadsPlainly (built stn).subs) (built stn).subs
 unfolding stn
 all_plain = (
-  record { own = refl; again = refl; negates = refl; rules = ((asks refl refl, refl), tt) },
+  reads refl refl refl (asks refl refl refl, tt),
   (
-    record { own = refl; again = refl; negates = refl; rules = ((takes_one refl refl refl, refl), ((takes_one refl refl refl, refl), ((takes_one refl refl refl, refl), ((asks refl refl, refl), tt)))) },
+    reads refl refl refl (one refl refl refl refl, (one refl refl refl refl, (one refl refl refl refl, (asks refl refl refl, tt)))),
     (
-      record { own = refl; again = refl; negates = refl; rules = ((takes_one refl refl refl, refl), ((takes_one refl refl refl, refl), ((takes_one refl refl refl, refl), ((takes_one refl refl refl, refl), ((asks refl refl, refl), tt))))) },
+      reads refl refl refl (one refl refl refl refl, (one refl refl refl refl, (one refl refl refl refl, (one refl refl refl refl, (asks refl refl refl, tt))))),
       (
-        record { own = refl; again = refl; negates = refl; rules = ((takes_one refl refl refl, refl), ((takes_one refl refl refl, refl), ((takes_one refl refl refl, refl), ((takes_one refl refl refl, refl), ((takes_one refl refl refl, refl), ((takes_one refl refl refl, refl), ((asks refl refl, refl), tt))))))) },
+        reads refl refl refl (one refl refl refl refl, (one refl refl refl refl, (one refl refl refl refl, (one refl refl refl refl, (one refl refl refl refl, (one refl refl refl refl, (asks refl refl refl, tt))))))),
         (
-          record { own = refl; again = refl; negates = refl; rules = ((takes_one refl refl refl, refl), ((takes_one refl refl refl, refl), ((takes_one refl refl refl, refl), ((takes_one refl refl refl, refl), ((takes_one refl refl refl, refl), ((takes_one refl refl refl, refl), ((asks refl refl, refl), tt))))))) },
+          reads refl refl refl (one refl refl refl refl, (one refl refl refl refl, (one refl refl refl refl, (one refl refl refl refl, (one refl refl refl refl, (one refl refl refl refl, (asks refl refl refl, tt))))))),
           (
-            record { own = refl; again = refl; negates = refl; rules = ((takes_one refl refl refl, refl), ((takes_one refl refl refl, refl), ((takes_one refl refl refl, refl), ((takes_one refl refl refl, refl), ((takes_one refl refl refl, refl), ((takes_one refl refl refl, refl), ((takes_one refl refl refl, refl), ((asks refl refl, refl), tt)))))))) },
+            reads refl refl refl (one refl refl refl refl, (one refl refl refl refl, (one refl refl refl refl, (one refl refl refl refl, (one refl refl refl refl, (one refl refl refl refl, (one refl refl refl refl, (asks refl refl refl, tt)))))))),
             (
-              record { own = refl; again = refl; negates = refl; rules = ((takes_one refl refl refl, refl), ((takes_one refl refl refl, refl), ((takes_one refl refl refl, refl), ((asks refl refl, refl), tt)))) },
+              reads refl refl refl (one refl refl refl refl, (one refl refl refl refl, (one refl refl refl refl, (asks refl refl refl, tt)))),
               (
-                record { own = refl; again = refl; negates = refl; rules = ((takes_one refl refl refl, refl), ((takes_one refl refl refl, refl), ((takes_one refl refl refl, refl), ((takes_one refl refl refl, refl), ((asks refl refl, refl), tt))))) },
+                reads refl refl refl (one refl refl refl refl, (one refl refl refl refl, (one refl refl refl refl, (one refl refl refl refl, (asks refl refl refl, tt))))),
                 (
-                  record { own = refl; again = refl; negates = refl; rules = ((takes_one refl refl refl, refl), ((takes_one refl refl refl, refl), ((takes_one refl refl refl, refl), ((asks refl refl, refl), tt)))) },
+                  reads refl refl refl (one refl refl refl refl, (one refl refl refl refl, (one refl refl refl refl, (asks refl refl refl, tt)))),
                   (
-                    record { own = refl; again = refl; negates = refl; rules = ((takes_one refl refl refl, refl), ((takes_one refl refl refl, refl), ((asks refl refl, refl), tt))) },
+                    reads refl refl refl (one refl refl refl refl, (one refl refl refl refl, (asks refl refl refl, tt))),
                     (
-                      record { own = refl; again = refl; negates = refl; rules = ((takes_one refl refl refl, refl), ((takes_one refl refl refl, refl), ((takes_one refl refl refl, refl), ((asks refl refl, refl), tt)))) },
+                      reads refl refl refl (one refl refl refl refl, (one refl refl refl refl, (one refl refl refl refl, (asks refl refl refl, tt)))),
                       (
-                        record { own = refl; again = refl; negates = refl; rules = ((takes_one refl refl refl, refl), ((takes_one refl refl refl, refl), ((takes_one refl refl refl, refl), ((asks refl refl, refl), tt)))) },
+                        reads refl refl refl (one refl refl refl refl, (one refl refl refl refl, (one refl refl refl refl, (asks refl refl refl, tt)))),
                         (
-                          record { own = refl; again = refl; negates = refl; rules = ((takes_one refl refl refl, refl), ((takes_one refl refl refl, refl), ((takes_one refl refl refl, refl), ((asks refl refl, refl), tt)))) },
+                          reads refl refl refl (one refl refl refl refl, (one refl refl refl refl, (one refl refl refl refl, (asks refl refl refl, tt)))),
                           (
-                            record { own = refl; again = refl; negates = refl; rules = ((takes_one refl refl refl, refl), ((takes_one refl refl refl, refl), ((asks refl refl, refl), tt))) },
+                            reads refl refl refl (one refl refl refl refl, (one refl refl refl refl, (asks refl refl refl, tt))),
                             (
-                              record { own = refl; again = refl; negates = refl; rules = ((takes_one refl refl refl, refl), ((takes_one refl refl refl, refl), ((asks refl refl, refl), tt))) },
+                              reads refl refl refl (one refl refl refl refl, (one refl refl refl refl, (asks refl refl refl, tt))),
                               (
-                                record { own = refl; again = refl; negates = refl; rules = ((takes_one refl refl refl, refl), ((takes_one refl refl refl, refl), ((asks refl refl, refl), tt))) },
+                                reads refl refl refl (one refl refl refl refl, (one refl refl refl refl, (asks refl refl refl, tt))),
                                 (
-                                  record { own = refl; again = refl; negates = refl; rules = ((takes_one refl refl refl, refl), ((takes_one refl refl refl, refl), ((takes_many refl refl refl refl, refl), ((asks refl refl, refl), tt)))) },
+                                  reads refl refl refl (one refl refl refl refl, (one refl refl refl refl, (many refl refl refl refl refl, (asks refl refl refl, tt)))),
                                   (
-                                    record { own = refl; again = refl; negates = refl; rules = ((takes_one refl refl refl, refl), ((takes_one refl refl refl, refl), ((takes_one refl refl refl, refl), ((asks refl refl, refl), tt)))) },
+                                    reads refl refl refl (one refl refl refl refl, (one refl refl refl refl, (one refl refl refl refl, (asks refl refl refl, tt)))),
                                     (
-                                      record { own = refl; again = refl; negates = refl; rules = ((takes_one refl refl refl, refl), ((takes_one refl refl refl, refl), ((asks refl refl, refl), tt))) },
+                                      reads refl refl refl (one refl refl refl refl, (one refl refl refl refl, (asks refl refl refl, tt))),
                                       (
-                                        record { own = refl; again = refl; negates = refl; rules = ((takes_one refl refl refl, refl), ((takes_one refl refl refl, refl), ((takes_one refl refl refl, refl), ((takes_one refl refl refl, refl), ((takes_one refl refl refl, refl), ((asks refl refl, refl), tt)))))) },
+                                        reads refl refl refl (one refl refl refl refl, (one refl refl refl refl, (one refl refl refl refl, (one refl refl refl refl, (one refl refl refl refl, (asks refl refl refl, tt)))))),
                                         (
-                                          record { own = refl; again = refl; negates = refl; rules = ((takes_one refl refl refl, refl), ((takes_one refl refl refl, refl), ((takes_one refl refl refl, refl), ((takes_one refl refl refl, refl), ((asks refl refl, refl), tt))))) },
+                                          reads refl refl refl (one refl refl refl refl, (one refl refl refl refl, (one refl refl refl refl, (one refl refl refl refl, (asks refl refl refl, tt))))),
                                           tt,
                                         ),
                                       ),
@@ -106,195 +117,63 @@ is_required : (built stn).top.subcommand_required ≡ true
 unfolding stn
 is_required = refl
 
+-- what is given, by the rule of each word
+word_holds : (rows : List Row) (rule : Rule) → IsGiven rows rule → HoldsWord rule.required rule.parser rule.id rows
+word_holds rows rule given = go rule.required rule.parser refl refl
+  where
+    go : (required : Bool) (parser : Option ValueParser) → rule.required ≡ required → rule.parser ≡ parser → HoldsWord required parser rule.id rows
+    go true (Some String) needed is = rw is at (given.needed needed)
+    go true (Some (Unsigned least most)) needed is = rw is at (given.needed needed)
+    go false (Some (Unsigned least most)) needed is = rw is at given.taken
+    go required parser needed is = tt
+
+words_hold : (rows : List Row) (rules : List Rule) → Each (IsGiven rows) rules → HoldsWords rows rules
+words_hold rows [] given = tt
+words_hold rows (rule ∷ rules) given = (word_holds rows rule given.0, words_hold rows rules given.1)
+
+some_weaker : {X : Type 0} (o : Option X) (P Q : X → Type 0) → ((x : X) → P x → Q x) → IsSomeAnd o P → IsSomeAnd o Q
+some_weaker None P Q weaker is = is
+some_weaker (Some x) P Q weaker is = weaker x is
+
 -- words without a fault name a command, and hold what it requires
 pub stn_given : (words : List Text) → fault_of stn words ≡ [] → IsSomeAnd (subcommand_of stn words) (λ p. HasWords p.0 p.1)
-stn_given words none = command_given stn words is_required all_plain none
-
--- what each command's words hold
-pub bare_there : (rows : List Row) → HasWords (codes "bare") rows → IsNumberThere (codes "STEPS") 0 most_read_steps rows
 unfolding stn
-bare_there rows has = has.1.1.0.needed refl
-
-pub init_there : (rows : List Row) → HasWords (codes "init") rows → IsThere (codes "DOMAIN") rows × IsThere (codes "PLAN") rows
-unfolding stn
-init_there rows has = (has.1.1.0.needed refl, has.1.1.1.0.needed refl)
-
-pub loosen_there : (rows : List Row) → HasWords (codes "loosen") rows → IsThere (codes "DOMAIN") rows × IsThere (codes "PLAN") rows
-unfolding stn
-loosen_there rows has = (has.1.1.0.needed refl, has.1.1.1.0.needed refl)
-
-pub add_there : (rows : List Row) → HasWords (codes "add") rows → IsThere (codes "FROM") rows × IsThere (codes "TO") rows
-unfolding stn
-add_there rows has = (has.1.1.0.needed refl, has.1.1.1.0.needed refl)
-
-pub amend_there : (rows : List Row) → HasWords (codes "amend") rows → IsThere (codes "ID") rows × IsThere (codes "FROM") rows × IsThere (codes "TO") rows
-unfolding stn
-amend_there rows has = (has.1.1.0.needed refl, has.1.1.1.0.needed refl, has.1.1.1.1.0.needed refl)
-
-pub withdraw_there : (rows : List Row) → HasWords (codes "withdraw") rows → IsThere (codes "ID") rows
-unfolding stn
-withdraw_there rows has = has.1.1.0.needed refl
-
-pub done_there : (rows : List Row) → HasWords (codes "done") rows → IsThere (codes "EVENT") rows × IsThere (codes "TIME") rows
-unfolding stn
-done_there rows has = (has.1.1.0.needed refl, has.1.1.1.0.needed refl)
-
-pub merge_there : (rows : List Row) → HasWords (codes "merge") rows → IsThere (codes "OTHER") rows
-unfolding stn
-merge_there rows has = has.1.1.0.needed refl
-
-pub next_there : (rows : List Row) → HasWords (codes "next") rows → IsThere (codes "NOW") rows
-unfolding stn
-next_there rows has = has.1.1.0.needed refl
-
-pub ready_there : (rows : List Row) → HasWords (codes "ready") rows → IsThere (codes "NOW") rows
-unfolding stn
-ready_there rows has = has.1.1.0.needed refl
-
-pub why_there : (rows : List Row) → HasWords (codes "why") rows → IsThere (codes "EVENT") rows
-unfolding stn
-why_there rows has = has.1.1.0.needed refl
-
-pub rehearse_there : (rows : List Row) → HasWords (codes "rehearse") rows → IsThere (codes "NOW") rows
-unfolding stn
-rehearse_there rows has = has.1.1.0.needed refl
-
-pub serve_there : (rows : List Row) → HasWords (codes "serve") rows → IsThereOnLog rows × IsThere (codes "ADDR") rows × IsNumberThere (codes "COUNT") 1 most_connections rows
-    × IsNumberWhereGiven (codes "seconds") 1 most_seconds rows
-unfolding stn
-serve_there rows has = (record { log = has.0.needed refl; site = has.1.0.needed refl }, has.1.1.0.needed refl, has.1.1.1.0.needed refl, has.1.1.1.1.0.taken)
-
-pub send_there : (rows : List Row) → HasWords (codes "send") rows → IsThereOnLog rows × IsThere (codes "ADDR") rows
-    × IsNumberWhereGiven (codes "seconds") 1 most_seconds rows
-unfolding stn
-send_there rows has = (record { log = has.0.needed refl; site = has.1.0.needed refl }, has.1.1.0.needed refl, has.1.1.1.0.taken)
-
--- where the words of each of some commands that has a name hold a log and a site, those of the command of this name do
-log_among : (commands : List Shape) (name : Text) (rows : List Row)
-    → Each (λ s. name ≡ s.name → Each (IsGiven rows) s.rules → IsThereOnLog rows) commands → HasWordsAmong commands name rows → IsThereOnLog rows
-log_among [] name rows each has = absurd has
-log_among (s ∷ rest) name rows each has = go (bytes_eq s.name name) refl has (log_among rest name rows each.1)
-  where
-    go : (t : Bool) → bytes_eq s.name name ≡ t → IsSomeAnd (cond t (Some s) (find (λ x. bytes_eq x.name name) rest)) (λ x. Each (IsGiven rows) x.rules)
-        → (HasWordsAmong rest name rows → IsThereOnLog rows) → IsThereOnLog rows
-    go true t given more = each.0 (sym ((bytes_eq-Decides s.name name).0 t)) given
-    go false t given more = more given
-
--- the words of each command but `run` hold a log and a site
-pub log_there : (name : Text) (rows : List Row) → HasWords name rows → name ≢ codes "run" → IsThereOnLog rows
-unfolding stn
-log_there name rows has run = log_among (built stn).subs name rows (
-  λ is _. absurd (run is),
-  (
-    λ _ given. record { log = given.0.needed refl; site = given.1.0.needed refl },
-    (
-      λ _ given. record { log = given.0.needed refl; site = given.1.0.needed refl },
-      (
-        λ _ given. record { log = given.0.needed refl; site = given.1.0.needed refl },
-        (
-          λ _ given. record { log = given.0.needed refl; site = given.1.0.needed refl },
-          (
-            λ _ given. record { log = given.0.needed refl; site = given.1.0.needed refl },
-            (
-              λ _ given. record { log = given.0.needed refl; site = given.1.0.needed refl },
-              (
-                λ _ given. record { log = given.0.needed refl; site = given.1.0.needed refl },
-                (
-                  λ _ given. record { log = given.0.needed refl; site = given.1.0.needed refl },
-                  (
-                    λ _ given. record { log = given.0.needed refl; site = given.1.0.needed refl },
-                    (
-                      λ _ given. record { log = given.0.needed refl; site = given.1.0.needed refl },
-                      (
-                        λ _ given. record { log = given.0.needed refl; site = given.1.0.needed refl },
-                        (
-                          λ _ given. record { log = given.0.needed refl; site = given.1.0.needed refl },
-                          (
-                            λ _ given. record { log = given.0.needed refl; site = given.1.0.needed refl },
-                            (
-                              λ _ given. record { log = given.0.needed refl; site = given.1.0.needed refl },
-                              (
-                                λ _ given. record { log = given.0.needed refl; site = given.1.0.needed refl },
-                                (
-                                  λ _ given. record { log = given.0.needed refl; site = given.1.0.needed refl },
-                                  (
-                                    λ _ given. record { log = given.0.needed refl; site = given.1.0.needed refl },
-                                    (
-                                      λ _ given. record { log = given.0.needed refl; site = given.1.0.needed refl },
-                                      (
-                                        λ _ given. record { log = given.0.needed refl; site = given.1.0.needed refl },
-                                        (
-                                          λ _ given. record { log = given.0.needed refl; site = given.1.0.needed refl },
-                                          tt,
-                                        ),
-                                      ),
-                                    ),
-                                  ),
-                                ),
-                              ),
-                            ),
-                          ),
-                        ),
-                      ),
-                    ),
-                  ),
-                ),
-              ),
-            ),
-          ),
-        ),
-      ),
-    ),
-  ),
-)
-    has
+stn_given words none = some_weaker (subcommand_of stn words) (λ p. HasWordsAmong (built stn).subs p.0 p.1) (λ p. HasWords p.0 p.1)
+    (λ p. some_weaker (find (λ command. bytes_eq command.name p.0) (built stn).subs) (λ command. Each (IsGiven p.1) command.rules)
+    (λ command. HoldsWords p.1 command.rules) (λ command. words_hold p.1 command.rules))
+    (command_given stn words is_required all_plain none)
 
 -- the name is one of these
 IsOneOf : Text → List Text → Type 0
 IsOneOf name [] = ⊥
 IsOneOf name (n ∷ rest) = (name ≡ n) ⊎ IsOneOf name rest
 
-is_one_of : (commands : List Shape) (name : Text) (rows : List Row) → HasWordsAmong commands name rows → IsOneOf name (map (λ s. s.name) commands)
+is_one_of : (P : Shape → Type 0) (commands : List Shape) (name : Text) → IsSomeAnd (find (λ command. bytes_eq command.name name) commands) P
+    → IsOneOf name (map (λ command. command.name) commands)
 unfolding IsOneOf
-is_one_of [] name rows has = absurd has
-is_one_of (s ∷ rest) name rows has = go (bytes_eq s.name name) refl has (is_one_of rest name rows)
+is_one_of P [] name has = absurd has
+is_one_of P (s ∷ rest) name has = go (bytes_eq s.name name) refl has (is_one_of P rest name)
   where
-    go : (t : Bool) → bytes_eq s.name name ≡ t → IsSomeAnd (cond t (Some s) (find (λ x. bytes_eq x.name name) rest)) (λ x. Each (IsGiven rows) x.rules)
-        → (HasWordsAmong rest name rows → IsOneOf name (map (λ x. x.name) rest)) → (name ≡ s.name) ⊎ IsOneOf name (map (λ x. x.name) rest)
+    go : (t : Bool) → bytes_eq s.name name ≡ t → IsSomeAnd (cond t (Some s) (find (λ command. bytes_eq command.name name) rest)) P
+        → (IsSomeAnd (find (λ command. bytes_eq command.name name) rest) P → IsOneOf name (map (λ command. command.name) rest))
+        → (name ≡ s.name) ⊎ IsOneOf name (map (λ command. command.name) rest)
     go true t has more = inl (sym ((bytes_eq-Decides s.name name).0 t))
     go false t has more = inr (more has)
 
-other : {A B : Type 0} → A ⊎ B → ¬ A → B
-other (inl a) none = absurd (none a)
-other (inr b) none = b
+-- what is none of the others is the last
+is_last : (names : List Text) (last name : Text) → IsOneOf name (names ++ last ∷ []) → Each (λ n. name ≢ n) names → name ≡ last
+unfolding IsOneOf
+is_last [] last name (inl is) none = is
+is_last [] last name (inr is) none = absurd is
+is_last (n ∷ names) last name (inl is) none = absurd (none.0 is)
+is_last (n ∷ names) last name (inr is) none = is_last names last name is none.1
 
--- what is none of the other commands is `draw`
-pub is_draw : (name : Text) (rows : List Row) → HasWords name rows → IsForLog name
-    → name ≢ codes "bare"
-    → name ≢ codes "init"
-    → name ≢ codes "loosen"
-    → name ≢ codes "add"
-    → name ≢ codes "amend"
-    → name ≢ codes "withdraw"
-    → name ≢ codes "done"
-    → name ≢ codes "merge"
-    → name ≢ codes "report"
-    → name ≢ codes "next"
-    → name ≢ codes "ready"
-    → name ≢ codes "why"
-    → name ≢ codes "records"
-    → name ≢ codes "steps"
-    → name ≢ codes "bounds"
-    → name ≢ codes "check"
-    → name ≢ codes "rehearse"
-    → name ≡ codes "draw"
-unfolding stn IsOneOf
-is_draw name rows has is bare init loosen add amend withdraw done merge report next ready why records steps bounds check rehearse =
-    let after-add = other (other (other (other (other (is_one_of (built stn).subs name rows has) is.run) bare) init) loosen) add in
-    let after-report = other (other (other (other (other after-add amend) withdraw) done) merge) report in
-    let after-steps = other (other (other (other (other after-report next) ready) why) records) steps in
-    let after-rehearse = other (other (other after-steps bounds) check) rehearse in
-    elim after-rehearse [ inl draw ↦ draw | inr rest ↦ absurd (other (other rest is.serve) is.send) ]
+-- the commands before `send`, the last
+abbrev pub others : List Text
+others = codes "run" ∷ codes "bare" ∷ codes "init" ∷ codes "loosen" ∷ codes "add" ∷ codes "amend" ∷ codes "withdraw" ∷ codes "done" ∷ codes "merge" ∷ codes "report" ∷ codes "next" ∷ codes "ready" ∷ codes "why" ∷ codes "records" ∷ codes "steps" ∷ codes "bounds" ∷ codes "check" ∷ codes "rehearse" ∷ codes "draw" ∷ codes "serve" ∷ []
+
+pub is_send : (name : Text) (rows : List Row) → HasWords name rows → Each (λ n. name ≢ n) others → name ≡ codes "send"
+is_send name rows has none = is_last others (codes "send") name (is_one_of (λ command. HoldsWords rows command.rules) (built (program commands)).subs name has) none
 
 -- what the matches of the entered command hold, by its name
 pub entered_has : (m : ArgMatches) (r : Option (Bor Text × Bor ArgMatches)) (x : Bor Text × Bor ArgMatches) → option_map (λ p. p.0.now) r ≡ subcommand_name_of m

@@ -1,11 +1,9 @@
 -- The commands of `stn` and their words, as clap reads them.
-use Rattle.std.specs.Prelude.{◌≡◌, ℕ, List, [], ◌∷◌, ◌++◌, Some, Result, IfOk, true, false, codes}
+use Rattle.std.specs.Prelude.{ℕ, List, [], ◌∷◌, Some, true, false, codes}
 use Rattle.stn_records.specs.Id.{most_sites}
 use Rattle.clap.specs.Lexer.{usize_max}
 use Rattle.clap.specs.Simple.{new_shape}
-use Rattle.clap.specs.Words.{App, Rule, Shape, Text, app_of, new_rule, shape_of}
-use Rattle.clap.specs.declared.builder.command.Command.{Command}
-use Rattle.clap.specs.declared.builder.command.Command.TheViews.{out-Command as fields_of}
+use Rattle.clap.specs.Words.{App, Rule, Shape, Text, new_rule}
 use Rattle.clap.specs.declared.builder.value_parser.ValueParser.TheVariants as parser
 
 -- the number of steps of a bare plan is read up to this; which of them make a plan is for the plan to say
@@ -51,77 +49,29 @@ command name words = record (new_shape name) { rules = words }
 abbrev pub on_log : Text → List Rule → Shape
 on_log name words = command name (word_rule (codes "LOG") ∷ number_rule (codes "SITE") 1 most_sites ∷ words)
 
-abbrev pub bare_words : List Rule
-bare_words = number_rule (codes "STEPS") 0 most_read_steps ∷ []
-
-abbrev pub init_words : List Rule
-init_words = word_rule (codes "DOMAIN") ∷ word_rule (codes "PLAN") ∷ []
-
-abbrev pub loosen_words : List Rule
-loosen_words = word_rule (codes "DOMAIN") ∷ word_rule (codes "PLAN") ∷ option_rule (codes "early") ∷ option_rule (codes "late") ∷ []
-
-abbrev pub add_words : List Rule
-add_words = word_rule (codes "FROM") ∷ word_rule (codes "TO") ∷ option_rule (codes "lo") ∷ option_rule (codes "hi") ∷ []
-
-abbrev pub amend_words : List Rule
-amend_words = word_rule (codes "ID") ∷ add_words
-
-abbrev pub withdraw_words : List Rule
-withdraw_words = word_rule (codes "ID") ∷ []
-
-abbrev pub done_words : List Rule
-done_words = word_rule (codes "EVENT") ∷ word_rule (codes "TIME") ∷ []
-
-abbrev pub merge_words : List Rule
-merge_words = word_rule (codes "OTHER") ∷ []
-
-abbrev pub next_words : List Rule
-next_words = word_rule (codes "NOW") ∷ []
-
-abbrev pub ready_words : List Rule
-ready_words = word_rule (codes "NOW") ∷ []
-
-abbrev pub why_words : List Rule
-why_words = word_rule (codes "EVENT") ∷ []
-
-abbrev pub check_words : List Rule
-check_words = many_rule (codes "TIME") ∷ []
-
-abbrev pub rehearse_words : List Rule
-rehearse_words = word_rule (codes "NOW") ∷ []
-
-abbrev pub seconds_rule : Rule
-seconds_rule = number_option_rule (codes "seconds") 1 most_seconds
-
-abbrev pub serve_words : List Rule
-serve_words = word_rule (codes "ADDR") ∷ number_rule (codes "COUNT") 1 most_connections ∷ seconds_rule ∷ []
-
-abbrev pub send_words : List Rule
-send_words = word_rule (codes "ADDR") ∷ seconds_rule ∷ []
-
 -- all the commands
 abbrev pub commands : List Shape
 commands = command (codes "run") []
-    ∷ on_log (codes "bare") bare_words
-    ∷ on_log (codes "init") init_words
-    ∷ on_log (codes "loosen") loosen_words
-    ∷ on_log (codes "add") add_words
-    ∷ on_log (codes "amend") amend_words
-    ∷ on_log (codes "withdraw") withdraw_words
-    ∷ on_log (codes "done") done_words
-    ∷ on_log (codes "merge") merge_words
+    ∷ on_log (codes "bare") (number_rule (codes "STEPS") 0 most_read_steps ∷ [])
+    ∷ on_log (codes "init") (word_rule (codes "DOMAIN") ∷ word_rule (codes "PLAN") ∷ [])
+    ∷ on_log (codes "loosen") (word_rule (codes "DOMAIN") ∷ word_rule (codes "PLAN") ∷ option_rule (codes "early") ∷ option_rule (codes "late") ∷ [])
+    ∷ on_log (codes "add") (word_rule (codes "FROM") ∷ word_rule (codes "TO") ∷ option_rule (codes "lo") ∷ option_rule (codes "hi") ∷ [])
+    ∷ on_log (codes "amend") (word_rule (codes "ID") ∷ word_rule (codes "FROM") ∷ word_rule (codes "TO") ∷ option_rule (codes "lo") ∷ option_rule (codes "hi") ∷ [])
+    ∷ on_log (codes "withdraw") (word_rule (codes "ID") ∷ [])
+    ∷ on_log (codes "done") (word_rule (codes "EVENT") ∷ word_rule (codes "TIME") ∷ [])
+    ∷ on_log (codes "merge") (word_rule (codes "OTHER") ∷ [])
     ∷ on_log (codes "report") []
-    ∷ on_log (codes "next") next_words
-    ∷ on_log (codes "ready") ready_words
-    ∷ on_log (codes "why") why_words
+    ∷ on_log (codes "next") (word_rule (codes "NOW") ∷ [])
+    ∷ on_log (codes "ready") (word_rule (codes "NOW") ∷ [])
+    ∷ on_log (codes "why") (word_rule (codes "EVENT") ∷ [])
     ∷ on_log (codes "records") []
     ∷ on_log (codes "steps") []
     ∷ on_log (codes "bounds") []
-    ∷ on_log (codes "check") check_words
-    ∷ on_log (codes "rehearse") rehearse_words
+    ∷ on_log (codes "check") (many_rule (codes "TIME") ∷ [])
+    ∷ on_log (codes "rehearse") (word_rule (codes "NOW") ∷ [])
     ∷ on_log (codes "draw") []
-    ∷ on_log (codes "serve") serve_words
-    ∷ on_log (codes "send") send_words
+    ∷ on_log (codes "serve") (word_rule (codes "ADDR") ∷ number_rule (codes "COUNT") 1 most_connections ∷ number_option_rule (codes "seconds") 1 most_seconds ∷ [])
+    ∷ on_log (codes "send") (word_rule (codes "ADDR") ∷ number_option_rule (codes "seconds") 1 most_seconds ∷ [])
     ∷ []
 
 -- the program: help and the version are flags, and one of the commands has to be named
@@ -142,16 +92,3 @@ program shapes = record { top = record top.top { is_leaf = false }; subs = shape
 
 unfoldable pub stn : App
 stn = program commands
-
--- clap reads the command's words by this shape
-pub record Reads (shape : Shape) (command : Command) : Type 0 where
-  pub is : shape_of command ≡ shape
-  pub own : (fields_of command).has_globals ≡ false
-
--- where clap reads the words of the one command, it reads those and one more of the other
-abbrev pub Grows : {E : Type 0} → Rule → Result Command E → Result Command E → Type 0
-Grows rule old new = (name : Text) (words : List Rule) → IfOk old (Reads (command name words)) → IfOk new (Reads (command name (words ++ rule ∷ [])))
-
--- where clap reads the program with some commands, it reads it with these too, as the last
-abbrev pub Adds : {E : Type 0} → List Shape → Result Command E → Result Command E → Type 0
-Adds more old new = (before : List Shape) → IfOk old (λ o. app_of o ≡ program before) → IfOk new (λ n. app_of n ≡ program (before ++ more))

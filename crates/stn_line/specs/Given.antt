@@ -1,11 +1,12 @@
 -- For proofs alone: no public clause cites these words.
 -- What the words of an accepted command hold.
-use Rattle.std.specs.Prelude.{◌≡◌, ◌≢◌, true, List, [], ◌∷◌, IsSomeAnd, IfSome, ℕ, codes, ⊤, find}
+use Rattle.std.specs.Prelude.{◌≡◌, Bool, true, false, List, [], ◌∷◌, Option, Some, IsSomeAnd, IfSome, ℕ, ⊤, find}
 use Rattle.std.specs.Str.{bytes_eq}
 use Rattle.clap.specs.Facts.{parser_of_value}
 use Rattle.clap.specs.Words.{Accepts, IsUnsignedIn, Row, Rule, Shape, Text, built, first_of}
-use Rattle.stn_records.specs.Id.{most_sites}
-use Rattle.stn_line.specs.Commands.{stn}
+use Rattle.clap.specs.declared.builder.value_parser.ValueParser.{ValueParser}
+use Rattle.clap.specs.declared.builder.value_parser.ValueParser.TheVariants.{String, Unsigned}
+use Rattle.stn_line.specs.Commands.{commands, program}
 
 -- the property holds of each item
 abbrev pub Each : {X : Type 0} → (X → Type 0) → List X → Type 0
@@ -22,10 +23,6 @@ abbrev pub HasWordsAmong : List Shape → Text → List Row → Type 0
 HasWordsAmong commands name rows =
     IsSomeAnd (find (λ command. bytes_eq command.name name) commands) (λ command. Each (IsGiven rows) command.rules)
 
--- one of the program's commands has this name, and each word that it requires is given
-abbrev pub HasWords : Text → List Row → Type 0
-HasWords name rows = HasWordsAmong (built stn).subs name rows
-
 -- the word of this name has a value
 abbrev pub IsThere : Text → List Row → Type 0
 IsThere name rows = IsSomeAnd (first_of name rows) (λ _. ⊤)
@@ -38,13 +35,16 @@ IsNumberThere name least most rows = IsSomeAnd (first_of name rows) (IsUnsignedI
 abbrev pub IsNumberWhereGiven : Text → ℕ → ℕ → List Row → Type 0
 IsNumberWhereGiven name least most rows = IfSome (first_of name rows) (IsUnsignedIn least most)
 
--- a log and a site are there
-pub record IsThereOnLog (rows : List Row) : Type 0 where
-  pub log : IsThere (codes "LOG") rows
-  pub site : IsNumberThere (codes "SITE") 1 most_sites rows
+-- what is known of a word, by whether it is required and by its parser
+abbrev pub HoldsWord : Bool → Option ValueParser → Text → List Row → Type 0
+HoldsWord true (Some String) word rows = IsThere word rows
+HoldsWord true (Some (Unsigned least most)) word rows = IsNumberThere word least most rows
+HoldsWord false (Some (Unsigned least most)) word rows = IsNumberWhereGiven word least most rows
+HoldsWord required parser word rows = ⊤
 
--- if the name is a command's, that command works on a log
-pub record IsForLog (name : Text) : Type 0 where
-  pub run : name ≢ codes "run"
-  pub serve : name ≢ codes "serve"
-  pub send : name ≢ codes "send"
+abbrev pub HoldsWords : List Row → List Rule → Type 0
+HoldsWords rows rules = Each (λ (rule : Rule). HoldsWord rule.required rule.parser rule.id rows) rules
+
+-- one of the program's commands has this name, and its words are given
+abbrev pub HasWords : Text → List Row → Type 0
+HasWords name rows = IsSomeAnd (find (λ command. bytes_eq command.name name) (built (program commands)).subs) (λ command. HoldsWords rows command.rules)

@@ -1,3 +1,4 @@
 pub mod Commands
 pub mod Given
-pub mod Tasks
+pub mod Lines
+pub mod Table

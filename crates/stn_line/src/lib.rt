@@ -1,8 +1,8 @@
 //! The words of the command line: what `stn` is asked to do, on which log and for which site.
 #![tactic(auto)]
 
-pub use reading::task;
-pub use words::{Asked, LineFault, LogCommand, SiteLog, Task};
+pub use reading::line;
+pub use words::{Line, LineFault, SiteLog};
 
 mod commands;
 mod help;

@@ -1,12 +1,12 @@
-ghost use Rattle.std.specs.Prelude.{◌≡◌, ◌≤◌, IfErr, IfOk, IsSomeAnd, Some, [], ℕ, codes, map, option_map};
-ghost use Rattle.clap.specs.Words.{IsUnsignedIn, fault_of, first_of, found_of, rows_of, subcommand_of, subcommand_rows_of};
-ghost use Rattle.stn_line.specs.Commands.{most_connections, most_read_steps, most_seconds, stn as program};
-ghost use Rattle.stn_line.specs.Given.{HasWords, IsForLog, IsThere, IsThereOnLog, IsNumberThere, IsNumberWhereGiven};
-ghost use Rattle.stn_line.specs.Tasks.{IsCommandOf, IsFaultOf, IsNumber, IsOnLog, IsOption, IsSeconds, IsTaskOf, IsWord, IsWords};
-ghost use Rattle.stn_line.specs.declared.words.LogCommand.TheVariants.{Ask};
+ghost use Rattle.std.specs.Prelude.{◌≡◌, ◌≤◌, IfErr, IfOk, IsSomeAnd, [], ℕ, codes, map};
+ghost use Rattle.clap.specs.Words.{fault_of, found_of, rows_of, subcommand_of, subcommand_rows_of};
+ghost use Rattle.stn_line.specs.Commands.{most_read_steps, most_seconds, stn as program};
+ghost use Rattle.stn_records.specs.Id.{most_sites};
+ghost use Rattle.stn_line.specs.Given.{HasWords, IsThere, IsNumberThere, IsNumberWhereGiven};
+ghost use Rattle.stn_line.specs.Lines.{IsFaultOf, IsLineOf, IsNumber, IsOnLog, IsOption, IsSeconds, IsWord, IsWords};
 
 use crate::commands::stn;
-use crate::words::{Asked, LineFault, LogCommand, SiteLog, Task};
+use crate::words::{Line, LineFault, SiteLog};
 use clap::ArgMatches;
 use clap::error::ErrorKind;
 use std::alloc::{AllocError, Global};
@@ -15,11 +15,11 @@ use stn_records::Site;
 // A session or an exchange may take so many seconds where the words say nothing.
 const USUAL_SECONDS: u16 = 60;
 
-/// The task that the words ask for; the first word is the program's name. Where clap takes the
+/// The command line that the words are; the first word is the program's name. Where clap takes the
 /// words, only memory can fail.
-pub fn task<'a>(alloc: Global, words: &'a [&'a str]) -> Result<Task<'a>, LineFault>
-    ensures found { IfOk result (λ task. IsSomeAnd (subcommand_of program (map (λ word. word.now) words.entry.now))
-        (λ command. IsTaskOf task command.0 command.1)) }
+pub fn line<'a>(alloc: Global, words: &'a [&'a str]) -> Result<Line<'a>, LineFault>
+    ensures found { IfOk result (λ line. IsSomeAnd (subcommand_of program (map (λ word. word.now) words.entry.now))
+        (λ command. IsLineOf line command.0 command.1)) }
     ensures taken { IfOk result (λ _. fault_of program (map (λ word. word.now) words.entry.now) ≡ []) }
     ensures refused { IfErr result (λ fault. IsFaultOf fault (map (λ word. word.now) words.entry.now)) }
 {
@@ -30,72 +30,22 @@ pub fn task<'a>(alloc: Global, words: &'a [&'a str]) -> Result<Task<'a>, LineFau
     }
 }
 
-// The task that accepted words name, with its words.
-fn read<'a>(alloc: Global, matches: &ArgMatches<'a>) -> Result<Task<'a>, AllocError>
+// The command line of accepted words.
+fn read<'a>(alloc: Global, matches: &ArgMatches<'a>) -> Result<Line<'a>, AllocError>
     requires { IsSomeAnd (subcommand_rows_of matches.now) (λ command. HasWords command.0 command.1) }
-    ensures { IfOk result (λ task. IsSomeAnd (subcommand_rows_of matches.now) (λ command. IsTaskOf task command.0 command.1)) }
+    ensures { IfOk result (λ line. IsSomeAnd (subcommand_rows_of matches.now) (λ command. IsLineOf line command.0 command.1)) }
 {
     let (name, words) = matches.subcommand().unwrap();
-    match name {
-        "run" => Ok(Task::Run),
-        "serve" => Ok(serve(words)),
-        "send" => Ok(send(words)),
-        _ => on_log(alloc, name, words),
-    }
+    command(alloc, name, words)
 }
 
-fn serve<'a>(words: &ArgMatches<'a>) -> Task<'a>
-    requires log { IsThereOnLog (rows_of (found_of words.now)) }
-    requires address { IsThere (codes "ADDR") (rows_of (found_of words.now)) }
-    requires count { IsNumberThere (codes "COUNT") 1 most_connections (rows_of (found_of words.now)) }
-    requires seconds { IsNumberWhereGiven (codes "seconds") 1 most_seconds (rows_of (found_of words.now)) }
-    ensures { IsTaskOf result (codes "serve") (rows_of (found_of words.now)) }
-{
-    Task::Serve {
-        log: site_log(words),
-        address: word(words, "ADDR"),
-        count: number(words, "COUNT"),
-        seconds: seconds(words),
-    }
-}
-
-fn send<'a>(words: &ArgMatches<'a>) -> Task<'a>
-    requires log { IsThereOnLog (rows_of (found_of words.now)) }
-    requires address { IsThere (codes "ADDR") (rows_of (found_of words.now)) }
-    requires seconds { IsNumberWhereGiven (codes "seconds") 1 most_seconds (rows_of (found_of words.now)) }
-    ensures { IsTaskOf result (codes "send") (rows_of (found_of words.now)) }
-{
-    Task::Send {
-        log: site_log(words),
-        address: word(words, "ADDR"),
-        seconds: seconds(words),
-    }
-}
-
-// A command that works on a log.
-fn on_log<'a>(alloc: Global, name: &str, words: &ArgMatches<'a>) -> Result<Task<'a>, AllocError>
-    requires has { HasWords name.now (rows_of (found_of words.now)) }
-    requires is { IsForLog name.now }
-    ensures { IfOk result (λ task. IsTaskOf task name.now (rows_of (found_of words.now))) }
-{
-    let log = site_log(words);
-    match command(alloc, name, words) {
-        Ok(command) => Ok(Task::Command { log, command }),
-        Err(fault) => Err(fault),
-    }
-}
-
-// The command of a name, for any log.
-fn command<'a>(
-    alloc: Global,
-    name: &str,
-    words: &ArgMatches<'a>,
-) -> Result<LogCommand<'a>, AllocError>
-    requires has { HasWords name.now (rows_of (found_of words.now)) }
-    requires is { IsForLog name.now }
-    ensures { IfOk result (λ command. IsCommandOf command name.now (rows_of (found_of words.now))) }
+// The command of a name, with its words.
+fn command<'a>(alloc: Global, name: &str, words: &ArgMatches<'a>) -> Result<Line<'a>, AllocError>
+    requires { HasWords name.now (rows_of (found_of words.now)) }
+    ensures { IfOk result (λ line. IsLineOf line name.now (rows_of (found_of words.now))) }
 {
     match name {
+        "run" => Ok(Line::Run),
         "bare" => Ok(bare(words)),
         "init" => Ok(init(words)),
         "loosen" => Ok(loosen(words)),
@@ -104,45 +54,58 @@ fn command<'a>(
         "withdraw" => Ok(withdraw(words)),
         "done" => Ok(done(words)),
         "merge" => Ok(merge(words)),
-        "report" => Ok(LogCommand::Report),
+        "report" => Ok(Line::Report {
+            log: site_log(words),
+        }),
         "next" => Ok(next(words)),
         "ready" => Ok(ready(words)),
         "why" => Ok(why(words)),
-        "records" => Ok(asking(Asked::Records)),
-        "steps" => Ok(asking(Asked::Steps)),
-        "bounds" => Ok(asking(Asked::Bounds)),
+        "records" => Ok(Line::Records {
+            log: site_log(words),
+        }),
+        "steps" => Ok(Line::Steps {
+            log: site_log(words),
+        }),
+        "bounds" => Ok(Line::Bounds {
+            log: site_log(words),
+        }),
         "check" => check(alloc, words),
         "rehearse" => Ok(rehearse(words)),
-        _ => Ok(LogCommand::Draw),
+        "draw" => Ok(Line::Draw {
+            log: site_log(words),
+        }),
+        "serve" => Ok(serve(words)),
+        _ => Ok(send(words)),
     }
 }
 
-fn bare<'a>(words: &ArgMatches<'a>) -> LogCommand<'a>
-    requires { IsNumberThere (codes "STEPS") 0 most_read_steps (rows_of (found_of words.now)) }
-    ensures { IsCommandOf result (codes "bare") (rows_of (found_of words.now)) }
+fn bare<'a>(words: &ArgMatches<'a>) -> Line<'a>
+    requires { HasWords (codes "bare") (rows_of (found_of words.now)) }
+    ensures { IsLineOf result (codes "bare") (rows_of (found_of words.now)) }
 {
-    LogCommand::Bare {
+    Line::Bare {
+        log: site_log(words),
         steps: number(words, "STEPS"),
     }
 }
 
-fn init<'a>(words: &ArgMatches<'a>) -> LogCommand<'a>
-    requires domain { IsThere (codes "DOMAIN") (rows_of (found_of words.now)) }
-    requires plan { IsThere (codes "PLAN") (rows_of (found_of words.now)) }
-    ensures { IsCommandOf result (codes "init") (rows_of (found_of words.now)) }
+fn init<'a>(words: &ArgMatches<'a>) -> Line<'a>
+    requires { HasWords (codes "init") (rows_of (found_of words.now)) }
+    ensures { IsLineOf result (codes "init") (rows_of (found_of words.now)) }
 {
-    LogCommand::Init {
+    Line::Init {
+        log: site_log(words),
         domain: word(words, "DOMAIN"),
         plan: word(words, "PLAN"),
     }
 }
 
-fn loosen<'a>(words: &ArgMatches<'a>) -> LogCommand<'a>
-    requires domain { IsThere (codes "DOMAIN") (rows_of (found_of words.now)) }
-    requires plan { IsThere (codes "PLAN") (rows_of (found_of words.now)) }
-    ensures { IsCommandOf result (codes "loosen") (rows_of (found_of words.now)) }
+fn loosen<'a>(words: &ArgMatches<'a>) -> Line<'a>
+    requires { HasWords (codes "loosen") (rows_of (found_of words.now)) }
+    ensures { IsLineOf result (codes "loosen") (rows_of (found_of words.now)) }
 {
-    LogCommand::Loosen {
+    Line::Loosen {
+        log: site_log(words),
         domain: word(words, "DOMAIN"),
         plan: word(words, "PLAN"),
         early: option(words, "early"),
@@ -150,12 +113,12 @@ fn loosen<'a>(words: &ArgMatches<'a>) -> LogCommand<'a>
     }
 }
 
-fn add<'a>(words: &ArgMatches<'a>) -> LogCommand<'a>
-    requires from { IsThere (codes "FROM") (rows_of (found_of words.now)) }
-    requires to { IsThere (codes "TO") (rows_of (found_of words.now)) }
-    ensures { IsCommandOf result (codes "add") (rows_of (found_of words.now)) }
+fn add<'a>(words: &ArgMatches<'a>) -> Line<'a>
+    requires { HasWords (codes "add") (rows_of (found_of words.now)) }
+    ensures { IsLineOf result (codes "add") (rows_of (found_of words.now)) }
 {
-    LogCommand::Add {
+    Line::Add {
+        log: site_log(words),
         from: word(words, "FROM"),
         to: word(words, "TO"),
         lo: option(words, "lo"),
@@ -163,13 +126,12 @@ fn add<'a>(words: &ArgMatches<'a>) -> LogCommand<'a>
     }
 }
 
-fn amend<'a>(words: &ArgMatches<'a>) -> LogCommand<'a>
-    requires id { IsThere (codes "ID") (rows_of (found_of words.now)) }
-    requires from { IsThere (codes "FROM") (rows_of (found_of words.now)) }
-    requires to { IsThere (codes "TO") (rows_of (found_of words.now)) }
-    ensures { IsCommandOf result (codes "amend") (rows_of (found_of words.now)) }
+fn amend<'a>(words: &ArgMatches<'a>) -> Line<'a>
+    requires { HasWords (codes "amend") (rows_of (found_of words.now)) }
+    ensures { IsLineOf result (codes "amend") (rows_of (found_of words.now)) }
 {
-    LogCommand::Amend {
+    Line::Amend {
+        log: site_log(words),
         id: word(words, "ID"),
         from: word(words, "FROM"),
         to: word(words, "TO"),
@@ -178,79 +140,108 @@ fn amend<'a>(words: &ArgMatches<'a>) -> LogCommand<'a>
     }
 }
 
-fn withdraw<'a>(words: &ArgMatches<'a>) -> LogCommand<'a>
-    requires { IsThere (codes "ID") (rows_of (found_of words.now)) }
-    ensures { IsCommandOf result (codes "withdraw") (rows_of (found_of words.now)) }
+fn withdraw<'a>(words: &ArgMatches<'a>) -> Line<'a>
+    requires { HasWords (codes "withdraw") (rows_of (found_of words.now)) }
+    ensures { IsLineOf result (codes "withdraw") (rows_of (found_of words.now)) }
 {
-    LogCommand::Withdraw {
+    Line::Withdraw {
+        log: site_log(words),
         id: word(words, "ID"),
     }
 }
 
-fn done<'a>(words: &ArgMatches<'a>) -> LogCommand<'a>
-    requires event { IsThere (codes "EVENT") (rows_of (found_of words.now)) }
-    requires time { IsThere (codes "TIME") (rows_of (found_of words.now)) }
-    ensures { IsCommandOf result (codes "done") (rows_of (found_of words.now)) }
+fn done<'a>(words: &ArgMatches<'a>) -> Line<'a>
+    requires { HasWords (codes "done") (rows_of (found_of words.now)) }
+    ensures { IsLineOf result (codes "done") (rows_of (found_of words.now)) }
 {
-    LogCommand::Done {
+    Line::Done {
+        log: site_log(words),
         event: word(words, "EVENT"),
         time: word(words, "TIME"),
     }
 }
 
-fn merge<'a>(words: &ArgMatches<'a>) -> LogCommand<'a>
-    requires { IsThere (codes "OTHER") (rows_of (found_of words.now)) }
-    ensures { IsCommandOf result (codes "merge") (rows_of (found_of words.now)) }
+fn merge<'a>(words: &ArgMatches<'a>) -> Line<'a>
+    requires { HasWords (codes "merge") (rows_of (found_of words.now)) }
+    ensures { IsLineOf result (codes "merge") (rows_of (found_of words.now)) }
 {
-    LogCommand::Merge {
+    Line::Merge {
+        log: site_log(words),
         other: word(words, "OTHER"),
     }
 }
 
-fn next<'a>(words: &ArgMatches<'a>) -> LogCommand<'a>
-    requires { IsThere (codes "NOW") (rows_of (found_of words.now)) }
-    ensures { IsCommandOf result (codes "next") (rows_of (found_of words.now)) }
+fn next<'a>(words: &ArgMatches<'a>) -> Line<'a>
+    requires { HasWords (codes "next") (rows_of (found_of words.now)) }
+    ensures { IsLineOf result (codes "next") (rows_of (found_of words.now)) }
 {
-    LogCommand::Next {
+    Line::Next {
+        log: site_log(words),
         now: word(words, "NOW"),
     }
 }
 
-fn ready<'a>(words: &ArgMatches<'a>) -> LogCommand<'a>
-    requires { IsThere (codes "NOW") (rows_of (found_of words.now)) }
-    ensures { IsCommandOf result (codes "ready") (rows_of (found_of words.now)) }
+fn ready<'a>(words: &ArgMatches<'a>) -> Line<'a>
+    requires { HasWords (codes "ready") (rows_of (found_of words.now)) }
+    ensures { IsLineOf result (codes "ready") (rows_of (found_of words.now)) }
 {
-    let now = word(words, "NOW");
-    asking(Asked::Ready { now })
+    Line::Ready {
+        log: site_log(words),
+        now: word(words, "NOW"),
+    }
 }
 
-fn why<'a>(words: &ArgMatches<'a>) -> LogCommand<'a>
-    requires { IsThere (codes "EVENT") (rows_of (found_of words.now)) }
-    ensures { IsCommandOf result (codes "why") (rows_of (found_of words.now)) }
+fn why<'a>(words: &ArgMatches<'a>) -> Line<'a>
+    requires { HasWords (codes "why") (rows_of (found_of words.now)) }
+    ensures { IsLineOf result (codes "why") (rows_of (found_of words.now)) }
 {
-    let event = word(words, "EVENT");
-    asking(Asked::Why { event })
+    Line::Why {
+        log: site_log(words),
+        event: word(words, "EVENT"),
+    }
 }
 
-fn asking<'a>(asked: Asked<'a>) -> LogCommand<'a>
-    ensures { result ≡ Ask asked.entry }
-{
-    LogCommand::Ask { asked }
-}
-
-fn check<'a>(alloc: Global, words: &ArgMatches<'a>) -> Result<LogCommand<'a>, AllocError>
-    ensures { IfOk result (λ command. IsCommandOf command (codes "check") (rows_of (found_of words.now))) }
+fn check<'a>(alloc: Global, words: &ArgMatches<'a>) -> Result<Line<'a>, AllocError>
+    requires { HasWords (codes "check") (rows_of (found_of words.now)) }
+    ensures { IfOk result (λ line. IsLineOf line (codes "check") (rows_of (found_of words.now))) }
 {
     let times = all_words(alloc, words, "TIME")?;
-    Ok(LogCommand::Check { times })
+    Ok(Line::Check {
+        log: site_log(words),
+        times,
+    })
 }
 
-fn rehearse<'a>(words: &ArgMatches<'a>) -> LogCommand<'a>
-    requires { IsThere (codes "NOW") (rows_of (found_of words.now)) }
-    ensures { IsCommandOf result (codes "rehearse") (rows_of (found_of words.now)) }
+fn rehearse<'a>(words: &ArgMatches<'a>) -> Line<'a>
+    requires { HasWords (codes "rehearse") (rows_of (found_of words.now)) }
+    ensures { IsLineOf result (codes "rehearse") (rows_of (found_of words.now)) }
 {
-    LogCommand::Rehearse {
+    Line::Rehearse {
+        log: site_log(words),
         now: word(words, "NOW"),
+    }
+}
+
+fn serve<'a>(words: &ArgMatches<'a>) -> Line<'a>
+    requires { HasWords (codes "serve") (rows_of (found_of words.now)) }
+    ensures { IsLineOf result (codes "serve") (rows_of (found_of words.now)) }
+{
+    Line::Serve {
+        log: site_log(words),
+        address: word(words, "ADDR"),
+        count: number(words, "COUNT"),
+        seconds: seconds(words),
+    }
+}
+
+fn send<'a>(words: &ArgMatches<'a>) -> Line<'a>
+    requires { HasWords (codes "send") (rows_of (found_of words.now)) }
+    ensures { IsLineOf result (codes "send") (rows_of (found_of words.now)) }
+{
+    Line::Send {
+        log: site_log(words),
+        address: word(words, "ADDR"),
+        seconds: seconds(words),
     }
 }
 
@@ -297,7 +288,8 @@ fn option<'a>(words: &ArgMatches<'a>, name: &str) -> Option<&'a str>
 
 // The log, and its site.
 fn site_log<'a>(words: &ArgMatches<'a>) -> SiteLog<'a>
-    requires { IsThereOnLog (rows_of (found_of words.now)) }
+    requires log { IsThere (codes "LOG") (rows_of (found_of words.now)) }
+    requires site { IsNumberThere (codes "SITE") 1 most_sites (rows_of (found_of words.now)) }
     ensures { IsOnLog result (rows_of (found_of words.now)) }
 {
     SiteLog {
@@ -308,7 +300,7 @@ fn site_log<'a>(words: &ArgMatches<'a>) -> SiteLog<'a>
 
 // The site of the log.
 fn site(words: &ArgMatches<'_>) -> Site
-    requires { IsThereOnLog (rows_of (found_of words.now)) }
+    requires { IsNumberThere (codes "SITE") 1 most_sites (rows_of (found_of words.now)) }
     ensures { IsNumber (codes "SITE") result (rows_of (found_of words.now)) }
 {
     Site::new(number(words, "SITE") as u8).unwrap()

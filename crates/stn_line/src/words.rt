@@ -11,37 +11,27 @@ pub struct SiteLog<'a> {
     pub site: Site,
 }
 
-/// A question about the plan of a log. Events (`z`, `s1`, `e1`) and times (in seconds) are given as they were written.
-#[derive(Drop)]
-pub enum Asked<'a> {
-    /// Which records the log holds.
-    Records,
-    /// Which steps the plan has.
-    Steps,
-    /// Which bounds count.
-    Bounds,
-    /// Which events may run from a time on, and until when.
-    Ready { now: &'a str },
-    /// Why an event's window ends where it does.
-    Why { event: &'a str },
-}
-
-/// A command that works on a log. Events (`z`, `s1`, `e1`), times (in seconds), ids (`1.2`) and the names of texts and logs
+/// A command line. Events (`z`, `s1`, `e1`), times (in seconds), ids (`1.2`), addresses and the names of texts and logs
 /// are given as they were written: whoever does the command reads them.
 #[derive(Drop)]
-pub enum LogCommand<'a> {
+pub enum Line<'a> {
+    /// Runs a script from the standard input.
+    Run,
     /// Makes the log of a plan of so many steps without a domain.
     Bare {
+        log: SiteLog<'a>,
         steps: u16,
     },
     /// Makes the log of a plan text over a domain text.
     Init {
+        log: SiteLog<'a>,
         domain: &'a str,
         plan: &'a str,
     },
     /// Makes the log of a plan whose steps may end so much earlier and so much later than a plan text over a domain text says; a time
     /// that is not given is 0.
     Loosen {
+        log: SiteLog<'a>,
         domain: &'a str,
         plan: &'a str,
         early: Option<&'a str>,
@@ -49,6 +39,7 @@ pub enum LogCommand<'a> {
     },
     /// Adds a bound on the time from one event to another; a side that is not given is open.
     Add {
+        log: SiteLog<'a>,
         from: &'a str,
         to: &'a str,
         lo: Option<&'a str>,
@@ -56,6 +47,7 @@ pub enum LogCommand<'a> {
     },
     /// Adds a bound in place of a record, which is replaced for good; a side that is not given is open.
     Amend {
+        log: SiteLog<'a>,
         id: &'a str,
         from: &'a str,
         to: &'a str,
@@ -64,44 +56,65 @@ pub enum LogCommand<'a> {
     },
     /// Withdraws a record.
     Withdraw {
+        log: SiteLog<'a>,
         id: &'a str,
     },
     /// Records that an event took place at a time.
     Done {
+        log: SiteLog<'a>,
         event: &'a str,
         time: &'a str,
     },
     /// Takes all that another log holds.
     Merge {
+        log: SiteLog<'a>,
         other: &'a str,
     },
     /// Tells every event's window, or a cycle of bounds that contradict each other.
-    Report,
+    Report {
+        log: SiteLog<'a>,
+    },
     /// Tells which event is to take place next.
     Next {
+        log: SiteLog<'a>,
         now: &'a str,
     },
-    /// Answers a question about the plan.
-    Ask {
-        asked: Asked<'a>,
+    /// Tells which events may run from a time on, and until when.
+    Ready {
+        log: SiteLog<'a>,
+        now: &'a str,
+    },
+    /// Tells why an event's window ends where it does.
+    Why {
+        log: SiteLog<'a>,
+        event: &'a str,
+    },
+    /// Tells which records the log holds.
+    Records {
+        log: SiteLog<'a>,
+    },
+    /// Tells which steps the plan has.
+    Steps {
+        log: SiteLog<'a>,
+    },
+    /// Tells which bounds count.
+    Bounds {
+        log: SiteLog<'a>,
     },
     /// Tells whether times, one for each event from `s1` on, are a schedule.
     Check {
+        log: SiteLog<'a>,
         times: Vec<&'a str, Global>,
     },
     /// Tells how the rest of the plan runs from a time on.
     Rehearse {
+        log: SiteLog<'a>,
         now: &'a str,
     },
     /// Draws every event's window, or a cycle of bounds that contradict each other.
-    Draw,
-}
-
-/// What the words of a command line ask for.
-#[derive(Drop)]
-pub enum Task<'a> {
-    /// Runs a script from the standard input.
-    Run,
+    Draw {
+        log: SiteLog<'a>,
+    },
     /// Serves connections at an address, one after another; each session may take so many seconds.
     Serve {
         log: SiteLog<'a>,
@@ -115,14 +128,9 @@ pub enum Task<'a> {
         address: &'a str,
         seconds: u16,
     },
-    /// Does a command that works on a log.
-    Command {
-        log: SiteLog<'a>,
-        command: LogCommand<'a>,
-    },
 }
 
-/// Why words ask for no task.
+/// Why words are no command line.
 #[derive(Debug, Error, Drop)]
 pub enum LineFault {
     /// The words are no command's, or ask for help or the version: the text for the user, and

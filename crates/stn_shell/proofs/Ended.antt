@@ -1,6 +1,13 @@
 -- How a call ended, of what is known of it where it did its work and where it did not.
-use Rattle.std.proofs.Common.{◌≡◌, Result, Ok, Err, OnOk, IfOk, IfErr, MatchResult}
+use Rattle.std.proofs.Common.{◌≡◌, ℕ, List, Option, None, Vec, Result, Ok, Err, OnOk, IfOk, IfErr, MatchResult}
 use Rattle.stn_exec.specs.Effect.{and_then}
+use Rattle.stn_line.specs.declared.words.Line.{Line}
+use Rattle.stn_store.specs.Store.{Entry}
+use Rattle.stn_refusal.specs.declared.failure.Failure.{Failure}
+use Rattle.stn_refusal.specs.declared.failure.Fault.{Fault}
+use Rattle.stn_shell.specs.Commands.{IsAnswered}
+use Rattle.stn_shell.specs.Endings.{IsUndone, Succeeds}
+use Rattle.stn_shell.specs.Refusals.{IsRefusalOf}
 
 pub ended : {T E : Type 0} (call : Result T E) {Done Does : Type 0} {Stopped Stops : E → Type 0} → OnOk call Done → IfErr call Stopped
     → (Done → Does) → ((fault : E) → Stopped fault → Stops fault) → MatchResult call (λ _. Does) Stops
@@ -17,3 +24,10 @@ pub told_as : {T V E : Type 0} (value : V) (call : Result T E) (told : Result V 
     → told ≡ and_then call (λ _. Ok value) → MatchResult call (λ _. Does value) Stops → MatchResult told Does Stops
 told_as value (Ok done) told Does Stops is all = rw is all
 told_as value (Err fault) told Does Stops is all = rw is all
+
+-- a command on a log that was answered, and that nothing refuses
+pub succeeded : {A : Type 0} (call : Result (Vec ℕ A) Failure) (old new : Option (List Entry)) (line : Line) (Fails : Fault → Type 0)
+    → MatchResult call (λ text. IsAnswered old new line text.items × IsRefusalOf old line None) (IsUndone (IsRefusalOf old line) Fails old new)
+    → MatchResult call (λ text. Succeeds old new line text.items) (IsUndone (IsRefusalOf old line) Fails old new)
+succeeded (Ok text) old new line Fails is = record { answered = is.0; accepted = is.1 }
+succeeded (Err failure) old new line Fails is = is

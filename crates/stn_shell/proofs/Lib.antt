@@ -5,3 +5,4 @@ mod Failed
 mod Readings
 mod Ended
 mod Made
+mod OnLog

@@ -1,4 +1,4 @@
--- What a task did and printed, over a store of logs and texts: how it came to its end, or why it stopped.
+-- What a command line did and printed, over a store of logs and texts: how it came to its end, or why it stopped.
 use Rattle.std.specs.Prelude.{◌≡◌, ◌⊎◌, ℕ, ◌<◌, ◌==◌, if◌then◌else◌, List, [], ◌∷◌, ◌++◌, length, codes, Option, Some, IfSome}
 use Rattle.std.specs.Io.KnownBytes.{Consumes, IsAtEnd, Keeps}
 use Rattle.stn_device.specs.Bytes.{most_bytes}
@@ -12,9 +12,8 @@ use Rattle.stn_shell.specs.Printing.{Device, Prints, IsUnprinted}
 use Rattle.stn_shell.specs.Refusals.{IsRefusalOf}
 use Rattle.stn_store.specs.Store.{Entry, Opens, IsUnopened, IsLack}
 use Rattle.stn_line.specs.declared.words.SiteLog.{SiteLog}
-use Rattle.stn_line.specs.declared.words.LogCommand.{LogCommand}
-use Rattle.stn_line.specs.declared.words.Task.{Task}
-use Rattle.stn_line.specs.declared.words.Task.TheVariants.{Run, Serve, Send, Command}
+use Rattle.stn_line.specs.declared.words.Line.{Line}
+use Rattle.stn_line.specs.declared.words.Line.TheVariants.{Run, Serve, Send}
 use Rattle.stn_refusal.specs.declared.failure.Failure.{Failure}
 use Rattle.stn_refusal.specs.declared.failure.Failure.TheVariants.{Failed}
 use Rattle.stn_refusal.specs.declared.failure.Fault.{Fault}
@@ -79,29 +78,29 @@ StopsFrom Fails before after log old new failure =
     ⊎ ((found : Held) × (left : Content) × Opens before log.name.now log.site found
     × StopsSending Fails found.source log found.state left before after old new failure)
 
--- a command of a log was done, and its answer printed
-pub record Answers (before after : Option (List Entry)) (log : SiteLog) (command : LogCommand) (old new : Device) : Type 0 where
+-- a command on a log was done, and its answer printed
+pub record Answers (before after : Option (List Entry)) (line : Line) (old new : Device) : Type 0 where
   pub text : List ℕ
-  pub answered : IsAnswered before after log command text
+  pub answered : IsAnswered before after line text
   pub printed : Prints old new text
 
 -- why not: it is refused, or memory or a device of the store failed, and then nothing was saved or printed; or its answer could not
 -- be printed, after the log was saved
-abbrev pub StopsCommand : (Fault → Type 0) → Option (List Entry) → Option (List Entry) → SiteLog → LogCommand → Device → Device → Failure → Type 0
-StopsCommand Fails before after log command old new failure =
-    ((IsRefusalOf before log command (Some failure) ⊎ IsLack Fails failure) × (after ≡ before) × (new ≡ old))
-    ⊎ ((text : List ℕ) × IsAnswered before after log command text × IsUnprinted old new text failure)
+abbrev pub StopsCommand : (Fault → Type 0) → Option (List Entry) → Option (List Entry) → Line → Device → Device → Failure → Type 0
+StopsCommand Fails before after line old new failure =
+    ((IsRefusalOf before line (Some failure) ⊎ IsLack Fails failure) × (after ≡ before) × (new ≡ old))
+    ⊎ ((text : List ℕ) × IsAnswered before after line text × IsUnprinted old new text failure)
 
--- a task came to its end, with a status
-abbrev pub IsCarriedOut : Option (List Entry) → Option (List Entry) → Task → Device → Device → Device → Device → ℕ → Type 0
+-- a command line came to its end, with a status
+abbrev pub IsCarriedOut : Option (List Entry) → Option (List Entry) → Line → Device → Device → Device → Device → ℕ → Type 0
 IsCarriedOut before after Run unread rest old new status = RunsScript unread rest old new status
 IsCarriedOut before after (Serve log address count seconds) unread rest old new status = (status ≡ 0) × ServesAt before after log count old new
 IsCarriedOut before after (Send log address seconds) unread rest old new status = (status ≡ 0) × SendsFrom before after log old new
-IsCarriedOut before after (Command log command) unread rest old new status = (status ≡ 0) × Answers before after log command old new
+IsCarriedOut before after line unread rest old new status = (status ≡ 0) × Answers before after line old new
 
--- why a task did not come to its end, and what it did until then
-abbrev pub Stops : (Fault → Type 0) → Option (List Entry) → Option (List Entry) → Task → Device → Device → Device → Device → Failure → Type 0
+-- why it did not come to its end, and what it did until then
+abbrev pub Stops : (Fault → Type 0) → Option (List Entry) → Option (List Entry) → Line → Device → Device → Device → Device → Failure → Type 0
 Stops Fails before after Run unread rest old new failure = StopsScript unread rest old new failure
 Stops Fails before after (Serve log address count seconds) unread rest old new failure = StopsAt Fails before after log count old new failure
 Stops Fails before after (Send log address seconds) unread rest old new failure = StopsFrom Fails before after log old new failure
-Stops Fails before after (Command log command) unread rest old new failure = StopsCommand Fails before after log command old new failure
+Stops Fails before after line unread rest old new failure = StopsCommand Fails before after line old new failure

@@ -1,5 +1,5 @@
--- What each command of a log does, and the text that it answers.
-use Rattle.std.specs.Prelude.{◌≡◌, ℕ, ℤ, ◌+◌, false, List, [], ◌∷◌, ◌++◌, length, codes, Option, Ok}
+-- What each command on a log does, and the text that it answers.
+use Rattle.std.specs.Prelude.{◌≡◌, ℕ, ℤ, ◌+◌, false, List, [], ◌∷◌, ◌++◌, length, codes, Option, Ok, IsOkAnd}
 use Rattle.std.specs.Borrow.{Bor}
 use Rattle.stn_net.specs.Difference.{Difference}
 use Rattle.stn_net.specs.Schedule.{IsSchedule}
@@ -10,22 +10,19 @@ use Rattle.stn_records.specs.Id.{SiteCounter, id_text}
 use Rattle.stn_site.specs.Calls.{added, amended, withdrew, took}
 use Rattle.stn_site.specs.Held.{Held, plain, executed}
 use Rattle.stn_site.specs.Bounds.{all_bounds}
-use Rattle.stn_site.specs.Report.{IsReport}
-use Rattle.stn_questions.specs.declared.asked.Question.{Question}
-use Rattle.stn_questions.specs.Answer.{IsAnswer}
-use Rattle.stn_picture.specs.Picture.{IsPicture}
 use Rattle.stn_exec.specs.Answer.{answer_text}
-use Rattle.stn_exec.specs.Dispatch.{IsNextText, IsRestText}
 use Rattle.stn_exec.specs.Effect.{times_answer}
 use Rattle.stn_store.specs.Store.{Entry, IsThere, Spells, Opens, saved_too, Changes}
-use Rattle.stn_shell.specs.Words.{amendment_read, bound_read, execution_read, id_read, time_read, times_read, question_read, slack_read}
+use Rattle.stn_shell.specs.Words.{amendment_read, bound_read, event_read, execution_read, id_read, time_read, times_read, slack_read}
 use Rattle.stn_loosen.specs.Slack.{Slack}
 use Rattle.stn_loosen.specs.Loosened.{AreFewLoosened}
 use Rattle.stn_loosen.specs.Numbered.{HoldsSome}
 use Rattle.stn_line.specs.declared.words.SiteLog.{SiteLog}
-use Rattle.stn_line.specs.declared.words.Asked.{Asked}
-use Rattle.stn_line.specs.declared.words.LogCommand.{LogCommand}
-use Rattle.stn_line.specs.declared.words.LogCommand.TheVariants.{Bare, Init, Loosen, Add, Amend, Withdraw, Done, Merge, Report, Next, Ask, Check, Rehearse, Draw}
+use Rattle.stn_line.specs.declared.words.Line.{Line}
+use Rattle.stn_line.specs.declared.words.Line.TheVariants.{Run, Bare, Init, Loosen, Add, Amend, Withdraw, Done, Merge, Report, Next, Ready, Why, Records, Steps, Bounds, Check, Rehearse, Draw, Serve, Send}
+use Rattle.stn_questions.specs.declared.asked.Question.TheVariants as question
+use Rattle.stn_shell.specs.Queries.{IsTold}
+use Rattle.stn_shell.specs.declared.queries.Query.TheVariants as query
 
 -- a log of what a site holds, where none was
 pub record IsNewLog (old new : Option (List Entry)) (log : List ℕ) (source : PlanSource) (state : Content) (text : List ℕ) : Type 0 where
@@ -113,31 +110,6 @@ pub record IsMerged (old new : Option (List Entry)) (log : SiteLog) (other text 
   pub same : change.before.source ≡ theirs.source
   pub line : text ≡ codes "merged" ++ 10 ∷ []
 
--- the report of what the log says
-pub record IsReported (old new : Option (List Entry)) (log : SiteLog) (text : List ℕ) : Type 0 where
-  pub ours : Held
-  pub opened : Opens old log.name.now log.site ours
-  pub report : IsReport ours.source ours.state text
-  pub unsaved : new ≡ old
-
--- what comes next from a time on
-pub record IsNextSaid (old new : Option (List Entry)) (log : SiteLog) (word text : List ℕ) : Type 0 where
-  pub ours : Held
-  pub time : ℤ
-  pub opened : Opens old log.name.now log.site ours
-  pub read : time_read word ≡ Ok time
-  pub answer : IsNextText ours.source ours.state time text
-  pub unsaved : new ≡ old
-
--- the answer to a question about what the log says
-pub record IsTold (old new : Option (List Entry)) (log : SiteLog) (asked : Asked) (text : List ℕ) : Type 0 where
-  pub ours : Held
-  pub question : Question
-  pub opened : Opens old log.name.now log.site ours
-  pub read : question_read asked ≡ Ok question
-  pub answer : IsAnswer ours.source ours.state question text
-  pub unsaved : new ≡ old
-
 -- whether times, one for each event, are a schedule
 pub record IsChecked (old new : Option (List Entry)) (log : SiteLog) (words : List (Bor (List ℕ))) (text : List ℕ) : Type 0 where
   pub ours : Held
@@ -148,35 +120,27 @@ pub record IsChecked (old new : Option (List Entry)) (log : SiteLog) (words : Li
   pub answer : text ≡ answer_text (times_answer ours.source ours.state times)
   pub unsaved : new ≡ old
 
--- the rest of the plan from a time on
-pub record IsRehearsed (old new : Option (List Entry)) (log : SiteLog) (word text : List ℕ) : Type 0 where
-  pub ours : Held
-  pub time : ℤ
-  pub opened : Opens old log.name.now log.site ours
-  pub read : time_read word ≡ Ok time
-  pub answer : IsRestText ours.source ours.state time text
-  pub unsaved : new ≡ old
-
--- the picture of what the log says
-pub record IsDrawn (old new : Option (List Entry)) (log : SiteLog) (text : List ℕ) : Type 0 where
-  pub ours : Held
-  pub opened : Opens old log.name.now log.site ours
-  pub picture : IsPicture ours.source ours.state text
-  pub unsaved : new ≡ old
-
--- what a command does over the log of a site, and the text that it answers
-abbrev pub IsAnswered : Option (List Entry) → Option (List Entry) → SiteLog → LogCommand → List ℕ → Type 0
-IsAnswered old new log (Bare steps) text = IsMade old new log.name.now (bare steps) text
-IsAnswered old new log (Init domain plan) text = IsMadeOfTexts old new log.name.now domain.now plan.now text
-IsAnswered old new log (Loosen domain plan early late) text = IsLoosenedOfTexts old new log domain.now plan.now early late text
-IsAnswered old new log (Add from to lo hi) text = IsAdded old new log from.now to.now lo hi text
-IsAnswered old new log (Amend id from to lo hi) text = IsAmended old new log id.now from.now to.now lo hi text
-IsAnswered old new log (Withdraw id) text = IsWithdrawn old new log id.now text
-IsAnswered old new log (Done event time) text = IsDone old new log event.now time.now text
-IsAnswered old new log (Merge other) text = IsMerged old new log other.now text
-IsAnswered old new log Report text = IsReported old new log text
-IsAnswered old new log (Next now) text = IsNextSaid old new log now.now text
-IsAnswered old new log (Ask asked) text = IsTold old new log asked text
-IsAnswered old new log (Check times) text = IsChecked old new log times.items text
-IsAnswered old new log (Rehearse now) text = IsRehearsed old new log now.now text
-IsAnswered old new log Draw text = IsDrawn old new log text
+-- what a command line does over logs, and the text that it answers
+abbrev pub IsAnswered : Option (List Entry) → Option (List Entry) → Line → List ℕ → Type 0
+IsAnswered old new (Bare log steps) text = IsMade old new log.name.now (bare steps) text
+IsAnswered old new (Init log domain plan) text = IsMadeOfTexts old new log.name.now domain.now plan.now text
+IsAnswered old new (Loosen log domain plan early late) text = IsLoosenedOfTexts old new log domain.now plan.now early late text
+IsAnswered old new (Add log from to lo hi) text = IsAdded old new log from.now to.now lo hi text
+IsAnswered old new (Amend log id from to lo hi) text = IsAmended old new log id.now from.now to.now lo hi text
+IsAnswered old new (Withdraw log id) text = IsWithdrawn old new log id.now text
+IsAnswered old new (Done log event time) text = IsDone old new log event.now time.now text
+IsAnswered old new (Merge log other) text = IsMerged old new log other.now text
+IsAnswered old new (Report log) text = IsTold old new log query.Report text
+IsAnswered old new (Next log now) text = IsOkAnd (time_read now.now) (λ time. IsTold old new log (query.Next time) text)
+IsAnswered old new (Ready log now) text = IsOkAnd (time_read now.now) (λ time. IsTold old new log (query.Tell (question.Ready time)) text)
+IsAnswered old new (Why log event) text = IsOkAnd (event_read event.now) (λ which. IsTold old new log (query.Tell (question.Why which)) text)
+IsAnswered old new (Records log) text = IsTold old new log (query.Tell question.Records) text
+IsAnswered old new (Steps log) text = IsTold old new log (query.Tell question.Steps) text
+IsAnswered old new (Bounds log) text = IsTold old new log (query.Tell question.Bounds) text
+IsAnswered old new (Check log times) text = IsChecked old new log times.items text
+IsAnswered old new (Rehearse log now) text = IsOkAnd (time_read now.now) (λ time. IsTold old new log (query.Rehearse time) text)
+IsAnswered old new (Draw log) text = IsTold old new log query.Draw text
+-- the others are no commands on a log
+IsAnswered old new Run text = ⊥
+IsAnswered old new (Serve log address count seconds) text = ⊥
+IsAnswered old new (Send log address seconds) text = ⊥

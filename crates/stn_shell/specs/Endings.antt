@@ -7,13 +7,12 @@ use Rattle.stn_shell.specs.Refusals.{IsRefusalOf}
 use Rattle.stn_store.specs.Store.{Entry, IsThere, IsMissing, IsTaken, IsLack, Spells, saved_too}
 use Rattle.stn_refusal.specs.declared.failure.Failure.{Failure}
 use Rattle.stn_refusal.specs.declared.failure.Fault.{Fault}
-use Rattle.stn_line.specs.declared.words.SiteLog.{SiteLog}
-use Rattle.stn_line.specs.declared.words.LogCommand.{LogCommand}
+use Rattle.stn_line.specs.declared.words.Line.{Line}
 
 -- a command that was done, and that nothing refuses
-pub record Succeeds (old new : Option (List Entry)) (log : SiteLog) (command : LogCommand) (text : List ℕ) : Type 0 where
-  pub answered : IsAnswered old new log command text
-  pub accepted : IsRefusalOf old log command None
+pub record Succeeds (old new : Option (List Entry)) (line : Line) (text : List ℕ) : Type 0 where
+  pub answered : IsAnswered old new line text
+  pub accepted : IsRefusalOf old line None
 
 -- a call that was not done, and what refuses it; nothing was saved
 pub record IsUndone (Refuses : Option Failure → Type 0) (Fails : Fault → Type 0) (old new : Option (List Entry)) (failure : Failure) : Type 0 where

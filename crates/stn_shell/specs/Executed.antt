@@ -4,8 +4,8 @@ use Rattle.clap.specs.Words.{IsAmong, Text, fault_of, subcommand_of}
 use Rattle.clap.specs.declared.error.kind.ErrorKind.{ErrorKind}
 use Rattle.clap.specs.declared.error.kind.ErrorKind.TheVariants.{DisplayHelp, DisplayVersion}
 use Rattle.stn_line.specs.Commands.{stn}
-use Rattle.stn_line.specs.Tasks.{IsTaskOf}
-use Rattle.stn_line.specs.declared.words.Task.{Task}
+use Rattle.stn_line.specs.Lines.{IsLineOf}
+use Rattle.stn_line.specs.declared.words.Line.{Line}
 use Rattle.stn_shell.specs.Carried.{IsCarriedOut, Stops}
 use Rattle.stn_shell.specs.Printing.{Device, Prints, BreaksOff, TellsFault, Tells}
 use Rattle.stn_store.specs.Store.{Entry}
@@ -13,16 +13,16 @@ use Rattle.stn_refusal.specs.declared.failure.Failure.{Failure}
 use Rattle.stn_refusal.specs.declared.failure.Fault.{Fault}
 use Rattle.stn_refusal.specs.declared.failure.Fault.TheVariants.{Write, Memory}
 
--- a task came to its end, and nothing stands on the standard error; or it stopped, and that was told
-abbrev pub Ends : (Fault → Type 0) → Option (List Entry) → Option (List Entry) → Task → Device → Device → Device → Device → Device → Device → ℕ → Type 0
-Ends Fails before after task unread rest old new err told status =
-    (IsCarriedOut before after task unread rest old new status × (told ≡ err))
-    ⊎ ((failure : Failure) × (between : Device) × Stops Fails before after task unread rest old between failure
+-- a command line came to its end, and nothing stands on the standard error; or it stopped, and that was told
+abbrev pub Ends : (Fault → Type 0) → Option (List Entry) → Option (List Entry) → Line → Device → Device → Device → Device → Device → Device → ℕ → Type 0
+Ends Fails before after line unread rest old new err told status =
+    (IsCarriedOut before after line unread rest old new status × (told ≡ err))
+    ⊎ ((failure : Failure) × (between : Device) × Stops Fails before after line unread rest old between failure
     × Tells failure between new err told × (status ≡ 1))
 
--- the words ask for a task
-abbrev pub AskFor : List Text → Task → Type 0
-AskFor words task = (fault_of stn words ≡ []) × IsSomeAnd (subcommand_of stn words) (λ command. IsTaskOf task command.0 command.1)
+-- the words are this command line
+abbrev pub AskFor : List Text → Line → Type 0
+AskFor words line = (fault_of stn words ≡ []) × IsSomeAnd (subcommand_of stn words) (λ command. IsLineOf line command.0 command.1)
 
 -- what clap says of words is a mistake, no help and no version
 abbrev pub IsMistake : ErrorKind → Type 0
@@ -41,9 +41,9 @@ IsSaid kind old new err told status =
     ⊎ ((text : List ℕ) × (¬ IsMistake kind) × (status ≡ 1) × BreaksOff old new text × TellsFault Write err told)
     ⊎ LacksMemory old new err told status
 
--- over files, of which nothing is known: a task was done or stopped; clap refused the words; or memory ran out before either
+-- over files, of which nothing is known: a command line was done or stopped; clap refused the words; or memory ran out before either
 abbrev pub IsExecuted : List Text → Device → Device → Device → Device → Device → Device → ℕ → Type 0
 IsExecuted words unread rest old new err told status =
-    ((task : Task) × AskFor words task × Ends (λ _. ⊤) None None task unread rest old new err told status)
+    ((line : Line) × AskFor words line × Ends (λ _. ⊤) None None line unread rest old new err told status)
     ⊎ ((kind : ErrorKind) × IsAmong kind (fault_of stn words) × IsSaid kind old new err told status)
     ⊎ LacksMemory old new err told status

@@ -1,13 +1,11 @@
--- What is said of a log, and what refuses it.
-use Rattle.std.specs.Prelude.{◌≡◌, ℕ, List, Option, None}
+-- What is asked of a log, and what is said of it.
+use Rattle.std.specs.Prelude.{◌≡◌, ℕ, List, Option}
 use Rattle.stn_site.specs.Held.{Held}
 use Rattle.stn_site.specs.Report.{IsReport}
 use Rattle.stn_questions.specs.Answer.{IsAnswer}
 use Rattle.stn_picture.specs.Picture.{IsPicture}
 use Rattle.stn_exec.specs.Dispatch.{IsNextText, IsRestText}
 use Rattle.stn_store.specs.Store.{Entry, Opens}
-use Rattle.stn_refusal.specs.declared.failure.Failure.{Failure}
-use Rattle.stn_shell.specs.Refusals.{IsQuestionRefusal, IsRehearseRefusal}
 use Rattle.stn_line.specs.declared.words.SiteLog.{SiteLog}
 use Rattle.stn_shell.specs.declared.queries.Query.{Query}
 use Rattle.stn_shell.specs.declared.queries.Query.TheVariants.{Report, Next, Tell, Rehearse, Draw}
@@ -19,16 +17,9 @@ IsSaid (Tell question) held text = IsAnswer held.source held.state question text
 IsSaid (Rehearse now) held text = IsRestText held.source held.state now text
 IsSaid Draw held text = IsPicture held.source held.state text
 
-abbrev pub IsQueryRefusal : Query → Held → Option Failure → Type 0
-IsQueryRefusal Report held cause = cause ≡ None
-IsQueryRefusal (Next now) held cause = cause ≡ None
-IsQueryRefusal (Tell question) held cause = IsQuestionRefusal held question cause
-IsQueryRefusal (Rehearse now) held cause = IsRehearseRefusal held now cause
-IsQueryRefusal Draw held cause = cause ≡ None
-
--- what is said of what the log says
-pub record SaysOf (entries : Option (List Entry)) (log : SiteLog) (query : Query) (text : List ℕ) : Type 0 where
+-- what is said of what a log says, which stays
+pub record IsTold (old new : Option (List Entry)) (log : SiteLog) (query : Query) (text : List ℕ) : Type 0 where
   pub ours : Held
-  pub opened : Opens entries log.name.now log.site ours
+  pub opened : Opens old log.name.now log.site ours
   pub said : IsSaid query ours text
-  pub accepted : IsQueryRefusal query ours None
+  pub unsaved : new ≡ old

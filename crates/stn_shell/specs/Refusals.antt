@@ -7,6 +7,7 @@ use Rattle.stn_site.specs.Held.{Held}
 use Rattle.stn_site.specs.Refusals.{add_refusal, amend_refusal, done_refusal, withdraw_refusal, take_refusal}
 use Rattle.stn_net.specs.declared.bound.BoundFault.TheVariants.{NoEvent}
 use Rattle.stn_questions.specs.declared.asked.Question.{Question}
+use Rattle.stn_questions.specs.declared.asked.Question.TheVariants as question
 use Rattle.stn_questions.specs.Answer.{AsksOfNoEvent}
 use Rattle.stn_exec.specs.Dispatch.{IsOverdueAt, IsRefusedRehearsal}
 use Rattle.stn_lift.specs.Failures.{base_failure}
@@ -14,10 +15,11 @@ use Rattle.stn_net.specs.Failures.{bound_failure}
 use Rattle.stn_site.specs.Failures.{replica_failure}
 use Rattle.stn_loosen.specs.Failures.{loosen_failure}
 use Rattle.stn_store.specs.Store.{Entry, log_there, IsThere, Spells, Opens, IsMissing, IsUnopened}
-use Rattle.stn_shell.specs.Words.{no_such_word, amendment_read, bound_read, execution_read, id_read, time_read, times_read, question_read, slack_read}
-use Rattle.stn_line.specs.declared.words.SiteLog.{SiteLog}
-use Rattle.stn_line.specs.declared.words.LogCommand.{LogCommand}
-use Rattle.stn_line.specs.declared.words.LogCommand.TheVariants.{Bare, Init, Loosen, Add, Amend, Withdraw, Done, Merge, Report, Next, Ask, Check, Rehearse, Draw}
+use Rattle.stn_shell.specs.Words.{no_such_word, amendment_read, bound_read, event_read, execution_read, id_read, time_read, times_read, slack_read}
+use Rattle.stn_line.specs.declared.words.Line.{Line}
+use Rattle.stn_line.specs.declared.words.Line.TheVariants.{Run, Bare, Init, Loosen, Add, Amend, Withdraw, Done, Merge, Report, Next, Ready, Why, Records, Steps, Bounds, Check, Rehearse, Draw, Serve, Send}
+use Rattle.stn_shell.specs.declared.queries.Query.{Query}
+use Rattle.stn_shell.specs.declared.queries.Query.TheVariants as query
 use Rattle.stn_loosen.specs.declared.fault.LoosenFault.TheVariants.{Full}
 use Rattle.stn_loosen.specs.Slack.{Slack}
 use Rattle.stn_loosen.specs.Loosened.{AreFewLoosened, AreTooMany}
@@ -84,35 +86,51 @@ abbrev pub IsCheckRefusal : Held → List ℤ → Option Failure → Type 0
 IsCheckRefusal held times cause = ((length times ≢ events_of held.source + 1) × (cause ≡ Some no_such_word))
     ⊎ ((length times ≡ events_of held.source + 1) × (cause ≡ None))
 
+abbrev pub IsQueryRefusal : Query → Held → Option Failure → Type 0
+IsQueryRefusal query.Report held cause = cause ≡ None
+IsQueryRefusal (query.Next now) held cause = cause ≡ None
+IsQueryRefusal (query.Tell asked) held cause = IsQuestionRefusal held asked cause
+IsQueryRefusal (query.Rehearse now) held cause = IsRehearseRefusal held now cause
+IsQueryRefusal query.Draw held cause = cause ≡ None
+
 -- the first cause: words that can't be read; a log that is there; the texts and the base; too many records; the log; the other log;
 -- another plan; what the replica refuses
-abbrev pub IsRefusalOf : Option (List Entry) → SiteLog → LogCommand → Option Failure → Type 0
-IsRefusalOf entries log (Bare steps) = WhereFree entries log.name.now (IsBaseRefusal (bare steps))
-IsRefusalOf entries log (Init domain plan) = WhereFree entries log.name.now
+abbrev pub IsRefusalOf : Option (List Entry) → Line → Option Failure → Type 0
+IsRefusalOf entries (Bare log steps) = WhereFree entries log.name.now (IsBaseRefusal (bare steps))
+IsRefusalOf entries (Init log domain plan) = WhereFree entries log.name.now
     (WithText entries domain.now (λ actions. WithText entries plan.now (λ steps. IsBaseRefusal (files actions steps))))
-IsRefusalOf entries log (Loosen domain plan early late) = WithWords (slack_read early late)
+IsRefusalOf entries (Loosen log domain plan early late) = WithWords (slack_read early late)
     (λ slack. WhereFree entries log.name.now
     (WithText entries domain.now (λ actions. WithText entries plan.now (λ steps. IsLooseningRefusal (files actions steps) slack))))
-IsRefusalOf entries log (Add from to lo hi) = WithWords (bound_read from.now to.now lo hi)
+IsRefusalOf entries (Add log from to lo hi) = WithWords (bound_read from.now to.now lo hi)
     (λ bound. WithLog entries log.name.now log.site (λ held cause. cause ≡ option_map replica_failure (add_refusal held bound)))
-IsRefusalOf entries log (Amend id from to lo hi) = WithWords (amendment_read id.now from.now to.now lo hi)
+IsRefusalOf entries (Amend log id from to lo hi) = WithWords (amendment_read id.now from.now to.now lo hi)
     (λ said. WithLog entries log.name.now log.site (λ held cause. cause ≡ option_map replica_failure (amend_refusal held said.0 said.1)))
-IsRefusalOf entries log (Withdraw id) = WithWords (id_read id.now)
+IsRefusalOf entries (Withdraw log id) = WithWords (id_read id.now)
     (λ which. WithLog entries log.name.now log.site (λ held cause. cause ≡ option_map replica_failure (withdraw_refusal held which)))
-IsRefusalOf entries log (Done event time) = WithWords (execution_read event.now time.now)
+IsRefusalOf entries (Done log event time) = WithWords (execution_read event.now time.now)
     (λ said. WithLog entries log.name.now log.site (λ held cause. cause ≡ option_map replica_failure (done_refusal held said.0)))
-IsRefusalOf entries log (Merge other) = WithLog entries log.name.now log.site
+IsRefusalOf entries (Merge log other) = WithLog entries log.name.now log.site
     (λ ours. WithLog entries other.now log.site (IsMergeRefusal ours))
-IsRefusalOf entries log Report = WithLog entries log.name.now log.site (λ held cause. cause ≡ None)
-IsRefusalOf entries log (Next now) = WithWords (time_read now.now)
-    (λ time. WithLog entries log.name.now log.site (λ held cause. cause ≡ None))
-IsRefusalOf entries log (Ask asked) = WithWords (question_read asked)
-    (λ question. WithLog entries log.name.now log.site (λ held. IsQuestionRefusal held question))
-IsRefusalOf entries log (Check times) = WithWords (times_read times.items)
+IsRefusalOf entries (Report log) = WithLog entries log.name.now log.site (IsQueryRefusal query.Report)
+IsRefusalOf entries (Next log now) = WithWords (time_read now.now)
+    (λ time. WithLog entries log.name.now log.site (IsQueryRefusal (query.Next time)))
+IsRefusalOf entries (Ready log now) = WithWords (time_read now.now)
+    (λ time. WithLog entries log.name.now log.site (IsQueryRefusal (query.Tell (question.Ready time))))
+IsRefusalOf entries (Why log event) = WithWords (event_read event.now)
+    (λ which. WithLog entries log.name.now log.site (IsQueryRefusal (query.Tell (question.Why which))))
+IsRefusalOf entries (Records log) = WithLog entries log.name.now log.site (IsQueryRefusal (query.Tell question.Records))
+IsRefusalOf entries (Steps log) = WithLog entries log.name.now log.site (IsQueryRefusal (query.Tell question.Steps))
+IsRefusalOf entries (Bounds log) = WithLog entries log.name.now log.site (IsQueryRefusal (query.Tell question.Bounds))
+IsRefusalOf entries (Check log times) = WithWords (times_read times.items)
     (λ read. WithLog entries log.name.now log.site (λ held. IsCheckRefusal held read))
-IsRefusalOf entries log (Rehearse now) = WithWords (time_read now.now)
-    (λ time. WithLog entries log.name.now log.site (λ held. IsRehearseRefusal held time))
-IsRefusalOf entries log Draw = WithLog entries log.name.now log.site (λ held cause. cause ≡ None)
+IsRefusalOf entries (Rehearse log now) = WithWords (time_read now.now)
+    (λ time. WithLog entries log.name.now log.site (IsQueryRefusal (query.Rehearse time)))
+IsRefusalOf entries (Draw log) = WithLog entries log.name.now log.site (IsQueryRefusal query.Draw)
+-- the others are no commands on a log
+IsRefusalOf entries Run = λ cause. cause ≡ Some no_such_word
+IsRefusalOf entries (Serve log address count seconds) = λ cause. cause ≡ Some no_such_word
+IsRefusalOf entries (Send log address seconds) = λ cause. cause ≡ Some no_such_word
 
 -- why a merge failed: memory ran out, or the first cause that refuses it
 abbrev pub IsMergeFailure : Held → Held → Failure → Type 0

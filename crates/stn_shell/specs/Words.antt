@@ -7,8 +7,6 @@ use Rattle.stn_time.specs.declared.reading.TimeFault.{TimeFault}
 use Rattle.stn_net.specs.Difference.{Difference}
 use Rattle.stn_records.specs.Id.{SiteCounter}
 use Rattle.stn_site.specs.Held.{difference}
-use Rattle.stn_questions.specs.declared.asked.Question.{Question}
-use Rattle.stn_questions.specs.declared.asked.Question.TheVariants as question
 use Rattle.stn_loosen.specs.Slack.{Slack}
 use Rattle.stn_exec.specs.Command.{event_of, id_of}
 use Rattle.stn_exec.specs.Effect.{and_then}
@@ -16,8 +14,6 @@ use Rattle.stn_time.specs.Failures.{time_failure}
 use Rattle.stn_refusal.specs.declared.code.Code.TheVariants.{Line}
 use Rattle.stn_refusal.specs.declared.failure.Failure.{Failure}
 use Rattle.stn_refusal.specs.Refusals.{refused_at}
-use Rattle.stn_line.specs.declared.words.Asked.{Asked}
-use Rattle.stn_line.specs.declared.words.Asked.TheVariants.{Records, Steps, Bounds, Ready, Why}
 
 -- a word is no event, no id, or a time below 0 where none may be
 abbrev pub no_such_word : Failure
@@ -89,11 +85,3 @@ each_read (word ∷ words) = and_then (time_read word.now) (λ time. and_then (e
 -- the times of all events: the origin's, 0, and those that words spell for the events from 1 on
 unfoldable pub times_read : List (Bor (List ℕ)) → Result (List ℤ) Failure
 times_read words = and_then (each_read words) (λ times. Ok (pos 0 ∷ times))
-
--- a question
-abbrev pub question_read : Asked → Result Question Failure
-question_read Records = Ok question.Records
-question_read Steps = Ok question.Steps
-question_read Bounds = Ok question.Bounds
-question_read (Ready now) = and_then (time_read now.now) (λ time. Ok (question.Ready time))
-question_read (Why event) = and_then (event_read event.now) (λ which. Ok (question.Why which))

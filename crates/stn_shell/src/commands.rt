@@ -1,83 +1,76 @@
-//! The commands of a log.
+//! The commands on a log.
 
-ghost use Rattle.std.specs.Prelude.{◌≡◌, ◌⊎◌, false, Some, None, OnOk, OnErr, IfOk, IfErr, MatchResult};
+ghost use Rattle.std.specs.Prelude.{◌⊎◌, false, None, IfErr, MatchResult};
 ghost use Rattle.stn_lift.specs.PlanSource.{plan_source};
 ghost use Rattle.stn_shell.specs.Words.{times_read};
 ghost use Rattle.stn_shell.specs.Changes.{IsChanged, IsUnchanged};
-ghost use Rattle.stn_shell.specs.Commands.{IsAnswered, IsChecked, IsMade, IsMadeLoose, IsNewLog};
+ghost use Rattle.stn_shell.specs.Commands.{IsChecked, IsMade, IsMadeLoose, IsNewLog};
 ghost use Rattle.stn_shell.specs.Endings.{Succeeds, IsUndone, SavesNew, IsUnsaved, IsUnmade, IsOfTexts, MissesText};
-ghost use Rattle.stn_shell.specs.Queries.{SaysOf, IsQueryRefusal};
-ghost use Rattle.stn_shell.specs.Refusals.{IsRefusalOf, IsBaseRefusal, IsLooseningRefusal, IsCheckRefusal, WithWords, WithLog};
+ghost use Rattle.stn_shell.specs.Queries.{IsTold};
+ghost use Rattle.stn_shell.specs.Refusals.{IsRefusalOf, IsBaseRefusal, IsLooseningRefusal, IsQueryRefusal, IsCheckRefusal, WithWords, WithLog};
 ghost use Rattle.stn_store.specs.Store.{IsThere, IsMissing, IsTaken, IsLack, Opens};
-ghost use Rattle.stn_line.specs.declared.words.LogCommand.TheVariants as of;
+ghost use Rattle.stn_line.specs.declared.words.Line.TheVariants as of;
 
 use crate::changes::{Change, copied, loosen, make_change, opened};
 use crate::queries::{Query, check, say};
 use crate::words::{
-    read_bound, read_event, read_id, read_question, read_time, read_times, read_tolerance,
+    no_such_word, read_bound, read_event, read_id, read_time, read_times, read_tolerance,
 };
 use std::alloc::Global;
 use stn_lift::Source;
-use stn_line::{Asked, LogCommand, SiteLog};
+use stn_line::{Line, SiteLog};
 use stn_loosen::Tolerance;
+use stn_questions::Question;
 use stn_refusal::{Code, Failure, Fault};
 use stn_replica::Replica;
 use stn_store::Store;
 
-/// Does a command of a log: the answer. A refused command changes nothing; nor does one for which memory runs out or a device of
-/// the store fails.
-pub fn answer<S: Store>(
-    alloc: Global,
-    store: &mut S,
-    log: &SiteLog<'_>,
-    command: &LogCommand<'_>,
-) -> Result<Vec<u8>, Failure>
-    ensures done { IfOk result (λ text. IsAnswered (S.entries store.old) (S.entries store.new) log.now command.now text.items) }
-    ensures accepted { OnOk result (IsRefusalOf (S.entries store.old) log.now command.now None) }
-    ensures refused { IfErr result (λ failure. IsRefusalOf (S.entries store.old) log.now command.now (Some failure)
-        ⊎ IsLack S.fails failure) }
-    ensures unsaved { OnErr result (S.entries store.new ≡ S.entries store.old) }
-{
-    do_command(alloc, store, log, command)
-}
-
-// Does a command of a log.
-fn do_command<S: Store>(
-    alloc: Global,
-    store: &mut S,
-    log: &SiteLog<'_>,
-    command: &LogCommand<'_>,
-) -> Result<Vec<u8>, Failure>
+/// Does a command on a log: the answer. A refused command changes nothing; nor does one for which memory runs out or a device of
+/// the store fails. `run`, `serve` and `send` are no commands on a log, and are refused as words of a wrong form.
+pub fn answer<S: Store>(alloc: Global, store: &mut S, line: &Line<'_>) -> Result<Vec<u8>, Failure>
     ensures { MatchResult result
-        (λ text. Succeeds (S.entries store.old) (S.entries store.new) log.now command.now text.items)
-        (IsUndone (IsRefusalOf (S.entries store.old) log.now command.now) S.fails (S.entries store.old) (S.entries store.new)) }
+        (λ text. Succeeds (S.entries store.old) (S.entries store.new) line.now text.items)
+        (IsUndone (IsRefusalOf (S.entries store.old) line.now) S.fails (S.entries store.old) (S.entries store.new)) }
 {
-    match *command {
-        LogCommand::Bare { steps } => make_bare(alloc, store, log, steps),
-        LogCommand::Init { domain, plan } => make_of_texts(alloc, store, log, domain, plan),
-        LogCommand::Loosen {
+    match line {
+        Line::Bare { log, steps } => make_bare(alloc, store, log, *steps),
+        Line::Init { log, domain, plan } => make_of_texts(alloc, store, log, *domain, *plan),
+        Line::Loosen {
+            log,
             domain,
             plan,
             early,
             late,
-        } => loosen_texts(alloc, store, log, domain, plan, early, late),
-        LogCommand::Add { from, to, lo, hi } => add_to(alloc, store, log, from, to, lo, hi),
-        LogCommand::Amend {
+        } => loosen_texts(alloc, store, log, *domain, *plan, *early, *late),
+        Line::Add {
+            log,
+            from,
+            to,
+            lo,
+            hi,
+        } => add_to(alloc, store, log, *from, *to, *lo, *hi),
+        Line::Amend {
+            log,
             id,
             from,
             to,
             lo,
             hi,
-        } => amend_in(alloc, store, log, id, from, to, lo, hi),
-        LogCommand::Withdraw { id } => withdraw_from(alloc, store, log, id),
-        LogCommand::Done { event, time } => done_at(alloc, store, log, event, time),
-        LogCommand::Merge { other } => merge_with(alloc, store, log, other),
-        LogCommand::Report => report_of(alloc, store, log),
-        LogCommand::Next { now } => next_of(alloc, store, log, now),
-        LogCommand::Ask { ref asked } => tell_of(alloc, store, log, asked),
-        LogCommand::Check { ref times } => check_of(alloc, store, log, times),
-        LogCommand::Rehearse { now } => rehearse_of(alloc, store, log, now),
-        LogCommand::Draw => draw_of(alloc, store, log),
+        } => amend_in(alloc, store, log, *id, *from, *to, *lo, *hi),
+        Line::Withdraw { log, id } => withdraw_from(alloc, store, log, *id),
+        Line::Done { log, event, time } => done_at(alloc, store, log, *event, *time),
+        Line::Merge { log, other } => merge_with(alloc, store, log, *other),
+        Line::Report { log } => say_of(alloc, store, log, &Query::Report),
+        Line::Next { log, now } => next_of(alloc, store, log, *now),
+        Line::Ready { log, now } => ready_of(alloc, store, log, *now),
+        Line::Why { log, event } => why_of(alloc, store, log, *event),
+        Line::Records { log } => say_of(alloc, store, log, &Query::Tell(Question::Records)),
+        Line::Steps { log } => say_of(alloc, store, log, &Query::Tell(Question::Steps)),
+        Line::Bounds { log } => say_of(alloc, store, log, &Query::Tell(Question::Bounds)),
+        Line::Check { log, times } => check_of(alloc, store, log, times),
+        Line::Rehearse { log, now } => rehearse_of(alloc, store, log, *now),
+        Line::Draw { log } => say_of(alloc, store, log, &Query::Draw),
+        Line::Run | Line::Serve { .. } | Line::Send { .. } => Err(no_such_word()),
     }
 }
 
@@ -187,8 +180,8 @@ fn make_bare<S: Store>(
     steps: u16,
 ) -> Result<Vec<u8>, Failure>
     ensures { MatchResult result
-        (λ text. Succeeds (S.entries store.old) (S.entries store.new) log.now (of.Bare steps) text.items)
-        (IsUndone (IsRefusalOf (S.entries store.old) log.now (of.Bare steps)) S.fails (S.entries store.old) (S.entries store.new)) }
+        (λ text. Succeeds (S.entries store.old) (S.entries store.new) (of.Bare log.now steps) text.items)
+        (IsUndone (IsRefusalOf (S.entries store.old) (of.Bare log.now steps)) S.fails (S.entries store.old) (S.entries store.new)) }
 {
     find_free(store, log.name)?;
     make(alloc, store, log, &Source::Bare(steps))
@@ -202,8 +195,8 @@ fn make_of_texts<S: Store>(
     plan: &str,
 ) -> Result<Vec<u8>, Failure>
     ensures { MatchResult result
-        (λ text. Succeeds (S.entries store.old) (S.entries store.new) log.now (of.Init domain.entry plan.entry) text.items)
-        (IsUndone (IsRefusalOf (S.entries store.old) log.now (of.Init domain.entry plan.entry)) S.fails (S.entries store.old) (S.entries store.new)) }
+        (λ text. Succeeds (S.entries store.old) (S.entries store.new) (of.Init log.now domain.entry plan.entry) text.items)
+        (IsUndone (IsRefusalOf (S.entries store.old) (of.Init log.now domain.entry plan.entry)) S.fails (S.entries store.old) (S.entries store.new)) }
 {
     find_free(store, log.name)?;
     let source = source_of_texts(store, domain, plan)?;
@@ -220,8 +213,8 @@ fn loosen_texts<S: Store>(
     late: Option<&str>,
 ) -> Result<Vec<u8>, Failure>
     ensures { MatchResult result
-        (λ text. Succeeds (S.entries store.old) (S.entries store.new) log.now (of.Loosen domain.entry plan.entry early.entry late.entry) text.items)
-        (IsUndone (IsRefusalOf (S.entries store.old) log.now (of.Loosen domain.entry plan.entry early.entry late.entry)) S.fails (S.entries store.old) (S.entries store.new)) }
+        (λ text. Succeeds (S.entries store.old) (S.entries store.new) (of.Loosen log.now domain.entry plan.entry early.entry late.entry) text.items)
+        (IsUndone (IsRefusalOf (S.entries store.old) (of.Loosen log.now domain.entry plan.entry early.entry late.entry)) S.fails (S.entries store.old) (S.entries store.new)) }
 {
     let tolerance = read_tolerance(early, late)?;
     find_free(store, log.name)?;
@@ -289,8 +282,8 @@ fn add_to<S: Store>(
     hi: Option<&str>,
 ) -> Result<Vec<u8>, Failure>
     ensures { MatchResult result
-        (λ text. Succeeds (S.entries store.old) (S.entries store.new) log.now (of.Add from.entry to.entry lo.entry hi.entry) text.items)
-        (IsUndone (IsRefusalOf (S.entries store.old) log.now (of.Add from.entry to.entry lo.entry hi.entry)) S.fails (S.entries store.old) (S.entries store.new)) }
+        (λ text. Succeeds (S.entries store.old) (S.entries store.new) (of.Add log.now from.entry to.entry lo.entry hi.entry) text.items)
+        (IsUndone (IsRefusalOf (S.entries store.old) (of.Add log.now from.entry to.entry lo.entry hi.entry)) S.fails (S.entries store.old) (S.entries store.new)) }
 {
     let bound = read_bound(from, to, lo, hi)?;
     change_log(alloc, store, log, &Change::Add(bound))
@@ -307,8 +300,8 @@ fn amend_in<S: Store>(
     hi: Option<&str>,
 ) -> Result<Vec<u8>, Failure>
     ensures { MatchResult result
-        (λ text. Succeeds (S.entries store.old) (S.entries store.new) log.now (of.Amend id.entry from.entry to.entry lo.entry hi.entry) text.items)
-        (IsUndone (IsRefusalOf (S.entries store.old) log.now (of.Amend id.entry from.entry to.entry lo.entry hi.entry)) S.fails (S.entries store.old) (S.entries store.new)) }
+        (λ text. Succeeds (S.entries store.old) (S.entries store.new) (of.Amend log.now id.entry from.entry to.entry lo.entry hi.entry) text.items)
+        (IsUndone (IsRefusalOf (S.entries store.old) (of.Amend log.now id.entry from.entry to.entry lo.entry hi.entry)) S.fails (S.entries store.old) (S.entries store.new)) }
 {
     let old = read_id(id)?;
     let bound = read_bound(from, to, lo, hi)?;
@@ -322,8 +315,8 @@ fn withdraw_from<S: Store>(
     id: &str,
 ) -> Result<Vec<u8>, Failure>
     ensures { MatchResult result
-        (λ text. Succeeds (S.entries store.old) (S.entries store.new) log.now (of.Withdraw id.entry) text.items)
-        (IsUndone (IsRefusalOf (S.entries store.old) log.now (of.Withdraw id.entry)) S.fails (S.entries store.old) (S.entries store.new)) }
+        (λ text. Succeeds (S.entries store.old) (S.entries store.new) (of.Withdraw log.now id.entry) text.items)
+        (IsUndone (IsRefusalOf (S.entries store.old) (of.Withdraw log.now id.entry)) S.fails (S.entries store.old) (S.entries store.new)) }
 {
     let id = read_id(id)?;
     change_log(alloc, store, log, &Change::Withdraw(id))
@@ -337,8 +330,8 @@ fn done_at<S: Store>(
     time: &str,
 ) -> Result<Vec<u8>, Failure>
     ensures { MatchResult result
-        (λ text. Succeeds (S.entries store.old) (S.entries store.new) log.now (of.Done event.entry time.entry) text.items)
-        (IsUndone (IsRefusalOf (S.entries store.old) log.now (of.Done event.entry time.entry)) S.fails (S.entries store.old) (S.entries store.new)) }
+        (λ text. Succeeds (S.entries store.old) (S.entries store.new) (of.Done log.now event.entry time.entry) text.items)
+        (IsUndone (IsRefusalOf (S.entries store.old) (of.Done log.now event.entry time.entry)) S.fails (S.entries store.old) (S.entries store.new)) }
 {
     let event = read_event(event)?;
     let time = read_time(time)?;
@@ -352,8 +345,8 @@ fn merge_with<S: Store>(
     other: &str,
 ) -> Result<Vec<u8>, Failure>
     ensures { MatchResult result
-        (λ text. Succeeds (S.entries store.old) (S.entries store.new) log.now (of.Merge other.entry) text.items)
-        (IsUndone (IsRefusalOf (S.entries store.old) log.now (of.Merge other.entry)) S.fails (S.entries store.old) (S.entries store.new)) }
+        (λ text. Succeeds (S.entries store.old) (S.entries store.new) (of.Merge log.now other.entry) text.items)
+        (IsUndone (IsRefusalOf (S.entries store.old) (of.Merge log.now other.entry)) S.fails (S.entries store.old) (S.entries store.new)) }
 {
     change_log(alloc, store, log, &Change::Merge(other))
 }
@@ -361,25 +354,20 @@ fn merge_with<S: Store>(
 // What is said of a log.
 fn say_of<S: Store>(
     alloc: Global,
-    store: &S,
+    store: &mut S,
     log: &SiteLog<'_>,
     query: &Query,
 ) -> Result<Vec<u8>, Failure>
-    ensures { MatchResult result (λ text. SaysOf (S.entries store.now) log.now query.now text.items)
-        (λ failure. WithLog (S.entries store.now) log.now.name.now log.now.site (IsQueryRefusal query.now) (Some failure) ⊎ IsLack S.fails failure) }
+    ensures { MatchResult result
+        (λ text. IsTold (S.entries store.old) (S.entries store.new) log.now query.now text.items
+        × WithLog (S.entries store.old) log.now.name.now log.now.site (IsQueryRefusal query.now) None)
+        (IsUndone (WithLog (S.entries store.old) log.now.name.now log.now.site (IsQueryRefusal query.now)) S.fails
+        (S.entries store.old) (S.entries store.new)) }
 {
     let replica = store.load(log.name, log.site)?;
     let text = say(alloc, &replica, query);
     drop(replica);
     text
-}
-
-fn report_of<S: Store>(alloc: Global, store: &mut S, log: &SiteLog<'_>) -> Result<Vec<u8>, Failure>
-    ensures { MatchResult result
-        (λ text. Succeeds (S.entries store.old) (S.entries store.new) log.now of.Report text.items)
-        (IsUndone (IsRefusalOf (S.entries store.old) log.now of.Report) S.fails (S.entries store.old) (S.entries store.new)) }
-{
-    say_of(alloc, store, log, &Query::Report)
 }
 
 fn next_of<S: Store>(
@@ -389,25 +377,39 @@ fn next_of<S: Store>(
     now: &str,
 ) -> Result<Vec<u8>, Failure>
     ensures { MatchResult result
-        (λ text. Succeeds (S.entries store.old) (S.entries store.new) log.now (of.Next now.entry) text.items)
-        (IsUndone (IsRefusalOf (S.entries store.old) log.now (of.Next now.entry)) S.fails (S.entries store.old) (S.entries store.new)) }
+        (λ text. Succeeds (S.entries store.old) (S.entries store.new) (of.Next log.now now.entry) text.items)
+        (IsUndone (IsRefusalOf (S.entries store.old) (of.Next log.now now.entry)) S.fails (S.entries store.old) (S.entries store.new)) }
 {
     let now = read_time(now)?;
     say_of(alloc, store, log, &Query::Next(now))
 }
 
-fn tell_of<S: Store>(
+fn ready_of<S: Store>(
     alloc: Global,
     store: &mut S,
     log: &SiteLog<'_>,
-    asked: &Asked<'_>,
+    now: &str,
 ) -> Result<Vec<u8>, Failure>
     ensures { MatchResult result
-        (λ text. Succeeds (S.entries store.old) (S.entries store.new) log.now (of.Ask asked.now) text.items)
-        (IsUndone (IsRefusalOf (S.entries store.old) log.now (of.Ask asked.now)) S.fails (S.entries store.old) (S.entries store.new)) }
+        (λ text. Succeeds (S.entries store.old) (S.entries store.new) (of.Ready log.now now.entry) text.items)
+        (IsUndone (IsRefusalOf (S.entries store.old) (of.Ready log.now now.entry)) S.fails (S.entries store.old) (S.entries store.new)) }
 {
-    let question = read_question(asked)?;
-    say_of(alloc, store, log, &Query::Tell(question))
+    let time = read_time(now)?;
+    say_of(alloc, store, log, &Query::Tell(Question::Ready(time)))
+}
+
+fn why_of<S: Store>(
+    alloc: Global,
+    store: &mut S,
+    log: &SiteLog<'_>,
+    event: &str,
+) -> Result<Vec<u8>, Failure>
+    ensures { MatchResult result
+        (λ text. Succeeds (S.entries store.old) (S.entries store.new) (of.Why log.now event.entry) text.items)
+        (IsUndone (IsRefusalOf (S.entries store.old) (of.Why log.now event.entry)) S.fails (S.entries store.old) (S.entries store.new)) }
+{
+    let event = read_event(event)?;
+    say_of(alloc, store, log, &Query::Tell(Question::Why(event)))
 }
 
 fn check_of<S: Store>(
@@ -438,17 +440,9 @@ fn rehearse_of<S: Store>(
     now: &str,
 ) -> Result<Vec<u8>, Failure>
     ensures { MatchResult result
-        (λ text. Succeeds (S.entries store.old) (S.entries store.new) log.now (of.Rehearse now.entry) text.items)
-        (IsUndone (IsRefusalOf (S.entries store.old) log.now (of.Rehearse now.entry)) S.fails (S.entries store.old) (S.entries store.new)) }
+        (λ text. Succeeds (S.entries store.old) (S.entries store.new) (of.Rehearse log.now now.entry) text.items)
+        (IsUndone (IsRefusalOf (S.entries store.old) (of.Rehearse log.now now.entry)) S.fails (S.entries store.old) (S.entries store.new)) }
 {
     let time = read_time(now)?;
     say_of(alloc, store, log, &Query::Rehearse(time))
-}
-
-fn draw_of<S: Store>(alloc: Global, store: &mut S, log: &SiteLog<'_>) -> Result<Vec<u8>, Failure>
-    ensures { MatchResult result
-        (λ text. Succeeds (S.entries store.old) (S.entries store.new) log.now of.Draw text.items)
-        (IsUndone (IsRefusalOf (S.entries store.old) log.now of.Draw) S.fails (S.entries store.old) (S.entries store.new)) }
-{
-    say_of(alloc, store, log, &Query::Draw)
 }

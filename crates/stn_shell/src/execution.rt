@@ -1,4 +1,4 @@
-//! A task, from its words to its status.
+//! A command line, from its words to its status.
 
 ghost use Rattle.std.specs.Prelude.{◌≡◌, ◌⊎◌, ◌<◌, ◌≤◌, ◌-◌, ◌*◌, ◌^◌, ◌++◌, [], ◌∷◌, map, codes, None, Ok, ⊤, IfOk, IfErr, OnOk, MatchResult};
 ghost use Rattle.clap.specs.Words.{kind_of};
@@ -25,7 +25,7 @@ use std::rt::Files;
 use std::time::{Clock, Duration};
 use stn_device::{Counted, write_whole};
 use stn_exec::run;
-use stn_line::{LineFault, LogCommand, SiteLog, Task, task};
+use stn_line::{Line, LineFault, SiteLog, line};
 use stn_refusal::{Failure, Fault};
 use stn_replica::Replica;
 use stn_store::{FileStore, Store};
@@ -43,15 +43,15 @@ pub fn execute<
     requires out_counts { failure_count out.old < 2 ^ 64 - 1 }
     ensures status { result ≤ 2 }
 
-    // A task was done or stopped, the words are refused or ask for help, or memory ran out. What files hold is not known.
+    // A command line was done or stopped, the words are refused or ask for help, or memory ran out. What files hold is not known.
     ensures executed { IsExecuted (map (λ word. word.now) words.entry.now)
         (device_of R.remaining reader.old) (device_of R.remaining reader.new)
         (device_of W.contents out.old) (device_of W.contents out.new)
         (device_of E.contents err.old) (device_of E.contents err.new) result }
 {
     let alloc = rt.alloc();
-    match task(alloc, words) {
-        Ok(task) => end(rt, task, reader, out, err),
+    match line(alloc, words) {
+        Ok(line) => end(rt, line, reader, out, err),
         Err(LineFault::Words(error)) => tell_words(alloc, &error, out, err),
         Err(LineFault::Memory) => {
             tell_fault(Fault::Memory, err);
@@ -60,23 +60,23 @@ pub fn execute<
     }
 }
 
-// Does a task to its end, and says the status. Why it stopped is told.
+// Does a command line to its end, and says the status. Why it stopped is told.
 fn end<
     T: Files<File = File> + AllocGlobal + Clock + Net<Listener = TcpListener, Stream = TcpStream>,
     R: Read,
     W: Write,
     E: Write,
->(rt: &T, task: Task<'_>, reader: &mut Counted<R>, out: &mut Counted<W>, err: &mut Counted<E>) -> u8
+>(rt: &T, line: Line<'_>, reader: &mut Counted<R>, out: &mut Counted<W>, err: &mut Counted<E>) -> u8
     requires reader_counts { failure_count reader.old < 2 ^ 64 - 1 }
     requires out_counts { failure_count out.old < 2 ^ 64 - 1 }
     ensures status { result ≤ 1 }
-    ensures ended { Ends (λ _. ⊤) None None task.entry
+    ensures ended { Ends (λ _. ⊤) None None line.entry
         (device_of R.remaining reader.old) (device_of R.remaining reader.new)
         (device_of W.contents out.old) (device_of W.contents out.new)
         (device_of E.contents err.old) (device_of E.contents err.new) result }
 {
-    let done = do_task(rt, &mut FileStore::new(rt), &task, reader, out);
-    drop(task);
+    let done = do_line(rt, &mut FileStore::new(rt), &line, reader, out);
+    drop(line);
     match done {
         Ok(status) => status,
         Err(failure) => {
@@ -119,8 +119,8 @@ fn tell_words<W: Write, E: Write>(
     }
 }
 
-// Does a task, and prints its answer: the status, or why there is none.
-fn do_task<
+// Does a command line, and prints its answer: the status, or why there is none.
+fn do_line<
     S: Store,
     T: AllocGlobal + Clock + Net<Listener = TcpListener, Stream = TcpStream>,
     R: Read,
@@ -128,36 +128,34 @@ fn do_task<
 >(
     rt: &T,
     store: &mut S,
-    task: &Task<'_>,
+    line: &Line<'_>,
     reader: &mut Counted<R>,
     out: &mut Counted<W>,
 ) -> Result<u8, Failure>
     requires reader_counts { failure_count reader.old < 2 ^ 64 - 1 }
     requires out_counts { failure_count out.old < 2 ^ 64 - 1 }
     ensures { MatchResult result
-        (λ status. (status ≤ 1) × IsCarriedOut (S.entries store.old) (S.entries store.new) task.now
+        (λ status. (status ≤ 1) × IsCarriedOut (S.entries store.old) (S.entries store.new) line.now
         (device_of R.remaining reader.old) (device_of R.remaining reader.new)
         (device_of W.contents out.old) (device_of W.contents out.new) status)
-        (Stops S.fails (S.entries store.old) (S.entries store.new) task.now
+        (Stops S.fails (S.entries store.old) (S.entries store.new) line.now
         (device_of R.remaining reader.old) (device_of R.remaining reader.new)
         (device_of W.contents out.old) (device_of W.contents out.new)) }
 {
-    match task {
-        Task::Run => run_script(rt.alloc(), reader, out),
-        Task::Serve {
+    match line {
+        Line::Run => run_input(rt.alloc(), reader, out),
+        Line::Serve {
             log,
             address,
             count,
             seconds,
         } => status_of(serve_at(rt, store, log, *address, *count, limit(*seconds), out)),
-        Task::Send {
+        Line::Send {
             log,
             address,
             seconds,
         } => status_of(send_to(rt, store, log, *address, limit(*seconds), out)),
-        Task::Command { log, command } => {
-            status_of(do_command(rt.alloc(), store, log, command, out))
-        }
+        _ => status_of(tell_answer(rt.alloc(), store, line, out)),
     }
 }
 
@@ -171,8 +169,8 @@ fn status_of(done: Result<(), Failure>) -> Result<u8, Failure>
     }
 }
 
-// Runs a script. Status 0 where no line was refused, else 1.
-fn run_script<R: Read, W: Write>(
+// Runs the script of the input. Status 0 where no line was refused, else 1.
+fn run_input<R: Read, W: Write>(
     alloc: Global,
     reader: &mut Counted<R>,
     out: &mut Counted<W>,
@@ -189,20 +187,19 @@ fn run_script<R: Read, W: Write>(
     Ok(if ran.refused == 0 { 0 } else { 1 })
 }
 
-// Does a command of a log, and prints its answer.
-fn do_command<S: Store, W: Write>(
+// Does a command on a log, and prints its answer.
+fn tell_answer<S: Store, W: Write>(
     alloc: Global,
     store: &mut S,
-    log: &SiteLog<'_>,
-    command: &LogCommand<'_>,
+    line: &Line<'_>,
     out: &mut Counted<W>,
 ) -> Result<(), Failure>
-    ensures done { OnOk result (Answers (S.entries store.old) (S.entries store.new) log.now command.now
+    ensures done { OnOk result (Answers (S.entries store.old) (S.entries store.new) line.now
         (device_of W.contents out.old) (device_of W.contents out.new)) }
-    ensures stopped { IfErr result (StopsCommand S.fails (S.entries store.old) (S.entries store.new) log.now command.now
+    ensures stopped { IfErr result (StopsCommand S.fails (S.entries store.old) (S.entries store.new) line.now
         (device_of W.contents out.old) (device_of W.contents out.new)) }
 {
-    let text = answer(alloc, store, log, command)?;
+    let text = answer(alloc, store, line)?;
     print(&text, out)
 }
 

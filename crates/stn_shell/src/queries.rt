@@ -9,8 +9,8 @@ ghost use Rattle.stn_picture.specs.Picture.{IsPicture};
 ghost use Rattle.stn_exec.specs.Answer.{answer_text};
 ghost use Rattle.stn_exec.specs.Dispatch.{IsNextText, IsRestText};
 ghost use Rattle.stn_exec.specs.Effect.{times_answer};
-ghost use Rattle.stn_shell.specs.Queries.{IsSaid, IsQueryRefusal};
-ghost use Rattle.stn_shell.specs.Refusals.{IsQuestionFailure, IsQuestionRefusal, IsCheckFailure, IsRehearseFailure, IsRehearseRefusal};
+ghost use Rattle.stn_shell.specs.Queries.{IsSaid};
+ghost use Rattle.stn_shell.specs.Refusals.{IsQueryRefusal, IsQuestionFailure, IsQuestionRefusal, IsCheckFailure, IsRehearseFailure, IsRehearseRefusal};
 ghost use Rattle.stn_refusal.specs.declared.failure.Failure.TheVariants.{Failed};
 ghost use Rattle.stn_refusal.specs.declared.failure.Fault.TheVariants as lack;
 

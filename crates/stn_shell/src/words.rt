@@ -6,16 +6,12 @@ ghost use Rattle.stn_net.specs.Schedule.{times_of};
 ghost use Rattle.stn_refusal.specs.declared.failure.Failure.TheVariants.{Failed};
 ghost use Rattle.stn_refusal.specs.declared.failure.Fault.TheVariants as lack;
 ghost use Rattle.stn_site.specs.Held.{difference};
-ghost use Rattle.stn_questions.specs.declared.asked.Question.TheVariants.{Ready, Why};
-ghost use Rattle.stn_exec.specs.Effect.{and_then};
-ghost use Rattle.stn_shell.specs.Words.{no_such_word, bound_read, event_read, id_read, time_read, times_read, side_read, question_read, slack_of, slack_read};
+ghost use Rattle.stn_shell.specs.Words.{no_such_word, bound_read, event_read, id_read, time_read, times_read, side_read, slack_of, slack_read};
 
 use crate::changes::AskedBound;
 use std::alloc::Allocator;
-use stn_line::Asked;
 use stn_loosen::Tolerance;
 use stn_net::Event;
-use stn_questions::Question;
 use stn_records::Id;
 use stn_refusal::{Code, Failure};
 use stn_time::{HORIZON, Ms};
@@ -144,37 +140,4 @@ pub fn read_times<A: Allocator>(alloc: A, words: &[&str]) -> Result<Vec<Ms, A>, 
         times.push(time)?;
     }
     Ok(times)
-}
-
-/// The question that is asked.
-pub fn read_question(asked: &Asked<'_>) -> Result<Question, Failure>
-    ensures { result ≡ question_read asked.now }
-{
-    match *asked {
-        Asked::Records => Ok(Question::Records),
-        Asked::Steps => Ok(Question::Steps),
-        Asked::Bounds => Ok(Question::Bounds),
-        Asked::Ready { now } => ready_from(now),
-        Asked::Why { event } => why_of(event),
-    }
-}
-
-// What is ready from a time on.
-fn ready_from(now: &str) -> Result<Question, Failure>
-    ensures { result ≡ and_then (time_read now.now) (λ time. Ok (Ready time)) }
-{
-    match read_time(now) {
-        Ok(time) => Ok(Question::Ready(time)),
-        Err(failure) => Err(failure),
-    }
-}
-
-// Why the window of an event ends where it does.
-fn why_of(event: &str) -> Result<Question, Failure>
-    ensures { result ≡ and_then (event_read event.now) (λ which. Ok (Why which)) }
-{
-    match read_event(event) {
-        Ok(event) => Ok(Question::Why(event)),
-        Err(failure) => Err(failure),
-    }
 }

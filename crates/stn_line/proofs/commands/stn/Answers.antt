@@ -1,11 +1,13 @@
+use Rattle.std.proofs.Common.{◌≡◌, arith}
 use Rattle.stn_line.specs.Commands as spec
+use Rattle.stn_line.proofs.Shapes.{joins}
 use Rattle.stn_line.proofs.commands.stn.Goals as goal
+
+pub rows-preserved : goal.rows-preserved
+rows-preserved c = joins _ _ _ _ _ _ c.rows.invariant c.in_ok-command.ensures.is c.in_ok-program.ensures (omega arith)
 
 pub returns : goal.returns
 unfolding spec.stn
 returns c =
-    let with-1 = c.with_changes-program.ensures.more _ c.plans-program.ensures.app in
-    let with-2 = c.with_windows-program.ensures.more _ with-1 in
-    let with-3 = c.with_lists-program.ensures.more _ with-2 in
-    let with-4 = c.with_schedules-program.ensures.more _ with-3 in
-    record { app = c.with_exchange.ensures.more _ with-4 }
+    let all : c.rows.row-index ≡ 21 = omega arith in
+    record { app = rw all at c.rows.invariant.is }

@@ -1,64 +1,49 @@
-use Rattle.std.proofs.Common.{subst}
+use Rattle.std.proofs.Common.{sym, subst}
 use Rattle.clap.specs.Matches.{found_of}
 use Rattle.clap.specs.Walk.{rows_of}
 use Rattle.stn_line.specs.Given.{HasWords}
-use Rattle.stn_line.proofs.OfStn.{bare_there, init_there, loosen_there, add_there, amend_there, withdraw_there, done_there, merge_there, next_there, ready_there, why_there, rehearse_there, is_draw}
+use Rattle.stn_line.specs.Lines.{IsLineOf}
+use Rattle.stn_line.proofs.OfStn.{is_send}
 use Rattle.stn_line.proofs.reading.command.Goals as goal
 
-pub bare-requires : goal.bare-requires
-bare-requires c = bare_there (rows_of (found_of c.args.words.now)) (subst (λ n. HasWords n (rows_of (found_of c.args.words.now))) c.in-bare.is c.requires.has)
+pub site_log-requires-clause-log : goal.site_log-requires-clause-log
+site_log-requires-clause-log c = (subst (λ name. HasWords name (rows_of (found_of c.args.words.now))) c.in-report.is c.requires).0
 
-pub init-requires-clause-domain : goal.init-requires-clause-domain
-init-requires-clause-domain c = (init_there (rows_of (found_of c.args.words.now)) (subst (λ n. HasWords n (rows_of (found_of c.args.words.now))) c.in-init.is c.requires.has)).0
+pub site_log-requires-clause-site : goal.site_log-requires-clause-site
+site_log-requires-clause-site c = (subst (λ name. HasWords name (rows_of (found_of c.args.words.now))) c.in-report.is c.requires).1.0
 
-pub init-requires-clause-plan : goal.init-requires-clause-plan
-init-requires-clause-plan c = (init_there (rows_of (found_of c.args.words.now)) (subst (λ n. HasWords n (rows_of (found_of c.args.words.now))) c.in-init.is c.requires.has)).1
+pub site_log-requires-in-records-clause-log : goal.site_log-requires-in-records-clause-log
+site_log-requires-in-records-clause-log c = (subst (λ name. HasWords name (rows_of (found_of c.args.words.now))) c.in-records.is c.requires).0
 
-pub loosen-requires-clause-domain : goal.loosen-requires-clause-domain
-loosen-requires-clause-domain c = (loosen_there (rows_of (found_of c.args.words.now)) (subst (λ n. HasWords n (rows_of (found_of c.args.words.now))) c.in-loosen.is c.requires.has)).0
+pub site_log-requires-in-records-clause-site : goal.site_log-requires-in-records-clause-site
+site_log-requires-in-records-clause-site c = (subst (λ name. HasWords name (rows_of (found_of c.args.words.now))) c.in-records.is c.requires).1.0
 
-pub loosen-requires-clause-plan : goal.loosen-requires-clause-plan
-loosen-requires-clause-plan c = (loosen_there (rows_of (found_of c.args.words.now)) (subst (λ n. HasWords n (rows_of (found_of c.args.words.now))) c.in-loosen.is c.requires.has)).1
+pub site_log-requires-in-steps-clause-log : goal.site_log-requires-in-steps-clause-log
+site_log-requires-in-steps-clause-log c = (subst (λ name. HasWords name (rows_of (found_of c.args.words.now))) c.in-steps.is c.requires).0
 
-pub add-requires-clause-from : goal.add-requires-clause-from
-add-requires-clause-from c = (add_there (rows_of (found_of c.args.words.now)) (subst (λ n. HasWords n (rows_of (found_of c.args.words.now))) c.in-add.is c.requires.has)).0
+pub site_log-requires-in-steps-clause-site : goal.site_log-requires-in-steps-clause-site
+site_log-requires-in-steps-clause-site c = (subst (λ name. HasWords name (rows_of (found_of c.args.words.now))) c.in-steps.is c.requires).1.0
 
-pub add-requires-clause-to : goal.add-requires-clause-to
-add-requires-clause-to c = (add_there (rows_of (found_of c.args.words.now)) (subst (λ n. HasWords n (rows_of (found_of c.args.words.now))) c.in-add.is c.requires.has)).1
+pub site_log-requires-in-bounds-clause-log : goal.site_log-requires-in-bounds-clause-log
+site_log-requires-in-bounds-clause-log c = (subst (λ name. HasWords name (rows_of (found_of c.args.words.now))) c.in-bounds.is c.requires).0
 
-pub amend-requires-clause-id : goal.amend-requires-clause-id
-amend-requires-clause-id c = (amend_there (rows_of (found_of c.args.words.now)) (subst (λ n. HasWords n (rows_of (found_of c.args.words.now))) c.in-amend.is c.requires.has)).0
+pub site_log-requires-in-bounds-clause-site : goal.site_log-requires-in-bounds-clause-site
+site_log-requires-in-bounds-clause-site c = (subst (λ name. HasWords name (rows_of (found_of c.args.words.now))) c.in-bounds.is c.requires).1.0
 
-pub amend-requires-clause-from : goal.amend-requires-clause-from
-amend-requires-clause-from c = (amend_there (rows_of (found_of c.args.words.now)) (subst (λ n. HasWords n (rows_of (found_of c.args.words.now))) c.in-amend.is c.requires.has)).1
+pub site_log-requires-in-draw-clause-log : goal.site_log-requires-in-draw-clause-log
+site_log-requires-in-draw-clause-log c = (subst (λ name. HasWords name (rows_of (found_of c.args.words.now))) c.in-draw.is c.requires).0
 
-pub amend-requires-clause-to : goal.amend-requires-clause-to
-amend-requires-clause-to c = (amend_there (rows_of (found_of c.args.words.now)) (subst (λ n. HasWords n (rows_of (found_of c.args.words.now))) c.in-amend.is c.requires.has)).2
+pub site_log-requires-in-draw-clause-site : goal.site_log-requires-in-draw-clause-site
+site_log-requires-in-draw-clause-site c = (subst (λ name. HasWords name (rows_of (found_of c.args.words.now))) c.in-draw.is c.requires).1.0
 
-pub withdraw-requires : goal.withdraw-requires
-withdraw-requires c = withdraw_there (rows_of (found_of c.args.words.now)) (subst (λ n. HasWords n (rows_of (found_of c.args.words.now))) c.in-withdraw.is c.requires.has)
-
-pub done-requires-clause-event : goal.done-requires-clause-event
-done-requires-clause-event c = (done_there (rows_of (found_of c.args.words.now)) (subst (λ n. HasWords n (rows_of (found_of c.args.words.now))) c.in-done.is c.requires.has)).0
-
-pub done-requires-clause-time : goal.done-requires-clause-time
-done-requires-clause-time c = (done_there (rows_of (found_of c.args.words.now)) (subst (λ n. HasWords n (rows_of (found_of c.args.words.now))) c.in-done.is c.requires.has)).1
-
-pub merge-requires : goal.merge-requires
-merge-requires c = merge_there (rows_of (found_of c.args.words.now)) (subst (λ n. HasWords n (rows_of (found_of c.args.words.now))) c.in-merge.is c.requires.has)
-
-pub next-requires : goal.next-requires
-next-requires c = next_there (rows_of (found_of c.args.words.now)) (subst (λ n. HasWords n (rows_of (found_of c.args.words.now))) c.in-next.is c.requires.has)
-
-pub ready-requires : goal.ready-requires
-ready-requires c = ready_there (rows_of (found_of c.args.words.now)) (subst (λ n. HasWords n (rows_of (found_of c.args.words.now))) c.in-ready.is c.requires.has)
-
-pub why-requires : goal.why-requires
-why-requires c = why_there (rows_of (found_of c.args.words.now)) (subst (λ n. HasWords n (rows_of (found_of c.args.words.now))) c.in-why.is c.requires.has)
-
-pub rehearse-requires : goal.rehearse-requires
-rehearse-requires c = rehearse_there (rows_of (found_of c.args.words.now)) (subst (λ n. HasWords n (rows_of (found_of c.args.words.now))) c.in-rehearse.is c.requires.has)
+pub send-requires : goal.send-requires
+send-requires c =
+    let none = c.in_default in
+    subst (λ name. HasWords name (rows_of (found_of c.args.words.now)))
+    (is_send c.args.name.now (rows_of (found_of c.args.words.now)) c.requires (none.not-run, (none.not-bare, (none.not-init, (none.not-loosen, (none.not-add, (none.not-amend, (none.not-withdraw, (none.not-done, (none.not-merge, (none.not-report, (none.not-next, (none.not-ready, (none.not-why, (none.not-records, (none.not-steps, (none.not-bounds, (none.not-check, (none.not-rehearse, (none.not-draw, (none.not-serve, tt))))))))))))))))))))) c.requires
 
 pub returns-in_default : goal.returns-in_default
 returns-in_default c =
-    is_draw c.args.name.now (rows_of (found_of c.args.words.now)) c.requires.has c.requires.is c.in_default.not-bare c.in_default.not-init c.in_default.not-loosen c.in_default.not-add c.in_default.not-amend c.in_default.not-withdraw c.in_default.not-done c.in_default.not-merge c.in_default.not-report c.in_default.not-next c.in_default.not-ready c.in_default.not-why c.in_default.not-records c.in_default.not-steps c.in_default.not-bounds c.in_default.not-check c.in_default.not-rehearse
+    let none = c.in_default in
+    subst (λ name. IsLineOf c.send.result name (rows_of (found_of c.args.words.now)))
+    (sym (is_send c.args.name.now (rows_of (found_of c.args.words.now)) c.requires (none.not-run, (none.not-bare, (none.not-init, (none.not-loosen, (none.not-add, (none.not-amend, (none.not-withdraw, (none.not-done, (none.not-merge, (none.not-report, (none.not-next, (none.not-ready, (none.not-why, (none.not-records, (none.not-steps, (none.not-bounds, (none.not-check, (none.not-rehearse, (none.not-draw, (none.not-serve, tt)))))))))))))))))))))) c.send.ensures

@@ -1,4 +1,4 @@
-use Rattle.std.proofs.Common.{refl, sym, inl, inr, ⊎_elim}
+use Rattle.std.proofs.Common.{refl, sym, inl}
 use Rattle.std.proofs.lemmas.Result.{err_from_is_err_and, MatchResult-weaker}
 use Rattle.stn_shell.proofs.commands.next_of.Goals as goal
 
@@ -9,8 +9,5 @@ returns-in_err-now g c =
 
 pub returns : goal.returns
 returns g c = MatchResult-weaker c.say_of.result c.say_of.ensures
-    (λ text said. record {
-      answered = record { ours = said.ours; opened = said.opened; time = c.in_ok-now.now; read = sym c.in_ok-now.ensures; answer = said.said; unsaved = refl };
-      accepted = rw (sym c.in_ok-now.ensures) (inr (said.ours, said.opened, said.accepted));
-    })
-    (λ failure why. record { cause = ⊎_elim (λ refusal. inl (rw (sym c.in_ok-now.ensures) refusal)) inr why; unsaved = refl })
+    (λ text told. record { answered = rw (sym c.in_ok-now.ensures) told.0; accepted = rw (sym c.in_ok-now.ensures) told.1 })
+    (λ failure undone. record { cause = rw (sym c.in_ok-now.ensures) undone.cause; unsaved = undone.unsaved })

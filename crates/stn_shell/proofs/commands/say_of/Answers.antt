@@ -6,12 +6,15 @@ use Rattle.stn_shell.proofs.commands.say_of.Goals as goal
 pub returns-in_err-replica : goal.returns-in_err-replica
 returns-in_err-replica g c =
     let p = err_from_is_err_and c.from_residual.result c.from_residual.ensures.1 in
-    rw (p.1, p.2) (⊎_elim (λ unopened. inl (inl (_, unopened, refl))) inr c.in_err-replica.ensures.failed)
+    rw (p.1, p.2) (record { cause = ⊎_elim (λ unopened. inl (inl (_, unopened, refl))) inr c.in_err-replica.ensures.failed; unsaved = refl })
 
 pub returns : goal.returns
 returns g c =
     let ours = c.in_ok-replica.replica in
     let opened = c.in_ok-replica.ensures.opened in
     MatchResult-weaker c.say-text.result c.say-text.ensures
-    (λ text said. record { ours = ours; opened = opened; said = said.0; accepted = said.1 })
-    (λ failure why. ⊎_elim (λ memory. inr (lack_of_memory _ _ memory)) (λ refusal. inl (inr (ours, opened, refusal))) why)
+    (λ text said. (record { ours = ours; opened = opened; said = said.0; unsaved = refl }, inr (ours, opened, said.1)))
+    (λ failure why. record {
+      cause = ⊎_elim (λ memory. inr (lack_of_memory _ _ memory)) (λ refusal. inl (inr (ours, opened, refusal))) why;
+      unsaved = refl;
+    })

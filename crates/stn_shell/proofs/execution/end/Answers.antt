@@ -8,5 +8,5 @@ returns-in-Ok g c = record { status = c.in-Ok.ensures.0; ended = inl (c.in-Ok.en
 pub returns-in-Err : goal.returns-in-Err
 returns-in-Err g c = record {
   status = omega arith;
-  ended = inr (c.in-Err.failure, device_of g.W.Write.contents c.do_task-done.new.out, c.in-Err.ensures, c.tell_failure.ensures, refl);
+  ended = inr (c.in-Err.failure, device_of g.W.Write.contents c.do_line-done.new.out, c.in-Err.ensures, c.tell_failure.ensures, refl);
 }

@@ -5,7 +5,7 @@ use Rattle.stn_shell.proofs.execution.execute.Goals as goal
 pub returns-in-Ok : goal.returns-in-Ok
 returns-in-Ok g c = record {
   status = omega (arith, c.end.ensures.status);
-  executed = inl (c.in-Ok.task, (c.in-Ok.ensures.taken, c.in-Ok.ensures.found), c.end.ensures.ended);
+  executed = inl (c.in-Ok.line, (c.in-Ok.ensures.taken, c.in-Ok.ensures.found), c.end.ensures.ended);
 }
 
 pub returns-in-Err-Words : goal.returns-in-Err-Words

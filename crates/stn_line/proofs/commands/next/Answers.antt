@@ -1,4 +1,0 @@
-use Rattle.stn_line.proofs.commands.next.Goals as goal
-
-pub returns : goal.returns
-returns c = record { is = c.on_log_with.ensures.is }

@@ -1,4 +1,0 @@
-use Rattle.stn_line.proofs.commands.send.Goals as goal
-
-pub returns : goal.returns
-returns c = record { is = c.with_seconds.ensures.more _ _ c.on_log_with-command.ensures.is }
