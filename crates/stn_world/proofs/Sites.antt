@@ -1,5 +1,6 @@
 -- The replicas of a world, as they are made and as one of them changes.
-use Rattle.std.proofs.Common.{◌≡◌, true, false, not, is_some, Some, None, Option, ℕ, zero, suc, ◌+◌, ◌-◌, ◌<◌, ◌≤◌, List, [], ◌∷◌, ◌++◌, length, map, replicate, set, get_or, refl, ap, sym, ◌∙◌, arith, subst}
+use Rattle.std.proofs.Common.{◌≡◌, true, false, ltb, not, is_some, Some, None, Option, ℕ, zero, suc, ◌+◌, ◌-◌, ◌<◌, ◌≤◌, List, [], ◌∷◌, ◌++◌, length, map, replicate, set, get_or, refl, ap, sym, ◌∙◌, arith, subst}
+use Rattle.std.proofs.lemmas.Bool.{false≢true}
 use Rattle.std.proofs.lemmas.List.{get_or_default, map-append, map-set, set-get_or, length-set, length-append, get_or-map, length-map}
 use Rattle.std.proofs.lemmas.List.FromFn.{get_or-range_with_len}
 use Rattle.std.proofs.Math.Seq.{map-set_same}
@@ -258,3 +259,9 @@ pub world_stayed : {packets : List Content} (world : World) (source : PlanSource
     → one ≡ get_or replicas place one → new ≡ one → world_of source (set replicas place new) packets ≡ world
 world_stayed {packets = packets} world source replicas place one new is at same =
     ap (λ (l : List Held). world_of source l packets) (set_stayed replicas place one new at same) ∙ is
+
+-- a replica of a list is of the plan that all of it are of
+pub first_source : (replicas : List Held) (source : PlanSource) (first : Held) → map (λ (replica : Held). replica.source) replicas ≡ replicate (length replicas) source
+    → true ≡ ltb 0 (length replicas) → first ≡ get_or replicas 0 first → first.source ≡ source
+first_source [] source first sources there is = absurd (false≢true (sym there))
+first_source (one ∷ rest) source first sources there is = ap (λ (h : Held). h.source) is ∙ ap (λ (l : List PlanSource). get_or l 0 source) sources
