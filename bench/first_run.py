@@ -23,9 +23,9 @@ TOOLS = "awk cat cp date dirname find head mkdir mktemp mv readlink rm sed sh sh
 RT = """#!/bin/sh
 test -f /dev/stdin || [ "$1" = ci ] || exit 99
 case "$1 $ENDS" in
-    'ci fails') echo 'rt: stn_time NOT PROVED'; exit 1 ;;
+    'ci fails') echo 'rt: stn_text NOT PROVED'; exit 1 ;;
     ci*)
-        echo 'rt: stn_time is kept: an earlier run proved the same'
+        echo 'rt: stn_text is kept: an earlier run proved the same'
         for crate in $(sed -n 's/:.*//p' crates.txt | sed 1d); do echo "rt: $crate proved"; done
         mkdir -p crates/stn/out
         cp "$STAND_IN" crates/stn/out/stn
@@ -87,7 +87,7 @@ class Copy:
 
     def change(self):
         """Changes a byte of a source, and neither its size nor the time of its last change."""
-        source = self.top / "crates" / "stn_time" / "src" / "lib.rt"
+        source = self.top / "crates" / "stn_text" / "src" / "lib.rt"
         times, text = source.stat(), source.read_bytes()
         source.write_bytes(text.replace(b"e", b"f", 1))
         os.utime(source, ns=(times.st_atime_ns, times.st_mtime_ns))
@@ -100,7 +100,7 @@ UNBUILT = "stn: the program is not built yet"
 CHANGED = "stn: the sources have changed since the program was built"
 NO_RT = ", and rt is not on the path"
 UNPROVED = ", so this run is unproved"
-FROM_BUILD = "stn: 1 of 26: stn_time, kept\n"
+FROM_BUILD = ": stn_text, kept\n"
 
 
 def no_words(copy):
@@ -142,25 +142,25 @@ def building(copy):
 
 
 def failing(copy):
-    copy.check("a build that fails", copy.run("build", ends="fails"), b"", 2, "stn_time NOT PROVED")
-    copy.check("a command that needs it", copy.run("report", ends="fails"), b"", 2, UNBUILT, "stn_time NOT PROVED")
+    copy.check("a build that fails", copy.run("build", ends="fails"), b"", 2, "stn_text NOT PROVED")
+    copy.check("a command that needs it", copy.run("report", ends="fails"), b"", 2, UNBUILT, "stn_text NOT PROVED")
     copy.build()
     copy.change()
-    copy.check("a build anew that fails", copy.run("build", ends="fails"), b"", 2, "stn_time NOT PROVED")
+    copy.check("a build anew that fails", copy.run("build", ends="fails"), b"", 2, "stn_text NOT PROVED")
     copy.check("what was built stays", copy.run("run", rt=False), b"program: run\n", 7, CHANGED)
 
 
 def changed(copy):
     copy.build()
-    (copy.top / "crates" / "stn_time" / "src" / "lib.rt").touch()
+    (copy.top / "crates" / "stn_text" / "src" / "lib.rt").touch()
     copy.check("a source that was only touched", copy.run("run"), b"program: run\n", 7)
     copy.change()
     copy.check("a changed source", copy.run("run", given=b"x"), b"tried -- run\nx", 0, CHANGED + UNPROVED)
     copy.check("another command", copy.run("report"), b"program: report\n", 7, CHANGED, FROM_BUILD)
     copy.check("after it", copy.run("run", rt=False), b"program: run\n", 7)
-    (copy.top / "crates" / "stn_time" / "specs" / "more.antt").touch()
+    (copy.top / "crates" / "stn_text" / "specs" / "more.antt").touch()
     copy.check("a new source", copy.run("run"), b"tried -- run\n", 0, CHANGED)
-    (copy.top / "crates" / "stn_time" / "specs" / "more.antt").unlink()
+    (copy.top / "crates" / "stn_text" / "specs" / "more.antt").unlink()
     copy.check("a removed one", copy.run("run"), b"program: run\n", 7)
 
 
