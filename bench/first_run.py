@@ -129,7 +129,7 @@ def unproved(copy):
 
 def building(copy):
     found = copy.run("report", "a b")
-    last = "stn: 26 of 26: stn\n"
+    last = "stn: 28 of 28: stn\n"
     copy.check("another command builds first", found, b"program: report a b\n", 7, UNBUILT, "no files of yours", FROM_BUILD, "minute", last)
     copy.check("the path of a built program", copy.run("build", rt=False), copy.path(), 0)
     copy.check("a built program runs", copy.run("run", given=b"x\n"), b"program: run\nx\n", 7)
