@@ -10,3 +10,4 @@ pub mod Sharing
 pub mod SoundBounds
 pub mod FewBounds
 pub mod LiftedBase
+pub mod PlannedTimes

@@ -2,7 +2,6 @@
 use Rattle.std.specs.Prelude.{slice_index_or}
 use Rattle.std.proofs.Common.{◌≡◌, ℕ, ◌+◌, ◌*◌, ◌<◌, ◌≤◌, ℤ, pos, ◌+ℤ◌, ◌≤ℤ◌, zero, suc, List, [], ◌∷◌, length, take, Ok, refl, sym, ap, subst, ◌∙◌, arith}
 use Rattle.std.specs.List.{All, AllByRecursion}
-use Rattle.std.specs.Result.{result_unwrap_or}
 use Rattle.std.proofs.lemmas.Int.{ints}
 use Rattle.std.proofs.lemmas.List.{length-map}
 use Rattle.stn_time.specs.Time.{horizon}
@@ -22,7 +21,7 @@ use Rattle.stn_lift.specs.PlanSource.{files, of_lift, base_of, source_with, acti
 use Rattle.stn_lift.proofs.SoundBounds.{bounds, first_horizons, all_named, planned_possible, order_keeps}
 use Rattle.stn_lift.proofs.FewBounds.{few_bounds}
 use Rattle.stn_lift.proofs.Steps.{length-activities}
-use Rattle.stn_lift.proofs.Texts.{lifted-Ok}
+use Rattle.stn_lift.proofs.Texts.{lifted-Ok, texts_lifted}
 
 -- a time lies from 0 to the horizon
 abbrev IsWithin : ℤ → Type 0
@@ -102,9 +101,8 @@ module _ (steps : List Activity) (durations times : List ℤ) (footprints : List
 
   module _ (domain plan : List ℕ) (actions : List ActionSchema) (planned : List PlannedStep) (domain_is : domain_of domain ≡ Ok actions) (plan_is : plan_of plan ≡ Ok planned)
       (found : activities actions 0 planned ≡ Ok steps) where
-    pub texts_lifted : activities_of domain plan ≡ steps
-    unfolding activities_of
-    texts_lifted = ap (λ r. result_unwrap_or r []) (lifted-Ok domain plan actions planned domain_is plan_is ∙ ap of_lift found)
+    lifted_steps : activities_of domain plan ≡ steps
+    lifted_steps = texts_lifted domain plan actions planned steps domain_is plan_is found
 
     -- the texts have a base
     based_lifted : base_of (files domain plan) ≡ Ok (files domain plan)
@@ -114,10 +112,10 @@ module _ (steps : List Activity) (durations times : List ℤ) (footprints : List
     pub base_lifted : length steps ≤ most_steps → length domain ≤ most_text → length plan ≤ most_text
         → IsBase (files domain plan) (length durations) (numbered_bounds durations times footprints) times
     base_lifted small short_domain short_plan = record {
-      counted = counted ∙ ap length (sym texts_lifted);
-      listed = same_bounds ∙ ap lifted_bounds (sym texts_lifted);
-      timed = λ event. ap (λ ts. times_of ts event) (made.timed ∙ ap event_times (sym texts_lifted));
-      sound = sound_steps steps made.within small domain plan texts_lifted based_lifted short_domain short_plan;
+      counted = counted ∙ ap length (sym lifted_steps);
+      listed = same_bounds ∙ ap lifted_bounds (sym lifted_steps);
+      timed = λ event. ap (λ ts. times_of ts event) (made.timed ∙ ap event_times (sym lifted_steps));
+      sound = sound_steps steps made.within small domain plan lifted_steps based_lifted short_domain short_plan;
     }
 
 -- a plan that fits its domain has few enough steps

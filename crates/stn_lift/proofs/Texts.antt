@@ -1,5 +1,6 @@
 -- The base of two texts, from what their readers and the lifting give.
-use Rattle.std.proofs.Common.{◌≡◌, ℕ, List, Result, Ok, Err, ap, ◌∙◌}
+use Rattle.std.proofs.Common.{◌≡◌, ℕ, List, [], Result, Ok, Err, ap, ◌∙◌}
+use Rattle.std.specs.Result.{result_unwrap_or}
 use Rattle.stn_text.specs.Faults.{Fails}
 use Rattle.stn_pddl.specs.declared.fault.DomainFault.{DomainFault}
 use Rattle.stn_pddl.specs.declared.fault.DomainFault.TheVariants as domain_fault
@@ -10,14 +11,13 @@ use Rattle.stn_plan.specs.declared.fault.PlanFault.{PlanFault}
 use Rattle.stn_plan.specs.declared.fault.PlanFault.TheVariants as plan_fault
 use Rattle.stn_plan.specs.Steps as timed
 use Rattle.stn_plan.specs.Steps.{PlannedStep, plan_of}
-use Rattle.stn_lift.specs.declared.fault.BaseFault.{BaseFault}
 use Rattle.stn_lift.specs.declared.fault.BaseFault.TheVariants.{Domain, Plan, Lift, TooManySteps}
 use Rattle.stn_lift.specs.declared.fault.LiftFault.{LiftFault}
 use Rattle.stn_lift.specs.declared.fault.LiftFault.TheVariants.{UnknownAction, Arity, DurationDiffers, PastHorizon, Memory}
 use Rattle.stn_lift.specs.Faults.{of_domain, of_plan, of_lifting}
 use Rattle.stn_lift.specs.Activities as lifting
 use Rattle.stn_lift.specs.Activities.{Activity, activities}
-use Rattle.stn_lift.specs.PlanSource.{PlanSource, files, of_lift, steps_in, lifted, source_with, source_with_lifted, base_of, is_memory}
+use Rattle.stn_lift.specs.PlanSource.{PlanSource, files, of_lift, steps_in, lifted, activities_of, source_with, source_with_lifted, base_of, is_memory}
 
 -- a fault of a text or of a step is not that a bare plan has too many steps
 pub domain_not_many : (fault : DomainFault) → of_domain fault ≡ TooManySteps → ⊥
@@ -51,6 +51,12 @@ module _ (domain plan : List ℕ) where
       → lifted domain plan ≡ of_lift (activities actions 0 steps)
   unfolding lifted
   lifted-Ok actions steps domain_is plan_is = ap (λ r. steps_in r (plan_of plan)) domain_is ∙ ap (steps_in (Ok actions)) plan_is
+
+  -- what they do, where no step has a fault
+  pub texts_lifted : (actions : List ActionSchema) (steps : List PlannedStep) (found : List Activity) → domain_of domain ≡ Ok actions → plan_of plan ≡ Ok steps
+      → activities actions 0 steps ≡ Ok found → activities_of domain plan ≡ found
+  unfolding activities_of
+  texts_lifted actions steps found domain_is plan_is is = ap (λ r. result_unwrap_or r []) (lifted-Ok actions steps domain_is plan_is ∙ ap of_lift is)
 
   -- a domain with a fault
   refused_at_domain : (fault : DomainFault) → domain_of domain ≡ Err fault → base_of (files domain plan) ≡ Err (Domain fault)

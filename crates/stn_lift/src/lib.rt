@@ -3,7 +3,7 @@
 
 pub use base::{Base, lift};
 pub use fault::{BaseFault, LiftFault};
-pub use laws::interference_by_atoms;
+pub use laws::{interference_by_atoms, planned_times};
 pub use source::Source;
 
 mod atoms;

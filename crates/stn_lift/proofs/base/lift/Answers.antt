@@ -8,8 +8,9 @@ use Rattle.stn_pddl.specs.Domains.{domain_of}
 use Rattle.stn_plan.specs.Steps.{plan_of}
 use Rattle.stn_lift.specs.Activities.{activities, is_memory}
 use Rattle.stn_lift.specs.Views.{numbers_of}
-use Rattle.stn_lift.proofs.LiftedBase.{few_found, is_whole, texts_lifted, base_lifted}
+use Rattle.stn_lift.proofs.LiftedBase.{few_found, is_whole, base_lifted}
 use Rattle.stn_lift.proofs.Steps.{cause_of}
+use Rattle.stn_lift.proofs.Texts.{texts_lifted}
 use Rattle.stn_lift.proofs.base.lift.Goals as goal
 
 pub returns-in_err-timeline-clause-cause : goal.returns-in_err-timeline-clause-cause
@@ -146,7 +147,7 @@ returns g c =
       made = search rules;
       given = search rules;
       cause = tt;
-      steps = found ∙ ap Ok (sym (texts_lifted made.0 durations times numbers made.2 c.args.domain.now.text c.args.plan.now.text actions planned given_domain c.steps.ensures.given found));
+      steps = found ∙ ap Ok (sym (texts_lifted c.args.domain.now.text c.args.plan.now.text actions planned made.0 given_domain c.steps.ensures.given found));
       possible = base.sound.possible;
       ordered = base.sound.ordered;
       sound = base.sound;
