@@ -4,3 +4,5 @@ pub mod Kept
 pub mod SoundActions
 pub mod Steps
 pub mod Taken
+pub mod FaultFacts
+pub mod Causes

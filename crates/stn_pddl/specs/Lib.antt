@@ -6,6 +6,7 @@ pub mod Conditions
 pub mod Fields
 pub mod Actions
 pub mod Domains
+pub mod Causes
 pub mod Views
 pub mod FieldViews
 pub mod Sound

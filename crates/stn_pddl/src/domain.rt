@@ -6,6 +6,7 @@ ghost use Rattle.stn_text.specs.Faults.{Gives, ◌>>=◌ as ◌and_then◌};
 ghost use Rattle.stn_tree.specs.Cursors.{row_at};
 ghost use Rattle.stn_tree.specs.Scan.{most_text};
 ghost use Rattle.stn_pddl.specs.Faults.{is_memory};
+ghost use Rattle.stn_pddl.specs.Causes.{IsCause};
 ghost use Rattle.stn_pddl.specs.Actions as rule;
 ghost use Rattle.stn_pddl.specs.Domains.{part, parts, is_title, root, domain_of_tree, domain_of, action_named};
 ghost use Rattle.stn_pddl.specs.Sound.{IsSound};
@@ -268,6 +269,9 @@ impl<'a, A: Allocator + Copy> Domain<'a, A> {
         // The domain that the text means, or its first fault.
         ensures given { Gives is_memory (λ domain. domain.actions) result (domain_of text.now) }
         ensures text { IfOk result (λ domain. domain.text ≡ text.now) }
+
+        // The text is too long, or its bytes have the fault, or it does not begin as a domain does, or the first part with a fault has it.
+        ensures cause { IfErr result (IsCause text.now) }
     {
         let mut actions = Actions::new(alloc);
         read_actions(alloc, text, &mut actions)?;

@@ -2,3 +2,4 @@ pub mod Rows
 pub mod Cursors
 pub mod Scanned
 pub mod NameLemmas
+pub mod Faults

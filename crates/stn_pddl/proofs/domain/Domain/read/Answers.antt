@@ -1,4 +1,5 @@
 use Rattle.std.proofs.lemmas.Result.{err_from_is_err_and}
+use Rattle.stn_pddl.proofs.Causes.{cause_of}
 use Rattle.stn_pddl.proofs.SoundActions.{domain-sound, domain-short}
 use Rattle.stn_pddl.proofs.domain.Domain.read.Goals as goal
 
@@ -8,6 +9,7 @@ returns-in_err-read_actions g c =
     record {
       given = rw (returned.1, returned.2) c.in_err-read_actions.ensures;
       text = rw returned.1 tt;
+      cause = rw (returned.1, returned.2) (cause_of c.args.text.now c.in_err-read_actions.field-0.0 c.in_err-read_actions.ensures);
     }
 
 pub invariant_of-result : goal.invariant_of-result

@@ -1,0 +1,334 @@
+-- The faults that the forms of a domain have.
+use Rattle.std.proofs.Common.{◌≡◌, ℕ, Bool, true, false, cond, ◌==◌, ◌&&◌, List, [], ◌∷◌, ◌++◌, is_some, Option, Some, None, Result, Ok, Err, ℤ, pos, int_lt, position, codes}
+use Rattle.std.specs.List.{list_any}
+use Rattle.stn_time.specs.declared.reading.TimeFault.{TimeFault}
+use Rattle.stn_time.specs.TimeOf.{time_of}
+use Rattle.stn_tree.specs.Names.{is_same_word}
+use Rattle.stn_tree.specs.Trees.{Trees, End, Word, Group, how_many}
+use Rattle.stn_pddl.specs.declared.fault.DomainFault.{DomainFault}
+use Rattle.stn_pddl.specs.declared.fault.DomainFault.TheVariants.{TooLong, Syntax, TooDeep, Unsupported, Number, Twice, Variable, Memory}
+use Rattle.stn_pddl.specs.declared.action.Label.{Label}
+use Rattle.stn_pddl.specs.declared.action.Label.TheVariants.{OverAll}
+use Rattle.stn_pddl.specs.declared.action.Side.{Side}
+use Rattle.stn_pddl.specs.declared.action.Side.TheVariants.{Condition, Effect}
+use Rattle.stn_pddl.specs.declared.word.Head.{Head}
+use Rattle.stn_pddl.specs.declared.word.Head.TheVariants as head
+use Rattle.stn_pddl.specs.declared.word.Item.{Item}
+use Rattle.stn_pddl.specs.declared.word.Item.TheVariants as item
+use Rattle.stn_pddl.specs.declared.word.Field.{Field}
+use Rattle.stn_pddl.specs.declared.word.Key.{Key}
+use Rattle.stn_pddl.specs.declared.word.Key.TheVariants as key
+use Rattle.stn_pddl.specs.declared.word.Section.{Section}
+use Rattle.stn_pddl.specs.declared.word.Section.TheVariants as section
+use Rattle.stn_text.specs.Faults.{◌>>=◌}
+use Rattle.stn_pddl.specs.Words.{is_name, is_variable, is_key, head_of, item_of, key_of, section_of}
+use Rattle.stn_pddl.specs.Schemas.{TermSchema, ActionSchema, Constant, bare_action, with_literal}
+use Rattle.stn_pddl.specs.Atoms.{parameter_at, term, terms, atom, equality}
+use Rattle.stn_pddl.specs.Conditions.{is_effect, equal_tree, negated_tree, negated_first, negation, plain_row, plain_tree, labelled, start_of, end_of, at_tree, over_tree, timed_row, timed_tree, equal_at}
+use Rattle.stn_pddl.specs.Fields.{Listing, Values, no_values, parameters, parameters_behind_type, not_negative, constant, duration, value_of, with_value, fields, field_value}
+use Rattle.stn_pddl.specs.Actions.{timed_value, action_of_lists, action_of_values, named_action, is_taken, action}
+use Rattle.stn_pddl.specs.Domains.{part, parts}
+
+-- a fault of the forms: the text is not too long, its brackets are not too deep, and there is memory
+abbrev pub IsFormFault : DomainFault → Type 0
+IsFormFault TooLong = ⊥
+IsFormFault (Syntax line) = Unit {0}
+IsFormFault (TooDeep line) = ⊥
+IsFormFault (Unsupported line) = Unit {0}
+IsFormFault (Number line) = Unit {0}
+IsFormFault (Twice line) = Unit {0}
+IsFormFault (Variable line) = Unit {0}
+IsFormFault Memory = ⊥
+
+-- a value, or a fault of the forms
+abbrev pub OfForms : {A : Type 0} → Result A DomainFault → Type 0
+OfForms (Ok found) = Unit {0}
+OfForms (Err fault) = IsFormFault fault
+
+then : {A B : Type 0} (first : Result A DomainFault) (next : A → Result B DomainFault) → OfForms first → ((found : A) → OfForms (next found)) → OfForms (first >>= next)
+then (Ok found) next one other = other found
+then (Err fault) next one other = one
+
+either : {A : Type 0} (test : Bool) (one other : Result A DomainFault) → OfForms one → OfForms other → OfForms (cond test one other)
+either true one other first second = first
+either false one other first second = second
+
+term-forms : (names : List (List ℕ)) (line : ℕ) (word : List ℕ) → OfForms (term names line word)
+unfolding term
+term-forms names line word =
+    either (is_variable word) (parameter_at line (position (is_same_word word) names)) (cond (is_key word) (Err (Syntax line)) (Ok (Constant word)))
+    (place (position (is_same_word word) names)) (either (is_key word) (Err (Syntax line)) (Ok (Constant word)) tt tt)
+  where
+    place : (found : Option ℕ) → OfForms (parameter_at line found)
+    place None = tt
+    place (Some number) = tt
+
+terms-forms : (names : List (List ℕ)) (rest : Trees) (before : List TermSchema) → OfForms (terms names rest before)
+unfolding terms
+terms-forms names End before = tt
+terms-forms names (Word line word next) before =
+    then (term names line word) (λ found. terms names next (before ++ found ∷ [])) (term-forms names line word) (λ found. terms-forms names next (before ++ found ∷ []))
+terms-forms names (Group line children next) before = tt
+
+module _ (label : Label) (a : ActionSchema) where
+  atom-forms : (negated : Bool) (word : List ℕ) (rest : Trees) → OfForms (atom label negated word rest a)
+  unfolding atom
+  atom-forms negated word rest =
+      then (terms a.parameters rest []) (λ found. Ok (with_literal label negated (record { predicate = word; terms = found }) a)) (terms-forms a.parameters rest []) (λ found. tt)
+
+  equal-forms : (line : ℕ) (rest : Trees) → OfForms (equal_tree label line rest a)
+  unfolding equality
+  equal-forms line rest =
+      let found : Result ActionSchema DomainFault = terms a.parameters rest [] >>= λ found. Ok a in
+      let two : Result ActionSchema DomainFault = cond (how_many rest == 2) found (Err (Syntax line)) in
+      either (is_effect label) (Err (Unsupported line)) two tt
+      (either (how_many rest == 2) found (Err (Syntax line)) (then (terms a.parameters rest []) (λ found. Ok a) (terms-forms a.parameters rest []) (λ found. tt)) tt)
+
+  negated-forms : (line : ℕ) (children : Trees) → OfForms (negated_tree label line children a)
+  unfolding negated_tree
+  negated-forms line End = tt
+  negated-forms line (Group at children next) = tt
+  negated-forms line (Word at word rest) = by (head_of word)
+    where
+      by : (k : Head) → OfForms (elim k as (λ _. Result ActionSchema DomainFault) [
+        | head.And ↦ Err (Unsupported line)
+        | head.Not ↦ Err (Unsupported line)
+        | head.Equal ↦ equal_tree label line rest a
+        | head.OtherLogic ↦ Err (Unsupported line)
+        | head.NoName ↦ Err (Syntax line)
+        | head.At ↦ atom label true word rest a
+        | head.Over ↦ atom label true word rest a
+        | head.Name ↦ atom label true word rest a
+      ])
+      by head.And = tt
+      by head.Not = tt
+      by head.Equal = equal-forms line rest
+      by head.OtherLogic = tt
+      by head.NoName = tt
+      by head.At = atom-forms true word rest
+      by head.Over = atom-forms true word rest
+      by head.Name = atom-forms true word rest
+
+  negation-forms : (line : ℕ) (rest : Trees) → OfForms (negation label line rest a)
+  unfolding negation
+  negation-forms line rest = either (how_many rest == 1) (negated_first label line rest a) (Err (Syntax line)) (first rest) tt
+    where
+      first : (trees : Trees) → OfForms (negated_first label line trees a)
+      first End = tt
+      first (Word at word next) = tt
+      first (Group at children next) = negated-forms at children
+
+  plain-by : (line : ℕ) (word : List ℕ) (rest : Trees) → OfForms (plain_row label rest a) → (k : Head) → OfForms (elim k as (λ _. Result ActionSchema DomainFault) [
+    | head.And ↦ plain_row label rest a
+    | head.Not ↦ negation label line rest a
+    | head.Equal ↦ equal_tree label line rest a
+    | head.OtherLogic ↦ Err (Unsupported line)
+    | head.NoName ↦ Err (Syntax line)
+    | head.At ↦ atom label false word rest a
+    | head.Over ↦ atom label false word rest a
+    | head.Name ↦ atom label false word rest a
+  ])
+  plain-by line word rest row head.And = row
+  plain-by line word rest row head.Not = negation-forms line rest
+  plain-by line word rest row head.Equal = equal-forms line rest
+  plain-by line word rest row head.OtherLogic = tt
+  plain-by line word rest row head.NoName = tt
+  plain-by line word rest row head.At = atom-forms false word rest
+  plain-by line word rest row head.Over = atom-forms false word rest
+  plain-by line word rest row head.Name = atom-forms false word rest
+
+mutual
+  unfolding plain_row plain_tree
+
+  plain_row-forms : (label : Label) (trees : Trees) (a : ActionSchema) → OfForms (plain_row label trees a)
+  plain_row-forms label End a = tt
+  plain_row-forms label (Word line word next) a = tt
+  plain_row-forms label (Group line children next) a =
+      then (plain_tree label line children a) (λ found. plain_row label next found) (plain_tree-forms label line children a) (λ found. plain_row-forms label next found)
+
+  plain_tree-forms : (label : Label) (line : ℕ) (trees : Trees) (a : ActionSchema) → OfForms (plain_tree label line trees a)
+  plain_tree-forms label line End a = tt
+  plain_tree-forms label line (Group at children next) a = tt
+  plain_tree-forms label line (Word at word rest) a = plain-by label a line word rest (plain_row-forms label rest a) (head_of word)
+
+module _ (side : Side) (a : ActionSchema) where
+  labelled-forms : (label : Label) (line : ℕ) (rest : Trees) → OfForms (labelled label line rest a)
+  unfolding labelled
+  labelled-forms label line rest = either (how_many rest == 1) (plain_row label rest a) (Err (Syntax line)) (plain_row-forms label rest a) tt
+
+  at-forms : (line : ℕ) (rest : Trees) → OfForms (at_tree side line rest a)
+  unfolding at_tree
+  at-forms line End = tt
+  at-forms line (Group at children next) = tt
+  at-forms line (Word at word rest) = by (is_same_word word (codes "start")) (is_same_word word (codes "end"))
+    where
+      by : (s e : Bool) → OfForms (cond s (labelled (start_of side) line rest a) (cond e (labelled (end_of side) line rest a) (Err (Syntax line))))
+      by true e = labelled-forms (start_of side) line rest
+      by false true = labelled-forms (end_of side) line rest
+      by false false = tt
+
+over-forms : (side : Side) (line : ℕ) (rest : Trees) (a : ActionSchema) → OfForms (over_tree side line rest a)
+unfolding over_tree
+over-forms Effect line rest a = tt
+over-forms Condition line End a = tt
+over-forms Condition line (Group at children next) a = tt
+over-forms Condition line (Word at word rest) a =
+    either (is_same_word word (codes "all")) (labelled OverAll line rest a) (Err (Syntax line)) (labelled-forms Condition a OverAll line rest) tt
+
+equal_at-forms : (side : Side) (line : ℕ) → IsFormFault (equal_at side line)
+equal_at-forms Condition line = tt
+equal_at-forms Effect line = tt
+
+module _ (side : Side) (a : ActionSchema) where
+  timed-by : (line : ℕ) (rest : Trees) → OfForms (timed_row side rest a) → (k : Head) → OfForms (elim k as (λ _. Result ActionSchema DomainFault) [
+    | head.And ↦ timed_row side rest a
+    | head.At ↦ at_tree side line rest a
+    | head.Over ↦ over_tree side line rest a
+    | head.OtherLogic ↦ Err (Unsupported line)
+    | head.Equal ↦ Err (equal_at side line)
+    | head.Not ↦ Err (Syntax line)
+    | head.NoName ↦ Err (Syntax line)
+    | head.Name ↦ Err (Syntax line)
+  ])
+  timed-by line rest row head.And = row
+  timed-by line rest row head.At = at-forms side a line rest
+  timed-by line rest row head.Over = over-forms side line rest a
+  timed-by line rest row head.OtherLogic = tt
+  timed-by line rest row head.Equal = equal_at-forms side line
+  timed-by line rest row head.Not = tt
+  timed-by line rest row head.NoName = tt
+  timed-by line rest row head.Name = tt
+
+mutual
+  unfolding timed_row timed_tree
+
+  timed_row-forms : (side : Side) (trees : Trees) (a : ActionSchema) → OfForms (timed_row side trees a)
+  timed_row-forms side End a = tt
+  timed_row-forms side (Word line word next) a = tt
+  timed_row-forms side (Group line children next) a =
+      then (timed_tree side line children a) (λ found. timed_row side next found) (timed_tree-forms side line children a) (λ found. timed_row-forms side next found)
+
+  timed_tree-forms : (side : Side) (line : ℕ) (trees : Trees) (a : ActionSchema) → OfForms (timed_tree side line trees a)
+  timed_tree-forms side line End a = tt
+  timed_tree-forms side line (Group at children next) a = tt
+  timed_tree-forms side line (Word at word rest) a = timed-by side a line rest (timed_row-forms side rest a) (head_of word)
+
+module _ (word : List ℕ) (line : ℕ) (next : Trees) (before : List (List ℕ)) where
+  parameter-by : ((names : List (List ℕ)) → OfForms (parameters next names)) → OfForms (parameters_behind_type line next before) → (k : Item) → OfForms (elim k as (λ _. Result (List (List ℕ)) DomainFault) [
+    | item.Parameter ↦ cond (list_any (is_same_word word) before) (Err (Twice line)) (parameters next (before ++ word ∷ []))
+    | item.Dash ↦ parameters_behind_type line next before
+    | item.Other ↦ Err (Syntax line)
+  ])
+  parameter-by more typed item.Parameter = either (list_any (is_same_word word) before) (Err (Twice line)) (parameters next (before ++ word ∷ [])) tt (more (before ++ word ∷ []))
+  parameter-by more typed item.Dash = typed
+  parameter-by more typed item.Other = tt
+
+mutual
+  unfolding parameters parameters_behind_type
+
+  parameters-forms : (trees : Trees) (before : List (List ℕ)) → OfForms (parameters trees before)
+  parameters-forms End before = tt
+  parameters-forms (Group line children next) before = tt
+  parameters-forms (Word line word next) before = parameter-by word line next before (λ names. parameters-forms next names) (behind-forms line next before) (item_of word)
+
+  behind-forms : (line : ℕ) (trees : Trees) (before : List (List ℕ)) → OfForms (parameters_behind_type line trees before)
+  behind-forms line End before = tt
+  behind-forms line (Word at word next) before = parameters-forms next before
+  behind-forms line (Group at children next) before = parameters-forms next before
+
+duration-forms : (line : ℕ) (children : Trees) → OfForms (duration line children)
+unfolding duration constant
+duration-forms line (Word a equal (Word b variable (Word at time End))) =
+    either (is_same_word equal (codes "=") && is_same_word variable (codes "?duration")) (not_negative at (time_of time)) (Err (Unsupported line)) (by (time_of time)) tt
+  where
+    by : (found : Result ℤ TimeFault) → OfForms (not_negative at found)
+    by (Ok millis) = either (int_lt millis (pos 0)) (Err (Number at)) (Ok millis) tt tt
+    by (Err fault) = tt
+duration-forms line children = tt
+
+module _ (line : ℕ) (next : Trees) (before : Values) where
+  field-by : ((name : Field) → OfForms (field_value line name next before)) → (k : Key) → OfForms (elim k as (λ _. Result Values DomainFault) [
+    | key.Known name ↦ cond (is_some (value_of name before)) (Err (Twice line)) (field_value line name next before)
+    | key.Unknown ↦ Err (Unsupported line)
+    | key.NoKey ↦ Err (Syntax line)
+  ])
+  field-by more (key.Known name) = either (is_some (value_of name before)) (Err (Twice line)) (field_value line name next before) tt (more name)
+  field-by more key.Unknown = tt
+  field-by more key.NoKey = tt
+
+mutual
+  unfolding fields field_value
+
+  fields-forms : (trees : Trees) (before : Values) → OfForms (fields trees before)
+  fields-forms End before = tt
+  fields-forms (Group line children next) before = tt
+  fields-forms (Word line word next) before = field-by line next before (λ name. field-forms line name next before) (key_of word)
+
+  field-forms : (line : ℕ) (name : Field) (trees : Trees) (before : Values) → OfForms (field_value line name trees before)
+  field-forms line name End before = tt
+  field-forms line name (Word at word next) before = tt
+  field-forms line name (Group at children next) before = fields-forms next (with_value name (record { line = at; children = children }) before)
+
+value-forms : (side : Side) (value : Option Listing) (a : ActionSchema) → OfForms (timed_value side value a)
+unfolding timed_value
+value-forms side None a = tt
+value-forms side (Some listing) a = timed_tree-forms side listing.line listing.children a
+
+lists-forms : (name : List ℕ) (listed timed : Listing) (values : Values) → OfForms (action_of_lists name listed timed values)
+unfolding action_of_lists
+lists-forms name listed timed values =
+    then (parameters listed.children [])
+    (λ names. duration timed.line timed.children >>= λ millis. timed_value Condition values.condition (bare_action name names millis) >>= λ action. timed_value Effect values.effect action)
+    (parameters-forms listed.children [])
+    (λ names. then (duration timed.line timed.children)
+    (λ millis. timed_value Condition values.condition (bare_action name names millis) >>= λ action. timed_value Effect values.effect action)
+    (duration-forms timed.line timed.children)
+    (λ millis. then (timed_value Condition values.condition (bare_action name names millis)) (λ action. timed_value Effect values.effect action)
+    (value-forms Condition values.condition (bare_action name names millis))
+    (λ action. value-forms Effect values.effect action)))
+
+values-forms : (line : ℕ) (name : List ℕ) (values : Values) (listed timed : Option Listing) → OfForms (action_of_values line name values listed timed)
+values-forms line name values None timed = tt
+values-forms line name values (Some listed) None = tt
+values-forms line name values (Some listed) (Some timed) = lists-forms name listed timed values
+
+named-forms : (line : ℕ) (name : List ℕ) (rest : Trees) → OfForms (named_action line name rest)
+unfolding named_action
+named-forms line name rest =
+    then (fields rest no_values) (λ values. action_of_values line name values values.parameters values.duration) (fields-forms rest no_values)
+    (λ values. values-forms line name values values.parameters values.duration)
+
+action-forms : (line : ℕ) (rest : Trees) (earlier : List ActionSchema) → OfForms (action line rest earlier)
+unfolding action
+action-forms line End earlier = tt
+action-forms line (Group at children next) earlier = tt
+action-forms line (Word at name rest) earlier = by (is_name name) (is_taken name earlier)
+  where
+    by : (named taken : Bool) → OfForms (cond named (cond taken (Err (Twice at)) (named_action line name rest)) (Err (Syntax line)))
+    by true true = tt
+    by true false = named-forms line name rest
+    by false taken = tt
+
+part-forms : (line : ℕ) (children : Trees) (before : List ActionSchema) → OfForms (part line children before)
+unfolding part
+part-forms line End before = tt
+part-forms line (Group at children next) before = tt
+part-forms line (Word at word rest) before = by (section_of word)
+  where
+    by : (k : Section) → OfForms (elim k as (λ _. Result (List ActionSchema) DomainFault) [
+      | section.Skipped ↦ Ok before
+      | section.Action ↦ (action line rest before >>= λ found. Ok (before ++ found ∷ []))
+      | section.Unknown ↦ Err (Unsupported line)
+      | section.NoSection ↦ Err (Syntax line)
+    ])
+    by section.Skipped = tt
+    by section.Action = then (action line rest before) (λ found. Ok (before ++ found ∷ [])) (action-forms line rest before) (λ found. tt)
+    by section.Unknown = tt
+    by section.NoSection = tt
+
+pub parts-forms : (trees : Trees) (before : List ActionSchema) → OfForms (parts trees before)
+unfolding parts
+parts-forms End before = tt
+parts-forms (Word line word next) before = tt
+parts-forms (Group line children next) before =
+    then (part line children before) (λ found. parts next found) (part-forms line children before) (λ found. parts-forms next found)

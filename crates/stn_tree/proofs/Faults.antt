@@ -1,0 +1,83 @@
+-- The faults of a text, and what a text without one is.
+use Rattle.std.proofs.Common.{◌≡◌, ℕ, ◌+◌, ◌-◌, ◌<◌, Bool, true, false, cond, nat_lt, List, [], ◌∷◌, length, Result, Ok, Err, refl, ap, subst, arith}
+use Rattle.std.proofs.lemmas.Bool.{ltb-true}
+use Rattle.stn_tree.specs.declared.bytes.Kind.{Kind}
+use Rattle.stn_tree.specs.declared.bytes.Kind.TheVariants.{Blank, Open, Close, Letter, Stray}
+use Rattle.stn_tree.specs.declared.scan.TreeFault.{TreeFault}
+use Rattle.stn_tree.specs.declared.scan.TreeFault.TheVariants.{TooLong, Syntax, TooDeep}
+use Rattle.stn_tree.specs.declared.scan.Place.{Place}
+use Rattle.stn_tree.specs.declared.scan.Place.TheVariants.{Before, Inside, After}
+use Rattle.stn_tree.specs.Bytes.{kind_in, comment_after, line_after}
+use Rattle.stn_tree.specs.Trees.{Trees, rows_from}
+use Rattle.stn_text.specs.Faults.{◌>>=◌}
+use Rattle.stn_tree.specs.Scan.{most_text, place_after_open, place_after_close, place_after_letter, place_after, ends_at, scanned, tree_of, IsOneList}
+use Rattle.stn_tree.proofs.Scanned.{one-list}
+
+-- a fault of a byte, or of an end that comes too early
+abbrev IsByteFault : TreeFault → Type 0
+IsByteFault TooLong = ⊥
+IsByteFault (Syntax line) = Unit {0}
+IsByteFault (TooDeep line) = Unit {0}
+
+abbrev OfBytes : Result Place TreeFault → Type 0
+OfBytes (Ok place) = Unit {0}
+OfBytes (Err fault) = IsByteFault fault
+
+then : (first : Result Place TreeFault) (next : Place → Result Place TreeFault) → OfBytes first → ((place : Place) → OfBytes (next place)) → OfBytes (first >>= next)
+then (Ok place) next one other = other place
+then (Err fault) next one other = one
+
+either : (test : Bool) (one other : Result Place TreeFault) → OfBytes one → OfBytes other → OfBytes (cond test one other)
+either true one other first second = first
+either false one other first second = second
+
+place_after-bytes : (kind : Kind) (line : ℕ) (place : Place) → OfBytes (place_after kind line place)
+unfolding place_after
+place_after-bytes Blank line place = tt
+place_after-bytes Open line Before = tt
+place_after-bytes Open line (Inside depth) = either (nat_lt depth 32) (Ok (Inside (depth + 1))) (Err (TooDeep line)) tt tt
+place_after-bytes Open line After = tt
+place_after-bytes Close line Before = tt
+place_after-bytes Close line (Inside depth) = either (nat_lt 1 depth) (Ok (Inside (depth - 1))) (Ok After) tt tt
+place_after-bytes Close line After = tt
+place_after-bytes Letter line Before = tt
+place_after-bytes Letter line (Inside depth) = tt
+place_after-bytes Letter line After = tt
+place_after-bytes Stray line place = tt
+
+scanned-bytes : (comment : Bool) (line : ℕ) (place : Place) (text : List ℕ) → OfBytes (scanned comment line place text)
+unfolding scanned
+scanned-bytes comment line Before [] = tt
+scanned-bytes comment line (Inside depth) [] = tt
+scanned-bytes comment line After [] = tt
+scanned-bytes comment line place (b ∷ bytes) =
+    then (place_after (kind_in comment b) line place) (λ next. scanned (comment_after comment b) (line_after line b) next bytes)
+    (place_after-bytes (kind_in comment b) line place) (λ next. scanned-bytes (comment_after comment b) (line_after line b) next bytes)
+
+module _ (text : List ℕ) where
+  -- a text that is refused as too long is
+  pub tree_of-long : tree_of text ≡ Err TooLong → most_text < length text
+  unfolding tree_of
+  tree_of-long is = by (nat_lt most_text (length text)) refl is
+    where
+      found : (end : Result Place TreeFault) → OfBytes end → (end >>= λ place. Ok (rows_from false 1 text).row) ≡ Err TooLong → ⊥
+      found (Ok place) bytes e = cc
+      found (Err fault) bytes e = let same : fault ≡ TooLong = cc in subst IsByteFault same bytes
+
+      by : (long : Bool) → nat_lt most_text (length text) ≡ long
+          → cond long (Err TooLong) (scanned false 1 Before text >>= λ end. Ok (rows_from false 1 text).row) ≡ Err TooLong → most_text < length text
+      by true many e = ltb-true _ _ many
+      by false few e = absurd (found (scanned false 1 Before text) (scanned-bytes false 1 Before text) e)
+
+  -- the tree of a text is one list
+  pub tree_of-list : (row : Trees) → tree_of text ≡ Ok row → IsOneList row
+  unfolding tree_of
+  tree_of-list row is = by (nat_lt most_text (length text)) is
+    where
+      found : (end : Result Place TreeFault) → scanned false 1 Before text ≡ end → (end >>= λ place. Ok (rows_from false 1 text).row) ≡ Ok row → IsOneList row
+      found (Ok end) same e = let whole : (rows_from false 1 text).row ≡ row = cc in subst IsOneList whole (one-list text end same)
+      found (Err fault) same e = cc
+
+      by : (long : Bool) → cond long (Err TooLong) (scanned false 1 Before text >>= λ end. Ok (rows_from false 1 text).row) ≡ Ok row → IsOneList row
+      by true e = cc
+      by false e = found (scanned false 1 Before text) refl e
