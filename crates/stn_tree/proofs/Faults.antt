@@ -1,6 +1,7 @@
 -- The faults of a text, and what a text without one is.
-use Rattle.std.proofs.Common.{◌≡◌, ℕ, ◌+◌, ◌-◌, ◌<◌, Bool, true, false, cond, nat_lt, List, [], ◌∷◌, length, Result, Ok, Err, refl, ap, subst, arith}
+use Rattle.std.proofs.Common.{◌≡◌, ℕ, ◌+◌, ◌-◌, ◌<◌, ◌≤◌, Bool, true, false, cond, nat_lt, List, [], ◌∷◌, length, Result, Ok, Err, refl, ap, subst, arith}
 use Rattle.std.proofs.lemmas.Bool.{ltb-true}
+use Rattle.std.proofs.lemmas.Bool.Decides.{nat_tests}
 use Rattle.stn_tree.specs.declared.bytes.Kind.{Kind}
 use Rattle.stn_tree.specs.declared.bytes.Kind.TheVariants.{Blank, Open, Close, Letter, Stray}
 use Rattle.stn_tree.specs.declared.scan.TreeFault.{TreeFault}
@@ -10,7 +11,7 @@ use Rattle.stn_tree.specs.declared.scan.Place.TheVariants.{Before, Inside, After
 use Rattle.stn_tree.specs.Bytes.{kind_in, comment_after, line_after}
 use Rattle.stn_tree.specs.Trees.{Trees, rows_from}
 use Rattle.stn_text.specs.Faults.{◌>>=◌}
-use Rattle.stn_tree.specs.Scan.{most_text, place_after_open, place_after_close, place_after_letter, place_after, ends_at, scanned, tree_of, IsOneList}
+use Rattle.stn_tree.specs.Scan.{most_text, place_after, scanned, tree_of, IsOneList}
 use Rattle.stn_tree.proofs.Scanned.{one-list}
 
 -- a fault of a byte, or of an end that comes too early
@@ -23,22 +24,22 @@ abbrev OfBytes : Result Place TreeFault → Type 0
 OfBytes (Ok place) = Unit {0}
 OfBytes (Err fault) = IsByteFault fault
 
-then : (first : Result Place TreeFault) (next : Place → Result Place TreeFault) → OfBytes first → ((place : Place) → OfBytes (next place)) → OfBytes (first >>= next)
-then (Ok place) next one other = other place
-then (Err fault) next one other = one
+bytes-then : (first : Result Place TreeFault) (next : Place → Result Place TreeFault) → OfBytes first → ((place : Place) → OfBytes (next place)) → OfBytes (first >>= next)
+bytes-then (Ok place) next one other = other place
+bytes-then (Err fault) next one other = one
 
-either : (test : Bool) (one other : Result Place TreeFault) → OfBytes one → OfBytes other → OfBytes (cond test one other)
-either true one other first second = first
-either false one other first second = second
+bytes-either : (test : Bool) (one other : Result Place TreeFault) → OfBytes one → OfBytes other → OfBytes (cond test one other)
+bytes-either true one other first second = first
+bytes-either false one other first second = second
 
 place_after-bytes : (kind : Kind) (line : ℕ) (place : Place) → OfBytes (place_after kind line place)
 unfolding place_after
 place_after-bytes Blank line place = tt
 place_after-bytes Open line Before = tt
-place_after-bytes Open line (Inside depth) = either (nat_lt depth 32) (Ok (Inside (depth + 1))) (Err (TooDeep line)) tt tt
+place_after-bytes Open line (Inside depth) = bytes-either (nat_lt depth 32) (Ok (Inside (depth + 1))) (Err (TooDeep line)) tt tt
 place_after-bytes Open line After = tt
 place_after-bytes Close line Before = tt
-place_after-bytes Close line (Inside depth) = either (nat_lt 1 depth) (Ok (Inside (depth - 1))) (Ok After) tt tt
+place_after-bytes Close line (Inside depth) = bytes-either (nat_lt 1 depth) (Ok (Inside (depth - 1))) (Ok After) tt tt
 place_after-bytes Close line After = tt
 place_after-bytes Letter line Before = tt
 place_after-bytes Letter line (Inside depth) = tt
@@ -51,7 +52,7 @@ scanned-bytes comment line Before [] = tt
 scanned-bytes comment line (Inside depth) [] = tt
 scanned-bytes comment line After [] = tt
 scanned-bytes comment line place (b ∷ bytes) =
-    then (place_after (kind_in comment b) line place) (λ next. scanned (comment_after comment b) (line_after line b) next bytes)
+    bytes-then (place_after (kind_in comment b) line place) (λ next. scanned (comment_after comment b) (line_after line b) next bytes)
     (place_after-bytes (kind_in comment b) line place) (λ next. scanned-bytes (comment_after comment b) (line_after line b) next bytes)
 
 module _ (text : List ℕ) where
@@ -68,6 +69,26 @@ module _ (text : List ℕ) where
           → cond long (Err TooLong) (scanned false 1 Before text >>= λ end. Ok (rows_from false 1 text).row) ≡ Err TooLong → most_text < length text
       by true many e = ltb-true _ _ many
       by false few e = absurd (found (scanned false 1 Before text) (scanned-bytes false 1 Before text) e)
+
+  -- a text that is short enough has the faults of its bytes
+  short_test : length text ≤ most_text → nat_lt most_text (length text) ≡ false
+  short_test short = grind (arith, nat_tests)
+
+  pub tree_of-scanned : (fault : TreeFault) → length text ≤ most_text → scanned false 1 Before text ≡ Err fault → tree_of text ≡ Err fault
+  unfolding tree_of
+  tree_of-scanned fault short is = rw (short_test short, is) refl
+
+  pub tree_of-refused : (fault : TreeFault) → length text ≤ most_text → tree_of text ≡ Err fault → scanned false 1 Before text ≡ Err fault
+  unfolding tree_of
+  tree_of-refused fault short is = by (scanned false 1 Before text) (rw (short_test short) at is)
+    where
+      by : (end : Result Place TreeFault) → (end >>= λ place. Ok (rows_from false 1 text).row) ≡ Err fault → end ≡ Err fault
+      by (Ok place) e = cc
+      by (Err given) e = let same : given ≡ fault = cc in ap Err same
+
+  pub tree_of-Ok : (end : Place) → length text ≤ most_text → scanned false 1 Before text ≡ Ok end → tree_of text ≡ Ok (rows_from false 1 text).row
+  unfolding tree_of
+  tree_of-Ok end short is = rw (short_test short, is) refl
 
   -- the tree of a text is one list
   pub tree_of-list : (row : Trees) → tree_of text ≡ Ok row → IsOneList row

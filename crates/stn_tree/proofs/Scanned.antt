@@ -19,6 +19,17 @@ unfolding scanned
 scanned-at comment line place next i text within is =
     ap (scanned comment line place) (drop-cons text i 0 within) ∙ rw (is, add-one) refl
 
+pub scanned-next : (comment : Bool) (line b : ℕ) (place next : Place) (bytes : List ℕ) → place_after (kind_in comment b) line place ≡ Ok next
+    → scanned comment line place (b ∷ bytes) ≡ scanned (comment_after comment b) (line_after line b) next bytes
+unfolding scanned
+scanned-next comment line b place next bytes is = rw is refl
+
+-- the first byte is a fault
+pub scanned-fault : (comment : Bool) (line b : ℕ) (place : Place) (fault : TreeFault) (bytes : List ℕ) → place_after (kind_in comment b) line place ≡ Err fault
+    → scanned comment line place (b ∷ bytes) ≡ Err fault
+unfolding scanned
+scanned-fault comment line b place fault bytes is = rw is refl
+
 -- A place inside has an open bracket.
 abbrev pub IsPlace : Place → Type 0
 IsPlace Before = Unit {0}
@@ -97,7 +108,7 @@ module _ (f : Place → Result Place TreeFault) (end : Place) (rows : Rows) (lat
   completes-byte Letter line b more After at is = refused (Syntax line) end is
   completes-byte Stray line b more place at is = refused (Syntax line) end is
 
-rows-byte : (comment : Bool) (line b : ℕ) (bytes : List ℕ) → rows_from comment line (b ∷ bytes) ≡ before_byte (kind_in comment b) line b (begins_word bytes) (rows_from (comment_after comment b) (line_after line b) bytes)
+pub rows-byte : (comment : Bool) (line b : ℕ) (bytes : List ℕ) → rows_from comment line (b ∷ bytes) ≡ before_byte (kind_in comment b) line b (begins_word bytes) (rows_from (comment_after comment b) (line_after line b) bytes)
 unfolding rows_from
 rows-byte comment line b bytes = refl
 

@@ -3,3 +3,6 @@ pub mod Names
 pub mod Trees
 pub mod Scan
 pub mod Cursors
+pub mod FirstFault
+pub mod Written
+pub mod Case

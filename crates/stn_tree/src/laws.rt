@@ -1,0 +1,28 @@
+//! Laws of trees, each the contract of a function that does nothing.
+
+ghost use Rattle.std.specs.Prelude.{◌≡◌, ℕ, ◌≤◌, List, length, Ok, Err};
+ghost use Rattle.stn_tree.specs.declared.scan.TreeFault.{TreeFault};
+ghost use Rattle.stn_tree.specs.Trees.{Trees, End, Group};
+ghost use Rattle.stn_tree.specs.Scan.{most_text, tree_of};
+ghost use Rattle.stn_tree.specs.Names.{folded};
+ghost use Rattle.stn_tree.specs.Case.{tree_in_small};
+ghost use Rattle.stn_tree.specs.FirstFault.{IsFirstFault};
+ghost use Rattle.stn_tree.specs.Written.{written, IsWritable};
+
+/// The law that a text which is not too long has its first fault at the first byte after which no text can go on, whatever
+/// follows there, or at an end that comes too early; it does nothing.
+pub fn first_fault()
+    ensures { (text : List ℕ) (fault : TreeFault) → tree_of text ≡ Err fault → length text ≤ most_text → IsFirstFault text fault }
+{}
+
+/// The law that a list which is written, with no more than 32 open brackets and 65,536 bytes, reads as that list; it does nothing.
+pub fn written_reads()
+    ensures { (line : ℕ) (children : Trees) → IsWritable 32 1 (Group line children End) → length (written 1 (Group line children End)) ≤ most_text
+        → tree_of (written 1 (Group line children End)) ≡ Ok (Group line children End) }
+{}
+
+/// The law that the case of letters changes only the words: a text in small letters has the tree of the text with its words in
+/// small letters, or the same fault; it does nothing.
+pub fn small_letters()
+    ensures { (text : List ℕ) → tree_of (folded text) ≡ tree_in_small (tree_of text) }
+{}
