@@ -1,11 +1,10 @@
 -- The first fault of a domain has its cause.
-use Rattle.std.proofs.Common.{◌≡◌, ℕ, ◌<◌, ◌⊎◌, inl, inr, Bool, true, false, cond, nat_lt, ◌&&◌, List, [], ◌∷◌, length, Result, Ok, Err, refl, sym, ap, subst, ◌∙◌, codes}
-use Rattle.stn_tree.specs.declared.scan.Place.{Place}
+use Rattle.std.proofs.Common.{◌≡◌, ℕ, ◌<◌, ◌⊎◌, inl, inr, Bool, true, false, cond, ◌&&◌, List, [], length, Result, Ok, Err, refl, sym, ap, subst, ◌∙◌, codes}
 use Rattle.stn_tree.specs.declared.scan.TreeFault.{TreeFault}
 use Rattle.stn_tree.specs.declared.scan.TreeFault.TheVariants as tree
 use Rattle.stn_tree.specs.Names.{is_same_word}
 use Rattle.stn_tree.specs.Trees.{Trees, End, Word, Group}
-use Rattle.stn_tree.specs.Scan.{most_text, tree_of, IsOneList}
+use Rattle.stn_tree.specs.Scan.{most_text, tree_of}
 use Rattle.stn_tree.proofs.Faults.{tree_of-long, tree_of-list}
 use Rattle.stn_text.specs.Faults.{◌>>=◌, Fails}
 use Rattle.stn_pddl.specs.declared.fault.DomainFault.{DomainFault}

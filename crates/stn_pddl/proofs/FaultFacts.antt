@@ -1,5 +1,5 @@
 -- The faults that the forms of a domain have.
-use Rattle.std.proofs.Common.{◌≡◌, ℕ, Bool, true, false, cond, ◌==◌, ◌&&◌, List, [], ◌∷◌, ◌++◌, is_some, Option, Some, None, Result, Ok, Err, ℤ, pos, int_lt, position, codes}
+use Rattle.std.proofs.Common.{ℕ, Bool, true, false, cond, ◌==◌, ◌&&◌, List, [], ◌∷◌, ◌++◌, is_some, Option, Some, None, Result, Ok, Err, ℤ, pos, int_lt, position, codes}
 use Rattle.std.specs.List.{list_any}
 use Rattle.stn_time.specs.declared.reading.TimeFault.{TimeFault}
 use Rattle.stn_time.specs.TimeOf.{time_of}
@@ -45,19 +45,19 @@ abbrev pub OfForms : {A : Type 0} → Result A DomainFault → Type 0
 OfForms (Ok found) = Unit {0}
 OfForms (Err fault) = IsFormFault fault
 
-then : {A B : Type 0} (first : Result A DomainFault) (next : A → Result B DomainFault) → OfForms first → ((found : A) → OfForms (next found)) → OfForms (first >>= next)
-then (Ok found) next one other = other found
-then (Err fault) next one other = one
+forms-then : {A B : Type 0} (first : Result A DomainFault) (next : A → Result B DomainFault) → OfForms first → ((found : A) → OfForms (next found)) → OfForms (first >>= next)
+forms-then (Ok found) next one other = other found
+forms-then (Err fault) next one other = one
 
-either : {A : Type 0} (test : Bool) (one other : Result A DomainFault) → OfForms one → OfForms other → OfForms (cond test one other)
-either true one other first second = first
-either false one other first second = second
+forms-either : {A : Type 0} (test : Bool) (one other : Result A DomainFault) → OfForms one → OfForms other → OfForms (cond test one other)
+forms-either true one other first second = first
+forms-either false one other first second = second
 
 term-forms : (names : List (List ℕ)) (line : ℕ) (word : List ℕ) → OfForms (term names line word)
 unfolding term
 term-forms names line word =
-    either (is_variable word) (parameter_at line (position (is_same_word word) names)) (cond (is_key word) (Err (Syntax line)) (Ok (Constant word)))
-    (place (position (is_same_word word) names)) (either (is_key word) (Err (Syntax line)) (Ok (Constant word)) tt tt)
+    forms-either (is_variable word) (parameter_at line (position (is_same_word word) names)) (cond (is_key word) (Err (Syntax line)) (Ok (Constant word)))
+    (place (position (is_same_word word) names)) (forms-either (is_key word) (Err (Syntax line)) (Ok (Constant word)) tt tt)
   where
     place : (found : Option ℕ) → OfForms (parameter_at line found)
     place None = tt
@@ -67,22 +67,22 @@ terms-forms : (names : List (List ℕ)) (rest : Trees) (before : List TermSchema
 unfolding terms
 terms-forms names End before = tt
 terms-forms names (Word line word next) before =
-    then (term names line word) (λ found. terms names next (before ++ found ∷ [])) (term-forms names line word) (λ found. terms-forms names next (before ++ found ∷ []))
+    forms-then (term names line word) (λ found. terms names next (before ++ found ∷ [])) (term-forms names line word) (λ found. terms-forms names next (before ++ found ∷ []))
 terms-forms names (Group line children next) before = tt
 
 module _ (label : Label) (a : ActionSchema) where
   atom-forms : (negated : Bool) (word : List ℕ) (rest : Trees) → OfForms (atom label negated word rest a)
   unfolding atom
   atom-forms negated word rest =
-      then (terms a.parameters rest []) (λ found. Ok (with_literal label negated (record { predicate = word; terms = found }) a)) (terms-forms a.parameters rest []) (λ found. tt)
+      forms-then (terms a.parameters rest []) (λ found. Ok (with_literal label negated (record { predicate = word; terms = found }) a)) (terms-forms a.parameters rest []) (λ found. tt)
 
   equal-forms : (line : ℕ) (rest : Trees) → OfForms (equal_tree label line rest a)
   unfolding equality
   equal-forms line rest =
       let found : Result ActionSchema DomainFault = terms a.parameters rest [] >>= λ found. Ok a in
       let two : Result ActionSchema DomainFault = cond (how_many rest == 2) found (Err (Syntax line)) in
-      either (is_effect label) (Err (Unsupported line)) two tt
-      (either (how_many rest == 2) found (Err (Syntax line)) (then (terms a.parameters rest []) (λ found. Ok a) (terms-forms a.parameters rest []) (λ found. tt)) tt)
+      forms-either (is_effect label) (Err (Unsupported line)) two tt
+      (forms-either (how_many rest == 2) found (Err (Syntax line)) (forms-then (terms a.parameters rest []) (λ found. Ok a) (terms-forms a.parameters rest []) (λ found. tt)) tt)
 
   negated-forms : (line : ℕ) (children : Trees) → OfForms (negated_tree label line children a)
   unfolding negated_tree
@@ -111,7 +111,7 @@ module _ (label : Label) (a : ActionSchema) where
 
   negation-forms : (line : ℕ) (rest : Trees) → OfForms (negation label line rest a)
   unfolding negation
-  negation-forms line rest = either (how_many rest == 1) (negated_first label line rest a) (Err (Syntax line)) (first rest) tt
+  negation-forms line rest = forms-either (how_many rest == 1) (negated_first label line rest a) (Err (Syntax line)) (first rest) tt
     where
       first : (trees : Trees) → OfForms (negated_first label line trees a)
       first End = tt
@@ -144,7 +144,7 @@ mutual
   plain_row-forms label End a = tt
   plain_row-forms label (Word line word next) a = tt
   plain_row-forms label (Group line children next) a =
-      then (plain_tree label line children a) (λ found. plain_row label next found) (plain_tree-forms label line children a) (λ found. plain_row-forms label next found)
+      forms-then (plain_tree label line children a) (λ found. plain_row label next found) (plain_tree-forms label line children a) (λ found. plain_row-forms label next found)
 
   plain_tree-forms : (label : Label) (line : ℕ) (trees : Trees) (a : ActionSchema) → OfForms (plain_tree label line trees a)
   plain_tree-forms label line End a = tt
@@ -154,7 +154,7 @@ mutual
 module _ (side : Side) (a : ActionSchema) where
   labelled-forms : (label : Label) (line : ℕ) (rest : Trees) → OfForms (labelled label line rest a)
   unfolding labelled
-  labelled-forms label line rest = either (how_many rest == 1) (plain_row label rest a) (Err (Syntax line)) (plain_row-forms label rest a) tt
+  labelled-forms label line rest = forms-either (how_many rest == 1) (plain_row label rest a) (Err (Syntax line)) (plain_row-forms label rest a) tt
 
   at-forms : (line : ℕ) (rest : Trees) → OfForms (at_tree side line rest a)
   unfolding at_tree
@@ -173,7 +173,7 @@ over-forms Effect line rest a = tt
 over-forms Condition line End a = tt
 over-forms Condition line (Group at children next) a = tt
 over-forms Condition line (Word at word rest) a =
-    either (is_same_word word (codes "all")) (labelled OverAll line rest a) (Err (Syntax line)) (labelled-forms Condition a OverAll line rest) tt
+    forms-either (is_same_word word (codes "all")) (labelled OverAll line rest a) (Err (Syntax line)) (labelled-forms Condition a OverAll line rest) tt
 
 equal_at-forms : (side : Side) (line : ℕ) → IsFormFault (equal_at side line)
 equal_at-forms Condition line = tt
@@ -206,7 +206,7 @@ mutual
   timed_row-forms side End a = tt
   timed_row-forms side (Word line word next) a = tt
   timed_row-forms side (Group line children next) a =
-      then (timed_tree side line children a) (λ found. timed_row side next found) (timed_tree-forms side line children a) (λ found. timed_row-forms side next found)
+      forms-then (timed_tree side line children a) (λ found. timed_row side next found) (timed_tree-forms side line children a) (λ found. timed_row-forms side next found)
 
   timed_tree-forms : (side : Side) (line : ℕ) (trees : Trees) (a : ActionSchema) → OfForms (timed_tree side line trees a)
   timed_tree-forms side line End a = tt
@@ -219,7 +219,7 @@ module _ (word : List ℕ) (line : ℕ) (next : Trees) (before : List (List ℕ)
     | item.Dash ↦ parameters_behind_type line next before
     | item.Other ↦ Err (Syntax line)
   ])
-  parameter-by more typed item.Parameter = either (list_any (is_same_word word) before) (Err (Twice line)) (parameters next (before ++ word ∷ [])) tt (more (before ++ word ∷ []))
+  parameter-by more typed item.Parameter = forms-either (list_any (is_same_word word) before) (Err (Twice line)) (parameters next (before ++ word ∷ [])) tt (more (before ++ word ∷ []))
   parameter-by more typed item.Dash = typed
   parameter-by more typed item.Other = tt
 
@@ -239,10 +239,10 @@ mutual
 duration-forms : (line : ℕ) (children : Trees) → OfForms (duration line children)
 unfolding duration constant
 duration-forms line (Word a equal (Word b variable (Word at time End))) =
-    either (is_same_word equal (codes "=") && is_same_word variable (codes "?duration")) (not_negative at (time_of time)) (Err (Unsupported line)) (by (time_of time)) tt
+    forms-either (is_same_word equal (codes "=") && is_same_word variable (codes "?duration")) (not_negative at (time_of time)) (Err (Unsupported line)) (by (time_of time)) tt
   where
     by : (found : Result ℤ TimeFault) → OfForms (not_negative at found)
-    by (Ok millis) = either (int_lt millis (pos 0)) (Err (Number at)) (Ok millis) tt tt
+    by (Ok millis) = forms-either (int_lt millis (pos 0)) (Err (Number at)) (Ok millis) tt tt
     by (Err fault) = tt
 duration-forms line children = tt
 
@@ -252,7 +252,7 @@ module _ (line : ℕ) (next : Trees) (before : Values) where
     | key.Unknown ↦ Err (Unsupported line)
     | key.NoKey ↦ Err (Syntax line)
   ])
-  field-by more (key.Known name) = either (is_some (value_of name before)) (Err (Twice line)) (field_value line name next before) tt (more name)
+  field-by more (key.Known name) = forms-either (is_some (value_of name before)) (Err (Twice line)) (field_value line name next before) tt (more name)
   field-by more key.Unknown = tt
   field-by more key.NoKey = tt
 
@@ -277,13 +277,13 @@ value-forms side (Some listing) a = timed_tree-forms side listing.line listing.c
 lists-forms : (name : List ℕ) (listed timed : Listing) (values : Values) → OfForms (action_of_lists name listed timed values)
 unfolding action_of_lists
 lists-forms name listed timed values =
-    then (parameters listed.children [])
+    forms-then (parameters listed.children [])
     (λ names. duration timed.line timed.children >>= λ millis. timed_value Condition values.condition (bare_action name names millis) >>= λ action. timed_value Effect values.effect action)
     (parameters-forms listed.children [])
-    (λ names. then (duration timed.line timed.children)
+    (λ names. forms-then (duration timed.line timed.children)
     (λ millis. timed_value Condition values.condition (bare_action name names millis) >>= λ action. timed_value Effect values.effect action)
     (duration-forms timed.line timed.children)
-    (λ millis. then (timed_value Condition values.condition (bare_action name names millis)) (λ action. timed_value Effect values.effect action)
+    (λ millis. forms-then (timed_value Condition values.condition (bare_action name names millis)) (λ action. timed_value Effect values.effect action)
     (value-forms Condition values.condition (bare_action name names millis))
     (λ action. value-forms Effect values.effect action)))
 
@@ -295,7 +295,7 @@ values-forms line name values (Some listed) (Some timed) = lists-forms name list
 named-forms : (line : ℕ) (name : List ℕ) (rest : Trees) → OfForms (named_action line name rest)
 unfolding named_action
 named-forms line name rest =
-    then (fields rest no_values) (λ values. action_of_values line name values values.parameters values.duration) (fields-forms rest no_values)
+    forms-then (fields rest no_values) (λ values. action_of_values line name values values.parameters values.duration) (fields-forms rest no_values)
     (λ values. values-forms line name values values.parameters values.duration)
 
 action-forms : (line : ℕ) (rest : Trees) (earlier : List ActionSchema) → OfForms (action line rest earlier)
@@ -322,7 +322,7 @@ part-forms line (Word at word rest) before = by (section_of word)
       | section.NoSection ↦ Err (Syntax line)
     ])
     by section.Skipped = tt
-    by section.Action = then (action line rest before) (λ found. Ok (before ++ found ∷ [])) (action-forms line rest before) (λ found. tt)
+    by section.Action = forms-then (action line rest before) (λ found. Ok (before ++ found ∷ [])) (action-forms line rest before) (λ found. tt)
     by section.Unknown = tt
     by section.NoSection = tt
 
@@ -331,4 +331,4 @@ unfolding parts
 parts-forms End before = tt
 parts-forms (Word line word next) before = tt
 parts-forms (Group line children next) before =
-    then (part line children before) (λ found. parts next found) (part-forms line children before) (λ found. parts-forms next found)
+    forms-then (part line children before) (λ found. parts next found) (part-forms line children before) (λ found. parts-forms next found)

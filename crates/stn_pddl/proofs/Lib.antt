@@ -6,3 +6,7 @@ pub mod Steps
 pub mod Taken
 pub mod FaultFacts
 pub mod Causes
+pub mod SmallWords
+pub mod SmallActions
+pub mod SmallDomain
+pub mod FromCauses

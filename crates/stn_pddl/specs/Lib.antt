@@ -11,3 +11,4 @@ pub mod Views
 pub mod FieldViews
 pub mod Sound
 pub mod Failures
+pub mod Case

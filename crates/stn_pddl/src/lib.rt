@@ -9,10 +9,12 @@ mod domain;
 mod failures;
 mod fault;
 mod fields;
+mod laws;
 mod plain;
 mod word;
 
 pub use action::{Action, Atom, Names, Term};
 pub use domain::Domain;
 pub use fault::DomainFault;
+pub use laws::{faults_by_cause, small_letters};
 pub use stn_tree::Name;

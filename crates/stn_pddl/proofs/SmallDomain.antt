@@ -1,0 +1,279 @@
+-- A domain in small letters has the actions of the domain in small letters.
+use Rattle.std.proofs.Common.{◌≡◌, ℕ, cond, ◌||◌, ◌&&◌, List, [], ◌∷◌, ◌++◌, map, is_some, Option, Some, None, Result, Ok, Err, ℤ, refl, sym, ap, ◌∙◌, codes}
+use Rattle.std.specs.List.{list_any}
+use Rattle.std.specs.Option.{option_map}
+use Rattle.std.proofs.lemmas.List.{map-append}
+use Rattle.stn_time.specs.TimeOf.{time_of}
+use Rattle.stn_text.specs.Faults.{◌>>=◌}
+use Rattle.stn_tree.specs.declared.scan.TreeFault.{TreeFault}
+use Rattle.stn_tree.specs.Names.{folded, is_same_word}
+use Rattle.stn_tree.specs.Trees.{Trees, End, Word, Group}
+use Rattle.stn_tree.specs.Scan.{tree_of}
+use Rattle.stn_tree.specs.Case.{in_small, tree_in_small}
+use Rattle.stn_tree.proofs.Case.{tree_of-folded}
+use Rattle.stn_pddl.specs.declared.fault.DomainFault.{DomainFault}
+use Rattle.stn_pddl.specs.declared.fault.DomainFault.TheVariants.{Syntax, Unsupported, Twice}
+use Rattle.stn_pddl.specs.declared.action.Side.{Side}
+use Rattle.stn_pddl.specs.declared.action.Side.TheVariants.{Condition, Effect}
+use Rattle.stn_pddl.specs.declared.word.Item.{Item}
+use Rattle.stn_pddl.specs.declared.word.Item.TheVariants as item
+use Rattle.stn_pddl.specs.declared.word.Field.{Field}
+use Rattle.stn_pddl.specs.declared.word.Field.TheVariants as field
+use Rattle.stn_pddl.specs.declared.word.Key.{Key}
+use Rattle.stn_pddl.specs.declared.word.Key.TheVariants as key
+use Rattle.stn_pddl.specs.declared.word.Section.{Section}
+use Rattle.stn_pddl.specs.declared.word.Section.TheVariants as section
+use Rattle.stn_pddl.specs.Words.{is_name, item_of, key_of, section_of}
+use Rattle.stn_pddl.specs.Schemas.{ActionSchema, bare_action}
+use Rattle.stn_pddl.specs.Fields.{Listing, Values, no_values, parameters, parameters_behind_type, not_negative, constant, duration, value_of, with_value, fields, field_value}
+use Rattle.stn_pddl.specs.Actions.{timed_value, action_of_lists, action_of_values, named_action, is_taken, action}
+use Rattle.stn_pddl.specs.Domains.{part, parts, is_title, root, domain_of_tree, domain_of_bytes, domain_of}
+use Rattle.stn_pddl.specs.Case.{action_in_small, domain_in_small}
+use Rattle.stn_pddl.proofs.SmallWords.{same_first, same_both, same_listed, same_name, same_item, same_key_of, same_section, same_time}
+use Rattle.stn_pddl.proofs.SmallActions.{mapped, mapped-then, mapped-either, small_timed_tree}
+
+-- parameters
+abbrev parameter_by : ℕ → List ℕ → Trees → List (List ℕ) → Item → Result (List (List ℕ)) DomainFault
+parameter_by line word next before k = elim k as (λ _. Result (List (List ℕ)) DomainFault) [
+  | item.Parameter ↦ cond (list_any (is_same_word word) before) (Err (Twice line)) (parameters next (before ++ word ∷ []))
+  | item.Dash ↦ parameters_behind_type line next before
+  | item.Other ↦ Err (Syntax line)
+]
+
+small_parameter_by : (line : ℕ) (word : List ℕ) (next : Trees) (before : List (List ℕ))
+    → ((names : List (List ℕ)) → parameters (in_small next) (map folded names) ≡ mapped (map folded) (parameters next names))
+    → parameters_behind_type line (in_small next) (map folded before) ≡ mapped (map folded) (parameters_behind_type line next before)
+    → (k : Item) → parameter_by line (folded word) (in_small next) (map folded before) k ≡ mapped (map folded) (parameter_by line word next before k)
+small_parameter_by line word next before more typed item.Parameter =
+    mapped-either (map folded) (list_any (is_same_word word) before) (list_any (is_same_word (folded word)) (map folded before)) (Err (Twice line)) (parameters next (before ++ word ∷ []))
+    (Err (Twice line)) (parameters (in_small next) (map folded before ++ folded word ∷ [])) (same_listed word before) refl
+    (ap (parameters (in_small next)) (sym (map-append folded before (word ∷ []))) ∙ more (before ++ word ∷ []))
+small_parameter_by line word next before more typed item.Dash = typed
+small_parameter_by line word next before more typed item.Other = refl
+
+mutual
+  unfolding parameters parameters_behind_type in_small
+
+  small_parameters : (trees : Trees) (before : List (List ℕ)) → parameters (in_small trees) (map folded before) ≡ mapped (map folded) (parameters trees before)
+  small_parameters End before = refl
+  small_parameters (Group line children next) before = refl
+  small_parameters (Word line word next) before =
+      ap (parameter_by line (folded word) (in_small next) (map folded before)) (same_item word)
+      ∙ small_parameter_by line word next before (λ names. small_parameters next names) (small_behind line next before) (item_of word)
+
+  small_behind : (line : ℕ) (trees : Trees) (before : List (List ℕ)) → parameters_behind_type line (in_small trees) (map folded before) ≡ mapped (map folded) (parameters_behind_type line trees before)
+  small_behind line End before = refl
+  small_behind line (Word at word next) before = small_parameters next before
+  small_behind line (Group at children next) before = small_parameters next before
+
+-- the duration
+same_duration : (line : ℕ) (children : Trees) → duration line (in_small children) ≡ duration line children
+unfolding duration constant in_small
+same_duration line (Word a equal (Word b variable (Word at time End))) =
+    ap (λ t. cond (t && is_same_word (folded variable) (codes "?duration")) (not_negative at (time_of (folded time))) (Err (Unsupported line))) (same_first equal (codes "="))
+    ∙ ap (λ t. cond (is_same_word equal (codes "=") && t) (not_negative at (time_of (folded time))) (Err (Unsupported line))) (same_first variable (codes "?duration"))
+    ∙ ap (λ r. cond (is_same_word equal (codes "=") && is_same_word variable (codes "?duration")) (not_negative at r) (Err (Unsupported line))) (same_time time)
+same_duration line children = refl
+
+-- the values of the keys
+small_listing : Listing → Listing
+small_listing listing = record { line = listing.line; children = in_small listing.children }
+
+small_values : Values → Values
+small_values values = record {
+  parameters = option_map small_listing values.parameters;
+  duration = option_map small_listing values.duration;
+  condition = option_map small_listing values.condition;
+  effect = option_map small_listing values.effect;
+}
+
+same_some : (found : Option Listing) → is_some (option_map small_listing found) ≡ is_some found
+same_some None = refl
+same_some (Some listing) = refl
+
+same_value : (name : Field) (values : Values) → is_some (value_of name (small_values values)) ≡ is_some (value_of name values)
+unfolding small_values
+same_value field.Parameters values = same_some values.parameters
+same_value field.Duration values = same_some values.duration
+same_value field.Condition values = same_some values.condition
+same_value field.Effect values = same_some values.effect
+
+small_with : (name : Field) (listing : Listing) (values : Values) → with_value name (small_listing listing) (small_values values) ≡ small_values (with_value name listing values)
+unfolding small_values
+small_with field.Parameters listing values = refl
+small_with field.Duration listing values = refl
+small_with field.Condition listing values = refl
+small_with field.Effect listing values = refl
+
+abbrev field_by : ℕ → Trees → Values → Key → Result Values DomainFault
+field_by line next before k = elim k as (λ _. Result Values DomainFault) [
+  | key.Known name ↦ cond (is_some (value_of name before)) (Err (Twice line)) (field_value line name next before)
+  | key.Unknown ↦ Err (Unsupported line)
+  | key.NoKey ↦ Err (Syntax line)
+]
+
+small_field_by : (line : ℕ) (next : Trees) (before : Values)
+    → ((name : Field) → field_value line name (in_small next) (small_values before) ≡ mapped small_values (field_value line name next before))
+    → (k : Key) → field_by line (in_small next) (small_values before) k ≡ mapped small_values (field_by line next before k)
+small_field_by line next before more (key.Known name) =
+    mapped-either small_values (is_some (value_of name before)) (is_some (value_of name (small_values before))) (Err (Twice line)) (field_value line name next before)
+    (Err (Twice line)) (field_value line name (in_small next) (small_values before)) (same_value name before) refl (more name)
+small_field_by line next before more key.Unknown = refl
+small_field_by line next before more key.NoKey = refl
+
+mutual
+  unfolding fields field_value in_small small_listing
+
+  small_fields : (trees : Trees) (before : Values) → fields (in_small trees) (small_values before) ≡ mapped small_values (fields trees before)
+  small_fields End before = refl
+  small_fields (Group line children next) before = refl
+  small_fields (Word line word next) before =
+      ap (field_by line (in_small next) (small_values before)) (same_key_of word)
+      ∙ small_field_by line next before (λ name. small_field line name next before) (key_of word)
+
+  small_field : (line : ℕ) (name : Field) (trees : Trees) (before : Values) → field_value line name (in_small trees) (small_values before) ≡ mapped small_values (field_value line name trees before)
+  small_field line name End before = refl
+  small_field line name (Word at word next) before = refl
+  small_field line name (Group at children next) before =
+      let listing : Listing = record { line = at; children = children } in
+      ap (fields (in_small next)) (small_with name listing before) ∙ small_fields next (with_value name listing before)
+
+-- actions
+small_value : (side : Side) (value : Option Listing) (a : ActionSchema) → timed_value side (option_map small_listing value) (action_in_small a) ≡ mapped action_in_small (timed_value side value a)
+unfolding timed_value small_listing
+small_value side None a = refl
+small_value side (Some listing) a = small_timed_tree side listing.line listing.children a
+
+small_bare : (name : List ℕ) (names : List (List ℕ)) (millis : ℤ) → bare_action (folded name) (map folded names) millis ≡ action_in_small (bare_action name names millis)
+unfolding action_in_small
+small_bare name names millis = refl
+
+small_sides : (values : Values) (a : ActionSchema)
+    → (timed_value Condition (option_map small_listing values.condition) (action_in_small a) >>= λ found. timed_value Effect (option_map small_listing values.effect) found)
+    ≡ mapped action_in_small (timed_value Condition values.condition a >>= λ found. timed_value Effect values.effect found)
+small_sides values a =
+    mapped-then action_in_small action_in_small (timed_value Condition (option_map small_listing values.condition) (action_in_small a)) (timed_value Condition values.condition a)
+    (λ found. timed_value Effect (option_map small_listing values.effect) found) (λ found. timed_value Effect values.effect found)
+    (small_value Condition values.condition a) (λ found. small_value Effect values.effect found)
+
+-- a number has no letters
+same_result : (found : Result ℤ DomainFault) → found ≡ mapped (λ millis. millis) found
+same_result (Ok millis) = refl
+same_result (Err fault) = refl
+
+small_lists : (name : List ℕ) (listed timed : Listing) (values : Values)
+    → action_of_lists (folded name) (small_listing listed) (small_listing timed) (small_values values) ≡ mapped action_in_small (action_of_lists name listed timed values)
+unfolding action_of_lists small_listing small_values
+small_lists name listed timed values =
+    let sides : ActionSchema → Result ActionSchema DomainFault = λ a. timed_value Condition values.condition a >>= λ found. timed_value Effect values.effect found in
+    let other_sides : ActionSchema → Result ActionSchema DomainFault =
+    λ a. timed_value Condition (option_map small_listing values.condition) a >>= λ found. timed_value Effect (option_map small_listing values.effect) found in
+    mapped-then (map folded) action_in_small (parameters (in_small listed.children) []) (parameters listed.children [])
+    (λ names. duration timed.line (in_small timed.children) >>= λ millis. other_sides (bare_action (folded name) names millis))
+    (λ names. duration timed.line timed.children >>= λ millis. sides (bare_action name names millis))
+    (small_parameters listed.children [])
+    (λ names. mapped-then (λ (millis : ℤ). millis) action_in_small (duration timed.line (in_small timed.children)) (duration timed.line timed.children)
+    (λ millis. other_sides (bare_action (folded name) (map folded names) millis)) (λ millis. sides (bare_action name names millis))
+    (same_duration timed.line timed.children ∙ same_result (duration timed.line timed.children))
+    (λ millis. ap other_sides (small_bare name names millis) ∙ small_sides values (bare_action name names millis)))
+
+small_action_of : (line : ℕ) (name : List ℕ) (values : Values) (listed timed : Option Listing)
+    → action_of_values line (folded name) (small_values values) (option_map small_listing listed) (option_map small_listing timed)
+    ≡ mapped action_in_small (action_of_values line name values listed timed)
+small_action_of line name values None timed = refl
+small_action_of line name values (Some listed) None = refl
+small_action_of line name values (Some listed) (Some timed) = small_lists name listed timed values
+
+small_named : (line : ℕ) (name : List ℕ) (rest : Trees) → named_action line (folded name) (in_small rest) ≡ mapped action_in_small (named_action line name rest)
+unfolding named_action small_values
+small_named line name rest =
+    mapped-then small_values action_in_small (fields (in_small rest) no_values) (fields rest no_values)
+    (λ values. action_of_values line (folded name) values values.parameters values.duration) (λ values. action_of_values line name values values.parameters values.duration)
+    (small_fields rest no_values)
+    (λ values. small_action_of line name values values.parameters values.duration)
+
+same_taken : (name : List ℕ) (actions : List ActionSchema) → is_taken (folded name) (map action_in_small actions) ≡ is_taken name actions
+unfolding is_taken action_in_small
+same_taken name [] = refl
+same_taken name (a ∷ actions) =
+    ap (λ t. t || list_any (λ (other : ActionSchema). is_same_word (folded name) other.name) (map action_in_small actions)) (same_both name a.name)
+    ∙ ap (λ t. is_same_word name a.name || t) (same_taken name actions)
+
+small_action : (line : ℕ) (rest : Trees) (earlier : List ActionSchema) → action line (in_small rest) (map action_in_small earlier) ≡ mapped action_in_small (action line rest earlier)
+unfolding action in_small
+small_action line End earlier = refl
+small_action line (Group at children next) earlier = refl
+small_action line (Word at name rest) earlier =
+    let one : Result ActionSchema DomainFault = cond (is_taken name earlier) (Err (Twice at)) (named_action line name rest) in
+    let other : Result ActionSchema DomainFault = cond (is_taken (folded name) (map action_in_small earlier)) (Err (Twice at)) (named_action line (folded name) (in_small rest)) in
+    mapped-either action_in_small (is_name name) (is_name (folded name)) one (Err (Syntax line)) other (Err (Syntax line)) (same_name name)
+    (mapped-either action_in_small (is_taken name earlier) (is_taken (folded name) (map action_in_small earlier)) (Err (Twice at)) (named_action line name rest)
+    (Err (Twice at)) (named_action line (folded name) (in_small rest)) (same_taken name earlier) refl (small_named line name rest))
+    refl
+
+-- the parts of a domain
+abbrev part_by : ℕ → Trees → List ActionSchema → Section → Result (List ActionSchema) DomainFault
+part_by line rest before k = elim k as (λ _. Result (List ActionSchema) DomainFault) [
+  | section.Skipped ↦ Ok before
+  | section.Action ↦ (action line rest before >>= λ found. Ok (before ++ found ∷ []))
+  | section.Unknown ↦ Err (Unsupported line)
+  | section.NoSection ↦ Err (Syntax line)
+]
+
+small_part_by : (line : ℕ) (rest : Trees) (before : List ActionSchema) (k : Section)
+    → part_by line (in_small rest) (map action_in_small before) k ≡ mapped (map action_in_small) (part_by line rest before k)
+small_part_by line rest before section.Skipped = refl
+small_part_by line rest before section.Action =
+    mapped-then action_in_small (map action_in_small) (action line (in_small rest) (map action_in_small before)) (action line rest before)
+    (λ found. Ok (map action_in_small before ++ found ∷ [])) (λ found. Ok (before ++ found ∷ []))
+    (small_action line rest before) (λ found. ap Ok (sym (map-append action_in_small before (found ∷ []))))
+small_part_by line rest before section.Unknown = refl
+small_part_by line rest before section.NoSection = refl
+
+small_part : (line : ℕ) (children : Trees) (before : List ActionSchema) → part line (in_small children) (map action_in_small before) ≡ mapped (map action_in_small) (part line children before)
+unfolding part in_small
+small_part line End before = refl
+small_part line (Group at children next) before = refl
+small_part line (Word at word rest) before =
+    ap (part_by line (in_small rest) (map action_in_small before)) (same_section word) ∙ small_part_by line rest before (section_of word)
+
+small_parts : (trees : Trees) (before : List ActionSchema) → parts (in_small trees) (map action_in_small before) ≡ mapped (map action_in_small) (parts trees before)
+unfolding parts in_small
+small_parts End before = refl
+small_parts (Word line word next) before = refl
+small_parts (Group line children next) before =
+    mapped-then (map action_in_small) (map action_in_small) (part line (in_small children) (map action_in_small before)) (part line children before)
+    (λ found. parts (in_small next) found) (λ found. parts next found) (small_part line children before) (λ found. small_parts next found)
+
+same_title : (children : Trees) → is_title (in_small children) ≡ is_title children
+unfolding is_title in_small
+same_title (Word a domain (Word b name End)) =
+    ap (λ t. t && is_name (folded name)) (same_first domain (codes "domain")) ∙ ap (λ t. is_same_word domain (codes "domain") && t) (same_name name)
+same_title children = refl
+
+small_root : (line : ℕ) (children : Trees) → root line (in_small children) ≡ mapped (map action_in_small) (root line children)
+unfolding root in_small
+small_root line (Word a define (Group b title rest)) =
+    mapped-either (map action_in_small) (is_same_word define (codes "define") && is_title title) (is_same_word (folded define) (codes "define") && is_title (in_small title))
+    (parts rest []) (Err (Syntax line)) (parts (in_small rest) []) (Err (Syntax line))
+    (ap (λ t. t && is_title (in_small title)) (same_first define (codes "define")) ∙ ap (λ t. is_same_word define (codes "define") && t) (same_title title))
+    (small_parts rest []) refl
+small_root line children = refl
+
+small_tree : (row : Trees) → domain_of_tree (in_small row) ≡ mapped (map action_in_small) (domain_of_tree row)
+unfolding domain_of_tree in_small
+small_tree End = refl
+small_tree (Word line word next) = refl
+small_tree (Group line children next) = small_root line children
+
+small_bytes : (read : Result Trees TreeFault) → domain_of_bytes (tree_in_small read) ≡ mapped (map action_in_small) (domain_of_bytes read)
+small_bytes (Ok row) = small_tree row
+small_bytes (Err fault) = refl
+
+same_mapped : (found : Result (List ActionSchema) DomainFault) → mapped (map action_in_small) found ≡ domain_in_small found
+same_mapped (Ok actions) = refl
+same_mapped (Err fault) = refl
+
+pub domain_of-folded : (text : List ℕ) → domain_of (folded text) ≡ domain_in_small (domain_of text)
+unfolding domain_of
+domain_of-folded text = ap domain_of_bytes (tree_of-folded text) ∙ small_bytes (tree_of text) ∙ same_mapped (domain_of text)

@@ -1,0 +1,191 @@
+-- Words in small letters stand for what the words stand for.
+use Rattle.std.proofs.Common.{◌≡◌, ℕ, zero, suc, ◌+◌, ◌<◌, ◌≤◌, Bool, true, false, cond, not, ◌||◌, ◌&&◌, eqb, nat_lt, nat_le, List, [], ◌∷◌, length, map, take, drop, Some, None, refl, ap, ◌∙◌, arith, position, codes}
+use Rattle.std.specs.Char.{to_ascii_lowercase, is_ascii_digit}
+use Rattle.std.specs.List.{list_any, prefix_len, position_or_len}
+use Rattle.std.specs.Option.{option_map}
+use Rattle.std.specs.Str.{bytes_eq, all_ascii_digits}
+use Rattle.std.specs.Str.Parse.{starts_with_minus}
+use Rattle.std.proofs.lemmas.Bool.Decides.{nat_tests}
+use Rattle.std.proofs.lemmas.List.{length-map}
+use Rattle.std.proofs.lemmas.Str.Ascii.{lowercase-lowercase}
+use Rattle.stn_time.specs.Text.{these_parts}
+use Rattle.stn_time.specs.TimeOf.{without_minus, is_numeral, fraction_of, parts_with, time_of_found, time_of}
+use Rattle.stn_tree.specs.Names.{folded, is_same_word}
+use Rattle.stn_tree.proofs.Case.{small_by, same_test}
+use Rattle.stn_pddl.specs.Words.{begins_with, is_variable, is_key, is_name, connectives, comparisons, assignments, is_other_logic, head_of, item_of, key_of, skipped, section_of}
+
+folded-folded : (word : List ℕ) → folded (folded word) ≡ folded word
+folded-folded [] = refl
+folded-folded (b ∷ word) = ap (λ c. c ∷ folded (folded word)) (lowercase-lowercase b) ∙ ap (λ l. to_ascii_lowercase b ∷ l) (folded-folded word)
+
+pub same_first : (a b : List ℕ) → is_same_word (folded a) b ≡ is_same_word a b
+unfolding is_same_word
+same_first a b = ap (λ w. bytes_eq w (folded b)) (folded-folded a)
+
+pub same_both : (a b : List ℕ) → is_same_word (folded a) (folded b) ≡ is_same_word a b
+unfolding is_same_word
+same_both a b = ap (λ w. bytes_eq w (folded (folded b))) (folded-folded a) ∙ ap (bytes_eq (folded a)) (folded-folded b)
+
+same_any : (word : List ℕ) (words : List (List ℕ)) → list_any (is_same_word (folded word)) words ≡ list_any (is_same_word word) words
+same_any word [] = refl
+same_any word (other ∷ words) = ap (λ t. t || list_any (is_same_word (folded word)) words) (same_first word other) ∙ ap (λ t. is_same_word word other || t) (same_any word words)
+
+pub same_listed : (word : List ℕ) (words : List (List ℕ)) → list_any (is_same_word (folded word)) (map folded words) ≡ list_any (is_same_word word) words
+same_listed word [] = refl
+same_listed word (other ∷ words) =
+    ap (λ t. t || list_any (is_same_word (folded word)) (map folded words)) (same_both word other) ∙ ap (λ t. is_same_word word other || t) (same_listed word words)
+
+-- the place of a word
+same_prefix : (word : List ℕ) (words : List (List ℕ)) → position_or_len (is_same_word (folded word)) (map folded words) ≡ position_or_len (is_same_word word) words
+same_prefix word [] = refl
+same_prefix word (other ∷ words) =
+    ap (λ t. cond (not t) (1 + position_or_len (is_same_word (folded word)) (map folded words)) 0) (same_both word other)
+    ∙ ap (λ n. cond (not (is_same_word word other)) (1 + n) 0) (same_prefix word words)
+
+pub same_position : (word : List ℕ) (words : List (List ℕ)) → position (is_same_word (folded word)) (map folded words) ≡ position (is_same_word word) words
+same_position word words =
+    ap (λ n. cond (nat_lt n (length (map folded words))) (Some n) None) (same_prefix word words)
+    ∙ ap (λ m. cond (nat_lt (position_or_len (is_same_word word) words) m) (Some (position_or_len (is_same_word word) words)) None) (length-map words folded)
+
+same_begins : (b : ℕ) (word : List ℕ) → b < 65 → begins_with b (folded word) ≡ begins_with b word
+same_begins b [] small = refl
+same_begins b (first ∷ word) small = same_test first b small
+
+pub same_variable : (word : List ℕ) → is_variable (folded word) ≡ is_variable word
+unfolding is_variable
+same_variable word = same_begins 63 word (omega arith)
+
+pub same_key : (word : List ℕ) → is_key (folded word) ≡ is_key word
+unfolding is_key
+same_key word = same_begins 58 word (omega arith)
+
+pub same_name : (word : List ℕ) → is_name (folded word) ≡ is_name word
+unfolding is_name
+same_name word = ap (λ t. not t && not (is_key (folded word))) (same_variable word) ∙ ap (λ t. not (is_variable word) && not t) (same_key word)
+
+same_logic : (word : List ℕ) → is_other_logic (folded word) ≡ is_other_logic word
+unfolding is_other_logic
+same_logic word = rw (same_any word connectives, same_any word comparisons, same_any word assignments) refl
+
+pub same_head : (word : List ℕ) → head_of (folded word) ≡ head_of word
+unfolding head_of
+same_head word =
+    rw (
+      same_first word (codes "and"),
+      same_first word (codes "not"),
+      same_first word (codes "="),
+      same_first word (codes "at"),
+      same_first word (codes "over"),
+      same_logic word,
+      same_name word,
+    ) refl
+
+pub same_item : (word : List ℕ) → item_of (folded word) ≡ item_of word
+unfolding item_of
+same_item word = rw (same_variable word, length-map word to_ascii_lowercase, same_first word (codes "-")) refl
+
+pub same_key_of : (word : List ℕ) → key_of (folded word) ≡ key_of word
+unfolding key_of
+same_key_of word =
+    rw (same_first word (codes ":parameters"), same_first word (codes ":duration"), same_first word (codes ":condition"), same_first word (codes ":effect"), same_key word) refl
+
+pub same_section : (word : List ℕ) → section_of (folded word) ≡ section_of word
+unfolding section_of
+same_section word = rw (same_any word skipped, same_first word (codes ":durative-action"), same_key word) refl
+
+-- a digit is no letter
+same_digit : (b : ℕ) → is_ascii_digit (to_ascii_lowercase b) ≡ is_ascii_digit b
+same_digit b = small_by (λ n. is_ascii_digit n ≡ is_ascii_digit b) b refl (λ low high.
+    let first : nat_le (b + 32) 57 ≡ false = grind (arith, nat_tests) in
+    let second : nat_le b 57 ≡ false = grind (arith, nat_tests) in
+    rw (first, second) (none (nat_le 48 (b + 32)) (nat_le 48 b)))
+  where
+    none : (one other : Bool) → (one && false) ≡ (other && false)
+    none true true = refl
+    none true false = refl
+    none false true = refl
+    none false false = refl
+
+small_digit : (b : ℕ) → is_ascii_digit b ≡ true → to_ascii_lowercase b ≡ b
+small_digit b is = small_by (λ n. n ≡ b) b refl (λ low high. absurd (letter low is))
+  where
+    letter : 65 ≤ b → is_ascii_digit b ≡ true → ⊥
+    letter low is = grind (arith, nat_tests)
+
+same_digits : (bytes : List ℕ) → all_ascii_digits (folded bytes) ≡ all_ascii_digits bytes
+same_digits [] = refl
+same_digits (b ∷ bytes) = ap (λ t. t && all_ascii_digits (folded bytes)) (same_digit b) ∙ ap (λ t. is_ascii_digit b && t) (same_digits bytes)
+
+small_digits : (bytes : List ℕ) → all_ascii_digits bytes ≡ true → folded bytes ≡ bytes
+small_digits [] is = refl
+small_digits (b ∷ bytes) is = by (is_ascii_digit b) refl is (λ rest. small_digits bytes rest)
+  where
+    by : (digit : Bool) → is_ascii_digit b ≡ digit → (digit && all_ascii_digits bytes) ≡ true → (all_ascii_digits bytes ≡ true → folded bytes ≡ bytes)
+        → folded (b ∷ bytes) ≡ b ∷ bytes
+    by true this rest more = ap (λ c. c ∷ folded bytes) (small_digit b this) ∙ ap (λ l. b ∷ l) (more rest)
+    by false this rest more = cc
+
+same_len : (bytes : List ℕ) → prefix_len is_ascii_digit (folded bytes) ≡ prefix_len is_ascii_digit bytes
+same_len [] = refl
+same_len (b ∷ bytes) =
+    ap (λ t. cond t (1 + prefix_len is_ascii_digit (folded bytes)) 0) (same_digit b) ∙ ap (λ n. cond (is_ascii_digit b) (1 + n) 0) (same_len bytes)
+
+-- the digits at the front, and what comes after so many bytes
+same_front : (bytes : List ℕ) → take (prefix_len is_ascii_digit bytes) (folded bytes) ≡ take (prefix_len is_ascii_digit bytes) bytes
+same_front [] = refl
+same_front (b ∷ bytes) = by (is_ascii_digit b) refl (same_front bytes)
+  where
+    by : (digit : Bool) → is_ascii_digit b ≡ digit
+        → take (prefix_len is_ascii_digit bytes) (folded bytes) ≡ take (prefix_len is_ascii_digit bytes) bytes
+        → take (cond digit (1 + prefix_len is_ascii_digit bytes) 0) (folded (b ∷ bytes)) ≡ take (cond digit (1 + prefix_len is_ascii_digit bytes) 0) (b ∷ bytes)
+    by true this more =
+        let next : 1 + prefix_len is_ascii_digit bytes ≡ suc (prefix_len is_ascii_digit bytes) = omega arith in
+        rw next (ap (λ c. c ∷ take (prefix_len is_ascii_digit bytes) (folded bytes)) (small_digit b this) ∙ ap (λ l. b ∷ l) more)
+    by false this more = refl
+
+folded-drop : (n : ℕ) (bytes : List ℕ) → drop n (folded bytes) ≡ folded (drop n bytes)
+folded-drop zero bytes = refl
+folded-drop (suc n) [] = refl
+folded-drop (suc n) (b ∷ bytes) = folded-drop n bytes
+
+same_numeral : (bytes : List ℕ) → is_numeral (folded bytes) ≡ is_numeral bytes
+same_numeral [] = refl
+same_numeral (b ∷ bytes) = same_digits (b ∷ bytes)
+
+numeral-digits : (bytes : List ℕ) → is_numeral bytes ≡ true → folded bytes ≡ bytes
+numeral-digits [] is = refl
+numeral-digits (b ∷ bytes) is = small_digits (b ∷ bytes) is
+
+same_fraction : (bytes : List ℕ) → fraction_of (folded bytes) ≡ fraction_of bytes
+same_fraction [] = refl
+same_fraction (b ∷ digits) =
+    rw (same_test b 46 (omega arith), same_numeral digits) (by (eqb b 46) (is_numeral digits) refl)
+  where
+    by : (point numeral : Bool) → is_numeral digits ≡ numeral → cond (point && numeral) (Some (folded digits)) None ≡ cond (point && numeral) (Some digits) None
+    by true true is = ap Some (numeral-digits digits is)
+    by true false is = refl
+    by false numeral is = refl
+
+same_parts : (negative : Bool) (bytes : List ℕ) → parts_with negative (folded bytes) ≡ parts_with negative bytes
+same_parts negative bytes =
+    let end = prefix_len is_ascii_digit bytes in
+    rw (same_len bytes)
+    (ap (λ f. cond (eqb end 0) None (option_map (these_parts negative f) (fraction_of (drop end (folded bytes))))) (same_front bytes)
+    ∙ ap (λ l. cond (eqb end 0) None (option_map (these_parts negative (take end bytes)) (fraction_of l))) (folded-drop end bytes)
+    ∙ ap (λ r. cond (eqb end 0) None (option_map (these_parts negative (take end bytes)) r)) (same_fraction (drop end bytes)))
+
+same_minus : (word : List ℕ) → starts_with_minus (folded word) ≡ starts_with_minus word
+same_minus [] = refl
+same_minus (b ∷ word) = same_test b 45 (omega arith)
+
+same_rest : (minus : Bool) (word : List ℕ) → cond minus (drop 1 (folded word)) (folded word) ≡ folded (cond minus (drop 1 word) word)
+same_rest true word = folded-drop 1 word
+same_rest false word = refl
+
+-- a time has no letters
+pub same_time : (word : List ℕ) → time_of (folded word) ≡ time_of word
+unfolding time_of
+same_time word = ap time_of_found
+    (ap (λ t. parts_with t (cond t (drop 1 (folded word)) (folded word))) (same_minus word)
+    ∙ ap (parts_with (starts_with_minus word)) (same_rest (starts_with_minus word) word)
+    ∙ same_parts (starts_with_minus word) (without_minus word))

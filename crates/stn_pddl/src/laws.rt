@@ -1,0 +1,20 @@
+//! Laws of domains, each the contract of a function that does nothing.
+
+ghost use Rattle.std.specs.Prelude.{◌≡◌, ◌↔◌, ℕ, false, List, Err};
+ghost use Rattle.stn_tree.specs.Names.{folded};
+ghost use Rattle.stn_pddl.specs.declared.fault.DomainFault.{DomainFault};
+ghost use Rattle.stn_pddl.specs.Faults.{is_memory};
+ghost use Rattle.stn_pddl.specs.Domains.{domain_of};
+ghost use Rattle.stn_pddl.specs.Causes.{IsCause};
+ghost use Rattle.stn_pddl.specs.Case.{domain_in_small};
+
+/// The law that a text has a fault exactly where it has the cause of that fault; it does nothing.
+pub fn faults_by_cause()
+    ensures { (text : List ℕ) (fault : DomainFault) → is_memory fault ≡ false → (domain_of text ≡ Err fault) ↔ IsCause text fault }
+{}
+
+/// The law that the case of letters changes only the names: a text in small letters is the domain of the text with its names in
+/// small letters, or has the same fault; it does nothing.
+pub fn small_letters()
+    ensures { (text : List ℕ) → domain_of (folded text) ≡ domain_in_small (domain_of text) }
+{}
