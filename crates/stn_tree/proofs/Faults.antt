@@ -90,15 +90,21 @@ module _ (text : List ℕ) where
   unfolding tree_of
   tree_of-Ok end short is = rw (short_test short, is) refl
 
-  -- the tree of a text is one list
-  pub tree_of-list : (row : Trees) → tree_of text ≡ Ok row → IsOneList row
+  -- the tree of a text is that of its rows
+  pub tree_of-rows : (row : Trees) → tree_of text ≡ Ok row → (end : Place) × (scanned false 1 Before text ≡ Ok end) × ((rows_from false 1 text).row ≡ row)
   unfolding tree_of
-  tree_of-list row is = by (nat_lt most_text (length text)) is
+  tree_of-rows row is = by (nat_lt most_text (length text)) is
     where
-      found : (end : Result Place TreeFault) → scanned false 1 Before text ≡ end → (end >>= λ place. Ok (rows_from false 1 text).row) ≡ Ok row → IsOneList row
-      found (Ok end) same e = let whole : (rows_from false 1 text).row ≡ row = cc in subst IsOneList whole (one-list text end same)
+      found : (end : Result Place TreeFault) → scanned false 1 Before text ≡ end → (end >>= λ place. Ok (rows_from false 1 text).row) ≡ Ok row
+          → (end : Place) × (scanned false 1 Before text ≡ Ok end) × ((rows_from false 1 text).row ≡ row)
+      found (Ok end) same e = let whole : (rows_from false 1 text).row ≡ row = cc in (end, same, whole)
       found (Err fault) same e = cc
 
-      by : (long : Bool) → cond long (Err TooLong) (scanned false 1 Before text >>= λ end. Ok (rows_from false 1 text).row) ≡ Ok row → IsOneList row
+      by : (long : Bool) → cond long (Err TooLong) (scanned false 1 Before text >>= λ end. Ok (rows_from false 1 text).row) ≡ Ok row
+          → (end : Place) × (scanned false 1 Before text ≡ Ok end) × ((rows_from false 1 text).row ≡ row)
       by true e = cc
       by false e = found (scanned false 1 Before text) refl e
+
+  -- and is one list
+  pub tree_of-list : (row : Trees) → tree_of text ≡ Ok row → IsOneList row
+  tree_of-list row is = let found = tree_of-rows row is in subst IsOneList found.2 (one-list text found.0 found.1)

@@ -6,3 +6,4 @@ pub mod Faults
 pub mod FirstFault
 pub mod Written
 pub mod Case
+pub mod Writable

@@ -15,10 +15,12 @@ pub fn first_fault()
     ensures { (text : List ℕ) (fault : TreeFault) → tree_of text ≡ Err fault → length text ≤ most_text → IsFirstFault text fault }
 {}
 
-/// The law that a list which is written, with no more than 32 open brackets and 65,536 bytes, reads as that list; it does nothing.
+/// The law that a list which is written, with no more than 32 open brackets and 65,536 bytes, reads as that list, and that each
+/// tree of a text can be written; it does nothing.
 pub fn written_reads()
-    ensures { (line : ℕ) (children : Trees) → IsWritable 32 1 (Group line children End) → length (written 1 (Group line children End)) ≤ most_text
+    ensures reads { (line : ℕ) (children : Trees) → IsWritable 32 1 (Group line children End) → length (written 1 (Group line children End)) ≤ most_text
         → tree_of (written 1 (Group line children End)) ≡ Ok (Group line children End) }
+    ensures writable { (text : List ℕ) (row : Trees) → tree_of text ≡ Ok row → IsWritable 32 1 row }
 {}
 
 /// The law that the case of letters changes only the words: a text in small letters has the tree of the text with its words in
