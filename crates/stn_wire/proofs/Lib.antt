@@ -6,3 +6,4 @@ pub mod Fronts
 pub mod States
 pub mod Feeding
 pub mod Sources
+pub mod OldSides

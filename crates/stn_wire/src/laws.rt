@@ -1,6 +1,10 @@
 ghost use Rattle.std.specs.Prelude.{◌≡◌, ◌<◌, ◌^◌, ◌⊎◌, ℕ, List, ◌++◌};
 ghost use Rattle.std.specs.List.{AllByRecursion};
 ghost use Rattle.stn_wire.specs.Frame.{FrameContent, spelling, IsFrame};
+ghost use Rattle.stn_records.specs.declared.record.Record.{Record};
+ghost use Rattle.stn_wire.specs.Spelling.{IsRecord, record_bytes};
+ghost use Rattle.stn_wire.specs.OldSides.{IsWritten, written_bytes, as_read};
+ghost use Rattle.stn_wire.specs.declared.layout.Layout.TheVariants.{Old};
 ghost use Rattle.stn_wire.specs.Front.{Front, faulty, unfinished, IsFront, BeginsFrame};
 ghost use Rattle.stn_wire.specs.declared.fault.WireFault.{WireFault};
 
@@ -18,4 +22,11 @@ pub fn some_front()
 /// Frames with the same bytes are one, and no spelling is the front of another's.
 pub fn one_spelling()
     ensures { (f g : FrameContent) (x y : List ℕ) → IsFrame f → IsFrame g → spelling f ++ x ≡ spelling g ++ y → (f ≡ g) × (x ≡ y) }
+{}
+
+/// What is written in an old frame as a record is read as `as_read` says: in a plain record, a side at an end of the old
+/// times is open; every other side is as it is written. Nothing else is read.
+pub fn old_sides()
+    ensures read { (written : Record) → IsWritten written → IsRecord Old (as_read written) × (record_bytes Old (as_read written) ≡ written_bytes written) }
+    ensures all { (r : Record) → IsRecord Old r → (written : Record) × IsWritten written × (r ≡ as_read written) }
 {}
