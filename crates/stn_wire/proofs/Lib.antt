@@ -7,3 +7,4 @@ pub mod States
 pub mod Feeding
 pub mod Sources
 pub mod OldSides
+pub mod OneFeeding

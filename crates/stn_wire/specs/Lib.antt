@@ -2,6 +2,7 @@ pub mod Spelling
 pub mod Frame
 pub mod Front
 pub mod Feeder
+pub mod Feeding
 pub mod OldSides
 pub mod Reading
 pub mod Apart

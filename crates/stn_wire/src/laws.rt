@@ -1,12 +1,16 @@
-ghost use Rattle.std.specs.Prelude.{◌≡◌, ◌<◌, ◌^◌, ◌⊎◌, ℕ, List, ◌++◌};
+ghost use Rattle.std.specs.Prelude.{◌≡◌, ◌<◌, ◌^◌, ◌⊎◌, ℕ, List, ◌++◌, []};
 ghost use Rattle.std.specs.List.{AllByRecursion};
 ghost use Rattle.stn_wire.specs.Frame.{FrameContent, spelling, IsFrame};
 ghost use Rattle.stn_records.specs.declared.record.Record.{Record};
+ghost use Rattle.stn_wire.specs.Feeder.{FeederState, holding};
+ghost use Rattle.stn_wire.specs.Feeding.{Call, Feeds, stream_of, frames_of};
 ghost use Rattle.stn_wire.specs.Spelling.{IsRecord, record_bytes};
 ghost use Rattle.stn_wire.specs.OldSides.{IsWritten, written_bytes, as_read};
 ghost use Rattle.stn_wire.specs.declared.layout.Layout.TheVariants.{Old};
 ghost use Rattle.stn_wire.specs.Front.{Front, faulty, unfinished, IsFront, BeginsFrame};
 ghost use Rattle.stn_wire.specs.declared.fault.WireFault.{WireFault};
+
+use std::alloc::Allocator;
 
 /// Some bytes begin with one whole frame, or show one fault, or are unfinished: never two of these.
 pub fn one_front()
@@ -29,4 +33,11 @@ pub fn one_spelling()
 pub fn old_sides()
     ensures read { (written : Record) → IsWritten written → IsRecord Old (as_read written) × (record_bytes Old (as_read written) ≡ written_bytes written) }
     ensures all { (r : Record) → IsRecord Old r → (written : Record) × IsWritten written × (r ≡ as_read written) }
+{}
+
+/// Two feeders with the same bytes, however these were cut into pieces, gave the same frames, and hold the same bytes or
+/// are broken by the same fault.
+pub fn one_feeding<A: Allocator, B: Allocator>()
+    ensures { (one : List (Call A)) (other : List (Call B)) (last final : FeederState) → Feeds (holding []) one last → Feeds (holding []) other final
+        → stream_of one ≡ stream_of other → (frames_of one ≡ frames_of other) × (last ≡ final) }
 {}
