@@ -3,3 +3,4 @@ pub mod Exchanges
 pub mod Unique
 pub mod Answered
 pub mod Taken
+pub mod OneReception

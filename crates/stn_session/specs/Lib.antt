@@ -1,5 +1,6 @@
 pub mod Session
 pub mod Serving
 pub mod Exchange
+pub mod Reception
 pub mod Turns
 pub mod Failures

@@ -4,6 +4,7 @@
 
 pub use exchange::{ReplyFault, SendFault, receive_replies, send_requests};
 pub use laws::one_session;
+pub use reception::one_reception;
 pub use session::{End, ServeFault, Served, serve};
 pub use stn_device::{Counted, MOST_BYTES};
 pub use stn_stream::FrameFault;
@@ -11,5 +12,6 @@ pub use stn_stream::FrameFault;
 mod exchange;
 mod failures;
 mod laws;
+mod reception;
 mod replies;
 mod session;

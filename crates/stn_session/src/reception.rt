@@ -1,0 +1,20 @@
+ghost use Rattle.std.specs.Prelude.{◌≡◌, ℕ, List, Option, Some, Result};
+ghost use Rattle.stn_lift.specs.PlanSource.{PlanSource};
+ghost use Rattle.stn_records.specs.Content.{Content};
+ghost use Rattle.stn_session.specs.Exchange.{IsReceived};
+ghost use Rattle.stn_session.specs.Reception.{SaysReplies};
+ghost use Rattle.stn_session.specs.declared.exchange.ReplyFault.{ReplyFault};
+
+use stn_wire::{one_front, one_spelling};
+
+/// The law that a reader's bytes have one reception: however many of them were read, and however they are cut into
+/// frames and a rest, the answer and the state are the same, unless a read fails or memory runs out; it does nothing.
+pub fn one_reception()
+    ensures { (source : PlanSource) → (first : Content) → (input : List ℕ) → (after last : Option (List ℕ))
+        → (one other : Result (List ℕ) ReplyFault) → (state final : Content)
+        → IsReceived source first (Some input) after state one → IsReceived source first (Some input) last final other
+        → SaysReplies one → SaysReplies other → (one ≡ other) × (state ≡ final) }
+{
+    one_front();
+    one_spelling();
+}
