@@ -20,3 +20,4 @@ mod names;
 mod parts;
 mod report;
 mod site_plan;
+mod windows;

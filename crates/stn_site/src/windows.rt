@@ -1,0 +1,33 @@
+ghost use Rattle.std.specs.Prelude.{◌≡◌, ℕ, ◌+◌, ◌≤◌, ◌++◌, List, length, IfOk, OnOk, OnErr, MatchOption};
+ghost use Rattle.stn_net.specs.Schedule.{HasSchedule};
+ghost use Rattle.stn_lift.specs.PlanSource.{events_of};
+ghost use Rattle.stn_site.specs.Bounds.{all_bounds};
+ghost use Rattle.stn_site.specs.Report.{most_report, IsReport};
+ghost use Rattle.stn_site.specs.Windows.{AreWindows};
+
+use crate::site_plan::SitePlan;
+use std::alloc::{AllocError, Allocator};
+use stn_time::{Memory, Ms};
+
+impl<A: Allocator + Copy> SitePlan<A> {
+    /// The windows of the origin and of all events, in their order: the earliest and the latest time of
+    /// each; none exactly where all bounds have no schedule. It fails only if memory runs out.
+    pub fn windows(&self) -> Result<Option<Vec<(Ms, Ms), A>>, Memory>
+        ensures { IfOk result (λ found. MatchOption found (¬ HasSchedule (all_bounds self.now.source self.now.state))
+            (λ windows. AreWindows (all_bounds self.now.source self.now.state) (events_of self.now.source) windows.items)) }
+    {
+        Err(AllocError)
+    }
+
+    /// Appends the report: how many steps, events, live records and replaced ids there are; then, where
+    /// all bounds have a schedule, the window of each event, and else one cycle of bounds that
+    /// contradict each other. It depends on the plan and the state alone, and has at most 65,536
+    /// bytes. If memory runs out, it appends nothing.
+    pub fn report<B: Allocator>(&self, out: &mut Vec<u8, B>) -> Result<(), Memory>
+        ensures reported { OnOk result ((text : List ℕ) × IsReport self.now.source self.now.state text × (out.new.items ≡ out.old.items ++ text)) }
+        ensures short { OnOk result (length out.new.items ≤ length out.old.items + most_report) }
+        ensures kept { OnErr result (out.new.items ≡ out.old.items) }
+    {
+        Err(AllocError)
+    }
+}
