@@ -1,7 +1,7 @@
-use Rattle.std.proofs.Common.{◌≡◌, ◌≢◌, inl, inr, ℕ, ◌+◌, ◌<◌, ◌≤◌, List, ◌++◌, length, set, take, replicate, sym, subst, ap, refl, ◌∙◌, arith}
+use Rattle.std.proofs.Common.{◌≡◌, ◌≢◌, inl, inr, ℕ, Bool, true, false, ◌+◌, ◌<◌, ◌≤◌, List, ◌++◌, length, set, take, replicate, sym, subst, ap, refl, ◌∙◌, arith}
 use Rattle.std.specs.Prelude.{ℤ, pos, negsuc, neg_ℤ, ◌+ℤ◌, ◌-ℤ◌, ◌≤ℤ◌, ◌<ℤ◌, All, unsigned_abs}
 use Rattle.std.proofs.lemmas.Int.{ints}
-use Rattle.std.proofs.lemmas.Bool.{cases_eq}
+use Rattle.std.proofs.lemmas.Bool.{cases_eq, false≢true}
 use Rattle.std.proofs.lemmas.List.{take-take, get_or-set_same, get_or-set_other, get_or-replicate, length-set, length-replicate}
 use Rattle.std.proofs.lemmas.List.Elements.{All-from_get_or, All-take, All-append}
 use Rattle.std.proofs.lemmas.List.Sums.{sum_by-set}
@@ -11,12 +11,11 @@ use Rattle.stn_net.specs.Schedule.{Meets, IsSchedule, HasSchedule, times_of}
 use Rattle.stn_net.specs.Horizon.{horizon_bounds}
 use Rattle.stn_matrix.proofs.Widest.{horizon_times}
 use Rattle.stn_conflict.specs.declared.links.Link.{Link}
-use Rattle.stn_conflict.specs.Arcs.{arc_of, bound_at, rank}
-use Rattle.stn_conflict.specs.Relaxation.{NamesAmong, IsNetwork, AreEstimates, AreDistances, IsRelaxed, room}
+use Rattle.stn_conflict.specs.Arcs.{arc_of, bound_at}
+use Rattle.stn_conflict.specs.Relaxation.{NamesAmong, IsNetwork, AreEstimates, AreDistances, AreRelaxed, IsRelaxed, IsRelaxedBut, is_fresh, room}
 use Rattle.stn_conflict.proofs.Tightness.{schedule_before, link_kept, link_among}
 use Rattle.stn_conflict.proofs.Known.{known_first}
 use Rattle.stn_conflict.proofs.LevelTable.{meets_moved}
-use Rattle.stn_conflict.proofs.OneCycle.{rank_tells}
 
 -- the events of the plan are so many and the origin
 pub among_events : (bounds : List Difference) (events count : ℕ) → count ≡ events + 1 → All (NamesEvents events) bounds → All (NamesAmong count) bounds
@@ -150,7 +149,7 @@ relaxed_estimates bounds start far link x way h there to is apart least less =
     )
 
 -- where each link is relaxed, the estimates, moved so that the origin stands at 0, are a schedule
-relaxed_schedule : (bounds : List Difference) (far : List ℤ) → ((link : Link) → link.place < length bounds → IsRelaxed bounds far link)
+relaxed_schedule : (bounds : List Difference) (far : List ℤ) → AreRelaxed bounds far
     → IsSchedule bounds (λ x. times_of far x -ℤ times_of far 0)
 relaxed_schedule bounds far relaxed = record {
   origin = omega (arith, ints);
@@ -160,7 +159,7 @@ relaxed_schedule bounds far relaxed = record {
 }
 
 -- and the estimates are the distances
-pub settled : (bounds : List Difference) (start : ℕ) (far : List ℤ) → AreEstimates bounds start far → ((link : Link) → link.place < length bounds → IsRelaxed bounds far link)
+pub settled : (bounds : List Difference) (start : ℕ) (far : List ℤ) → AreEstimates bounds start far → AreRelaxed bounds far
     → HasSchedule bounds × AreDistances bounds start far
 settled bounds start far h relaxed =
     let time : ℕ → ℤ = λ x. times_of far x -ℤ times_of far 0 in
@@ -188,14 +187,39 @@ back_over bounds count start here from to weight sum link named there is_from is
       omega (arith, ints),
 )
 
--- the links that a pass has looked at are relaxed
-abbrev pub AreLookedAt : List Difference → List ℤ → ℕ → Type 0
-AreLookedAt bounds far seen = (link : Link) → rank link < seen → IsRelaxed bounds far link
+-- where the estimate of x falls, the events whose estimates are not fresh are others
+fell_elsewhere : (fresh : List Bool) (x y : ℕ) → x < length fresh → is_fresh (set fresh x true) y ≡ false → y ≢ x
+fell_elsewhere fresh x y there stale same = false≢true (sym stale ∙ ap (is_fresh (set fresh x true)) same ∙ get_or-set_same fresh x true true there)
 
--- one more link is relaxed
-pub looked_at_more : (bounds : List Difference) (far : List ℤ) (seen : ℕ) (link : Link) → rank link ≡ seen → IsRelaxed bounds far link → AreLookedAt bounds far seen → AreLookedAt bounds far (seen + 1)
-looked_at_more bounds far seen link at relaxed so_far = λ other below.
-    elim (cases_eq (rank other) seen) [
-      | inl same ↦ subst (IsRelaxed bounds far) (sym (rank_tells other link (same ∙ sym at))) relaxed
-      | inr differs ↦ so_far other (omega arith)
+-- and theirs were not fresh before
+pub stale_before : (fresh : List Bool) (x y : ℕ) → x < length fresh → is_fresh (set fresh x true) y ≡ false → is_fresh fresh y ≡ false
+stale_before fresh x y there stale = sym (get_or-set_other fresh x y true true (fell_elsewhere fresh x y there stale)) ∙ stale
+
+-- the links from them that were relaxed still are
+pub relaxed_still : (bounds : List Difference) (far : List ℤ) (fresh : List Bool) (link : Link) (x : ℕ) (way : ℤ) → x < length far → x < length fresh → way <ℤ times_of far x
+    → IsRelaxed bounds far link → is_fresh (set fresh x true) (arc_of bounds link).from ≡ false → IsRelaxed bounds (set far x way) link
+relaxed_still bounds far fresh link x way xs ys less relaxed stale =
+    let a = arc_of bounds link in
+    let from = get_or-set_other far x a.from way (pos 0) (fell_elsewhere fresh x a.from ys stale) in
+    elim (cases_eq a.to x) [
+      | inl same ↦ (
+          let to : times_of (set far x way) a.to ≡ way = ap (times_of (set far x way)) same ∙ get_or-set_same far x way (pos 0) xs in
+          let was = ap (times_of far) same in
+          omega (arith, ints))
+      | inr differs ↦ (let to = get_or-set_other far x a.to way (pos 0) differs in omega (arith, ints))
     ]
+
+-- and so is the link by which the estimate falls
+pub relaxed_now : (bounds : List Difference) (far : List ℤ) (fresh : List Bool) (link : Link) (x : ℕ) (way : ℤ) → x < length far → x < length fresh
+    → x ≡ (arc_of bounds link).to → way ≡ times_of far (arc_of bounds link).from +ℤ (arc_of bounds link).weight
+    → is_fresh (set fresh x true) (arc_of bounds link).from ≡ false → IsRelaxed bounds (set far x way) link
+relaxed_now bounds far fresh link x way xs ys to is stale =
+    let a = arc_of bounds link in
+    let from = get_or-set_other far x a.from way (pos 0) (fell_elsewhere fresh x a.from ys stale) in
+    let end : times_of (set far x way) a.to ≡ way = ap (times_of (set far x way)) (sym to) ∙ get_or-set_same far x way (pos 0) xs in
+    omega (arith, ints)
+
+-- where all estimates are fresh, nothing is claimed
+pub all_fresh : (bounds : List Difference) (far : List ℤ) (fresh : List Bool) (count : ℕ) → fresh ≡ replicate count true → All (NamesAmong count) bounds → IsRelaxedBut bounds far fresh
+all_fresh bounds far fresh count is named = λ link there stale.
+    absurd (false≢true (sym stale ∙ ap (λ l. is_fresh l (arc_of bounds link).from) is ∙ get_or-replicate count (arc_of bounds link).from true true (link_among bounds count link named there).0))

@@ -1,17 +1,21 @@
-use Rattle.std.proofs.Common.{◌≡◌, ℕ, ◌<◌, List, length, map, take, refl, subst, sym, arith}
-use Rattle.std.specs.Prelude.{ℤ, neg_ℤ}
+use Rattle.std.proofs.Common.{◌≡◌, ℕ, ◌<◌, List, length, map, take, refl, subst, sym, ap, ◌∙◌, arith}
+use Rattle.std.specs.Prelude.{ℤ, neg_ℤ, Vec}
+use Rattle.std.specs.List.{Contains}
 use Rattle.std.proofs.lemmas.Int.{ints}
-use Rattle.std.proofs.lemmas.List.{get_or-map, take-map, length-map}
+use Rattle.std.proofs.lemmas.List.{get_or-map, get_or-take, take-map, length-map, length-take}
 use Rattle.std.proofs.lemmas.List.Elements.{All-map}
 use Rattle.stn_net.specs.Difference.{Difference, NamesEvents}
 use Rattle.stn_net.specs.Schedule.{Meets, IsSchedule, HasSchedule}
 use Rattle.stn_matrix.specs.Tightest.{IsTightest}
 use Rattle.stn_conflict.specs.declared.listed.Direction.{Direction}
 use Rattle.stn_conflict.specs.declared.listed.Direction.TheVariants.{Forward, Backward}
-use Rattle.stn_conflict.specs.Arcs.{bound_at}
+use Rattle.stn_conflict.specs.declared.links.Link.{Link}
+use Rattle.stn_conflict.specs.declared.links.Side.{Side}
+use Rattle.stn_conflict.specs.declared.links.Side.TheVariants.{Upper, Lower}
+use Rattle.stn_conflict.specs.Arcs.{arc, arc_of, bound_at}
 use Rattle.stn_conflict.specs.Directions.{turned, faced, facing}
 use Rattle.stn_conflict.specs.Distances.{AreDistancesFrom, AreDistancesTo}
-use Rattle.stn_conflict.specs.Relaxation.{IsNetwork}
+use Rattle.stn_conflict.specs.Relaxation.{AreRows, IsNetwork, row_of}
 
 -- the times with their signs changed
 abbrev opposite : (ℕ → ℤ) → ℕ → ℤ
@@ -43,9 +47,31 @@ has_turned bounds (time, s) = (opposite time, schedule_turned bounds time s)
 -- turned bounds are about the same events, and keep them as near to each other
 pub network_turned : (events : ℕ) (bounds : List Difference) → IsNetwork events bounds → IsNetwork events (map turned bounds)
 network_turned events bounds n = record {
-  named = All-map (NamesEvents events) turned bounds (λ k d below. let ends = n.named k d below in record { from = ends.to; to = ends.from });
+  named = All-map (NamesEvents events) turned bounds (λ k d below. let ends = n.named k d below in record { from = ends.from; to = ends.to });
   apart = λ time s x y xs ys. (let near = n.apart (opposite time) (schedule_of_turned bounds time s) y x ys xs in omega (arith, ints));
 }
+
+-- each link begins at the same event
+begins_turned : (bounds : List Difference) (link : Link) → link.place < length bounds → (arc_of (map turned bounds) link).from ≡ (arc_of bounds link).from
+begins_turned bounds link there = ap (λ b. (arc b link.side).from) (get_or-map turned bounds link.place _ _ there) ∙ begins (bound_at bounds link.place) link.side
+  where
+    begins : (bound : Difference) (side : Side) → (arc (turned bound) side).from ≡ (arc bound side).from
+    begins bound Upper = refl
+    begins bound Lower = refl
+
+-- so the rows of the bounds are those of the turned ones
+pub rows_turned : {A : Type 0} (bounds : List Difference) (count : ℕ) (rows : List (Vec Link A)) → AreRows bounds count rows → AreRows (map turned bounds) count rows
+rows_turned bounds count rows h =
+    let long = length-map bounds turned in
+    record {
+      long = h.long;
+      every = λ link there.
+          let there' : link.place < length bounds = omega (arith, long) in
+          subst (λ x. Contains (row_of rows x) link) (sym (begins_turned bounds link there')) (h.every link there');
+      begin = λ x link has there.
+          let there' : link.place < length bounds = omega (arith, long) in
+          begins_turned bounds link there' ∙ h.begin x link has there';
+    }
 
 -- the tightest difference of two events over turned bounds is that from the second to the first
 tightest_of_turned : (bounds : List Difference) (x y : ℕ) (m : ℤ) → IsTightest (map turned bounds) x y m → IsTightest bounds y x m
@@ -73,8 +99,21 @@ pub take_facing : (direction : Direction) (n : ℕ) (bounds : List Difference) �
 take_facing Forward n bounds = refl
 take_facing Backward n bounds = sym (take-map turned n bounds)
 
+-- the bound and the bound turned round are about the same events
+pub faced_ends : (direction : Direction) (bound : Difference) → ((faced direction bound).from ≡ bound.from) × ((faced direction bound).to ≡ bound.to)
+faced_ends Forward bound = (refl, refl)
+faced_ends Backward bound = (refl, refl)
+
 -- one of the bounds
-pub bound_facing : (direction : Direction) (bounds : List Difference) (place : ℕ) → place < length bounds
+bound_facing : (direction : Direction) (bounds : List Difference) (place : ℕ) → place < length bounds
     → (bound_at (facing direction bounds) place) ≡ faced direction (bound_at bounds place)
 bound_facing Forward bounds place there = refl
 bound_facing Backward bounds place there = get_or-map turned bounds place _ _ there
+
+-- one of the first of the bounds
+pub bound_listed : (direction : Direction) (all bounds : List Difference) (end place : ℕ) (bound : Difference) → facing direction (take end all) ≡ bounds → place < length bounds
+    → bound ≡ bound_at all place → bound_at bounds place ≡ faced direction bound
+bound_listed direction all bounds end place bound is there at =
+    let first : place < length (take end all) = omega (arith, there, ap length is, length_facing direction (take end all)) in
+    let below : place < end = omega (arith, first, length-take end all) in
+    ap (λ l. bound_at l place) (sym is) ∙ bound_facing direction (take end all) place first ∙ ap (faced direction) (get_or-take end all place _ below ∙ sym at)

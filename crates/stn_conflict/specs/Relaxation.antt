@@ -1,5 +1,5 @@
 -- For proofs alone: no public clause cites these words.
-use Rattle.std.specs.Prelude.{◌≡◌, ℕ, ℤ, pos, neg_ℤ, ◌+ℤ◌, ◌-ℤ◌, ◌≤ℤ◌, ◌<◌, ◌≤◌, ◌+◌, List, [], length, map, All, Contains, Vec, slice_index_or, sum_by, unsigned_abs}
+use Rattle.std.specs.Prelude.{◌≡◌, ℕ, ℤ, pos, neg_ℤ, ◌+ℤ◌, ◌-ℤ◌, ◌≤ℤ◌, ◌<◌, ◌≤◌, ◌+◌, Bool, true, false, List, [], length, map, All, Contains, Vec, slice_index_or, sum_by, unsigned_abs}
 use Rattle.stn_time.specs.Time.{horizon}
 use Rattle.stn_net.specs.Event.{most_events}
 use Rattle.stn_net.specs.Difference.{Difference, NamesEvents}
@@ -37,6 +37,19 @@ pub record AreDistances (bounds : List Difference) (start : ℕ) (far : List ℤ
 abbrev pub IsRelaxed : List Difference → List ℤ → Link → Type 0
 IsRelaxed bounds far link = times_of far (arc_of bounds link).to ≤ℤ (times_of far (arc_of bounds link).from +ℤ (arc_of bounds link).weight)
 
+-- each link is relaxed
+abbrev pub AreRelaxed : List Difference → List ℤ → Type 0
+AreRelaxed bounds far = (link : Link) → link.place < length bounds → IsRelaxed bounds far link
+
+-- the event's estimate was lowered since its links were relaxed
+abbrev pub is_fresh : List Bool → ℕ → Bool
+is_fresh fresh event = slice_index_or fresh event true
+
+-- each link from an event whose estimate is not fresh is relaxed
+abbrev pub IsRelaxedBut : List Difference → List ℤ → List Bool → Type 0
+IsRelaxedBut bounds far fresh =
+    (link : Link) → link.place < length bounds → is_fresh fresh (arc_of bounds link).from ≡ false → IsRelaxed bounds far link
+
 -- how far the estimates can fall before one of them is beyond the horizon
 abbrev pub room : List ℤ → ℕ
 room far = sum_by (λ z. unsigned_abs (z +ℤ horizon)) far
@@ -45,7 +58,6 @@ room far = sum_by (λ z. unsigned_abs (z +ℤ horizon)) far
 pub record HasTables {A : Type 0} (count : ℕ) (search : Search A) : Type 0 where
   pub few : count ≤ most_events + 1
   pub far : length search.far.items ≡ count
-  pub outgoing : length search.outgoing.now ≡ count
   pub by : length search.by.items ≡ count
   pub fresh : length search.fresh.items ≡ count
 
@@ -54,6 +66,16 @@ pub record IsSearch {A : Type 0} (bounds : List Difference) (start count : ℕ) 
   pub tables : HasTables count search
   pub from : search.start ≡ start
   pub estimates : AreEstimates bounds start search.far.items
+
+-- the link is relaxed, if it is one of the bounds from an event whose estimate is not fresh
+abbrev pub IsRelaxedOf : {A : Type 0} → List Difference → Search A → Link → Type 0
+IsRelaxedOf bounds search link =
+    link.place < length bounds → is_fresh search.fresh.items (arc_of bounds link).from ≡ false → IsRelaxed bounds search.far.items link
+
+-- an event whose estimate is not fresh had none that was, and a link from it that was relaxed still is
+pub record KeepsRelaxed {A : Type 0} (bounds : List Difference) (old new : Search A) : Type 0 where
+  pub stale : (x : ℕ) → is_fresh new.fresh.items x ≡ false → is_fresh old.fresh.items x ≡ false
+  pub relaxed : (link : Link) → IsRelaxed bounds old.far.items link → IsRelaxedOf bounds new link
 
 -- some link of the bounds leads from the one event to the other, and has this weight
 abbrev pub IsArcTo : List Difference → ℕ → ℕ → ℤ → Type 0

@@ -1,13 +1,13 @@
 ghost use Rattle.std.specs.Prelude.{◌≡◌, ◌*◌, ◌<◌, ◌≤◌, ◌≤ℤ◌, ◌++◌, length, take};
 ghost use Rattle.stn_conflict.specs.Arcs.{arc_of, bound_at, rank};
-ghost use Rattle.stn_conflict.specs.Directions.{facing};
+ghost use Rattle.stn_conflict.specs.Directions.{faced, facing};
 
 use crate::links::{Link, Side};
 use std::marker::Model;
 use stn_net::{Bound, Event};
 use stn_time::Ms;
 
-// Whether links lead from their beginnings to their ends, or the other way round.
+// Whether bounds speak of times, or of times with their signs changed.
 #[derive(Clone, Copy)]
 pub(crate) enum Direction {
     Forward,
@@ -15,7 +15,8 @@ pub(crate) enum Direction {
 }
 
 // Bounds that stand in two slices, one after the other, as far as a place: the list of them, which
-// is never copied, with all of them turned round where the direction is backward.
+// is never copied, with all of them turned round where the direction is backward. Each link begins and ends at the same
+// events in both directions.
 #[derive(Drop)]
 pub(crate) struct Listed<'a> {
     direction: Direction,
@@ -90,22 +91,31 @@ impl<'a> Listed<'a> {
         ensures ordered { (bound_at self.now link.place).lo ≤ℤ (bound_at self.now link.place).hi }
     {
         let bound = bound_in(self.base, self.extra, link.place);
-        let (from, to) = match self.direction {
-            Direction::Forward => (bound.from(), bound.to()),
-            Direction::Backward => (bound.to(), bound.from()),
-        };
+        let (lo, hi) = sides(self.direction, &bound);
         match link.side {
             Side::Upper => Arc {
-                from,
-                to,
-                weight: bound.hi(),
+                from: bound.from(),
+                to: bound.to(),
+                weight: hi,
             },
             Side::Lower => Arc {
-                from: to,
-                to: from,
-                weight: -bound.lo(),
+                from: bound.to(),
+                to: bound.from(),
+                weight: -lo,
             },
         }
+    }
+}
+
+// The sides of the bound, or of the bound turned round.
+fn sides(direction: Direction, bound: &Bound) -> (Ms, Ms)
+    ensures lo { result.0 ≡ (faced direction bound.now).lo }
+    ensures hi { result.1 ≡ (faced direction bound.now).hi }
+    ensures ordered { (faced direction bound.now).lo ≤ℤ (faced direction bound.now).hi }
+{
+    match direction {
+        Direction::Forward => (bound.lo(), bound.hi()),
+        Direction::Backward => (-bound.hi(), -bound.lo()),
     }
 }
 

@@ -1,12 +1,12 @@
-ghost use Rattle.std.specs.Prelude.{◌≡◌, ◌↔◌, ◌≤◌, ◌++◌, take, All, IsNone, IfOk, IfSome, MatchOption};
+ghost use Rattle.std.specs.Prelude.{◌≡◌, ◌+◌, ◌↔◌, ◌≤◌, ◌++◌, take, All, IsNone, IfOk, IfSome, MatchOption};
 ghost use Rattle.stn_net.specs.Event.{most_events};
 ghost use Rattle.stn_net.specs.Difference.{NamesEvents};
 ghost use Rattle.stn_net.specs.Schedule.{HasSchedule};
 ghost use Rattle.stn_net.specs.Horizon.{horizon_bounds};
 ghost use Rattle.stn_conflict.specs.Distances.{AreDistancesFrom, AreDistancesTo};
-ghost use Rattle.stn_conflict.specs.Relaxation.{IsNetwork};
+ghost use Rattle.stn_conflict.specs.Relaxation.{AreRows, IsNetwork};
 
-use crate::links::Distances;
+use crate::links::{Distances, Link};
 use crate::listed::{Direction, Listed};
 use crate::relaxation::{Search, outgoing_links};
 use std::alloc::Allocator;
@@ -36,11 +36,12 @@ pub fn distances<A: Allocator + Copy>(
         (λ distances. AreDistancesTo (base.now ++ extra.now) events event distances.to.items)) }
 {
     let onward = Listed::new(Direction::Forward, base, extra);
-    let Some(from) = distances_from(alloc, events, &onward, event)? else {
+    let back = Listed::new(Direction::Backward, base, extra);
+    let outgoing = outgoing_links(alloc, events, &onward)?;
+    let Some(from) = distances_from(alloc, events, &onward, &outgoing, event)? else {
         return Ok(None);
     };
-    let back = Listed::new(Direction::Backward, base, extra);
-    let Some(to) = distances_from(alloc, events, &back, event)? else {
+    let Some(to) = distances_from(alloc, events, &back, &outgoing, event)? else {
         return Ok(None);
     };
     Ok(Some(Distances { from, to }))
@@ -51,18 +52,19 @@ fn distances_from<A: Allocator + Copy>(
     alloc: A,
     events: u16,
     bounds: &Listed<'_>,
+    outgoing: &[Vec<Link, A>],
     event: Event,
 ) -> Result<Option<Vec<Ms, A>>, Memory>
     requires few { events ≤ most_events }
     requires network { IsNetwork events bounds.now }
+    requires rows { AreRows bounds.now (events + 1) outgoing.now }
     requires event { event ≤ events }
     ensures { IfOk result (λ found. MatchOption found (¬ HasSchedule bounds.now)
         (λ far. AreDistancesFrom bounds.now events event far.items)) }
 {
-    let outgoing = outgoing_links(alloc, events, bounds)?;
-    let mut search = Search::new(alloc, &outgoing)?;
+    let mut search = Search::new(alloc, usize::from(events) + 1)?;
     search.begin(event);
-    if search.settle(bounds) {
+    if search.settle(bounds, outgoing) {
         Ok(Some(search.far))
     } else {
         Ok(None)

@@ -1,17 +1,16 @@
-// Distances of all events from one of them. Links are relaxed until each is met (Bellman, 1958): first all of them
-// once, then those from events whose estimates fell, back and forth through the events (Yen, 1970), and so on. Where
-// the links that lowered the estimates last lead round with a negative sum, there are no distances (Cherkassky and
-// Goldberg, 1999).
+// Distances of all events from one of them. Links are relaxed until each is met (Bellman, 1958): first those from each
+// event, then those from events whose estimates fell, back and forth through the events (Yen, 1970). Where the links that
+// lowered the estimates last lead round with a negative sum, there are no distances (Cherkassky and Goldberg, 1999).
 //
-// What a search over other bounds left in `by` and `fresh` does no harm: a link counts only if it is one of these
-// bounds, and ends at the event; a fresh event costs no more than a look at its links; and the distances are found only
-// after a pass over all links that lowered none.
+// What a search over other bounds left in `by` does no harm: a link counts only if it is one of these bounds, and ends at
+// the event.
 
-ghost use Rattle.std.specs.Prelude.{◌≡◌, ◌+◌, ◌<◌, ◌≤◌, ◌↔◌, ℕ, false, length, All, IsTrue, IsErr, IsOk, IfOk, IfSome, OnOk, List};
+ghost use Rattle.std.specs.Prelude.{◌≡◌, ◌+◌, ◌<◌, ◌≤◌, ◌↔◌, ℕ, false, length, All, IsTrue, IsErr, IsOk, IfOk, IfSome, IfNone, OnOk, List};
+ghost use Rattle.std.specs.List.{Contains};
 ghost use Rattle.stn_net.specs.Event.{most_events};
 ghost use Rattle.stn_net.specs.Difference.{Difference, NamesEvents};
 ghost use Rattle.stn_net.specs.Schedule.{HasSchedule};
-ghost use Rattle.stn_conflict.specs.Relaxation.{AreRows, NamesAmong, AreEstimates, AreDistances, IsRelaxed, IsNetwork, IsSearch, HasTables, IsArcTo, room};
+ghost use Rattle.stn_conflict.specs.Relaxation.{AreRows, NamesAmong, AreEstimates, AreDistances, AreRelaxed, IsRelaxedBut, IsRelaxedOf, IsNetwork, IsSearch, KeepsRelaxed, HasTables, IsArcTo, room};
 ghost use Rattle.stn_time.specs.Time.{horizon};
 
 use crate::links::Link;
@@ -53,27 +52,24 @@ pub(crate) fn outgoing_links<A: Allocator + Copy>(
 
 // A search for the distances from an event.
 #[derive(Drop)]
-pub(crate) struct Search<'a, A: Allocator> {
-    outgoing: &'a [Vec<Link, A>],
+pub(crate) struct Search<A: Allocator> {
     // The event from which the distances are sought.
     start: Event,
     // For each event an estimate of its distance, which is never too small.
     pub far: Vec<Ms, A>,
     // For each event the link that lowered its estimate last.
     by: Vec<Option<Link>, A>,
-    // The events whose estimates were lowered since their links were looked at.
+    // The events whose estimates were lowered since their links were relaxed.
     fresh: Vec<bool, A>,
 }
 
-impl<'a, A: Allocator + Copy> Search<'a, A> {
-    // A search among as many events as have rows of links.
-    pub fn new(alloc: A, outgoing: &'a [Vec<Link, A>]) -> Result<Search<'a, A>, Memory>
-        requires { length outgoing.now ≤ most_events + 1 }
-        ensures { IfOk result (λ search. HasTables (length outgoing.now) search) }
+impl<A: Allocator + Copy> Search<A> {
+    // A search among so many events.
+    pub fn new(alloc: A, count: usize) -> Result<Search<A>, Memory>
+        requires { count ≤ most_events + 1 }
+        ensures { IfOk result (λ search. HasTables count search) }
     {
-        let count = outgoing.len();
         Ok(Search {
-            outgoing,
             start: Event::origin(),
             far: vec![in alloc; horizon(); count]?,
             by: vec![in alloc; None; count]?,
@@ -82,16 +78,23 @@ impl<'a, A: Allocator + Copy> Search<'a, A> {
     }
 
     // Finds the distances from an event, where the bounds have a schedule.
-    pub fn distances(&mut self, events: u16, bounds: &Listed<'_>, start: Event)
+    pub fn distances(
+        &mut self,
+        events: u16,
+        bounds: &Listed<'_>,
+        outgoing: &[Vec<Link, A>],
+        start: Event,
+    )
         requires tables { HasTables (events + 1) self.old }
         requires network { IsNetwork events bounds.now }
+        requires rows { AreRows bounds.now (events + 1) outgoing.now }
         requires start { start ≤ events }
         requires possible { HasSchedule bounds.now }
         ensures tables { HasTables (events + 1) self.new }
         ensures distances { AreDistances bounds.now start self.new.far.items }
     {
         self.begin(start);
-        self.settle(bounds);
+        self.settle(bounds, outgoing);
     }
 
     // Begins again from an event, with the estimates that the horizon allows.
@@ -110,56 +113,33 @@ impl<'a, A: Allocator + Copy> Search<'a, A> {
 
     // Lowers the estimates until they are the distances, and answers true; false exactly where the bounds, of which the
     // rows have all links, have no schedule.
-    pub fn settle(&mut self, bounds: &Listed<'_>) -> bool
-        requires { IsSearch bounds.now self.old.start (length self.old.far.items) self.old }
+    pub fn settle(&mut self, bounds: &Listed<'_>, outgoing: &[Vec<Link, A>]) -> bool
+        requires search { IsSearch bounds.now self.old.start (length self.old.far.items) self.old }
+        requires rows { AreRows bounds.now (length self.old.far.items) outgoing.now }
         ensures search { IsSearch bounds.now self.old.start (length self.old.far.items) self.new }
         ensures possible { IsTrue result ↔ HasSchedule bounds.now }
         ensures distances { IsTrue result → AreDistances bounds.now self.old.start self.new.far.items }
     {
-        self.relax_until_met(bounds).is_ok()
-    }
-
-    // Relaxes links until each is met.
-    fn relax_until_met(&mut self, bounds: &Listed<'_>) -> Result<(), NoSchedule>
-        requires { IsSearch bounds.now self.old.start (length self.old.far.items) self.old }
-        ensures search { IsSearch bounds.now self.old.start (length self.old.far.items) self.new }
-        ensures possible { IsOk result ↔ HasSchedule bounds.now }
-        ensures distances { OnOk result (AreDistances bounds.now self.old.start self.new.far.items) }
-    {
-        while self.relax_all(bounds)? {
-            self.correct(bounds)?;
-        }
-        Ok(())
-    }
-
-    // Relaxes each link once, in their order; whether one lowered an estimate.
-    fn relax_all(&mut self, bounds: &Listed<'_>) -> Result<bool, NoSchedule>
-        requires { IsSearch bounds.now self.old.start (length self.old.far.items) self.old }
-        ensures search { IsSearch bounds.now self.old.start (length self.old.far.items) self.new }
-        ensures refused { IsErr result → ¬ HasSchedule bounds.now }
-        ensures less { IfOk result (λ lower. IsTrue lower → room self.new.far.items < room self.old.far.items) }
-        ensures relaxed { IfOk result (λ lower. lower ≡ false
-            → (link : Link) → link.place < length bounds.now → IsRelaxed bounds.now self.new.far.items link) }
-    {
-        let mut lower = false;
-        for index in 0..bounds.links() {
-            if self.relax(bounds, link_at(index))? {
-                lower = true;
-            }
-        }
-        Ok(lower)
+        self.fresh.fill(true);
+        self.relax_until_met(bounds, outgoing).is_ok()
     }
 
     // Relaxes the links from events with fresh estimates, back and forth through the events, until there is none; where
     // links that lowered estimates lead round, this would never end.
-    fn correct(&mut self, bounds: &Listed<'_>) -> Result<(), NoSchedule>
-        requires { IsSearch bounds.now self.old.start (length self.old.far.items) self.old }
+    fn relax_until_met(
+        &mut self,
+        bounds: &Listed<'_>,
+        outgoing: &[Vec<Link, A>],
+    ) -> Result<(), NoSchedule>
+        requires search { IsSearch bounds.now self.old.start (length self.old.far.items) self.old }
+        requires rows { AreRows bounds.now (length self.old.far.items) outgoing.now }
+        requires relaxed { IsRelaxedBut bounds.now self.old.far.items self.old.fresh.items }
         ensures search { IsSearch bounds.now self.old.start (length self.old.far.items) self.new }
-        ensures refused { IsErr result → ¬ HasSchedule bounds.now }
-        ensures most { room self.new.far.items ≤ room self.old.far.items }
+        ensures possible { IsOk result ↔ HasSchedule bounds.now }
+        ensures distances { OnOk result (AreDistances bounds.now self.old.start self.new.far.items) }
     {
         let mut onward = true;
-        while let Some(event) = self.sweep(bounds, onward)? {
+        while let Some(event) = self.sweep(bounds, outgoing, onward)? {
             if self.goes_round(bounds, event) {
                 return Err(NoSchedule);
             }
@@ -169,16 +149,23 @@ impl<'a, A: Allocator + Copy> Search<'a, A> {
     }
 
     // Relaxes the links from each event with a fresh estimate, in the events' order or against it; the last event whose
-    // estimate was lowered.
-    fn sweep(&mut self, bounds: &Listed<'_>, onward: bool) -> Result<Option<Event>, NoSchedule>
-        requires { IsSearch bounds.now self.old.start (length self.old.far.items) self.old }
+    // estimate was lowered. Where there is none, each link is met.
+    fn sweep(
+        &mut self,
+        bounds: &Listed<'_>,
+        outgoing: &[Vec<Link, A>],
+        onward: bool,
+    ) -> Result<Option<Event>, NoSchedule>
+        requires search { IsSearch bounds.now self.old.start (length self.old.far.items) self.old }
+        requires rows { AreRows bounds.now (length self.old.far.items) outgoing.now }
+        requires relaxed { IsRelaxedBut bounds.now self.old.far.items self.old.fresh.items }
         ensures search { IsSearch bounds.now self.old.start (length self.old.far.items) self.new }
         ensures refused { IsErr result → ¬ HasSchedule bounds.now }
         ensures there { IfOk result (λ last. IfSome last (λ event. event < length self.old.far.items)) }
-        ensures most { room self.new.far.items ≤ room self.old.far.items }
         ensures less { IfOk result (λ last. IfSome last (λ event. room self.new.far.items < room self.old.far.items)) }
+        ensures relaxed { OnOk result (IsRelaxedBut bounds.now self.new.far.items self.new.fresh.items) }
+        ensures met { IfOk result (λ last. IfNone last (AreRelaxed bounds.now self.new.far.items)) }
     {
-        let outgoing = self.outgoing;
         let mut last = None;
         for index in 0..outgoing.len() {
             let event = if onward {
@@ -207,11 +194,14 @@ impl<'a, A: Allocator + Copy> Search<'a, A> {
         ensures there { IfOk result (λ last. IfSome last (λ event. event < length self.old.far.items)) }
         ensures most { room self.new.far.items ≤ room self.old.far.items }
         ensures less { IfOk result (λ last. IfSome last (λ event. room self.new.far.items < room self.old.far.items)) }
+        ensures same { IfOk result (λ last. IfNone last (self.new.fresh.items ≡ self.old.fresh.items)) }
+        ensures kept { OnOk result (KeepsRelaxed bounds.now self.old self.new) }
+        ensures relaxed { OnOk result ((link : Link) → Contains links.now link → IsRelaxedOf bounds.now self.new link) }
     {
         let mut last = None;
         for link in links {
             if link.place >= bounds.len() {
-                break;
+                continue;
             }
             if self.relax(bounds, *link)? {
                 last = Some(bounds.arc(*link).to);
@@ -227,8 +217,9 @@ impl<'a, A: Allocator + Copy> Search<'a, A> {
         ensures search { IsSearch bounds.now self.old.start (length self.old.far.items) self.new }
         ensures refused { IsErr result → ¬ HasSchedule bounds.now }
         ensures less { IfOk result (λ lower. IsTrue lower → room self.new.far.items < room self.old.far.items) }
-        ensures same { IfOk result (λ lower. lower ≡ false → self.new.far.items ≡ self.old.far.items) }
-        ensures relaxed { IfOk result (λ lower. lower ≡ false → IsRelaxed bounds.now self.old.far.items link) }
+        ensures same { IfOk result (λ lower. lower ≡ false → self.new ≡ self.old) }
+        ensures kept { OnOk result (KeepsRelaxed bounds.now self.old self.new) }
+        ensures relaxed { OnOk result (IsRelaxedOf bounds.now self.new link) }
         ensures err { IsErr result → self.new.far.items ≡ self.old.far.items }
     {
         let arc = bounds.arc(link);

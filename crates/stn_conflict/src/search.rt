@@ -63,8 +63,8 @@ fn cycle_of<A: Allocator + Copy>(
         (λ cycle. IsCycleOf bounds.now events cycle.links.items cycle.sum)) }
 {
     let outgoing = outgoing_links(alloc, events, bounds)?;
-    let mut search = Search::new(alloc, &outgoing)?;
-    match first_refused(alloc, events, bounds, &mut search)? {
+    let mut search = Search::new(alloc, usize::from(events) + 1)?;
+    match first_refused(alloc, events, bounds, &outgoing, &mut search)? {
         Some(place) => Ok(Some(named(alloc, events, bounds, &outgoing, &mut search, place)?)),
         None => Ok(None),
     }
@@ -76,10 +76,12 @@ fn first_refused<A: Allocator + Copy>(
     alloc: A,
     events: u16,
     bounds: &Listed<'_>,
-    search: &mut Search<'_, A>,
+    outgoing: &[Vec<Link, A>],
+    search: &mut Search<A>,
 ) -> Result<Option<usize>, Memory>
     requires begins { take events bounds.now ≡ horizon_bounds events }
     requires named { All (NamesEvents events) bounds.now }
+    requires rows { AreRows bounds.now (events + 1) outgoing.now }
     requires tables { HasTables (events + 1) search.old }
     ensures found { IfOk result (λ found. MatchOption found (HasSchedule bounds.now)
         (IsFirstRefused bounds.now events)) }
@@ -87,21 +89,23 @@ fn first_refused<A: Allocator + Copy>(
 {
     search.begin(Event::origin());
     let mut known = Vec::from_slice(alloc, &search.far)?;
-    if search.settle(bounds) {
+    if search.settle(bounds, outgoing) {
         return Ok(None);
     }
-    Ok(Some(first_between(events, bounds, search, &mut known)))
+    Ok(Some(first_between(events, bounds, outgoing, search, &mut known)))
 }
 
 // The same place, where the bounds have no schedule, and `known` has estimates for the horizon bounds.
 fn first_between<A: Allocator + Copy>(
     events: u16,
     bounds: &Listed<'_>,
-    search: &mut Search<'_, A>,
+    outgoing: &[Vec<Link, A>],
+    search: &mut Search<A>,
     known: &mut [Ms],
 ) -> usize
     requires begins { take events bounds.now ≡ horizon_bounds events }
     requires named { All (NamesEvents events) bounds.now }
+    requires rows { AreRows bounds.now (events + 1) outgoing.now }
     requires tables { HasTables (events + 1) search.old }
     requires known { AreEstimates (take events bounds.now) search.old.start known.old }
     requires long { length known.old ≡ events + 1 }
@@ -114,7 +118,7 @@ fn first_between<A: Allocator + Copy>(
     while high - low > 1 {
         let middle = low + (high - low) / 2;
         search.far.copy_from_slice(known);
-        if search.settle(&bounds.before(middle)) {
+        if search.settle(&bounds.before(middle), outgoing) {
             known.copy_from_slice(&search.far);
             low = middle;
         } else {
@@ -129,10 +133,12 @@ fn first_between<A: Allocator + Copy>(
 fn refused_side<A: Allocator + Copy>(
     events: u16,
     bounds: &Listed<'_>,
-    search: &mut Search<'_, A>,
+    outgoing: &[Vec<Link, A>],
+    search: &mut Search<A>,
     place: usize,
 ) -> Side
     requires network { IsNetwork events (take place bounds.now) }
+    requires rows { AreRows bounds.now (events + 1) outgoing.now }
     requires tables { HasTables (events + 1) search.old }
     requires there { place < length bounds.now }
     requires named { NamesEvents events (bound_at bounds.now place) }
@@ -144,11 +150,11 @@ fn refused_side<A: Allocator + Copy>(
     let before = bounds.before(place);
     let side = Side::Upper;
     let upper = bounds.arc(Link { place, side });
-    search.distances(events, &before, upper.to);
+    search.distances(events, &before, outgoing, upper.to);
     if search.far[usize::from(upper.from.number())].get() + upper.weight.get() < 0 {
         return side;
     }
-    search.distances(events, &before, upper.from);
+    search.distances(events, &before, outgoing, upper.from);
     Side::Lower
 }
 
@@ -158,7 +164,7 @@ fn named<A: Allocator + Copy>(
     events: u16,
     bounds: &Listed<'_>,
     outgoing: &[Vec<Link, A>],
-    search: &mut Search<'_, A>,
+    search: &mut Search<A>,
     place: usize,
 ) -> Result<Cycle<A>, Memory>
     requires begins { take events bounds.now ≡ horizon_bounds events }
@@ -168,7 +174,7 @@ fn named<A: Allocator + Copy>(
     requires first { IsFirstRefused bounds.now events place }
     ensures { IfOk result (λ cycle. IsCycleOf bounds.now events cycle.links.items cycle.sum) }
 {
-    let side = refused_side(events, bounds, search, place);
+    let side = refused_side(events, bounds, outgoing, search, place);
     let link = Link { place, side };
     let arc = bounds.arc(link);
     let before = bounds.before(place);

@@ -67,9 +67,9 @@ fn way_over<A: Allocator + Copy>(
         (λ way. IsWayOf bounds.now from to (events + 1) way.links.items way.sum)) }
 {
     let outgoing = outgoing_links(alloc, events, bounds)?;
-    let mut search = Search::new(alloc, &outgoing)?;
+    let mut search = Search::new(alloc, usize::from(events) + 1)?;
     search.begin(from);
-    if search.settle(bounds) {
+    if search.settle(bounds, &outgoing) {
         Ok(Some(way_to(alloc, bounds, &outgoing, &search.far, from, to)?))
     } else {
         Ok(None)

@@ -4,7 +4,7 @@ use Rattle.std.proofs.lemmas.Int.{ints, clamps}
 use Rattle.stn_net.specs.Difference.{Difference}
 use Rattle.stn_net.specs.Schedule.{IsSchedule, HasSchedule}
 use Rattle.stn_matrix.specs.Table.{Table, far_of}
-use Rattle.stn_matrix.specs.Tightest.{IsExact}
+use Rattle.stn_matrix.specs.Tightest.{IsExact, IsTightest}
 use Rattle.stn_windows.specs.Window.{IsInWindow, IsWindow}
 
 -- a window has one pair of ends, where there is a schedule
@@ -41,25 +41,29 @@ between_in_window bounds event earliest latest time early late after before =
       omega (arith, ints, clamps),
     )
 
--- the ends of a window stand in the row and the column of the origin of an exact table
+-- the ends of an event's window: how far the origin comes after it at the most, with the sign changed, and how far it comes after the origin at the most
+pub window_of_ends : (bounds : List Difference) (event : ℕ) (back far : ℤ) → IsTightest bounds event 0 back → IsTightest bounds 0 event far
+    → IsWindow bounds event (neg_ℤ back) far
+window_of_ends bounds event back far early late = λ time. (
+  (λ s.
+      let origin = s.1.origin in
+      let takes = s.2 in
+      let least = early.bound s.0 s.1 in
+      let most = late.bound s.0 s.1 in
+      (omega (arith, ints), omega (arith, ints))),
+  (λ between.
+      let first = early.attained.1.origin in
+      let last = late.attained.1.origin in
+      let attains_first = early.attained.2 in
+      let attains_last = late.attained.2 in
+      between_in_window bounds event (neg_ℤ back) far time
+      (early.attained.0, early.attained.1, omega (arith, ints))
+      (late.attained.0, late.attained.1, omega (arith, ints))
+      between.0 between.1),
+)
+
+-- those ends stand in the row and the column of the origin of an exact table
 pub window_of_exact : (bounds : List Difference) (table : Table) (event : ℕ) → IsExact bounds table → event ≤ table.events
     → IsWindow bounds event (neg_ℤ (far_of table event 0)) (far_of table 0 event)
-window_of_exact bounds table event exact within = λ time.
-    let early = exact.far event 0 within (omega arith) in
-    let late = exact.far 0 event (omega arith) within in (
-      (λ s.
-          let origin = s.1.origin in
-          let takes = s.2 in
-          let least = early.bound s.0 s.1 in
-          let most = late.bound s.0 s.1 in
-          (omega (arith, ints), omega (arith, ints))),
-      (λ between.
-          let first = early.attained.1.origin in
-          let last = late.attained.1.origin in
-          let attains_first = early.attained.2 in
-          let attains_last = late.attained.2 in
-          between_in_window bounds event (neg_ℤ (far_of table event 0)) (far_of table 0 event) time
-          (early.attained.0, early.attained.1, omega (arith, ints))
-          (late.attained.0, late.attained.1, omega (arith, ints))
-          between.0 between.1),
-    )
+window_of_exact bounds table event exact within =
+    window_of_ends bounds event (far_of table event 0) (far_of table 0 event) (exact.far event 0 within (omega arith)) (exact.far 0 event (omega arith) within)

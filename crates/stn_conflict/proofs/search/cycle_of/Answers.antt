@@ -5,7 +5,8 @@ pub first_refused-requires : goal.first_refused-requires
 first_refused-requires g c = record {
   begins = c.requires.begins;
   named = c.requires.named;
-  tables = rw (ap length c.deref.ensures.value ∙ c.in_ok-outgoing.ensures.long) at c.in_ok-search.ensures;
+  rows = rw c.deref.ensures.value c.in_ok-outgoing.ensures;
+  tables = rw c.from.ensures at c.in_ok-search.ensures;
 }
 
 pub named-requires : goal.named-requires

@@ -4,6 +4,7 @@ use Rattle.stn_net.specs.Schedule.{HasSchedule}
 use Rattle.stn_conflict.specs.Relaxation.{HasTables}
 use Rattle.stn_conflict.proofs.Known.{more_than_known}
 use Rattle.stn_conflict.proofs.Relaxing.{estimates_of_more}
+use Rattle.stn_conflict.proofs.Rows.{rows_before}
 use Rattle.stn_conflict.proofs.search.first_between.Goals as goal
 
 pub loop-high-init : goal.loop-high-init
@@ -27,10 +28,13 @@ settle-requires g c =
     let items : c.copy_from_slice.new.self.items ≡ c.loop-high.known = c.copy_from_slice.ensures.items in
     let long : length c.copy_from_slice.new.self.items ≡ c.args.events + 1 = ap length items ∙ h.long in
     rw long (record {
-      tables = record { few = h.tables.few; far = long; outgoing = h.tables.outgoing; by = h.tables.by; fresh = h.tables.fresh };
-      from = refl;
-      estimates = rw (c.before-in-loop-high.ensures, items)
-          (estimates_of_more c.args.bounds.now c.args.events c.loop-high.low middle c.loop-high.search.start c.loop-high.known (omega arith) h.long c.requires.named h.known);
+      search = record {
+        tables = record { few = h.tables.few; far = long; by = h.tables.by; fresh = h.tables.fresh };
+        from = refl;
+        estimates = rw (c.before-in-loop-high.ensures, items)
+            (estimates_of_more c.args.bounds.now c.args.events c.loop-high.low middle c.loop-high.search.start c.loop-high.known (omega arith) h.long c.requires.named h.known);
+      };
+      rows = rw c.before-in-loop-high.ensures (rows_before c.args.bounds.now (c.args.events + 1) middle c.args.outgoing.now c.requires.rows);
     })
 
 pub copy_from_slice-requires : goal.copy_from_slice-requires

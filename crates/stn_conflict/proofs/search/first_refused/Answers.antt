@@ -13,11 +13,16 @@ begin-requires g c = record {
 }
 
 pub settle-requires : goal.settle-requires
-settle-requires g c = record {
-  tables = tables_of _ _ c.begin.ensures.tables;
-  from = refl;
-  estimates = rw c.begin.ensures.start (c.begin.ensures.estimates c.args.bounds.now c.args.events c.requires.tables.far (network_known c.args.events c.args.bounds.now c.requires.begins c.requires.named));
-}
+settle-requires g c =
+    let long : length c.begin.new.self.far.items ≡ c.args.events + 1 = c.begin.ensures.tables.far ∙ c.requires.tables.far in
+    record {
+      search = record {
+        tables = tables_of _ _ c.begin.ensures.tables;
+        from = refl;
+        estimates = rw c.begin.ensures.start (c.begin.ensures.estimates c.args.bounds.now c.args.events c.requires.tables.far (network_known c.args.events c.args.bounds.now c.requires.begins c.requires.named));
+      };
+      rows = rw long c.requires.rows;
+    }
 
 pub first_between-requires : goal.first_between-requires
 first_between-requires g c =
@@ -28,6 +33,7 @@ first_between-requires g c =
     rw (c.deref_mut.ensures.value, copied) (record {
       begins = c.requires.begins;
       named = c.requires.named;
+      rows = c.requires.rows;
       tables = subst (λ n. HasTables n c.settle.new.self) long c.settle.ensures.search.tables;
       known = rw start (c.begin.ensures.estimates (take c.args.events bounds) c.args.events c.requires.tables.far
           (network_before c.args.events c.args.events bounds (omega arith) c.requires.begins c.requires.named));

@@ -17,6 +17,7 @@ refused_side-side-requires g c =
     let first = c.requires.first in
     record {
       network = network_before c.args.events c.args.place c.args.bounds.now first.past c.requires.begins c.requires.named;
+      rows = c.requires.rows;
       tables = c.requires.tables;
       there = first.there;
       named = c.requires.named c.args.place _ first.there;

@@ -1,16 +1,18 @@
-use Rattle.std.proofs.Common.{◌≡◌, ◌<◌, ◌∙◌, ap, length, take, arith}
+use Rattle.std.proofs.Common.{◌≡◌, ◌+◌, ◌<◌, ◌∙◌, ap, length, take, arith}
 use Rattle.std.specs.Prelude.{pos, ◌+ℤ◌, ◌≤ℤ◌, ◌<ℤ◌}
 use Rattle.std.proofs.lemmas.Int.{ints}
 use Rattle.std.proofs.lemmas.List.{get_or_read}
 use Rattle.stn_net.specs.Schedule.{times_of}
 use Rattle.stn_conflict.specs.Arcs.{bound_at}
 use Rattle.stn_conflict.specs.Relaxation.{AreDistances}
+use Rattle.stn_conflict.proofs.Rows.{rows_before}
 use Rattle.stn_conflict.proofs.search.refused_side.Goals as goal
 
 pub distances-requires : goal.distances-requires
 distances-requires g c = record {
   tables = c.requires.tables;
   network = rw c.before-before.ensures c.requires.network;
+  rows = rw c.before-before.ensures (rows_before c.args.bounds.now (c.args.events + 1) c.args.place c.args.outgoing.now c.requires.rows);
   start = rw c.arc-upper.ensures.to c.requires.named.to;
   possible = rw c.before-before.ensures c.requires.possible;
 }
@@ -26,6 +28,7 @@ pub distances-requires-2 : goal.distances-requires-2
 distances-requires-2 g c = record {
   tables = c.distances.ensures.tables;
   network = rw c.before-before.ensures c.requires.network;
+  rows = rw c.before-before.ensures (rows_before c.args.bounds.now (c.args.events + 1) c.args.place c.args.outgoing.now c.requires.rows);
   start = rw c.arc-upper.ensures.from c.requires.named.from;
   possible = rw c.before-before.ensures c.requires.possible;
 }

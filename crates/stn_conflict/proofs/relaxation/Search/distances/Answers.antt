@@ -8,9 +8,12 @@ begin-requires-clause-tables g c = tables_of _ _ c.requires.tables
 
 pub settle-requires : goal.settle-requires
 settle-requires g c = record {
-  tables = tables_of _ _ c.begin.ensures.tables;
-  from = refl;
-  estimates = rw c.begin.ensures.start (c.begin.ensures.estimates c.args.bounds.now c.args.events c.requires.tables.far c.requires.network);
+  search = record {
+    tables = tables_of _ _ c.begin.ensures.tables;
+    from = refl;
+    estimates = rw c.begin.ensures.start (c.begin.ensures.estimates c.args.bounds.now c.args.events c.requires.tables.far c.requires.network);
+  };
+  rows = rw (c.begin.ensures.tables.far ∙ c.requires.tables.far) c.requires.rows;
 }
 
 pub returns-clause-tables : goal.returns-clause-tables

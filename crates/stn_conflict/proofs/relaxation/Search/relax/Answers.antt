@@ -1,14 +1,16 @@
-use Rattle.std.proofs.Common.{◌≡◌, ◌<◌, ◌∙◌, set, sym, ap, length, eqb-true, refl, arith}
+use Rattle.std.proofs.Common.{◌≡◌, ℕ, List, ◌<◌, ◌∙◌, set, sym, ap, length, eqb-true, refl, arith}
 use Rattle.std.specs.Prelude.{ℤ, is_some, pos, neg_ℤ, ◌+ℤ◌, ◌≤ℤ◌, ◌<ℤ◌}
 use Rattle.std.proofs.lemmas.Int.{ints}
 use Rattle.std.proofs.lemmas.Bool.{eqb-false, false≢true}
 use Rattle.std.proofs.lemmas.List.{get_or_read, length-set}
 use Rattle.stn_time.specs.Time.{horizon, IsWithinHorizon}
 use Rattle.stn_net.specs.Schedule.{times_of}
+use Rattle.stn_net.specs.Difference.{Difference}
+use Rattle.stn_conflict.specs.declared.links.Link.{Link}
 use Rattle.stn_conflict.specs.Arcs.{arc_of}
 use Rattle.stn_conflict.specs.Relaxation.{AreEstimates, room}
 use Rattle.stn_conflict.proofs.Tightness.{link_among}
-use Rattle.stn_conflict.proofs.Relaxing.{refused_at_start, refused_beyond, relaxed_estimates}
+use Rattle.stn_conflict.proofs.Relaxing.{refused_at_start, refused_beyond, relaxed_estimates, relaxed_now, relaxed_still, stale_before}
 use Rattle.stn_conflict.proofs.relaxation.Search.relax.Given.{Over}
 use Rattle.stn_conflict.proofs.relaxation.Search.relax.Goals as goal
 
@@ -112,9 +114,16 @@ returns-in_default-clause-refused g c = λ e.
     refused_beyond bounds c.args.self.now.start far c.args.link (times_of far a.from +ℤ a.weight) h c.requires.there refl most beyond
 
 -- the estimates after a fall
+record Fallen (bounds : List Difference) (start : ℕ) (far : List ℤ) (link : Link) (x : ℕ) (way : ℤ) : Type 0 where
+  estimates : AreEstimates bounds start (set far x way)
+  room : room (set far x way) < room far
+  there : x < length far
+  to : x ≡ (arc_of bounds link).to
+  is : way ≡ times_of far (arc_of bounds link).from +ℤ (arc_of bounds link).weight
+  less : way <ℤ times_of far x
+
 lowered : (g : Over) (c : goal.After-self-3-1 g)
-    → AreEstimates c.args.bounds.now c.args.self.now.start (set c.args.self.now.far.items c.from-end.result c.in-Some.lower)
-    × (room (set c.args.self.now.far.items c.from-end.result c.in-Some.lower) < room c.args.self.now.far.items)
+    → Fallen c.args.bounds.now c.args.self.now.start c.args.self.now.far.items c.args.link c.from-end.result c.in-Some.lower
 lowered g c =
     let far = c.args.self.now.far.items in
     let bounds = c.args.bounds.now in
@@ -138,28 +147,37 @@ lowered g c =
     let is : c.in-Some.lower ≡ times_of far a.from +ℤ a.weight = omega (arith, ints) in
     let less : c.in-Some.lower <ℤ times_of far a.to = omega (arith, ints) in
     let least : neg_ℤ horizon ≤ℤ c.in-Some.lower = omega (arith, ints) in
-    relaxed_estimates bounds c.args.self.now.start far c.args.link c.from-end.result c.in-Some.lower h c.requires.there to is
-    (λ same. eqb-false c.arc-arc.result.to c.args.self.now.start (sym c.if-eq.ensures) (c.arc-arc.ensures.to ∙ sym to ∙ same)) least (rw to less)
+    let (estimates, room) = relaxed_estimates bounds c.args.self.now.start far c.args.link c.from-end.result c.in-Some.lower h c.requires.there to is
+    (λ same. eqb-false c.arc-arc.result.to c.args.self.now.start (sym c.if-eq.ensures) (c.arc-arc.ensures.to ∙ sym to ∙ same)) least (rw to less) in
+    record { estimates = estimates; room = room; there = rw to ends.1; to = to; is = is; less = rw to less }
 
 pub returns : goal.returns
 returns g c =
     let tables = c.requires.search.tables in
-    let (estimates, less) = lowered g c in
+    let bounds = c.args.bounds.now in
+    let far = c.args.self.now.far.items in
+    let fresh = c.args.self.now.fresh.items in
+    let end = c.from-end.result in
+    let fallen = lowered g c in
+    let there' : end < length fresh = omega (arith, fallen.there, tables.fresh) in
     record {
       search = record {
         tables = record {
           few = tables.few;
           far = length-set c.args.self.now.far.items _ _;
-          outgoing = tables.outgoing;
           by = length-set c.args.self.now.by.items _ _ ∙ tables.by;
           fresh = length-set c.args.self.now.fresh.items _ _ ∙ tables.fresh;
         };
         from = refl;
-        estimates = estimates;
+        estimates = fallen.estimates;
       };
       refused = λ e. absurd (false≢true e);
-      less = λ e. less;
+      less = λ e. fallen.room;
       same = λ e. absurd (false≢true (sym e));
-      relaxed = λ e. absurd (false≢true (sym e));
+      kept = record {
+        stale = λ x stale. stale_before fresh end x there' stale;
+        relaxed = λ link relaxed there stale. relaxed_still bounds far fresh link end c.in-Some.lower fallen.there there' fallen.less relaxed stale;
+      };
+      relaxed = λ there stale. relaxed_now bounds far fresh c.args.link end c.in-Some.lower fallen.there there' fallen.to fallen.is stale;
       err = λ e. absurd (false≢true e);
     }

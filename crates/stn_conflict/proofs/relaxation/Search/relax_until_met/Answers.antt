@@ -1,47 +1,60 @@
-use Rattle.std.proofs.Common.{refl, subst}
+use Rattle.std.proofs.Common.{refl, subst, arith}
 use Rattle.std.proofs.lemmas.Bool.{false≢true}
 use Rattle.std.proofs.lemmas.Result.{err_from_is_err_and}
-use Rattle.stn_conflict.specs.Relaxation.{AreDistances}
+use Rattle.stn_conflict.specs.Relaxation.{AreDistances, AreRelaxed}
 use Rattle.stn_conflict.proofs.Relaxing.{settled}
-use Rattle.stn_conflict.proofs.Searches.{goes_on, own}
+use Rattle.stn_conflict.proofs.Searches.{goes_on, own, tables_of}
 use Rattle.stn_conflict.proofs.relaxation.Search.relax_until_met.Goals as goal
 
-pub loop-self-init : goal.loop-self-init
-loop-self-init g c = c.requires
+pub loop-event-init : goal.loop-event-init
+loop-event-init g c = record { search = c.requires.search; relaxed = c.requires.relaxed }
 
-pub relax_all-requires : goal.relax_all-requires
-relax_all-requires g c = own _ _ _ _ c.loop-self.invariant
+pub sweep-requires : goal.sweep-requires
+sweep-requires g c = record {
+  search = own _ _ _ _ c.loop-event.invariant.search;
+  rows = rw c.loop-event.invariant.search.tables.far c.requires.rows;
+  relaxed = c.loop-event.invariant.relaxed;
+}
 
-pub returns-in_err-relax_all : goal.returns-in_err-relax_all
-returns-in_err-relax_all g c =
+pub returns-in_err-event : goal.returns-in_err-event
+returns-in_err-event g c =
     let p = err_from_is_err_and c.from_residual.result c.from_residual.ensures.1 in
     record {
-      search = goes_on _ _ _ _ _ c.loop-self.invariant c.relax_all.ensures.search;
-      possible = rw p.1 ((λ e. absurd (false≢true e)), (λ has. absurd (c.in_err-relax_all.ensures.refused refl has)));
+      search = goes_on _ _ _ _ _ c.loop-event.invariant.search c.sweep.ensures.search;
+      possible = rw p.1 ((λ e. absurd (false≢true e)), (λ has. absurd (c.in_err-event.ensures.refused refl has)));
       distances = rw p.1 tt;
     }
 
-pub correct-requires : goal.correct-requires
-correct-requires g c = own _ _ _ _ c.relax_all.ensures.search
+pub goes_round-requires : goal.goes_round-requires
+goes_round-requires g c = record {
+  tables = tables_of _ _ c.sweep.ensures.search.tables;
+  named = c.sweep.ensures.search.estimates.named;
+  from = (let there = rw c.in-Some.is at c.in_ok-event.ensures.there in omega (arith, there, c.sweep.ensures.search.tables.far));
+}
 
-pub returns-in_err-correct : goal.returns-in_err-correct
-returns-in_err-correct g c =
-    let p = err_from_is_err_and c.from_residual-in_err-correct.result c.from_residual-in_err-correct.ensures.1 in
-    record {
-      search = goes_on _ _ _ _ _ (goes_on _ _ _ _ _ c.loop-self.invariant c.relax_all.ensures.search) c.correct.ensures.search;
-      possible = rw p.1 ((λ e. absurd (false≢true e)), (λ has. absurd (c.in_err-correct.ensures.refused refl has)));
-      distances = rw p.1 tt;
-    }
+pub returns-then-goes_round : goal.returns-then-goes_round
+returns-then-goes_round g c = record {
+  search = goes_on _ _ _ _ _ c.loop-event.invariant.search c.sweep.ensures.search;
+  possible = ((λ e. absurd (false≢true e)), (λ has. absurd (c.goes_round.ensures c.if-goes_round.true has)));
+  distances = tt;
+}
 
-pub loop-self-preserved : goal.loop-self-preserved
-loop-self-preserved g c = goes_on _ _ _ _ _ (goes_on _ _ _ _ _ c.loop-self.invariant c.relax_all.ensures.search) c.correct.ensures.search
+pub loop-event-preserved : goal.loop-event-preserved
+loop-event-preserved g c = record {
+  search = goes_on _ _ _ _ _ c.loop-event.invariant.search c.sweep.ensures.search;
+  relaxed = c.in_ok-event.ensures.relaxed;
+}
+
+pub loop-event-smaller : goal.loop-event-smaller
+loop-event-smaller g c = rw c.in-Some.is at c.in_ok-event.ensures.less
 
 pub returns : goal.returns
 returns g c =
-    let far = c.relax_all.new.self.far.items in
-    let all = settled c.args.bounds.now c.loop-self.self.start far c.relax_all.ensures.search.estimates (c.in_ok-relax_all.ensures.relaxed c.if-branch.false) in
+    let far = c.sweep.new.self.far.items in
+    let met : AreRelaxed c.args.bounds.now far = rw c.in_default.is at c.in_ok-event.ensures.met in
+    let all = settled c.args.bounds.now c.loop-event.self.start far c.sweep.ensures.search.estimates met in
     record {
-      search = goes_on _ _ _ _ _ c.loop-self.invariant c.relax_all.ensures.search;
+      search = goes_on _ _ _ _ _ c.loop-event.invariant.search c.sweep.ensures.search;
       possible = ((λ t. all.0), (λ has. refl));
-      distances = subst (λ s. AreDistances c.args.bounds.now s far) c.loop-self.invariant.from all.1;
+      distances = subst (λ s. AreDistances c.args.bounds.now s far) c.loop-event.invariant.search.from all.1;
     }
