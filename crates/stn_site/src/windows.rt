@@ -1,12 +1,16 @@
 ghost use Rattle.std.specs.Prelude.{◌≡◌, ℕ, ◌+◌, ◌≤◌, ◌++◌, List, length, IfOk, OnOk, OnErr, MatchOption};
+ghost use Rattle.stn_net.specs.Difference.{Difference};
 ghost use Rattle.stn_net.specs.Schedule.{HasSchedule};
 ghost use Rattle.stn_lift.specs.PlanSource.{events_of};
+ghost use Rattle.stn_conflict.specs.Distances.{AreDistancesFrom, AreDistancesTo};
 ghost use Rattle.stn_site.specs.Bounds.{all_bounds};
 ghost use Rattle.stn_site.specs.Report.{most_report, IsReport};
 ghost use Rattle.stn_site.specs.Windows.{AreWindows};
 
 use crate::site_plan::SitePlan;
-use std::alloc::{AllocError, Allocator};
+use std::alloc::Allocator;
+use stn_conflict::{Distances, distances};
+use stn_net::Event;
 use stn_time::{Memory, Ms};
 
 impl<A: Allocator + Copy> SitePlan<A> {
@@ -16,7 +20,13 @@ impl<A: Allocator + Copy> SitePlan<A> {
         ensures { IfOk result (λ found. MatchOption found (¬ HasSchedule (all_bounds self.now.source self.now.state))
             (λ windows. AreWindows (all_bounds self.now.source self.now.state) (events_of self.now.source) windows.items)) }
     {
-        Err(AllocError)
+        let live = self.live_bounds()?;
+        let base = self.base();
+        let origin = Event::origin();
+        match distances(self.alloc(), base.events(), base.bounds(), &live, origin)? {
+            Some(found) => Ok(Some(windows_of(self.alloc(), &found)?)),
+            None => Ok(None),
+        }
     }
 
     /// Appends the report: how many steps, events, live records and replaced ids there are; then, where
@@ -28,6 +38,25 @@ impl<A: Allocator + Copy> SitePlan<A> {
         ensures short { OnOk result (length out.new.items ≤ length out.old.items + most_report) }
         ensures kept { OnErr result (out.new.items ≡ out.old.items) }
     {
-        Err(AllocError)
+        match self.windows()? {
+            Some(windows) => self.report_with(Some(&windows), out),
+            None => self.report_with(None, out),
+        }
     }
+}
+
+// The windows of the origin and of so many events, in their order, by their distances from the origin and to it.
+fn windows_of<A: Allocator + Copy>(
+    alloc: A,
+    origin: &Distances<A>,
+) -> Result<Vec<(Ms, Ms), A>, Memory>
+    requires { length origin.now.to.items ≡ length origin.now.from.items }
+    ensures { (bounds : List Difference) (events : ℕ) → AreDistancesFrom bounds events 0 origin.now.from.items → AreDistancesTo bounds events 0 origin.now.to.items
+        → IfOk result (λ windows. AreWindows bounds events windows.items) }
+{
+    let mut windows = Vec::new(alloc);
+    for event in 0..origin.from.len() {
+        windows.push((-origin.to[event], origin.from[event]))?;
+    }
+    Ok(windows)
 }
