@@ -83,6 +83,15 @@ impl<'a> Listed<'a> {
         }
     }
 
+    // Whether a search is soonest done from the first event to the last: a plan's events mostly come in their order, so how
+    // early each can be follows from those before it, and how late from those after it.
+    pub fn first_onward(&self) -> bool {
+        match self.direction {
+            Direction::Forward => false,
+            Direction::Backward => true,
+        }
+    }
+
     pub fn arc(&self, link: Link) -> Arc
         requires { link.place < length self.now }
         ensures from { result.from ≡ (arc_of self.now link).from }

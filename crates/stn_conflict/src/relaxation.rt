@@ -138,7 +138,7 @@ impl<A: Allocator + Copy> Search<A> {
         ensures possible { IsOk result ↔ HasSchedule bounds.now }
         ensures distances { OnOk result (AreDistances bounds.now self.old.start self.new.far.items) }
     {
-        let mut onward = true;
+        let mut onward = bounds.first_onward();
         while let Some(event) = self.sweep(bounds, outgoing, onward)? {
             if self.goes_round(bounds, event) {
                 return Err(NoSchedule);

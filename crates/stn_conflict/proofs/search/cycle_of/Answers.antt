@@ -1,4 +1,4 @@
-use Rattle.std.proofs.Common.{length, ap, ◌∙◌, rules}
+use Rattle.std.proofs.Common.{rules}
 use Rattle.stn_conflict.proofs.search.cycle_of.Goals as goal
 
 pub first_refused-requires : goal.first_refused-requires

@@ -1,4 +1,4 @@
-use Rattle.std.proofs.Common.{◌≡◌, ◌++◌, neg_ℤ, sym, ap, ◌∙◌}
+use Rattle.std.proofs.Common.{◌++◌, neg_ℤ, sym, ap, ◌∙◌}
 use Rattle.stn_net.specs.Difference.{Difference}
 use Rattle.stn_conflict.specs.Arcs.{Arc, arc, bound_at}
 use Rattle.stn_conflict.proofs.Turned.{bound_listed, faced_ends}
