@@ -1,68 +1,116 @@
 -- The matrix of the plan's own bounds.
-use Rattle.std.proofs.Common.{◌≡◌, ℕ, ◌+◌, ◌-◌, ◌<◌, ◌≤◌, ◌↔◌, Bool, IsTrue, List, [], ◌∷◌, ◌++◌, length, take, drop, get_or, sym, ap, subst, ◌∙◌, arith, length-take, length-drop, add-zero}
-use Rattle.std.proofs.lemmas.List.{take_more, take_all, get_or-drop}
-use Rattle.std.proofs.lemmas.List.Elements.{All-take}
-use Rattle.stn_net.specs.Difference.{Difference}
+use Rattle.std.proofs.Common.{◌≡◌, ℕ, ◌+◌, ◌-◌, ◌<◌, ◌≤◌, ◌↔◌, Bool, IsTrue, List, [], ◌∷◌, ◌++◌, length, map, take, drop, get_or, sym, ap, subst, ◌∙◌, arith, length-take, length-drop, append_assoc, append-nil}
+use Rattle.std.specs.Prelude.{All}
+use Rattle.std.specs.List.Sorted.{IsPermutation}
+use Rattle.std.proofs.lemmas.List.{take_more, take_all, take-append-drop, length-map, get_or-map}
+use Rattle.std.proofs.lemmas.List.Sorted.{All-permutation, IsPermutation-sym, IsPermutation-append_right}
+use Rattle.stn_time.proofs.Each.{All-right}
+use Rattle.stn_net.specs.Difference.{Difference, NamesEvents}
 use Rattle.stn_net.specs.Horizon.{horizon_bounds}
-use Rattle.stn_net.specs.Schedule.{Meets, HasSchedule}
+use Rattle.stn_net.specs.Schedule.{HasSchedule, IsSchedule}
 use Rattle.stn_matrix.specs.Table.{Table}
 use Rattle.stn_matrix.specs.Tightest.{IsExact}
 use Rattle.stn_lift.specs.PlanSource.{PlanSource, base_bounds, events_of, planned_of, IsSoundSource}
 use Rattle.stn_net.proofs.Horizons.{length-horizon_bounds}
+use Rattle.stn_replica.specs.declared.matrices.PlannedBound.{PlannedBound}
+use Rattle.stn_replica.proofs.Schedules.{schedule_before, schedule_permuted, exact_permuted}
 
 -- the bounds are no fewer than the events
 pub horizon_within : (source : PlanSource) → IsSoundSource source → events_of source ≤ length (base_bounds source)
 horizon_within source sound =
     omega (arith, ap length sound.horizon, length-horizon_bounds (events_of source), length-take (events_of source) (base_bounds source))
 
--- the matrix has taken the first bounds
-pub record IsOpenedTo (source : PlanSource) (count : ℕ) (table : Table) : Type 0 where
-  pub exact : IsExact (take (events_of source + count) (base_bounds source)) table
+-- the bounds of a list, in its order
+abbrev pub bounds_in : List PlannedBound → List Difference
+bounds_in found = map (λ planned. planned.bound) found
+
+-- the bounds after those of the horizon name the events of the plan
+pub rest_named : (source : PlanSource) → IsSoundSource source → All (NamesEvents (events_of source)) (drop (events_of source) (base_bounds source))
+rest_named source sound =
+    All-right (NamesEvents (events_of source)) (take (events_of source) (base_bounds source)) (drop (events_of source) (base_bounds source))
+    (subst (All (NamesEvents (events_of source))) (sym (take-append-drop (events_of source) (base_bounds source))) sound.named)
+
+-- these are the bounds beside the horizon, in some order
+abbrev pub AreOthers : PlanSource → List Difference → Type 0
+AreOthers source others = IsPermutation (drop (events_of source) (base_bounds source)) others
+
+-- a slice of the bounds from that place on
+pub slice_is : (all base : List Difference) (from first : ℕ) → all ≡ base → from ≡ first → drop first base ≡ take (length all - from) (drop from all)
+slice_is all base from first same here = rw (← same, ← here) (sym (take_all (length all - from) (drop from all) (omega (arith, length-drop from all))))
+
+pub others_are : (source : PlanSource) (all : List Difference) (from : ℕ) (found items : List PlannedBound) → all ≡ base_bounds source → from ≡ events_of source → items ≡ found
+    → IsPermutation (take (length all - from) (drop from all)) (bounds_in found) → AreOthers source (bounds_in items)
+others_are source all from found items same here is moved =
+    rw is (subst (λ rest. IsPermutation rest (bounds_in found)) (sym (slice_is all (base_bounds source) from (events_of source) same here)) moved)
+
+-- each of the others names events of the plan
+pub other_named : (source : PlanSource) (others : List Difference) (count : ℕ) (bound : Difference) (table : Table) → IsSoundSource source → AreOthers source others
+    → count < length others → bound ≡ get_or others count bound → table.events ≡ events_of source → NamesEvents table.events bound
+other_named source others count bound table sound moved within here events =
+    let named = All-permutation (NamesEvents (events_of source)) (drop (events_of source) (base_bounds source)) others moved (rest_named source sound) in
+    subst (λ n. NamesEvents n bound) (sym events) (subst (NamesEvents (events_of source)) (sym here) (named count bound within))
+
+-- the bound at a place of a list
+pub other_at : (found : List PlannedBound) (count : ℕ) (planned : PlannedBound) → count < length found → planned ≡ get_or found count planned
+    → (count < length (bounds_in found)) × (planned.bound ≡ get_or (bounds_in found) count planned.bound)
+other_at found count planned within here = (
+  omega (arith, length-map found (λ (p : PlannedBound). p.bound)),
+  ap (λ (p : PlannedBound). p.bound) here ∙ sym (get_or-map (λ (p : PlannedBound). p.bound) found count planned planned.bound within),
+)
+
+pub past_all : (found : List PlannedBound) (count : ℕ) → length found ≤ count → length (bounds_in found) ≤ count
+past_all found count last = omega (arith, length-map found (λ (p : PlannedBound). p.bound))
+
+-- the horizon bounds and the others are all, in some order
+all_permuted : (source : PlanSource) (others : List Difference) → IsSoundSource source → AreOthers source others → IsPermutation (base_bounds source) (horizon_bounds (events_of source) ++ others)
+all_permuted source others sound moved =
+    let n : ℕ = events_of source in
+    let parts : horizon_bounds n ++ drop n (base_bounds source) ≡ base_bounds source = ap (λ front. front ++ drop n (base_bounds source)) (sym sound.horizon) ∙ take-append-drop n (base_bounds source) in
+    subst (λ all. IsPermutation all (horizon_bounds n ++ others)) parts (IsPermutation-append_right (horizon_bounds n) (drop n (base_bounds source)) others moved)
+
+-- the matrix has taken the first of the others
+pub record IsOpenedTo (source : PlanSource) (others : List Difference) (count : ℕ) (table : Table) : Type 0 where
+  pub exact : IsExact (horizon_bounds (events_of source) ++ take count others) table
   pub events : table.events ≡ events_of source
 
-pub opened : (source : PlanSource) → IsSoundSource source → (table : Table) → IsExact (horizon_bounds (events_of source)) table → table.events ≡ events_of source → IsOpenedTo source 0 table
-opened source sound table exact events = record {
-  exact = subst (λ all. IsExact all table) (sym (ap (λ n. take n (base_bounds source)) (add-zero (events_of source)) ∙ sound.horizon)) exact;
+pub opened : (source : PlanSource) (others : List Difference) (table : Table) → IsExact (horizon_bounds (events_of source)) table → table.events ≡ events_of source → IsOpenedTo source others 0 table
+opened source others table exact events = record {
+  exact = subst (λ all. IsExact all table) (sym (append-nil (horizon_bounds (events_of source)))) exact;
   events = events;
 }
 
 -- the planned times are a schedule of the first bounds too
-first_possible : (source : PlanSource) → IsSoundSource source → (count : ℕ) → HasSchedule (take count (base_bounds source))
-first_possible source sound count = (
-  planned_of source,
-  record { origin = sound.possible.origin; met = All-take (Meets (planned_of source)) count (base_bounds source) sound.possible.met },
-)
-
--- the bound at a place of those from a place on
-pub item_at : (all base : List Difference) (from first place : ℕ) (bound : Difference) → all ≡ base → from ≡ first
-    → place < length (take (length all - from) (drop from all)) → bound ≡ get_or (take (length all - from) (drop from all)) place bound
-    → (first + place < length base) × (bound ≡ get_or base (first + place) bound)
-item_at all base from first place bound same here within is =
-    let whole : take (length all - from) (drop from all) ≡ drop from all = take_all (length all - from) (drop from all) (omega (arith, length-drop from all)) in
-    let there : place < length (drop from all) = rw whole at within in
-    let given : bound ≡ get_or (drop from all) place bound = rw whole at is in
-    rw (← same, ← here) (omega (arith, length-drop from all), given ∙ get_or-drop from all place bound)
+first_possible : (source : PlanSource) (others : List Difference) → IsSoundSource source → AreOthers source others → (count : ℕ) → HasSchedule (horizon_bounds (events_of source) ++ take count others)
+first_possible source others sound moved count =
+    let front : List Difference = horizon_bounds (events_of source) in
+    let whole : (front ++ take count others) ++ drop count others ≡ front ++ others = append_assoc front (take count others) (drop count others) ∙ ap (λ rest. front ++ rest) (take-append-drop count others) in (
+      planned_of source,
+      schedule_before (front ++ take count others) (drop count others) (planned_of source)
+          (subst (λ all. IsSchedule all (planned_of source)) (sym whole)
+          (schedule_permuted (base_bounds source) (front ++ others) (all_permuted source others sound moved) (planned_of source) sound.possible)),
+    )
 
 -- one bound more
-pub opened_more : (source : PlanSource) → IsSoundSource source → (count : ℕ) (bound : Difference) (old new : Table) (fits : Bool)
-    → events_of source + count < length (base_bounds source) → bound ≡ get_or (base_bounds source) (events_of source + count) bound → IsOpenedTo source count old
+pub opened_more : (source : PlanSource) (others : List Difference) → IsSoundSource source → AreOthers source others
+    → (count : ℕ) (bound : Difference) (old new : Table) (fits : Bool)
+    → count < length others → bound ≡ get_or others count bound → IsOpenedTo source others count old
     → ((bounds : List Difference) → IsExact bounds old → (IsTrue fits ↔ HasSchedule (bounds ++ bound ∷ [])))
     → ((bounds : List Difference) → IsExact bounds old → IsTrue fits → IsExact (bounds ++ bound ∷ []) new)
-    → new.events ≡ old.events → IsOpenedTo source (count + 1) new
-opened_more source sound count bound old new fits within here opened possible exact events =
-    let all : List Difference = base_bounds source in
-    let n : ℕ = events_of source + count in
-    let more : take (n + 1) all ≡ take n all ++ bound ∷ [] = take_more all n bound within ∙ ap (λ b. take n all ++ b ∷ []) (sym here) in
-    let does_fit : IsTrue fits = (possible (take n all) opened.exact).1 (subst (λ l. HasSchedule l) more (first_possible source sound (n + 1))) in
-    let same : n + 1 ≡ events_of source + (count + 1) = omega arith in
+    → new.events ≡ old.events → IsOpenedTo source others (count + 1) new
+opened_more source others sound moved count bound old new fits within here opened possible exact events =
+    let front : List Difference = horizon_bounds (events_of source) in
+    let more : front ++ take (count + 1) others ≡ (front ++ take count others) ++ bound ∷ [] =
+    ap (λ rest. front ++ rest) (take_more others count bound within ∙ ap (λ b. take count others ++ b ∷ []) (sym here)) ∙ sym (append_assoc front (take count others) (bound ∷ [])) in
+    let does_fit : IsTrue fits = (possible (front ++ take count others) opened.exact).1 (subst HasSchedule more (first_possible source others sound moved (count + 1))) in
     record {
-      exact = subst (λ l. IsExact l new) (sym more ∙ ap (λ k. take k all) same) (exact (take n all) opened.exact does_fit);
+      exact = subst (λ all. IsExact all new) (sym more) (exact (front ++ take count others) opened.exact does_fit);
       events = events ∙ opened.events;
     }
 
 -- after the last, all bounds are taken
-pub all_opened : (source : PlanSource) (all : List Difference) (from place : ℕ) (table : Table) → all ≡ base_bounds source → from ≡ events_of source
-    → length (take (length all - from) (drop from all)) ≤ place → IsOpenedTo source place table → IsExact (base_bounds source) table
-all_opened source all from place table same here last opened =
-    let past : length all ≤ from + place = omega (arith, length-take (length all - from) (drop from all), length-drop from all) in
-    subst (λ l. IsExact l table) (take_all (events_of source + place) (base_bounds source) (rw (← same, ← here) past)) opened.exact
+pub all_opened : (source : PlanSource) (others : List Difference) (count : ℕ) (table : Table) → IsSoundSource source → AreOthers source others
+    → length others ≤ count → IsOpenedTo source others count table → IsExact (base_bounds source) table
+all_opened source others count table sound moved last opened =
+    let all : List Difference = horizon_bounds (events_of source) ++ others in
+    exact_permuted all (base_bounds source) table (IsPermutation-sym (base_bounds source) all (all_permuted source others sound moved))
+    (subst (λ rest. IsExact (horizon_bounds (events_of source) ++ rest) table) (take_all count others last) opened.exact)

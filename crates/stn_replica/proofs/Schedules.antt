@@ -2,6 +2,8 @@
 use Rattle.std.proofs.Common.{ℕ, ℤ, Bool, true, false, ◌↔◌, List, [], ◌∷◌, ◌++◌, All, IsTrue, refl}
 use Rattle.std.proofs.lemmas.Bool.{false≢true}
 use Rattle.std.proofs.lemmas.List.Elements.{All-append}
+use Rattle.std.proofs.lemmas.List.Sorted.{All-permutation, IsPermutation-sym}
+use Rattle.std.specs.List.Sorted.{IsPermutation}
 use Rattle.stn_time.proofs.Each.{All-left, All-right}
 use Rattle.stn_net.specs.Difference.{Difference, NamesEvents}
 use Rattle.stn_net.specs.Schedule.{IsSchedule, HasSchedule, Meets}
@@ -21,6 +23,16 @@ met_behind bounds more time s = All-right (Meets time) bounds more s.met
 -- a schedule that meets more bounds is one of all
 pub schedule_with : (bounds more : List Difference) (time : ℕ → ℤ) → IsSchedule bounds time → All (Meets time) more → IsSchedule (bounds ++ more) time
 schedule_with bounds more time s met = record { origin = s.origin; met = All-append (Meets time) bounds more s.met met }
+
+-- bounds in another order have the same schedules
+pub schedule_permuted : (these those : List Difference) → IsPermutation these those → (time : ℕ → ℤ) → IsSchedule these time → IsSchedule those time
+schedule_permuted these those moved time s = record { origin = s.origin; met = All-permutation (Meets time) these those moved s.met }
+
+-- a table that is exact for bounds is so for them in another order
+pub exact_permuted : (these those : List Difference) (table : Table) → IsPermutation these those → IsExact these table → IsExact those table
+exact_permuted these those table moved exact =
+    exact_same_schedules these those table (schedule_permuted these those moved) (schedule_permuted those these (IsPermutation-sym these those moved))
+    (All-permutation (NamesEvents table.events) these those moved exact.named) exact
 
 -- what is settled of bounds is settled of others with the same schedules
 pub settled_same_schedules : (these those : List Difference) (table : Table) (possible : Bool)
