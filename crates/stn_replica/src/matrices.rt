@@ -42,8 +42,9 @@ pub fn opening_matrix<A: Allocator + Copy>(alloc: A, base: &Base<A>) -> Result<M
     Ok(matrix)
 }
 
-// The bounds, those whose events the plan has closest together first. Where many are as close, as in a row of equal steps, the order
-// of their events' numbers by the lowest digits makes short chains grow alike, so that each bound changes few entries of a matrix.
+// The bounds, those whose events the plan has closest together first. Of many that are as close, as in a row of equal steps, those
+// of every other event come first: so chains of events of about the same length are joined, and each bound changes few entries of a
+// matrix. Joined one event after another, a row of 256 steps takes three times as many instructions.
 fn closest_first<A: Allocator + Copy>(
     alloc: A,
     base: &Base<A>,
