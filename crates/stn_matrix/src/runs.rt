@@ -7,11 +7,13 @@ ghost use Rattle.stn_matrix.specs.Way.{IsWhole, AreNearer, AreRuns, IsOnWay};
 
 use crate::square::{Arc, entry_of};
 
-// How many columns begin a run: with eight `conflict` takes seven in a hundred more instructions; with
+// How many columns begin a run. Without runs `windows` takes 734 million instructions in place of 361, and `conflict` 948 in place of
+// 515. With eight `conflict` takes seven in a hundred more instructions; with
 // sixteen it takes two less, but `merges` and `dense` take more.
 const HUBS: usize = 12;
 
-// Every eighth row is asked whether it changes: to ask them all takes longer than runs save in `dense`.
+// Every eighth row is asked whether it changes. To put the columns into runs without asking takes six in a hundred more instructions
+// in `windows`, and eleven in a hundred in the matrices of `merges`.
 const SAMPLED: usize = 8;
 
 // If so many of those asked change, the columns are put into runs; half as many or twice as many take
@@ -25,7 +27,6 @@ const MANY: usize = 8;
 pub(crate) struct Runs<'a> {
     pub columns: &'a [u16],
     pub ends: &'a [u16],
-    pub pruned: bool,
 }
 
 // A column, and by how much it comes nearer.
@@ -35,14 +36,14 @@ struct Hub {
     gain: i64,
 }
 
-// Puts the columns into runs, where many rows change; else each is a run of its own. Answers which.
+// Puts the columns into runs, where many rows change; else each is a run of its own.
 pub(crate) fn arrange(
     entries: &[i64],
     events: usize,
     arc: &Arc,
     columns: &mut [u16],
     ends: &mut [u16],
-) -> bool
+)
     requires whole { IsWhole events entries.now }
     requires closed { IsClosed events (entry entries.now events) }
     requires from { arc.now.from ≤ events }
@@ -54,11 +55,9 @@ pub(crate) fn arrange(
     ensures runs { AreRuns (entry entries.now events) arc.now.to columns.new ends.new }
 {
     count_up(ends);
-    let many = changes_many_rows(entries, events, arc);
-    if many {
+    if changes_many_rows(entries, events, arc) {
         group(entries, events, arc, columns, ends);
     }
-    many
 }
 
 // Writes the number of the next place to each place.

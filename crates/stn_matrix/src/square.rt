@@ -14,10 +14,6 @@ use stn_time::Ms;
 // The most columns: the origin's, and one for each event.
 const MOST_COLUMNS: usize = MOST_EVENTS as usize + 1;
 
-// Where a fifth of the columns can change, a row is written whole, by vectors; a third or a half in its
-// place changes the instructions of the benchmarks by one in a hundred.
-const WHOLE_PART: usize = 5;
-
 // One event comes at most so long after another.
 #[derive(Clone, Copy)]
 pub(crate) struct Arc {
@@ -107,11 +103,10 @@ fn shorten(entries: &mut [i64], events: usize, arc: Arc)
     let count = nearer_columns(entries, events, arc, &mut columns);
     let columns = &mut columns[..count];
     let ends = &mut ends[..count];
-    let pruned = arrange(entries, events, &arc, columns, ends);
+    arrange(entries, events, &arc, columns, ends);
     let runs = Runs {
         columns: &*columns,
         ends: &*ends,
-        pruned,
     };
     for row in 0..=events {
         let through = entry_of(entries, events, row, from) + weight;
@@ -166,32 +161,6 @@ fn shorten_row(
         ⊎ (entry entries.old events row y ≤ℤ (through +ℤ entry entries.old events by y)) }
     ensures { IsRowShortened events (entry entries.old events) (entry entries.new events) row by through }
 {
-    if runs.pruned || runs.columns.len() < events / WHOLE_PART {
-        shorten_runs(entries, events, row, by, through, runs);
-    } else {
-        shorten_all(entries, events, row, by, through);
-    }
-}
-
-// Shortens each entry of a row, of which only the columns of the runs can change.
-fn shorten_runs(
-    entries: &mut [i64],
-    events: usize,
-    row: usize,
-    by: usize,
-    through: i64,
-    runs: Runs<'_>,
-)
-    requires whole { IsWhole events entries.old }
-    requires row { row ≤ events }
-    requires by { by ≤ events }
-    requires apart { row ≢ by }
-    requires ways { (y : ℕ) → y ≤ events → IsInReach (through +ℤ entry entries.old events by y) }
-    requires runs { AreRunsOf events (entry entries.old events) row by through runs.columns.now runs.ends.now }
-    requires left_out { (y : ℕ) → y ≤ events → Contains runs.columns.now y
-        ⊎ (entry entries.old events row y ≤ℤ (through +ℤ entry entries.old events by y)) }
-    ensures { IsRowShortened events (entry entries.old events) (entry entries.new events) row by through }
-{
     let mut place = 0;
     while place < runs.columns.len() {
         let column = usize::from(runs.columns[place]);
@@ -203,44 +172,6 @@ fn shorten_runs(
             place = usize::from(runs.ends[place]);
         }
     }
-}
-
-// Shortens each entry of a row: a loop that the compiler turns into vectors, as long as it stands
-// alone.
-#[inline(never)]
-fn shorten_all(entries: &mut [i64], events: usize, row: usize, by: usize, through: i64)
-    requires whole { IsWhole events entries.old }
-    requires row { row ≤ events }
-    requires by { by ≤ events }
-    requires ways { (y : ℕ) → y ≤ events → IsInReach (through +ℤ entry entries.old events by y) }
-    ensures { IsRowShortened events (entry entries.old events) (entry entries.new events) row by through }
-{
-    for column in 0..events + 1 {
-        shorten_entry(entries, events, row, by, through, column);
-    }
-}
-
-// Shortens the entry in a row and a column by way of an event.
-#[inline]
-fn shorten_entry(
-    entries: &mut [i64],
-    events: usize,
-    row: usize,
-    by: usize,
-    through: i64,
-    column: usize,
-)
-    requires whole { IsWhole events entries.old }
-    requires row { row ≤ events }
-    requires by { by ≤ events }
-    requires column { column ≤ events }
-    requires way { IsInReach (through +ℤ entry entries.old events by column) }
-    ensures { IsWritten events (entry entries.old events) (entry entries.new events) row column
-        (int_min (entry entries.old events row column) (through +ℤ entry entries.old events by column)) }
-{
-    let way = through + entry_of(entries, events, by, column);
-    let own = entry_of(entries, events, row, column);
-    set_entry(entries, events, row, column, own.min(way));
 }
 
 // The entry in a row and a column.

@@ -62,9 +62,9 @@ shorten_row-requires-clause-left_out c =
     let start_within = closed_within c.args.events old c.requires.closed row arc.from c.loop-row-test.true c.requires.from in
     let through = to_z w64 (of_z w64 (to_z w64 (of_z w64 c.entry_of-in-loop-row.result) +ℤ to_z w64 (of_z w64 c.get-weight.result))) in
     let is : through ≡ (new row arc.from +ℤ arc.weight) = omega (arith, ints) in
-    let columns = c.arrange-pruned.new.columns in
+    let columns = c.arrange.new.columns in
     rw to_is (row_left_out c.args.events old new arc.from arc.to arc.weight row columns through c.loop-row.invariant
-    c.requires.closed c.requires.from c.requires.to c.requires.round c.loop-row-test.true is c.arrange-pruned.ensures.nearer)
+    c.requires.closed c.requires.from c.requires.to c.requires.round c.loop-row-test.true is c.arrange.ensures.nearer)
 
 pub shorten_row-requires-clause-runs : goal.shorten_row-requires-clause-runs
 shorten_row-requires-clause-runs c =
@@ -72,7 +72,7 @@ shorten_row-requires-clause-runs c =
     let new = entry c.loop-row.entries c.args.events in
     let arc = c.args.arc in
     let to_is = c.from-to.ensures ∙ c.number-2.ensures.value in
-    let nearer = c.arrange-pruned.ensures.nearer in
+    let nearer = c.arrange.ensures.nearer in
     let from_is = c.from-from.ensures ∙ c.number.ensures.value in
     let start : c.entry_of-in-loop-row.result ≡ new c.loop-row.row arc.from = rw from_is at c.entry_of-in-loop-row.ensures in
     let weight = c.get-weight.ensures.value in
@@ -81,8 +81,8 @@ shorten_row-requires-clause-runs c =
     let start_within = closed_within c.args.events old c.requires.closed c.loop-row.row arc.from c.loop-row-test.true c.requires.from in
     let through = to_z w64 (of_z w64 (to_z w64 (of_z w64 c.entry_of-in-loop-row.result) +ℤ to_z w64 (of_z w64 c.get-weight.result))) in
     let is : through ≡ (new c.loop-row.row arc.from +ℤ arc.weight) = omega (arith, ints) in
-    rw to_is (runs_of_row c.args.events old new arc.from arc.to arc.weight c.loop-row.row through c.arrange-pruned.new.columns c.arrange-pruned.new.ends c.loop-row.invariant
-    c.requires.closed c.requires.from c.requires.to c.requires.round c.loop-row-test.true is nearer.within c.arrange-pruned.ensures.runs)
+    rw to_is (runs_of_row c.args.events old new arc.from arc.to arc.weight c.loop-row.row through c.arrange.new.columns c.arrange.new.ends c.loop-row.invariant
+    c.requires.closed c.requires.from c.requires.to c.requires.round c.loop-row-test.true is nearer.within c.arrange.ensures.runs)
 
 pub loop-row-preserved : goal.loop-row-preserved
 loop-row-preserved c =

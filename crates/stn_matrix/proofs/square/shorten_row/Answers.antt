@@ -3,7 +3,7 @@ use Rattle.std.specs.Int.{int_min}
 use Rattle.std.proofs.lemmas.Int.{ints, clamps, to_z-of_z}
 use Rattle.stn_matrix.specs.Table.{entry}
 use Rattle.stn_matrix.proofs.Entries.{shortened_column, shortened_run, shortened_columns, written_same}
-use Rattle.stn_matrix.proofs.square.shorten_runs.Goals as goal
+use Rattle.stn_matrix.proofs.square.shorten_row.Goals as goal
 
 pub overflow_add-way : goal.overflow_add-way
 overflow_add-way c =

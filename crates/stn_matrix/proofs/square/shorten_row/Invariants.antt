@@ -1,7 +1,7 @@
 use Rattle.std.proofs.Common.{◌≤◌, ◌-◌, length}
 use Rattle.stn_matrix.specs.Table.{entry}
 use Rattle.stn_matrix.proofs.Entries.{AreShortened}
-use Rattle.stn_matrix.proofs.square.shorten_runs.Given as goal
+use Rattle.stn_matrix.proofs.square.shorten_row.Given as goal
 
 abbrev pub invariant-loop-place : goal.invariant-loop-place
 invariant-loop-place l = record {
