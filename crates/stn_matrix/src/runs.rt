@@ -7,9 +7,9 @@ ghost use Rattle.stn_matrix.specs.Way.{IsWhole, AreNearer, AreRuns, IsOnWay};
 
 use crate::square::{Arc, entry_of};
 
-// How many columns begin a run. Without runs `windows` takes 734 million instructions in place of 361, and `conflict` 948 in place of
-// 515. With eight `conflict` takes seven in a hundred more instructions; with
-// sixteen it takes two less, but `merges` and `dense` take more.
+// How many columns begin a run. Without runs the bounds of `windows` take 1,108 million instructions in place of 361, and those of
+// `conflict` 1,332 in place of 515. With eight `conflict` takes seven in a hundred more instructions; with sixteen it takes two less,
+// but `merges` and `dense` take more.
 const HUBS: usize = 12;
 
 // Every eighth row is asked whether it changes. To put the columns into runs without asking takes six in a hundred more instructions
