@@ -7,14 +7,15 @@ PROGRAM is the program `stn`, DOMAIN and PLAN are a planner's files. T is a time
 One run goes like this:
 
 - `loosen` makes a log of the plan, in which each step may end up to `--early` earlier and up to `--late` later.
-- The driver starts a step as soon as `next` says that it may.
-- Each step ends when the world says so: its planned duration, and a random time within the tolerance.
-- Each event that takes place is recorded with `done`.
+- The driver reads the clock and asks `ready` which events may come next. It waits until the first of them that it can
+  start may start, and starts that step; or it waits until the machine says that a step has ended.
+- Each event that takes place is recorded with `done`, at the time that the clock showed.
 
-The run ends with `all done`, or with the event that is overdue. The clock is simulated: no one waits. With `--seeds=N`
-there are N runs, from SEED on (1 if it is not given), and a line at the end counts those that came to `all done`.
+The run ends with `all done`, or with `overdue` and the event that can't take place any more, or with `conflict`. The
+machine and its clock are simulated: no one waits. With `--seeds=N` there are N runs, from SEED on (1 if it is not
+given), and a line at the end counts those that came to `all done`.
 
-To drive a real machine, replace the class World: start_step sends the command, and next_end waits for the machine.
+To drive a real machine, write a class with the three methods of SimulatedMachine; real_time.py has a small one.
 """
 import argparse
 import random
@@ -38,7 +39,7 @@ def time_text(millis):
 
 
 class Log:
-    """A log of the plan, and the commands on it."""
+    """A log of a plan, and the commands on it."""
 
     def __init__(self, program, path):
         self.program = program
@@ -53,18 +54,13 @@ class Log:
             sys.exit(f"{command} {' '.join(words)}: {(done.stdout + done.stderr).strip()}")
         return done.stdout.splitlines()
 
-    def windows(self):
-        """The earliest and the latest time of each event."""
-        words = [line.split() for line in self.ask("report")[3:]]
-        return {event: (millis_of(first), millis_of(last)) for event, first, last, *_ in words}
-
     def copy(self, path):
         shutil.copyfile(self.path, path)
         return Log(self.program, path)
 
 
-class World:
-    """What the driver doesn't choose: when a step ends. This one is simulated."""
+class SimulatedMachine:
+    """A machine that does the steps of a plan, and its clock. Each step ends at a random time within the tolerance."""
 
     def __init__(self, durations, early, late, seed):
         self.durations = durations
@@ -72,61 +68,58 @@ class World:
         self.late = late
         self.chance = random.Random(seed)
         self.ends = {}
+        self.time = 0
 
-    def start_step(self, step, now):
-        """Starts a step. Only the world knows when it will end."""
+    def now(self):
+        """What the clock shows: milliseconds since the origin."""
+        return self.time
+
+    def start_step(self, step):
+        """Starts a step. Only the machine knows when it will end."""
         duration = self.durations[step] + self.chance.randint(-self.early, self.late)
-        self.ends[step] = now + max(duration, 0)
+        self.ends[step] = self.time + max(duration, 0)
 
-    def next_end(self):
-        """The step that ends first of those that are running, and when; None if none is running."""
-        return min(((end, step) for step, end in self.ends.items()), default=None)
-
-    def end_step(self, step):
+    def wait_until(self, time):
+        """Waits until the clock shows a time. If a step ends before that, it waits no longer, and returns when the step
+        ended, and the step."""
+        end, step = min(((end, step) for step, end in self.ends.items()), default=(None, None))
+        if step is None or end > time:
+            self.time = max(self.time, time)
+            return None
         del self.ends[step]
+        self.time = max(self.time, end)
+        return end, step
 
 
 def planned_durations(program, domain, plan, folder):
-    """The duration of each step, by the log of the exact plan: there it is the same in every schedule."""
+    """The duration of each step, in milliseconds, as `steps` prints it of the exact plan."""
     log = Log(program, folder / "exact.log")
     log.ask("init", domain, plan)
-    windows = log.windows()
-    return {event[1:]: windows["e" + event[1:]][0] - first for event, (first, _) in windows.items() if event[0] == "s"}
+    return {words[0]: millis_of(words[-1]) for words in (line.split() for line in log.ask("steps"))}
 
 
-def next_start(log, running, now):
-    """What `next` says if the steps that are running go on for as long as they may.
+def run(log, machine, tell):
+    """Runs the plan of a log on a machine. Returns why the run ended: `all done`, `overdue` and an event, or `conflict`."""
 
-    `next` names one event, the first that may take place. If that is the end of a step that is still running, a start
-    may be hidden after it. So we ask a copy of the log, in which each of these steps ends as late as it can.
-    """
-    windows = log.windows()
-    trial = log.copy(log.path.with_suffix(".trial"))
-    for step in running:
-        trial.ask("add", "z", "e" + step, "--lo=" + time_text(windows["e" + step][1]))
-    return trial.ask("next", time_text(now))[0]
+    def record(event, time):
+        log.ask("done", event, time_text(time))
+        tell(f"{time_text(time)} {event}")
 
-
-def run(log, world, tell):
-    """Runs the plan: the last line of `next`, `all done` or why the run can't go on."""
-    now = 0
     while True:
-        answer = log.ask("next", time_text(now))[0]
-        if not answer.startswith("run "):
-            return answer
-        if answer.split()[2][1:] in world.ends:
-            answer = next_start(log, world.ends, now)
-        _, time, event = answer.split()
-        end = world.next_end()
-        if event[0] == "s" and (end is None or millis_of(time) < end[0]):
-            now = millis_of(time)
-            world.start_step(event[1:], now)
-        else:
-            now, step = end
-            world.end_step(step)
-            event = "e" + step
-        log.ask("done", event, time_text(now))
-        tell(f"{time_text(now)} {event}")
+        ready = [line.split() for line in log.ask("ready", time_text(machine.now()))]
+        if len(ready[0]) < 3:
+            return " ".join(ready[0])
+        # Lines are in order of the first time, and each has the same last time.
+        start = next((line for line in ready if line[0][0] == "s"), None)
+        last = millis_of(ready[0][2])
+        ended = machine.wait_until(millis_of(start[1]) if start else last + 1)
+        if ended:
+            time, step = ended
+            record("e" + step, time)
+        elif start and machine.now() <= last:
+            now = machine.now()
+            machine.start_step(start[0][1:])
+            record(start[0], now)
 
 
 def main():
@@ -150,7 +143,7 @@ def main():
         loose.ask("loosen", words.domain, words.plan, "--early=" + time_text(early), "--late=" + time_text(late))
         for seed in range(words.first, words.first + words.seeds):
             log = loose.copy(folder / "run.log")
-            end = run(log, World(durations, early, late, seed), tell)
+            end = run(log, SimulatedMachine(durations, early, late, seed), tell)
             complete += end == "all done"
             print(f"seed {seed}: {end}")
     print(f"{complete} of {words.seeds} runs came to `all done`")
