@@ -29,6 +29,10 @@ word_rule name = record (new_rule name) { required = true }
 abbrev pub number_rule : Text → ℕ → ℕ → Rule
 number_rule name least most = record (word_rule name) { parser = Some (parser.Unsigned least most) }
 
+-- a word that may be left out
+abbrev pub maybe_rule : Text → Rule
+maybe_rule name = new_rule name
+
 -- any number of words, none too
 abbrev pub many_rule : Text → Rule
 many_rule name = record (new_rule name) { range = Some (record { start_inclusive = 0; end_inclusive = usize_max }) }
@@ -70,6 +74,7 @@ commands = command (codes "run") []
     ∷ on_log (codes "check") (many_rule (codes "TIME") ∷ [])
     ∷ on_log (codes "rehearse") (word_rule (codes "NOW") ∷ [])
     ∷ on_log (codes "draw") []
+    ∷ command (codes "explain") (maybe_rule (codes "CODE") ∷ [])
     ∷ on_log (codes "serve") (word_rule (codes "ADDR") ∷ number_rule (codes "COUNT") 1 most_connections ∷ number_option_rule (codes "seconds") 1 most_seconds ∷ [])
     ∷ on_log (codes "send") (word_rule (codes "ADDR") ∷ number_option_rule (codes "seconds") 1 most_seconds ∷ [])
     ∷ []

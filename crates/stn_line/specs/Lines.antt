@@ -66,6 +66,7 @@ IsLineOf (line.Bounds log) name rows = (name ≡ codes "bounds") × IsOnLog log 
 IsLineOf (line.Check log times) name rows = (name ≡ codes "check") × IsOnLog log rows × IsWords (codes "TIME") times.items rows
 IsLineOf (line.Rehearse log now) name rows = (name ≡ codes "rehearse") × IsOnLog log rows × IsWord (codes "NOW") now rows
 IsLineOf (line.Draw log) name rows = (name ≡ codes "draw") × IsOnLog log rows
+IsLineOf (line.Explain code) name rows = (name ≡ codes "explain") × IsOption (codes "CODE") code rows
 IsLineOf (line.Serve log address count seconds) name rows =
     (name ≡ codes "serve") × IsOnLog log rows × IsWord (codes "ADDR") address rows
     × IsNumber (codes "COUNT") count rows × (1 ≤ count) × (count ≤ most_connections) × IsSeconds seconds rows

@@ -4,7 +4,7 @@ use Rattle.std.specs.Prelude.{◌≡◌, false, map}
 use Rattle.clap.specs.Words.{Rule, Shape, shape_of}
 use Rattle.clap.specs.declared.builder.command.Command.{Command}
 use Rattle.clap.specs.declared.builder.command.Command.TheViews.{out-Command as fields_of}
-use Rattle.stn_line.specs.Commands.{command, word_rule, number_rule, many_rule, option_rule, number_option_rule, most_seconds}
+use Rattle.stn_line.specs.Commands.{command, word_rule, number_rule, maybe_rule, many_rule, option_rule, number_option_rule, most_seconds}
 use Rattle.stn_line.specs.declared.commands.Word.{Word}
 use Rattle.stn_line.specs.declared.commands.Word.TheVariants as word
 use Rattle.stn_line.specs.declared.commands.Row.{Row}
@@ -12,6 +12,7 @@ use Rattle.stn_line.specs.declared.commands.Row.{Row}
 abbrev pub read_rule : Word → Rule
 read_rule (word.Text name help) = word_rule name.now
 read_rule (word.Number name help least most) = number_rule name.now least most
+read_rule (word.MaybeText name help) = maybe_rule name.now
 read_rule (word.Texts name help) = many_rule name.now
 read_rule (word.Time name help) = option_rule name.now
 read_rule (word.Seconds name help) = number_option_rule name.now 1 most_seconds

@@ -24,6 +24,8 @@ enum Word {
     Text(&'static str, &'static str),
     // A number that has to be there.
     Number(&'static str, &'static str, u64, u64),
+    // A word that may be left out.
+    MaybeText(&'static str, &'static str),
     // Any number of words.
     Texts(&'static str, &'static str),
     // An option that is a time, `--name=T`.
@@ -71,7 +73,7 @@ const HI: Word = Word::Time(
 
 const NOW: Word = Word::Text("NOW", "The time now, in seconds after the origin");
 
-const COMMANDS: [Row; 21] = [
+const COMMANDS: [Row; 22] = [
     Row {
         name: "run",
         about: "Runs the script on standard input",
@@ -225,6 +227,14 @@ const COMMANDS: [Row; 21] = [
         words: &[LOG, SITE],
     },
     Row {
+        name: "explain",
+        about: "Says what a refusal or a fault means, and what to do about it",
+        words: &[Word::MaybeText(
+            "CODE",
+            "The number after `refused`, or the word after `fault`; all, if not given",
+        )],
+    },
+    Row {
         name: "serve",
         about: "Exchanges records with the sites that connect",
         words: &[
@@ -306,6 +316,7 @@ fn argument<'a>(alloc: Global, word: &Word) -> Arg<'a>
             .required(true)
             .value_parser(ValueParser::unsigned(least, most))
             .help(help),
+        Word::MaybeText(name, help) => Arg::new(alloc, name).help(help),
         Word::Texts(name, help) => Arg::new(alloc, name).num_args(..).help(help),
         Word::Time(name, help) => Arg::new(alloc, name).long(name).value_name("T").help(help),
         Word::Seconds(name, help) => Arg::new(alloc, name)

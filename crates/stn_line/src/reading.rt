@@ -74,6 +74,7 @@ fn command<'a>(alloc: Global, name: &str, words: &ArgMatches<'a>) -> Result<Line
         "draw" => Ok(Line::Draw {
             log: site_log(words),
         }),
+        "explain" => Ok(explain(words)),
         "serve" => Ok(serve(words)),
         _ => Ok(send(words)),
     }
@@ -222,6 +223,15 @@ fn rehearse<'a>(words: &ArgMatches<'a>) -> Line<'a>
     }
 }
 
+fn explain<'a>(words: &ArgMatches<'a>) -> Line<'a>
+    requires { HasWords (codes "explain") (rows_of (found_of words.now)) }
+    ensures { IsLineOf result (codes "explain") (rows_of (found_of words.now)) }
+{
+    Line::Explain {
+        code: option(words, "CODE"),
+    }
+}
+
 fn serve<'a>(words: &ArgMatches<'a>) -> Line<'a>
     requires { HasWords (codes "serve") (rows_of (found_of words.now)) }
     ensures { IsLineOf result (codes "serve") (rows_of (found_of words.now)) }
@@ -279,7 +289,7 @@ fn all_words<'a>(
     }
 }
 
-// The value of an option, where it is given.
+// The value of a word that may be left out, where it is given.
 fn option<'a>(words: &ArgMatches<'a>, name: &str) -> Option<&'a str>
     ensures { IsOption name.now result (rows_of (found_of words.now)) }
 {

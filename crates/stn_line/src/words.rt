@@ -115,6 +115,10 @@ pub enum Line<'a> {
     Draw {
         log: SiteLog<'a>,
     },
+    /// Explains a refusal or a fault, by the number or the word that is printed for it; where none is given, lists all.
+    Explain {
+        code: Option<&'a str>,
+    },
     /// Serves connections at an address, one after another; each session may take so many seconds.
     Serve {
         log: SiteLog<'a>,

@@ -1,0 +1,4 @@
+pub mod Explained
+pub mod Failures
+pub mod Subjects
+pub mod Table
