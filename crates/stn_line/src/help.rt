@@ -32,4 +32,5 @@ A refusal is printed as `refused` and a number. Nothing is changed then.
   70  wrong form               71  no such site               72  no such packet
   73  too many packets
 
-Status: 0 done; 1 refused, or a file, a device or the net failed; 2 wrong words.";
+Status: 0 done; 1 refused, or a file, a device or the net failed; 2 wrong words.
+What one means and what to do: `stn explain 41`, `stn explain file`; all of them: `stn explain`.";
