@@ -37,7 +37,7 @@ impl From<AllocError> for ExplainFault {
 /// Refused in this order: `Unknown`, where the word names neither; `Memory`. After a fault nothing is appended.
 pub fn print_explained<A: Allocator + Copy>(
     alloc: A,
-    word: Option<&[u8]>,
+    word: Option<&str>,
     out: &mut Vec<u8, A>,
 ) -> Result<(), ExplainFault>
     ensures explained { OnOk result ((text : List ℕ) × IsExplained (option_map (λ word. word.now) word.entry) text × (out.new.items ≡ out.old.items ++ text)) }
@@ -58,7 +58,7 @@ pub fn print_explained<A: Allocator + Copy>(
 }
 
 // The entry of the subject that a word names.
-fn entry_of<'a>(entries: &'a [Entry], word: &[u8]) -> Option<&'a Entry>
+fn entry_of<'a>(entries: &'a [Entry], word: &str) -> Option<&'a Entry>
     requires { All IsEntry entries.now }
     ensures { MatchOption result (All (λ entry. word.now ≢ word_of entry.subject) entries.now)
         (λ entry. IsEntry entry.now × (word.now ≡ word_of entry.now.subject)) }

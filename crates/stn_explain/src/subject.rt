@@ -15,12 +15,12 @@ pub enum Subject {
 
 impl Subject {
     /// Whether a word names the subject: the number of a refusal as it is printed, or the word of a fault.
-    pub fn has_name(self, word: &[u8]) -> bool
+    pub fn has_name(self, word: &str) -> bool
         ensures { IsTrue result ↔ (word.now ≡ word_of self) }
     {
         match self {
-            Subject::Refusal(code) => read_decimal(word) == Some(u16::from(code.number())),
-            Subject::Fault(fault) => word == fault_word(fault),
+            Subject::Refusal(code) => read_decimal(word.as_bytes()) == Some(u16::from(code.number())),
+            Subject::Fault(fault) => word.as_bytes() == fault_word(fault),
         }
     }
 }
