@@ -71,11 +71,13 @@ def check_run(lines, end, bounds, steps):
     if end == "all done":
         check(len(done) == 2 * steps, "all done, and events are left")
         check(latest is not None, "all done, and a bound is not met")
-    elif end == "conflict":
+    elif end.startswith("conflict"):
         check(latest is None, "a conflict, and there is a schedule")
     else:
-        event = plans.EVENTS[end.removeprefix("overdue ")]
-        check(latest is not None and event not in done and latest[event] < now, f"{end}: it may still take place")
+        _, event, _, time = end.split()
+        event = plans.EVENTS[event]
+        asked = plans.read_time(time)
+        check(latest is not None and event not in done and latest[event] < asked, f"{end}: it may still take place")
 
 
 def runs_of(program, domain, plan, early, late):

@@ -99,16 +99,21 @@ def planned_durations(program, domain, plan, folder):
 
 
 def run(log, machine, tell):
-    """Runs the plan of a log on a machine. Returns why the run ended: `all done`, `overdue` and an event, or `conflict`."""
+    """Runs the plan of a log on a machine. Returns how the run ended: `all done`, or `overdue` with an event, or `conflict`,
+    and when that was found."""
 
     def record(event, time):
         log.ask("done", event, time_text(time))
         tell(f"{time_text(time)} {event}")
 
     while True:
-        ready = [line.split() for line in log.ask("ready", time_text(machine.now()))]
+        now = machine.now()
+        answer = log.ask("ready", time_text(now))
+        ready = [line.split() for line in answer]
+        if answer[0] == "all done":
+            return answer[0]
         if len(ready[0]) < 3:
-            return " ".join(ready[0])
+            return f"{answer[0]} at {time_text(now)}"
         # Lines are in order of the first time, and each has the same last time.
         start = next((line for line in ready if line[0][0] == "s"), None)
         last = millis_of(ready[0][2])
