@@ -1,9 +1,33 @@
-//! Connections whose calls can be given a time.
+//! The time of a clock, and connections whose calls can be given a time.
 
-use crate::deadline::TimedStream;
+use crate::deadline::{TimedStream, Timer};
 use std::io::{self, Read, Write};
 use std::net::TcpStream;
 use std::time::{Clock, Duration};
+
+/// The time that a clock shows.
+#[derive(Drop)]
+pub struct Watch<'a, C> {
+    clock: &'a C,
+}
+
+impl<'a, C> Watch<'a, C> {
+    /// The time of the clock.
+    pub fn new(clock: &'a C) -> Watch<'a, C> {
+        Watch { clock }
+    }
+}
+
+// No clause knows a clock's time.
+impl<C: Clock> Timer for Watch<'_, C> {
+    ghost use Rattle.std.specs.Prelude.{None};
+
+    ghost time = { λ _. None };
+
+    fn now(&self) -> io::Result<Duration> {
+        self.clock.monotonic()
+    }
+}
 
 /// A connection, and a clock.
 #[derive(Drop)]
@@ -19,19 +43,23 @@ impl<'a, C> Connection<'a, C> {
     }
 }
 
-// What a peer sends and takes, and when, is known to no clause.
-impl<C: Clock> TimedStream for Connection<'_, C> {
+impl<C: Clock> Timer for Connection<'_, C> {
     ghost use Rattle.std.specs.Prelude.{None};
-
-    ghost remaining = { λ _. None };
-
-    ghost contents = { λ _. None };
 
     ghost time = { λ _. None };
 
     fn now(&self) -> io::Result<Duration> {
         self.clock.monotonic()
     }
+}
+
+// What a peer sends and takes is known to no clause.
+impl<C: Clock> TimedStream for Connection<'_, C> {
+    ghost use Rattle.std.specs.Prelude.{None};
+
+    ghost remaining = { λ _. None };
+
+    ghost contents = { λ _. None };
 
     fn read_within(&mut self, buf: &mut [u8], limit: Duration) -> io::Result<usize> {
         self.stream.set_read_timeout(Some(limit))?;

@@ -1,33 +1,52 @@
 //! Streams whose calls end by a deadline.
 
-ghost use Rattle.std.specs.Prelude.{◌≡◌, ◌↔◌, ◌+◌, ◌<◌, ◌≤◌, min, IsSome, IfSome, IfOk};
-ghost use Rattle.std.specs.Duration.{as_nanos, max_nanos};
+ghost use Rattle.std.specs.Prelude.{◌≡◌, ◌≢◌, ◌↔◌, ◌+◌, ◌<◌, IsSome, IfSome, IfOk, IfErr};
+ghost use Rattle.std.specs.Duration.{as_nanos};
 ghost use Rattle.std.specs.Io.{ReadsAtMost, WritesAtMost};
 ghost use Rattle.std.specs.Io.KnownBytes.{Keeps, ReadConsumes, WriteAppends};
-ghost use Rattle.stn_device.specs.Deadline.{end_of, timed_stream, ShowsTime, IsTimeLeft, PassesAtMost, KeepsDeadline};
+ghost use Rattle.std.specs.IoError.{error_kind};
+ghost use Rattle.stn_device.specs.Deadline.{start_of, limit_of, end_of, timed_stream, deadline_of, ShowsTime, IsTimeLeft, PassesAtMost, KeepsDeadline};
 
 use std::io::{self, Error, ErrorKind, Read, Write};
 use std::time::{Clock, Duration};
 
-/// A moment at which a time is over, on a clock that counts from its own start.
+/// How often a call that a signal interrupts is made at most.
+const MOST_TRIES: u32 = u32::MAX;
+
+/// What shows the time.
+pub trait Timer {
+    ghost use Rattle.std.specs.Prelude.{ℕ, Option};
+
+    /// The time, in nanoseconds, where it is known.
+    ghost time: { Self → Option ℕ };
+
+    /// The time. It may fail.
+    fn now(&self) -> io::Result<Duration>
+        ensures { IfOk result (λ now. ShowsTime (time self.now) (as_nanos now)) };
+}
+
+/// A time that is over so long after a moment, or at the last moment there is.
 #[derive(Clone, Copy, Debug, PartialEq, Eq)]
 pub struct Deadline {
-    end: Duration,
+    from: Duration,
+    limit: Duration,
 }
 
 impl Deadline {
-    /// So long after a moment, or the last moment there is.
-    pub fn after(now: Duration, limit: Duration) -> Deadline
-        ensures { end_of result ≡ min (as_nanos now + as_nanos limit) max_nanos }
+    /// So long after a moment.
+    pub fn after(from: Duration, limit: Duration) -> Deadline
+        ensures from { start_of result ≡ as_nanos from }
+        ensures limit { limit_of result ≡ as_nanos limit }
     {
-        Deadline {
-            end: now.saturating_add(limit),
-        }
+        Deadline { from, limit }
     }
 
-    /// So long after now. The clock may fail.
-    pub fn start<C: Clock>(clock: &C, limit: Duration) -> io::Result<Deadline> {
-        Ok(Deadline::after(clock.monotonic()?, limit))
+    /// So long after now. The timer may fail.
+    pub fn start<T: Timer>(timer: &T, limit: Duration) -> io::Result<Deadline>
+        ensures from { IfOk result (λ deadline. ShowsTime (T.time timer.now) (start_of deadline)) }
+        ensures limit { IfOk result (λ deadline. limit_of deadline ≡ as_nanos limit) }
+    {
+        Ok(Deadline::after(timer.now()?, limit))
     }
 
     /// How much time is left at a moment; `None` where none is.
@@ -35,13 +54,14 @@ impl Deadline {
         ensures in_time { IsSome result ↔ (as_nanos now < end_of self) }
         ensures rest { IfSome result (λ left. as_nanos now + as_nanos left ≡ end_of self) }
     {
-        let left = self.end.saturating_sub(now);
+        let left = self.from.saturating_add(self.limit).saturating_sub(now);
         if left.is_zero() { None } else { Some(left) }
     }
 }
 
-/// A stream with a clock, each of whose calls can be given a time that it may take. What is written is kept back nowhere.
-pub trait TimedStream {
+/// A stream with a timer, each of whose calls can be given a time that it may take; it may fail sooner. What is written is kept back
+/// nowhere.
+pub trait TimedStream: Timer {
     ghost use Rattle.std.specs.Prelude.{ℕ, List, Option};
 
     /// The bytes that reads will give from here on, where they are known.
@@ -50,29 +70,23 @@ pub trait TimedStream {
     /// The bytes that were written, where they are known.
     ghost contents: { Self → Option (List ℕ) };
 
-    /// The time on the clock, in nanoseconds, where it is known.
-    ghost time: { Self → Option ℕ };
-
-    /// The time on the clock. The clock may fail.
-    fn now(&self) -> io::Result<Duration>
-        ensures { IfOk result (λ now. ShowsTime (time self.now) (as_nanos now)) };
-
     /// Reads as `Read::read` does, for at most this time. It fails where nothing comes within it.
     fn read_within(&mut self, buf: &mut [u8], limit: Duration) -> io::Result<usize>
         requires { 0 < as_nanos limit }
         ensures bound { ReadsAtMost result buf.new }
         ensures bytes { ReadConsumes (remaining self.old) (remaining self.new) result buf.new }
-        ensures passes { PassesAtMost (time self.old) (time self.new) (as_nanos limit) };
+        ensures passes { PassesAtMost (Self.time self.old) (Self.time self.new) (as_nanos limit) };
 
     /// Writes as `Write::write` does, for at most this time. It fails where nothing is taken within it.
     fn write_within(&mut self, buf: &[u8], limit: Duration) -> io::Result<usize>
         requires { 0 < as_nanos limit }
         ensures bound { WritesAtMost result buf.now }
         ensures bytes { WriteAppends (contents self.old) (contents self.new) result buf.now }
-        ensures passes { PassesAtMost (time self.old) (time self.new) (as_nanos limit) };
+        ensures passes { PassesAtMost (Self.time self.old) (Self.time self.new) (as_nanos limit) };
 }
 
-/// A reader and a writer over a stream, whose calls are over by a deadline and fail after it. Bytes pass through unchanged.
+/// A reader and a writer over a stream, whose calls are over by a deadline and fail after it. The stream may fail long before. A call
+/// that a signal interrupts is made again in the time that is left. Bytes pass through unchanged.
 #[derive(Drop)]
 pub struct UntilDeadline<S> {
     stream: S,
@@ -83,21 +97,24 @@ impl<S> UntilDeadline<S> {
     /// The stream, up to the deadline.
     pub fn new(stream: S, deadline: Deadline) -> UntilDeadline<S>
         ensures stream { timed_stream result ≡ stream }
-        ensures deadline { result.deadline ≡ deadline }
+        ensures deadline { deadline_of result ≡ deadline }
     {
         UntilDeadline { stream, deadline }
     }
 }
 
 impl<S: TimedStream> UntilDeadline<S> {
-    // How much time is left. A fault after the deadline.
+    // How much time is left. A fault where none is, or where the timer fails.
     fn left(&self) -> io::Result<Duration>
-        ensures { IfOk result (λ left. IsTimeLeft (end_of self.now.deadline) (S.time (timed_stream self.now)) (as_nanos left)) }
+        ensures left { IfOk result (λ left. IsTimeLeft (end_of (deadline_of self.now)) (S.time (timed_stream self.now)) (as_nanos left)) }
+        ensures over { IfErr result (λ error. error_kind error ≢ ErrorKind.Interrupted) }
     {
-        let now = self.stream.now()?;
-        match self.deadline.left(now) {
-            Some(left) => Ok(left),
-            None => Err(Error::from(ErrorKind::TimedOut)),
+        match self.stream.now() {
+            Ok(now) => match self.deadline.left(now) {
+                Some(left) => Ok(left),
+                None => Err(Error::from(ErrorKind::TimedOut)),
+            },
+            Err(_) => Err(Error::from(ErrorKind::TimedOut)),
         }
     }
 }
@@ -108,11 +125,18 @@ impl<S: TimedStream> Read for UntilDeadline<S> {
     fn read(&mut self, buf: &mut [u8]) -> io::Result<usize>
         ensures bound { ReadsAtMost result buf.new }
         ensures bytes { ReadConsumes (S.remaining (timed_stream self.old)) (S.remaining (timed_stream self.new)) result buf.new }
-        ensures deadline { KeepsDeadline (end_of self.old.deadline) (S.time (timed_stream self.old)) (S.time (timed_stream self.new)) result }
-        ensures stays { self.new.deadline ≡ self.old.deadline }
+        ensures deadline { KeepsDeadline (end_of (deadline_of self.old)) (S.time (timed_stream self.old)) (S.time (timed_stream self.new)) result }
+        ensures again { IfErr result (λ error. error_kind error ≢ ErrorKind.Interrupted) }
+        ensures stays { deadline_of self.new ≡ deadline_of self.old }
     {
-        let left = self.left()?;
-        self.stream.read_within(buf, left)
+        'tries: for _ in 0..MOST_TRIES {
+            let left = self.left()?;
+            match self.stream.read_within(buf, left) {
+                Err(error) if error.kind() == ErrorKind::Interrupted => {}
+                answer => return answer,
+            }
+        }
+        Err(Error::from(ErrorKind::TimedOut))
     }
 }
 
@@ -122,11 +146,18 @@ impl<S: TimedStream> Write for UntilDeadline<S> {
     fn write(&mut self, buf: &[u8]) -> io::Result<usize>
         ensures bound { WritesAtMost result buf.now }
         ensures bytes { WriteAppends (S.contents (timed_stream self.old)) (S.contents (timed_stream self.new)) result buf.now }
-        ensures deadline { KeepsDeadline (end_of self.old.deadline) (S.time (timed_stream self.old)) (S.time (timed_stream self.new)) result }
-        ensures stays { self.new.deadline ≡ self.old.deadline }
+        ensures deadline { KeepsDeadline (end_of (deadline_of self.old)) (S.time (timed_stream self.old)) (S.time (timed_stream self.new)) result }
+        ensures again { IfErr result (λ error. error_kind error ≢ ErrorKind.Interrupted) }
+        ensures stays { deadline_of self.new ≡ deadline_of self.old }
     {
-        let left = self.left()?;
-        self.stream.write_within(buf, left)
+        'tries: for _ in 0..MOST_TRIES {
+            let left = self.left()?;
+            match self.stream.write_within(buf, left) {
+                Err(error) if error.kind() == ErrorKind::Interrupted => {}
+                answer => return answer,
+            }
+        }
+        Err(Error::from(ErrorKind::TimedOut))
     }
 
     fn flush(&mut self) -> io::Result<()>

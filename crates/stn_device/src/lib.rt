@@ -1,9 +1,9 @@
 //! Readers and writers that count their failed calls, and whole inputs and outputs over them; readers and writers with a deadline.
 #![tactic(auto)]
 
-pub use connection::Connection;
+pub use connection::{Connection, Watch};
 pub use counted::Counted;
-pub use deadline::{Deadline, TimedStream, UntilDeadline};
+pub use deadline::{Deadline, TimedStream, Timer, UntilDeadline};
 pub use whole::{MOST_BYTES, ReadFault, WriteFault, drain, read_whole, write_whole};
 
 mod connection;

@@ -1,4 +1,4 @@
-use Rattle.std.proofs.Common.{◌++◌, take, arith, length-append, ◌∙◌}
+use Rattle.std.proofs.Common.{◌++◌, take, arith, ◌∙◌}
 use Rattle.std.proofs.lemmas.Grind.{common_steps}
 use Rattle.std.proofs.KnownBytes.{Consumes-trans}
 use Rattle.stn_device.proofs.whole.drain.Goals as goal
