@@ -118,7 +118,7 @@ rehearses world site word now source state plan held read =
 
 -- a question about an event that the plan has not
 pub no_event : (world : World) (site : ℕ) (source : PlanSource) (question : Question) (cause : Failure) → source ≡ world.source → AsksOfNoEvent source question
-    → cause ≡ refused NoEvent → record { world = world; reply = declined cause } ≡ asking world site (Ok question)
+    → cause ≡ refused NoEvent → record { world = world; reply = declined cause } ≡ asking world site question
 no_event world site source (question.Why event) cause same late is =
     let past : nat_lt (events_of world.source) event ≡ true = (Decides-ltb (events_of world.source) event).1 (subst (λ (plan : PlanSource). events_of plan < event) same late) in
     ap (λ (given : Failure). record { world = world; reply = declined given }) is
@@ -126,7 +126,6 @@ no_event world site source (question.Why event) cause same late is =
 no_event world site source question.Records cause same late is = absurd late
 no_event world site source question.Steps cause same late is = absurd late
 no_event world site source question.Bounds cause same late is = absurd late
-no_event world site source (question.Ready now) cause same late is = absurd late
 
 -- a check of the times of all events
 pub checked : (outcome : Result Answer Failure) (world : World) (site : ℕ) (source : PlanSource) (state : Content) (times : List (List ℕ))

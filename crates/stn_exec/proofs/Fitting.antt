@@ -5,7 +5,7 @@ use Rattle.std.specs.Option.{option_map}
 use Rattle.std.specs.List.{list_all}
 use Rattle.std.proofs.lemmas.Bool.{eqb-true}
 use Rattle.stn_text.specs.Numbers.{number_of}
-use Rattle.stn_exec.specs.Command.{Action, withdraw, merge, send_items, deliver, check, ask, Command, event_of, id_of, is_item, inquiry_of, sites_command, add_of, done_of, amend_of, withdraw_of, merge_of, send_of, deliver_of, report_of, check_of, next_of, rehearse_of, ready_of, why_of, alone_of, question_of, action_of, command_of}
+use Rattle.stn_exec.specs.Command.{Action, withdraw, merge, send_items, deliver, check, ask, Command, event_of, id_of, is_item, lone_question, sites_command, add_of, done_of, amend_of, withdraw_of, merge_of, send_of, deliver_of, report_of, check_of, next_of, rehearse_of, ready_of, why_of, alone_of, question_of, action_of, command_of}
 use Rattle.stn_exec.specs.declared.command.Command.{Command as CommandOfLine}
 use Rattle.stn_exec.specs.Running.{seen_command, seen_action, IsForEvents}
 
@@ -81,7 +81,7 @@ module _ (events : ℕ) where
   why_fits words = tt
 
   alone_fits : (name : List ℕ) (words : List (List ℕ)) → Fits (alone_of name words)
-  alone_fits name [] = mapped ask (inquiry_of name) (λ inquiry. tt)
+  alone_fits name [] = mapped ask (lone_question name) (λ question. tt)
   alone_fits name words = tt
 
   question_fits : (name : List ℕ) (words : List (List ℕ)) → Fits (question_of name words)

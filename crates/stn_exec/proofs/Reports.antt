@@ -4,6 +4,7 @@ use Rattle.std.specs.Prelude.{option_and_then}
 use Rattle.std.specs.Result.{result_ok}
 use Rattle.std.proofs.lemmas.Bool.{false≢true}
 use Rattle.std.proofs.lemmas.List.Sums.{fold-append}
+use Rattle.stn_time.specs.declared.reading.TimeFault.{TimeFault}
 use Rattle.stn_time.specs.TimeOf.{time_of}
 use Rattle.stn_lift.specs.PlanSource.{PlanSource, events_of}
 use Rattle.stn_text.specs.Lines.{lines_of, words_of}
@@ -26,12 +27,13 @@ use Rattle.stn_refusal.specs.declared.failure.Failure.{Failure}
 use Rattle.stn_refusal.specs.Refusals.{refused}
 use Rattle.stn_questions.specs.declared.asked.Question.{Question}
 use Rattle.stn_questions.specs.Answer.{IsAnswer}
+use Rattle.stn_questions.specs.Ready.{IsReadyText}
 use Rattle.stn_exec.specs.declared.answer.Answer.{Answer}
-use Rattle.stn_exec.specs.Command.{Inquiry, Action, add, done, amend, withdraw, merge, send_all, send, deliver, report, check, next, rehearse, ask, Command, sites_command, command_of}
-use Rattle.stn_exec.specs.Effect.{Effect, Reply, reported, foreseen, rehearsed, refusing, refusing_time, difference_read, question_asked, is_of_no_event, making, sending, sent_step, asked, asking, told, action_effect, command_effect, action_step, step_of}
+use Rattle.stn_exec.specs.Command.{Action, add, done, amend, withdraw, merge, send_all, send, deliver, report, check, next, rehearse, ready, ask, Command, sites_command, command_of}
+use Rattle.stn_exec.specs.Effect.{Effect, Reply, reported, foreseen, rehearsed, readied, refusing, refusing_time, difference_read, is_of_no_event, making, sending, sent_step, asked, asking, told, action_effect, command_effect, action_step, step_of}
 use Rattle.stn_exec.specs.Script.{Outcome, Start, is_skipped, form_effect, line_outcome, lines_outcome, heading_of, last_line, script_outcome}
 use Rattle.stn_exec.specs.Output.{IsReplyText, IsOutput}
-use Rattle.stn_exec.specs.Reports.{line_steps, steps_of_lines, LineOf, first_world, steps_before, world_at, ReportsSite, AsksSite, PrintsAt}
+use Rattle.stn_exec.specs.Reports.{line_steps, steps_of_lines, LineOf, first_world, steps_before, world_at, ReportsSite, AsksSite, AsksReady, PrintsAt}
 use Rattle.stn_exec.proofs.Effects.{there_effect}
 use Rattle.stn_exec.proofs.Scripts.{line_outcome-skipped, line_outcome-run, line_effect-is, script_outcome-is}
 
@@ -53,13 +55,12 @@ asked_stays : (world : World) (reply : ℤ → Reply) (read : Result ℤ Failure
 asked_stays world reply (Ok now) = refl
 asked_stays world reply (Err cause) = refl
 
-asking_stays : (world : World) (site : ℕ) (read : Result Question Failure) → (asking world site read).world ≡ world
-asking_stays world site (Ok question) = by (is_of_no_event world.source question)
+asking_stays : (world : World) (site : ℕ) (question : Question) → (asking world site question).world ≡ world
+asking_stays world site question = by (is_of_no_event world.source question)
   where
     by : (b : Bool) → (cond b (refusing world (refused code.NoEvent)) (record { world = world; reply = told world.source (content_at world site) question })).world ≡ world
     by true = refl
     by false = refl
-asking_stays world site (Err cause) = refl
 
 there_run : (world : World) (site : ℕ) (action : Action) → HasSite world site → IsCoherent world → (action_effect world site action).world ≡ run world (option_to_list (action_step world site action))
 there_run world site (add from to lo hi) there coherent = making_run world (added site) _ (difference_read from to lo hi)
@@ -75,7 +76,8 @@ there_run world site report there coherent = refl
 there_run world site (check times) there coherent = refl
 there_run world site (next now) there coherent = asked_stays world (foreseen world.source (content_at world site)) (refusing_time (time_of now))
 there_run world site (rehearse now) there coherent = asked_stays world (rehearsed world.source (content_at world site)) (refusing_time (time_of now))
-there_run world site (ask inquiry) there coherent = asking_stays world site (question_asked inquiry)
+there_run world site (ready now) there coherent = asked_stays world (readied world.source (content_at world site)) (refusing_time (time_of now))
+there_run world site (ask question) there coherent = asking_stays world site question
 
 -- at a site that is not there, each step is refused
 refused_run : (world : World) (step : Step) → step_refusal world step ≡ Some NoSite → run world (step ∷ []) ≡ world
@@ -103,7 +105,8 @@ missing_run world site report missing = refl
 missing_run world site (check times) missing = refl
 missing_run world site (next now) missing = refl
 missing_run world site (rehearse now) missing = refl
-missing_run world site (ask inquiry) missing = refl
+missing_run world site (ready now) missing = refl
+missing_run world site (ask question) missing = refl
 
 effect_run : (world : World) (site : ℕ) (action : Action) → IsCoherent world → (command_effect world (sites_command site action)).world ≡ run world (option_to_list (action_step world site action))
 effect_run world site action coherent = tested (has_site world site) refl
@@ -251,21 +254,31 @@ same_bytes law script other output last text last_text at there site others one 
     (subst (λ (w : World). IsReport there.start.source (content_at w others) last_text) (world_run other there) (reports other last last_text there others two q))
 
 -- ---- the answer to a question at a line
-asked_reply : (world : World) (site : ℕ) (inquiry : Inquiry) (question : Question) → question_asked inquiry ≡ Ok question → is_of_no_event world.source question ≡ false
-    → (action_effect world site (ask inquiry)).reply ≡ told world.source (content_at world site) question
-asked_reply world site inquiry question is there =
-    ap (λ (read : Result Question Failure). (asking world site read).reply) is
-    ∙ ap (λ (b : Bool). (cond b (refusing world (refused code.NoEvent)) (record { world = world; reply = told world.source (content_at world site) question })).reply) there
+asked_reply : (world : World) (site : ℕ) (question : Question) → is_of_no_event world.source question ≡ false
+    → (action_effect world site (ask question)).reply ≡ told world.source (content_at world site) question
+asked_reply world site question there =
+    ap (λ (b : Bool). (cond b (refusing world (refused code.NoEvent)) (record { world = world; reply = told world.source (content_at world site) question })).reply) there
 
 pub answers : (script output text : List ℕ) (at : LineOf script) (site : ℕ) (question : Question) → AsksSite at site question → PrintsAt at output text
     → IsAnswer at.start.source (content_at (world_at at) site) question text
 answers script output text at site question asks printed =
     let world = world_at at in
     one_reply _ (told at.start.source (content_at world site) question) text
-    (replies_at script at site (ask asks.inquiry) asks.kept asks.command asks.there
+    (replies_at script at site (ask question) asks.kept asks.command asks.there
     ∙ (ap (λ (r : Reply). r ∷ [])
-    (asked_reply world site asks.inquiry question asks.asked (ap (λ (s : PlanSource). is_of_no_event s question) (source_at script at) ∙ asks.event)
+    (asked_reply world site question (ap (λ (s : PlanSource). is_of_no_event s question) (source_at script at) ∙ asks.event)
     ∙ ap (λ (s : PlanSource). told s (content_at world site) question) (source_at script at))))
+    printed.here
+
+-- what `ready` prints at a line
+pub ready_said : (script output text : List ℕ) (at : LineOf script) (site : ℕ) (now : ℤ) → AsksReady at site now → PrintsAt at output text
+    → IsReadyText at.start.source (content_at (world_at at) site) now text
+ready_said script output text at site now asks printed =
+    let world = world_at at in
+    one_reply _ (readied at.start.source (content_at world site) now) text
+    (replies_at script at site (ready asks.word) asks.kept asks.command asks.there
+    ∙ (ap (λ (read : Result ℤ TimeFault). (asked world (readied world.source (content_at world site)) (refusing_time read)).reply ∷ []) asks.time
+    ∙ ap (λ (s : PlanSource). readied s (content_at world site) now ∷ []) (source_at script at)))
     printed.here
 
 -- what two sites of one plan hold is alike, where it is after the runs of their steps

@@ -6,21 +6,14 @@ use Rattle.std.specs.Str.{bytes_eq}
 use Rattle.std.specs.Str.Parse.{digits_value}
 use Rattle.stn_net.specs.Event.{most_events, event_text}
 use Rattle.stn_records.specs.Id.{most_sites, most_counter, SiteCounter, id_text}
+use Rattle.stn_questions.specs.declared.asked.Question.{Question}
+use Rattle.stn_questions.specs.declared.asked.Question.TheVariants.{Records, Steps, Bounds, Why}
 use Rattle.stn_text.specs.Numbers.{number_of}
-
--- what a question asks: which records, which steps and which bounds there are; which events may run from a time on, which is a word; or why
--- the window of an event ends where it does
-pub data Inquiry : Type 0 where
-  records : Inquiry
-  steps : Inquiry
-  bounds : Inquiry
-  ready : (now : List ℕ) → Inquiry
-  why : (event : ℕ) → Inquiry
 
 -- what a command does: it adds the bound of two events and two sides, records the time at which an event was executed, amends a record by
 -- such a bound, withdraws a record, merges another site, sends all that the site holds or some of its records and withdrawn ids, takes in a
--- packet, prints the report, checks times, asks what comes next from a time on, rehearses the rest of the plan from a time on, or asks a
--- question of the plan; sides and times are words
+-- packet, prints the report, checks times, asks what comes next from a time on, rehearses the rest of the plan from a time on, asks which
+-- events may run from a time on, or asks another question of the plan; sides and times are words
 pub data Action : Type 0 where
   add : (from to : ℕ) (lo hi : List ℕ) → Action
   done : (event : ℕ) (time : List ℕ) → Action
@@ -34,7 +27,8 @@ pub data Action : Type 0 where
   check : (times : List (List ℕ)) → Action
   next : (now : List ℕ) → Action
   rehearse : (now : List ℕ) → Action
-  ask : (inquiry : Inquiry) → Action
+  ready : (now : List ℕ) → Action
+  ask : (question : Question) → Action
 
 -- a command of one site
 pub record Command : Type 0 where
@@ -131,25 +125,25 @@ rehearse_of (now ∷ []) = Some (rehearse now)
 rehearse_of other = None
 
 -- the question that a name asks alone
-abbrev pub inquiry_of : List ℕ → Option Inquiry
-inquiry_of name =
-    if bytes_eq name (codes "records") then Some records else
-    (if bytes_eq name (codes "steps") then Some steps else
-    (if bytes_eq name (codes "bounds") then Some bounds else None))
+abbrev pub lone_question : List ℕ → Option Question
+lone_question name =
+    if bytes_eq name (codes "records") then Some Records else
+    (if bytes_eq name (codes "steps") then Some Steps else
+    (if bytes_eq name (codes "bounds") then Some Bounds else None))
 
 -- the forms `records`, `steps` and `bounds`
 abbrev pub alone_of : List ℕ → List (List ℕ) → Option Action
-alone_of name [] = option_map ask (inquiry_of name)
+alone_of name [] = option_map ask (lone_question name)
 alone_of name other = None
 
 -- the form `ready <t>`
 abbrev pub ready_of : List (List ℕ) → Option Action
-ready_of (now ∷ []) = Some (ask (ready now))
+ready_of (now ∷ []) = Some (ready now)
 ready_of other = None
 
 -- the form `why <event>`
 abbrev pub why_of : List (List ℕ) → Option Action
-why_of (word ∷ []) = option_map (λ event. ask (why event)) (event_of word)
+why_of (word ∷ []) = option_map (λ event. ask (Why event)) (event_of word)
 why_of other = None
 
 -- the forms of questions by their names

@@ -25,17 +25,17 @@ use Rattle.stn_world.specs.World.{World, has_site, content_at, next_id_at}
 use Rattle.stn_world.specs.Steps.{Step, added, finished, amended, withdrew, merged, sent, delivered, step_refusal, send_refusal, after}
 use Rattle.stn_exec.specs.declared.answer.Answer.{Answer}
 use Rattle.stn_exec.specs.declared.answer.Answer.TheVariants as answer
-use Rattle.stn_exec.specs.Command as inquiry
-use Rattle.stn_exec.specs.Command.{Inquiry, Action, add, done, amend, withdraw, merge, send_all, send, deliver, report, check, next, rehearse, ask, Command}
+use Rattle.stn_exec.specs.Command.{Action, add, done, amend, withdraw, merge, send_all, send, deliver, report, check, next, rehearse, ready, ask, Command}
 
 -- what a line prints: an answer, or why there is none; or, of what a site holds, the report, what comes next from a time on, the rest
--- of the plan from a time on, or the answer to a question
+-- of the plan from a time on, the events that may run from a time on, or the answer to a question
 pub data Reply : Type 0 where
   said : Answer → Reply
   declined : Failure → Reply
   reported : PlanSource → Content → Reply
   foreseen : PlanSource → Content → ℤ → Reply
   rehearsed : PlanSource → Content → ℤ → Reply
+  readied : PlanSource → Content → ℤ → Reply
   told : PlanSource → Content → Question → Reply
 
 -- a command's reply, and the world that it leaves
@@ -93,25 +93,16 @@ abbrev pub asked : World → (ℤ → Reply) → Result ℤ Failure → Effect
 asked world reply (Ok now) = record { world = world; reply = reply now }
 asked world reply (Err cause) = refusing world cause
 
--- the question that is asked, where its time can be read
-abbrev pub question_asked : Inquiry → Result Question Failure
-question_asked inquiry.records = Ok question.Records
-question_asked inquiry.steps = Ok question.Steps
-question_asked inquiry.bounds = Ok question.Bounds
-question_asked (inquiry.ready now) = and_then (refusing_time (time_of now)) (λ time. Ok (question.Ready time))
-question_asked (inquiry.why event) = Ok (question.Why event)
-
 -- the question is about an event that the plan has not
 abbrev pub is_of_no_event : PlanSource → Question → Bool
 is_of_no_event source (question.Why event) = nat_lt (events_of source) event
 is_of_no_event source other = false
 
 -- a question of the plan and of what a site holds
-abbrev pub asking : World → ℕ → Result Question Failure → Effect
-asking world site (Ok question) =
+abbrev pub asking : World → ℕ → Question → Effect
+asking world site question =
     if is_of_no_event world.source question then refusing world (refused NoEvent)
     else record { world = world; reply = told world.source (content_at world site) question }
-asking world site (Err cause) = refusing world cause
 
 -- the times that the words spell, or the first fault
 abbrev pub times_from : List (List ℕ) → Result (List ℤ) Failure
@@ -144,7 +135,8 @@ action_effect world site report = record { world = world; reply = reported world
 action_effect world site (check times) = record { world = world; reply = check_reply world.source (content_at world site) (times_from times) }
 action_effect world site (next now) = asked world (foreseen world.source (content_at world site)) (refusing_time (time_of now))
 action_effect world site (rehearse now) = asked world (rehearsed world.source (content_at world site)) (refusing_time (time_of now))
-action_effect world site (ask what) = asking world site (question_asked what)
+action_effect world site (ready now) = asked world (readied world.source (content_at world site)) (refusing_time (time_of now))
+action_effect world site (ask question) = asking world site question
 
 -- a command
 abbrev pub command_effect : World → Command → Effect
@@ -171,7 +163,8 @@ action_step world site report = None
 action_step world site (check times) = None
 action_step world site (next now) = None
 action_step world site (rehearse now) = None
-action_step world site (ask what) = None
+action_step world site (ready now) = None
+action_step world site (ask question) = None
 
 abbrev pub step_of : World → Command → Option Step
 step_of world command = action_step world command.site command.action

@@ -6,9 +6,10 @@ use Rattle.stn_refusal.specs.declared.failure.Failure.TheVariants.{Refused, Fail
 use Rattle.stn_refusal.specs.Printed.{refusal_text}
 use Rattle.stn_site.specs.Report.{IsReport}
 use Rattle.stn_questions.specs.Answer.{IsAnswer}
+use Rattle.stn_questions.specs.Ready.{IsReadyText}
 use Rattle.stn_exec.specs.Answer.{answer_text}
 use Rattle.stn_exec.specs.Dispatch.{IsNextText, IsRehearseText, IsRefusedRehearsal}
-use Rattle.stn_exec.specs.Effect.{Reply, said, declined, reported, foreseen, rehearsed, told}
+use Rattle.stn_exec.specs.Effect.{Reply, said, declined, reported, foreseen, rehearsed, readied, told}
 
 -- the text is printed for the reply; where memory runs out, none is
 abbrev pub IsReplyText : Reply → List ℕ → Type 0
@@ -18,6 +19,7 @@ IsReplyText (declined (Failed fault)) text = ⊥
 IsReplyText (reported source state) text = IsReport source state text
 IsReplyText (foreseen source state now) text = IsNextText source state now text
 IsReplyText (rehearsed source state now) text = IsRehearseText source state now text
+IsReplyText (readied source state now) text = IsReadyText source state now text
 IsReplyText (told source state question) text = IsAnswer source state question text
 
 -- the reply is a refusal

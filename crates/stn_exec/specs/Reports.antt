@@ -1,12 +1,13 @@
 -- The steps of the world that a script takes, and the reports that it prints.
-use Rattle.std.specs.Prelude.{◌≡◌, ℕ, ◌+◌, false, List, ◌∷◌, ◌++◌, length, option_to_list, option_and_then, if◌then◌else◌, [], Some, Ok}
+use Rattle.std.specs.Prelude.{◌≡◌, ℕ, ℤ, ◌+◌, false, List, ◌∷◌, ◌++◌, length, option_to_list, option_and_then, if◌then◌else◌, [], Some, Ok}
 use Rattle.stn_lift.specs.PlanSource.{events_of}
 use Rattle.stn_text.specs.Lines.{lines_of, words_of}
+use Rattle.stn_time.specs.TimeOf.{time_of}
 use Rattle.stn_world.specs.World.{World, HasSite, opening_world}
 use Rattle.stn_world.specs.Steps.{Step, run}
 use Rattle.stn_questions.specs.declared.asked.Question.{Question}
-use Rattle.stn_exec.specs.Command.{Inquiry, report, ask, sites_command, command_of}
-use Rattle.stn_exec.specs.Effect.{question_asked, is_of_no_event, step_of}
+use Rattle.stn_exec.specs.Command.{report, ready, ask, sites_command, command_of}
+use Rattle.stn_exec.specs.Effect.{is_of_no_event, step_of}
 use Rattle.stn_exec.specs.Script.{Start, is_skipped, heading_of, last_line, line_outcome, lines_outcome}
 use Rattle.stn_exec.specs.Output.{IsOutput}
 
@@ -49,13 +50,19 @@ pub record ReportsSite {script : List ℕ} (at : LineOf script) (site : ℕ) : T
   pub command : command_of (events_of at.start.source) (words_of at.line) ≡ Some (sites_command site report)
   pub there : HasSite (first_world at) site
 
--- the line is a site's question, whose time can be read, and which is about no event that the plan has not; and the site is there
+-- the line is a site's question, which is about no event that the plan has not; and the site is there
 pub record AsksSite {script : List ℕ} (at : LineOf script) (site : ℕ) (question : Question) : Type 0 where
   pub kept : is_skipped (words_of at.line) ≡ false
-  pub inquiry : Inquiry
-  pub command : command_of (events_of at.start.source) (words_of at.line) ≡ Some (sites_command site (ask inquiry))
-  pub asked : question_asked inquiry ≡ Ok question
+  pub command : command_of (events_of at.start.source) (words_of at.line) ≡ Some (sites_command site (ask question))
   pub event : is_of_no_event at.start.source question ≡ false
+  pub there : HasSite (first_world at) site
+
+-- the line is a site's command `ready` from a time on, which can be read; and the site is there
+pub record AsksReady {script : List ℕ} (at : LineOf script) (site : ℕ) (now : ℤ) : Type 0 where
+  pub kept : is_skipped (words_of at.line) ≡ false
+  pub word : List ℕ
+  pub command : command_of (events_of at.start.source) (words_of at.line) ≡ Some (sites_command site (ready word))
+  pub time : time_of word ≡ Ok now
   pub there : HasSite (first_world at) site
 
 -- the line prints the text: the output is what the lines before it print, the text, and what the lines after it print

@@ -7,23 +7,13 @@ use Rattle.stn_world.specs.World.{World}
 use Rattle.stn_exec.specs.declared.command.Command.{Command as CommandOfLine}
 use Rattle.stn_exec.specs.declared.command.Action.{Action as ActionOfLine}
 use Rattle.stn_exec.specs.declared.command.Action.TheVariants as line
-use Rattle.stn_exec.specs.declared.command.Inquiry.{Inquiry as InquiryOfLine}
-use Rattle.stn_exec.specs.declared.command.Inquiry.TheVariants as inquiry
 use Rattle.stn_exec.specs.declared.script.Ran.{Ran}
 use Rattle.stn_exec.specs.declared.script.RunFault.{RunFault}
 use Rattle.stn_exec.specs.declared.script.RunFault.TheVariants.{Write, Memory}
-use Rattle.stn_exec.specs.Command.{Inquiry, records, steps, bounds, ready, why, Action, add, done, amend, withdraw, merge, send_all, send_items, deliver, report, check, next, rehearse, ask, Command, sites_command}
+use Rattle.stn_exec.specs.Command.{Action, add, done, amend, withdraw, merge, send_all, send_items, deliver, report, check, next, rehearse, ready, ask, Command, sites_command}
 use Rattle.stn_exec.specs.Effect.{Effect}
 use Rattle.stn_exec.specs.Script.{Outcome}
 use Rattle.stn_exec.specs.Output.{IsReplyText, IsRefusal, CountsRefusals, WritesOutput, WritesOutputPart}
-
--- the question that the code has read from a line
-abbrev pub seen_inquiry : InquiryOfLine → Inquiry
-seen_inquiry inquiry.Records = records
-seen_inquiry inquiry.Steps = steps
-seen_inquiry inquiry.Bounds = bounds
-seen_inquiry (inquiry.Ready now) = ready now.now
-seen_inquiry (inquiry.Why event) = why event
 
 -- the action that the code has read from a line
 abbrev pub seen_action : ActionOfLine → Action
@@ -39,7 +29,8 @@ seen_action line.Report = report
 seen_action (line.Check times) = check (words_of times.now)
 seen_action (line.Next now) = next now.now
 seen_action (line.Rehearse now) = rehearse now.now
-seen_action (line.Ask inquiry) = ask (seen_inquiry inquiry)
+seen_action (line.Ready now) = ready now.now
+seen_action (line.Ask question) = ask question
 
 -- the command that the code has read from a line
 abbrev pub seen_command : CommandOfLine → Command

@@ -5,18 +5,16 @@ ghost use Rattle.stn_net.specs.Schedule.{times_of};
 ghost use Rattle.stn_lift.specs.PlanSource.{events_of};
 ghost use Rattle.stn_text.specs.Lines.{words_of};
 ghost use Rattle.stn_exec.specs.Command.{add, done, amend, withdraw, merge, send_all, send, send_items, deliver};
-ghost use Rattle.stn_exec.specs.Running.{seen_inquiry};
-ghost use Rattle.stn_exec.specs.Effect.{refusing_time, side_of, difference_read, question_asked, action_effect, check_reply, times_answer, times_from};
+ghost use Rattle.stn_exec.specs.Effect.{refusing_time, side_of, difference_read, action_effect, check_reply, times_answer, times_from};
 ghost use Rattle.stn_exec.specs.Saying.{IsReply, IsEffect};
 
 use crate::answer::Answer;
-use crate::command::{Inquiry, read_records, read_tombstones};
+use crate::command::{read_records, read_tombstones};
 use std::alloc::Allocator;
 use stn_net::Event;
-use stn_questions::Question;
 use stn_records::Id;
 use stn_refusal::Failure;
-use stn_replica::Replica;
+use stn_site::SitePlan;
 use stn_text::first_word;
 use stn_time::{HORIZON, Ms};
 use stn_world::World;
@@ -142,11 +140,11 @@ pub fn deliver<A: Allocator + Copy>(
 /// Checks the times of the events from 1 on, which are the words of a line.
 pub fn check<A: Allocator + Copy>(
     alloc: A,
-    replica: &Replica<A>,
+    plan: &SitePlan<A>,
     line: &[u8],
 ) -> Result<Answer, Failure>
-    requires { length (words_of line.now) ≡ events_of replica.now.source }
-    ensures { IsReply result (check_reply replica.now.source replica.now.state (times_from (words_of line.now))) }
+    requires { length (words_of line.now) ≡ events_of plan.now.source }
+    ensures { IsReply result (check_reply plan.now.source plan.now.state (times_from (words_of line.now))) }
 {
     let mut times = Vec::new(alloc);
     times.push(Ms::new(0).unwrap())?;
@@ -156,16 +154,16 @@ pub fn check<A: Allocator + Copy>(
         times.push(time)?;
         rest = behind;
     }
-    Ok(check_times(replica, &times))
+    Ok(check_times(plan, &times))
 }
 
 /// Checks the times of all events, the origin's, 0, first.
-pub fn check_times<A: Allocator + Copy>(replica: &Replica<A>, times: &[Ms]) -> Answer
+pub fn check_times<A: Allocator + Copy>(plan: &SitePlan<A>, times: &[Ms]) -> Answer
     requires origin { times_of times.now 0 ≡ pos 0 }
-    requires one_each { length times.now ≡ events_of replica.now.source + 1 }
-    ensures { result ≡ times_answer replica.now.source replica.now.state times.now }
+    requires one_each { length times.now ≡ events_of plan.now.source + 1 }
+    ensures { result ≡ times_answer plan.now.source plan.now.state times.now }
 {
-    match replica.check(times) {
+    match plan.check(times) {
         Some(name) => Answer::Broken(name),
         None => Answer::Schedule,
     }
@@ -200,17 +198,4 @@ pub fn read_time(word: &[u8]) -> Result<Ms, Failure>
         Ok(time) => Ok(time),
         Err(fault) => Err(Failure::from(fault)),
     }
-}
-
-/// The question that is asked, where its time can be read.
-pub fn question_asked(inquiry: &Inquiry<'_>) -> Result<Question, Failure>
-    ensures { result ≡ question_asked (seen_inquiry inquiry.now) }
-{
-    Ok(match inquiry {
-        Inquiry::Records => Question::Records,
-        Inquiry::Steps => Question::Steps,
-        Inquiry::Bounds => Question::Bounds,
-        Inquiry::Ready(now) => Question::Ready(read_time(now)?),
-        Inquiry::Why(event) => Question::Why(*event),
-    })
 }

@@ -8,6 +8,7 @@ ghost use Rattle.stn_exec.specs.Running.{seen_command, seen_action};
 
 use std::alloc::Allocator;
 use stn_net::Event;
+use stn_questions::Question;
 use stn_records::Id;
 use stn_text::{first_word, read_number};
 use stn_time::Memory;
@@ -17,21 +18,6 @@ use stn_time::Memory;
 pub struct Command<'a> {
     pub site: u32,
     pub action: Action<'a>,
-}
-
-/// What a question asks.
-#[derive(Clone, Copy)]
-pub enum Inquiry<'a> {
-    /// Which records there are.
-    Records,
-    /// Which steps there are.
-    Steps,
-    /// Which bounds there are.
-    Bounds,
-    /// Which events may run from this time on.
-    Ready(&'a [u8]),
-    /// Why the window of this event ends where it does.
-    Why(Event),
 }
 
 /// What a command does.
@@ -76,8 +62,10 @@ pub enum Action<'a> {
     Next(&'a [u8]),
     /// Prints the whole rest of the plan from this time on.
     Rehearse(&'a [u8]),
+    /// Prints which events may run from this time on.
+    Ready(&'a [u8]),
     /// Answers a question of the plan.
-    Ask(Inquiry<'a>),
+    Ask(Question),
 }
 
 // The bound of two events and two sides, which are words of a line.
@@ -359,11 +347,11 @@ fn read_alone<'a>(name: &[u8], rest: &'a [u8]) -> Option<Action<'a>>
         return None;
     }
     if is_named(name, b"records") {
-        Some(Action::Ask(Inquiry::Records))
+        Some(Action::Ask(Question::Records))
     } else if is_named(name, b"steps") {
-        Some(Action::Ask(Inquiry::Steps))
+        Some(Action::Ask(Question::Steps))
     } else if is_named(name, b"bounds") {
-        Some(Action::Ask(Inquiry::Bounds))
+        Some(Action::Ask(Question::Bounds))
     } else {
         None
     }
@@ -375,7 +363,7 @@ fn read_ready(rest: &[u8]) -> Option<Action<'_>>
     let (now, behind) = first_word(rest)?;
     match first_word(behind) {
         Some(_) => None,
-        None => Some(Action::Ask(Inquiry::Ready(now))),
+        None => Some(Action::Ready(now)),
     }
 }
 
@@ -387,7 +375,7 @@ fn read_why(rest: &[u8]) -> Option<Action<'_>>
         return None;
     }
     match read_event(word) {
-        Some(event) => Some(Action::Ask(Inquiry::Why(event))),
+        Some(event) => Some(Action::Ask(Question::Why(event))),
         None => None,
     }
 }

@@ -16,6 +16,7 @@ use std::alloc::{AllocError, Allocator};
 use stn_net::Event;
 use stn_refusal::{Code, Refusal};
 use stn_replica::Replica;
+use stn_site::SitePlan;
 use stn_time::{Memory, Ms};
 use stn_windows::{Next, RehearseFault};
 
@@ -126,17 +127,17 @@ fn append_overdue<B: Allocator>(fault: RehearseFault, out: &mut Vec<u8, B>) -> R
 /// Appends whether the times of all events, the origin's, 0, first, are a schedule: `schedule`, or
 /// `broken` and the name of the first bound that they break. If memory runs out, it appends nothing.
 pub fn append_check<A: Allocator + Copy, B: Allocator>(
-    replica: &Replica<A>,
+    plan: &SitePlan<A>,
     times: &[Ms],
     out: &mut Vec<u8, B>,
 ) -> Result<(), Memory>
     requires origin { times_of times.now 0 ≡ pos 0 }
-    requires one_each { length times.now ≡ events_of replica.now.source + 1 }
-    ensures text { OnOk result (out.new.items ≡ out.old.items ++ answer_text (times_answer replica.now.source replica.now.state times.now)) }
+    requires one_each { length times.now ≡ events_of plan.now.source + 1 }
+    ensures text { OnOk result (out.new.items ≡ out.old.items ++ answer_text (times_answer plan.now.source plan.now.state times.now)) }
     ensures kept { OnErr result (out.new.items ≡ out.old.items) }
 {
-    let mut text = Vec::new(replica.alloc());
-    check_times(replica, times).print(&mut text)?;
+    let mut text = Vec::new(plan.alloc());
+    check_times(plan, times).print(&mut text)?;
     out.extend_from_slice(&text)
 }
 

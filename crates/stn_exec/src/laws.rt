@@ -1,16 +1,17 @@
-ghost use Rattle.std.specs.Prelude.{◌≡◌, ◌↔◌, ℕ, List, Ok};
+ghost use Rattle.std.specs.Prelude.{◌≡◌, ◌↔◌, ℕ, ℤ, List, Ok};
 ghost use Rattle.stn_text.specs.Lines.{lines_of};
 ghost use Rattle.stn_records.specs.Content.{Item, HasItem};
 ghost use Rattle.stn_site.specs.Report.{IsReport};
 ghost use Rattle.stn_questions.specs.declared.asked.Question.{Question};
 ghost use Rattle.stn_questions.specs.Answer.{AsksOfPlan, IsAnswer};
+ghost use Rattle.stn_questions.specs.Ready.{IsReadyText};
 ghost use Rattle.stn_world.specs.World.{opening_world, content_at};
 ghost use Rattle.stn_world.specs.Steps.{run, TookAt, TookSameAt, TookSameItemsAt};
 ghost use Rattle.stn_exec.specs.Output.{IsOutput, CountsRefusals};
 ghost use Rattle.stn_exec.specs.Script.{Start, heading_of, last_line, script_outcome};
-ghost use Rattle.stn_exec.specs.Reports.{steps_of_lines, LineOf, first_world, steps_before, world_at, ReportsSite, AsksSite, PrintsAt};
+ghost use Rattle.stn_exec.specs.Reports.{steps_of_lines, LineOf, first_world, steps_before, world_at, ReportsSite, AsksSite, AsksReady, PrintsAt};
 
-use stn_questions::one_answer;
+use stn_questions::{one_answer, one_ready_text};
 use stn_records::counts_same;
 use stn_site::one_report;
 use stn_world::{sites_are_unions, sites_took_same_same_bytes};
@@ -24,6 +25,7 @@ pub fn one_script()
 {
     one_report();
     one_answer();
+    one_ready_text();
 }
 
 /// The law that the commands of a script are a run of the world's steps, and what its reports say; it
@@ -70,5 +72,22 @@ pub fn questions_are_answered()
 {
     sites_took_same_same_bytes();
     one_answer();
+    counts_same();
+}
+
+/// The law of what a script's commands `ready` print; it does nothing. What the line of a site's command
+/// prints says which events may run from its time on, by the plan and by what the site holds. So two
+/// sites of one plan, of one script or of two, that took the same additions and withdrawals print the
+/// same.
+pub fn ready_is_answered()
+    ensures text { (script output text : List ℕ) (at : LineOf script) (site : ℕ) (now : ℤ) → AsksReady at site now → PrintsAt at output text
+        → IsReadyText at.start.source (content_at (world_at at) site) now text }
+    ensures bytes { (script other output last text last_text : List ℕ) (at : LineOf script) (there : LineOf other) (site others : ℕ) (now : ℤ)
+        → AsksReady at site now → AsksReady there others now → at.start.source ≡ there.start.source
+        → TookSameAt (first_world at) (steps_before at) site (first_world there) (steps_before there) others
+        → PrintsAt at output text → PrintsAt there last last_text → text ≡ last_text }
+{
+    sites_took_same_same_bytes();
+    one_ready_text();
     counts_same();
 }

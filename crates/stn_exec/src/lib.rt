@@ -3,7 +3,7 @@
 
 pub use command::{read_event, read_id};
 pub use dispatch::{append_check, append_next, append_rest};
-pub use laws::{one_script, questions_are_answered, scripts_are_runs};
+pub use laws::{one_script, questions_are_answered, ready_is_answered, scripts_are_runs};
 pub use script::{Ran, RunFault, run};
 pub use stn_device::{Counted, MOST_BYTES};
 pub use stn_world::World;

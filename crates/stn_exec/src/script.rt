@@ -6,25 +6,25 @@ ghost use Rattle.stn_lift.specs.PlanSource.{events_of};
 ghost use Rattle.stn_text.specs.Lines.{lines_of, words_of};
 ghost use Rattle.stn_refusal.specs.declared.failure.Failure.TheVariants.{Refused};
 ghost use Rattle.stn_world.specs.World.{HasSite, content_at};
-ghost use Rattle.stn_exec.specs.Command.{report, check, next, rehearse, ask};
-ghost use Rattle.stn_exec.specs.Effect.{action_effect, asking, command_effect};
+ghost use Rattle.stn_exec.specs.Command.{report, check, next, rehearse, ready, ask};
+ghost use Rattle.stn_exec.specs.Effect.{action_effect, command_effect};
 ghost use Rattle.stn_exec.specs.Output.{CountsRefusals, WritesOutput, WritesOutputPart};
-ghost use Rattle.stn_exec.specs.Running.{seen_inquiry, seen_action, seen_command, IsForEvents, IsReplied, IsRun};
+ghost use Rattle.stn_exec.specs.Running.{seen_action, seen_command, IsForEvents, IsReplied, IsRun};
 ghost use Rattle.stn_exec.specs.Saying.{Says, Declines};
 ghost use Rattle.stn_exec.specs.Script.{line_effect, line_outcome, lines_outcome, started, script_outcome, last_line};
 ghost use Rattle.stn_exec.specs.declared.script.RunFault.TheVariants.{Read, Write, Bound, Memory};
 
 use crate::actions::{
-    add, amend, check, deliver, done, merge, question_asked, read_time, send, send_all, withdraw,
+    add, amend, check, deliver, done, merge, read_time, send, send_all, withdraw,
 };
 use crate::answer::Answer;
-use crate::command::{Action, Command, Inquiry, read_command};
+use crate::command::{Action, Command, read_command};
 use crate::dispatch::{append_next, append_rehearsal};
 use crate::heading::{open, opening_word};
 use std::alloc::{AllocError, Allocator};
 use std::io::{Read, Write};
 use stn_device::{Counted, MOST_BYTES, ReadFault, WriteFault, read_whole, write_whole};
-use stn_questions::{Question, WhyFault, print_answer};
+use stn_questions::{Question, WhyFault, print_answer, print_ready};
 use stn_refusal::{Code, Failure, Refusal};
 use stn_replica::Replica;
 use stn_text::first_line;
@@ -196,7 +196,8 @@ fn reply_action<A: Allocator + Copy>(
         Action::Check(times) => check_at(alloc, world, site, times, out),
         Action::Next(now) => next_at(world, site, now, out),
         Action::Rehearse(now) => rehearse_at(world, site, now, out),
-        Action::Ask(inquiry) => ask_at(world, site, inquiry, out),
+        Action::Ready(now) => ready_at(world, site, now, out),
+        Action::Ask(question) => answer_at(world, site, *question, out),
     }
 }
 
@@ -234,7 +235,7 @@ fn check_at<A: Allocator + Copy>(
     requires fits { length (words_of times.now) ≡ events_of world.now.source }
     ensures { IfOk result (IsReplied world.now out.old.items out.new.items (action_effect world.now site (check (words_of times.now)))) }
 {
-    say_outcome(check(alloc, replica_at(world, site), times), out)
+    say_outcome(check(alloc, replica_at(world, site).plan(), times), out)
 }
 
 // Appends what comes next at a site from a time on, which is a word of a line. Whether it is refused.
@@ -272,18 +273,21 @@ fn rehearse_at<A: Allocator + Copy>(
     }
 }
 
-// Appends what a site answers to a question of a line. Whether it is refused.
-fn ask_at<A: Allocator + Copy>(
+// Appends which events may run at a site from a time on, which is a word of a line. Whether it is refused.
+fn ready_at<A: Allocator + Copy>(
     world: &World<A>,
     site: u32,
-    inquiry: &Inquiry<'_>,
+    now: &[u8],
     out: &mut Vec<u8, A>,
 ) -> Result<bool, Memory>
     requires { HasSite world.now site }
-    ensures { IfOk result (IsReplied world.now out.old.items out.new.items (action_effect world.now site (ask (seen_inquiry inquiry.now)))) }
+    ensures { IfOk result (IsReplied world.now out.old.items out.new.items (action_effect world.now site (ready now.now))) }
 {
-    match question_asked(inquiry) {
-        Ok(question) => answer_at(world, site, question, out),
+    match read_time(now) {
+        Ok(time) => {
+            print_ready(replica_at(world, site), time, out)?;
+            Ok(false)
+        }
         Err(failure) => decline(failure, out),
     }
 }
@@ -296,9 +300,9 @@ fn answer_at<A: Allocator + Copy>(
     out: &mut Vec<u8, A>,
 ) -> Result<bool, Memory>
     requires { HasSite world.now site }
-    ensures { IfOk result (IsReplied world.now out.old.items out.new.items (asking world.now site (Ok question))) }
+    ensures { IfOk result (IsReplied world.now out.old.items out.new.items (action_effect world.now site (ask question))) }
 {
-    match print_answer(replica_at(world, site), question, out) {
+    match print_answer(replica_at(world, site).plan(), question, out) {
         Ok(()) => Ok(false),
         Err(WhyFault::NoEvent) => decline(Failure::refused(Code::NoEvent), out),
         Err(WhyFault::Memory) => Err(AllocError),

@@ -8,8 +8,7 @@ use Rattle.stn_windows.specs.Window.{IsWindow}
 use Rattle.stn_picture.specs.declared.span.Span.{Span}
 use Rattle.stn_picture.specs.Axis.{later, last_earliest, last_latest}
 use Rattle.stn_picture.specs.Spans.{AreSpans}
-use Rattle.stn_matrix.specs.Table.{Table}
-use Rattle.stn_matrix.specs.Tightest.{IsExact}
+use Rattle.stn_net.specs.Schedule.{HasSchedule}
 use Rattle.stn_lift.specs.PlanSource.{PlanSource, events_of}
 use Rattle.stn_records.specs.Content.{Content}
 use Rattle.stn_site.specs.Bounds.{all_bounds}
@@ -58,13 +57,12 @@ text_grown f items place item front old new within is was grown =
     ∙ ap (λ last. flat_map f (take place items) ++ last) (append-nil (f item))))
 
 -- the picture of bounds with a schedule
-pub windows_picture : (source : PlanSource) (state : Content) (table : Table) (spans seen : List Span) (text : List ℕ)
-    → IsExact (all_bounds source state) table → table.events ≡ events_of source
-    → AreSpans (all_bounds source state) (is_done state) table.events spans → seen ≡ spans
+pub windows_picture : (source : PlanSource) (state : Content) (spans seen : List Span) (text : List ℕ)
+    → HasSchedule (all_bounds source state) → AreSpans (all_bounds source state) (is_done state) (events_of source) spans → seen ≡ spans
     → text ≡ windows_text (20 * events_of source + 40) (gap_of seen) (steps_text source) seen → IsWindowsPicture source state text
-windows_picture source state table spans seen text exact events windows is whole = record {
-  possible = exact.possible;
+windows_picture source state spans seen text possible windows is whole = record {
+  possible = possible;
   spans = spans;
-  windows = subst (λ n. AreSpans (all_bounds source state) (is_done state) n spans) events windows;
+  windows = windows;
   whole = whole ∙ ap (λ drawn. windows_text (20 * events_of source + 40) (gap_of drawn) (steps_text source) drawn) is;
 }

@@ -1,5 +1,5 @@
 -- What is asked of a plan depends on the live records alone.
-use Rattle.std.proofs.Common.{◌≡◌, ◌⊎◌, inl, inr, ⊎_elim, ℕ, ℤ, neg_ℤ, ◌+◌, Bool, List, ◌++◌, codes, length, map, refl, ap, subst, ◌∙◌}
+use Rattle.std.proofs.Common.{◌≡◌, inl, inr, ⊎_elim, ℕ, ℤ, neg_ℤ, ◌+◌, Bool, List, ◌++◌, codes, length, map, ap, subst, ◌∙◌}
 use Rattle.std.specs.List.{flat_map, range_with_len}
 use Rattle.stn_time.specs.Text.{printed}
 use Rattle.stn_net.specs.Difference.{Difference}
@@ -17,10 +17,10 @@ use Rattle.stn_site.specs.Bounds.{bounds_of}
 use Rattle.stn_site.specs.Lines.{line, window_line, conflict_line, link_line}
 use Rattle.stn_site.specs.Report.{says_done, IsConflictPart}
 use Rattle.stn_questions.specs.declared.asked.Question.{Question}
-use Rattle.stn_questions.specs.declared.asked.Question.TheVariants.{Records, Steps, Bounds, Ready, Why}
+use Rattle.stn_questions.specs.declared.asked.Question.TheVariants.{Records, Steps, Bounds, Why}
 use Rattle.stn_questions.specs.Bounds.{listed_line}
 use Rattle.stn_questions.specs.Ready.{IsReadyAnswer, SaysReady, SaysConflict, IsReadyText}
-use Rattle.stn_questions.specs.Why.{end_text, IsWhyPart, IsWhyText}
+use Rattle.stn_questions.specs.Why.{end_text, IsWhyPart}
 use Rattle.stn_questions.specs.Answer.{IsAnswer, AsksOfPlan}
 
 abbrev Entries : Type 0
@@ -37,7 +37,8 @@ abbrev ids_of : Entries → List SiteCounter
 ids_of records = map (λ entry. entry.0) records
 
 module _ (source : PlanSource) (s t : Content) (live : live_of s ≡ live_of t) where
-  same_ready : (now : ℤ) (text : List ℕ) → IsReadyText source s now text → IsReadyText source t now text
+  -- states with the same live records have the same events ready
+  pub same_ready : (now : ℤ) (text : List ℕ) → IsReadyText source s now text → IsReadyText source t now text
   same_ready now text p = ⊎_elim
       (λ (says : SaysReady source s now text). inl (record {
         possible = subst (λ (records : Entries). HasSchedule (bounds_with source records)) live says.possible;
@@ -85,5 +86,4 @@ module _ (source : PlanSource) (s t : Content) (live : live_of s ≡ live_of t) 
   counted_answer Steps text asks p = p
   counted_answer Bounds text asks p =
       p ∙ (λ i. flat_map (listed_line (base_bounds source) (ids_of (live i)) (bounds_of (live i))) (range_with_len 0 (length (bounds_with source (live i)))))
-  counted_answer (Ready now) text asks p = same_ready now text p
   counted_answer (Why event) text asks p = ⊎_elim (λ why. inl (same_why event text why)) (λ conflict. inr (same_conflict text conflict)) p

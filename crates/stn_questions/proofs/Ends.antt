@@ -1,5 +1,5 @@
 -- Why a window ends where it does.
-use Rattle.std.proofs.Common.{◌≡◌, ℕ, ℤ, neg_ℤ, List, ◌++◌, codes, refl, sym, ap, subst, ◌∙◌, arith, append_assoc}
+use Rattle.std.proofs.Common.{◌≡◌, ℕ, ℤ, neg_ℤ, List, ◌++◌, codes, refl, ap, subst, ◌∙◌, arith, append_assoc}
 use Rattle.std.proofs.lemmas.Int.{ints}
 use Rattle.std.specs.List.{flat_map}
 use Rattle.stn_time.specs.Text.{printed}
@@ -16,7 +16,7 @@ use Rattle.stn_site.specs.Bounds.{all_bounds, live_bounds}
 use Rattle.stn_site.specs.Names.{live_ids}
 use Rattle.stn_site.specs.Lines.{line, window_line, link_line}
 use Rattle.stn_site.specs.Report.{is_done}
-use Rattle.stn_questions.specs.Why.{end_text, IsWhyPart}
+use Rattle.stn_questions.specs.Why.{IsWhyPart}
 
 -- the tightest difference from an event to the origin gives its earliest time
 earliest_is : (bounds : List Difference) (event : ℕ) (earliest latest most : ℤ) → HasSchedule bounds → IsWindow bounds event earliest latest

@@ -1,5 +1,5 @@
 -- How long the steps of a plan last, by its bounds.
-use Rattle.std.proofs.Common.{◌≡◌, ℕ, ℤ, zero, suc, ◌+◌, ◌-◌, ◌*◌, ◌<◌, ◌≤◌, ◌⊎◌, List, [], ◌∷◌, ◌++◌, length, take, drop, get_or, Result, Ok, Err, refl, sym, ap, subst, ◌∙◌, arith, length-append, length-drop, ⊎_elim}
+use Rattle.std.proofs.Common.{◌≡◌, ℕ, ℤ, zero, suc, ◌+◌, ◌*◌, ◌<◌, ◌≤◌, List, [], ◌∷◌, ◌++◌, length, drop, get_or, Result, Ok, Err, refl, sym, ap, ◌∙◌, arith, length-append, length-drop, ⊎_elim}
 use Rattle.std.proofs.lemmas.List.{get_or-drop, get_or_append_left, get_or-append_right, get_or_at}
 use Rattle.std.proofs.lemmas.Bool.{cases_lt}
 use Rattle.std.specs.Result.{result_unwrap_or}
@@ -7,7 +7,6 @@ use Rattle.stn_net.specs.Difference.{Difference}
 use Rattle.stn_net.specs.Horizon.{horizon_bounds}
 use Rattle.stn_net.specs.Schedule.{times_of}
 use Rattle.stn_net.proofs.Horizons.{length-horizon_bounds}
-use Rattle.stn_conflict.specs.Arcs.{bound_at}
 use Rattle.stn_pddl.specs.declared.fault.DomainFault.{DomainFault}
 use Rattle.stn_pddl.specs.Schemas.{ActionSchema}
 use Rattle.stn_pddl.specs.Domains.{domain_of}

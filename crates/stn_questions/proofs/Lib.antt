@@ -6,3 +6,4 @@ pub mod Listing
 pub mod OneAnswer
 pub mod OneReady
 pub mod ReadyLists
+pub mod ReadyNext

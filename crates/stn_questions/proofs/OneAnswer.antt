@@ -1,5 +1,5 @@
 -- A plan and a state have one answer to each question.
-use Rattle.std.proofs.Common.{◌≡◌, ◌⊎◌, ℕ, ℤ, neg_ℤ, Bool, List, ◌++◌, codes, refl, sym, ap, subst, ◌∙◌, ⊎_elim, inr, append_assoc}
+use Rattle.std.proofs.Common.{◌≡◌, ℕ, ℤ, Bool, List, ◌++◌, codes, refl, sym, ap, subst, ◌∙◌, ⊎_elim, inr}
 use Rattle.std.proofs.lemmas.List.{append_cancel_left}
 use Rattle.std.specs.List.{flat_map}
 use Rattle.stn_net.specs.Difference.{Difference}
@@ -8,19 +8,18 @@ use Rattle.stn_windows.specs.declared.answers.Next.{Next}
 use Rattle.stn_windows.specs.declared.answers.Next.TheVariants.{Run, AllDone, Overdue}
 use Rattle.stn_windows.specs.Dispatch.{IsNext}
 use Rattle.stn_windows.proofs.Windows.{one_window}
-use Rattle.stn_lift.specs.PlanSource.{PlanSource, base_bounds}
+use Rattle.stn_lift.specs.PlanSource.{PlanSource}
 use Rattle.stn_records.specs.Content.{Content}
 use Rattle.stn_conflict.specs.declared.links.Link.{Link}
 use Rattle.stn_conflict.specs.Arcs.{IsNegativeCycle}
 use Rattle.stn_conflict.specs.Named.{IsWay}
-use Rattle.stn_site.specs.Bounds.{all_bounds, live_bounds}
+use Rattle.stn_site.specs.Bounds.{all_bounds}
 use Rattle.stn_site.specs.Report.{done_events, is_done, IsConflictPart, IsReport, heading}
-use Rattle.stn_site.specs.Lines.{window_line, link_line}
-use Rattle.stn_site.specs.Names.{live_ids}
-use Rattle.stn_questions.specs.Ready.{AreReadyLines, ready_line, IsReadyAnswer, SaysReady, SaysConflict, IsReadyText}
+use Rattle.stn_site.specs.Lines.{window_line}
+use Rattle.stn_questions.specs.Ready.{ready_line, IsReadyAnswer, IsReadyText}
 use Rattle.stn_questions.specs.Why.{end_text, IsWhyPart, IsWhyText}
 use Rattle.stn_questions.specs.declared.asked.Question.{Question}
-use Rattle.stn_questions.specs.declared.asked.Question.TheVariants.{Records, Steps, Bounds, Ready, Why}
+use Rattle.stn_questions.specs.declared.asked.Question.TheVariants.{Records, Steps, Bounds, Why}
 use Rattle.stn_questions.specs.Records.{record_line, IsRecordsText}
 use Rattle.stn_questions.specs.Answer.{IsAnswer}
 use Rattle.stn_questions.proofs.KnownOnce.{one_known}
@@ -37,7 +36,7 @@ one_said bounds done now AllDone text other p q = p ∙ sym q
 one_said bounds done now (Overdue event) text other p q = p ∙ sym q
 
 -- one text says which events are ready
-one_ready : OneNext → (source : PlanSource) (state : Content) (now : ℤ) (text other : List ℕ) → IsReadyText source state now text → IsReadyText source state now other → text ≡ other
+pub one_ready : OneNext → (source : PlanSource) (state : Content) (now : ℤ) (text other : List ℕ) → IsReadyText source state now text → IsReadyText source state now other → text ≡ other
 one_ready unique source state now text other p q =
     ⊎_elim
     (λ mine. ⊎_elim
@@ -95,13 +94,12 @@ one_text : (state : Content) (text other : List ℕ) → IsRecordsText state tex
 one_text state text other p q = p.lines ∙ ap (flat_map (record_line state)) (one_known state p.ids q.ids p.known q.known) ∙ sym q.lines
 
 -- a question has one answer
-pub one_answer : OneNext → OneReport → OneWay → Refutes → (source : PlanSource) (state : Content) (question : Question) (text other : List ℕ)
+pub one_answer : OneReport → OneWay → Refutes → (source : PlanSource) (state : Content) (question : Question) (text other : List ℕ)
     → IsAnswer source state question text → IsAnswer source state question other → text ≡ other
-one_answer nexts reports ways refutes source state Records text other p q = one_text state text other p q
-one_answer nexts reports ways refutes source state Steps text other p q = p ∙ sym q
-one_answer nexts reports ways refutes source state Bounds text other p q = p ∙ sym q
-one_answer nexts reports ways refutes source state (Ready now) text other p q = one_ready nexts source state now text other p q
-one_answer nexts reports ways refutes source state (Why event) text other p q = one_why reports ways refutes source state event text other p q
+one_answer reports ways refutes source state Records text other p q = one_text state text other p q
+one_answer reports ways refutes source state Steps text other p q = p ∙ sym q
+one_answer reports ways refutes source state Bounds text other p q = p ∙ sym q
+one_answer reports ways refutes source state (Why event) text other p q = one_why reports ways refutes source state event text other p q
 
 -- equal plans and equal states have the same answer
 pub same_answer : ((source : PlanSource) → (state : Content) → (question : Question) → (text other : List ℕ) → IsAnswer source state question text → IsAnswer source state question other → text ≡ other)

@@ -1,5 +1,5 @@
 -- One list says which events are ready.
-use Rattle.std.proofs.Common.{◌≡◌, ◌⊎◌, ℕ, ℤ, zero, suc, ◌+◌, ◌<◌, ◌≤◌, ◌≤ℤ◌, Bool, true, false, cond, eqb, List, [], ◌∷◌, length, get_or, All, Some, refl, sym, ap, subst, ◌∙◌, arith, ⊎_elim}
+use Rattle.std.proofs.Common.{◌≡◌, ℕ, ℤ, zero, suc, ◌+◌, ◌<◌, Bool, true, false, cond, eqb, List, [], ◌∷◌, length, get_or, All, Some, refl, sym, ap, subst, ◌∙◌, arith, ⊎_elim}
 use Rattle.std.proofs.lemmas.Bool.{cases_lt}
 use Rattle.std.proofs.lemmas.Bool.Decides.{nat_tests}
 use Rattle.std.proofs.lemmas.Int.{ints}
@@ -20,7 +20,7 @@ head_counts : (one : ReadyEvent) (ready : List ReadyEvent) (event : ℕ) → cou
 head_counts one ready event = sum_by-cons (λ (x : ReadyEvent). cond (eqb x.event event) 1 0) one ready
 
 -- an event that counts stands somewhere in the list
-stands : (ready : List ReadyEvent) (event : ℕ) → 0 < counted ready event → (place : ℕ) × (place < length ready) × ((d : ReadyEvent) → (get_or ready place d).event ≡ event)
+pub stands : (ready : List ReadyEvent) (event : ℕ) → 0 < counted ready event → (place : ℕ) × (place < length ready) × ((d : ReadyEvent) → (get_or ready place d).event ≡ event)
 stands [] event some = absurd (omega arith)
 stands (one ∷ ready) event some = by (eqb one.event event) refl (λ later. stands ready event later)
   where
@@ -33,7 +33,7 @@ stands (one ∷ ready) event some = by (eqb one.event event) refl (λ later. sta
         (suc later.0, omega (arith, later.1), λ d. later.2 d)
 
 -- the first comes before each
-first_before : (one : ReadyEvent) (ready : List ReadyEvent) (place : ℕ) (d : ReadyEvent) → AllPairs IsBefore (one ∷ ready) → place < length (one ∷ ready) → IsBefore one (get_or (one ∷ ready) place d)
+pub first_before : (one : ReadyEvent) (ready : List ReadyEvent) (place : ℕ) (d : ReadyEvent) → AllPairs IsBefore (one ∷ ready) → place < length (one ∷ ready) → IsBefore one (get_or (one ∷ ready) place d)
 first_before one ready zero d order within = (omega (arith, ints), λ same. omega arith)
 first_before one ready (suc place) d order within = order 0 (suc place) d (omega arith) within
 

@@ -3,11 +3,10 @@ use Rattle.std.specs.Prelude.{◌≡◌, ◌<◌, ℕ, List}
 use Rattle.stn_lift.specs.PlanSource.{PlanSource, events_of}
 use Rattle.stn_records.specs.Content.{Content}
 use Rattle.stn_questions.specs.declared.asked.Question.{Question}
-use Rattle.stn_questions.specs.declared.asked.Question.TheVariants.{Records, Steps, Bounds, Ready, Why}
+use Rattle.stn_questions.specs.declared.asked.Question.TheVariants.{Records, Steps, Bounds, Why}
 use Rattle.stn_questions.specs.Records.{IsRecordsText}
 use Rattle.stn_questions.specs.Steps.{steps_text}
 use Rattle.stn_questions.specs.Bounds.{bounds_text}
-use Rattle.stn_questions.specs.Ready.{IsReadyText}
 use Rattle.stn_questions.specs.Why.{IsWhyText}
 
 -- the text answers the question about a plan and a state
@@ -15,7 +14,6 @@ abbrev pub IsAnswer : PlanSource → Content → Question → List ℕ → Type 
 IsAnswer source state Records text = IsRecordsText state text
 IsAnswer source state Steps text = text ≡ steps_text source
 IsAnswer source state Bounds text = text ≡ bounds_text source state
-IsAnswer source state (Ready now) text = IsReadyText source state now text
 IsAnswer source state (Why event) text = IsWhyText source state event text
 
 -- the question is about an event that the plan has not

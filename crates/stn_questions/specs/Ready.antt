@@ -1,7 +1,6 @@
 -- What `ready` prints.
-use Rattle.std.specs.Prelude.{◌≡◌, ◌⊎◌, ℕ, ℤ, ◌==◌, ◌≤ℤ◌, Bool, List, ◌++◌, codes, All, Some, count_by}
+use Rattle.std.specs.Prelude.{◌≡◌, ◌⊎◌, ℕ, ℤ, ◌==◌, ◌≤ℤ◌, Bool, List, ◌∷◌, ◌++◌, codes, All, Some, count_by}
 use Rattle.std.specs.List.{flat_map, AllPairs}
-use Rattle.stn_time.specs.Text.{printed}
 use Rattle.stn_net.specs.Difference.{Difference}
 use Rattle.stn_net.specs.Event.{event_text}
 use Rattle.stn_net.specs.Schedule.{HasSchedule}
@@ -29,6 +28,13 @@ pub record AreReadyEvents (bounds : List Difference) (done : List Bool) (now : �
 -- `<event> <first> <last>`
 abbrev pub ready_line : ReadyEvent → List ℕ
 ready_line one = line (event_text one.event ++ codes " " ++ times_text one.first one.last)
+
+-- the first line says that the event may run from that time on, and all lines have the same last time
+pub record BeginsWithNext (time : ℤ) (event : ℕ) (text : List ℕ) : Type 0 where
+  pub last : ℤ
+  pub others : List ReadyEvent
+  pub lines : text ≡ flat_map ready_line (record { first = time; event = event; last = last } ∷ others)
+  pub until : All (λ one. one.last ≡ last) others
 
 -- the lines of the events that are ready from now on
 pub record AreReadyLines (bounds : List Difference) (done : List Bool) (now : ℤ) (text : List ℕ) : Type 0 where

@@ -3,32 +3,30 @@ ghost use Rattle.stn_questions.specs.Answer.{IsAnswer, AsksOfNoEvent};
 
 use crate::asked::Question;
 use crate::bounds::print_bounds;
-use crate::ready::print_ready;
 use crate::records::print_records;
 use crate::steps::print_steps;
 use crate::why::{WhyFault, print_why};
 use std::alloc::Allocator;
-use stn_replica::Replica;
+use stn_site::SitePlan;
 
-/// Appends the answer to a question about what a replica holds.
+/// Appends the answer to a question about a plan and what a site holds of it.
 ///
 /// Refused in this order: `NoEvent`, where the question is about an event that is neither one of the
 /// plan nor the origin; `Memory`. After a fault nothing is appended.
 pub fn print_answer<A: Allocator + Copy, B: Allocator>(
-    replica: &Replica<A>,
+    plan: &SitePlan<A>,
     question: Question,
     out: &mut Vec<u8, B>,
 ) -> Result<(), WhyFault>
-    ensures answer { OnOk result ((text : List ℕ) × IsAnswer replica.now.source replica.now.state question text × (out.new.items ≡ out.old.items ++ text)) }
-    ensures no_event { IsErrOf result WhyFault.NoEvent ↔ AsksOfNoEvent replica.now.source question }
+    ensures answer { OnOk result ((text : List ℕ) × IsAnswer plan.now.source plan.now.state question text × (out.new.items ≡ out.old.items ++ text)) }
+    ensures no_event { IsErrOf result WhyFault.NoEvent ↔ AsksOfNoEvent plan.now.source question }
     ensures kept { OnErr result (out.new.items ≡ out.old.items) }
 {
     match question {
-        Question::Records => print_records(replica, out)?,
-        Question::Steps => print_steps(replica, out)?,
-        Question::Bounds => print_bounds(replica, out)?,
-        Question::Ready(now) => print_ready(replica, now, out)?,
-        Question::Why(event) => print_why(replica, event, out)?,
+        Question::Records => print_records(plan, out)?,
+        Question::Steps => print_steps(plan, out)?,
+        Question::Bounds => print_bounds(plan, out)?,
+        Question::Why(event) => print_why(plan, event, out)?,
     }
     Ok(())
 }

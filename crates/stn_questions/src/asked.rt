@@ -1,5 +1,4 @@
 use stn_net::Event;
-use stn_time::Ms;
 
 /// A question about a plan.
 #[derive(Clone, Copy, Debug, PartialEq, Eq)]
@@ -10,8 +9,6 @@ pub enum Question {
     Steps,
     /// Which bounds does the plan have?
     Bounds,
-    /// Which events may run from this time on, and until when?
-    Ready(Ms),
     /// Why does this event's window end where it does?
     Why(Event),
 }

@@ -5,31 +5,30 @@ ghost use Rattle.stn_questions.specs.Bounds.{lower_text, upper_text, bound_text,
 use std::alloc::Allocator;
 use stn_net::Bound;
 use stn_records::Id;
-use stn_replica::Replica;
-use stn_site::{BoundName, bound_at, bound_name};
+use stn_site::{BoundName, SitePlan, bound_at, bound_name};
 use stn_time::{HORIZON, Memory, Ms};
 
 /// Appends a line for each of all bounds, the plan's own first and then those of the live records: its
 /// name in reports, its events, and its sides, each a time or `*` where it is open. The bounds need no
 /// schedule. If memory runs out, it appends nothing.
 pub fn print_bounds<A: Allocator + Copy, B: Allocator>(
-    replica: &Replica<A>,
+    plan: &SitePlan<A>,
     out: &mut Vec<u8, B>,
 ) -> Result<(), Memory>
-    ensures printed { OnOk result (out.new.items ≡ out.old.items ++ bounds_text replica.now.source replica.now.state) }
+    ensures printed { OnOk result (out.new.items ≡ out.old.items ++ bounds_text plan.now.source plan.now.state) }
     ensures kept { OnErr result (out.new.items ≡ out.old.items) }
 {
-    let text = text_of(replica)?;
+    let text = text_of(plan)?;
     out.extend_from_slice(&text)
 }
 
-fn text_of<A: Allocator + Copy>(replica: &Replica<A>) -> Result<Vec<u8, A>, Memory>
-    ensures { IfOk result (λ text. text.items ≡ bounds_text replica.now.source replica.now.state) }
+fn text_of<A: Allocator + Copy>(plan: &SitePlan<A>) -> Result<Vec<u8, A>, Memory>
+    ensures { IfOk result (λ text. text.items ≡ bounds_text plan.now.source plan.now.state) }
 {
-    let ids = replica.live_ids()?;
-    let others = replica.live_bounds()?;
-    let mut text = Vec::new(replica.alloc());
-    append_lines(replica.base().bounds(), &ids, &others, &mut text)?;
+    let ids = plan.live_ids()?;
+    let others = plan.live_bounds()?;
+    let mut text = Vec::new(plan.alloc());
+    append_lines(plan.base().bounds(), &ids, &others, &mut text)?;
     Ok(text)
 }
 

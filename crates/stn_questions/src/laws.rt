@@ -1,10 +1,15 @@
-ghost use Rattle.std.specs.Prelude.{◌≡◌, ℕ, List};
+ghost use Rattle.std.specs.Prelude.{◌≡◌, ℕ, ℤ, List};
 ghost use Rattle.stn_lift.specs.PlanSource.{PlanSource};
 ghost use Rattle.stn_records.specs.Content.{Content};
+ghost use Rattle.stn_windows.specs.Dispatch.{IsNext};
+ghost use Rattle.stn_windows.specs.declared.answers.Next.TheVariants.{Run};
+ghost use Rattle.stn_site.specs.Bounds.{all_bounds};
+ghost use Rattle.stn_site.specs.Report.{done_events};
 ghost use Rattle.stn_site.specs.Held.{Held};
 ghost use Rattle.stn_site.specs.Calls.{Accepted, CameBy, TookSame, TookSameItems};
 ghost use Rattle.stn_questions.specs.declared.asked.Question.{Question};
 ghost use Rattle.stn_questions.specs.Answer.{AsksOfPlan, IsAnswer};
+ghost use Rattle.stn_questions.specs.Ready.{BeginsWithNext, IsReadyText};
 
 use stn_conflict::{negative_cycle_is_conflict, one_way};
 use stn_records::counts_same;
@@ -16,17 +21,35 @@ pub fn one_answer()
     ensures { (source : PlanSource) → (state : Content) → (question : Question) → (text other : List ℕ)
         → IsAnswer source state question text → IsAnswer source state question other → text ≡ other }
 {
-    next_unique();
     one_report();
     one_way();
     negative_cycle_is_conflict();
 }
 
+/// The law that a plan and a state have one text that says which events may run from a time on; it does
+/// nothing.
+pub fn one_ready_text()
+    ensures { (source : PlanSource) → (state : Content) → (now : ℤ) → (text other : List ℕ)
+        → IsReadyText source state now text → IsReadyText source state now other → text ≡ other }
+{
+    next_unique();
+}
+
+/// The law that where an event comes next, the first line of those that may run says so, with its time,
+/// and that all of them may run until the same time; it does nothing.
+pub fn ready_begins_with_next()
+    ensures { (source : PlanSource) → (state : Content) → (now time : ℤ) → (event : ℕ) → (text : List ℕ)
+        → IsNext (all_bounds source state) (done_events source state) now (Run time event) → IsReadyText source state now text → BeginsWithNext time event text }
+{
+    next_unique();
+}
+
 /// The law that replicas of one plan that took the same, by whatever calls, in any order, more than once
 /// or merged in any grouping, give the same answers: to each question where they took the same items, and
 /// to each question but that for the records where they took the same additions and withdrawals, where
-/// an amendment is the addition of its record and the withdrawal of the id that it replaces. It does
-/// nothing.
+/// an amendment is the addition of its record and the withdrawal of the id that it replaces. Where they
+/// took the same additions and withdrawals, they also say the same of what may run from a time on. It
+/// does nothing.
 pub fn same_answers()
     ensures items { (ours theirs : List Accepted) → (one other : Held) → CameBy ours one → CameBy theirs other → TookSameItems ours theirs
         → one.source ≡ other.source → (question : Question) → (text last : List ℕ)
@@ -34,8 +57,12 @@ pub fn same_answers()
     ensures plan { (ours theirs : List Accepted) → (one other : Held) → CameBy ours one → CameBy theirs other → TookSame ours theirs
         → one.source ≡ other.source → (question : Question) → AsksOfPlan question → (text last : List ℕ)
         → IsAnswer one.source one.state question text → IsAnswer other.source other.state question last → text ≡ last }
+    ensures ready { (ours theirs : List Accepted) → (one other : Held) → CameBy ours one → CameBy theirs other → TookSame ours theirs
+        → one.source ≡ other.source → (now : ℤ) → (text last : List ℕ)
+        → IsReadyText one.source one.state now text → IsReadyText other.source other.state now last → text ≡ last }
 {
     took_same_same_bytes();
     counts_same();
     one_answer();
+    one_ready_text();
 }

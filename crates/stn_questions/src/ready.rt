@@ -88,7 +88,7 @@ fn append_ready<A: Allocator + Copy>(
         × (out.new.items ≡ out.old.items ++ text)) }
 {
     let matrix = replica.current().unwrap();
-    let flags = replica.done_flags();
+    let flags = replica.plan().done_flags();
     let done = flags_of(&flags, matrix);
     let ready = ready_events(replica.alloc(), matrix, done, now)?;
     append_lines(&ready, out)

@@ -5,7 +5,7 @@ ghost use Rattle.stn_questions.specs.Records.{AreKnown, IsRecordsText, amends_te
 use crate::bounds::append_bound;
 use std::alloc::Allocator;
 use stn_records::{Id, Mark, Record, Records};
-use stn_replica::Replica;
+use stn_site::SitePlan;
 use stn_time::Memory;
 
 /// Appends a line for each known id, in order: the id; its record's bound, where the record is known,
@@ -13,13 +13,13 @@ use stn_time::Memory;
 /// one; `withdrawn` where the id is, and `replaced` where a record replaces it. If memory runs out, it
 /// appends nothing.
 pub fn print_records<A: Allocator + Copy, B: Allocator>(
-    replica: &Replica<A>,
+    plan: &SitePlan<A>,
     out: &mut Vec<u8, B>,
 ) -> Result<(), Memory>
-    ensures printed { OnOk result ((text : List ℕ) × IsRecordsText replica.now.state text × (out.new.items ≡ out.old.items ++ text)) }
+    ensures printed { OnOk result ((text : List ℕ) × IsRecordsText plan.now.state text × (out.new.items ≡ out.old.items ++ text)) }
     ensures kept { OnErr result (out.new.items ≡ out.old.items) }
 {
-    let text = text_of(replica.alloc(), replica.records())?;
+    let text = text_of(plan.alloc(), plan.records())?;
     out.extend_from_slice(&text)
 }
 

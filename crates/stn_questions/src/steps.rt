@@ -11,7 +11,7 @@ use std::alloc::{AllocError, Allocator};
 use stn_lift::{Base, Source};
 use stn_net::Bound;
 use stn_plan::{Plan, PlanFault, Step};
-use stn_replica::Replica;
+use stn_site::SitePlan;
 use stn_text::append_decimal;
 use stn_time::{Memory, Ms};
 
@@ -19,14 +19,14 @@ use stn_time::{Memory, Ms};
 /// arguments as the plan's text spells them, its planned start and its duration in the domain. If memory
 /// runs out, it appends nothing.
 pub fn print_steps<A: Allocator + Copy, B: Allocator>(
-    replica: &Replica<A>,
+    plan: &SitePlan<A>,
     out: &mut Vec<u8, B>,
 ) -> Result<(), Memory>
-    ensures printed { OnOk result (out.new.items ≡ out.old.items ++ steps_text replica.now.source) }
+    ensures printed { OnOk result (out.new.items ≡ out.old.items ++ steps_text plan.now.source) }
     ensures kept { OnErr result (out.new.items ≡ out.old.items) }
 {
-    let mut text = Vec::new(replica.alloc());
-    append_steps(replica.alloc(), replica.base(), &mut text)?;
+    let mut text = Vec::new(plan.alloc());
+    append_steps(plan.alloc(), plan.base(), &mut text)?;
     out.extend_from_slice(&text)
 }
 

@@ -17,8 +17,7 @@ ghost use Rattle.stn_questions.specs.declared.why.WhyFault.TheVariants.{Memory a
 use std::alloc::{AllocError, Allocator};
 use stn_conflict::way;
 use stn_net::Event;
-use stn_replica::Replica;
-use stn_site::{append_link_lines, append_window_line};
+use stn_site::{SitePlan, append_link_lines, append_window_line};
 use stn_time::{Memory, Ms};
 use thiserror::Error;
 
@@ -48,60 +47,61 @@ impl From<AllocError> for WhyFault {
 /// Refused in this order: `NoEvent`, where the event is not one of the plan nor the origin; `Memory`.
 /// After a fault nothing is appended.
 pub fn print_why<A: Allocator + Copy, B: Allocator>(
-    replica: &Replica<A>,
+    plan: &SitePlan<A>,
     event: Event,
     out: &mut Vec<u8, B>,
 ) -> Result<(), WhyFault>
-    ensures printed { OnOk result ((text : List ℕ) × IsWhyText replica.now.source replica.now.state event text × (out.new.items ≡ out.old.items ++ text)) }
-    ensures there { OnOk result (event ≤ events_of replica.now.source) }
-    ensures no_event { IsErrOf result WhyFault.NoEvent ↔ (events_of replica.now.source < event) }
+    ensures printed { OnOk result ((text : List ℕ) × IsWhyText plan.now.source plan.now.state event text × (out.new.items ≡ out.old.items ++ text)) }
+    ensures there { OnOk result (event ≤ events_of plan.now.source) }
+    ensures no_event { IsErrOf result WhyFault.NoEvent ↔ (events_of plan.now.source < event) }
     ensures kept { OnErr result (out.new.items ≡ out.old.items) }
 {
-    if event.number() > replica.base().events() {
+    if event.number() > plan.base().events() {
         return Err(WhyFault::NoEvent);
     }
-    append_why(replica, event, out)?;
+    append_why(plan, event, out)?;
     Ok(())
 }
 
 // The same of an event of the plan.
 fn append_why<A: Allocator + Copy, B: Allocator>(
-    replica: &Replica<A>,
+    plan: &SitePlan<A>,
     event: Event,
     out: &mut Vec<u8, B>,
 ) -> Result<(), Memory>
-    requires { event ≤ events_of replica.now.source }
-    ensures printed { OnOk result ((text : List ℕ) × IsWhyText replica.now.source replica.now.state event text × (out.new.items ≡ out.old.items ++ text)) }
+    requires { event ≤ events_of plan.now.source }
+    ensures printed { OnOk result ((text : List ℕ) × IsWhyText plan.now.source plan.now.state event text × (out.new.items ≡ out.old.items ++ text)) }
     ensures kept { OnErr result (out.new.items ≡ out.old.items) }
 {
-    match replica.window(event) {
-        Some(window) => {
-            let text = text_of(replica, event, window)?;
+    match plan.windows()? {
+        Some(windows) => {
+            let window = windows[usize::from(event.number())];
+            let text = text_of(plan, event, window)?;
             out.extend_from_slice(&text)
         }
-        None => replica.report_conflict(out),
+        None => plan.report_conflict(out),
     }
 }
 
 // The line of an event's window, and the ways that hold its ends.
 fn text_of<A: Allocator + Copy>(
-    replica: &Replica<A>,
+    plan: &SitePlan<A>,
     event: Event,
     window: (Ms, Ms),
 ) -> Result<Vec<u8, A>, Memory>
-    requires within { event ≤ events_of replica.now.source }
-    requires possible { HasSchedule (all_bounds replica.now.source replica.now.state) }
-    requires window { IsWindow (all_bounds replica.now.source replica.now.state) event window.0 window.1 }
-    ensures { IfOk result (λ text. IsWhyPart replica.now.source replica.now.state event text.items) }
+    requires within { event ≤ events_of plan.now.source }
+    requires possible { HasSchedule (all_bounds plan.now.source plan.now.state) }
+    requires window { IsWindow (all_bounds plan.now.source plan.now.state) event window.0 window.1 }
+    ensures { IfOk result (λ text. IsWhyPart plan.now.source plan.now.state event text.items) }
 {
-    let flags = replica.done_flags();
+    let flags = plan.done_flags();
     let done = flags[usize::from(event.number())];
-    let mut text = Vec::new(replica.alloc());
+    let mut text = Vec::new(plan.alloc());
     append_window_line(&mut text, event, window.0, window.1, done)?;
     append_end(&mut text, b"earliest", window.0)?;
-    append_way(replica, event, Event::origin(), &mut text)?;
+    append_way(plan, event, Event::origin(), &mut text)?;
     append_end(&mut text, b"latest", window.1)?;
-    append_way(replica, Event::origin(), event, &mut text)?;
+    append_way(plan, Event::origin(), event, &mut text)?;
     Ok(text)
 }
 
@@ -117,32 +117,25 @@ fn append_end<B: Allocator>(out: &mut Vec<u8, B>, word: &[u8], time: Ms) -> Resu
 
 // Appends the lines of the way from an event to another.
 fn append_way<A: Allocator + Copy>(
-    replica: &Replica<A>,
+    plan: &SitePlan<A>,
     from: Event,
     to: Event,
     out: &mut Vec<u8, A>,
 ) -> Result<(), Memory>
-    requires from { from ≤ events_of replica.now.source }
-    requires to { to ≤ events_of replica.now.source }
-    requires possible { HasSchedule (all_bounds replica.now.source replica.now.state) }
-    ensures { OnOk result ((links : List Link) × IsWay (all_bounds replica.now.source replica.now.state) from to links
-        × IsTightest (all_bounds replica.now.source replica.now.state) from to (weight_of (all_bounds replica.now.source replica.now.state) links)
+    requires from { from ≤ events_of plan.now.source }
+    requires to { to ≤ events_of plan.now.source }
+    requires possible { HasSchedule (all_bounds plan.now.source plan.now.state) }
+    ensures { OnOk result ((links : List Link) × IsWay (all_bounds plan.now.source plan.now.state) from to links
+        × IsTightest (all_bounds plan.now.source plan.now.state) from to (weight_of (all_bounds plan.now.source plan.now.state) links)
         × (out.new.items ≡ out.old.items
-        ++ flat_map (link_line (base_bounds replica.now.source) (live_ids replica.now.state) (live_bounds replica.now.state)) links)) }
+        ++ flat_map (link_line (base_bounds plan.now.source) (live_ids plan.now.state) (live_bounds plan.now.state)) links)) }
 {
-    let all_ids = replica.live_ids()?;
-    let all_others = replica.live_bounds()?;
+    let all_ids = plan.live_ids()?;
+    let all_others = plan.live_bounds()?;
     let ids = all_ids.as_slice();
     let others = all_others.as_slice();
-    let base = replica.base().bounds();
-    let found = way(
-        replica.alloc(),
-        replica.base().events(),
-        base,
-        others,
-        from,
-        to,
-    )?;
+    let base = plan.base().bounds();
+    let found = way(plan.alloc(), plan.base().events(), base, others, from, to)?;
     let named = found.unwrap();
     append_link_lines(base, ids, others, &named.links, out)
 }

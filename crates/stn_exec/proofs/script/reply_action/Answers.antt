@@ -36,5 +36,8 @@ returns-in-Next g c = rw c.in-Next.is c.next_at.ensures
 pub returns-in-Rehearse : goal.returns-in-Rehearse
 returns-in-Rehearse g c = rw c.in-Rehearse.is c.rehearse_at.ensures
 
+pub returns-in-Ready : goal.returns-in-Ready
+returns-in-Ready g c = rw c.in-Ready.is c.ready_at.ensures
+
 pub returns-in-Ask : goal.returns-in-Ask
-returns-in-Ask g c = rw c.in-Ask.is c.ask_at.ensures
+returns-in-Ask g c = rw c.in-Ask.is c.answer_at.ensures

@@ -1,4 +1,4 @@
-use Rattle.std.proofs.Common.{◌++◌, ◌∙◌, ap, codes}
+use Rattle.std.proofs.Common.{◌++◌, ap, codes}
 use Rattle.std.proofs.lemmas.Result.{IfOk-equal}
 use Rattle.std.specs.List.{flat_map, range_with_len}
 use Rattle.stn_picture.specs.Picture.{head_text, labels_text, mark_text, bars_text, ends_text, windows_text}

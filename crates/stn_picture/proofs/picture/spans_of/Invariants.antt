@@ -1,9 +1,7 @@
-use Rattle.std.proofs.Common.{List}
-use Rattle.stn_net.specs.Difference.{Difference}
-use Rattle.stn_matrix.specs.Tightest.{IsExact}
+use Rattle.stn_site.specs.Bounds.{all_bounds}
 use Rattle.stn_site.specs.Report.{is_done}
 use Rattle.stn_picture.specs.Spans.{AreSpans}
 use Rattle.stn_picture.proofs.picture.spans_of.Given as goal
 
 abbrev pub invariant-loop-before : goal.invariant-loop-before
-invariant-loop-before g l = (bounds : List Difference) → IsExact bounds l.matrix → AreSpans bounds (is_done l.replica.state) l.before l.spans.items
+invariant-loop-before g l = AreSpans (all_bounds l.plan.source l.plan.state) (is_done l.plan.state) l.before l.spans.items

@@ -9,6 +9,6 @@ pub returns : goal.returns
 returns g c =
     let spans = c.args.spans.now in
     let events = c.from.ensures ∙ c.events.ensures.value ∙ ap events_of c.base.ensures in
-    let steps = c.deref.ensures.value ∙ c.in_ok-print_steps.ensures.printed ∙ ap (λ front. front ++ steps_text c.args.replica.now.source) c.new-steps.ensures.items in
+    let steps = c.deref.ensures.value ∙ c.in_ok-print_steps.ensures.printed ∙ ap (λ front. front ++ steps_text c.args.plan.now.source) c.new-steps.ensures.items in
     c.in_ok-append_windows.ensures
     ∙ (λ i. c.new-text.ensures.items i ++ windows_text (20 * events i + 40) (gap_of spans) (steps i) spans)

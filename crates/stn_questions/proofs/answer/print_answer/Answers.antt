@@ -28,15 +28,6 @@ returns-in_err-print_bounds-in-Bounds g c =
       kept = rw returned.1 c.in_err-print_bounds-in-Bounds.ensures.kept;
     }
 
-pub returns-in_err-print_ready-in-Ready : goal.returns-in_err-print_ready-in-Ready
-returns-in_err-print_ready-in-Ready g c =
-    let returned = err_from_is_err_and c.from_residual-in_err-print_ready-in-Ready.result c.from_residual-in_err-print_ready-in-Ready.ensures.1 in
-    record {
-      answer = rw returned.1 tt;
-      no_event = rw (returned.1, returned.2, c.in-Ready.is) (λ refused. absurd (cc), λ asks. absurd asks);
-      kept = rw returned.1 c.in_err-print_ready-in-Ready.ensures.kept;
-    }
-
 pub returns-in_err-print_why-in-Why : goal.returns-in_err-print_why-in-Why
 returns-in_err-print_why-in-Why g c =
     let returned = err_from_is_err_and c.from_residual-in_err-print_why-in-Why.result c.from_residual-in_err-print_why-in-Why.ensures.1 in

@@ -8,8 +8,8 @@ use Rattle.stn_questions.proofs.bounds.text_of.Goals as goal
 
 pub returns : goal.returns
 returns g c =
-    let source = c.args.replica.now.source in
-    let state = c.args.replica.now.state in
+    let source = c.args.plan.now.source in
+    let state = c.args.plan.now.state in
     let base : c.bounds.result.now ≡ base_bounds source = c.bounds.ensures.value ∙ ap base_bounds c.base.ensures in
     let ids : c.deref.result.now ≡ live_ids state = c.deref.ensures.value ∙ c.in_ok-ids.ensures in
     let others : c.deref-2.result.now ≡ live_bounds state = c.deref-2.ensures.value ∙ c.in_ok-others.ensures.value in

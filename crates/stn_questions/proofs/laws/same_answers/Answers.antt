@@ -2,7 +2,8 @@ use Rattle.std.proofs.Common.{subst}
 use Rattle.stn_lift.specs.PlanSource.{PlanSource}
 use Rattle.stn_site.proofs.Items.{same_counts}
 use Rattle.stn_questions.specs.Answer.{IsAnswer}
-use Rattle.stn_questions.proofs.Counted.{counted_answer}
+use Rattle.stn_questions.specs.Ready.{IsReadyText}
+use Rattle.stn_questions.proofs.Counted.{counted_answer, same_ready}
 use Rattle.stn_questions.proofs.OneAnswer.{same_answer}
 use Rattle.stn_questions.proofs.laws.same_answers.Goals as goal
 
@@ -16,3 +17,9 @@ returns-clause-plan c = λ ours theirs one other p q same plan question asks tex
     c.one_answer.ensures other.source other.state question text last
     (counted_answer other.source one.state other.state (c.counts_same.ensures.live one.state other.state (same_counts ours theirs one other p q same)) question text asks
     (subst (λ (source : PlanSource). IsAnswer source one.state question text) plan first)) second
+
+pub returns-clause-ready : goal.returns-clause-ready
+returns-clause-ready c = λ ours theirs one other p q same plan now text last first second.
+    c.one_ready_text.ensures other.source other.state now text last
+    (same_ready other.source one.state other.state (c.counts_same.ensures.live one.state other.state (same_counts ours theirs one other p q same)) now text
+    (subst (λ (source : PlanSource). IsReadyText source one.state now text) plan first)) second

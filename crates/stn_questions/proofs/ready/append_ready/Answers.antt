@@ -5,8 +5,9 @@ use Rattle.std.specs.List.{flat_map}
 use Rattle.stn_net.specs.Schedule.{HasSchedule}
 use Rattle.stn_matrix.specs.Tightest.{IsExact}
 use Rattle.stn_lift.specs.PlanSource.{events_of}
+use Rattle.stn_records.specs.Content.{Content}
 use Rattle.stn_site.specs.Bounds.{all_bounds}
-use Rattle.stn_site.specs.Report.{done_events}
+use Rattle.stn_site.specs.Report.{is_done, done_events}
 use Rattle.stn_site.proofs.Printing.{if_some}
 use Rattle.stn_replica.proofs.Rest.{flags_are_done}
 use Rattle.stn_questions.specs.Ready.{AreReadyEvents, ready_line}
@@ -23,7 +24,7 @@ returns g c =
     let events = if_some c.current.result matrix (λ m. m.now.events ≡ events_of source) c.unwrap-matrix.ensures c.current.ensures.events in
     let done : c.flags_of-done.result.now ≡ done_events source state =
     flags_are_done source state matrix.now.events c.done_flags-flags.result c.flags_of-done.result.now events c.flags_of-done.ensures.value c.flags_of-done.ensures.one_each
-    (λ event within. c.done_flags-flags.ensures.done event (omega (arith, c.flags_of-done.ensures.few))) in
+    (λ event within. c.done_flags-flags.ensures.done event (omega (arith, c.flags_of-done.ensures.few)) ∙ ap (λ (s : Content). is_done s event) c.plan.ensures.state) in
     IfOk-weaker c.append_lines.result _ _ (λ _ appended. (
       flat_map ready_line items,
       record {

@@ -1,10 +1,10 @@
-use Rattle.std.proofs.Common.{◌≡◌, ◌≢◌, ◌+◌, ◌<◌, ◌≤◌, [], ◌∷◌, ◌++◌, List, length, Some, None, sym, ap, subst, ◌∙◌, arith}
+use Rattle.std.proofs.Common.{◌≡◌, ◌+◌, ◌<◌, [], ◌∷◌, ◌++◌, length, ap, subst, ◌∙◌, arith}
 use Rattle.std.proofs.lemmas.List.Elements.{All-push}
 use Rattle.stn_windows.specs.Dispatch.{AreReadyTimes}
 use Rattle.stn_site.proofs.Printing.{if_some}
 use Rattle.stn_windows.proofs.Readiness.{left_within}
 use Rattle.stn_questions.specs.declared.ready_event.ReadyEvent.{ReadyEvent}
-use Rattle.stn_questions.proofs.ReadyLists.{counted, HasTimes, HasEach, pushed_other, each_pushed, each_kept}
+use Rattle.stn_questions.proofs.ReadyLists.{HasTimes, pushed_other, each_pushed, each_kept}
 use Rattle.stn_questions.proofs.ready.ready_by_number.Goals as goal
 use Rattle.stn_questions.proofs.ready.ready_by_number.Goals.{in-Some+in_ok-push, in_default}
 

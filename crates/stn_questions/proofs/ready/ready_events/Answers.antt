@@ -1,6 +1,5 @@
-use Rattle.std.proofs.Common.{Some, cond, eqb, ◌∙◌}
+use Rattle.std.proofs.Common.{cond, eqb, ◌∙◌}
 use Rattle.std.proofs.lemmas.List.Sorted.{All-permutation, sum_by-IsPermutation}
-use Rattle.stn_windows.specs.Dispatch.{AreReadyTimes}
 use Rattle.stn_questions.specs.declared.ready_event.ReadyEvent.{ReadyEvent}
 use Rattle.stn_questions.proofs.ReadyLists.{HasTimes, sorted_in_order}
 use Rattle.stn_questions.proofs.ready.ready_events.Goals as goal

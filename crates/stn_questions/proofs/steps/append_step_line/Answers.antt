@@ -1,4 +1,4 @@
-use Rattle.std.proofs.Common.{ℕ, List, [], ◌∷◌, ◌++◌, ◌∙◌, map, ap, codes, decimal, append_assoc, Bor}
+use Rattle.std.proofs.Common.{ℕ, List, [], ◌∷◌, ◌++◌, ◌∙◌, map, ap, codes, append_assoc, Bor}
 use Rattle.std.proofs.lemmas.Result.{IfOk-weaker}
 use Rattle.stn_time.specs.Text.{printed}
 use Rattle.stn_plan.specs.Views.{word_of}
