@@ -220,8 +220,8 @@ module _ (before after : Option (List ℕ)) (log : Option LogSoFar) (rest : List
       decides few (Err (Frame fault)) (λ more extra. bytes_end more log (rest ++ extra) (Err (Frame fault)) (fault_more rest extra fault front))
 
   -- the input ends between two frames, where a log was opened, or none
-  closes : {A : Type 0} → count ≤ 16777216 → IsAtEnd after → rest ≡ [] → (opened : Opened A) → log ≡ Some (opened_so_far opened) → IsDecided before after (Ok (log_held opened.replica))
-  closes few end none opened is = ends few end (Ok (log_held opened.replica)) (refl, none, ap (option_map (λ (begun : LogSoFar). begun.log)) is)
+  closes : {A : Type 0} → count ≤ 16777216 → IsAtEnd after → rest ≡ [] → (opened : Opened A) → log ≡ Some (opened_so_far opened) → IsDecided before after (Ok (log_held opened.plan))
+  closes few end none opened is = ends few end (Ok (log_held opened.plan)) (refl, none, ap (option_map (λ (begun : LogSoFar). begun.log)) is)
 
   closes_empty : count ≤ 16777216 → IsAtEnd after → rest ≡ [] → log ≡ None → IsDecided before after (Err LogForm)
   closes_empty few end none is = ends few end (Err LogForm) (refl, subst (λ l. IsFront l unfinished) (sym none) (inl (omega arith)), inl is)

@@ -8,7 +8,7 @@ use Rattle.stn_log.specs.declared.fault.LoadFault.TheVariants.{LogForm}
 
 -- what an opened log says
 abbrev pub opened_so_far : {A : Type 0} → Opened A → LogSoFar
-opened_so_far opened = so_far opened.version (log_held opened.replica)
+opened_so_far opened = so_far opened.version (log_held opened.plan)
 
 -- where a fault is told, this is what the log comes to
 abbrev pub IsRefused : Result LogSoFar LoadFault → LoadFault → Type 0
@@ -17,4 +17,4 @@ IsRefused log fault = IfSome (option_map Err (told_by fault)) (λ meaning. log �
 -- what a log comes to that ends after whole frames, by what they opened
 abbrev pub closed_log : {A : Type 0} → Option (Opened A) → Result Log LoadFault
 closed_log None = Err LogForm
-closed_log (Some opened) = Ok (log_held opened.replica)
+closed_log (Some opened) = Ok (log_held opened.plan)

@@ -3,8 +3,8 @@
 
 pub use fault::{LoadFault, SaveFault};
 pub use laws::one_log;
-pub use reading::load;
-pub use writing::save;
+pub use reading::{load, load_plan};
+pub use writing::{save, save_plan};
 
 mod failures;
 mod fault;

@@ -1,46 +1,54 @@
-use Rattle.std.proofs.Common.{Err, refl, ap}
-use Rattle.stn_log.specs.declared.fault.LoadFault.TheVariants.{Read}
-use Rattle.stn_log.proofs.Answered.{fault_or, not_err, not_read, not_bound}
+use Rattle.std.proofs.Common.{Ok, refl, sym, subst, ◌∙◌}
+use Rattle.std.proofs.lemmas.Result.{err_from_is_err_and}
+use Rattle.stn_device.specs.Counted.{counted_device}
+use Rattle.stn_log.specs.Log.{Log, IsDecided}
+use Rattle.stn_log.proofs.Answered.{not_err, not_read, not_bound}
+use Rattle.stn_log.proofs.Saved.{same_log}
 use Rattle.stn_log.proofs.reading.load.Goals as goal
 
-pub returns-in-Err : goal.returns-in-Err
-returns-in-Err g c =
-    let lost = c.in-Err.ensures in
-    record {
+pub returns-in_err-plan : goal.returns-in_err-plan
+returns-in_err-plan g c =
+    let p = err_from_is_err_and c.from_residual.result c.from_residual.ensures.1 in
+    let lost = c.in_err-plan.ensures in
+    rw (p.1, p.2) (record {
       meaning = lost.meaning;
       end = tt;
       site = tt;
-      «open» = λ e. lost.«open» (ap Err (ap (fault_or Read) e));
-      read = λ e. lost.read (ap Err (ap (fault_or Read) e));
-      bound = λ e. lost.bound (ap Err (ap (fault_or Read) e));
-      kept = λ other. lost.kept (λ e. other (ap Err (ap (fault_or Read) e)));
+      «open» = lost.«open»;
+      read = lost.read;
+      bound = lost.bound;
+      kept = lost.kept;
       used = lost.used;
-    }
+    })
 
-pub returns-in-Some : goal.returns-in-Some
-returns-in-Some g c =
-    let whole = c.in_default.ensures in
-    record {
-      meaning = rw c.in-Some.is at whole.closed;
-      end = whole.end;
-      site = rw c.in-Some.is at whole.site;
-      «open» = λ e. absurd (not_err _ _ e);
-      read = λ e. absurd (not_err _ _ e);
-      bound = λ e. absurd (not_err _ _ e);
-      kept = λ _. whole.kept (not_err _ _);
-      used = whole.used;
-    }
-
-pub returns-in-None : goal.returns-in-None
-returns-in-None g c =
-    let whole = c.in_default.ensures in
-    record {
-      meaning = rw c.in-None.is at whole.closed;
+pub returns-in_err-of : goal.returns-in_err-of
+returns-in_err-of g c =
+    let p = err_from_is_err_and c.from_residual-in_err-of.result c.from_residual-in_err-of.ensures.1 in
+    let loaded = c.in_ok-plan.ensures in
+    rw (p.1, p.2) (record {
+      meaning = tt;
       end = tt;
       site = tt;
       «open» = λ e. absurd (not_read _ refl e);
       read = λ e. absurd (not_read _ refl e);
       bound = λ e. absurd (not_bound _ refl e);
-      kept = λ _. whole.kept (not_err _ _);
-      used = whole.used;
+      kept = λ _. loaded.kept (not_err _ _);
+      used = loaded.used;
+    })
+
+pub returns : goal.returns
+returns g c =
+    let before = g.R.Read.remaining (counted_device c.args.reader.now) in
+    let after = g.R.Read.remaining (counted_device c.load_plan.new.reader) in
+    let loaded = c.in_ok-plan.ensures in
+    let made = c.in_ok-of.ensures in
+    record {
+      meaning = subst (λ (log : Log). IsDecided before after (Ok log)) (sym (same_log c.in_ok-plan.plan c.in_ok-of.field-0 made.source made.state)) loaded.meaning;
+      end = loaded.end;
+      site = made.site ∙ loaded.site;
+      «open» = λ e. absurd (not_err _ _ e);
+      read = λ e. absurd (not_err _ _ e);
+      bound = λ e. absurd (not_err _ _ e);
+      kept = λ _. loaded.kept (not_err _ _);
+      used = loaded.used;
     }

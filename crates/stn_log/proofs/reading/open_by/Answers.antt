@@ -21,16 +21,11 @@ returns-in_err-new g c =
     let p = err_from_is_err_and c.from_residual-in_err-new.result c.from_residual-in_err-new.ensures.1 in
     rw (p.1, p.2) (record { meaning = tt; bound = not_bound _ refl; unread = not_read _ refl; site = tt })
 
-pub returns-in_err-replica : goal.returns-in_err-replica
-returns-in_err-replica g c =
-    let p = err_from_is_err_and c.from_residual-in_err-replica.result c.from_residual-in_err-replica.ensures.1 in
-    rw (p.1, p.2) (record { meaning = tt; bound = not_bound _ refl; unread = not_read _ refl; site = tt })
-
 pub returns : goal.returns
 returns g c =
-    let made = c.in_ok-replica.ensures in
+    let made = c.new-plan.ensures in
     record {
-      meaning = base_opens c.args.version (plan_source c.args.source.now) c.in_ok-base.base c.in_ok-replica.replica c.in_ok-base.ensures.given (made.source ∙ c.in_ok-new.ensures.ok) made.empty;
+      meaning = base_opens c.args.version (plan_source c.args.source.now) c.in_ok-base.base c.new-plan.result c.in_ok-base.ensures.given (made.source ∙ c.in_ok-new.ensures.ok) made.empty;
       bound = not_err _ _;
       unread = not_err _ _;
       site = made.site;

@@ -11,7 +11,7 @@ invariant-frames g l = record {
   reading : IsReading l.frames;
   progress : Progress (g.R.Read.remaining (counted_device l.fn.reader)) (g.R.Read.remaining (counted_device l.reader))
       (option_map opened_so_far l.log) (pending l.frames) l.frames.count;
-  site : IfSome l.log (λ opened. opened.replica.site ≡ l.site);
+  site : IfSome l.log (λ opened. opened.plan.site ≡ l.site);
   kept : KeepsCount l.fn.reader l.reader;
 }
 

@@ -11,7 +11,7 @@ returns-in_err-take-in-Some g c =
     let fault = c.in_err-take-in-Some.field-0.0 in
     rw (p.1, p.2) (record {
       taken = tt;
-      refused = rw (c.in-Some.ensures (log_held c.args.replica.now)) (take_refused c.args.version c.args.replica.now c.in-Some.records.now fault c.in_err-take-in-Some.ensures.fault);
+      refused = rw (c.in-Some.ensures (log_held c.args.plan.now)) (take_refused c.args.version c.args.plan.now c.in-Some.records.now fault c.in_err-take-in-Some.ensures.fault);
       bound = not_bound _ (replica_not_cut fault);
       unread = not_read _ (replica_not_cut fault);
       site = tt;
@@ -19,13 +19,13 @@ returns-in_err-take-in-Some g c =
 
 pub returns-in_ok-take-in-Some-clause-taken : goal.returns-in_ok-take-in-Some-clause-taken
 returns-in_ok-take-in-Some-clause-taken g c =
-    c.in-Some.ensures (log_held c.args.replica.now)
-    ∙ state_taken c.args.version c.args.replica.now c.take.new.self c.in-Some.records.now c.in_ok-take-in-Some.ensures.accepted c.in_ok-take-in-Some.ensures.leaves
+    c.in-Some.ensures (log_held c.args.plan.now)
+    ∙ state_taken c.args.version c.args.plan.now c.take.new.self c.in-Some.records.now c.in_ok-take-in-Some.ensures.accepted c.in_ok-take-in-Some.ensures.leaves
 
 pub returns-in-None : goal.returns-in-None
 returns-in-None g c = record {
   taken = tt;
-  refused = c.in-None.ensures (log_held c.args.replica.now);
+  refused = c.in-None.ensures (log_held c.args.plan.now);
   bound = not_bound _ refl;
   unread = not_read _ refl;
   site = tt;
