@@ -1,6 +1,6 @@
-//! What a command does to a replica.
+//! What a command does to a site's copy of a plan.
 
-ghost use Rattle.std.specs.Prelude.{◌≡◌, ◌⊎◌, ◌++◌, [], ◌∷◌, Some, None, Ok, Err, unwrap_or, OnOk, OnErr, IfOk, IfErr, MatchResult};
+ghost use Rattle.std.specs.Prelude.{◌≡◌, ◌≢◌, ◌⊎◌, ◌++◌, [], ◌∷◌, Some, None, Ok, Err, unwrap_or, OnOk, OnErr, IfOk, IfErr, MatchResult};
 ghost use Rattle.stn_lift.specs.PlanSource.{bare, plan_source, base_of, steps_of};
 ghost use Rattle.stn_records.specs.Content.{no_content};
 ghost use Rattle.stn_records.specs.Id.{id_text, SiteCounter};
@@ -8,7 +8,7 @@ ghost use Rattle.stn_site.specs.Calls.{withdrew, took, Leaves};
 ghost use Rattle.stn_site.specs.Refusals.{withdraw_refusal, take_refusal};
 ghost use Rattle.stn_site.specs.declared.faults.ReplicaFault.{ReplicaFault as ReplicaFaultView};
 ghost use Rattle.stn_site.specs.declared.faults.ReplicaFault.TheVariants.{Memory as ReplicaMemory};
-ghost use Rattle.stn_shell.specs.Refusals.{WithLog, IsBaseRefusal, IsMergeRefusal, IsMergeFailure, IsLooseningRefusal};
+ghost use Rattle.stn_shell.specs.Refusals.{WithLog, other_plan, IsBaseRefusal, IsMergeRefusal, IsMergeFailure, IsLooseningRefusal};
 ghost use Rattle.stn_shell.specs.Commands.{IsLoosened};
 ghost use Rattle.stn_shell.specs.Changes.{IsChange, IsChangeRefusal, IsMerge};
 ghost use Rattle.stn_shell.specs.declared.changes.Change.TheVariants.{Merge};
@@ -25,7 +25,7 @@ use stn_net::Event;
 use stn_records::{Id, Site};
 use stn_refusal::{Code, Failure};
 use stn_replica::Replica;
-use stn_site::ReplicaFault;
+use stn_site::{ReplicaFault, SitePlan};
 use stn_store::Store;
 use stn_time::{Memory, Ms};
 
@@ -53,20 +53,20 @@ pub enum Change<'a> {
     Merge(&'a str),
 }
 
-/// The replica of a site with the plan of a source. It holds nothing yet.
+/// A site's copy of the plan of a source. It holds nothing yet.
 pub fn opened<A: Allocator + Copy>(
     alloc: A,
     site: Site,
     source: &Source<A>,
-) -> Result<Replica<A>, Failure>
-    ensures source { IfOk result (λ replica. replica.source ≡ plan_source source.now) }
-    ensures empty { IfOk result (λ replica. replica.state ≡ no_content) }
+) -> Result<SitePlan<A>, Failure>
+    ensures source { IfOk result (λ plan. plan.source ≡ plan_source source.now) }
+    ensures empty { IfOk result (λ plan. plan.state ≡ no_content) }
     ensures accepted { OnOk result (base_of (plan_source source.now) ≡ Ok (plan_source source.now)) }
     ensures refused { IfErr result (λ failure. (failure ≡ Failed lack.Memory) ⊎ IsBaseRefusal (plan_source source.now) (Some failure)) }
 {
     let base = Base::from_source(alloc, source)?;
     let base = Rc::new(alloc, base)?;
-    Ok(Replica::new(alloc, site, base)?)
+    Ok(SitePlan::new(alloc, site, base))
 }
 
 /// The replica of a site with the loosened plan of a source.
@@ -88,41 +88,41 @@ pub fn loosen<A: Allocator + Copy>(
     Ok(loosened?)
 }
 
-/// Changes the replica of a log: what is printed for it.
+/// Changes the plan of a log: what is printed for it.
 pub fn make_change<S: Store>(
     alloc: Global,
     store: &S,
     site: Site,
-    replica: &mut Replica<Global>,
+    plan: &mut SitePlan<Global>,
     asked: &Change<'_>,
 ) -> Result<Vec<u8>, Failure>
     ensures { MatchResult result
-        (λ text. IsChange (S.entries store.now) site asked.now replica.old replica.new text.items
-        × IsChangeRefusal (S.entries store.now) site asked.now replica.old None)
-        (λ failure. IsChangeRefusal (S.entries store.now) site asked.now replica.old (Some failure) ⊎ IsLack S.fails failure) }
+        (λ text. IsChange (S.entries store.now) site asked.now plan.old plan.new text.items
+        × IsChangeRefusal (S.entries store.now) site asked.now plan.old None)
+        (λ failure. IsChangeRefusal (S.entries store.now) site asked.now plan.old (Some failure) ⊎ IsLack S.fails failure) }
 {
     match *asked {
         Change::Add(bound) => {
-            let id = replica.add(bound.from, bound.to, bound.lo, bound.hi);
+            let id = plan.add(bound.from, bound.to, bound.lo, bound.hi);
             id_line(alloc, b"added ", id)
         }
         Change::Amend(old, bound) => {
-            let id = replica.amend(old, bound.from, bound.to, bound.lo, bound.hi);
+            let id = plan.amend(old, bound.from, bound.to, bound.lo, bound.hi);
             id_line(alloc, b"amended ", id)
         }
-        Change::Withdraw(id) => id_line(alloc, b"withdrawn ", withdraw(replica, id)),
-        Change::Done(event, time) => id_line(alloc, b"added ", replica.done(event, time)),
-        Change::Merge(other) => merge(alloc, store, site, replica, other),
+        Change::Withdraw(id) => id_line(alloc, b"withdrawn ", withdraw(plan, id)),
+        Change::Done(event, time) => id_line(alloc, b"added ", plan.done(event, time)),
+        Change::Merge(other) => merge(alloc, store, site, plan, other),
     }
 }
 
 // Withdraws a record: its id.
-fn withdraw(replica: &mut Replica<Global>, id: Id) -> Result<Id, ReplicaFault>
-    ensures left { IfOk result (λ withdrawn. (withdrawn ≡ id) × Leaves replica.old (withdrew id) replica.new) }
-    ensures accepted { OnOk result (withdraw_refusal replica.old id ≡ None) }
-    ensures fault { IfErr result (λ fault. fault ≡ unwrap_or (withdraw_refusal replica.old id) ReplicaMemory) }
+fn withdraw(plan: &mut SitePlan<Global>, id: Id) -> Result<Id, ReplicaFault>
+    ensures left { IfOk result (λ withdrawn. (withdrawn ≡ id) × Leaves plan.old (withdrew id) plan.new) }
+    ensures accepted { OnOk result (withdraw_refusal plan.old id ≡ None) }
+    ensures fault { IfErr result (λ fault. fault ≡ unwrap_or (withdraw_refusal plan.old id) ReplicaMemory) }
 {
-    match replica.withdraw(id) {
+    match plan.withdraw(id) {
         Ok(()) => Ok(id),
         Err(fault) => Err(fault),
     }
@@ -154,15 +154,15 @@ fn merge<S: Store>(
     alloc: Global,
     store: &S,
     site: Site,
-    replica: &mut Replica<Global>,
+    plan: &mut SitePlan<Global>,
     other: &str,
 ) -> Result<Vec<u8>, Failure>
     ensures { MatchResult result
-        (λ text. IsChange (S.entries store.now) site (Merge other.entry) replica.old replica.new text.items
-        × IsChangeRefusal (S.entries store.now) site (Merge other.entry) replica.old None)
-        (λ failure. IsChangeRefusal (S.entries store.now) site (Merge other.entry) replica.old (Some failure) ⊎ IsLack S.fails failure) }
+        (λ text. IsChange (S.entries store.now) site (Merge other.entry) plan.old plan.new text.items
+        × IsChangeRefusal (S.entries store.now) site (Merge other.entry) plan.old None)
+        (λ failure. IsChangeRefusal (S.entries store.now) site (Merge other.entry) plan.old (Some failure) ⊎ IsLack S.fails failure) }
 {
-    take_other(store, site, replica, other)?;
+    take_other(store, site, plan, other)?;
     Ok(copied(alloc, b"merged\n")?)
 }
 
@@ -170,16 +170,16 @@ fn merge<S: Store>(
 fn take_other<S: Store>(
     store: &S,
     site: Site,
-    replica: &mut Replica<Global>,
+    plan: &mut SitePlan<Global>,
     other: &str,
 ) -> Result<(), Failure>
     ensures { MatchResult result
-        (λ _. IsMerge (S.entries store.now) site other.now replica.old replica.new
-        × WithLog (S.entries store.now) other.now site (IsMergeRefusal replica.old) None)
-        (λ failure. WithLog (S.entries store.now) other.now site (IsMergeRefusal replica.old) (Some failure) ⊎ IsLack S.fails failure) }
+        (λ _. IsMerge (S.entries store.now) site other.now plan.old plan.new
+        × WithLog (S.entries store.now) other.now site (IsMergeRefusal plan.old) None)
+        (λ failure. WithLog (S.entries store.now) other.now site (IsMergeRefusal plan.old) (Some failure) ⊎ IsLack S.fails failure) }
 {
     let theirs = store.load(other, site)?;
-    let taken = take_in(replica, &theirs);
+    let taken = take_in(plan, &theirs);
     drop(theirs);
     taken
 }
@@ -193,20 +193,29 @@ pub fn copied(alloc: Global, line: &[u8]) -> Result<Vec<u8>, Memory>
     Ok(text)
 }
 
-/// Takes all that another replica of the same plan holds. A refusal changes nothing.
+/// Takes all that another copy of the same plan holds. A refusal changes nothing.
 pub fn take_in<A: Allocator + Copy>(
-    replica: &mut Replica<A>,
-    other: &Replica<A>,
+    plan: &mut SitePlan<A>,
+    other: &SitePlan<A>,
 ) -> Result<(), Failure>
-    ensures same { OnOk result (replica.old.source ≡ other.now.source) }
-    ensures left { OnOk result (Leaves replica.old (took other.now.state) replica.new) }
-    ensures accepted { OnOk result (take_refusal replica.old other.now.state ≡ None) }
-    ensures refused { IfErr result (IsMergeFailure replica.old other.now) }
-    ensures kept { OnErr result (replica.new ≡ replica.old) }
+    ensures same { OnOk result (plan.old.source ≡ other.now.source) }
+    ensures left { OnOk result (Leaves plan.old (took other.now.state) plan.new) }
+    ensures accepted { OnOk result (take_refusal plan.old other.now.state ≡ None) }
+    ensures refused { IfErr result (IsMergeFailure plan.old other.now) }
+    ensures kept { OnErr result (plan.new ≡ plan.old) }
 {
-    if !replica.base().same(other.base()) {
-        return Err(Failure::refused(Code::OtherPlan));
-    }
-    replica.take(other.records())?;
+    find_same(plan.base(), other.base())?;
+    plan.take(other.records())?;
     Ok(())
+}
+
+/// Finds that two plans are the same.
+pub fn find_same<A: Allocator>(ours: &Base<A>, theirs: &Base<A>) -> Result<(), Failure>
+    ensures { MatchResult result (λ _. ours.now ≡ theirs.now) (λ failure. (ours.now ≢ theirs.now) × (failure ≡ other_plan)) }
+{
+    if ours.same(theirs) {
+        Ok(())
+    } else {
+        Err(Failure::refused(Code::OtherPlan))
+    }
 }

@@ -1,6 +1,6 @@
 //! The commands on a log.
 
-ghost use Rattle.std.specs.Prelude.{◌⊎◌, false, None, IfErr, MatchResult};
+ghost use Rattle.std.specs.Prelude.{◌≡◌, ◌⊎◌, false, None, IfOk, IfErr, MatchResult};
 ghost use Rattle.stn_lift.specs.PlanSource.{plan_source};
 ghost use Rattle.stn_shell.specs.Words.{times_read};
 ghost use Rattle.stn_shell.specs.Changes.{IsChanged, IsUnchanged};
@@ -23,6 +23,7 @@ use stn_loosen::Tolerance;
 use stn_questions::Question;
 use stn_refusal::{Code, Failure, Fault};
 use stn_replica::Replica;
+use stn_site::SitePlan;
 use stn_store::Store;
 
 /// Does a command on a log: the answer. A refused command changes nothing; nor does one for which memory runs out or a device of
@@ -76,7 +77,8 @@ pub fn answer<S: Store>(alloc: Global, store: &mut S, line: &Line<'_>) -> Result
 
 // Holds a log that is there. No other program changes it until what is held is dropped.
 fn hold_log<S: Store>(store: &S, name: &str) -> Result<S::Held, Failure>
-    ensures { IfErr result (λ failure. IsMissing (S.entries store.now) name.now failure ⊎ IsLack S.fails failure) }
+    ensures named { IfOk result (λ held. S.held_name held ≡ name.now) }
+    ensures failed { IfErr result (λ failure. IsMissing (S.entries store.now) name.now failure ⊎ IsLack S.fails failure) }
 {
     if store.is_there(name)? {
         store.hold(name)
@@ -110,9 +112,9 @@ fn make<S: Store>(
         (IsUnmade (IsBaseRefusal (plan_source source.now)) S.fails
         (S.entries store.old) (S.entries store.new) log.now.name.now) }
 {
-    let replica = opened(alloc, log.site, source)?;
-    let text = save_made(alloc, store, log.name, &replica);
-    drop(replica);
+    let plan = opened(alloc, log.site, source)?;
+    let text = save_made(alloc, store, log.name, &plan);
+    drop(plan);
     text
 }
 
@@ -131,7 +133,7 @@ fn make_loose<S: Store>(
         (S.entries store.old) (S.entries store.new) log.now.name.now) }
 {
     let replica = loosen(alloc, log.site, source, tolerance)?;
-    let text = save_made(alloc, store, log.name, &replica);
+    let text = save_made(alloc, store, log.name, replica.plan());
     drop(replica);
     text
 }
@@ -141,25 +143,25 @@ fn save_made<S: Store>(
     alloc: Global,
     store: &mut S,
     name: &str,
-    replica: &Replica<Global>,
+    plan: &SitePlan<Global>,
 ) -> Result<Vec<u8>, Failure>
     ensures { MatchResult result
-        (λ text. IsNewLog (S.entries store.old) (S.entries store.new) name.now replica.now.source replica.now.state text.items)
+        (λ text. IsNewLog (S.entries store.old) (S.entries store.new) name.now plan.now.source plan.now.state text.items)
         (IsUnsaved S.fails (S.entries store.old) (S.entries store.new) name.now) }
 {
     let text = copied(alloc, b"made\n")?;
-    save_new(store, name, replica)?;
+    save_new(store, name, plan)?;
     Ok(text)
 }
 
 // Saves a new log, under a name that is free. No other program changes it meanwhile.
-fn save_new<S: Store>(store: &mut S, name: &str, replica: &Replica<Global>) -> Result<(), Failure>
+fn save_new<S: Store>(store: &mut S, name: &str, plan: &SitePlan<Global>) -> Result<(), Failure>
     ensures { MatchResult result
-        (λ _. SavesNew (S.entries store.old) (S.entries store.new) name.now replica.now.source replica.now.state)
+        (λ _. SavesNew (S.entries store.old) (S.entries store.new) name.now plan.now.source plan.now.state)
         (IsUnsaved S.fails (S.entries store.old) (S.entries store.new) name.now) }
 {
-    let _held = store.hold(name)?;
-    store.save_new(name, replica)
+    let held = store.hold(name)?;
+    store.save_new(&held, plan)
 }
 
 // The source of the texts of a domain and of a plan.
@@ -233,8 +235,8 @@ fn change_log<S: Store>(
         (λ text. IsChanged (S.entries store.old) (S.entries store.new) log.now asked.now text.items)
         (IsUnchanged S.fails (S.entries store.old) (S.entries store.new) log.now asked.now) }
 {
-    let _held = hold_log(store, log.name)?;
-    change_held(alloc, store, log, asked)
+    let held = hold_log(store, log.name)?;
+    change_held(alloc, store, log, &held, asked)
 }
 
 // Changes a log that is held.
@@ -242,33 +244,37 @@ fn change_held<S: Store>(
     alloc: Global,
     store: &mut S,
     log: &SiteLog<'_>,
+    held: &S::Held,
     asked: &Change<'_>,
 ) -> Result<Vec<u8>, Failure>
+    requires { S.held_name held.now ≡ log.now.name.now }
     ensures { MatchResult result
         (λ text. IsChanged (S.entries store.old) (S.entries store.new) log.now asked.now text.items)
         (IsUnchanged S.fails (S.entries store.old) (S.entries store.new) log.now asked.now) }
 {
-    let mut replica = store.load(log.name, log.site)?;
-    let text = save_changed(alloc, store, log, &mut replica, asked);
-    drop(replica);
+    let mut plan = store.load_held(held, log.site)?;
+    let text = save_changed(alloc, store, log, held, &mut plan, asked);
+    drop(plan);
     text
 }
 
-// Changes the replica of a log, and saves the log.
+// Changes the plan of a log, and saves the log.
 fn save_changed<S: Store>(
     alloc: Global,
     store: &mut S,
     log: &SiteLog<'_>,
-    replica: &mut Replica<Global>,
+    held: &S::Held,
+    plan: &mut SitePlan<Global>,
     asked: &Change<'_>,
 ) -> Result<Vec<u8>, Failure>
-    requires { Opens (S.entries store.old) log.now.name.now log.now.site replica.old }
+    requires named { S.held_name held.now ≡ log.now.name.now }
+    requires opened { Opens (S.entries store.old) log.now.name.now log.now.site plan.old }
     ensures { MatchResult result
         (λ text. IsChanged (S.entries store.old) (S.entries store.new) log.now asked.now text.items)
         (IsUnchanged S.fails (S.entries store.old) (S.entries store.new) log.now asked.now) }
 {
-    let text = make_change(alloc, store, log.site, replica, asked)?;
-    store.save(log.name, replica)?;
+    let text = make_change(alloc, store, log.site, plan, asked)?;
+    store.save(held, plan)?;
     Ok(text)
 }
 
@@ -364,7 +370,8 @@ fn say_of<S: Store>(
         (IsUndone (WithLog (S.entries store.old) log.now.name.now log.now.site (IsQueryRefusal query.now)) S.fails
         (S.entries store.old) (S.entries store.new)) }
 {
-    let replica = store.load(log.name, log.site)?;
+    let plan = store.load(log.name, log.site)?;
+    let replica = Replica::of(plan)?;
     let text = say(alloc, &replica, query);
     drop(replica);
     text
@@ -427,7 +434,8 @@ fn check_of<S: Store>(
         (S.entries store.old) (S.entries store.new)) }
 {
     let times = read_times(alloc, words)?;
-    let replica = store.load(log.name, log.site)?;
+    let plan = store.load(log.name, log.site)?;
+    let replica = Replica::of(plan)?;
     let text = check(alloc, &replica, &times);
     drop(replica);
     text

@@ -230,7 +230,8 @@ fn serve_at<
         (StopsAt S.fails (S.entries store.old) (S.entries store.new) log.now count
         (device_of W.contents out.old) (device_of W.contents out.new)) }
 {
-    let mut replica = store.load(log.name, log.site)?;
+    let plan = store.load(log.name, log.site)?;
+    let mut replica = Replica::of(plan)?;
     let served = serve_replica(rt, store, log, address, count, limit, &mut replica, out);
     drop(replica);
     served
@@ -307,7 +308,8 @@ fn send_to<S: Store, T: AllocGlobal + Clock + Net<Stream = TcpStream>, W: Write>
         (StopsFrom S.fails (S.entries store.old) (S.entries store.new) log.now
         (device_of W.contents out.old) (device_of W.contents out.new)) }
 {
-    let mut replica = store.load(log.name, log.site)?;
+    let plan = store.load(log.name, log.site)?;
+    let mut replica = Replica::of(plan)?;
     let sent = send_replica(rt, store, log, address, limit, &mut replica, out);
     drop(replica);
     sent

@@ -2,13 +2,15 @@
 
 ghost use Rattle.std.specs.Prelude.{◌≡◌, OnOk, OnErr, IfErr};
 ghost use Rattle.stn_shell.specs.Joining.{JoinsLog, IsUntaken, SavesJoin, IsUnkept};
-ghost use Rattle.stn_store.specs.Store.{Opens};
+ghost use Rattle.stn_site.specs.Calls.{Leaves, took};
+ghost use Rattle.stn_shell.specs.Refusals.{IsMergeFailure};
 
-use crate::changes::take_in;
+use crate::changes::find_same;
 use std::alloc::Global;
 use stn_line::SiteLog;
 use stn_refusal::Failure;
 use stn_replica::Replica;
+use stn_site::SitePlan;
 use stn_store::Store;
 
 /// Takes in what a log says. A log that is gone says nothing. A refusal or a fault changes nothing.
@@ -46,7 +48,43 @@ pub fn save_join<S: Store>(
     ensures source { replica.new.source ≡ replica.old.source }
     ensures site { replica.new.site ≡ replica.old.site }
 {
-    let _held = store.hold(log.name)?;
-    take_log(store, log, replica)?;
-    store.save(log.name, replica)
+    let held = store.hold(log.name)?;
+    take_held(store, log, &held, replica)?;
+    store.save(&held, replica.plan())
+}
+
+// Takes in what a log says that is held.
+fn take_held<S: Store>(
+    store: &S,
+    log: &SiteLog<'_>,
+    held: &S::Held,
+    replica: &mut Replica<Global>,
+) -> Result<(), Failure>
+    requires { S.held_name held.now ≡ log.now.name.now }
+    ensures taken { OnOk result (JoinsLog (S.entries store.now) log.now replica.old.source replica.old.state replica.new.state) }
+    ensures untaken { IfErr result (IsUntaken S.fails (S.entries store.now) log.now replica.old.source replica.old.state) }
+    ensures kept { OnErr result (replica.new ≡ replica.old) }
+    ensures source { replica.new.source ≡ replica.old.source }
+    ensures site { replica.new.site ≡ replica.old.site }
+{
+    if store.is_there(log.name)? {
+        let said = store.load_held(held, log.site)?;
+        let taken = take_in(replica, &said);
+        drop(said);
+        taken
+    } else {
+        Ok(())
+    }
+}
+
+// Takes all that another copy of the same plan holds. A refusal changes nothing.
+fn take_in(replica: &mut Replica<Global>, said: &SitePlan<Global>) -> Result<(), Failure>
+    ensures same { OnOk result (replica.old.source ≡ said.now.source) }
+    ensures left { OnOk result (Leaves replica.old (took said.now.state) replica.new) }
+    ensures refused { IfErr result (IsMergeFailure replica.old said.now) }
+    ensures kept { OnErr result (replica.new ≡ replica.old) }
+{
+    find_same(replica.base(), said.base())?;
+    replica.take(said.records())?;
+    Ok(())
 }

@@ -1,3 +1,4 @@
 pub mod Lacks
 pub mod Decided
 pub mod Lookups
+pub mod SameLog

@@ -45,7 +45,7 @@ pub record Means (entries : Option (List Entry)) (name : List ℕ) (meaning : Re
   pub there : Holds entries name (Some bytes)
   pub meant : IsLog bytes meaning
 
--- the log of a name says what the replica of a site holds
+-- the log of a name says what a site holds
 pub record Opens (entries : Option (List Entry)) (name : List ℕ) (site : ℕ) (held : Held) : Type 0 where
   pub said : Means entries name (Ok (log_held held))
   pub own : held.site ≡ site

@@ -9,9 +9,9 @@ use std::io::{self, ErrorKind};
 use std::os::unix::fs::{MetadataExt, OpenOptionsExt, fchown};
 use std::rt::Files;
 use stn_device::Counted;
-use stn_log::save;
+use stn_log::save_plan;
 use stn_refusal::{Failure, Fault};
-use stn_replica::Replica;
+use stn_site::SitePlan;
 
 /// Who may read and write a new file; the system takes away what the umask says.
 pub const NEW_MODE: u32 = 0o666;
@@ -73,19 +73,19 @@ pub fn make_beside<T: Files + AllocGlobal>(
     Err(Failure::Failed(Fault::File))
 }
 
-/// Writes the log of a replica beside the one that is there, with its mode and, where the system lets it, its owner, and waits
-/// until the device has it: the path. Where that can't be, no file is left.
+/// Writes the log of a site's plan beside the one that is there, with its mode and, where the system lets it, its owner, and
+/// waits until the device has it: the path. Where that can't be, no file is left.
 pub fn write_beside<T: Files<File = File> + AllocGlobal>(
     rt: &T,
     log: &str,
     old: Option<&Metadata>,
-    replica: &Replica<Global>,
+    plan: &SitePlan<Global>,
 ) -> Result<String, Failure>
     ensures { IfErr result (IsLack (λ _. ⊤)) }
 {
     let mode = if old.is_some() { OWN_MODE } else { NEW_MODE };
     let (path, file) = make_beside(rt, log, mode)?;
-    match fill(rt.alloc(), file, old, replica) {
+    match fill(rt.alloc(), file, old, plan) {
         Ok(()) => Ok(path),
         Err(failure) => {
             let _ = fs::remove_file(rt, path.as_str());
@@ -94,12 +94,12 @@ pub fn write_beside<T: Files<File = File> + AllocGlobal>(
     }
 }
 
-// Writes the log of a replica into a file.
+// Writes the log of a site's plan into a file.
 fn fill(
     alloc: Global,
     file: File,
     old: Option<&Metadata>,
-    replica: &Replica<Global>,
+    plan: &SitePlan<Global>,
 ) -> Result<(), Failure>
     ensures { IfErr result (IsLack (λ _. ⊤)) }
 {
@@ -107,7 +107,7 @@ fn fill(
         of_files(keep(&file, old))?;
     }
     let mut writer = Counted::new(file);
-    save(alloc, replica, &mut writer)?;
+    save_plan(alloc, plan, &mut writer)?;
     match writer.into_inner().sync_all() {
         Ok(()) => Ok(()),
         Err(_) => Err(Failure::Failed(Fault::Write)),

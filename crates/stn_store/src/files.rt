@@ -13,7 +13,15 @@ use std::io::ErrorKind;
 use std::rt::Files;
 use stn_records::Site;
 use stn_refusal::{Failure, Fault};
-use stn_replica::Replica;
+use stn_site::SitePlan;
+
+/// The log of a name, and the lock of a file beside it, which the system lets go when the file is closed, also where the program is
+/// stopped.
+#[derive(Drop)]
+pub struct HeldFile {
+    name: String,
+    _lock: File,
+}
 
 /// Files, each under its path.
 #[derive(Drop)]
@@ -31,16 +39,20 @@ impl<'a, T> FileStore<'a, T> {
 // What files hold, and how they fail, is known to no clause.
 impl<T: Files<File = File> + AllocGlobal> Store for FileStore<'_, T> {
     ghost use Rattle.std.specs.Prelude.{None, ⊤};
+    ghost use Rattle.std.specs.String.{string_bytes};
 
     ghost entries = { λ _. None };
 
     ghost fails = { λ _. ⊤ };
 
-    // The lock of a file beside the log, which the system lets go when the file is closed, also where the program is stopped.
-    type Held = File;
+    type Held = HeldFile;
 
-    fn hold(&self, path: &str) -> Result<File, Failure> {
-        Place::find(self.rt, path)?.hold(self.rt)
+    ghost held_name = { λ held. string_bytes held.name };
+
+    fn hold(&self, path: &str) -> Result<HeldFile, Failure> {
+        let lock = Place::find(self.rt, path)?.hold(self.rt)?;
+        let name = String::from_str(self.rt.alloc(), path)?;
+        Ok(HeldFile { name, _lock: lock })
     }
 
     fn can_save(&self, path: &str) -> Result<(), Failure> {
@@ -58,19 +70,23 @@ impl<T: Files<File = File> + AllocGlobal> Store for FileStore<'_, T> {
         }
     }
 
-    fn load(&self, path: &str, site: Site) -> Result<Replica<Global>, Failure> {
+    fn load(&self, path: &str, site: Site) -> Result<SitePlan<Global>, Failure> {
         read_log(self.rt.alloc(), of_files(fs::open(self.rt, path))?, site)
+    }
+
+    fn load_held(&self, held: &HeldFile, site: Site) -> Result<SitePlan<Global>, Failure> {
+        self.load(held.name.as_str(), site)
     }
 
     fn text(&self, path: &str) -> Result<Vec<u8>, Failure> {
         read_text(self.rt.alloc(), of_files(fs::open(self.rt, path))?)
     }
 
-    fn save_new(&mut self, path: &str, replica: &Replica<Global>) -> Result<(), Failure> {
-        Place::find(self.rt, path)?.make(self.rt, replica)
+    fn save_new(&mut self, held: &HeldFile, plan: &SitePlan<Global>) -> Result<(), Failure> {
+        Place::find(self.rt, held.name.as_str())?.make(self.rt, plan)
     }
 
-    fn save(&mut self, path: &str, replica: &Replica<Global>) -> Result<(), Failure> {
-        Place::find(self.rt, path)?.replace(self.rt, replica)
+    fn save(&mut self, held: &HeldFile, plan: &SitePlan<Global>) -> Result<(), Failure> {
+        Place::find(self.rt, held.name.as_str())?.replace(self.rt, plan)
     }
 }

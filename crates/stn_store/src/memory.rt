@@ -11,10 +11,10 @@ use crate::reading::{read_log, read_text};
 use crate::store::Store;
 use std::alloc::Global;
 use stn_device::Counted;
-use stn_log::save;
+use stn_log::save_plan;
 use stn_records::Site;
 use stn_refusal::{Code, Failure, Fault};
-use stn_replica::Replica;
+use stn_site::SitePlan;
 use stn_time::Memory;
 
 // Bytes that were put under a name.
@@ -22,6 +22,12 @@ use stn_time::Memory;
 struct NamedBytes {
     name: String,
     bytes: Vec<u8>,
+}
+
+/// The log of a name, which no other program sees.
+#[derive(Drop)]
+pub struct HeldName {
+    name: String,
 }
 
 /// A store in memory: what was put under a name last stands there.
@@ -65,13 +71,13 @@ impl MemoryStore {
         found
     }
 
-    // The log of a replica.
-    fn spell(&self, replica: &Replica<Global>) -> Result<Vec<u8>, Failure>
-        ensures text { IfOk result (λ text. text.items ≡ log_text (log_held replica.now)) }
+    // The log of a site's copy of a plan.
+    fn spell(&self, plan: &SitePlan<Global>) -> Result<Vec<u8>, Failure>
+        ensures text { IfOk result (λ text. text.items ≡ log_text (log_held plan.now)) }
         ensures failed { IfErr result (λ failure. failure ≡ Failed lack.Memory) }
     {
         let mut writer = Counted::new(Vec::new(self.alloc));
-        match save(self.alloc, replica, &mut writer) {
+        match save_plan(self.alloc, plan, &mut writer) {
             Ok(()) => Ok(writer.into_inner()),
             Err(_) => Err(Failure::Failed(Fault::Memory)),
         }
@@ -80,6 +86,7 @@ impl MemoryStore {
 
 impl Store for MemoryStore {
     ghost use Rattle.std.specs.Prelude.{Some};
+    ghost use Rattle.std.specs.String.{string_bytes};
     ghost use Rattle.stn_refusal.specs.declared.failure.Fault.TheVariants.{Read};
 
     ghost entries = { λ store. Some (entries_of store) };
@@ -88,10 +95,13 @@ impl Store for MemoryStore {
     ghost fails = { λ fault. fault ≡ Read };
 
     // No other program sees the memory of this one.
-    type Held = ();
+    type Held = HeldName;
 
-    fn hold(&self, _name: &str) -> Result<(), Failure> {
-        Ok(())
+    ghost held_name = { λ held. string_bytes held.name };
+
+    fn hold(&self, name: &str) -> Result<HeldName, Failure> {
+        let name = String::from_str(self.alloc, name)?;
+        Ok(HeldName { name })
     }
 
     fn can_save(&self, _name: &str) -> Result<(), Failure> {
@@ -102,11 +112,15 @@ impl Store for MemoryStore {
         Ok(self.get(name).is_some())
     }
 
-    fn load(&self, name: &str, site: Site) -> Result<Replica<Global>, Failure> {
+    fn load(&self, name: &str, site: Site) -> Result<SitePlan<Global>, Failure> {
         match self.get(name) {
             Some(bytes) => read_log(self.alloc, bytes, site),
             None => Err(Failure::Failed(Fault::File)),
         }
+    }
+
+    fn load_held(&self, held: &HeldName, site: Site) -> Result<SitePlan<Global>, Failure> {
+        self.load(held.name.as_str(), site)
     }
 
     fn text(&self, name: &str) -> Result<Vec<u8>, Failure> {
@@ -116,16 +130,16 @@ impl Store for MemoryStore {
         }
     }
 
-    fn save_new(&mut self, name: &str, replica: &Replica<Global>) -> Result<(), Failure> {
-        if self.get(name).is_some() {
+    fn save_new(&mut self, held: &HeldName, plan: &SitePlan<Global>) -> Result<(), Failure> {
+        if self.get(held.name.as_str()).is_some() {
             return Err(Failure::refused(Code::LogThere));
         }
-        self.save(name, replica)
+        self.save(held, plan)
     }
 
-    fn save(&mut self, name: &str, replica: &Replica<Global>) -> Result<(), Failure> {
-        let text = self.spell(replica)?;
-        self.put(name, text)?;
+    fn save(&mut self, held: &HeldName, plan: &SitePlan<Global>) -> Result<(), Failure> {
+        let text = self.spell(plan)?;
+        self.put(held.name.as_str(), text)?;
         Ok(())
     }
 }

@@ -12,7 +12,7 @@ use std::os::unix::fs::MetadataExt;
 use std::path::Path;
 use std::rt::Files;
 use stn_refusal::{Code, Failure, Fault};
-use stn_replica::Replica;
+use stn_site::SitePlan;
 
 /// Where a log is, or is to be. The path is no link.
 #[derive(Drop)]
@@ -96,15 +96,15 @@ impl Place {
         of_files(fs::remove_file(rt, path.as_str()))
     }
 
-    /// Saves the log of a replica where nothing is.
+    /// Saves the log of a site's plan where nothing is.
     pub fn make<T: Files<File = File> + AllocGlobal>(
         &self,
         rt: &T,
-        replica: &Replica<Global>,
+        plan: &SitePlan<Global>,
     ) -> Result<(), Failure>
         ensures { IfErr result (λ failure. (failure ≡ log_there) ⊎ IsLack (λ _. ⊤) failure) }
     {
-        let beside = write_beside(rt, self.path.as_str(), None, replica)?;
+        let beside = write_beside(rt, self.path.as_str(), None, plan)?;
         let linked = fs::hard_link(rt, beside.as_str(), self.path.as_str());
         let _ = fs::remove_file(rt, beside.as_str());
         match linked {
@@ -119,15 +119,15 @@ impl Place {
         }
     }
 
-    /// Saves the log of a replica in place of the file that is there.
+    /// Saves the log of a site's plan in place of the file that is there.
     pub fn replace<T: Files<File = File> + AllocGlobal>(
         &self,
         rt: &T,
-        replica: &Replica<Global>,
+        plan: &SitePlan<Global>,
     ) -> Result<(), Failure>
         ensures { IfErr result (IsLack (λ _. ⊤)) }
     {
-        let beside = write_beside(rt, self.path.as_str(), self.found.as_ref(), replica)?;
+        let beside = write_beside(rt, self.path.as_str(), self.found.as_ref(), plan)?;
         match fs::rename(rt, beside.as_str(), self.path.as_str()) {
             Ok(()) => {
                 self.force_folder(rt);

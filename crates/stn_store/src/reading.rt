@@ -11,28 +11,28 @@ ghost use Rattle.stn_refusal.specs.declared.failure.Fault.TheVariants as lack;
 use std::alloc::Global;
 use std::io::Read;
 use stn_device::{Counted, read_whole};
-use stn_log::load;
+use stn_log::load_plan;
 use stn_records::Site;
 use stn_refusal::Failure;
-use stn_replica::Replica;
+use stn_site::SitePlan;
 use stn_text::MOST_TEXT;
 
 /// How many bytes of a domain or a plan are read at most: one more than a text may have.
 const MOST_TEXT_READ: usize = MOST_TEXT + 1;
 
-/// The replica of a site by the bytes of its log.
+/// A site's copy of a plan by the bytes of its log.
 pub fn read_log<R: Read + Drop>(
     alloc: Global,
     reader: R,
     site: Site,
-) -> Result<Replica<Global>, Failure>
-    ensures said { IfOk result (λ replica. IsLogIn (R.remaining reader) (Ok (log_held replica))) }
-    ensures site { IfOk result (λ replica. replica.site ≡ site) }
+) -> Result<SitePlan<Global>, Failure>
+    ensures said { IfOk result (λ plan. IsLogIn (R.remaining reader) (Ok (log_held plan))) }
+    ensures site { IfOk result (λ plan. plan.site ≡ site) }
     ensures failed { IfErr result (λ failure. (failure ≡ Failed lack.Memory) ⊎ (failure ≡ Failed lack.Read)
         ⊎ ((fault : LoadFaultView) × IsLogIn (R.remaining reader) (Err fault) × (failure ≡ load_failure fault))) }
 {
     let mut counted = Counted::new(reader);
-    Ok(load(alloc, &mut counted, site)?)
+    Ok(load_plan(alloc, &mut counted, site)?)
 }
 
 /// The text of a domain or a plan; of a longer one so much that it shows.

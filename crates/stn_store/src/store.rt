@@ -1,6 +1,6 @@
 //! Where commands find logs and texts, and leave logs.
 
-ghost use Rattle.std.specs.Prelude.{◌≡◌, ◌⊎◌, false, List, Option, OnOk, OnErr, IfOk, IfErr};
+ghost use Rattle.std.specs.Prelude.{◌≡◌, ◌⊎◌, ℕ, false, List, Option, OnOk, OnErr, IfOk, IfErr};
 ghost use Rattle.stn_log.specs.Log.{log_held};
 ghost use Rattle.stn_store.specs.Store.{Entry, IsThere, Opens, IsUnopened, Spells, IsMissing, IsTaken, IsLack, saved_too};
 ghost use Rattle.stn_refusal.specs.declared.failure.Fault.{Fault};
@@ -8,7 +8,7 @@ ghost use Rattle.stn_refusal.specs.declared.failure.Fault.{Fault};
 use std::alloc::Global;
 use stn_records::Site;
 use stn_refusal::Failure;
-use stn_replica::Replica;
+use stn_site::SitePlan;
 
 /// A store of logs and texts, each under a name. Several programs may use it at once.
 pub trait Store {
@@ -21,9 +21,13 @@ pub trait Store {
     /// What keeps every other program from holding a log, until it is dropped.
     type Held: Drop;
 
+    /// The name of the log that is held.
+    ghost held_name: { Self.Held → List ℕ };
+
     /// Waits until no other program holds the log of a name, and holds it. Whoever changes a log holds it from its load to its save. A
     /// log is held once at a time: who holds it and asks again waits without end.
     fn hold(&self, name: &str) -> Result<Self::Held, Failure>
+        ensures named { IfOk result (λ held. held_name held ≡ name.now) }
         ensures failed { IfErr result (IsLack fails) };
 
     /// Finds out whether a log can be held and saved under a name. Nothing is changed or waited for.
@@ -35,26 +39,31 @@ pub trait Store {
         ensures found { IfOk result (λ there. IsThere (entries self.now) name.now there) }
         ensures failed { IfErr result (IsLack fails) };
 
-    /// The replica of a site by its log.
-    fn load(&self, name: &str, site: Site) -> Result<Replica<Global>, Failure>
-        ensures opened { IfOk result (λ replica. Opens (entries self.now) name.now site replica) }
+    /// A site's copy of a plan by its log.
+    fn load(&self, name: &str, site: Site) -> Result<SitePlan<Global>, Failure>
+        ensures opened { IfOk result (λ plan. Opens (entries self.now) name.now site plan) }
         ensures failed { IfErr result (λ failure. IsUnopened (entries self.now) name.now failure ⊎ IsLack fails failure) };
+
+    /// A site's copy of a plan by the log that is held.
+    fn load_held(&self, held: &Self::Held, site: Site) -> Result<SitePlan<Global>, Failure>
+        ensures opened { IfOk result (λ plan. Opens (entries self.now) (held_name held.now) site plan) }
+        ensures failed { IfErr result (λ failure. IsUnopened (entries self.now) (held_name held.now) failure ⊎ IsLack fails failure) };
 
     /// The text of a domain or a plan; of a longer one so much that it shows.
     fn text(&self, name: &str) -> Result<Vec<u8>, Failure>
         ensures spelled { IfOk result (λ text. Spells (entries self.now) name.now text.items) }
         ensures failed { IfErr result (λ failure. IsMissing (entries self.now) name.now failure ⊎ IsLack fails failure) };
 
-    /// Saves a replica as a log, under a name that is free at that moment. What stands there stays.
-    fn save_new(&mut self, name: &str, replica: &Replica<Global>) -> Result<(), Failure>
-        ensures free { OnOk result (IsThere (entries self.old) name.now false) }
-        ensures saved { OnOk result (entries self.new ≡ saved_too (entries self.old) name.now (log_held replica.now)) }
+    /// Saves a site's copy of a plan as the log that is held, under a name that is free at that moment. What stands there stays.
+    fn save_new(&mut self, held: &Self::Held, plan: &SitePlan<Global>) -> Result<(), Failure>
+        ensures free { OnOk result (IsThere (entries self.old) (held_name held.now) false) }
+        ensures saved { OnOk result (entries self.new ≡ saved_too (entries self.old) (held_name held.now) (log_held plan.now)) }
         ensures kept { OnErr result (entries self.new ≡ entries self.old) }
-        ensures failed { IfErr result (λ failure. IsTaken (entries self.old) name.now failure ⊎ IsLack fails failure) };
+        ensures failed { IfErr result (λ failure. IsTaken (entries self.old) (held_name held.now) failure ⊎ IsLack fails failure) };
 
-    /// Saves a replica as the log of a name. Where it can't be, the old one stays.
-    fn save(&mut self, name: &str, replica: &Replica<Global>) -> Result<(), Failure>
-        ensures saved { OnOk result (entries self.new ≡ saved_too (entries self.old) name.now (log_held replica.now)) }
+    /// Saves a site's copy of a plan as the log that is held. Where it can't be, the old one stays.
+    fn save(&mut self, held: &Self::Held, plan: &SitePlan<Global>) -> Result<(), Failure>
+        ensures saved { OnOk result (entries self.new ≡ saved_too (entries self.old) (held_name held.now) (log_held plan.now)) }
         ensures kept { OnErr result (entries self.new ≡ entries self.old) }
         ensures failed { IfErr result (IsLack fails) };
 }

@@ -1,27 +1,24 @@
-use Rattle.std.proofs.Common.{◌≡◌, Some, refl, ap, inl, inr, ⊎_elim}
+use Rattle.std.proofs.Common.{Some, refl, ap, inl, inr, ⊎_elim}
 use Rattle.std.proofs.lemmas.Result.{err_from_is_err_and}
 use Rattle.stn_shell.proofs.Failed.{take_failed}
 use Rattle.stn_shell.proofs.changes.take_in.Goals as goal
 
-pub returns-then-not-same : goal.returns-then-not-same
-returns-then-not-same g c = record {
-  same = tt;
-  left = tt;
-  accepted = tt;
-  refused = inr (inl (
-    (λ e.
-        let yes = c.same.ensures.1 (rw (c.base.ensures, c.base-2.ensures) e) in
-        let no = c.if-not-same.true in
-        cc),
-    ap Some c.refused.ensures,
-  ));
-  kept = refl;
-}
+pub returns-in_err-find_same : goal.returns-in_err-find_same
+returns-in_err-find_same g c =
+    let p = err_from_is_err_and c.from_residual.result c.from_residual.ensures.1 in
+    let other = rw (c.base.ensures, c.base-2.ensures) at c.in_err-find_same.ensures in
+    rw (p.1, p.2) (record {
+      same = tt;
+      left = tt;
+      accepted = tt;
+      refused = inr (inl (other.0, ap Some other.1));
+      kept = refl;
+    })
 
 pub returns-in_err-take : goal.returns-in_err-take
 returns-in_err-take g c =
-    let p = err_from_is_err_and c.from_residual.result c.from_residual.ensures.1 in
-    let same : c.args.replica.now.source ≡ c.args.other.now.source = rw (c.base.ensures, c.base-2.ensures) at (c.same.ensures.0 c.if-not-same.false) in
+    let p = err_from_is_err_and c.from_residual-in_err-take.result c.from_residual-in_err-take.ensures.1 in
+    let same = rw (c.base.ensures, c.base-2.ensures) at c.in_ok-find_same.ensures in
     rw (p.1, p.2) (record {
       same = tt;
       left = tt;
@@ -32,7 +29,7 @@ returns-in_err-take g c =
 
 pub returns : goal.returns
 returns g c = record {
-  same = rw (c.base.ensures, c.base-2.ensures) at (c.same.ensures.0 c.if-not-same.false);
+  same = rw (c.base.ensures, c.base-2.ensures) at c.in_ok-find_same.ensures;
   left = rw c.records.ensures.value at c.in_ok-take.ensures.leaves;
   accepted = rw c.records.ensures.value at c.in_ok-take.ensures.accepted;
   refused = tt;

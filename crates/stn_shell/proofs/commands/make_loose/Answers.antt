@@ -1,4 +1,4 @@
-use Rattle.std.proofs.Common.{refl, subst, inl, inr, ⊎_elim}
+use Rattle.std.proofs.Common.{refl, subst, inl, inr, ⊎_elim, ◌∙◌}
 use Rattle.std.proofs.lemmas.Result.{err_from_is_err_and, MatchResult-weaker}
 use Rattle.stn_store.proofs.Lacks.{lack_of_memory}
 use Rattle.stn_shell.specs.Commands.{IsNewLog}
@@ -12,13 +12,13 @@ returns-in_err-replica g c =
 pub returns : goal.returns
 returns g c =
     let is = c.in_ok-replica.ensures in
-    let state = c.in_ok-replica.replica.state in
+    let state = c.plan.result.now.state in
     MatchResult-weaker c.save_made-text.result c.save_made-text.ensures
     (λ text saved. (
       record {
         state = state;
-        loosened = is.loosened;
-        saved = subst (λ source. IsNewLog (g.S.Store.entries c.args.store.now) (g.S.Store.entries c.save_made-text.new.store) c.args.log.now.name.now source state text.items) is.source saved;
+        loosened = rw c.plan.ensures.state is.loosened;
+        saved = subst (λ source. IsNewLog (g.S.Store.entries c.args.store.now) (g.S.Store.entries c.save_made-text.new.store) c.args.log.now.name.now source state text.items) (c.plan.ensures.source ∙ is.source) saved;
       },
       is.accepted,
     ))

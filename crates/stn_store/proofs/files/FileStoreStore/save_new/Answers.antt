@@ -1,6 +1,7 @@
 use Rattle.std.proofs.Common.{◌≡◌, ℕ, List, [], Some, None, refl, inl, inr}
 use Rattle.std.specs.Prelude.{◌⊎◌, ⊤}
 use Rattle.std.proofs.lemmas.Result.{IfErr-weaker}
+use Rattle.std.specs.String.{string_bytes}
 use Rattle.stn_store.specs.Store.{log_there}
 use Rattle.stn_store.specs.Store.{IsTaken, IsLack}
 use Rattle.stn_refusal.specs.declared.failure.Failure.{Failure}
@@ -12,4 +13,4 @@ of_files name failure (inl there) = inl ((Some [], tt, refl), there)
 of_files name failure (inr lack) = inr lack
 
 pub returns-clause-failed : goal.returns-clause-failed
-returns-clause-failed g c = IfErr-weaker c.make.result _ _ (of_files c.args.path.now) c.make.ensures
+returns-clause-failed g c = IfErr-weaker c.make.result _ _ (of_files (string_bytes c.args.held.now.name)) c.make.ensures
