@@ -3,16 +3,18 @@ use Rattle.std.specs.Prelude.{◌≡◌, ℕ, List, Option}
 use Rattle.stn_site.specs.Held.{Held}
 use Rattle.stn_site.specs.Report.{IsReport}
 use Rattle.stn_questions.specs.Answer.{IsAnswer}
+use Rattle.stn_questions.specs.Ready.{IsReadyText}
 use Rattle.stn_picture.specs.Picture.{IsPicture}
 use Rattle.stn_exec.specs.Dispatch.{IsNextText, IsRestText}
 use Rattle.stn_store.specs.Store.{Entry, Opens}
 use Rattle.stn_line.specs.declared.words.SiteLog.{SiteLog}
 use Rattle.stn_shell.specs.declared.queries.Query.{Query}
-use Rattle.stn_shell.specs.declared.queries.Query.TheVariants.{Report, Next, Tell, Rehearse, Draw}
+use Rattle.stn_shell.specs.declared.queries.Query.TheVariants.{Report, Next, Ready, Tell, Rehearse, Draw}
 
 abbrev pub IsSaid : Query → Held → List ℕ → Type 0
 IsSaid Report held text = IsReport held.source held.state text
 IsSaid (Next now) held text = IsNextText held.source held.state now text
+IsSaid (Ready now) held text = IsReadyText held.source held.state now text
 IsSaid (Tell question) held text = IsAnswer held.source held.state question text
 IsSaid (Rehearse now) held text = IsRestText held.source held.state now text
 IsSaid Draw held text = IsPicture held.source held.state text

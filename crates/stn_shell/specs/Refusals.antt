@@ -89,6 +89,7 @@ IsCheckRefusal held times cause = ((length times ≢ events_of held.source + 1) 
 abbrev pub IsQueryRefusal : Query → Held → Option Failure → Type 0
 IsQueryRefusal query.Report held cause = cause ≡ None
 IsQueryRefusal (query.Next now) held cause = cause ≡ None
+IsQueryRefusal (query.Ready now) held cause = cause ≡ None
 IsQueryRefusal (query.Tell asked) held cause = IsQuestionRefusal held asked cause
 IsQueryRefusal (query.Rehearse now) held cause = IsRehearseRefusal held now cause
 IsQueryRefusal query.Draw held cause = cause ≡ None
@@ -116,7 +117,7 @@ IsRefusalOf entries (Report log) = WithLog entries log.name.now log.site (IsQuer
 IsRefusalOf entries (Next log now) = WithWords (time_read now.now)
     (λ time. WithLog entries log.name.now log.site (IsQueryRefusal (query.Next time)))
 IsRefusalOf entries (Ready log now) = WithWords (time_read now.now)
-    (λ time. WithLog entries log.name.now log.site (IsQueryRefusal (query.Tell (question.Ready time))))
+    (λ time. WithLog entries log.name.now log.site (IsQueryRefusal (query.Ready time)))
 IsRefusalOf entries (Why log event) = WithWords (event_read event.now)
     (λ which. WithLog entries log.name.now log.site (IsQueryRefusal (query.Tell (question.Why which))))
 IsRefusalOf entries (Records log) = WithLog entries log.name.now log.site (IsQueryRefusal (query.Tell question.Records))

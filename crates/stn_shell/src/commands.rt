@@ -22,7 +22,6 @@ use stn_line::{Line, SiteLog};
 use stn_loosen::Tolerance;
 use stn_questions::Question;
 use stn_refusal::{Code, Failure, Fault};
-use stn_replica::Replica;
 use stn_site::SitePlan;
 use stn_store::Store;
 
@@ -371,10 +370,7 @@ fn say_of<S: Store>(
         (S.entries store.old) (S.entries store.new)) }
 {
     let plan = store.load(log.name, log.site)?;
-    let replica = Replica::of(plan)?;
-    let text = say(alloc, &replica, query);
-    drop(replica);
-    text
+    say(alloc, plan, query)
 }
 
 fn next_of<S: Store>(
@@ -402,7 +398,7 @@ fn ready_of<S: Store>(
         (IsUndone (IsRefusalOf (S.entries store.old) (of.Ready log.now now.entry)) S.fails (S.entries store.old) (S.entries store.new)) }
 {
     let time = read_time(now)?;
-    say_of(alloc, store, log, &Query::Tell(Question::Ready(time)))
+    say_of(alloc, store, log, &Query::Ready(time))
 }
 
 fn why_of<S: Store>(
@@ -435,9 +431,8 @@ fn check_of<S: Store>(
 {
     let times = read_times(alloc, words)?;
     let plan = store.load(log.name, log.site)?;
-    let replica = Replica::of(plan)?;
-    let text = check(alloc, &replica, &times);
-    drop(replica);
+    let text = check(alloc, &plan, &times);
+    drop(plan);
     text
 }
 

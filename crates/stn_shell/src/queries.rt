@@ -1,9 +1,10 @@
-//! What a command asks of a replica.
+//! What a command asks of a site's copy of a plan.
 
 ghost use Rattle.std.specs.Prelude.{◌≡◌, ◌⊎◌, ◌+◌, length, pos, Some, None, MatchResult};
 ghost use Rattle.stn_lift.specs.PlanSource.{events_of};
 ghost use Rattle.stn_site.specs.Report.{IsReport};
 ghost use Rattle.stn_questions.specs.Answer.{IsAnswer};
+ghost use Rattle.stn_questions.specs.Ready.{IsReadyText};
 ghost use Rattle.stn_net.specs.Schedule.{times_of};
 ghost use Rattle.stn_picture.specs.Picture.{IsPicture};
 ghost use Rattle.stn_exec.specs.Answer.{answer_text};
@@ -19,9 +20,10 @@ use std::alloc::Allocator;
 use stn_exec::{append_check, append_next, append_rest};
 use stn_net::BoundFault;
 use stn_picture::print_picture;
-use stn_questions::{Question, WhyFault, print_answer};
+use stn_questions::{Question, WhyFault, print_answer, print_ready};
 use stn_refusal::{Failure, Fault};
 use stn_replica::Replica;
+use stn_site::SitePlan;
 use stn_time::Ms;
 
 /// What is asked of a log, as its words say.
@@ -31,7 +33,9 @@ pub enum Query {
     Report,
     /// What comes next from a time on.
     Next(Ms),
-    /// The answer to a question.
+    /// Which events may run from a time on.
+    Ready(Ms),
+    /// The answer to another question.
     Tell(Question),
     /// The rest of the plan from a time on.
     Rehearse(Ms),
@@ -39,46 +43,62 @@ pub enum Query {
     Draw,
 }
 
-/// What is said of a replica.
+/// What is said of a plan. It has a matrix only where the answer needs all pairs of events.
 pub fn say<A: Allocator + Copy>(
     alloc: A,
-    replica: &Replica<A>,
+    plan: SitePlan<A>,
     query: &Query,
 ) -> Result<Vec<u8, A>, Failure>
     ensures { MatchResult result
-        (λ text. IsSaid query.now replica.now text.items × IsQueryRefusal query.now replica.now None)
-        (λ failure. (failure ≡ Failed lack.Memory) ⊎ IsQueryRefusal query.now replica.now (Some failure)) }
+        (λ text. IsSaid query.now plan text.items × IsQueryRefusal query.now plan None)
+        (λ failure. (failure ≡ Failed lack.Memory) ⊎ IsQueryRefusal query.now plan (Some failure)) }
 {
     match *query {
-        Query::Report => report(alloc, replica),
-        Query::Next(now) => next(alloc, replica, now),
-        Query::Tell(question) => tell(alloc, replica, question),
-        Query::Rehearse(now) => rehearse(alloc, replica, now),
-        Query::Draw => draw(alloc, replica),
+        Query::Report => report(alloc, &plan),
+        Query::Next(now) => {
+            let replica = Replica::of(plan)?;
+            let text = next(alloc, &replica, now);
+            drop(replica);
+            text
+        }
+        Query::Ready(now) => {
+            let replica = Replica::of(plan)?;
+            let text = ready(alloc, &replica, now);
+            drop(replica);
+            text
+        }
+        Query::Tell(question) => tell(alloc, &plan, question),
+        Query::Rehearse(now) => {
+            let replica = Replica::of(plan)?;
+            let text = rehearse(alloc, &replica, now);
+            drop(replica);
+            text
+        }
+        Query::Draw => draw(alloc, &plan),
     }
 }
 
 // The report.
-fn report<A: Allocator + Copy>(alloc: A, replica: &Replica<A>) -> Result<Vec<u8, A>, Failure>
-    ensures { MatchResult result (λ text. IsReport replica.now.source replica.now.state text.items) (λ failure. failure ≡ Failed lack.Memory) }
+fn report<A: Allocator + Copy>(alloc: A, plan: &SitePlan<A>) -> Result<Vec<u8, A>, Failure>
+    ensures { MatchResult result (λ text. IsReport plan.now.source plan.now.state text.items) (λ failure. failure ≡ Failed lack.Memory) }
 {
     let mut text = Vec::new(alloc);
-    replica.report(&mut text)?;
+    plan.report(&mut text)?;
     Ok(text)
 }
 
 // The answer to a question.
 fn tell<A: Allocator + Copy>(
     alloc: A,
-    replica: &Replica<A>,
+    plan: &SitePlan<A>,
     question: Question,
 ) -> Result<Vec<u8, A>, Failure>
     ensures { MatchResult result
-        (λ text. IsAnswer replica.now.source replica.now.state question text.items × IsQuestionRefusal replica.now question None)
-        (IsQuestionFailure replica.now question) }
+        (λ text. IsAnswer plan.now.source plan.now.state question text.items × IsQuestionRefusal plan.now question None)
+        (IsQuestionFailure plan.now question) }
 {
     let mut text = Vec::new(alloc);
-    match print_answer(replica, question, &mut text) {
+    match print_answer(plan, question, &mut text) {
         Ok(()) => Ok(text),
         Err(WhyFault::NoEvent) => Err(Failure::from(BoundFault::NoEvent)),
         Err(WhyFault::Memory) => Err(Failure::Failed(Fault::Memory)),
@@ -94,23 +114,36 @@ fn next<A: Allocator + Copy>(alloc: A, replica: &Replica<A>, now: Ms) -> Result<
     Ok(text)
 }
 
+// Which events may run from a time on.
+fn ready<A: Allocator + Copy>(
+    alloc: A,
+    replica: &Replica<A>,
+    now: Ms,
+) -> Result<Vec<u8, A>, Failure>
+    ensures { MatchResult result (λ text. IsReadyText replica.now.source replica.now.state now text.items) (λ failure. failure ≡ Failed lack.Memory) }
+{
+    let mut text = Vec::new(alloc);
+    print_ready(replica, now, &mut text)?;
+    Ok(text)
+}
+
 /// Whether the times of all events, the origin's first, are a schedule.
 pub fn check<A: Allocator + Copy>(
     alloc: A,
-    replica: &Replica<A>,
+    plan: &SitePlan<A>,
     times: &[Ms],
 ) -> Result<Vec<u8, A>, Failure>
     requires { times_of times.now 0 ≡ pos 0 }
     ensures { MatchResult result
-        (λ text. (text.items ≡ answer_text (times_answer replica.now.source replica.now.state times.now))
-        × (length times.now ≡ events_of replica.now.source + 1))
-        (IsCheckFailure replica.now times.now) }
+        (λ text. (text.items ≡ answer_text (times_answer plan.now.source plan.now.state times.now))
+        × (length times.now ≡ events_of plan.now.source + 1))
+        (IsCheckFailure plan.now times.now) }
 {
-    if times.len() != usize::from(replica.base().events()) + 1 {
+    if times.len() != usize::from(plan.base().events()) + 1 {
         return Err(no_such_word());
     }
     let mut text = Vec::new(alloc);
-    append_check(replica, times, &mut text)?;
+    append_check(plan, times, &mut text)?;
     Ok(text)
 }
 
@@ -130,10 +163,10 @@ fn rehearse<A: Allocator + Copy>(
 }
 
 // The picture of the plan.
-fn draw<A: Allocator + Copy>(alloc: A, replica: &Replica<A>) -> Result<Vec<u8, A>, Failure>
-    ensures { MatchResult result (λ text. IsPicture replica.now.source replica.now.state text.items) (λ failure. failure ≡ Failed lack.Memory) }
+fn draw<A: Allocator + Copy>(alloc: A, plan: &SitePlan<A>) -> Result<Vec<u8, A>, Failure>
+    ensures { MatchResult result (λ text. IsPicture plan.now.source plan.now.state text.items) (λ failure. failure ≡ Failed lack.Memory) }
 {
     let mut text = Vec::new(alloc);
-    print_picture(replica, &mut text)?;
+    print_picture(plan, &mut text)?;
     Ok(text)
 }

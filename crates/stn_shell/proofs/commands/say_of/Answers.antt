@@ -1,7 +1,6 @@
 use Rattle.std.proofs.Common.{refl, inl, inr, ⊎_elim}
 use Rattle.std.proofs.lemmas.Result.{err_from_is_err_and, MatchResult-weaker}
 use Rattle.stn_store.proofs.Lacks.{lack_of_memory}
-use Rattle.stn_store.proofs.SameLog.{opens_same}
 use Rattle.stn_shell.proofs.commands.say_of.Goals as goal
 
 pub returns-in_err-plan : goal.returns-in_err-plan
@@ -9,17 +8,11 @@ returns-in_err-plan g c =
     let p = err_from_is_err_and c.from_residual.result c.from_residual.ensures.1 in
     rw (p.1, p.2) (record { cause = ⊎_elim (λ unopened. inl (inl (_, unopened, refl))) inr c.in_err-plan.ensures.failed; unsaved = refl })
 
-pub returns-in_err-replica : goal.returns-in_err-replica
-returns-in_err-replica g c =
-    let p = err_from_is_err_and c.from_residual-in_err-replica.result c.from_residual-in_err-replica.ensures.1 in
-    rw (p.1, p.2) (record { cause = inr (lack_of_memory g.S.Store.fails _ refl); unsaved = refl })
-
 pub returns : goal.returns
 returns g c =
-    let ours = c.in_ok-replica.replica in
-    let is = c.in_ok-replica.ensures in
-    let opened = opens_same _ _ _ c.in_ok-plan.plan ours is.site is.source is.state c.in_ok-plan.ensures.opened in
-    MatchResult-weaker c.say-text.result c.say-text.ensures
+    let ours = c.in_ok-plan.plan in
+    let opened = c.in_ok-plan.ensures.opened in
+    MatchResult-weaker c.say.result c.say.ensures
     (λ text said. (record { ours = ours; opened = opened; said = said.0; unsaved = refl }, inr (ours, opened, said.1)))
     (λ failure why. record {
       cause = ⊎_elim (λ memory. inr (lack_of_memory _ _ memory)) (λ refusal. inl (inr (ours, opened, refusal))) why;
