@@ -10,3 +10,8 @@ pub mod Orders
 pub mod Made
 pub mod Whole
 pub mod NumberedStates
+pub mod Settings
+pub mod Steps
+pub mod Runs
+pub mod Robustness
+pub mod OneLoosened

@@ -20,10 +20,10 @@ use Rattle.stn_loosen.proofs.Lasting.{durations_last}
 use Rattle.stn_loosen.proofs.ThreeParts.{parted}
 
 -- a time lies from 0 to the horizon
-abbrev IsWithin : ℤ → Type 0
+abbrev pub IsWithin : ℤ → Type 0
 IsWithin time = (pos 0 ≤ℤ time) × (time ≤ℤ horizon)
 
-within : (time : ℕ → ℤ) (events : ℕ) → time 0 ≡ pos 0 → All (Meets time) (horizon_bounds events) → (event : ℕ) → event ≤ events → IsWithin (time event)
+pub within : (time : ℕ → ℤ) (events : ℕ) → time 0 ≡ pos 0 → All (Meets time) (horizon_bounds events) → (event : ℕ) → event ≤ events → IsWithin (time event)
 within time events origin met zero last = (omega (arith, ints, origin), omega (arith, ints, origin))
 within time events origin met (suc event) last =
     let here : Meets time (horizon_bound (suc event)) = horizon_at (Meets time) events (suc event) (omega arith) last (recursion_from_All (Meets time) (horizon_bounds events) met) in
@@ -64,7 +64,7 @@ module _ (source : PlanSource) (sound : IsSoundSource source) where
     pub orders_met : All (Meets time) (orders_of source)
     orders_met = All-right (Meets time) (horizon_bounds (events_of source) ++ durations_of source) (orders_of source) all_met
 
-    loose_durations_met : (slack : Slack) → IsSlack slack → All (Meets time) (loose_durations slack source)
+    pub loose_durations_met : (slack : Slack) → IsSlack slack → All (Meets time) (loose_durations slack source)
     loose_durations_met slack is =
         All-map (Meets time) (loose slack) (durations_of source)
         (λ k d below.

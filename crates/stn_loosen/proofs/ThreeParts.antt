@@ -13,7 +13,7 @@ pub parted : (source : PlanSource) → base_bounds source ≡ (horizon_bounds (e
 parted (bare steps) = sym (append-nil (horizon_bounds (2 * steps) ++ []) ∙ append-nil (horizon_bounds (2 * steps)))
 parted (files domain plan) = refl
 
-length-duration_bounds : (duration : ℕ → ℤ) (steps : ℕ) → length (duration_bounds duration steps) ≡ steps
+pub length-duration_bounds : (duration : ℕ → ℤ) (steps : ℕ) → length (duration_bounds duration steps) ≡ steps
 unfolding duration_bounds
 length-duration_bounds duration zero = refl
 length-duration_bounds duration (suc steps) =

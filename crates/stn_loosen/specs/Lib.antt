@@ -1,6 +1,11 @@
 pub mod Slack
 pub mod Loosened
+pub mod Promise
+pub mod Moved
+pub mod Robust
+pub mod Run
 pub mod Faults
 pub mod Numbered
 pub mod Making
+pub mod Stepped
 pub mod Failures

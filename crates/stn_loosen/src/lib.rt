@@ -3,12 +3,18 @@
 
 pub use adding::loosened_replica;
 pub use fault::LoosenFault;
+pub use laws::{
+    ends_have_their_durations, one_loosened_plan, one_robust_plan,
+    promises_are_schedules_of_starts, robust_plans_promise, robust_runs_complete,
+    too_many_are_not_few,
+};
 pub use plan::loosened;
 pub use tolerance::Tolerance;
 
 mod adding;
 mod failures;
 mod fault;
+mod laws;
 mod making;
 mod nearest;
 mod parts;

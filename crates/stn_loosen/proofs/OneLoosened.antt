@@ -1,0 +1,187 @@
+-- There is one loosened plan for a plan and a tolerance.
+use Rattle.std.proofs.Common.{◌≡◌, inl, inr, ⊎_elim, ℕ, ◌+◌, ◌<◌, ◌≤◌, ℤ, ◌≤ℤ◌, ◌<ℤ◌, zero, suc, Bool, true, false, not, ◌&&◌, cond, filter, Ordering, Less, Equal, Greater, List, [], ◌∷◌, ◌++◌, length, get_or, refl, sym, ap, subst, ◌∙◌, arith, append_assoc, length-append}
+use Rattle.std.specs.List.{AllByRecursion}
+use Rattle.std.specs.List.Sorted.{IsSortedByKey, IsStableByKey, ties}
+use Rattle.std.specs.Ordering.{int_cmp, MatchOrdering, is_lt}
+use Rattle.std.specs.Cmp.{int_ranks}
+use Rattle.std.proofs.lemmas.Bool.{false≢true}
+use Rattle.std.proofs.lemmas.Int.{ints}
+use Rattle.stn_net.specs.Difference.{Difference}
+use Rattle.stn_net.specs.Horizon.{horizon_bounds}
+use Rattle.stn_lift.specs.PlanSource.{PlanSource, planned_of, events_of}
+use Rattle.stn_records.specs.Content.{most_known}
+use Rattle.stn_loosen.specs.Slack.{Slack}
+use Rattle.stn_loosen.specs.Loosened.{gap, Imply, AreKept, AreNearestFirst, AreLoosened, AreFewLoosened, AreTooMany, orders_of, bounds_with, loose_durations}
+use Rattle.stn_loosen.specs.Moved.{moved_bounds}
+use Rattle.stn_loosen.specs.Robust.{AreRobust}
+use Rattle.stn_loosen.proofs.Settings.{each_weaker}
+
+lt_is : (a b : ℤ) → a <ℤ b → is_lt (int_cmp a b) ≡ true
+lt_is a b less = by (int_cmp a b) (int_ranks a b)
+  where
+    by : (o : Ordering) → MatchOrdering o (a <ℤ b) (a ≡ b) (b <ℤ a) → is_lt o ≡ true
+    by Less ranks = refl
+    by Equal ranks = absurd (omega (arith, ints, ranks, less))
+    by Greater ranks = absurd (omega (arith, ints, ranks, less))
+
+lt_not : (a b : ℤ) → b ≤ℤ a → is_lt (int_cmp a b) ≡ false
+lt_not a b less = by (int_cmp a b) (int_ranks a b)
+  where
+    by : (o : Ordering) → MatchOrdering o (a <ℤ b) (a ≡ b) (b <ℤ a) → is_lt o ≡ false
+    by Less ranks = absurd (omega (arith, ints, ranks, less))
+    by Equal ranks = refl
+    by Greater ranks = refl
+
+le_from_not : (a b : ℤ) → is_lt (int_cmp a b) ≡ false → b ≤ℤ a
+le_from_not a b is = by (int_cmp a b) (int_ranks a b) is
+  where
+    by : (o : Ordering) → MatchOrdering o (a <ℤ b) (a ≡ b) (b <ℤ a) → is_lt o ≡ false → b ≤ℤ a
+    by Less ranks h = absurd (false≢true (sym h))
+    by Equal ranks h = omega (arith, ints, ranks)
+    by Greater ranks h = omega (arith, ints, ranks)
+
+module _ {X : Type 0} (key : X → ℤ) where
+  abbrev lt : X → X → Bool
+  lt x y = is_lt (int_cmp (key x) (key y))
+
+  tie_same : (x y : X) → key x ≡ key y → ties lt x y ≡ true
+  tie_same x y same =
+      ap (λ t. not t && not (lt y x)) (lt_not (key x) (key y) (omega (arith, ints, same)))
+      ∙ ap (λ t. not t) (lt_not (key y) (key x) (omega (arith, ints, same)))
+
+  tie_less : (x y : X) → key x <ℤ key y → ties lt x y ≡ false
+  tie_less x y less = ap (λ t. not t && not (lt y x)) (lt_is (key x) (key y) less)
+
+  tie_more : (x y : X) → key y <ℤ key x → ties lt x y ≡ false
+  tie_more x y less =
+      ap (λ t. not t && not (lt y x)) (lt_not (key x) (key y) (omega (arith, ints, less)))
+      ∙ ap (λ t. not t) (lt_is (key y) (key x) less)
+
+  filter_with : (test : X → Bool) (x : X) (xs : List X) → test x ≡ true → filter test (x ∷ xs) ≡ x ∷ filter test xs
+  filter_with test x xs passes = ap (λ t. cond t (x ∷ filter test xs) (filter test xs)) passes
+
+  filter_without : (test : X → Bool) (x : X) (xs : List X) → test x ≡ false → filter test (x ∷ xs) ≡ filter test xs
+  filter_without test x xs fails = ap (λ t. cond t (x ∷ filter test xs) (filter test xs)) fails
+
+  -- no key falls
+  Rises : List X → Type 0
+  Rises [] = Unit {0}
+  Rises (x ∷ xs) = AllByRecursion (λ y. key x ≤ℤ key y) xs × Rises xs
+
+  rises_from : (xs : List X) → ((k : ℕ) (d : X) → k + 1 < length xs → key (get_or xs k d) ≤ℤ key (get_or xs (k + 1) d)) → Rises xs
+  unfolding Rises
+  rises_from [] each = tt
+  rises_from (x ∷ []) each = (tt, tt)
+  rises_from (x ∷ y ∷ xs) each =
+      let rest = rises_from (y ∷ xs) (λ k d below. each (k + 1) d (omega (arith, below))) in
+      let first : key x ≤ℤ key y = each 0 x (omega arith) in
+      ((first, each_weaker (λ z. key y ≤ℤ key z) (λ z. key x ≤ℤ key z) (λ z h. omega (arith, ints, first, h)) xs rest.0), rest)
+
+  none_tie : (x : X) (ys : List X) → AllByRecursion (λ y. key x <ℤ key y) ys → filter (ties lt x) ys ≡ []
+  none_tie x [] all = refl
+  none_tie x (y ∷ ys) all = filter_without (ties lt x) y ys (tie_less x y all.0) ∙ none_tie x ys all.1
+
+  -- the head of one list lies before all of the other
+  not_before : (x : X) (xs : List X) (y : X) (ys : List X) → key x <ℤ key y → AllByRecursion (λ z. key y ≤ℤ key z) ys → ¬ (filter (ties lt x) (x ∷ xs) ≡ filter (ties lt x) (y ∷ ys))
+  not_before x xs y ys less all same =
+      let some = filter_with (ties lt x) x xs (tie_same x x refl) in
+      let none = none_tie x (y ∷ ys) (less, each_weaker (λ z. key y ≤ℤ key z) (λ z. key x <ℤ key z) (λ z h. omega (arith, ints, less, h)) ys all) in
+      let wrong : x ∷ filter (ties lt x) xs ≡ [] = sym some ∙ same ∙ none in
+      cc
+
+  pub one_order : (xs ys : List X) → Rises xs → Rises ys → ((v : X) → filter (ties lt v) xs ≡ filter (ties lt v) ys) → xs ≡ ys
+  unfolding Rises
+  one_order [] [] these those same = refl
+  one_order [] (y ∷ ys) these those same = let wrong : [] ≡ y ∷ filter (ties lt y) ys = same y ∙ filter_with (ties lt y) y ys (tie_same y y refl) in cc
+  one_order (x ∷ xs) [] these those same = let wrong : x ∷ filter (ties lt x) xs ≡ [] = sym (filter_with (ties lt x) x xs (tie_same x x refl)) ∙ same x in cc
+  one_order (x ∷ xs) (y ∷ ys) these those same = by (int_cmp (key x) (key y)) (int_ranks (key x) (key y)) (one_order xs ys these.1 those.1)
+    where
+      rest : key x ≡ key y → (v : X) → filter (ties lt v) xs ≡ filter (ties lt v) ys
+      rest level v = at (ties lt v x) refl (ties lt v y) refl (int_cmp (key v) (key x)) (int_ranks (key v) (key x))
+        where
+          at : (one : Bool) → ties lt v x ≡ one → (other : Bool) → ties lt v y ≡ other → (o : Ordering) → MatchOrdering o (key v <ℤ key x) (key v ≡ key x) (key x <ℤ key v) → filter (ties lt v) xs ≡ filter (ties lt v) ys
+          at one is other are Equal h =
+              let pair : x ∷ filter (ties lt v) xs ≡ y ∷ filter (ties lt v) ys =
+              sym (filter_with (ties lt v) x xs (tie_same v x h)) ∙ same v ∙ filter_with (ties lt v) y ys (tie_same v y (h ∙ level)) in
+              cc
+          at one is other are Less h =
+              sym (filter_without (ties lt v) x xs (tie_less v x h)) ∙ same v ∙ filter_without (ties lt v) y ys (tie_less v y (omega (arith, ints, h, level)))
+          at one is other are Greater h =
+              sym (filter_without (ties lt v) x xs (tie_more v x h)) ∙ same v ∙ filter_without (ties lt v) y ys (tie_more v y (omega (arith, ints, h, level)))
+
+      head : key x ≡ key y → x ≡ y
+      head level =
+          let pair : x ∷ filter (ties lt x) xs ≡ y ∷ filter (ties lt x) ys =
+          sym (filter_with (ties lt x) x xs (tie_same x x refl)) ∙ same x ∙ filter_with (ties lt x) y ys (tie_same x y level) in
+          cc
+
+      by : (o : Ordering) → MatchOrdering o (key x <ℤ key y) (key x ≡ key y) (key y <ℤ key x) → (((v : X) → filter (ties lt v) xs ≡ filter (ties lt v) ys) → xs ≡ ys) → x ∷ xs ≡ y ∷ ys
+      by Less h tails = absurd (not_before x xs y ys h those.0 (same x))
+      by Equal h tails = ap (λ z. z ∷ xs) (head h) ∙ ap (λ l. y ∷ l) (tails (rest h))
+      by Greater h tails = absurd (not_before y ys x xs h these.0 (sym (same y)))
+
+-- one order of the orders, nearest first
+one_sorted : (planned : ℕ → ℤ) (orders one other : List Difference) → AreNearestFirst planned orders one → AreNearestFirst planned orders other → one ≡ other
+one_sorted planned orders one other these those =
+    one_order (gap planned) one other
+    (rises_from (gap planned) one (λ k d below. le_from_not (gap planned (get_or one (k + 1) d)) (gap planned (get_or one k d)) (these.nearest k d (omega arith) below)))
+    (rises_from (gap planned) other (λ k d below. le_from_not (gap planned (get_or other (k + 1) d)) (gap planned (get_or other k d)) (those.nearest k d (omega arith) below)))
+    (λ v. these.stable v ∙ sym (those.stable v))
+
+-- what is kept of orders is settled
+one_kept : (bounds orders one other : List Difference) → AreKept bounds orders one → AreKept bounds orders other → one ≡ other
+one_kept bounds [] one other these those = these ∙ sym those
+one_kept bounds (order ∷ orders) one other (inl a) (inl b) = one_kept bounds orders one other a.1 b.1
+one_kept bounds (order ∷ orders) one other (inl a) (inr b) = absurd (b.0 a.0)
+one_kept bounds (order ∷ orders) one other (inr a) (inl b) = absurd (a.0 b.0)
+one_kept bounds (order ∷ orders) one other (inr a) (inr b) =
+    a.1.1 ∙ ap (λ l. order ∷ l) (one_kept (bounds ++ order ∷ []) orders a.1.0 b.1.0 a.1.2 b.1.2) ∙ sym b.1.1
+
+module _ (source : PlanSource) (slack : Slack) where
+  alike : (one other : List Difference) → (these : AreLoosened source slack one) → (those : AreLoosened source slack other) → these.made.kept ≡ those.made.kept
+  alike one other these those =
+      let front : List Difference = bounds_with source (loose_durations slack source) in
+      let same : these.orders ≡ those.orders = one_sorted (planned_of source) (orders_of source) these.orders those.orders these.sorted those.sorted in
+      one_kept front those.orders these.made.kept those.made.kept (subst (λ l. AreKept front l these.made.kept) same these.made.chosen) those.made.chosen
+
+  pub one_plan : (one other : List Difference) → AreLoosened source slack one → AreLoosened source slack other → one ≡ other
+  one_plan one other these those = these.made.whole ∙ ap (λ l. loose_durations slack source ++ l) (alike one other these those) ∙ sym those.made.whole
+
+  pub one_robust : (one other : List Difference) → AreRobust source slack one → AreRobust source slack other → one ≡ other
+  one_robust one other these those =
+      let front = one_plan these.loosened those.loosened these.are_loosened those.are_loosened in
+      let kept = alike these.loosened those.loosened these.are_loosened those.are_loosened in
+      let sides : List Difference → List Difference = λ l. moved_bounds (loose_durations slack source) (l ++ horizon_bounds (events_of source)) in
+      let chosen : AreKept (bounds_with source those.loosened) (sides those.are_loosened.made.kept) these.moved =
+      subst (λ l. AreKept (bounds_with source l) (sides those.are_loosened.made.kept) these.moved) front
+      (subst (λ l. AreKept (bounds_with source these.loosened) (sides l) these.moved) kept these.chosen) in
+      these.whole ∙ ap (λ l. l ++ these.moved) front
+      ∙ ap (λ l. those.loosened ++ l) (one_kept (bounds_with source those.loosened) (sides those.are_loosened.made.kept) these.moved those.moved chosen those.chosen)
+      ∙ sym those.whole
+
+-- what is kept of the first orders is kept of all
+front_kept : (bounds first others all : List Difference) → AreKept bounds (first ++ others) all → (kept : List Difference) → AreKept bounds first kept → length kept ≤ length all
+front_kept bounds [] others all are kept none = omega (arith, ap length none)
+front_kept bounds (order ∷ first) others all (inl a) kept (inl b) = front_kept bounds first others all a.1 kept b.1
+front_kept bounds (order ∷ first) others all (inl a) kept (inr b) = absurd (b.0 a.0)
+front_kept bounds (order ∷ first) others all (inr a) kept (inl b) = absurd (a.0 b.0)
+front_kept bounds (order ∷ first) others all (inr a) kept (inr b) =
+    let rest = front_kept (bounds ++ order ∷ []) first others a.1.0 a.1.2 b.1.0 b.1.2 in
+    omega (arith, rest, ap length a.1.1, ap length b.1.1)
+
+pub many_not_few : (source : PlanSource) (slack : Slack) → AreTooMany source slack → (records : List Difference) → ¬ AreFewLoosened source slack records
+many_not_few source slack many records few =
+    let durations : List Difference = loose_durations slack source in
+    let same : many.first ++ many.others ≡ few.0.orders = one_sorted (planned_of source) (orders_of source) (many.first ++ many.others) few.0.orders many.sorted few.0.sorted in
+    let longer = front_kept (bounds_with source durations) many.first many.others few.0.made.kept
+    (subst (λ l. AreKept (bounds_with source durations) l few.0.made.kept) (sym same) few.0.made.chosen) many.made.kept many.made.chosen in
+    omega (
+      arith,
+      longer,
+      few.1,
+      many.many,
+      ap length many.made.whole,
+      ap length few.0.made.whole,
+      length-append durations many.made.kept,
+      length-append durations few.0.made.kept,
+    )
