@@ -1,7 +1,7 @@
 -- There is one loosened plan for a plan and a tolerance.
-use Rattle.std.proofs.Common.{◌≡◌, inl, inr, ⊎_elim, ℕ, ◌+◌, ◌<◌, ◌≤◌, ℤ, ◌≤ℤ◌, ◌<ℤ◌, zero, suc, Bool, true, false, not, ◌&&◌, cond, filter, Ordering, Less, Equal, Greater, List, [], ◌∷◌, ◌++◌, length, get_or, refl, sym, ap, subst, ◌∙◌, arith, append_assoc, length-append}
+use Rattle.std.proofs.Common.{◌≡◌, inl, inr, ℕ, ◌+◌, ◌<◌, ◌≤◌, ℤ, ◌≤ℤ◌, ◌<ℤ◌, suc, Bool, true, false, not, ◌&&◌, cond, filter, Ordering, Less, Equal, Greater, List, [], ◌∷◌, ◌++◌, length, get_or, refl, sym, ap, subst, ◌∙◌, arith, length-append}
 use Rattle.std.specs.List.{AllByRecursion}
-use Rattle.std.specs.List.Sorted.{IsSortedByKey, IsStableByKey, ties}
+use Rattle.std.specs.List.Sorted.{ties}
 use Rattle.std.specs.Ordering.{int_cmp, MatchOrdering, is_lt}
 use Rattle.std.specs.Cmp.{int_ranks}
 use Rattle.std.proofs.lemmas.Bool.{false≢true}
@@ -9,9 +9,8 @@ use Rattle.std.proofs.lemmas.Int.{ints}
 use Rattle.stn_net.specs.Difference.{Difference}
 use Rattle.stn_net.specs.Horizon.{horizon_bounds}
 use Rattle.stn_lift.specs.PlanSource.{PlanSource, planned_of, events_of}
-use Rattle.stn_records.specs.Content.{most_known}
 use Rattle.stn_loosen.specs.Slack.{Slack}
-use Rattle.stn_loosen.specs.Loosened.{gap, Imply, AreKept, AreNearestFirst, AreLoosened, AreFewLoosened, AreTooMany, orders_of, bounds_with, loose_durations}
+use Rattle.stn_loosen.specs.Loosened.{gap, AreKept, AreNearestFirst, AreLoosened, AreFewLoosened, AreTooMany, orders_of, bounds_with, loose_durations}
 use Rattle.stn_loosen.specs.Moved.{moved_bounds}
 use Rattle.stn_loosen.specs.Robust.{AreRobust}
 use Rattle.stn_loosen.proofs.Settings.{each_weaker}
@@ -64,16 +63,15 @@ module _ {X : Type 0} (key : X → ℤ) where
   filter_without test x xs fails = ap (λ t. cond t (x ∷ filter test xs) (filter test xs)) fails
 
   -- no key falls
-  Rises : List X → Type 0
+  abbrev pub Rises : List X → Type 0
   Rises [] = Unit {0}
   Rises (x ∷ xs) = AllByRecursion (λ y. key x ≤ℤ key y) xs × Rises xs
 
-  rises_from : (xs : List X) → ((k : ℕ) (d : X) → k + 1 < length xs → key (get_or xs k d) ≤ℤ key (get_or xs (k + 1) d)) → Rises xs
-  unfolding Rises
+  rises_from : (xs : List X) → ((k : ℕ) (d : X) → suc k < length xs → key (get_or xs k d) ≤ℤ key (get_or xs (suc k) d)) → Rises xs
   rises_from [] each = tt
   rises_from (x ∷ []) each = (tt, tt)
   rises_from (x ∷ y ∷ xs) each =
-      let rest = rises_from (y ∷ xs) (λ k d below. each (k + 1) d (omega (arith, below))) in
+      let rest = rises_from (y ∷ xs) (λ k d below. each (suc k) d (omega (arith, below))) in
       let first : key x ≤ℤ key y = each 0 x (omega arith) in
       ((first, each_weaker (λ z. key y ≤ℤ key z) (λ z. key x ≤ℤ key z) (λ z h. omega (arith, ints, first, h)) xs rest.0), rest)
 
@@ -90,7 +88,6 @@ module _ {X : Type 0} (key : X → ℤ) where
       cc
 
   pub one_order : (xs ys : List X) → Rises xs → Rises ys → ((v : X) → filter (ties lt v) xs ≡ filter (ties lt v) ys) → xs ≡ ys
-  unfolding Rises
   one_order [] [] these those same = refl
   one_order [] (y ∷ ys) these those same = let wrong : [] ≡ y ∷ filter (ties lt y) ys = same y ∙ filter_with (ties lt y) y ys (tie_same y y refl) in cc
   one_order (x ∷ xs) [] these those same = let wrong : x ∷ filter (ties lt x) xs ≡ [] = sym (filter_with (ties lt x) x xs (tie_same x x refl)) ∙ same x in cc
@@ -121,12 +118,15 @@ module _ {X : Type 0} (key : X → ℤ) where
       by Greater h tails = absurd (not_before y ys x xs h these.0 (sym (same y)))
 
 -- one order of the orders, nearest first
+nearest_rises : (planned : ℕ → ℤ) (orders sorted : List Difference) → AreNearestFirst planned orders sorted → Rises (gap planned) sorted
+nearest_rises planned orders sorted are = rises_from (gap planned) sorted (λ k d below.
+    let next : k + 1 ≡ suc k = omega arith in
+    subst (λ n. gap planned (get_or sorted k d) ≤ℤ gap planned (get_or sorted n d)) next
+    (le_from_not (gap planned (get_or sorted (k + 1) d)) (gap planned (get_or sorted k d)) (are.nearest k d (omega arith) (omega (arith, below)))))
+
 one_sorted : (planned : ℕ → ℤ) (orders one other : List Difference) → AreNearestFirst planned orders one → AreNearestFirst planned orders other → one ≡ other
 one_sorted planned orders one other these those =
-    one_order (gap planned) one other
-    (rises_from (gap planned) one (λ k d below. le_from_not (gap planned (get_or one (k + 1) d)) (gap planned (get_or one k d)) (these.nearest k d (omega arith) below)))
-    (rises_from (gap planned) other (λ k d below. le_from_not (gap planned (get_or other (k + 1) d)) (gap planned (get_or other k d)) (those.nearest k d (omega arith) below)))
-    (λ v. these.stable v ∙ sym (those.stable v))
+    one_order (gap planned) one other (nearest_rises planned orders one these) (nearest_rises planned orders other those) (λ v. these.stable v ∙ sym (those.stable v))
 
 -- what is kept of orders is settled
 one_kept : (bounds orders one other : List Difference) → AreKept bounds orders one → AreKept bounds orders other → one ≡ other

@@ -1,5 +1,5 @@
 -- Promises of the loosened plan, and the robust plan.
-use Rattle.std.proofs.Common.{◌≡◌, ◌≢◌, ℕ, ◌+◌, ◌*◌, ◌<◌, ◌≤◌, ℤ, pos, ◌≤ℤ◌, zero, suc, Bool, true, false, not, ◌&&◌, cond, eqb, nat_lt, Ordering, Less, Equal, Greater, List, [], ◌∷◌, ◌++◌, refl, sym, ap, subst, ◌∙◌, arith, append_assoc, All}
+use Rattle.std.proofs.Common.{◌≡◌, ◌≢◌, ℕ, ◌<◌, ◌≤◌, ℤ, pos, ◌≤ℤ◌, zero, suc, Bool, true, false, not, ◌&&◌, cond, eqb, nat_lt, Ordering, Less, Equal, Greater, List, [], ◌∷◌, ◌++◌, refl, sym, ap, subst, ◌∙◌, arith, append_assoc, All}
 use Rattle.std.specs.Prelude.{◌↔◌}
 use Rattle.std.specs.List.{AllByRecursion}
 use Rattle.std.specs.List.Sorted.{IsPermutation}
@@ -9,8 +9,8 @@ use Rattle.std.proofs.lemmas.Int.{ints}
 use Rattle.std.proofs.lemmas.List.Elements.{All-append, All-from_recursion, recursion_from_All}
 use Rattle.std.proofs.lemmas.List.Sorted.{All-permutation}
 use Rattle.stn_time.specs.Time.{horizon}
-use Rattle.stn_time.proofs.Each.{All-left, All-right, each_joined, each_parted, each_pushed}
-use Rattle.stn_net.specs.Difference.{Difference, NamesEvents}
+use Rattle.stn_time.proofs.Each.{All-left, All-right, each_joined, each_pushed}
+use Rattle.stn_net.specs.Difference.{Difference}
 use Rattle.stn_net.specs.Horizon.{horizon_bound, horizon_bounds}
 use Rattle.stn_net.specs.Schedule.{Meets, IsSchedule, HasSchedule, times_of}
 use Rattle.stn_lift.specs.BaseBounds.{step_of, order_bound, pair_order, event_orders, orders, events_interfere, event_times}
@@ -18,7 +18,7 @@ use Rattle.stn_lift.specs.PlanSource.{PlanSource, bare, files, events_of, planne
 use Rattle.stn_replica.proofs.Schedules.{schedule_before, met_behind, schedule_with}
 use Rattle.stn_loosen.specs.Slack.{Slack, IsSlack}
 use Rattle.stn_loosen.specs.Loosened.{orders_of, Imply, AreKept, bounds_with, loose_durations, AreMadeOf}
-use Rattle.stn_loosen.specs.Promise.{setting_of, Keeps, Promises}
+use Rattle.stn_loosen.specs.Promise.{Promises}
 use Rattle.stn_loosen.specs.Moved.{moved_bounds}
 use Rattle.stn_loosen.specs.Robust.{loose_bounds, HasPromise, AreRobust}
 use Rattle.stn_loosen.proofs.Lists.{horizon_at}

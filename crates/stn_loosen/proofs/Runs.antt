@@ -1,5 +1,5 @@
 -- Runs of bounds each of whose schedules is a promise.
-use Rattle.std.proofs.Common.{◌≡◌, ◌≢◌, ℕ, ℤ, pos, ◌+ℤ◌, ◌-ℤ◌, ◌≤ℤ◌, Bool, true, false, cond, eqb, find, List, [], ◌∷◌, ◌++◌, Option, Some, None, refl, sym, ap, subst, ◌∙◌, arith, All}
+use Rattle.std.proofs.Common.{◌≡◌, ◌≢◌, ℕ, ℤ, pos, ◌-ℤ◌, ◌≤ℤ◌, Bool, true, false, cond, eqb, find, List, [], ◌∷◌, ◌++◌, Option, Some, None, refl, sym, ap, subst, ◌∙◌, arith, All}
 use Rattle.std.specs.Prelude.{◌↔◌, unwrap_or, Contains}
 use Rattle.std.specs.List.{AllByRecursion}
 use Rattle.std.proofs.lemmas.Bool.Decides.{nat_tests}
@@ -9,9 +9,8 @@ use Rattle.stn_time.proofs.Each.{All-left, All-right}
 use Rattle.stn_net.specs.Difference.{Difference}
 use Rattle.stn_net.specs.Schedule.{Meets, IsSchedule, HasSchedule}
 use Rattle.stn_windows.specs.Window.{IsInWindow}
-use Rattle.stn_windows.specs.Rehearsal.{fixed_at}
 use Rattle.stn_loosen.specs.Promise.{still, setting_of, Keeps, Promises}
-use Rattle.stn_loosen.specs.Run.{Execution, executed_bounds, Lasts, MayCome, IsRun}
+use Rattle.stn_loosen.specs.Run.{Execution, executed_bounds, MayCome, IsRun}
 use Rattle.stn_loosen.proofs.Settings.{keeps_itself, each_weaker}
 
 -- each schedule of the bounds meets the durations, and is a promise
@@ -93,12 +92,11 @@ module _ (durations bounds : List Difference) (robust : IsRobust durations bound
   one_more : (run : List Execution) (last : Execution) → All (λ execution. execution.event ≢ last.event) run → HasSchedule (bounds ++ executed_bounds run)
       → (found : Option Difference) → find (λ (d : Difference). eqb d.to last.event) durations ≡ found → MayCome bounds run last.event last.time found → HasSchedule (bounds ++ executed_bounds (last ∷ run))
   one_more run last new s (Some duration) is lasts =
-      let start : s.0 duration.from ≡ lasts.start = started_at run s.0 s.1 duration.from lasts.start lasts.started in
-      (
+      let start : s.0 duration.from ≡ lasts.start = started_at run s.0 s.1 duration.from lasts.start lasts.started in (
         moved_to s.0 last.event last.time,
         came_more run last (moved_to s.0 last.event last.time)
-        (ends_at run s.0 s.1 last.event last.time duration (ap (λ o. unwrap_or o (still last.event)) is) new (omega (arith, ints, start, lasts.least)) (omega (arith, ints, start, lasts.most)))
-        (moved_here s.0 last.event last.time),
+            (ends_at run s.0 s.1 last.event last.time duration (ap (λ o. unwrap_or o (still last.event)) is) new (omega (arith, ints, start, lasts.least)) (omega (arith, ints, start, lasts.most)))
+            (moved_here s.0 last.event last.time),
       )
   one_more run last new s None is within = (within.0, came_more run last within.0 within.1 within.2)
 
@@ -113,14 +111,13 @@ module _ (durations bounds : List Difference) (robust : IsRobust durations bound
       → (IsInWindow (bounds ++ executed_bounds run) duration.to time ↔ ((duration.lo ≤ℤ (time -ℤ start)) × ((time -ℤ start) ≤ℤ duration.hi)))
   end_window run s duration has own new start started time = (
     λ within.
-    let begun : within.0 duration.from ≡ start = started_at run within.0 within.1 duration.from start started in
-    let met : Meets within.0 duration = All-contains (Meets within.0) durations duration (robust.lasting within.0 (front_schedule bounds run within.0 within.1)) has in
-    (omega (arith, ints, begun, within.2, met.0), omega (arith, ints, begun, within.2, met.1)),
+        let begun : within.0 duration.from ≡ start = started_at run within.0 within.1 duration.from start started in
+        let met : Meets within.0 duration = All-contains (Meets within.0) durations duration (robust.lasting within.0 (front_schedule bounds run within.0 within.1)) has in
+        (omega (arith, ints, begun, within.2, met.0), omega (arith, ints, begun, within.2, met.1)),
     λ lasts.
-    let begun : s.0 duration.from ≡ start = started_at run s.0 s.1 duration.from start started in
-    (
-      moved_to s.0 duration.to time,
-      ends_at run s.0 s.1 duration.to time duration own new (omega (arith, ints, begun, lasts.0)) (omega (arith, ints, begun, lasts.1)),
-      moved_here s.0 duration.to time,
-    ),
+        let begun : s.0 duration.from ≡ start = started_at run s.0 s.1 duration.from start started in (
+          moved_to s.0 duration.to time,
+          ends_at run s.0 s.1 duration.to time duration own new (omega (arith, ints, begun, lasts.0)) (omega (arith, ints, begun, lasts.1)),
+          moved_here s.0 duration.to time,
+        ),
   )

@@ -1,6 +1,6 @@
 -- What sets the events of a plan, and times that keep to promised ones.
 use Rattle.std.proofs.Common.{◌≡◌, ◌≢◌, ℕ, ◌≤◌, ℤ, pos, ◌+ℤ◌, ◌-ℤ◌, ◌≤ℤ◌, Bool, true, false, cond, eqb, find, List, [], ◌∷◌, Some, refl, sym, ap, subst, arith, All}
-use Rattle.std.specs.Prelude.{unwrap_or, flat_map}
+use Rattle.std.specs.Prelude.{unwrap_or}
 use Rattle.std.specs.List.{AllByRecursion}
 use Rattle.std.proofs.lemmas.Bool.Decides.{nat_tests}
 use Rattle.std.proofs.lemmas.Int.{ints}
@@ -80,9 +80,10 @@ module _ (durations : List Difference) (apart : AreApart durations) where
 
   -- times that keep to others which meet the moved sides of a bound meet the bound
   pub moved_kept : (promised time : ℕ → ℤ) → Keeps durations promised time → (bound : Difference) → Meets promised (moved_upper durations bound) → Meets promised (moved_lower durations bound) → Meets time bound
-  moved_kept promised time kept bound upper lower =
-      (omega (arith, ints, lower.0, kept.least bound.to, kept.most bound.from),
-      omega (arith, ints, upper.1, kept.most bound.to, kept.least bound.from))
+  moved_kept promised time kept bound upper lower = (
+    omega (arith, ints, lower.0, kept.least bound.to, kept.most bound.from),
+    omega (arith, ints, upper.1, kept.most bound.to, kept.least bound.from),
+  )
 
   all_moved_kept : (promised time : ℕ → ℤ) → Keeps durations promised time → (bounds : List Difference) → AllByRecursion (Meets promised) (moved_bounds durations bounds) → AllByRecursion (Meets time) bounds
   all_moved_kept promised time kept [] met = tt

@@ -1,17 +1,15 @@
 -- The durations of the steps of a plan, one behind the other.
-use Rattle.std.proofs.Common.{◌≡◌, ◌≢◌, ◌⊎◌, inl, inr, ⊎_elim, ℕ, ◌+◌, ◌*◌, ◌<◌, ◌≤◌, ℤ, ◌≤ℤ◌, zero, suc, Bool, true, false, cond, eqb, find, List, [], ◌∷◌, ◌++◌, map, length, get_or, Some, refl, sym, ap, subst, ◌∙◌, arith, All}
+use Rattle.std.proofs.Common.{◌≡◌, ◌≢◌, ◌⊎◌, inl, inr, ⊎_elim, ℕ, ◌+◌, ◌*◌, ◌<◌, ℤ, ◌≤ℤ◌, zero, suc, Bool, true, false, cond, eqb, find, List, [], ◌∷◌, ◌++◌, map, length, get_or, Some, refl, sym, ap, subst, ◌∙◌, arith}
 use Rattle.std.specs.Prelude.{unwrap_or}
 use Rattle.std.specs.List.{AllByRecursion}
 use Rattle.std.proofs.lemmas.Bool.Decides.{nat_tests}
 use Rattle.std.proofs.lemmas.Int.{ints}
-use Rattle.std.proofs.lemmas.List.{map-append}
 use Rattle.std.proofs.lemmas.List.Elements.{recursion_from_All}
 use Rattle.stn_net.specs.Difference.{Difference}
-use Rattle.stn_net.specs.Schedule.{Meets}
 use Rattle.stn_lift.specs.BaseBounds.{duration_bound, duration_bounds, duration_of}
 use Rattle.stn_lift.specs.PlanSource.{PlanSource, bare, files, activities_of}
 use Rattle.stn_loosen.specs.Slack.{Slack, loose}
-use Rattle.stn_loosen.specs.Loosened.{durations_of, loose_durations}
+use Rattle.stn_loosen.specs.Loosened.{loose_durations}
 use Rattle.stn_loosen.specs.Promise.{still, setting_of}
 use Rattle.stn_loosen.specs.Stepped.{AreSteps}
 use Rattle.stn_loosen.proofs.Settings.{AreApart, setting_holds, each_weaker}

@@ -1,5 +1,5 @@
 -- Bounds on ends of durations, moved to their starts.
-use Rattle.std.specs.Prelude.{ℕ, ℤ, ◌+ℤ◌, ◌-ℤ◌, neg_ℤ, List, [], ◌∷◌, flat_map}
+use Rattle.std.specs.Prelude.{◌+ℤ◌, ◌-ℤ◌, neg_ℤ, List, [], ◌∷◌, flat_map}
 use Rattle.stn_time.specs.Time.{horizon}
 use Rattle.stn_net.specs.Difference.{Difference}
 use Rattle.stn_loosen.specs.Promise.{setting_of}

@@ -33,7 +33,7 @@ pub fn one_robust_plan()
 pub fn promises_are_schedules_of_starts()
     ensures { (source : PlanSource) → (slack : Slack) → IsSoundSource source → IsSlack slack → (promised : ℕ → ℤ)
         → (Promises (loose_durations slack source) (loose_bounds source slack) promised
-            ↔ IsSchedule (moved_bounds (loose_durations slack source) (orders_of source ++ horizon_bounds (events_of source))) promised) }
+        ↔ IsSchedule (moved_bounds (loose_durations slack source) (orders_of source ++ horizon_bounds (events_of source))) promised) }
 {}
 
 /// The law of the robust plan: it has a schedule if and only if the loosened plan has a promise; each of its schedules is a promise of
@@ -65,5 +65,5 @@ pub fn ends_have_their_durations()
         → (start : ℤ) → Contains run (record { event = duration.from; time = start })
         → All (λ execution. execution.event ≢ duration.to) run
         → (time : ℤ) → (IsInWindow (bounds_with source records ++ executed_bounds run) duration.to time
-            ↔ ((duration.lo ≤ℤ (time -ℤ start)) × ((time -ℤ start) ≤ℤ duration.hi))) }
+        ↔ ((duration.lo ≤ℤ (time -ℤ start)) × ((time -ℤ start) ≤ℤ duration.hi))) }
 {}

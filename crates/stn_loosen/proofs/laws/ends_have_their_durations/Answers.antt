@@ -3,7 +3,6 @@ use Rattle.std.proofs.lemmas.List.Elements.{All-contains, All-from_recursion}
 use Rattle.stn_net.specs.Difference.{Difference}
 use Rattle.stn_loosen.specs.Loosened.{bounds_with, loose_durations}
 use Rattle.stn_loosen.specs.Promise.{setting_of}
-use Rattle.stn_loosen.proofs.Settings.{AreApart}
 use Rattle.stn_loosen.proofs.Runs.{run_possible, end_window}
 use Rattle.stn_loosen.proofs.Robustness.{apart, records_robust, records_promise}
 use Rattle.stn_loosen.proofs.laws.ends_have_their_durations.Goals as goal

@@ -1,4 +1,3 @@
-use Rattle.stn_loosen.proofs.Runs.{IsRobust}
 use Rattle.stn_loosen.proofs.Robustness.{records_robust, records_promise, records_loosened}
 use Rattle.stn_loosen.proofs.laws.robust_plans_promise.Goals as goal
 
