@@ -2,6 +2,7 @@
 use Rattle.std.proofs.Common.{◌≡◌, ℕ, ℤ, ◌≤ℤ◌, neg_ℤ, ◌↔◌, Bool, true, false, IsTrue, List, [], ◌∷◌, ◌++◌, refl, sym, ap, subst, ◌∙◌, append_assoc}
 use Rattle.std.proofs.lemmas.Int.{ints}
 use Rattle.std.proofs.Common.{arith, ◌<ℤ◌, is_le, Ordering, Less, Equal, Greater}
+use lib.Signed.{le_z}
 use Rattle.std.specs.Ordering.{int_cmp, MatchOrdering}
 use Rattle.std.specs.Cmp.{int_ranks}
 use Rattle.std.proofs.lemmas.Bool.{false≢true}
@@ -81,3 +82,6 @@ module _ (bounds : List Difference) (bound : Difference) (from to : ℕ) (there 
         λ is. implied_from bounds bound there back forth_of home_of above (subst (λ n. back ≤ℤ n) side (le_from back opposite (sym tells ∙ is))),
         λ implied. tells ∙ le_tells back opposite (subst (λ n. back ≤ℤ n) (sym side) (lower_from bounds bound back home_of implied)),
       )
+
+pub le_z_tells : (a b : ℤ) → a ≤ℤ b → le_z a b ≡ true
+le_z_tells a b less = grind (arith, ints, less)

@@ -15,3 +15,5 @@ pub mod Steps
 pub mod Runs
 pub mod Robustness
 pub mod OneLoosened
+pub mod Sides
+pub mod MadeRobust

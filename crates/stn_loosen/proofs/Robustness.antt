@@ -166,6 +166,9 @@ module _ (source : PlanSource) (sound : IsSoundSource source) (slack : Slack) (i
     abbrev sources : List Difference
     sources = made.kept ++ horizons
 
+    pub sources_moved : AllByRecursion (IsMetIn (loose_bounds source slack) (events_of source)) (made.kept ++ horizon_bounds (events_of source))
+    sources_moved = each_joined IsMoved made.kept horizons (kept_of IsMoved moved_orders) moved_horizons
+
     -- the schedules of all bounds of the loosened plan are those of its records
     fewer : (time : ℕ → ℤ) → IsSchedule (loose_bounds source slack) time → IsSchedule (bounds_with source loosened) time
     fewer time schedule = subst (λ l. IsSchedule (bounds_with source l) time) (sym made.whole) (record {
@@ -196,7 +199,7 @@ module _ (source : PlanSource) (sound : IsSoundSource source) (slack : Slack) (i
           time,
           schedule_with (bounds_with source loosened) (moved_bounds durations sources) time (fewer time (shortest_schedule promise.0 promise.1))
               (All-from_recursion (Meets time) (moved_bounds durations sources)
-              (shortest_met promise.0 promise.1 sources (each_joined IsMoved made.kept horizons (kept_of IsMoved moved_orders) moved_horizons))),
+              (shortest_met promise.0 promise.1 sources sources_moved)),
         )
 
     module _ (moved : List Difference) (chosen : AreKept (bounds_with source loosened) (moved_bounds (loose_durations slack source) (made.kept ++ horizon_bounds (events_of source))) moved) where

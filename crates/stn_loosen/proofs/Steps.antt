@@ -1,5 +1,5 @@
 -- The durations of the steps of a plan, one behind the other.
-use Rattle.std.proofs.Common.{◌≡◌, ◌≢◌, ◌⊎◌, inl, inr, ⊎_elim, ℕ, ◌+◌, ◌*◌, ◌<◌, ℤ, ◌≤ℤ◌, zero, suc, Bool, true, false, cond, eqb, find, List, [], ◌∷◌, ◌++◌, map, length, get_or, Some, refl, sym, ap, subst, ◌∙◌, arith}
+use Rattle.std.proofs.Common.{◌≡◌, ◌≢◌, ◌⊎◌, inl, inr, ⊎_elim, ℕ, ◌+◌, ◌-◌, ◌*◌, ◌/◌, ◌%◌, ◌<◌, ℤ, ◌≤ℤ◌, zero, suc, Bool, true, false, cond, eqb, find, List, [], ◌∷◌, ◌++◌, map, length, get_or, Some, refl, sym, ap, subst, ◌∙◌, arith, ◌≤◌, ltb}
 use Rattle.std.specs.Prelude.{unwrap_or}
 use Rattle.std.specs.List.{AllByRecursion}
 use Rattle.std.proofs.lemmas.Bool.Decides.{nat_tests}
@@ -109,6 +109,12 @@ module _ (durations : List Difference) (are : AreSteps 0 durations) where
   start_set : (place : ℕ) → setting_of durations (2 * place + 1) ≡ still (2 * place + 1)
   start_set place = setting_none 0 durations are (2 * place + 1) (λ other below same. omega (arith, same))
 
+  pub earlier_start : (event : ℕ) → (setting_of durations event).from ≤ event
+  earlier_start event = ⊎_elim
+      (λ (stands : setting_of durations event ≡ still event). let same = ap (λ (b : Difference). b.from) stands in omega (arith, same))
+      (λ found. omega (arith, found.1, found.2))
+      (set_by event)
+
   own_at : (place : ℕ) (d : Difference) → place < length durations → setting_of durations (get_or durations place d).to ≡ get_or durations place d
   own_at place d below = let step = step_at 0 durations are place below d in setting_step 0 durations are place below d (get_or durations place d).to (omega (arith, step.1))
 
@@ -121,10 +127,29 @@ module _ (durations : List Difference) (are : AreSteps 0 durations) where
         (λ found. subst (λ n. setting_of durations n ≡ still n) (sym found.2) (start_set found.0))
         (set_by event);
     own = recursion_from_All (λ (duration : Difference). setting_of durations duration.to ≡ duration) durations (λ place d below. own_at place d below);
-    earlier = λ event. ⊎_elim
-        (λ (stands : setting_of durations event ≡ still event). let same = ap (λ (b : Difference). b.from) stands in omega (arith, same))
-        (λ found. omega (arith, found.1, found.2))
-        (set_by event);
+    earlier = earlier_start;
     ordered = λ event. setting_holds (λ b. b.lo ≤ℤ b.hi) event (omega (arith, ints)) durations
         (each_weaker (λ (b : Difference). b.lo ≤ℤ b.hi) (λ b. b.to ≡ event → b.lo ≤ℤ b.hi) (λ b less here. less) durations lasting);
   }
+
+-- an event of the code that is no end
+pub not_end : (durations : List Difference) → AreSteps 0 durations → (event number : ℕ) → number ≡ event → (number ≡ 0) ⊎ (number % 2 ≡ 1) → setting_of durations event ≡ still event
+not_end durations are event number is (inl none) = setting_none 0 durations are event (λ place below same. omega (arith, is, none, same))
+not_end durations are event number is (inr odd) = setting_none 0 durations are event (λ place below same. omega (arith, is, odd, same))
+
+-- and one that is
+pub is_end : (durations : List Difference) → AreSteps 0 durations → (event number : ℕ) → number ≡ event → number ≢ 0 → number % 2 ≢ 1 → (place : ℕ) → place ≡ number / 2 - 1
+    → event ≡ 2 * (0 + place) + 2
+is_end durations are event number is some even place here = omega (arith, is, some, even, here)
+
+module _ (durations : List Difference) (are : AreSteps 0 durations) (event number place : ℕ) (is : number ≡ event) (some : number ≢ 0) (even : number % 2 ≢ 1) (here : place ≡ number / 2 - 1) where
+  pub end_set : ltb place (length durations) ≡ true → (d : Difference) → setting_of durations event ≡ get_or durations place d
+  end_set below d =
+      let inside : place < length durations = grind (arith, nat_tests) in
+      setting_step 0 durations are place inside d event (is_end durations are event number is some even place here)
+
+  pub past_set : ltb place (length durations) ≡ false → setting_of durations event ≡ still event
+  past_set above =
+      let outside : length durations ≤ place = grind (arith, nat_tests) in
+      let end = is_end durations are event number is some even place here in
+      setting_none 0 durations are event (λ other below same. omega (arith, end, outside, below, same))

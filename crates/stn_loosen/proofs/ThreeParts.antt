@@ -36,6 +36,10 @@ counted source =
       length-horizon_bounds (events_of source),
     )
 
+-- the horizon bounds are among them
+pub horizon_fits : (source : PlanSource) (all : List Difference) → all ≡ base_bounds source → (events : ℕ) → events ≡ events_of source → events ≤ length all
+horizon_fits source all is events many = omega (arith, counted source, ap length is, many)
+
 -- where the durations end, and the orders begin
 between : (source : PlanSource) → min (length (base_bounds source)) (events_of source + steps_of source) ≡ events_of source + length (durations_of source)
 between (bare steps) = omega (arith, counted (bare steps))

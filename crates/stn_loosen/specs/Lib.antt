@@ -8,4 +8,5 @@ pub mod Faults
 pub mod Numbered
 pub mod Making
 pub mod Stepped
+pub mod Whole
 pub mod Failures

@@ -1,8 +1,9 @@
 -- The robust plan: the loosened plan, and bounds on starts under which it completes however long its steps take.
-use Rattle.std.specs.Prelude.{◌≡◌, ◌++◌, ℕ, ℤ, List}
+use Rattle.std.specs.Prelude.{◌≡◌, ◌++◌, ◌<◌, ◌≤◌, ℕ, ℤ, List, length}
 use Rattle.stn_net.specs.Difference.{Difference}
 use Rattle.stn_net.specs.Horizon.{horizon_bounds}
 use Rattle.stn_lift.specs.PlanSource.{PlanSource, events_of}
+use Rattle.stn_records.specs.Content.{most_known}
 use Rattle.stn_loosen.specs.Slack.{Slack}
 use Rattle.stn_loosen.specs.Loosened.{orders_of, bounds_with, loose_durations, AreKept, AreLoosened}
 use Rattle.stn_loosen.specs.Promise.{Promises}
@@ -26,3 +27,10 @@ pub record AreRobust (source : PlanSource) (slack : Slack) (records : List Diffe
   pub whole : records ≡ loosened ++ moved
   pub chosen : AreKept (bounds_with source loosened)
       (moved_bounds (loose_durations slack source) (are_loosened.made.kept ++ horizon_bounds (events_of source))) moved
+
+-- they would be too many, while those of the loosened plan are not
+pub record AreTooManyRobust (source : PlanSource) (slack : Slack) : Type 0 where
+  pub records : List Difference
+  pub are_robust : AreRobust source slack records
+  pub few_loosened : length are_robust.loosened ≤ most_known
+  pub many : most_known < length records

@@ -1,8 +1,46 @@
 -- For proofs alone: no public clause cites these words.
-use Rattle.std.specs.Prelude.{◌≡◌, ℕ, ◌+◌, ◌*◌, List, [], ◌∷◌}
-use Rattle.stn_net.specs.Difference.{Difference}
+use Rattle.std.specs.Prelude.{◌≡◌, ◌⊎◌, ℕ, ◌+◌, ◌*◌, pos, neg_ℤ, ◌≤ℤ◌, ◌++◌, List, [], ◌∷◌}
+use Rattle.stn_time.specs.Time.{horizon, IsWithinHorizon}
+use Rattle.stn_net.specs.Difference.{Difference, IsBoundWithin}
+use Rattle.stn_net.specs.Schedule.{HasSchedule}
+use Rattle.stn_loosen.specs.declared.span.Span.{Span}
+use Rattle.stn_loosen.specs.declared.fault.RobustFault.{RobustFault}
+use Rattle.stn_loosen.specs.declared.fault.RobustFault.TheVariants.{Full, NotRobust, Memory}
+use Rattle.stn_loosen.specs.Loosened.{AreKept}
+use Rattle.stn_loosen.specs.Making.{all_bounds}
 
 -- the durations of steps one behind the other, after so many others
 abbrev pub AreSteps : ℕ → List Difference → Type 0
 AreSteps before [] = Unit {0}
 AreSteps before (duration ∷ durations) = ((duration.from ≡ 2 * before + 1) × (duration.to ≡ 2 * before + 2)) × AreSteps (before + 1) durations
+
+-- a span as a bound
+abbrev pub as_bound : Span → Difference
+as_bound span = record { from = span.from; to = span.to; lo = span.lo; hi = span.hi }
+
+-- one side of it is open
+abbrev pub IsOpen : Difference → Type 0
+IsOpen bound = (bound.lo ≡ neg_ℤ horizon) ⊎ (bound.hi ≡ horizon)
+
+-- its sides lie within four times the horizon
+pub record IsInReach (bound : Difference) : Type 0 where
+  pub lo_least : neg_ℤ (pos 126144000000) ≤ℤ bound.lo
+  pub lo_most : bound.lo ≤ℤ pos 126144000000
+  pub hi_least : neg_ℤ (pos 126144000000) ≤ℤ bound.hi
+  pub hi_most : bound.hi ≤ℤ pos 126144000000
+
+-- it is a bound of a plan with so many events
+pub record IsBoundOf (events : ℕ) (bound : Difference) : Type 0 where
+  pub sound : IsBoundWithin events bound
+  pub lo : IsWithinHorizon bound.lo
+  pub hi : IsWithinHorizon bound.hi
+
+-- what was made of the sides of moved bounds: those that were not implied
+abbrev pub AreMadeBehind : ℕ → List Difference → List Difference → List Difference → Type 0
+AreMadeBehind events old sides new = (kept : List Difference) × (new ≡ old ++ kept) × AreKept (all_bounds events old) sides kept
+
+-- why the sides can't be made: with them there is no schedule
+abbrev pub IsCauseBehind : ℕ → List Difference → List Difference → RobustFault → Type 0
+IsCauseBehind events old sides Full = ⊥
+IsCauseBehind events old sides NotRobust = ¬ HasSchedule (all_bounds events (old ++ sides))
+IsCauseBehind events old sides Memory = Unit {0}

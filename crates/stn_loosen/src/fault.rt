@@ -33,3 +33,53 @@ impl<T: Drop> From<AllocFailed<T>> for LoosenFault {
         LoosenFault::Memory
     }
 }
+
+/// Why a plan was not made robust.
+#[derive(Clone, Copy, Debug, PartialEq, Eq, Error)]
+pub enum RobustFault {
+    /// More than 4,096 records would be made.
+    #[error("too many records")]
+    Full,
+    /// There are no times for the starts under which the plan completes however long its steps take.
+    #[error("no promise")]
+    NotRobust,
+    /// Memory ran out.
+    #[error("out of memory")]
+    Memory,
+}
+
+impl From<AllocError> for RobustFault {
+    ghost use Rattle.std.specs.Prelude.{◌≡◌};
+    ghost use Rattle.stn_loosen.specs.declared.fault.RobustFault.TheVariants.{Memory};
+
+    ghost from_gives = { λ _ fault. fault ≡ Memory };
+
+    fn from(_fault: AllocError) -> RobustFault {
+        RobustFault::Memory
+    }
+}
+
+impl<T: Drop> From<AllocFailed<T>> for RobustFault {
+    ghost use Rattle.std.specs.Prelude.{◌≡◌};
+    ghost use Rattle.stn_loosen.specs.declared.fault.RobustFault.TheVariants.{Memory};
+
+    ghost from_gives = { λ _ fault. fault ≡ Memory };
+
+    fn from(_refused: AllocFailed<T>) -> RobustFault {
+        RobustFault::Memory
+    }
+}
+
+impl From<LoosenFault> for RobustFault {
+    ghost use Rattle.std.specs.Prelude.{◌≡◌};
+    ghost use Rattle.stn_loosen.specs.Faults.{of_loosening};
+
+    ghost from_gives = { λ fault given. given ≡ of_loosening fault };
+
+    fn from(fault: LoosenFault) -> RobustFault {
+        match fault {
+            LoosenFault::Full => RobustFault::Full,
+            LoosenFault::Memory => RobustFault::Memory,
+        }
+    }
+}

@@ -2,13 +2,14 @@
 #![tactic(auto)]
 
 pub use adding::loosened_replica;
-pub use fault::LoosenFault;
+pub use fault::{LoosenFault, RobustFault};
 pub use laws::{
     ends_have_their_durations, one_loosened_plan, one_robust_plan,
     promises_are_schedules_of_starts, robust_plans_promise, robust_runs_complete,
     too_many_are_not_few,
 };
 pub use plan::loosened;
+pub use promise::robust;
 pub use tolerance::Tolerance;
 
 mod adding;
@@ -19,4 +20,6 @@ mod making;
 mod nearest;
 mod parts;
 mod plan;
+mod promise;
+mod span;
 mod tolerance;

@@ -7,9 +7,12 @@ ghost use Rattle.stn_net.specs.Schedule.{HasSchedule};
 ghost use Rattle.stn_records.specs.Content.{most_known};
 ghost use Rattle.stn_loosen.specs.Slack.{loose};
 ghost use Rattle.stn_loosen.specs.Loosened.{Imply, AreKept};
+ghost use Rattle.stn_loosen.specs.Moved.{moved_bounds};
+ghost use Rattle.stn_loosen.specs.Stepped.{AreSteps, as_bound, IsInReach, IsOpen, AreMadeBehind, IsCauseBehind};
 ghost use Rattle.stn_loosen.specs.Making.{all_bounds, AreTaken, IsNext, IsCauseAt, IsCauseOf, IsCauseWith};
 
-use crate::fault::LoosenFault;
+use crate::fault::{LoosenFault, RobustFault};
+use crate::span::{Span, moved_lower, moved_upper};
 use crate::tolerance::Tolerance;
 use std::alloc::Allocator;
 use stn_matrix::Matrix;
@@ -68,7 +71,9 @@ impl<A: Allocator + Copy> Making<A> {
         requires few { length self.old.records.items ≤ most_known }
         ensures made { OnOk result ((kept : List Difference) × (self.new.records.items ≡ self.old.records.items ++ kept)
             × AreKept (all_bounds self.old.matrix.events self.old.records.items) orders.now kept) }
+        ensures taken { OnOk result (AreTaken self.new.records.items self.new.matrix) }
         ensures few { OnOk result (length self.new.records.items ≤ most_known) }
+        ensures events { self.new.matrix.events ≡ self.old.matrix.events }
         ensures fault { IfErr result (IsCauseWith self.old.matrix.events self.old.records.items orders.now) }
     {
         for order in orders {
@@ -89,20 +94,21 @@ impl<A: Allocator + Copy> Making<A> {
         ensures events { self.new.matrix.events ≡ self.old.matrix.events }
         ensures fault { IfErr result (IsCauseOf self.old.matrix.events self.old.records.items order) }
     {
-        if self.implies(&order) {
+        if self.implies(&Span::of(&order)) {
             return Ok(());
         }
         self.make(order)
     }
 
     // Whether the bounds so far imply another.
-    fn implies(&self, bound: &Bound) -> bool
+    fn implies(&self, span: &Span) -> bool
         requires taken { AreTaken self.now.records.items self.now.matrix }
-        requires named { NamesEvents self.now.matrix.events bound.now }
-        ensures { IsTrue result ↔ Imply (all_bounds self.now.matrix.events self.now.records.items) bound.now }
+        requires named { NamesEvents self.now.matrix.events (as_bound span.now) }
+        requires reach { IsInReach (as_bound span.now) }
+        ensures { IsTrue result ↔ Imply (all_bounds self.now.matrix.events self.now.records.items) (as_bound span.now) }
     {
-        self.matrix.far(bound.from(), bound.to()) <= bound.hi()
-            && self.matrix.far(bound.to(), bound.from()) <= -bound.lo()
+        self.matrix.far(span.from, span.to).get() <= span.hi
+            && span.lo <= -self.matrix.far(span.to, span.from).get()
     }
 
     // Makes one more record.
@@ -122,6 +128,63 @@ impl<A: Allocator + Copy> Making<A> {
         }
         self.records.push(bound)?;
         let _fits = self.matrix.tighten(bound);
+        Ok(())
+    }
+
+    /// Makes each side of the bounds, moved from the ends of these durations to their starts, that is not implied by then; however many
+    /// there are. Refused as `NotRobust` where there is no schedule with all of them.
+    pub fn make_moved(&mut self, durations: &[Bound], bounds: &[Bound]) -> Result<(), RobustFault>
+        requires taken { AreTaken self.old.records.items self.old.matrix }
+        requires steps { AreSteps 0 durations.now }
+        requires named { All (NamesEvents self.old.matrix.events) bounds.now }
+        ensures made { OnOk result (AreMadeBehind self.old.matrix.events self.old.records.items (moved_bounds durations.now bounds.now) self.new.records.items) }
+        ensures taken { OnOk result (AreTaken self.new.records.items self.new.matrix) }
+        ensures events { self.new.matrix.events ≡ self.old.matrix.events }
+        ensures fault { IfErr result (IsCauseBehind self.old.matrix.events self.old.records.items (moved_bounds durations.now bounds.now)) }
+    {
+        for bound in bounds {
+            self.make_sides(durations, bound)?;
+        }
+        Ok(())
+    }
+
+    // The same of one bound.
+    fn make_sides(&mut self, durations: &[Bound], bound: &Bound) -> Result<(), RobustFault>
+        requires taken { AreTaken self.old.records.items self.old.matrix }
+        requires steps { AreSteps 0 durations.now }
+        requires named { NamesEvents self.old.matrix.events bound.now }
+        ensures made { OnOk result (AreMadeBehind self.old.matrix.events self.old.records.items (moved_bounds durations.now (bound.now ∷ [])) self.new.records.items) }
+        ensures taken { OnOk result (AreTaken self.new.records.items self.new.matrix) }
+        ensures events { self.new.matrix.events ≡ self.old.matrix.events }
+        ensures fault { IfErr result (IsCauseBehind self.old.matrix.events self.old.records.items (moved_bounds durations.now (bound.now ∷ []))) }
+    {
+        let upper = moved_upper(durations, bound);
+        let lower = moved_lower(durations, bound);
+        self.make_side(&upper)?;
+        self.make_side(&lower)
+    }
+
+    // Makes the side of a bound, where it is not implied.
+    fn make_side(&mut self, side: &Span) -> Result<(), RobustFault>
+        requires taken { AreTaken self.old.records.items self.old.matrix }
+        requires named { NamesEvents self.old.matrix.events (as_bound side.now) }
+        requires open { IsOpen (as_bound side.now) }
+        requires reach { IsInReach (as_bound side.now) }
+        ensures made { OnOk result (AreMadeBehind self.old.matrix.events self.old.records.items (as_bound side.now ∷ []) self.new.records.items) }
+        ensures taken { OnOk result (AreTaken self.new.records.items self.new.matrix) }
+        ensures events { self.new.matrix.events ≡ self.old.matrix.events }
+        ensures fault { IfErr result (IsCauseBehind self.old.matrix.events self.old.records.items (as_bound side.now ∷ [])) }
+    {
+        if self.implies(side) {
+            return Ok(());
+        }
+        let Some(bound) = side.bound(self.matrix.events()) else {
+            return Err(RobustFault::NotRobust);
+        };
+        if !self.matrix.tighten(bound) {
+            return Err(RobustFault::NotRobust);
+        }
+        self.records.push(bound)?;
         Ok(())
     }
 }

@@ -1,10 +1,11 @@
-ghost use Rattle.std.specs.Prelude.{ℕ, ℤ, ◌≤◌, length, All, IfOk, IfErr};
+ghost use Rattle.std.specs.Prelude.{◌≡◌, ℕ, ℤ, ◌≤◌, length, All, IfOk, IfErr};
 ghost use Rattle.stn_net.specs.Schedule.{IsSchedule};
 ghost use Rattle.stn_lift.specs.BaseBounds.{KeepsOrder};
-ghost use Rattle.stn_lift.specs.PlanSource.{base_bounds, events_of, planned_of, interfere_in_plan};
+ghost use Rattle.stn_lift.specs.PlanSource.{base_bounds, events_of, planned_of, interfere_in_plan, IsSoundSource};
 ghost use Rattle.stn_records.specs.Content.{most_known};
 ghost use Rattle.stn_loosen.specs.Loosened.{orders_of, bounds_with, Imply, AreLoosened};
 ghost use Rattle.stn_loosen.specs.Faults.{IsCause};
+ghost use Rattle.stn_loosen.specs.Making.{AreTaken};
 
 use crate::fault::LoosenFault;
 use crate::making::Making;
@@ -37,9 +38,25 @@ pub fn loosened<A: Allocator + Copy>(
     ensures ordered { IfOk result (λ records. KeepsOrder (events_of base.now) (interfere_in_plan base.now) (planned_of base.now) (bounds_with base.now records.items)) }
     ensures fault { IfErr result (IsCause base.now tolerance) }
 {
+    Ok(make_loosened(alloc, base, tolerance)?.records)
+}
+
+// The same, with the matrix of their bounds.
+pub(crate) fn make_loosened<A: Allocator + Copy>(
+    alloc: A,
+    base: &Base<A>,
+    tolerance: Tolerance,
+) -> Result<Making<A>, LoosenFault>
+    ensures sound { IfOk result (λ making. IsSoundSource base.now) }
+    ensures records { IfOk result (λ making. AreLoosened base.now tolerance making.records.items) }
+    ensures few { IfOk result (λ making. length making.records.items ≤ most_known) }
+    ensures taken { IfOk result (λ making. AreTaken making.records.items making.matrix) }
+    ensures events { IfOk result (λ making. making.matrix.events ≡ events_of base.now) }
+    ensures fault { IfErr result (IsCause base.now tolerance) }
+{
     let mut making = Making::new(alloc, base.events())?;
     making.make_durations(durations_of(base), tolerance)?;
     let orders = nearest_first(alloc, base)?;
     making.make_orders(&orders)?;
-    Ok(making.records)
+    Ok(making)
 }

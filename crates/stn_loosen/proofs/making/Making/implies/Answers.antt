@@ -1,16 +1,34 @@
+use Rattle.std.proofs.Common.{pos, ◌-ℤ◌, to_z, of_z, w64, sym, ◌∙◌, arith}
+use Rattle.std.proofs.lemmas.Int.{ints}
+use Rattle.std.proofs.lemmas.Bool.{false≢true}
+use Rattle.stn_loosen.specs.Stepped.{as_bound}
 use Rattle.stn_loosen.specs.Making.{all_bounds}
-use Rattle.stn_loosen.proofs.Implied.{tells_upper, tells_lower}
+use Rattle.stn_loosen.proofs.Implied.{implied_from, upper_from, lower_from, le_z_tells}
 use Rattle.stn_loosen.proofs.making.Making.implies.Goals as goal
 
-pub returns-then-le : goal.returns-then-le
-returns-then-le g c =
+pub returns-then-get-span : goal.returns-then-get-span
+returns-then-get-span g c =
     let bounds = all_bounds c.args.self.now.matrix.events c.args.self.now.records.items in
-    tells_lower bounds c.args.bound.now c.from.result c.to.result c.far.result c.hi.result c.from.ensures.value c.to.ensures.value c.hi.ensures.value (c.far.ensures.far bounds c.requires.taken)
-    c.to-then-le.result c.from-then-le.result c.far-then-le.result c.lo.result c.neg.result c.le.result c.le-then-le.result
-    c.to-then-le.ensures.value c.from-then-le.ensures.value c.lo.ensures.value c.neg.ensures (c.far-then-le.ensures.far bounds c.requires.taken) c.le.ensures c.if-le.true c.le-then-le.ensures
+    let span = as_bound c.args.span.now in
+    let there = c.far.ensures.far bounds c.requires.taken in
+    let back = c.far-then-get-span.ensures.far bounds c.requires.taken in
+    let reach = c.requires.reach in (
+      λ is. implied_from bounds span c.far.result c.far-then-get-span.result there back
+          (omega (arith, ints, c.if-get-span.true, c.get.ensures.value, c.get.ensures.within.0, c.get.ensures.within.1, reach.hi_least, reach.hi_most))
+          (omega (arith, ints, is, c.get-then-get-span.ensures.value, c.get-then-get-span.ensures.within.0, c.get-then-get-span.ensures.within.1, reach.lo_least, reach.lo_most)),
+      λ implied.
+          let below = lower_from bounds span c.far-then-get-span.result back implied in
+          le_z_tells (to_z w64 (of_z w64 c.args.span.now.lo)) (to_z w64 (of_z w64 (pos 0 -ℤ to_z w64 (of_z w64 c.get-then-get-span.result)))) (omega (arith, ints, below, c.get-then-get-span.ensures.value, c.get-then-get-span.ensures.within.0, c.get-then-get-span.ensures.within.1, reach.lo_least, reach.lo_most)),
+    )
 
-pub returns-else-le : goal.returns-else-le
-returns-else-le g c =
+pub returns-else-get-span : goal.returns-else-get-span
+returns-else-get-span g c =
     let bounds = all_bounds c.args.self.now.matrix.events c.args.self.now.records.items in
-    tells_upper bounds c.args.bound.now c.from.result c.to.result c.far.result c.hi.result c.from.ensures.value c.to.ensures.value c.hi.ensures.value (c.far.ensures.far bounds c.requires.taken)
-    c.le.result c.le.ensures c.if-le.false
+    let span = as_bound c.args.span.now in
+    let there = c.far.ensures.far bounds c.requires.taken in
+    let reach = c.requires.reach in (
+      λ is. absurd (false≢true (sym c.if-get-span.false ∙ is)),
+      λ implied.
+          let above = upper_from bounds span c.far.result there implied in
+          le_z_tells (to_z w64 (of_z w64 c.get.result)) (to_z w64 (of_z w64 c.args.span.now.hi)) (omega (arith, ints, above, c.get.ensures.value, c.get.ensures.within.0, c.get.ensures.within.1, reach.hi_least, reach.hi_most)),
+    )

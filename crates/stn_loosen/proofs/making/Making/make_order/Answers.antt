@@ -1,4 +1,4 @@
-use Rattle.std.proofs.Common.{ℕ, List, length, inl, inr, refl, sym, ◌∙◌}
+use Rattle.std.proofs.Common.{ℕ, List, length, inl, inr, refl, sym, ◌∙◌, subst}
 use Rattle.std.proofs.lemmas.Bool.{false≢true}
 use Rattle.std.proofs.lemmas.Result.{on_ok_weaker, IfErr-weaker}
 use Rattle.stn_net.specs.Difference.{Difference}
@@ -15,7 +15,7 @@ needed events old order new Memory none = tt
 
 pub returns-then-implies : goal.returns-then-implies
 returns-then-implies g c = record {
-  made = inl (c.implies.ensures.0 c.if-implies.true, refl);
+  made = inl (subst (Imply (all_bounds c.args.self.now.matrix.events c.args.self.now.records.items)) c.of.ensures.value (c.implies.ensures.0 c.if-implies.true), refl);
   taken = c.requires.taken;
   few = c.requires.few;
   events = refl;
@@ -25,7 +25,8 @@ returns-then-implies g c = record {
 pub returns : goal.returns
 returns g c =
     let old = c.args.self.now in
-    let new : Imply (all_bounds old.matrix.events old.records.items) c.args.order → ⊥ = λ implied. false≢true (sym c.if-implies.false ∙ c.implies.ensures.1 implied) in
+    let new : Imply (all_bounds old.matrix.events old.records.items) c.args.order → ⊥ = λ implied.
+    false≢true (sym c.if-implies.false ∙ c.implies.ensures.1 (subst (Imply (all_bounds old.matrix.events old.records.items)) (sym c.of.ensures.value) implied)) in
     record {
       made = on_ok_weaker c.make.result (λ made. inr (new, made)) c.make.ensures.made;
       taken = c.make.ensures.taken;

@@ -1,3 +1,4 @@
+use Rattle.std.proofs.Common.{◌∙◌}
 use Rattle.std.proofs.lemmas.List.{take_all}
 use Rattle.std.proofs.lemmas.Result.{err_from_is_err_and}
 use Rattle.stn_loosen.proofs.Made.{order_possible, order_made, order_refused}
@@ -18,7 +19,9 @@ returns-in_err-make_order g c =
     c.in_err-make_order.field-0.0 c.in_err-make_order.ensures.fault in
     record {
       made = rw returned.1 tt;
+      taken = rw returned.1 tt;
       few = rw returned.1 tt;
+      events = c.make_order.ensures.events ∙ sofar.invariant.events;
       fault = rw (returned.1, returned.2) refused;
     }
 
@@ -35,6 +38,8 @@ returns g c =
     let all = c.loop-order.invariant in
     record {
       made = (all.kept, all.made, rw (take_all c.loop-order.order-index c.args.orders.now c.loop-order-test.false) at all.chosen);
+      taken = all.taken;
       few = all.few;
+      events = all.events;
       fault = tt;
     }

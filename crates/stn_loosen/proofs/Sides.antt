@@ -1,0 +1,215 @@
+-- Sides of moved bounds that are made one after the other.
+use Rattle.std.proofs.Common.{◌≡◌, ◌≢◌, inl, inr, ⊎_elim, ℕ, ◌+◌, ◌<◌, ℤ, pos, neg_ℤ, ◌+ℤ◌, ◌-ℤ◌, ◌≤ℤ◌, ◌<ℤ◌, Ordering, Less, Equal, Greater, ◌↔◌, Bool, true, false, IsTrue, List, [], ◌∷◌, ◌++◌, length, take, drop, get_or, refl, sym, ap, subst, ◌∙◌, arith, append_assoc, append-nil, All}
+use Rattle.std.specs.List.{AllByRecursion}
+use Rattle.std.specs.Ordering.{int_cmp, MatchOrdering}
+use Rattle.std.specs.Cmp.{int_ranks}
+use Rattle.std.proofs.lemmas.Int.{ints}
+use Rattle.std.proofs.lemmas.List.{take_more, take-append-drop}
+use Rattle.std.proofs.lemmas.Grind.{flat_map-append}
+use Rattle.std.proofs.lemmas.List.Elements.{All-head, All-from_recursion, recursion_from_All}
+use Rattle.stn_time.specs.Time.{horizon, IsWithinHorizon}
+use Rattle.stn_time.proofs.Each.{All-left, each_parted}
+use Rattle.stn_net.specs.Difference.{Difference, NamesEvents}
+use Rattle.stn_net.specs.Horizon.{horizon_bounds}
+use Rattle.stn_net.specs.Schedule.{Meets, IsSchedule, HasSchedule}
+use Rattle.stn_matrix.specs.Table.{Table}
+use Rattle.stn_matrix.specs.Tightest.{IsExact}
+use Rattle.stn_replica.proofs.Schedules.{schedule_before, met_behind, schedule_with}
+use Rattle.stn_loosen.specs.Loosened.{Imply, AreKept}
+use Rattle.stn_loosen.specs.Making.{all_bounds, AreTaken}
+use Rattle.stn_loosen.specs.declared.fault.RobustFault.{RobustFault}
+use Rattle.stn_loosen.specs.declared.fault.RobustFault.TheVariants.{Full, NotRobust, Memory}
+use Rattle.stn_loosen.specs.Moved.{moved_upper, moved_lower, moved_bounds}
+use Rattle.stn_loosen.specs.declared.span.Span.{Span}
+use Rattle.stn_loosen.specs.Promise.{setting_of}
+use Rattle.stn_loosen.specs.Stepped.{as_bound, AreSteps, IsOpen, IsBoundOf, AreMadeBehind, IsCauseBehind}
+use Rattle.stn_loosen.proofs.Steps.{earlier_start}
+use Rattle.stn_loosen.proofs.Kept.{kept_hold}
+use Rattle.stn_loosen.proofs.Looser.{within}
+use Rattle.stn_loosen.proofs.Implied.{taken_more}
+use Rattle.std.proofs.lemmas.Bool.{false≢true}
+
+-- what is kept of more
+pub AreKept-join : (bounds first second one other : List Difference) → AreKept bounds first one → AreKept (bounds ++ one) second other → AreKept bounds (first ++ second) (one ++ other)
+AreKept-join bounds [] second one other none are =
+    let same : bounds ++ one ≡ bounds = ap (λ l. bounds ++ l) none ∙ append-nil bounds in
+    let whole : other ≡ one ++ other = sym (ap (λ l. l ++ other) none) in
+    subst (AreKept bounds second) whole (subst (λ l. AreKept l second other) same are)
+AreKept-join bounds (side ∷ first) second one other kept are =
+    ⊎_elim
+    (λ p. inl (p.0, AreKept-join bounds first second one other p.1 are))
+    (λ p.
+    let rest : List Difference = p.1.0 in
+    let same : bounds ++ one ≡ (bounds ++ side ∷ []) ++ rest = ap (λ l. bounds ++ l) p.1.1 ∙ sym (append_assoc bounds (side ∷ []) rest) in
+    inr (p.0, (rest ++ other, ap (λ l. l ++ other) p.1.1, AreKept-join (bounds ++ side ∷ []) first second rest other p.1.2 (subst (λ l. AreKept l second other) same are))))
+    kept
+
+module _ (events : ℕ) (old : List Difference) where
+  pub none_made : AreMadeBehind events old [] old
+  none_made = ([], sym (append-nil old), refl)
+
+  pub made_behind : (first second middle new : List Difference) → AreMadeBehind events old first middle → AreMadeBehind events middle second new → AreMadeBehind events old (first ++ second) new
+  made_behind first second middle new one other = (
+    one.0 ++ other.0,
+    other.1 ∙ ap (λ l. l ++ other.0) one.1 ∙ append_assoc old one.0 other.0,
+    AreKept-join (all_bounds events old) first second one.0 other.0 one.2
+        (subst (λ l. AreKept l second other.0) (ap (all_bounds events) one.1 ∙ sym (append_assoc (horizon_bounds events) old one.0)) other.2),
+  )
+
+  -- what can't be made behind the first can't be made with these
+  pub impossible_behind : (first second others middle : List Difference) → AreMadeBehind events old first middle → ¬ HasSchedule (all_bounds events (middle ++ second)) → ¬ HasSchedule (all_bounds events (old ++ (first ++ (second ++ others))))
+  impossible_behind first second others middle made impossible s =
+      let time : ℕ → ℤ = s.0 in
+      let front : List Difference = all_bounds events old in
+      let whole : IsSchedule (front ++ (first ++ (second ++ others))) time = subst (λ l. IsSchedule l time) (sym (append_assoc (horizon_bounds events) old (first ++ (second ++ others)))) s.1 in
+      let met = each_parted (Meets time) first (second ++ others) (recursion_from_All (Meets time) (first ++ (second ++ others)) (met_behind front (first ++ (second ++ others)) time whole)) in
+      let more = each_parted (Meets time) second others met.1 in
+      let kept : AllByRecursion (Meets time) made.0 = kept_hold (Meets time) front first made.0 made.2 met.0 in
+      let here : IsSchedule (front ++ made.0) time = schedule_with front made.0 time (schedule_before front (first ++ (second ++ others)) time whole) (All-from_recursion (Meets time) made.0 kept) in
+      let there : IsSchedule (all_bounds events middle) time = subst (λ l. IsSchedule l time) (append_assoc (horizon_bounds events) old made.0 ∙ ap (all_bounds events) (sym made.1)) here in
+      impossible (
+        time,
+        subst (λ l. IsSchedule l time) (append_assoc (horizon_bounds events) middle second)
+            (schedule_with (all_bounds events middle) second time there (All-from_recursion (Meets time) second more.0)),
+      )
+
+  pub cause_behind : (first second others middle : List Difference) → AreMadeBehind events old first middle → (fault : RobustFault) → IsCauseBehind events middle second fault → IsCauseBehind events old (first ++ (second ++ others)) fault
+  cause_behind first second others middle made Full p = p
+  cause_behind first second others middle made NotRobust p = impossible_behind first second others middle made p
+  cause_behind first second others middle made Memory p = tt
+
+  module _ (side : Difference) where
+    pub side_implied : Imply (all_bounds events old) side → AreMadeBehind events old (side ∷ []) old
+    side_implied implied = ([], sym (append-nil old), inl (implied, refl))
+
+    pub side_made : (new : List Difference) → ¬ Imply (all_bounds events old) side → new ≡ old ++ side ∷ [] → AreMadeBehind events old (side ∷ []) new
+    side_made new needed is = (side ∷ [], is, inr (needed, ([], refl, refl)))
+
+    -- with a side that is open, needed, and no bound there is no schedule
+    module _ (named : NamesEvents events side) (side_open : IsOpen side) (needed : ¬ Imply (all_bounds events old) side) (time : ℕ → ℤ) (schedule : IsSchedule (all_bounds events (old ++ side ∷ [])) time) where
+      between : (other : ℕ → ℤ) → other 0 ≡ pos 0 → All (Meets other) (horizon_bounds events) → (neg_ℤ horizon ≤ℤ (other side.to -ℤ other side.from)) × ((other side.to -ℤ other side.from) ≤ℤ horizon)
+      between other origin met =
+          let from = within other events origin met side.from named.from in
+          let to = within other events origin met side.to named.to in
+          (omega (arith, ints, from.1, to.0), omega (arith, ints, from.0, to.1))
+
+      between_old : (other : ℕ → ℤ) → IsSchedule (all_bounds events old) other → (neg_ℤ horizon ≤ℤ (other side.to -ℤ other side.from)) × ((other side.to -ℤ other side.from) ≤ℤ horizon)
+      between_old other s = between other s.origin (All-left (Meets other) (horizon_bounds events) old s.met)
+
+      here : Meets time side
+      here = All-head (Meets time) side [] (met_behind (all_bounds events old) (side ∷ []) time (subst (λ l. IsSchedule l time) (sym (append_assoc (horizon_bounds events) old (side ∷ []))) schedule))
+
+      inside : (neg_ℤ horizon ≤ℤ (time side.to -ℤ time side.from)) × ((time side.to -ℤ time side.from) ≤ℤ horizon)
+      inside = between time schedule.origin (All-left (Meets time) (horizon_bounds events) (old ++ side ∷ []) schedule.met)
+
+      differs : side.from ≢ side.to
+      differs same = needed (λ other s. (
+        omega (arith, ints, here.0, ap other same, ap time same),
+        omega (arith, ints, here.1, ap other same, ap time same),
+      ))
+
+      lower : IsWithinHorizon side.lo
+      lower = by (int_cmp side.lo (neg_ℤ horizon)) (int_ranks side.lo (neg_ℤ horizon)) side_open
+        where
+          by : (o : Ordering) → MatchOrdering o (side.lo <ℤ neg_ℤ horizon) (side.lo ≡ neg_ℤ horizon) (neg_ℤ horizon <ℤ side.lo) → IsOpen side → IsWithinHorizon side.lo
+          by Less ranks (inl is) = absurd (omega (arith, ints, ranks, is))
+          by Less ranks (inr is) = absurd (needed (λ other s. let b = between_old other s in (omega (arith, ints, b.0, ranks), omega (arith, ints, b.1, is))))
+          by Equal ranks o = (omega (arith, ints, ranks), omega (arith, ints, ranks))
+          by Greater ranks o = (omega (arith, ints, ranks), omega (arith, ints, here.0, inside.1))
+
+      upper : IsWithinHorizon side.hi
+      upper = by (int_cmp side.hi horizon) (int_ranks side.hi horizon) side_open
+        where
+          by : (o : Ordering) → MatchOrdering o (side.hi <ℤ horizon) (side.hi ≡ horizon) (horizon <ℤ side.hi) → IsOpen side → IsWithinHorizon side.hi
+          by Less ranks o = (omega (arith, ints, here.1, inside.0), omega (arith, ints, ranks))
+          by Equal ranks o = (omega (arith, ints, ranks), omega (arith, ints, ranks))
+          by Greater ranks (inl is) = absurd (needed (λ other s. let b = between_old other s in (omega (arith, ints, b.0, is), omega (arith, ints, b.1, ranks))))
+          by Greater ranks (inr is) = absurd (omega (arith, ints, ranks, is))
+
+      pub side_bound : IsBoundOf events side
+      side_bound = record {
+        sound = record { named = named; differs = differs; ordered = omega (arith, ints, here.0, here.1) };
+        lo = lower;
+        hi = upper;
+      }
+
+-- what the matrix says of one more bound
+module _ (records : List Difference) (bound : Difference) (old : Table) (fits : Bool) (taken : AreTaken records old)
+    (possible : (bounds : List Difference) → IsExact bounds old → (IsTrue fits ↔ HasSchedule (bounds ++ bound ∷ []))) where
+  whole : all_bounds old.events records ++ bound ∷ [] ≡ all_bounds old.events (records ++ bound ∷ [])
+  whole = append_assoc (horizon_bounds old.events) records (bound ∷ [])
+
+  pub side_refused : fits ≡ false → ¬ HasSchedule (all_bounds old.events (records ++ bound ∷ []))
+  side_refused is s = false≢true (sym is ∙ (possible (all_bounds old.events records) taken).1 (subst (λ l. HasSchedule l) (sym whole) s))
+
+  pub side_taken : (more : List Difference) (new : Table) → fits ≡ true → more ≡ records ++ bound ∷ []
+      → ((bounds : List Difference) → IsExact bounds old → IsTrue fits → IsExact (bounds ++ bound ∷ []) new) → new.events ≡ old.events → AreTaken more new
+  side_taken more new is made exact same =
+      taken_more records more bound old new fits made taken (subst (λ l. HasSchedule l) whole ((possible (all_bounds old.events records) taken).0 is)) possible exact same
+
+module _ (durations : List Difference) (are : AreSteps 0 durations) (events : ℕ) (bound : Difference) (named : NamesEvents events bound) where
+  pub upper_named : NamesEvents events (moved_upper durations bound)
+  upper_named = record { from = omega (arith, earlier_start durations are bound.from, named.from); to = omega (arith, earlier_start durations are bound.to, named.to) }
+
+  pub lower_named : NamesEvents events (moved_lower durations bound)
+  lower_named = record { from = omega (arith, earlier_start durations are bound.from, named.from); to = omega (arith, earlier_start durations are bound.to, named.to) }
+
+-- the first bounds were looked at: the records are the old ones and those of the moved sides that were not implied
+pub record IsMovedTo (durations bounds old : List Difference) (first : Table) (place : ℕ) (records : List Difference) (table : Table) : Type 0 where
+  pub made : AreMadeBehind first.events old (moved_bounds durations (take place bounds)) records
+  pub taken : AreTaken records table
+  pub events : table.events ≡ first.events
+
+module _ (durations bounds old : List Difference) (first : Table) where
+  pub moved_to_none : AreTaken old first → IsMovedTo durations bounds old first 0 old first
+  moved_to_none taken = record { made = none_made first.events old; taken = taken; events = refl }
+
+  module _ (place : ℕ) (records : List Difference) (table : Table) (sofar : IsMovedTo durations bounds old first place records table)
+      (bound : Difference) (within_bounds : place < length bounds) (here : bound ≡ get_or bounds place bound) where
+    next : take (place + 1) bounds ≡ take place bounds ++ bound ∷ []
+    next = take_more bounds place bound within_bounds ∙ ap (λ b. take place bounds ++ b ∷ []) (sym here)
+
+    join : (some others : List Difference) → moved_bounds durations (some ++ others) ≡ moved_bounds durations some ++ moved_bounds durations others
+    join some others = flat_map-append (λ b. moved_upper durations b ∷ moved_lower durations b ∷ []) some others
+
+    pub moved_more : (more : List Difference) (new : Table) → AreMadeBehind table.events records (moved_bounds durations (bound ∷ [])) more → AreTaken more new → new.events ≡ table.events
+        → IsMovedTo durations bounds old first (place + 1) more new
+    moved_more more new made taken events = record {
+      made = subst (λ l. AreMadeBehind first.events old l more) (sym (ap (moved_bounds durations) next ∙ join (take place bounds) (bound ∷ [])))
+          (made_behind first.events old (moved_bounds durations (take place bounds)) (moved_bounds durations (bound ∷ [])) records more sofar.made
+          (subst (λ n. AreMadeBehind n records (moved_bounds durations (bound ∷ [])) more) sofar.events made));
+      taken = taken;
+      events = events ∙ sofar.events;
+    }
+
+    pub moved_refused : (fault : RobustFault) → IsCauseBehind table.events records (moved_bounds durations (bound ∷ [])) fault → IsCauseBehind first.events old (moved_bounds durations bounds) fault
+    moved_refused fault cause =
+        let parts : bounds ≡ take place bounds ++ (bound ∷ [] ++ drop (place + 1) bounds) =
+        sym (take-append-drop (place + 1) bounds) ∙ ap (λ l. l ++ drop (place + 1) bounds) next ∙ append_assoc (take place bounds) (bound ∷ []) (drop (place + 1) bounds) in
+        let sides : moved_bounds durations bounds ≡ moved_bounds durations (take place bounds) ++ (moved_bounds durations (bound ∷ []) ++ moved_bounds durations (drop (place + 1) bounds)) =
+        ap (moved_bounds durations) parts ∙ join (take place bounds) (bound ∷ [] ++ drop (place + 1) bounds)
+        ∙ ap (λ l. moved_bounds durations (take place bounds) ++ l) (join (bound ∷ []) (drop (place + 1) bounds)) in
+        subst (λ l. IsCauseBehind first.events old l fault) (sym sides)
+        (cause_behind first.events old (moved_bounds durations (take place bounds)) (moved_bounds durations (bound ∷ [])) (moved_bounds durations (drop (place + 1) bounds)) records sofar.made fault
+        (subst (λ n. IsCauseBehind n records (moved_bounds durations (bound ∷ [])) fault) sofar.events cause))
+
+-- the sides that the code makes
+module _ (durations : List Difference) (bound : Difference) (from_event to_event : ℕ) (from to : Span) (time : ℤ) (from_is : from_event ≡ bound.from) (to_is : to_event ≡ bound.to)
+    (from_set : as_bound from ≡ setting_of durations from_event) (to_set : as_bound to ≡ setting_of durations to_event) where
+  from_of : as_bound from ≡ setting_of durations bound.from
+  from_of = from_set ∙ ap (setting_of durations) from_is
+
+  to_of : as_bound to ≡ setting_of durations bound.to
+  to_of = to_set ∙ ap (setting_of durations) to_is
+
+  pub is_upper : time ≡ ((bound.hi -ℤ to.hi) +ℤ from.lo) → as_bound (record { from = from.from; to = to.from; lo = neg_ℤ horizon; hi = time }) ≡ moved_upper durations bound
+  is_upper is =
+      ap (λ h. record { from = from.from; to = to.from; lo = neg_ℤ horizon; hi = h }) is
+      ∙ ap (λ (b : Difference). record { from = b.from; to = to.from; lo = neg_ℤ horizon; hi = (bound.hi -ℤ to.hi) +ℤ b.lo }) from_of
+      ∙ ap (λ (b : Difference). record { from = (setting_of durations bound.from).from; to = b.from; lo = neg_ℤ horizon; hi = (bound.hi -ℤ b.hi) +ℤ (setting_of durations bound.from).lo }) to_of
+
+  pub is_lower : time ≡ ((bound.lo -ℤ to.lo) +ℤ from.hi) → as_bound (record { from = from.from; to = to.from; lo = time; hi = horizon }) ≡ moved_lower durations bound
+  is_lower is =
+      ap (λ l. record { from = from.from; to = to.from; lo = l; hi = horizon }) is
+      ∙ ap (λ (b : Difference). record { from = b.from; to = to.from; lo = (bound.lo -ℤ to.lo) +ℤ b.hi; hi = horizon }) from_of
+      ∙ ap (λ (b : Difference). record { from = (setting_of durations bound.from).from; to = b.from; lo = (bound.lo -ℤ b.lo) +ℤ (setting_of durations bound.from).hi; hi = horizon }) to_of

@@ -1,0 +1,77 @@
+ghost use Rattle.std.specs.Prelude.{◌≡◌, ◌≤◌, ℕ, ℤ, length, IfOk, IfErr, OnOk};
+ghost use Rattle.stn_net.specs.Schedule.{IsSchedule};
+ghost use Rattle.stn_net.specs.Horizon.{horizon_bounds};
+ghost use Rattle.stn_lift.specs.PlanSource.{events_of, IsSoundSource};
+ghost use Rattle.stn_records.specs.Content.{most_known};
+ghost use Rattle.stn_loosen.specs.Loosened.{bounds_with, loose_durations, AreLoosened};
+ghost use Rattle.stn_loosen.specs.Promise.{Promises};
+ghost use Rattle.stn_loosen.specs.Robust.{loose_bounds, HasPromise, AreRobust};
+ghost use Rattle.stn_loosen.specs.Faults.{IsRobustCause};
+ghost use Rattle.stn_loosen.specs.Making.{AreTaken};
+ghost use Rattle.stn_loosen.specs.Whole.{IsMadeRobust, IsCauseAfter};
+
+use crate::fault::RobustFault;
+use crate::making::Making;
+use crate::parts::{durations_of, horizon_of};
+use crate::plan::make_loosened;
+use crate::tolerance::Tolerance;
+use std::alloc::Allocator;
+use stn_lift::Base;
+use stn_net::Bound;
+use stn_records::MOST_KNOWN;
+
+/// The records of the robust plan, in the order in which they are made: those of the loosened plan, and then bounds on the starts of its
+/// steps under which it completes however long the steps take. These are the sides of its orders and of its horizon, moved from ends to
+/// starts, that the records before them don't imply.
+///
+/// Refused in this order: `Full`, where the loosened plan would have more than 4,096 records; `NotRobust`, where no times of the starts
+/// are a promise; `Full`, where the robust plan would have more than 4,096 records; `Memory`.
+pub fn robust<A: Allocator + Copy>(
+    alloc: A,
+    base: &Base<A>,
+    tolerance: Tolerance,
+) -> Result<Vec<Bound, A>, RobustFault>
+    ensures records { IfOk result (λ records. AreRobust base.now tolerance records.items) }
+    ensures few { IfOk result (λ records. length records.items ≤ most_known) }
+
+    // There is a promise.
+    ensures promise { IfOk result (λ records. HasPromise base.now tolerance) }
+
+    // Each schedule of the robust plan is a promise of it: its starts hold, however long the steps take.
+    ensures promised { IfOk result (λ records. (time : ℕ → ℤ) → IsSchedule (bounds_with base.now records.items) time
+        → Promises (loose_durations tolerance base.now) (bounds_with base.now records.items) time) }
+
+    // Each schedule of the robust plan is one of the loosened plan.
+    ensures loosened { IfOk result (λ records. (time : ℕ → ℤ) → IsSchedule (bounds_with base.now records.items) time
+        → IsSchedule (loose_bounds base.now tolerance) time) }
+    ensures fault { IfErr result (IsRobustCause base.now tolerance) }
+{
+    let mut making = make_loosened(alloc, base, tolerance)?;
+    make_robust(alloc, base, tolerance, &mut making)?;
+    if making.records.len() > MOST_KNOWN {
+        return Err(RobustFault::Full);
+    }
+    Ok(making.records)
+}
+
+// Makes the bounds on starts behind the records of the loosened plan, however many there are.
+fn make_robust<A: Allocator + Copy>(
+    alloc: A,
+    base: &Base<A>,
+    tolerance: Tolerance,
+    making: &mut Making<A>,
+) -> Result<(), RobustFault>
+    requires sound { IsSoundSource base.now }
+    requires loosened { AreLoosened base.now tolerance making.old.records.items }
+    requires taken { AreTaken making.old.records.items making.old.matrix }
+    requires events { making.old.matrix.events ≡ events_of base.now }
+    ensures made { OnOk result (IsMadeRobust base.now tolerance making.old.records.items making.new.records.items) }
+    ensures possible { OnOk result (HasPromise base.now tolerance) }
+    ensures fault { IfErr result (IsCauseAfter base.now tolerance) }
+{
+    let steps = durations_of(base).len();
+    let durations = Vec::from_slice(alloc, &making.records[..steps])?;
+    let mut bounds = Vec::from_slice(alloc, &making.records[steps..])?;
+    bounds.extend_from_slice(horizon_of(base))?;
+    making.make_moved(&durations, &bounds)
+}
