@@ -1,13 +1,17 @@
 -- How a call ended, of what is known of it where it did its work and where it did not.
-use Rattle.std.proofs.Common.{◌≡◌, ℕ, List, Option, None, Vec, Result, Ok, Err, OnOk, IfOk, IfErr, MatchResult}
+use Rattle.std.proofs.Common.{◌≡◌, ◌⊎◌, inl, inr, refl, Some, Bor, option_map, ℕ, List, Option, None, Vec, Result, Ok, Err, OnOk, IfOk, IfErr, MatchResult}
 use Rattle.stn_exec.specs.Effect.{and_then}
+use Rattle.stn_explain.specs.Explained.{IsExplained}
 use Rattle.stn_line.specs.declared.words.Line.{Line}
+use Rattle.stn_line.specs.declared.words.Line.TheVariants.{Explain}
 use Rattle.stn_store.specs.Store.{Entry}
 use Rattle.stn_refusal.specs.declared.failure.Failure.{Failure}
+use Rattle.stn_refusal.specs.declared.failure.Failure.TheVariants.{Failed}
 use Rattle.stn_refusal.specs.declared.failure.Fault.{Fault}
+use Rattle.stn_refusal.specs.declared.failure.Fault.TheVariants.{Memory}
 use Rattle.stn_shell.specs.Commands.{IsAnswered}
 use Rattle.stn_shell.specs.Endings.{IsUndone, Succeeds}
-use Rattle.stn_shell.specs.Refusals.{IsRefusalOf}
+use Rattle.stn_shell.specs.Refusals.{IsExplainRefusal, IsRefusalOf}
 
 pub ended : {T E : Type 0} (call : Result T E) {Done Does : Type 0} {Stopped Stops : E → Type 0} → OnOk call Done → IfErr call Stopped
     → (Done → Does) → ((fault : E) → Stopped fault → Stops fault) → MatchResult call (λ _. Does) Stops
@@ -31,3 +35,11 @@ pub succeeded : {A : Type 0} (call : Result (Vec ℕ A) Failure) (old new : Opti
     → MatchResult call (λ text. Succeeds old new line text.items) (IsUndone (IsRefusalOf old line) Fails old new)
 succeeded (Ok text) old new line Fails is = record { answered = is.0; accepted = is.1 }
 succeeded (Err failure) old new line Fails is = is
+
+pub explained : {A : Type 0} (call : Result (Vec ℕ A) Failure) (entries : Option (List Entry)) (code : Option (Bor (List ℕ))) (Fails : Fault → Type 0)
+    → MatchResult call (λ text. IsExplained (option_map (λ word. word.now) code) text.items × IsExplainRefusal code None)
+    (λ failure. (failure ≡ Failed Memory) ⊎ IsExplainRefusal code (Some failure))
+    → MatchResult call (λ text. Succeeds entries entries (Explain code) text.items) (IsUndone (IsRefusalOf entries (Explain code)) Fails entries entries)
+explained (Ok text) entries code Fails is = record { answered = (refl, is.0); accepted = is.1 }
+explained (Err failure) entries code Fails (inl memory) = record { cause = inr (rw memory (inl refl)); unsaved = refl }
+explained (Err failure) entries code Fails (inr refused) = record { cause = inl refused; unsaved = refl }

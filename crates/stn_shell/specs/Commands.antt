@@ -1,5 +1,5 @@
 -- What each command on a log does, and the text that it answers.
-use Rattle.std.specs.Prelude.{◌≡◌, ℕ, ℤ, ◌+◌, false, List, [], ◌∷◌, ◌++◌, length, codes, Option, Ok, IsOkAnd}
+use Rattle.std.specs.Prelude.{◌≡◌, ℕ, ℤ, ◌+◌, false, List, [], ◌∷◌, ◌++◌, length, codes, Option, Ok, IsOkAnd, option_map}
 use Rattle.std.specs.Borrow.{Bor}
 use Rattle.stn_net.specs.Difference.{Difference}
 use Rattle.stn_net.specs.Schedule.{IsSchedule}
@@ -17,9 +17,10 @@ use Rattle.stn_shell.specs.Words.{amendment_read, bound_read, event_read, execut
 use Rattle.stn_loosen.specs.Slack.{Slack}
 use Rattle.stn_loosen.specs.Loosened.{AreFewLoosened}
 use Rattle.stn_loosen.specs.Numbered.{HoldsSome}
+use Rattle.stn_explain.specs.Explained.{IsExplained}
 use Rattle.stn_line.specs.declared.words.SiteLog.{SiteLog}
 use Rattle.stn_line.specs.declared.words.Line.{Line}
-use Rattle.stn_line.specs.declared.words.Line.TheVariants.{Run, Bare, Init, Loosen, Add, Amend, Withdraw, Done, Merge, Report, Next, Ready, Why, Records, Steps, Bounds, Check, Rehearse, Draw, Serve, Send}
+use Rattle.stn_line.specs.declared.words.Line.TheVariants.{Run, Bare, Init, Loosen, Add, Amend, Withdraw, Done, Merge, Report, Next, Ready, Why, Records, Steps, Bounds, Check, Rehearse, Draw, Explain, Serve, Send}
 use Rattle.stn_questions.specs.declared.asked.Question.TheVariants as question
 use Rattle.stn_shell.specs.Queries.{IsTold}
 use Rattle.stn_shell.specs.declared.queries.Query.TheVariants as query
@@ -140,6 +141,7 @@ IsAnswered old new (Bounds log) text = IsTold old new log (query.Tell question.B
 IsAnswered old new (Check log times) text = IsChecked old new log times.items text
 IsAnswered old new (Rehearse log now) text = IsOkAnd (time_read now.now) (λ time. IsTold old new log (query.Rehearse time) text)
 IsAnswered old new (Draw log) text = IsTold old new log query.Draw text
+IsAnswered old new (Explain code) text = (new ≡ old) × IsExplained (option_map (λ word. word.now) code) text
 -- the others are no commands on a log
 IsAnswered old new Run text = ⊥
 IsAnswered old new (Serve log address count seconds) text = ⊥

@@ -16,8 +16,10 @@ use Rattle.stn_site.specs.Failures.{replica_failure}
 use Rattle.stn_loosen.specs.Failures.{loosen_failure}
 use Rattle.stn_store.specs.Store.{Entry, log_there, IsThere, Spells, Opens, IsMissing, IsUnopened}
 use Rattle.stn_shell.specs.Words.{no_such_word, amendment_read, bound_read, event_read, execution_read, id_read, time_read, times_read, slack_read}
+use Rattle.std.specs.Borrow.{Bor}
+use Rattle.stn_explain.specs.Explained.{NamesNothing}
 use Rattle.stn_line.specs.declared.words.Line.{Line}
-use Rattle.stn_line.specs.declared.words.Line.TheVariants.{Run, Bare, Init, Loosen, Add, Amend, Withdraw, Done, Merge, Report, Next, Ready, Why, Records, Steps, Bounds, Check, Rehearse, Draw, Serve, Send}
+use Rattle.stn_line.specs.declared.words.Line.TheVariants.{Run, Bare, Init, Loosen, Add, Amend, Withdraw, Done, Merge, Report, Next, Ready, Why, Records, Steps, Bounds, Check, Rehearse, Draw, Explain, Serve, Send}
 use Rattle.stn_shell.specs.declared.queries.Query.{Query}
 use Rattle.stn_shell.specs.declared.queries.Query.TheVariants as query
 use Rattle.stn_loosen.specs.declared.fault.LoosenFault.TheVariants.{Full}
@@ -94,6 +96,11 @@ IsQueryRefusal (query.Tell asked) held cause = IsQuestionRefusal held asked caus
 IsQueryRefusal (query.Rehearse now) held cause = IsRehearseRefusal held now cause
 IsQueryRefusal query.Draw held cause = cause ≡ None
 
+-- why nothing is explained: the word is no refusal's and no fault's
+abbrev pub IsExplainRefusal : Option (Bor (List ℕ)) → Option Failure → Type 0
+IsExplainRefusal code cause = (NamesNothing (option_map (λ word. word.now) code) × (cause ≡ Some no_such_word))
+    ⊎ ((¬ NamesNothing (option_map (λ word. word.now) code)) × (cause ≡ None))
+
 -- the first cause: words that can't be read; a log that is there; the texts and the base; too many records; the log; the other log;
 -- another plan; what the replica refuses
 abbrev pub IsRefusalOf : Option (List Entry) → Line → Option Failure → Type 0
@@ -127,6 +134,7 @@ IsRefusalOf entries (Check log times) = WithWords (times_read times.items)
     (λ read. WithLog entries log.name.now log.site (λ held. IsCheckRefusal held read))
 IsRefusalOf entries (Rehearse log now) = WithWords (time_read now.now)
     (λ time. WithLog entries log.name.now log.site (IsQueryRefusal (query.Rehearse time)))
+IsRefusalOf entries (Explain code) = IsExplainRefusal code
 IsRefusalOf entries (Draw log) = WithLog entries log.name.now log.site (IsQueryRefusal query.Draw)
 -- the others are no commands on a log
 IsRefusalOf entries Run = λ cause. cause ≡ Some no_such_word

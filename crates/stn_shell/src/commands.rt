@@ -12,6 +12,7 @@ ghost use Rattle.stn_store.specs.Store.{IsThere, IsMissing, IsTaken, IsLack, Ope
 ghost use Rattle.stn_line.specs.declared.words.Line.TheVariants as of;
 
 use crate::changes::{Change, copied, loosen, make_change, opened};
+use crate::explaining::explain;
 use crate::queries::{Query, check, say};
 use crate::words::{
     no_such_word, read_bound, read_event, read_id, read_time, read_times, read_tolerance,
@@ -70,6 +71,7 @@ pub fn answer<S: Store>(alloc: Global, store: &mut S, line: &Line<'_>) -> Result
         Line::Check { log, times } => check_of(alloc, store, log, times),
         Line::Rehearse { log, now } => rehearse_of(alloc, store, log, *now),
         Line::Draw { log } => say_of(alloc, store, log, &Query::Draw),
+        Line::Explain { code } => explain_word(alloc, store, *code),
         Line::Run | Line::Serve { .. } | Line::Send { .. } => Err(no_such_word()),
     }
 }
@@ -448,4 +450,13 @@ fn rehearse_of<S: Store>(
 {
     let time = read_time(now)?;
     say_of(alloc, store, log, &Query::Rehearse(time))
+}
+
+// Explains a refusal or a fault. Nothing of the store is read.
+fn explain_word<S: Store>(alloc: Global, store: &S, code: Option<&str>) -> Result<Vec<u8>, Failure>
+    ensures { MatchResult result
+        (λ text. Succeeds (S.entries store.now) (S.entries store.now) (of.Explain code.entry) text.items)
+        (IsUndone (IsRefusalOf (S.entries store.now) (of.Explain code.entry)) S.fails (S.entries store.now) (S.entries store.now)) }
+{
+    explain(alloc, code)
 }

@@ -11,6 +11,7 @@ mod changes;
 mod commands;
 mod connections;
 mod execution;
+mod explaining;
 mod joining;
 mod peer;
 mod printing;

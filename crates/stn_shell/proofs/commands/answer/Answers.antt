@@ -54,3 +54,6 @@ returns-in-Draw g c = rw c.in-Draw.is (succeeded c.say_of-in-Draw.result _ _ _ _
 
 pub returns-in-Check : goal.returns-in-Check
 returns-in-Check g c = rw c.in-Check.is (succeeded c.check_of.result _ _ _ _ (rw c.deref.ensures.value at c.check_of.ensures))
+
+pub returns-in-Explain : goal.returns-in-Explain
+returns-in-Explain g c = rw c.in-Explain.is c.explain_word.ensures
