@@ -1,14 +1,17 @@
 //! Connections to other sites, each with the time that it may take.
 
-ghost use Rattle.std.specs.Prelude.{◌≡◌, IfErr};
-ghost use Rattle.stn_device.specs.Counted.{failure_count};
+ghost use Rattle.std.specs.Prelude.{◌≡◌, IfOk, IfErr};
+ghost use Rattle.std.specs.Duration.{as_nanos};
+ghost use Rattle.stn_device.specs.Counted.{counted_device, failure_count};
+ghost use Rattle.stn_device.specs.Deadline.{deadline_of, limit_of};
+ghost use Rattle.stn_shell.specs.Peer.{peer_deadline};
 ghost use Rattle.stn_refusal.specs.declared.failure.Failure.TheVariants.{Failed};
 ghost use Rattle.stn_refusal.specs.declared.failure.Fault.TheVariants as fault;
 
 use std::io::{self, Error, ErrorKind};
 use std::net::{Net, Shutdown, TcpListener, TcpStream, ToSocketAddrs};
 use std::time::{Clock, Duration};
-use stn_device::{Connection, Counted, Deadline, MOST_BYTES, UntilDeadline, drain};
+use stn_device::{Connection, Counted, Deadline, MOST_BYTES, UntilDeadline, Watch, drain};
 use stn_refusal::{Failure, Fault};
 
 /// A connection to another site, and when its time is over.
@@ -25,7 +28,8 @@ impl Peer {
         listener: &TcpListener,
         limit: Duration,
     ) -> Result<Peer, Failure>
-        ensures { IfErr result (λ failure. failure ≡ Failed fault.Net) }
+        ensures limited { IfOk result (λ peer. limit_of (peer_deadline peer) ≡ as_nanos limit) }
+        ensures failed { IfErr result (λ failure. failure ≡ Failed fault.Net) }
     {
         match listener.accept() {
             Ok((stream, _)) => Peer::of(clock, stream, limit),
@@ -35,9 +39,10 @@ impl Peer {
 
     /// A connection that may take this time from now on.
     pub fn of<C: Clock>(clock: &C, stream: TcpStream, limit: Duration) -> Result<Peer, Failure>
-        ensures { IfErr result (λ failure. failure ≡ Failed fault.Net) }
+        ensures limited { IfOk result (λ peer. limit_of (peer_deadline peer) ≡ as_nanos limit) }
+        ensures failed { IfErr result (λ failure. failure ≡ Failed fault.Net) }
     {
-        match Deadline::start(clock, limit) {
+        match Deadline::start(&Watch::new(clock), limit) {
             Ok(deadline) => Ok(Peer { stream, deadline }),
             Err(_) => Err(Failure::Failed(Fault::Net)),
         }
@@ -49,7 +54,8 @@ impl Peer {
         address: &str,
         limit: Duration,
     ) -> Result<Peer, Failure>
-        ensures { IfErr result (λ failure. failure ≡ Failed fault.Net) }
+        ensures limited { IfOk result (λ peer. limit_of (peer_deadline peer) ≡ as_nanos limit) }
+        ensures failed { IfErr result (λ failure. failure ≡ Failed fault.Net) }
     {
         match Peer::reach(rt, address, limit) {
             Ok(peer) => Ok(peer),
@@ -61,8 +67,10 @@ impl Peer {
         rt: &T,
         address: &str,
         limit: Duration,
-    ) -> io::Result<Peer> {
-        let deadline = Deadline::start(rt, limit)?;
+    ) -> io::Result<Peer>
+        ensures { IfOk result (λ peer. limit_of (peer_deadline peer) ≡ as_nanos limit) }
+    {
+        let deadline = Deadline::start(&Watch::new(rt), limit)?;
         for address in address.to_socket_addrs(rt)? {
             let Some(left) = deadline.left(rt.monotonic()?) else {
                 return Err(Error::from(ErrorKind::TimedOut));
@@ -76,7 +84,8 @@ impl Peer {
 
     /// What the other site sends and takes, up to the deadline.
     pub fn stream<'a, C: Clock>(&'a self, clock: &'a C) -> Counted<UntilDeadline<Connection<'a, C>>>
-        ensures { failure_count result ≡ 0 }
+        ensures until { deadline_of (counted_device result) ≡ peer_deadline self.now }
+        ensures counts { failure_count result ≡ 0 }
     {
         Counted::new(UntilDeadline::new(Connection::new(clock, &self.stream), self.deadline))
     }
