@@ -2,7 +2,9 @@ use std::alloc::Global;
 use std::io;
 use std::io::{Error, ErrorKind, Read, Write};
 use std::time::Duration;
-use stn_device::{Counted, Deadline, TimedStream, UntilDeadline, WriteFault, drain, write_whole};
+use stn_device::{
+    Counted, Deadline, TimedStream, Timer, UntilDeadline, WriteFault, drain, write_whole,
+};
 use stn_refusing::{PieceReader, PieceWriter};
 
 const TEXT: &[u8] = b"first\nsecond\n";
@@ -102,10 +104,11 @@ fn a_failed_flush_gives_the_error_of_the_device(rt: HostRuntime) {
     assert!(rt; failing.flush().is_ok());
 }
 
-// A peer that sends one byte every 20 seconds, and takes one.
+// A peer that sends one byte every 20 seconds, and takes one. So many calls a signal interrupts after a second.
 #[derive(Drop)]
 struct SlowPeer {
     clock: Duration,
+    signals: u8,
 }
 
 fn pace() -> Duration {
@@ -115,11 +118,26 @@ fn pace() -> Duration {
 impl SlowPeer {
     // Waits for the next byte, or as long as the call may take.
     fn wait(&mut self, limit: Duration) -> io::Result<usize> {
+        if self.signals > 0 {
+            self.signals -= 1;
+            self.clock = self.clock.saturating_add(Duration::from_secs(1).min(limit));
+            return Err(Error::from(ErrorKind::Interrupted));
+        }
         self.clock = self.clock.saturating_add(pace().min(limit));
         if limit < pace() {
             return Err(Error::from(ErrorKind::WouldBlock));
         }
         Ok(1)
+    }
+}
+
+impl Timer for SlowPeer {
+    ghost use Rattle.std.specs.Prelude.{None};
+
+    ghost time = { λ _. None };
+
+    fn now(&self) -> io::Result<Duration> {
+        Ok(self.clock)
     }
 }
 
@@ -129,12 +147,6 @@ impl TimedStream for SlowPeer {
     ghost remaining = { λ _. None };
 
     ghost contents = { λ _. None };
-
-    ghost time = { λ _. None };
-
-    fn now(&self) -> io::Result<Duration> {
-        Ok(self.clock)
-    }
 
     fn read_within(&mut self, buf: &mut [u8], limit: Duration) -> io::Result<usize> {
         Ok(self.wait(limit)?.min(buf.len()))
@@ -146,10 +158,14 @@ impl TimedStream for SlowPeer {
 }
 
 // The peer, met at 7 seconds, for 50 more.
-fn slow_stream() -> Counted<UntilDeadline<SlowPeer>> {
+fn interrupted_stream(signals: u8) -> Counted<UntilDeadline<SlowPeer>> {
     let clock = Duration::from_secs(7);
     let deadline = Deadline::after(clock, Duration::from_secs(50));
-    Counted::new(UntilDeadline::new(SlowPeer { clock }, deadline))
+    Counted::new(UntilDeadline::new(SlowPeer { clock, signals }, deadline))
+}
+
+fn slow_stream() -> Counted<UntilDeadline<SlowPeer>> {
+    interrupted_stream(0)
 }
 
 // How many bytes a read gives, or the kind of its error.
@@ -177,6 +193,28 @@ fn writes_end_at_the_deadline(rt: HostRuntime) {
     assert!(rt; write_whole(&mut writer, b"abc") == Err(WriteFault));
     assert!(rt; kind_of(writer.write(b"c")) == Some(ErrorKind::TimedOut));
     assert!(rt; writer.flush().is_ok());
+}
+
+#[test]
+fn interrupted_calls_are_made_again(rt: HostRuntime) {
+    let mut reader = interrupted_stream(5);
+    assert!(rt; read_from(&mut reader) == Ok(1));
+    assert!(rt; read_from(&mut reader) == Ok(1));
+    assert!(rt; read_from(&mut reader) == Err(ErrorKind::WouldBlock));
+    assert!(rt; reader.failures() == 1);
+    let mut writer = interrupted_stream(60);
+    assert!(rt; kind_of(writer.write(b"c")) == Some(ErrorKind::TimedOut));
+}
+
+#[test]
+fn a_deadline_counts_from_now(rt: HostRuntime) {
+    let timer = SlowPeer {
+        clock: Duration::from_secs(7),
+        signals: 0,
+    };
+    let deadline = Deadline::start(&timer, Duration::from_secs(50)).unwrap();
+    assert!(rt; deadline.left(Duration::from_secs(56)) == Some(Duration::from_secs(1)));
+    assert!(rt; deadline.left(Duration::from_secs(57)) == None);
 }
 
 // How many bytes are left after a reader of them all is drained up to a limit.

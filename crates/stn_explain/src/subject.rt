@@ -19,7 +19,8 @@ impl Subject {
         ensures { IsTrue result ↔ (word.now ≡ word_of self) }
     {
         match self {
-            Subject::Refusal(code) => read_decimal(word.as_bytes()) == Some(u16::from(code.number())),
+            Subject::Refusal(code) => read_decimal(word.as_bytes())
+                == Some(u16::from(code.number())),
             Subject::Fault(fault) => word.as_bytes() == fault_word(fault),
         }
     }
