@@ -24,7 +24,7 @@ impl<A: Allocator + Copy> Replica<A> {
             × IsNext (all_bounds self.now.source self.now.state) (done_events self.now.source self.now.state) now answer) }
     {
         let matrix = self.current()?;
-        let flags = self.done_flags();
+        let flags = self.plan().done_flags();
         Some(next(matrix, flags_of(&flags, matrix), now))
     }
 
@@ -41,7 +41,7 @@ impl<A: Allocator + Copy> Replica<A> {
     {
         match self.current() {
             Some(matrix) => {
-                let flags = self.done_flags();
+                let flags = self.plan().done_flags();
                 let runs = rehearse(self.alloc(), matrix, flags_of(&flags, matrix), now)?;
                 Ok(Some(runs))
             }

@@ -7,7 +7,6 @@ pub use stn_site::{BoundName, ReplicaFault};
 mod cursors;
 mod dispatch;
 mod matrices;
-mod parts;
 mod plan_matrix;
 mod replica;
 mod report;

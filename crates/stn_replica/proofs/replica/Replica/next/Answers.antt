@@ -11,5 +11,5 @@ returns g c =
     let exact = c.in_ok-matrix.ensures.exact in
     let done : c.flags_of.result.now ≡ done_events source state =
     flags_are_done source state c.in_ok-matrix.matrix.now.events c.done_flags-flags.result c.flags_of.result.now c.in_ok-matrix.ensures.events c.flags_of.ensures.value c.flags_of.ensures.one_each
-    (λ event within. c.done_flags-flags.ensures.done event (omega (arith, c.flags_of.ensures.few))) in
+    (λ event within. rw c.plan.ensures.state at (c.done_flags-flags.ensures.done event (omega (arith, c.flags_of.ensures.few)))) in
     (exact.possible, rw done at (c.next.ensures.next (all_bounds source state) exact))

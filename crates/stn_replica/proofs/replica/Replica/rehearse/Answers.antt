@@ -11,7 +11,7 @@ returns-in_err-runs-in-Some-clause-fault g c =
     let exact = c.in-Some.ensures.exact in
     let done : c.flags_of.result.now ≡ done_events source state =
     flags_are_done source state c.in-Some.matrix.now.events c.done_flags-flags.result c.flags_of.result.now c.in-Some.ensures.events c.flags_of.ensures.value c.flags_of.ensures.one_each
-    (λ event within. c.done_flags-flags.ensures.done event (omega (arith, c.flags_of.ensures.few))) in
+    (λ event within. rw c.plan.ensures.state at (c.done_flags-flags.ensures.done event (omega (arith, c.flags_of.ensures.few)))) in
     let is : c.from_residual.result ≡ Err c.in_err-runs-in-Some.field-0.0 = search rules in
     rw is (exact.possible, rw done at (c.in_err-runs-in-Some.ensures.fault (all_bounds source state) exact))
 
@@ -22,8 +22,8 @@ returns-in_ok-runs-in-Some-clause-rest g c =
     let exact = c.in-Some.ensures.exact in
     let done : c.flags_of.result.now ≡ done_events source state =
     flags_are_done source state c.in-Some.matrix.now.events c.done_flags-flags.result c.flags_of.result.now c.in-Some.ensures.events c.flags_of.ensures.value c.flags_of.ensures.one_each
-    (λ event within. c.done_flags-flags.ensures.done event (omega (arith, c.flags_of.ensures.few))) in
+    (λ event within. rw c.plan.ensures.state at (c.done_flags-flags.ensures.done event (omega (arith, c.flags_of.ensures.few)))) in
     let said = c.in_ok-runs-in-Some.ensures in
-    rest_of_plan source state c.args.now c.in_ok-runs-in-Some.runs.items c.done_flags-flags.ensures.fixed
+    rest_of_plan source state c.args.now c.in_ok-runs-in-Some.runs.items (rw c.plan.ensures.state at c.done_flags-flags.ensures.fixed)
     (rw done at (said.next (all_bounds source state) exact)) (rw done at (said.once (all_bounds source state) exact)) (said.rising (all_bounds source state) exact)
     (rw done at (said.in_time (all_bounds source state) exact)) (said.possible (all_bounds source state) exact)
