@@ -5,7 +5,7 @@ use Rattle.stn_shell.proofs.connections.serve_next.Goals as goal
 pub returns-in_err-peer : goal.returns-in_err-peer
 returns-in_err-peer g c =
     let p = err_from_is_err_and c.from_residual.result c.from_residual.ensures.1 in
-    rw (p.1, p.2) (record { served = tt; stopped = inl (c.in_err-peer.ensures, refl, refl, refl); source = refl; site = refl })
+    rw (p.1, p.2) (record { served = tt; stopped = inl (c.in_err-peer.ensures.failed, refl, refl, refl); source = refl; site = refl })
 
 pub returns-in_err-session : goal.returns-in_err-session
 returns-in_err-session g c =
