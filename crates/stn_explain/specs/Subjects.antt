@@ -32,7 +32,7 @@ subjects = map (λ cause. subject.Refusal cause) (code.Malformed ∷ code.TooFin
     ∷ code.DomainTooLong ∷ code.DomainSyntax ∷ code.DomainTooDeep ∷ code.DomainUnsupported ∷ code.DomainNumber ∷ code.DomainTwice ∷ code.DomainVariable
     ∷ code.PlanTooLong ∷ code.PlanSyntax ∷ code.PlanNumber ∷ code.PlanNegative ∷ code.PlanTooManySteps
     ∷ code.UnknownAction ∷ code.Arity ∷ code.DurationDiffers ∷ code.PastHorizon ∷ code.BareTooManySteps
-    ∷ code.Clash ∷ code.Full ∷ code.Unknown ∷ code.CounterSpent ∷ code.SelfReplace
+    ∷ code.Clash ∷ code.Full ∷ code.Unknown ∷ code.CounterSpent ∷ code.SelfReplace ∷ code.NotRobust
     ∷ code.FrameLength ∷ code.FrameKind ∷ code.FrameBody ∷ code.OldFrame
     ∷ code.OtherPlan ∷ code.Unexpected ∷ code.LogForm ∷ code.Reply ∷ code.LogThere ∷ code.OldVersion
     ∷ code.Line ∷ code.NoSite ∷ code.NoPacket ∷ code.TooManyPackets ∷ [])

@@ -12,7 +12,7 @@ pub struct Entry {
     pub more: &'static str,
 }
 
-const ENTRIES: [Entry; 49] = [
+const ENTRIES: [Entry; 50] = [
     Entry {
         subject: Subject::Refusal(Code::Malformed),
         meaning: "not a time",
@@ -257,6 +257,14 @@ What to do: go on under a number that nobody used.\n",
 An amendment names its own id as the one that it replaces.\n\
 Usual cause: a frame that no program of this kind made.\n\
 What to do: look at what wrote it.\n",
+    },
+    Entry {
+        subject: Subject::Refusal(Code::NotRobust),
+        meaning: "no times of the starts hold for all durations",
+        more: "\
+No times of the starts let the plan complete whatever each step's duration is within the tolerance.\n\
+Usual causes: steps that interfere are planned at one time, or closer than the tolerance lets durations vary.\n\
+What to do: plan more time between such steps, give a smaller tolerance, or loosen without `--robust`.\n",
     },
     Entry {
         subject: Subject::Refusal(Code::FrameLength),

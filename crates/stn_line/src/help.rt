@@ -24,7 +24,7 @@ A refusal is printed as `refused` and a number. Nothing is changed then.
   30  plan: unknown action     31  plan: number of arguments  32  plan: another duration
   33  plan: past the horizon   34  more than 256 steps
   40  an id has two records    41  too many ids               42  no such record
-  43  no ids left at the site  44  a record replaces itself
+  43  no ids left at the site  44  a record replaces itself   45  no times for all durations
   50  frame: length            51  frame: kind                52  frame: body
   53  frame: old version
   60  logs of different plans  61  unexpected frame           62  not a log

@@ -1,7 +1,7 @@
 -- The table of codes: the number that is printed for each cause of a refusal.
 use Rattle.std.specs.Prelude.{ℕ}
 use Rattle.stn_refusal.specs.declared.code.Code.{Code}
-use Rattle.stn_refusal.specs.declared.code.Code.TheVariants.{Malformed, TooFine, OutOfRange, NoEvent, SameEvent, Crossed, Overdue, DomainTooLong, DomainSyntax, DomainTooDeep, DomainUnsupported, DomainNumber, DomainTwice, DomainVariable, PlanTooLong, PlanSyntax, PlanNumber, PlanNegative, PlanTooManySteps, UnknownAction, Arity, DurationDiffers, PastHorizon, BareTooManySteps, Clash, Full, Unknown, CounterSpent, SelfReplace, FrameLength, FrameKind, FrameBody, OldFrame, OtherPlan, Unexpected, LogForm, Reply, LogThere, OldVersion, Line, NoSite, NoPacket, TooManyPackets}
+use Rattle.stn_refusal.specs.declared.code.Code.TheVariants.{Malformed, TooFine, OutOfRange, NoEvent, SameEvent, Crossed, Overdue, DomainTooLong, DomainSyntax, DomainTooDeep, DomainUnsupported, DomainNumber, DomainTwice, DomainVariable, PlanTooLong, PlanSyntax, PlanNumber, PlanNegative, PlanTooManySteps, UnknownAction, Arity, DurationDiffers, PastHorizon, BareTooManySteps, Clash, Full, Unknown, CounterSpent, SelfReplace, NotRobust, FrameLength, FrameKind, FrameBody, OldFrame, OtherPlan, Unexpected, LogForm, Reply, LogThere, OldVersion, Line, NoSite, NoPacket, TooManyPackets}
 
 abbrev pub number_of : Code → ℕ
 number_of Malformed = 1
@@ -33,6 +33,7 @@ number_of Full = 41
 number_of Unknown = 42
 number_of CounterSpent = 43
 number_of SelfReplace = 44
+number_of NotRobust = 45
 number_of FrameLength = 50
 number_of FrameKind = 51
 number_of FrameBody = 52

@@ -62,6 +62,8 @@ pub enum Code {
     CounterSpent,
     /// A record would replace itself.
     SelfReplace,
+    /// No times of a plan's starts hold however long its steps take.
+    NotRobust,
     /// The body of a frame has a wrong length.
     FrameLength,
     /// There is no frame of this kind.
@@ -127,6 +129,7 @@ impl Code {
             Code::Unknown => 42,
             Code::CounterSpent => 43,
             Code::SelfReplace => 44,
+            Code::NotRobust => 45,
             Code::FrameLength => 50,
             Code::FrameKind => 51,
             Code::FrameBody => 52,
