@@ -1,0 +1,72 @@
+-- What comes next has one text, and a rehearsal has one, or one cause that refuses it.
+use Rattle.std.proofs.Common.{◌≡◌, ◌⊎◌, inl, inr, ℕ, ◌≤◌, ℤ, List, ◌++◌, append_assoc, length, take, take_all, Result, Ok, Err, OnOk, refl, sym, ap, subst, ◌∙◌}
+use Rattle.std.specs.Prelude.{if◌then◌else◌, is_ok}
+use Rattle.std.specs.List.{flat_map}
+use Rattle.stn_net.specs.Schedule.{HasSchedule}
+use Rattle.stn_windows.specs.declared.answers.Next.{Next}
+use Rattle.stn_windows.specs.declared.answers.Next.TheVariants.{Run, AllDone, Overdue}
+use Rattle.stn_windows.specs.declared.answers.RehearseFault.{RehearseFault}
+use Rattle.stn_windows.specs.declared.answers.RehearseFault.TheVariants as rehearse_fault
+use Rattle.stn_windows.specs.Rehearsal.{IsRehearseFault}
+use Rattle.stn_windows.proofs.OneAnswer.{one_next, one_rehearsal}
+use Rattle.stn_lift.specs.PlanSource.{PlanSource}
+use Rattle.stn_records.specs.Content.{Content}
+use Rattle.stn_site.specs.Bounds.{all_bounds}
+use Rattle.stn_site.specs.Lines.{line}
+use Rattle.stn_site.specs.Report.{done_events}
+use Rattle.stn_command.specs.Dispatch.{next_text, IsNextText, run_line, runs_text, SaysRuns, IsRestText, IsOverdueAt, IsRefusedRehearsal}
+use Rattle.std.specs.Prelude.{codes}
+
+pub one_next_text : (source : PlanSource) (state : Content) (now : ℤ) (text other : List ℕ) → IsNextText source state now text → IsNextText source state now other → text ≡ other
+one_next_text source state now text other (inl p) (inl q) =
+    p.said ∙ ap next_text (one_next (all_bounds source state) (done_events source state) now p.answer q.answer p.next q.next) ∙ sym q.said
+one_next_text source state now text other (inl p) (inr q) = absurd (q.conflict p.possible)
+one_next_text source state now text other (inr p) (inl q) = absurd (p.conflict q.possible)
+one_next_text source state now text other (inr p) (inr q) = p.said ∙ sym q.said
+
+-- where some schedule runs the whole plan, no event is overdue
+runs_not_overdue : (source : PlanSource) (state : Content) (now : ℤ) (text : List ℕ) (event : ℕ) → SaysRuns source state now text → ¬ IsOverdueAt source state now event
+runs_not_overdue source state now text event says late = late.overdue.1 says.rest.in_time
+
+-- the rest of the plan, or a conflict: no event is overdue
+pub rest_accepted : (source : PlanSource) (state : Content) (now : ℤ) (text : List ℕ) → IsRestText source state now text → ¬ IsRefusedRehearsal source state now
+rest_accepted source state now text (inl says) late = runs_not_overdue source state now text late.0 says late.1
+rest_accepted source state now text (inr says) late = says.conflict late.1.possible
+
+pub one_rest_text : (source : PlanSource) (state : Content) (now : ℤ) (text other : List ℕ) → IsRestText source state now text → IsRestText source state now other → text ≡ other
+one_rest_text source state now text other (inl p) (inl q) =
+    p.lines ∙ ap runs_text (one_rehearsal p.runs q.runs (all_bounds source state) (done_events source state) now p.rest.rehearsal q.rest.rehearsal) ∙ sym q.lines
+one_rest_text source state now text other (inl p) (inr q) = absurd (q.conflict (p.rest.times, p.rest.schedule))
+one_rest_text source state now text other (inr p) (inl q) = absurd (p.conflict (q.rest.times, q.rest.schedule))
+one_rest_text source state now text other (inr p) (inr q) = p.said ∙ sym q.said
+
+-- the lines of all runs, and the last line
+pub runs_ended : {T E : Type 0} (result : Result T E) (runs : List (ℤ × ℕ)) (place : ℕ) (old lines new : List ℕ) → length runs ≤ place
+    → lines ≡ old ++ flat_map (λ run. run_line run.0 run.1) (take place runs) → new ≡ (if is_ok result then lines ++ line (codes "all done") else lines) → OnOk result (new ≡ old ++ runs_text runs)
+runs_ended (Ok value) runs place old lines new past each last =
+    last ∙ ap (λ (l : List ℕ). l ++ (line (codes "all done"))) (each ∙ ap (λ (l : List (ℤ × ℕ)). old ++ flat_map (λ run. run_line run.0 run.1) l) (take_all place runs past))
+    ∙ append_assoc old (flat_map (λ run. run_line run.0 run.1) runs) (line (codes "all done"))
+runs_ended (Err fault) runs place old lines new past each last = tt
+
+-- why a rehearsal is refused
+pub refused_as : (source : PlanSource) (state : Content) (now : ℤ) (fault : RehearseFault) → HasSchedule (all_bounds source state)
+    → IsRehearseFault (all_bounds source state) (done_events source state) now fault
+    → (fault ≡ rehearse_fault.Memory) ⊎ ((event : ℕ) × (fault ≡ rehearse_fault.Overdue event) × IsOverdueAt source state now event)
+refused_as source state now rehearse_fault.Memory possible late = inl refl
+refused_as source state now (rehearse_fault.Overdue event) possible late = inr (event, refl, record { possible = possible; overdue = late })
+
+-- and lack of memory stops only a rehearsal in which no event is
+pub lack_as : (source : PlanSource) (state : Content) (now : ℤ) (fault : RehearseFault) → IsRehearseFault (all_bounds source state) (done_events source state) now fault
+    → fault ≡ rehearse_fault.Memory → ¬ IsRefusedRehearsal source state now
+lack_as source state now fault late is refused = refused.1.overdue.1 (subst (IsRehearseFault (all_bounds source state) (done_events source state) now) is late)
+
+-- the event of an answer that names one as overdue
+abbrev overdue_event : Next → ℕ
+overdue_event (Overdue event) = event
+overdue_event (Run time event) = event
+overdue_event AllDone = 0
+
+-- one event is overdue
+pub one_overdue : (source : PlanSource) (state : Content) (now : ℤ) (event other : ℕ) → IsOverdueAt source state now event → IsOverdueAt source state now other → event ≡ other
+one_overdue source state now event other p q =
+    ap overdue_event (one_next (all_bounds source state) (done_events source state) now (Overdue event) (Overdue other) p.overdue.0 q.overdue.0)

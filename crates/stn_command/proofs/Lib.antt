@@ -1,0 +1,5 @@
+mod Events
+mod Ids
+pub mod Foresight
+pub mod OneSaid
+pub mod Alike

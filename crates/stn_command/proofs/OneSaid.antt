@@ -1,0 +1,52 @@
+-- A query has one answer, and one cause that refuses it or none.
+use Rattle.std.proofs.Common.{◌≡◌, ◌⊎◌, inl, inr, ℕ, ℤ, List, Option, Some, None, sym, ap, ◌∙◌}
+use Rattle.stn_refusal.specs.declared.code.Code.TheVariants as code
+use Rattle.stn_refusal.specs.declared.failure.Failure.{Failure}
+use Rattle.stn_refusal.specs.Refusals.{refused_of}
+use Rattle.stn_lift.specs.PlanSource.{PlanSource}
+use Rattle.stn_records.specs.Content.{Content}
+use Rattle.stn_site.specs.Held.{Held}
+use Rattle.stn_site.specs.Report.{IsReport}
+use Rattle.stn_questions.specs.declared.asked.Question.{Question}
+use Rattle.stn_questions.specs.Answer.{IsAnswer}
+use Rattle.stn_questions.specs.Ready.{IsReadyText}
+use Rattle.stn_picture.specs.Picture.{IsPicture}
+use Rattle.stn_command.specs.Query.{Query, report, check, next, ready, rehearse, ask, draw, IsSaid, IsRehearseRefusal, IsQueryRefusal}
+use Rattle.stn_command.proofs.Foresight.{one_next_text, one_rest_text, one_overdue}
+
+pub one_text : ((source : PlanSource) → (state : Content) → (text other : List ℕ) → IsReport source state text → IsReport source state other → text ≡ other)
+    → ((source : PlanSource) → (state : Content) → (question : Question) → (text other : List ℕ) → IsAnswer source state question text → IsAnswer source state question other → text ≡ other)
+    → ((source : PlanSource) → (state : Content) → (now : ℤ) → (text other : List ℕ) → IsReadyText source state now text → IsReadyText source state now other → text ≡ other)
+    → ((source : PlanSource) → (state : Content) → (text other : List ℕ) → IsPicture source state text → IsPicture source state other → text ≡ other)
+    → (query : Query) (held : Held) (text other : List ℕ) → IsSaid query held text → IsSaid query held other → text ≡ other
+one_text reports answers readies pictures report held text other p q = reports held.source held.state text other p q
+one_text reports answers readies pictures (check times) held text other p q = p ∙ sym q
+one_text reports answers readies pictures (next now) held text other p q = one_next_text held.source held.state now text other p q
+one_text reports answers readies pictures (ready now) held text other p q = readies held.source held.state now text other p q
+one_text reports answers readies pictures (rehearse now) held text other p q = one_rest_text held.source held.state now text other p q
+one_text reports answers readies pictures (ask question) held text other p q = answers held.source held.state question text other p q
+one_text reports answers readies pictures draw held text other p q = pictures held.source held.state text other p q
+
+-- one test, and what stands against a query where it holds
+one_of : {P Q : Type 0} (found cause other : Option Failure) → ¬ (P × Q) → (P × (cause ≡ found)) ⊎ (Q × (cause ≡ None))
+    → (P × (other ≡ found)) ⊎ (Q × (other ≡ None)) → cause ≡ other
+one_of found cause other not_both (inl p) (inl q) = p.1 ∙ sym q.1
+one_of found cause other not_both (inl p) (inr q) = absurd (not_both (p.0, q.0))
+one_of found cause other not_both (inr p) (inl q) = absurd (not_both (q.0, p.0))
+one_of found cause other not_both (inr p) (inr q) = p.1 ∙ sym q.1
+
+rehearsal_refused : (held : Held) (now : ℤ) (cause other : Option Failure) → IsRehearseRefusal held now cause → IsRehearseRefusal held now other → cause ≡ other
+rehearsal_refused held now cause other (inl p) (inl q) =
+    p.2 ∙ (ap (λ (event : ℕ). Some (refused_of code.Overdue event)) (one_overdue held.source held.state now p.0 q.0 p.1 q.1) ∙ sym q.2)
+rehearsal_refused held now cause other (inl p) (inr q) = absurd (q.0 (p.0, p.1))
+rehearsal_refused held now cause other (inr p) (inl q) = absurd (p.0 (q.0, q.1))
+rehearsal_refused held now cause other (inr p) (inr q) = p.1 ∙ sym q.1
+
+pub one_refusal : (query : Query) (held : Held) (cause other : Option Failure) → IsQueryRefusal query held cause → IsQueryRefusal query held other → cause ≡ other
+one_refusal report held cause other p q = p ∙ sym q
+one_refusal (check times) held cause other p q = one_of _ cause other (λ both. both.0 both.1) p q
+one_refusal (next now) held cause other p q = p ∙ sym q
+one_refusal (ready now) held cause other p q = p ∙ sym q
+one_refusal (rehearse now) held cause other p q = rehearsal_refused held now cause other p q
+one_refusal (ask question) held cause other p q = one_of _ cause other (λ both. both.1 both.0) p q
+one_refusal draw held cause other p q = p ∙ sym q

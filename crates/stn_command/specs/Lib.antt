@@ -1,0 +1,4 @@
+pub mod Words
+pub mod Change
+pub mod Dispatch
+pub mod Query

@@ -1,0 +1,81 @@
+-- What a site is asked about its plan and what it holds, what is said of it, and why that is refused.
+use Rattle.std.specs.Prelude.{◌≡◌, ◌≢◌, ◌⊎◌, ℕ, ℤ, pos, List, ◌∷◌, length, Vec, Option, Some, None, Result, Ok, Err}
+use Rattle.stn_refusal.specs.declared.code.Code.TheVariants as code
+use Rattle.stn_refusal.specs.declared.failure.Failure.{Failure}
+use Rattle.stn_refusal.specs.Refusals.{refused_of, out_of_memory}
+use Rattle.stn_net.specs.Failures.{bound_failure}
+use Rattle.stn_net.specs.Schedule.{times_of}
+use Rattle.stn_net.specs.declared.bound.BoundFault.TheVariants.{NoEvent}
+use Rattle.stn_lift.specs.PlanSource.{events_of}
+use Rattle.stn_site.specs.Held.{Held}
+use Rattle.stn_site.specs.Names.{broken_bound}
+use Rattle.stn_site.specs.Report.{IsReport}
+use Rattle.stn_questions.specs.declared.asked.Question.{Question}
+use Rattle.stn_questions.specs.Answer.{IsAnswer, AsksOfNoEvent}
+use Rattle.stn_questions.specs.Ready.{IsReadyText}
+use Rattle.stn_picture.specs.Picture.{IsPicture}
+use Rattle.stn_command.specs.declared.queries.Query.{Query as QueryOfCode}
+use Rattle.stn_command.specs.declared.queries.Query.TheVariants as asked
+use Rattle.stn_command.specs.Words.{no_such_word}
+use Rattle.stn_command.specs.Dispatch.{check_text, IsNextText, IsRestText, IsOverdueAt, IsRefusedRehearsal}
+
+-- the report; whether times for the events from 1 on are a schedule; what comes next from a time on; which events may run from a time
+-- on; the rest of the plan from a time on; another question; the picture
+pub data Query : Type 0 where
+  report : Query
+  check : (times : List ℤ) → Query
+  next : (now : ℤ) → Query
+  ready : (now : ℤ) → Query
+  rehearse : (now : ℤ) → Query
+  ask : (question : Question) → Query
+  draw : Query
+
+-- the query that the code has
+abbrev pub seen_query : QueryOfCode → Query
+seen_query asked.Report = report
+seen_query (asked.Check times) = check times.now
+seen_query (asked.Next now) = next now
+seen_query (asked.Ready now) = ready now
+seen_query (asked.Rehearse now) = rehearse now
+seen_query (asked.Ask question) = ask question
+seen_query asked.Draw = draw
+
+-- the text answers the query; the origin's time is 0
+abbrev pub IsSaid : Query → Held → List ℕ → Type 0
+IsSaid report held text = IsReport held.source held.state text
+IsSaid (check times) held text = text ≡ check_text (broken_bound held.source held.state (times_of (pos 0 ∷ times)))
+IsSaid (next now) held text = IsNextText held.source held.state now text
+IsSaid (ready now) held text = IsReadyText held.source held.state now text
+IsSaid (rehearse now) held text = IsRestText held.source held.state now text
+IsSaid (ask question) held text = IsAnswer held.source held.state question text
+IsSaid draw held text = IsPicture held.source held.state text
+
+-- why a check is refused: there is not one time for each event
+abbrev pub IsCheckRefusal : Held → List ℤ → Option Failure → Type 0
+IsCheckRefusal held times cause = ((length times ≢ events_of held.source) × (cause ≡ Some no_such_word))
+    ⊎ ((length times ≡ events_of held.source) × (cause ≡ None))
+
+-- why a rehearsal is: an event is overdue
+abbrev pub IsRehearseRefusal : Held → ℤ → Option Failure → Type 0
+IsRehearseRefusal held now cause = ((event : ℕ) × IsOverdueAt held.source held.state now event × (cause ≡ Some (refused_of code.Overdue event)))
+    ⊎ ((¬ IsRefusedRehearsal held.source held.state now) × (cause ≡ None))
+
+-- why a question is: it is about an event that the plan has not
+abbrev pub IsQuestionRefusal : Held → Question → Option Failure → Type 0
+IsQuestionRefusal held question cause = (AsksOfNoEvent held.source question × (cause ≡ Some (bound_failure NoEvent)))
+    ⊎ ((¬ AsksOfNoEvent held.source question) × (cause ≡ None))
+
+-- why a query is refused, or that it is not
+abbrev pub IsQueryRefusal : Query → Held → Option Failure → Type 0
+IsQueryRefusal report held cause = cause ≡ None
+IsQueryRefusal (check times) held cause = IsCheckRefusal held times cause
+IsQueryRefusal (next now) held cause = cause ≡ None
+IsQueryRefusal (ready now) held cause = cause ≡ None
+IsQueryRefusal (rehearse now) held cause = IsRehearseRefusal held now cause
+IsQueryRefusal (ask question) held cause = IsQuestionRefusal held question cause
+IsQueryRefusal draw held cause = cause ≡ None
+
+-- the text is said; or something refuses the query; or memory ran out where nothing does
+abbrev pub Says : {A : Type 0} → Query → Held → Result (Vec ℕ A) Failure → Type 0
+Says query held (Ok text) = IsSaid query held text.items × IsQueryRefusal query held None
+Says query held (Err failure) = IsQueryRefusal query held (Some failure) ⊎ ((failure ≡ out_of_memory) × IsQueryRefusal query held None)

@@ -1,0 +1,56 @@
+-- What single words say.
+use Rattle.std.specs.Prelude.{ℕ, ℤ, ◌+◌, ◌==◌, Bool, ◌&&◌, nat_le, if◌then◌else◌, List, [], ◌∷◌, find, Option, Some, None, Result, Ok, Err}
+use Rattle.std.specs.List.{range_with_len, before_first, after_first}
+use Rattle.std.specs.Str.{bytes_eq}
+use Rattle.std.specs.Str.Parse.{digits_value}
+use Rattle.stn_refusal.specs.declared.code.Code.TheVariants.{Line}
+use Rattle.stn_refusal.specs.declared.failure.Failure.{Failure}
+use Rattle.stn_refusal.specs.Refusals.{refused_at}
+use Rattle.stn_time.specs.TimeOf.{time_of}
+use Rattle.stn_time.specs.Failures.{time_failure}
+use Rattle.stn_time.specs.declared.reading.TimeFault.{TimeFault}
+use Rattle.stn_net.specs.Event.{most_events, event_text}
+use Rattle.stn_records.specs.Id.{most_sites, most_counter, SiteCounter, id_text}
+
+-- the event below a number that is printed so
+unfoldable pub event_below : ℕ → List ℕ → Option ℕ
+event_below count word = find (λ event. bytes_eq word (event_text event)) (range_with_len 0 count)
+
+-- the event that is printed so
+abbrev pub event_of : List ℕ → Option ℕ
+event_of word = event_below (most_events + 1) word
+
+-- the numbers that stand before the first dot of a word and after it, as a site and a counter
+abbrev pub around_dot : List ℕ → SiteCounter
+around_dot word = record { site = digits_value 10 (before_first (λ byte. byte == 46) word); counter = digits_value 10 (after_first (λ byte. byte == 46) word) }
+
+-- both numbers lie in their ranges
+abbrev pub is_id : SiteCounter → Bool
+is_id id = nat_le 1 id.site && (nat_le id.site most_sites && (nat_le 1 id.counter && nat_le id.counter most_counter))
+
+-- the id that is printed so
+unfoldable pub id_of : List ℕ → Option SiteCounter
+id_of word = if is_id (around_dot word) && bytes_eq word (id_text (around_dot word)) then Some (around_dot word) else None
+
+-- the value goes on, and a fault is the answer
+abbrev pub and_then : {A B E : Type 0} → Result A E → (A → Result B E) → Result B E
+and_then (Ok value) rest = rest value
+and_then (Err fault) rest = Err fault
+
+-- a faulty time refuses the command
+abbrev pub spelled : Result ℤ TimeFault → Result ℤ Failure
+spelled (Ok time) = Ok time
+spelled (Err fault) = Err (time_failure fault)
+
+-- the time that a word spells
+abbrev pub time_read : List ℕ → Result ℤ Failure
+time_read word = spelled (time_of word)
+
+-- the times that words spell, or the first fault
+abbrev pub times_read : List (List ℕ) → Result (List ℤ) Failure
+times_read [] = Ok []
+times_read (word ∷ words) = and_then (time_read word) (λ time. and_then (times_read words) (λ times. Ok (time ∷ times)))
+
+-- words that are not of the form that a command wants, where no line of a script is to be named
+abbrev pub no_such_word : Failure
+no_such_word = refused_at Line 0

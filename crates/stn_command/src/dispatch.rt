@@ -1,0 +1,111 @@
+//! What is said of times, of what comes next, and of the rest of the plan.
+
+ghost use Rattle.std.specs.Prelude.{◌≡◌, ◌⊎◌, ◌++◌, List, ℕ, codes, OnOk, IfErr, IsErrOf};
+ghost use Rattle.stn_net.specs.Event.{event_text};
+ghost use Rattle.stn_site.specs.Lines.{line};
+ghost use Rattle.stn_windows.specs.declared.answers.RehearseFault.TheVariants.{Overdue, Memory as want_of_memory};
+ghost use Rattle.stn_command.specs.Dispatch.{check_text, run_line, runs_text, next_text, IsNextText, IsRestText, IsOverdueAt, IsRefusedRehearsal};
+
+use std::alloc::Allocator;
+use stn_net::Event;
+use stn_replica::Replica;
+use stn_site::BoundName;
+use stn_time::{Memory, Ms};
+use stn_windows::{Next, RehearseFault};
+
+/// Appends the name of the first bound that times break, or that they are a schedule.
+pub fn append_check<B: Allocator>(
+    broken: Option<BoundName>,
+    out: &mut Vec<u8, B>,
+) -> Result<(), Memory>
+    ensures { OnOk result (out.new.items ≡ out.old.items ++ check_text broken) }
+{
+    match broken {
+        Some(name) => {
+            out.extend_from_slice(b"broken ")?;
+            name.print(out)?;
+            out.extend_from_slice(b"\n")
+        }
+        None => out.extend_from_slice(b"schedule\n"),
+    }
+}
+
+/// Appends what comes next in a replica's plan from now on, or `conflict`. After an error a part of it may
+/// stand there.
+pub fn append_next<A: Allocator + Copy, B: Allocator>(
+    replica: &Replica<A>,
+    now: Ms,
+    out: &mut Vec<u8, B>,
+) -> Result<(), Memory>
+    ensures { OnOk result ((text : List ℕ) × IsNextText replica.now.source replica.now.state now text × (out.new.items ≡ out.old.items ++ text)) }
+{
+    match replica.next(now) {
+        Some(answer) => append_answer(out, answer),
+        None => out.extend_from_slice(b"conflict\n"),
+    }
+}
+
+fn append_answer<B: Allocator>(out: &mut Vec<u8, B>, answer: Next) -> Result<(), Memory>
+    ensures { OnOk result (out.new.items ≡ out.old.items ++ next_text answer) }
+{
+    match answer {
+        Next::Run(time, event) => append_run_line(out, time, event),
+        Next::AllDone => out.extend_from_slice(b"all done\n"),
+        Next::Overdue(event) => append_event_line(out, b"overdue ", event),
+    }
+}
+
+/// Appends the rest of a replica's plan from now on, or `conflict`. After an error a part of it may stand
+/// there.
+///
+/// Refused in this order: `Overdue`, where every schedule has an event that is not done before now;
+/// `Memory`.
+pub fn append_rest<A: Allocator + Copy, B: Allocator>(
+    replica: &Replica<A>,
+    now: Ms,
+    out: &mut Vec<u8, B>,
+) -> Result<(), RehearseFault>
+    ensures text { OnOk result ((text : List ℕ) × IsRestText replica.now.source replica.now.state now text × (out.new.items ≡ out.old.items ++ text)) }
+    ensures accepted { OnOk result (¬ IsRefusedRehearsal replica.now.source replica.now.state now) }
+    ensures refused { IfErr result (λ fault. (fault ≡ want_of_memory)
+        ⊎ ((event : ℕ) × (fault ≡ Overdue event) × IsOverdueAt replica.now.source replica.now.state now event)) }
+    ensures memory { IsErrOf result want_of_memory → ¬ IsRefusedRehearsal replica.now.source replica.now.state now }
+{
+    match replica.rehearse(now)? {
+        Some(runs) => append_runs(out, &runs)?,
+        None => out.extend_from_slice(b"conflict\n")?,
+    }
+    Ok(())
+}
+
+// Appends a line for each run, and `all done`.
+fn append_runs<B: Allocator>(out: &mut Vec<u8, B>, runs: &[(Ms, Event)]) -> Result<(), Memory>
+    ensures { OnOk result (out.new.items ≡ out.old.items ++ runs_text runs.now) }
+{
+    for run in runs {
+        append_run_line(out, run.0, run.1)?;
+    }
+    out.extend_from_slice(b"all done\n")
+}
+
+// Appends the line `run <time> <event>`.
+fn append_run_line<B: Allocator>(out: &mut Vec<u8, B>, time: Ms, event: Event) -> Result<(), Memory>
+    ensures { OnOk result (out.new.items ≡ out.old.items ++ run_line time event) }
+{
+    out.extend_from_slice(b"run ")?;
+    time.print(out)?;
+    append_event_line(out, b" ", event)
+}
+
+// Appends a line of these words and the event's printed form.
+fn append_event_line<B: Allocator>(
+    out: &mut Vec<u8, B>,
+    words: &[u8],
+    event: Event,
+) -> Result<(), Memory>
+    ensures { OnOk result (out.new.items ≡ out.old.items ++ line (words.now ++ event_text event)) }
+{
+    out.extend_from_slice(words)?;
+    event.print(out)?;
+    out.extend_from_slice(b"\n")
+}

@@ -1,0 +1,21 @@
+ghost use Rattle.std.specs.Prelude.{◌≡◌, ℕ, List, Option};
+ghost use Rattle.stn_refusal.specs.declared.failure.Failure.{Failure};
+ghost use Rattle.stn_site.specs.Held.{Held};
+ghost use Rattle.stn_command.specs.Query.{Query, IsSaid, IsQueryRefusal};
+
+use stn_picture::one_picture;
+use stn_questions::{one_answer, one_ready_text};
+use stn_site::one_report;
+
+/// The law that what a site holds has one answer to each query, and one cause that refuses it or none; it
+/// does nothing.
+pub fn one_said()
+    ensures text { (query : Query) (held : Held) (text other : List ℕ) → IsSaid query held text → IsSaid query held other → text ≡ other }
+    ensures refusal { (query : Query) (held : Held) (cause other : Option Failure)
+        → IsQueryRefusal query held cause → IsQueryRefusal query held other → cause ≡ other }
+{
+    one_report();
+    one_answer();
+    one_ready_text();
+    one_picture();
+}
