@@ -1,32 +1,30 @@
 -- What calls of a world answer.
-use Rattle.std.proofs.Common.{◌≡◌, ℕ, ℤ, ◌<◌, nat_lt, true, neg_ℤ, Bool, cond, List, Option, Some, None, Result, Ok, Err, inl, inr, refl, sym, ap, subst, ◌∙◌}
-use Rattle.std.specs.Prelude.{◌+◌, not, length, is_some, unwrap_or, MatchOption}
+use Rattle.std.proofs.Common.{◌≡◌, ◌⊎◌, ℕ, true, Bool, cond, List, ◌++◌, Option, Some, None, Result, Ok, Err, OnOk, IfErr, inl, inr, refl, sym, ap, subst, ◌∙◌}
+use Rattle.std.specs.Prelude.{◌+◌, not, length, is_some, unwrap_or, OnErr, MatchOption}
 use Rattle.std.proofs.lemmas.Bool.{false_from_ne_true, false≢true}
-use Rattle.std.proofs.lemmas.Bool.Decides.{Decides-ltb}
-use Rattle.stn_refusal.specs.declared.code.Code.TheVariants.{NoEvent, NoSite}
+use Rattle.stn_refusal.specs.declared.code.Code.TheVariants.{NoSite}
 use Rattle.stn_refusal.specs.declared.failure.Failure.{Failure}
-use Rattle.stn_refusal.specs.Refusals.{refused}
-use Rattle.stn_time.specs.Time.{horizon}
-use Rattle.stn_net.specs.Difference.{Difference}
-use Rattle.stn_records.specs.Id.{SiteCounter}
-use Rattle.stn_site.specs.Held.{difference}
-use Rattle.stn_time.specs.TimeOf.{time_of}
-use Rattle.stn_lift.specs.PlanSource.{PlanSource, events_of}
+use Rattle.stn_refusal.specs.Refusals.{refused, out_of_memory}
 use Rattle.stn_records.specs.Content.{Content}
-use Rattle.stn_questions.specs.declared.asked.Question.{Question}
-use Rattle.stn_questions.specs.declared.asked.Question.TheVariants as question
-use Rattle.stn_questions.specs.Answer.{AsksOfNoEvent}
+use Rattle.stn_site.specs.Held.{Held, holding_state}
 use Rattle.stn_world.specs.declared.faults.WorldFault.{WorldFault}
 use Rattle.stn_world.specs.declared.faults.WorldFault.TheVariants as world_fault
 use Rattle.stn_world.specs.Failures.{world_failure}
-use Rattle.stn_world.specs.World.{World, HasSite, has_site, content_at}
+use Rattle.stn_world.specs.World.{World, HasSite, has_site, content_at, next_id_at}
 use Rattle.stn_world.specs.Steps.{Step, sent, step_refusal, send_refusal, after, IsStep, IsSending}
 use Rattle.stn_world.proofs.Accepted.{site_decides}
+use Rattle.stn_command.specs.declared.changes.Change.{Change}
+use Rattle.stn_command.specs.declared.changes.Made.{Made}
+use Rattle.stn_command.specs.Change.{made_by}
+use Rattle.stn_command.specs.Query.{Query, IsSaid, IsQueryRefusal}
+use Rattle.stn_command.proofs.Alike.{said_alike, refused_alike}
 use Rattle.stn_exec.specs.declared.answer.Answer.{Answer}
 use Rattle.stn_exec.specs.declared.answer.Answer.TheVariants as answer
-use Rattle.stn_exec.specs.Command.{Action, check, rehearse, sites_command}
-use Rattle.stn_exec.specs.Effect.{Effect, Reply, said, declined, told, rehearsed, asked, asking, check_reply, times_from, refusing, answered, called, sending, and_then, refusing_time, side_of, difference_read, making, action_effect, command_effect}
-use Rattle.stn_exec.specs.Saying.{IsReply, IsEffect}
+use Rattle.stn_exec.specs.Answer.{answer_text}
+use Rattle.stn_exec.specs.Command.{Action, sites_command}
+use Rattle.stn_exec.specs.Effect.{Effect, said, declined, refusing, answered, called, sending, change_step, changing, telling, action_effect, command_effect}
+use Rattle.stn_exec.specs.Output.{IsAnswerText, Declines}
+use Rattle.stn_exec.specs.Saying.{IsEffect, IsDone}
 
 -- a call that was refused: its fault is what refuses the call, or lack of memory
 refused_answer : (old new next : World) (made : Answer) (refused_for : Option WorldFault) (fault : WorldFault) (failure : Failure) (effect : Effect)
@@ -52,32 +50,27 @@ pub accepted_call : (T : Type 0) (value : T) (old new : World) (step : Step) (ma
 accepted_call T value old new step made effect is seen =
     ap (λ (w : World). record { world = w; reply = said made }) is.1 ∙ (sym (ap (answered old (after old step) made) is.0) ∙ seen)
 
--- a call that makes a record of what was read
-pub made_of : {T : Type 0} (world : World) (step : T → Step) (made : Answer) (read : Result T Failure) (value : T) → read ≡ Ok value
-    → called world (step value) made ≡ making world step made read
-made_of world step made read value e = ap (making world step made) (sym e)
+-- ---- changes
+-- words that can't be read
+pub unread : (world : World) (site : ℕ) (read : Result Change Failure) (cause failure : Failure) → Err cause ≡ read → failure ≡ cause
+    → IsEffect (Err failure) world (changing world site read)
+unread world site read cause failure is same =
+    inr (ap (λ (given : Failure). record { world = world; reply = declined given }) same ∙ ap (changing world site) is)
 
--- both sides of a bound that were read
-pub sides_read : (from to : ℕ) (lo hi : List ℕ) (low high : ℤ) → side_of (neg_ℤ horizon) lo ≡ Ok low → side_of horizon hi ≡ Ok high
-    → difference_read from to lo hi ≡ Ok (difference from to low high)
-sides_read from to lo hi low high first second =
-    ap (λ (r : Result ℤ Failure). and_then r (λ l. and_then (side_of horizon hi) (λ h. Ok (difference from to l h)))) first
-    ∙ ap (λ (r : Result ℤ Failure). and_then r (λ h. Ok (difference from to low h))) second
+-- a change that was refused, and one that was made
+pub refused_change : (T : Type 0) (old new : World) (site : ℕ) (read : Result Change Failure) (asked : Change) (fault : WorldFault) (failure : Failure)
+    → Ok asked ≡ read → IsStep {T = T} old (change_step site asked) (Err fault) new → failure ≡ world_failure fault
+    → IsEffect (Err failure) new (changing old site read)
+refused_change T old new site read asked fault failure is step gives =
+    refused_call T old new (change_step site asked) (answer.Changed (made_by asked (next_id_at old site))) fault failure (changing old site read) step gives
+    (ap (changing old site) is)
 
--- what was to be read can't be
-pub unread : {T : Type 0} (world : World) (step : T → Step) (made : Answer) (read : Result T Failure) (cause failure : Failure)
-    → read ≡ Err cause → failure ≡ cause → IsEffect (Err failure) world (making world step made read)
-unread world step made read cause failure e same =
-    inr (ap (λ (given : Failure). record { world = world; reply = declined given }) same ∙ sym (ap (making world step made) e))
-
--- an addition or an amendment that was refused
-pub refused_making : (old new : World) (step : Difference → Step) (made : Answer) (from to : ℕ) (lo hi : List ℕ) (low high : ℤ) (fault : WorldFault) (failure : Failure)
-    → side_of (neg_ℤ horizon) lo ≡ Ok low → side_of horizon hi ≡ Ok high
-    → IsStep {T = SiteCounter} old (step (difference from to low high)) (Err fault) new → failure ≡ world_failure fault
-    → IsEffect (Err failure) new (making old step made (difference_read from to lo hi))
-refused_making old new step made from to lo hi low high fault failure first second is gives =
-    refused_call SiteCounter old new (step (difference from to low high)) made fault failure (making old step made (difference_read from to lo hi)) is gives
-    (made_of old step made (difference_read from to lo hi) (difference from to low high) (sides_read from to lo hi low high first second))
+pub made_change : (old new : World) (site : ℕ) (read : Result Change Failure) (asked : Change) (made : Made) → Ok asked ≡ read
+    → made ≡ made_by asked (next_id_at old site) → IsStep {T = Made} old (change_step site asked) (Ok made) new
+    → record { world = new; reply = said (answer.Changed made) } ≡ changing old site read
+made_change old new site read asked made is by step =
+    accepted_call Made made old new (change_step site asked) (answer.Changed made) (changing old site read) step
+    (ap (λ (one : Made). called old (change_step site asked) (answer.Changed one)) by ∙ ap (changing old site) is)
 
 -- ---- sendings
 pub accepted_sending : (old new : World) (site number : ℕ) (part : Content) (held : Bool)
@@ -108,35 +101,43 @@ pub not_there : {R : Type 0} (found : Option R) (none : Bool) (Missing : Type 0)
 not_there None none Missing There is tested found = found
 not_there (Some replica) none Missing There is tested found = absurd (false≢true (sym (is ∙ ap not tested)))
 
--- a rehearsal
-pub rehearses : (world : World) (site : ℕ) (word : List ℕ) (now : ℤ) (source : PlanSource) (state : Content) → source ≡ world.source → state ≡ content_at world site
-    → refusing_time (time_of word) ≡ Ok now → record { world = world; reply = rehearsed source state now } ≡ action_effect world site (rehearse word)
-rehearses world site word now source state plan held read =
-    ap (λ (s : PlanSource). record { world = world; reply = rehearsed s state now }) plan
-    ∙ (ap (λ (c : Content). record { world = world; reply = rehearsed world.source c now }) held
-    ∙ ap (asked world (rehearsed world.source (content_at world site))) (sym read))
+-- ---- what was appended
+-- a refusal
+pub refused_done : (world : World) (old : List ℕ) (effect : Effect) (cause : Failure) → record { world = world; reply = declined cause } ≡ effect
+    → IsDone world old old effect (Err cause)
+refused_done world old effect cause is =
+    inr (ap (λ (e : Effect). e.world) is, subst (λ (e : Effect). Declines e.reply cause) is refl, refl)
 
--- a question about an event that the plan has not
-pub no_event : (world : World) (site : ℕ) (source : PlanSource) (question : Question) (cause : Failure) → source ≡ world.source → AsksOfNoEvent source question
-    → cause ≡ refused NoEvent → record { world = world; reply = declined cause } ≡ asking world site question
-no_event world site source (question.Why event) cause same late is =
-    let past : nat_lt (events_of world.source) event ≡ true = (Decides-ltb (events_of world.source) event).1 (subst (λ (plan : PlanSource). events_of plan < event) same late) in
-    ap (λ (given : Failure). record { world = world; reply = declined given }) is
-    ∙ sym (ap (λ b. cond b (refusing world (refused NoEvent)) (record { world = world; reply = told world.source (content_at world site) (question.Why event) })) past)
-no_event world site source question.Records cause same late is = absurd late
-no_event world site source question.Steps cause same late is = absurd late
-no_event world site source question.Bounds cause same late is = absurd late
-
--- a check of the times of all events
-pub checked : (outcome : Result Answer Failure) (world : World) (site : ℕ) (source : PlanSource) (state : Content) (times : List (List ℕ))
-    → source ≡ world.source → state ≡ content_at world site → IsReply outcome (check_reply source state (times_from times))
-    → IsEffect outcome world (action_effect world site (check times))
-checked outcome world site source state times plan held is =
-    by outcome (subst (λ (s : PlanSource). IsReply outcome (check_reply s (content_at world site) (times_from times))) plan
-    (subst (λ (k : Content). IsReply outcome (check_reply source k (times_from times))) held is))
+-- a call that gave no answer, and one that did
+pub undone : (world : World) (old : List ℕ) (effect : Effect) (outcome : Result Answer Failure) (cause failure : Failure) → outcome ≡ Err cause → failure ≡ cause
+    → IsEffect outcome world effect → IsDone world old old effect (Err failure)
+undone world old effect outcome cause failure failed same is = by (subst (λ (o : Result Answer Failure). IsEffect o world effect) failed is)
   where
-    by : (given : Result Answer Failure) → IsReply given (check_reply world.source (content_at world site) (times_from times))
-        → IsEffect given world (action_effect world site (check times))
-    by (Ok answer) same = ap (λ (r : Reply). record { world = world; reply = r }) same
-    by (Err failure) (inl lack) = inl lack
-    by (Err failure) (inr same) = inr (ap (λ (r : Reply). record { world = world; reply = r }) same)
+    by : IsEffect (Err cause) world effect → IsDone world old old effect (Err failure)
+    by (inl lack) = inl (same ∙ lack)
+    by (inr reply) = refused_done world old effect failure (ap (λ (given : Failure). record { world = world; reply = declined given }) same ∙ reply)
+
+pub answer_done : (world : World) (old new : List ℕ) (effect : Effect) (outcome : Result Answer Failure) (one : Answer) → outcome ≡ Ok one
+    → new ≡ old ++ answer_text one → IsEffect outcome world effect → IsDone world old new effect (Ok tt)
+answer_done world old new effect outcome one given appended is =
+    let reply = subst (λ (o : Result Answer Failure). IsEffect o world effect) given is in
+    (ap (λ (e : Effect). e.world) reply, (answer_text one, subst (λ (e : Effect). IsAnswerText e.reply (answer_text one)) reply refl, appended))
+
+-- a query whose words can't be read, and one that was read
+pub untold : (world : World) (site : ℕ) (old : List ℕ) (read : Result Query Failure) (cause failure : Failure) → Err cause ≡ read → failure ≡ cause
+    → IsDone world old old (telling world site read) (Err failure)
+untold world site old read cause failure is same =
+    refused_done world old (telling world site read) failure
+    (ap (λ (given : Failure). record { world = world; reply = declined given }) same ∙ ap (telling world site) is)
+
+pub told_done : (world : World) (site : ℕ) (held : Held) (asked : Query) (old new : List ℕ) (result : Result (Unit {0}) Failure)
+    → held.source ≡ world.source → held.state ≡ content_at world site
+    → OnOk result ((text : List ℕ) × IsSaid asked held text × (new ≡ old ++ text)) → OnOk result (IsQueryRefusal asked held None)
+    → IfErr result (λ failure. (failure ≡ out_of_memory) ⊎ IsQueryRefusal asked held (Some failure)) → OnErr result (new ≡ old)
+    → IsDone world old new (telling world site (Ok asked)) result
+told_done world site held asked old new (Ok done) plan state text accepted refused kept =
+    let there = holding_state world.source (content_at world site) in
+    (refl, (text.0, (refused_alike held there plan state asked None accepted, said_alike held there plan state asked text.0 text.1), text.2))
+told_done world site held asked old new (Err failure) plan state text accepted (inl lack) kept = inl lack
+told_done world site held asked old new (Err failure) plan state text accepted (inr refusal) kept =
+    inr (refl, refused_alike held (holding_state world.source (content_at world site)) plan state asked (Some failure) refusal, kept)

@@ -1,11 +1,6 @@
 pub mod Effects
-pub mod Events
-pub mod Ids
-pub mod Foresight
 pub mod Blocks
 pub mod Outputs
 pub mod Runs
 pub mod Scripts
 pub mod Reports
-pub mod Fitting
-pub mod Amendments

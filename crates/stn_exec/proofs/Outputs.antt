@@ -1,45 +1,54 @@
 -- Replies have one output, and one number of refusals.
-use Rattle.std.proofs.Common.{◌≡◌, ℕ, ℤ, ◌+◌, ◌≤◌, Bool, true, false, cond, List, [], ◌∷◌, ◌++◌, refl, sym, ap, subst, ◌∙◌, arith}
+use Rattle.std.proofs.Common.{◌≡◌, inl, inr, ℕ, ◌+◌, ◌≤◌, Bool, true, false, cond, List, [], ◌∷◌, ◌++◌, Option, Some, None, refl, sym, ap, subst, ◌∙◌, arith}
 use Rattle.std.specs.Bool.{Decides}
+use Rattle.std.specs.Prelude.{unwrap_or}
 use Rattle.std.proofs.lemmas.Bool.Decides.{same_from_decides}
-use Rattle.stn_lift.specs.PlanSource.{PlanSource}
-use Rattle.stn_records.specs.Content.{Content}
-use Rattle.stn_site.specs.Report.{IsReport}
-use Rattle.stn_questions.specs.declared.asked.Question.{Question}
-use Rattle.stn_questions.specs.Answer.{IsAnswer}
-use Rattle.stn_questions.specs.Ready.{IsReadyText}
+use Rattle.std.proofs.lemmas.Option.{none-some}
+use Rattle.stn_refusal.specs.declared.failure.Failure.{Failure}
 use Rattle.stn_refusal.specs.declared.failure.Failure.TheVariants.{Refused, Failed}
-use Rattle.stn_exec.specs.Effect.{Reply, said, declined, reported, foreseen, rehearsed, readied, told}
-use Rattle.stn_exec.proofs.Foresight.{one_next_text, one_rehearse_text}
-use Rattle.stn_exec.specs.Output.{IsReplyText, IsOutput, IsRefusal, CountsRefusals}
+use Rattle.stn_site.specs.Held.{Held, holding_state}
+use Rattle.stn_command.specs.Query.{Query, IsSaid}
+use Rattle.stn_command.proofs.OneSaid.{one_refusal as one_cause}
+use Rattle.stn_exec.specs.Effect.{Reply, said, declined, told}
+use Rattle.stn_exec.specs.Output.{IsAnswerText, Declines, IsFailureText, IsReplyText, IsOutput, IsRefusal, CountsRefusals}
 
--- what other laws say of reports, of answers to questions, and of the events that may run
-abbrev pub OneReport : Type 0
-OneReport = (source : PlanSource) → (state : Content) → (text other : List ℕ) → IsReport source state text → IsReport source state other → text ≡ other
+-- what another law says of answers to queries
+abbrev pub OneSaid : Type 0
+OneSaid = (query : Query) (held : Held) (text other : List ℕ) → IsSaid query held text → IsSaid query held other → text ≡ other
 
-abbrev pub OneAnswer : Type 0
-OneAnswer = (source : PlanSource) → (state : Content) → (question : Question) → (text other : List ℕ) → IsAnswer source state question text → IsAnswer source state question other → text ≡ other
+-- a reply that is an answer is no refusal
+pub not_both : (reply : Reply) (text : List ℕ) (cause : Failure) → IsAnswerText reply text → ¬ Declines reply cause
+not_both (said answer) text cause is other = other
+not_both (declined given) text cause is other = is
+not_both (told source state query) text cause is other = none-some cause (one_cause query (holding_state source state) None (Some cause) is.0 other)
 
-abbrev pub OneReady : Type 0
-OneReady = (source : PlanSource) → (state : Content) → (now : ℤ) → (text other : List ℕ) → IsReadyText source state now text → IsReadyText source state now other → text ≡ other
+same_answer : OneSaid → (reply : Reply) (text other : List ℕ) → IsAnswerText reply text → IsAnswerText reply other → text ≡ other
+same_answer one (said answer) text other p q = p ∙ sym q
+same_answer one (declined given) text other p q = absurd p
+same_answer one (told source state query) text other p q = one query (holding_state source state) text other p.1 q.1
 
--- a reply has one text, where a plan and a state have one report, one answer to each question, and one text of the events that may run
-one_text : OneReport → OneAnswer → OneReady
-    → (reply : Reply) (text other : List ℕ) → IsReplyText reply text → IsReplyText reply other → text ≡ other
-one_text reports answers readies (said answer) text other p q = p ∙ sym q
-one_text reports answers readies (declined (Refused refusal)) text other p q = p ∙ sym q
-one_text reports answers readies (declined (Failed fault)) text other p q = absurd p
-one_text reports answers readies (reported source state) text other p q = reports source state text other p q
-one_text reports answers readies (foreseen source state now) text other p q = one_next_text source state now text other p q
-one_text reports answers readies (rehearsed source state now) text other p q = one_rehearse_text source state now text other p q
-one_text reports answers readies (readied source state now) text other p q = readies source state now text other p q
-one_text reports answers readies (told source state question) text other p q = answers source state question text other p q
+same_cause : (reply : Reply) (cause other : Failure) → Declines reply cause → Declines reply other → cause ≡ other
+same_cause (said answer) cause other p q = absurd p
+same_cause (declined given) cause other p q = p ∙ sym q
+same_cause (told source state query) cause other p q =
+    ap (λ (found : Option Failure). unwrap_or found cause) (one_cause query (holding_state source state) (Some cause) (Some other) p q)
 
-pub one_output : OneReport → OneAnswer → OneReady
-    → (replies : List Reply) (text other : List ℕ) → IsOutput replies text → IsOutput replies other → text ≡ other
-one_output reports answers readies [] text other p q = p ∙ sym q
-one_output reports answers readies (reply ∷ replies) text other p q =
-    p.4 ∙ (ap (λ (l : List ℕ). l ++ p.1) (one_text reports answers readies reply p.0 q.0 p.2 q.2) ∙ (ap (λ (l : List ℕ). q.0 ++ l) (one_output reports answers readies replies p.1 q.1 p.3 q.3) ∙ sym q.4))
+same_line : (cause : Failure) (text other : List ℕ) → IsFailureText cause text → IsFailureText cause other → text ≡ other
+same_line (Refused refusal) text other p q = p ∙ sym q
+same_line (Failed fault) text other p q = absurd p
+
+-- a reply has one text
+one_text : OneSaid → (reply : Reply) (text other : List ℕ) → IsReplyText reply text → IsReplyText reply other → text ≡ other
+one_text one reply text other (inl p) (inl q) = same_answer one reply text other p q
+one_text one reply text other (inl p) (inr q) = absurd (not_both reply text q.0 p q.1)
+one_text one reply text other (inr p) (inl q) = absurd (not_both reply other p.0 q p.1)
+one_text one reply text other (inr p) (inr q) =
+    same_line q.0 text other (subst (λ (cause : Failure). IsFailureText cause text) (same_cause reply p.0 q.0 p.1 q.1) p.2) q.2
+
+pub one_output : OneSaid → (replies : List Reply) (text other : List ℕ) → IsOutput replies text → IsOutput replies other → text ≡ other
+one_output one [] text other p q = p ∙ sym q
+one_output one (reply ∷ replies) text other p q =
+    p.4 ∙ (ap (λ (l : List ℕ). l ++ p.1) (one_text one reply p.0 q.0 p.2 q.2) ∙ (ap (λ (l : List ℕ). q.0 ++ l) (one_output one replies p.1 q.1 p.3 q.3) ∙ sym q.4))
 
 -- ---- refusals
 abbrev counted : Bool → ℕ → ℕ

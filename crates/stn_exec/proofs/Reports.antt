@@ -1,21 +1,22 @@
 -- The commands of a script are a run of the world's steps.
-use Rattle.std.proofs.Common.{◌≡◌, ◌↔◌, ℕ, ℤ, ◌+◌, Bool, true, false, cond, is_some, List, [], ◌∷◌, ◌++◌, length, Option, Some, None, Result, Ok, Err, option_map, option_to_list, refl, sym, ap, subst, ◌∙◌, arith, append_assoc, append-nil}
+use Rattle.std.proofs.Common.{◌≡◌, ◌↔◌, ℕ, ℤ, ◌+◌, Bool, true, false, cond, is_some, List, [], ◌∷◌, ◌++◌, length, Option, Some, None, Result, Ok, Err, inl, inr, option_map, option_to_list, refl, sym, ap, subst, ◌∙◌, arith, append_assoc, append-nil}
 use Rattle.std.specs.Prelude.{option_and_then}
 use Rattle.std.specs.Result.{result_ok}
 use Rattle.std.proofs.lemmas.Bool.{false≢true}
+use Rattle.std.proofs.lemmas.Option.{none-some}
 use Rattle.std.proofs.lemmas.List.Sums.{fold-append}
 use Rattle.stn_time.specs.declared.reading.TimeFault.{TimeFault}
-use Rattle.stn_time.specs.TimeOf.{time_of}
 use Rattle.stn_lift.specs.PlanSource.{PlanSource, events_of}
 use Rattle.stn_text.specs.Lines.{lines_of, words_of}
 use Rattle.stn_site.specs.Report.{IsReport}
+use Rattle.stn_site.specs.Held.{holding_state}
 use Rattle.stn_site.specs.Refusals.{withdraw_refusal}
 use Rattle.stn_world.specs.declared.faults.WorldFault.{WorldFault}
 use Rattle.stn_world.specs.declared.faults.WorldFault.TheVariants.{NoSite}
 use Rattle.stn_world.specs.Faults.{of_replica_fault}
 use Rattle.stn_world.specs.World.{World, HasSite, has_site, opening_world, held_at, content_at}
 use Rattle.stn_records.specs.Content.{Content, CountsSame, Item, HasItem, part_of}
-use Rattle.stn_world.specs.Steps.{Step, added, finished, amended, withdrew, merged, sent, delivered, step_refusal, send_refusal, after, IsAccepted, stepped, run, TookAt, TookSameAt, TookSameItemsAt}
+use Rattle.stn_world.specs.Steps.{Step, merged, sent, delivered, step_refusal, send_refusal, after, IsAccepted, stepped, run, TookAt, TookSameAt, TookSameItemsAt}
 use Rattle.stn_world.proofs.Accepted.{site_decides, no_site}
 use Rattle.stn_world.specs.Parts.{holds_all}
 use Rattle.stn_world.proofs.Sendings.{part_free, all_free}
@@ -28,9 +29,14 @@ use Rattle.stn_refusal.specs.Refusals.{refused}
 use Rattle.stn_questions.specs.declared.asked.Question.{Question}
 use Rattle.stn_questions.specs.Answer.{IsAnswer}
 use Rattle.stn_questions.specs.Ready.{IsReadyText}
-use Rattle.stn_exec.specs.declared.answer.Answer.{Answer}
-use Rattle.stn_exec.specs.Command.{Action, add, done, amend, withdraw, merge, send_all, send, deliver, report, check, next, rehearse, ready, ask, Command, sites_command, command_of}
-use Rattle.stn_exec.specs.Effect.{Effect, Reply, reported, foreseen, rehearsed, readied, refusing, refusing_time, difference_read, is_of_no_event, making, sending, sent_step, asked, asking, told, action_effect, command_effect, action_step, step_of}
+use Rattle.stn_command.specs.declared.changes.Change.{Change}
+use Rattle.stn_command.specs.declared.changes.Change.TheVariants.{Add, Amend, Withdraw, Done}
+use Rattle.stn_command.specs.Words.{and_then, spelled}
+use Rattle.stn_command.specs.Query.{Query, IsSaid, IsQueryRefusal}
+use Rattle.stn_command.specs.Query as asked
+use Rattle.stn_command.proofs.OneSaid.{one_refusal}
+use Rattle.stn_exec.specs.Command.{QueryWords, report, ready, ask, Action, change, merge, send_all, send, deliver, query, Command, sites_command, command_of}
+use Rattle.stn_exec.specs.Effect.{Effect, Reply, told, refusing, sending, sent_step, change_read, query_read, change_step, changing, telling, action_effect, command_effect, action_step, step_of}
 use Rattle.stn_exec.specs.Script.{Outcome, Start, is_skipped, form_effect, line_outcome, lines_outcome, heading_of, last_line, script_outcome}
 use Rattle.stn_exec.specs.Output.{IsReplyText, IsOutput}
 use Rattle.stn_exec.specs.Reports.{line_steps, steps_of_lines, LineOf, first_world, steps_before, world_at, ReportsSite, AsksSite, AsksReady, PrintsAt}
@@ -38,10 +44,10 @@ use Rattle.stn_exec.proofs.Effects.{there_effect}
 use Rattle.stn_exec.proofs.Scripts.{line_outcome-skipped, line_outcome-run, line_effect-is, script_outcome-is}
 
 -- ---- what a command leaves is what its step leaves
-making_run : {T : Type 0} (world : World) (step : T → Step) (made : Answer) (read : Result T Failure)
-    → (making world step made read).world ≡ run world (option_to_list (option_map step (result_ok read)))
-making_run world step made (Ok value) = refl
-making_run world step made (Err cause) = refl
+changing_run : (world : World) (site : ℕ) (read : Result Change Failure)
+    → (changing world site read).world ≡ run world (option_to_list (option_map (change_step site) (result_ok read)))
+changing_run world site (Ok asked) = refl
+changing_run world site (Err cause) = refl
 
 sending_run : (world : World) (site : ℕ) (part : Content) (held : Bool) → IsAccepted world (sent site part)
     → (sending world site part held).world ≡ run world (option_to_list (sent_step world site part held))
@@ -51,33 +57,18 @@ sending_run world site part held free = by_cause (send_refusal world site held)
     by_cause None = ap (λ o. cond (is_some o) world (after world (sent site part))) (sym free)
     by_cause (Some cause) = refl
 
-asked_stays : (world : World) (reply : ℤ → Reply) (read : Result ℤ Failure) → (asked world reply read).world ≡ world
-asked_stays world reply (Ok now) = refl
-asked_stays world reply (Err cause) = refl
-
-asking_stays : (world : World) (site : ℕ) (question : Question) → (asking world site question).world ≡ world
-asking_stays world site question = by (is_of_no_event world.source question)
-  where
-    by : (b : Bool) → (cond b (refusing world (refused code.NoEvent)) (record { world = world; reply = told world.source (content_at world site) question })).world ≡ world
-    by true = refl
-    by false = refl
+telling_stays : (world : World) (site : ℕ) (read : Result Query Failure) → (telling world site read).world ≡ world
+telling_stays world site (Ok asked) = refl
+telling_stays world site (Err cause) = refl
 
 there_run : (world : World) (site : ℕ) (action : Action) → HasSite world site → IsCoherent world → (action_effect world site action).world ≡ run world (option_to_list (action_step world site action))
-there_run world site (add from to lo hi) there coherent = making_run world (added site) _ (difference_read from to lo hi)
-there_run world site (done event time) there coherent = making_run world (finished site event) _ (refusing_time (time_of time))
-there_run world site (amend old from to lo hi) there coherent = making_run world (amended site old) _ (difference_read from to lo hi)
-there_run world site (withdraw id) there coherent = refl
+there_run world site (change words) there coherent = changing_run world site (change_read words)
 there_run world site (merge other) there coherent = refl
 there_run world site send_all there coherent = sending_run world site (content_at world site) true (all_free world site there coherent)
 there_run world site (send records tombstones) there coherent =
     sending_run world site (part_of (content_at world site) records tombstones) (holds_all (content_at world site) records tombstones) (part_free world site records tombstones there coherent)
 there_run world site (deliver packet) there coherent = refl
-there_run world site report there coherent = refl
-there_run world site (check times) there coherent = refl
-there_run world site (next now) there coherent = asked_stays world (foreseen world.source (content_at world site)) (refusing_time (time_of now))
-there_run world site (rehearse now) there coherent = asked_stays world (rehearsed world.source (content_at world site)) (refusing_time (time_of now))
-there_run world site (ready now) there coherent = asked_stays world (readied world.source (content_at world site)) (refusing_time (time_of now))
-there_run world site (ask question) there coherent = asking_stays world site question
+there_run world site (query words) there coherent = telling_stays world site (query_read words)
 
 -- at a site that is not there, each step is refused
 refused_run : (world : World) (step : Step) → step_refusal world step ≡ Some NoSite → run world (step ∷ []) ≡ world
@@ -86,27 +77,26 @@ refused_run world step refused = ap (λ o. cond (is_some o) world (after world s
 unsent_run : (world : World) (site : ℕ) (part : Content) (held : Bool) → ¬ HasSite world site → run world (option_to_list (sent_step world site part held)) ≡ world
 unsent_run world site part held missing = ap (λ o. run world (option_to_list (cond (is_some o) None (Some (sent site part))))) (no_site world site _ missing)
 
-unmade_run : {T : Type 0} (world : World) (step : T → Step) (read : Result T Failure) → ((value : T) → step_refusal world (step value) ≡ Some NoSite)
-    → run world (option_to_list (option_map step (result_ok read))) ≡ world
-unmade_run world step (Ok value) refused = refused_run world (step value) (refused value)
-unmade_run world step (Err cause) refused = refl
+-- so is that of a change
+no_change : (world : World) (site : ℕ) (asked : Change) → ¬ HasSite world site → step_refusal world (change_step site asked) ≡ Some NoSite
+no_change world site (Add bound) missing = no_site world site _ missing
+no_change world site (Amend old bound) missing = no_site world site _ missing
+no_change world site (Withdraw id) missing = no_site world site (option_map of_replica_fault (withdraw_refusal (held_at world site) id)) missing
+no_change world site (Done event time) missing = no_site world site _ missing
+
+unchanged_run : (world : World) (site : ℕ) (read : Result Change Failure) → ¬ HasSite world site
+    → run world (option_to_list (option_map (change_step site) (result_ok read))) ≡ world
+unchanged_run world site (Ok asked) missing = refused_run world (change_step site asked) (no_change world site asked missing)
+unchanged_run world site (Err cause) missing = refl
 
 missing_run : (world : World) (site : ℕ) (action : Action) → ¬ HasSite world site → run world (option_to_list (action_step world site action)) ≡ world
-missing_run world site (add from to lo hi) missing = unmade_run world (added site) (difference_read from to lo hi) (λ bound. no_site world site _ missing)
-missing_run world site (done event time) missing = unmade_run world (finished site event) (refusing_time (time_of time)) (λ at. no_site world site _ missing)
-missing_run world site (amend old from to lo hi) missing = unmade_run world (amended site old) (difference_read from to lo hi) (λ bound. no_site world site _ missing)
-missing_run world site (withdraw id) missing = refused_run world (withdrew site id) (no_site world site (option_map of_replica_fault (withdraw_refusal (held_at world site) id)) missing)
+missing_run world site (change words) missing = unchanged_run world site (change_read words) missing
 missing_run world site (merge other) missing = refused_run world (merged site other) (no_site world site _ missing)
 missing_run world site send_all missing = unsent_run world site (content_at world site) true missing
 missing_run world site (send records tombstones) missing =
     unsent_run world site (part_of (content_at world site) records tombstones) (holds_all (content_at world site) records tombstones) missing
 missing_run world site (deliver packet) missing = refused_run world (delivered site packet) (no_site world site _ missing)
-missing_run world site report missing = refl
-missing_run world site (check times) missing = refl
-missing_run world site (next now) missing = refl
-missing_run world site (rehearse now) missing = refl
-missing_run world site (ready now) missing = refl
-missing_run world site (ask question) missing = refl
+missing_run world site (query words) missing = refl
 
 effect_run : (world : World) (site : ℕ) (action : Action) → IsCoherent world → (command_effect world (sites_command site action)).world ≡ run world (option_to_list (action_step world site action))
 effect_run world site action coherent = tested (has_site world site) refl
@@ -220,12 +210,29 @@ one_reply replies reply text is all =
     let one = subst (λ (l : List Reply). IsOutput l text) is all in
     subst (IsReplyText reply) (sym (one.4 ∙ (ap (λ (l : List ℕ). one.0 ++ l) one.3 ∙ append-nil one.0))) one.2
 
+-- ---- what is said to a query at a line
+-- the query is the one that words ask, and nothing refuses it: what is printed answers it
+answers_at : (script output text : List ℕ) (at : LineOf script) (site : ℕ) (words : QueryWords) (asked : Query) → is_skipped (words_of at.line) ≡ false
+    → command_of (events_of at.start.source) (words_of at.line) ≡ Some (sites_command site (query words)) → HasSite (first_world at) site
+    → query_read words ≡ Ok asked → IsQueryRefusal asked (holding_state at.start.source (content_at (world_at at) site)) None → PrintsAt at output text
+    → IsSaid asked (holding_state at.start.source (content_at (world_at at) site)) text
+answers_at script output text at site words asked kept is there read accepted printed =
+    let state = content_at (world_at at) site in
+    by (one_reply _ (told at.start.source state asked) text
+    (replies_at script at site (query words) kept is there
+    ∙ (ap (λ (r : Result Query Failure). (telling (world_at at) site r).reply ∷ []) read
+    ∙ ap (λ (s : PlanSource). told s state asked ∷ []) (source_at script at)))
+    printed.here)
+  where
+    by : IsReplyText (told at.start.source (content_at (world_at at) site) asked) text → IsSaid asked (holding_state at.start.source (content_at (world_at at) site)) text
+    by (inl answer) = answer.1
+    by (inr declines) =
+        absurd (none-some declines.0 (one_refusal asked (holding_state at.start.source (content_at (world_at at) site)) None (Some declines.0) accepted declines.1))
+
 -- ---- the report at a line
 pub reports : (script output text : List ℕ) (at : LineOf script) (site : ℕ) → ReportsSite at site → PrintsAt at output text → IsReport at.start.source (content_at (world_at at) site) text
 reports script output text at site says printed =
-    one_reply _ (reported at.start.source (content_at (world_at at) site)) text
-    (replies_at script at site report says.kept says.command says.there ∙ ap (λ (s : PlanSource). reported s (content_at (world_at at) site) ∷ []) (source_at script at))
-    printed.here
+    answers_at script output text at site report asked.report says.kept says.command says.there refl refl printed
 
 -- what the site holds is the union of what it took
 pub unions : ((source : PlanSource) (sites : ℕ) (steps : List Step) (site : ℕ) → HasSite (opening_world source sites) site
@@ -253,33 +260,17 @@ same_bytes law script other output last text last_text at there site others one 
     two.there same
     (subst (λ (w : World). IsReport there.start.source (content_at w others) last_text) (world_run other there) (reports other last last_text there others two q))
 
--- ---- the answer to a question at a line
-asked_reply : (world : World) (site : ℕ) (question : Question) → is_of_no_event world.source question ≡ false
-    → (action_effect world site (ask question)).reply ≡ told world.source (content_at world site) question
-asked_reply world site question there =
-    ap (λ (b : Bool). (cond b (refusing world (refused code.NoEvent)) (record { world = world; reply = told world.source (content_at world site) question })).reply) there
-
+-- ---- the answer to a question at a line, and what `ready` prints there
 pub answers : (script output text : List ℕ) (at : LineOf script) (site : ℕ) (question : Question) → AsksSite at site question → PrintsAt at output text
     → IsAnswer at.start.source (content_at (world_at at) site) question text
 answers script output text at site question asks printed =
-    let world = world_at at in
-    one_reply _ (told at.start.source (content_at world site) question) text
-    (replies_at script at site (ask question) asks.kept asks.command asks.there
-    ∙ (ap (λ (r : Reply). r ∷ [])
-    (asked_reply world site question (ap (λ (s : PlanSource). is_of_no_event s question) (source_at script at) ∙ asks.event)
-    ∙ ap (λ (s : PlanSource). told s (content_at world site) question) (source_at script at))))
-    printed.here
+    answers_at script output text at site (ask question) (asked.ask question) asks.kept asks.command asks.there refl (inr (asks.event, refl)) printed
 
--- what `ready` prints at a line
 pub ready_said : (script output text : List ℕ) (at : LineOf script) (site : ℕ) (now : ℤ) → AsksReady at site now → PrintsAt at output text
     → IsReadyText at.start.source (content_at (world_at at) site) now text
 ready_said script output text at site now asks printed =
-    let world = world_at at in
-    one_reply _ (readied at.start.source (content_at world site) now) text
-    (replies_at script at site (ready asks.word) asks.kept asks.command asks.there
-    ∙ (ap (λ (read : Result ℤ TimeFault). (asked world (readied world.source (content_at world site)) (refusing_time read)).reply ∷ []) asks.time
-    ∙ ap (λ (s : PlanSource). readied s (content_at world site) now ∷ []) (source_at script at)))
-    printed.here
+    answers_at script output text at site (ready asks.word) (asked.ready now) asks.kept asks.command asks.there
+    (ap (λ (read : Result ℤ TimeFault). and_then (spelled read) (λ time. Ok (asked.ready time))) asks.time) refl printed
 
 -- what two sites of one plan hold is alike, where it is after the runs of their steps
 alike_at : (Took : World → List Step → ℕ → World → List Step → ℕ → Type 0) (Alike : Content → Content → Type 0)

@@ -1,5 +1,5 @@
 -- The heading and the lines of a script, one after the other.
-use Rattle.std.proofs.Common.{◌≡◌, ℕ, ℤ, ⊎_elim, ◌+◌, ◌<◌, ◌≤◌, true, false, cond, List, [], ◌∷◌, ◌++◌, length, Option, Some, None, Result, Ok, Err, Bool, IfSome, IfOk, OnOk, inl, inr, refl, sym, ap, ◌∙◌, arith, codes, append_assoc, subst}
+use Rattle.std.proofs.Common.{◌≡◌, ℕ, ⊎_elim, ◌+◌, ◌<◌, ◌≤◌, true, false, cond, List, [], ◌∷◌, ◌++◌, length, Option, Some, None, Result, Ok, Err, Bool, IfSome, inl, inr, refl, sym, ap, ◌∙◌, arith, codes, append_assoc, subst}
 use Rattle.std.proofs.KnownBytes.{Appends-nil, Appends-trans}
 use Rattle.std.proofs.lemmas.Bool.{cases_lt, false≢true}
 use Rattle.std.proofs.lemmas.Bool.Decides.{nat_tests}
@@ -10,26 +10,22 @@ use Rattle.stn_refusal.specs.declared.refusal.Refusal.{Refusal}
 use Rattle.stn_refusal.specs.declared.failure.Failure.{Failure}
 use Rattle.stn_refusal.specs.declared.failure.Failure.TheVariants.{Refused}
 use Rattle.stn_refusal.specs.Printed.{refusal_text}
-use Rattle.stn_refusal.specs.Refusals.{refused, out_of_memory}
+use Rattle.stn_refusal.specs.Refusals.{refused}
 use Rattle.stn_exec.specs.Heading.{IsHeadingFailure}
-use Rattle.stn_exec.specs.Effect.{Reply, said, declined, rehearsed, Effect, and_then}
-use Rattle.stn_exec.specs.Dispatch.{IsRehearseText, IsRefusedRehearsal}
-use Rattle.stn_records.specs.Content.{Content}
-use Rattle.std.specs.Bool.{Decides}
+use Rattle.stn_command.specs.Words.{and_then}
+use Rattle.stn_exec.specs.Effect.{Reply, Effect}
 use Rattle.stn_exec.specs.Command.{Command, command_of}
-use Rattle.stn_lift.specs.PlanSource.{PlanSource, events_of}
+use Rattle.stn_lift.specs.PlanSource.{events_of}
 use Rattle.stn_records.specs.Id.{IsSite}
 use Rattle.stn_world.specs.declared.faults.SitesFault.{SitesFault}
 use Rattle.stn_world.specs.declared.faults.SitesFault.TheVariants as sites_fault
 use Rattle.stn_world.specs.Failures.{sites_failure}
 use Rattle.stn_world.specs.Faults.{IsSitesFault}
 use Rattle.stn_world.specs.World.{World, opening_world}
-use Rattle.stn_exec.specs.declared.answer.Answer.{Answer}
-use Rattle.stn_exec.specs.Answer.{answer_text}
 use Rattle.stn_exec.specs.Output.{IsReplyText, IsOutput, CountsRefusals, WritesOutput, WritesOutputPart}
 use Rattle.stn_exec.specs.Running.{IsReplied}
-use Rattle.stn_exec.specs.Saying.{IsEffect, Declines}
-use Rattle.stn_exec.proofs.Outputs.{counts_join, one_refusal}
+use Rattle.stn_exec.specs.Saying.{IsDone}
+use Rattle.stn_exec.proofs.Outputs.{not_both, counts_join, one_refusal}
 use Rattle.stn_exec.specs.Script.{Outcome, nothing_run, followed_by, form_effect, is_skipped, line_effect, effect_outcome, line_outcome, lines_outcome, next_line, Part, part_of, sites_of, Based, Start, based, with_sites, heading_of, started, last_line, script_outcome}
 
 -- an empty text has no lines
@@ -206,36 +202,23 @@ opened_outcome script start world number lines read opening at behind =
     ∙ script_outcome-is script (Ok start) (sym read)))
 
 -- an answer that was appended
-pub said_replied : (world : World) (old new : List ℕ) (answer : Answer) (effect : Effect) → record { world = world; reply = said answer } ≡ effect
-    → new ≡ old ++ answer_text answer → IsReplied world old new effect false
-said_replied world old new answer effect same appended =
-    subst (λ (given : Effect). IsReplied world old new given false) same
-    (record { text = answer_text answer; left = refl; printed = refl; appended = appended; answered = (λ yes. absurd (false≢true yes), λ no. absurd no) })
+pub done_replied : (world : World) (old new : List ℕ) (effect : Effect) → IsDone world old new effect (Ok tt) → IsReplied world old new effect false
+done_replied world old new effect is = record {
+  text = is.1.0;
+  left = is.0;
+  printed = inl is.1.1;
+  appended = is.1.2;
+  answered = (λ yes. absurd (false≢true yes), λ refusal. absurd (not_both effect.reply is.1.0 refusal.0 is.1.1 refusal.1));
+}
 
 -- a refusal that was appended
-pub declined_replied : (world : World) (old new : List ℕ) (refusal : Refusal) (effect : Effect) → record { world = world; reply = declined (Refused refusal) } ≡ effect
-    → new ≡ old ++ refusal_text refusal → IsReplied world old new effect true
-declined_replied world old new refusal effect same appended =
-    subst (λ (given : Effect). IsReplied world old new given true) same
-    (record { text = refusal_text refusal; left = refl; printed = refl; appended = appended; answered = (λ _. tt, λ _. refl) })
-
--- why a call was declined was appended, or memory ran out
-pub declined_said : {E : Type 0} (result : Result Bool E) (failure : Failure) (world : World) (old new : List ℕ) (effect : Effect) → Declines failure old new result
-    → IsEffect (Err failure) world effect → IfOk result (IsReplied world old new effect)
-declined_said result failure world old new effect declines (inr same) = declines world effect same
-declined_said result failure world old new effect declines (inl lack) =
-    unsaid result (declines world (record { world = world; reply = declined out_of_memory }) (ap (λ (cause : Failure). record { world = world; reply = declined cause }) lack))
-  where
-    unsaid : {E : Type 0} (given : Result Bool E) → IfOk given (IsReplied world old new (record { world = world; reply = declined out_of_memory }))
-        → IfOk given (IsReplied world old new effect)
-    unsaid (Ok refused) is = absurd (is.printed)
-    unsaid (Err fault) is = tt
-
--- a rehearsal that was appended
-pub rehearsal_replied : {E : Type 0} (result : Result Bool E) (world : World) (old new : List ℕ) (source : PlanSource) (state : Content) (now : ℤ) (effect : Effect)
-    → record { world = world; reply = rehearsed source state now } ≡ effect
-    → OnOk result ((text : List ℕ) × IsRehearseText source state now text × (new ≡ old ++ text)) → IfOk result (λ refused. Decides refused (IsRefusedRehearsal source state now))
-    → IfOk result (IsReplied world old new effect)
-rehearsal_replied (Ok refused) world old new source state now effect same is decides =
-    subst (λ (given : Effect). IsReplied world old new given refused) same (record { text = is.0; left = refl; printed = is.1; appended = is.2; answered = decides })
-rehearsal_replied (Err fault) world old new source state now effect same is decides = tt
+pub refused_replied : (world : World) (old kept new : List ℕ) (effect : Effect) (refusal : Refusal) → IsDone world old kept effect (Err (Refused refusal))
+    → new ≡ kept ++ refusal_text refusal → IsReplied world old new effect true
+refused_replied world old kept new effect refusal (inl lack) appended = absurd (cc)
+refused_replied world old kept new effect refusal (inr is) appended = record {
+  text = refusal_text refusal;
+  left = is.0;
+  printed = inr (Refused refusal, is.1, refl);
+  appended = appended ∙ ap (λ (l : List ℕ). l ++ refusal_text refusal) is.2;
+  answered = (λ _. (Refused refusal, is.1), λ _. refl);
+}

@@ -1,86 +1,84 @@
 -- The commands that lines are.
-use Rattle.std.specs.Prelude.{ℕ, ◌+◌, ◌==◌, Bool, ◌&&◌, ◌||◌, nat_le, if◌then◌else◌, List, [], ◌∷◌, length, codes, find, Option, Some, None, is_some, option_and_then}
-use Rattle.std.specs.List.{range_with_len, list_all, filter_map, before_first, after_first}
+use Rattle.std.specs.Prelude.{ℕ, ◌==◌, Bool, ◌||◌, if◌then◌else◌, List, [], ◌∷◌, length, codes, Option, Some, None, is_some, option_and_then}
+use Rattle.std.specs.List.{list_all, filter_map}
 use Rattle.std.specs.Option.{option_map}
 use Rattle.std.specs.Str.{bytes_eq}
-use Rattle.std.specs.Str.Parse.{digits_value}
-use Rattle.stn_net.specs.Event.{most_events, event_text}
-use Rattle.stn_records.specs.Id.{most_sites, most_counter, SiteCounter, id_text}
+use Rattle.stn_records.specs.Id.{SiteCounter}
 use Rattle.stn_questions.specs.declared.asked.Question.{Question}
 use Rattle.stn_questions.specs.declared.asked.Question.TheVariants.{Records, Steps, Bounds, Why}
 use Rattle.stn_text.specs.Numbers.{number_of}
+use Rattle.stn_command.specs.Words.{event_of, id_of}
 
--- what a command does: it adds the bound of two events and two sides, records the time at which an event was executed, amends a record by
--- such a bound, withdraws a record, merges another site, sends all that the site holds or some of its records and withdrawn ids, takes in a
--- packet, prints the report, checks times, asks what comes next from a time on, rehearses the rest of the plan from a time on, asks which
--- events may run from a time on, or asks another question of the plan; sides and times are words
+-- the bound of two events and two sides, which are words
+pub record BoundWords : Type 0 where
+  pub from : ℕ
+  pub to : ℕ
+  pub lo : List ℕ
+  pub hi : List ℕ
+
+-- a change of what a site holds, whose sides and time are words
+pub data ChangeWords : Type 0 where
+  add : (bound : BoundWords) → ChangeWords
+  amend : (old : SiteCounter) (bound : BoundWords) → ChangeWords
+  withdraw : (id : SiteCounter) → ChangeWords
+  done : (event : ℕ) (time : List ℕ) → ChangeWords
+
+-- a query of a site, whose times are words
+pub data QueryWords : Type 0 where
+  report : QueryWords
+  check : (times : List (List ℕ)) → QueryWords
+  next : (now : List ℕ) → QueryWords
+  rehearse : (now : List ℕ) → QueryWords
+  ready : (now : List ℕ) → QueryWords
+  ask : (question : Question) → QueryWords
+
+-- what a command does: it changes what the site holds, merges another site, sends all that the site holds or some of its records and
+-- withdrawn ids, takes in a packet, or asks the site
 pub data Action : Type 0 where
-  add : (from to : ℕ) (lo hi : List ℕ) → Action
-  done : (event : ℕ) (time : List ℕ) → Action
-  amend : (old : SiteCounter) (from to : ℕ) (lo hi : List ℕ) → Action
-  withdraw : (id : SiteCounter) → Action
+  change : (words : ChangeWords) → Action
   merge : (other : ℕ) → Action
   send_all : Action
   send : (records tombstones : List SiteCounter) → Action
   deliver : (packet : ℕ) → Action
-  report : Action
-  check : (times : List (List ℕ)) → Action
-  next : (now : List ℕ) → Action
-  rehearse : (now : List ℕ) → Action
-  ready : (now : List ℕ) → Action
-  ask : (question : Question) → Action
+  query : (words : QueryWords) → Action
 
 -- a command of one site
 pub record Command : Type 0 where
   pub site : ℕ
   pub action : Action
 
--- the event below a number that is printed so
-unfoldable pub event_below : ℕ → List ℕ → Option ℕ
-event_below count word = find (λ event. bytes_eq word (event_text event)) (range_with_len 0 count)
+-- the word that stands alone
+abbrev pub lone_word : List (List ℕ) → Option (List ℕ)
+lone_word (word ∷ []) = Some word
+lone_word other = None
 
--- the event that is printed so
-abbrev pub event_of : List ℕ → Option ℕ
-event_of word = event_below (most_events + 1) word
-
--- the numbers that stand before the first dot of a word and after it, as a site and a counter
-abbrev pub around_dot : List ℕ → SiteCounter
-around_dot word = record { site = digits_value 10 (before_first (λ byte. byte == 46) word); counter = digits_value 10 (after_first (λ byte. byte == 46) word) }
-
--- both numbers lie in their ranges
-abbrev pub is_id : SiteCounter → Bool
-is_id id = nat_le 1 id.site && (nat_le id.site most_sites && (nat_le 1 id.counter && nat_le id.counter most_counter))
-
--- the id that is printed so
-unfoldable pub id_of : List ℕ → Option SiteCounter
-id_of word = if is_id (around_dot word) && bytes_eq word (id_text (around_dot word)) then Some (around_dot word) else None
+-- the form `<event> <event> <bound> <bound>`
+abbrev pub bound_words : List (List ℕ) → Option BoundWords
+bound_words (from ∷ (to ∷ (lo ∷ (hi ∷ [])))) =
+    option_and_then (λ first. option_map (λ second. record { from = first; to = second; lo = lo; hi = hi }) (event_of to)) (event_of from)
+bound_words other = None
 
 -- the form `add <event> <event> <bound> <bound>`, after its name
 abbrev pub add_of : List (List ℕ) → Option Action
-add_of (from ∷ (to ∷ (lo ∷ (hi ∷ [])))) =
-    option_and_then (λ first. option_map (λ second. add first second lo hi) (event_of to)) (event_of from)
-add_of other = None
-
--- the form `done <event> <t>`
-abbrev pub done_of : List (List ℕ) → Option Action
-done_of (event ∷ (time ∷ [])) = option_map (λ which. done which time) (event_of event)
-done_of other = None
+add_of words = option_map (λ bound. change (add bound)) (bound_words words)
 
 -- the form `amend <id> <event> <event> <bound> <bound>`
 abbrev pub amend_of : List (List ℕ) → Option Action
-amend_of (word ∷ (from ∷ (to ∷ (lo ∷ (hi ∷ []))))) =
-    option_and_then (λ old. option_and_then (λ first. option_map (λ second. amend old first second lo hi) (event_of to)) (event_of from)) (id_of word)
-amend_of other = None
+amend_of [] = None
+amend_of (word ∷ words) = option_and_then (λ old. option_map (λ bound. change (amend old bound)) (bound_words words)) (id_of word)
 
 -- the form `withdraw <id>`
 abbrev pub withdraw_of : List (List ℕ) → Option Action
-withdraw_of (word ∷ []) = option_map withdraw (id_of word)
-withdraw_of other = None
+withdraw_of words = option_map (λ id. change (withdraw id)) (option_and_then id_of (lone_word words))
+
+-- the form `done <event> <t>`
+abbrev pub done_of : List (List ℕ) → Option Action
+done_of (event ∷ (time ∷ [])) = option_map (λ which. change (done which time)) (event_of event)
+done_of other = None
 
 -- the form `merge <site>`
 abbrev pub merge_of : List (List ℕ) → Option Action
-merge_of (word ∷ []) = option_map merge (number_of word)
-merge_of other = None
+merge_of words = option_map merge (option_and_then number_of (lone_word words))
 
 -- the withdrawn id that is printed after `-`
 abbrev pub tombstone_of : List ℕ → Option SiteCounter
@@ -102,27 +100,32 @@ send_of (word ∷ words) = if list_all is_item (word ∷ words) then Some (send_
 
 -- the form `deliver <packet>`
 abbrev pub deliver_of : List (List ℕ) → Option Action
-deliver_of (word ∷ []) = option_map deliver (number_of word)
-deliver_of other = None
+deliver_of words = option_map deliver (option_and_then number_of (lone_word words))
 
 -- the form `report`
 abbrev pub report_of : List (List ℕ) → Option Action
-report_of [] = Some report
+report_of [] = Some (query report)
 report_of other = None
 
 -- the form `check <t> ..`, after its name: one time for each event
 abbrev pub check_of : ℕ → List (List ℕ) → Option Action
-check_of events times = if length times == events then Some (check times) else None
+check_of events times = if length times == events then Some (query (check times)) else None
 
 -- the form `next <t>`
 abbrev pub next_of : List (List ℕ) → Option Action
-next_of (now ∷ []) = Some (next now)
-next_of other = None
+next_of words = option_map (λ now. query (next now)) (lone_word words)
 
 -- the form `rehearse <t>`
 abbrev pub rehearse_of : List (List ℕ) → Option Action
-rehearse_of (now ∷ []) = Some (rehearse now)
-rehearse_of other = None
+rehearse_of words = option_map (λ now. query (rehearse now)) (lone_word words)
+
+-- the form `ready <t>`
+abbrev pub ready_of : List (List ℕ) → Option Action
+ready_of words = option_map (λ now. query (ready now)) (lone_word words)
+
+-- the form `why <event>`
+abbrev pub why_of : List (List ℕ) → Option Action
+why_of words = option_map (λ event. query (ask (Why event))) (option_and_then event_of (lone_word words))
 
 -- the question that a name asks alone
 abbrev pub lone_question : List ℕ → Option Question
@@ -133,39 +136,29 @@ lone_question name =
 
 -- the forms `records`, `steps` and `bounds`
 abbrev pub alone_of : List ℕ → List (List ℕ) → Option Action
-alone_of name [] = option_map ask (lone_question name)
+alone_of name [] = option_map (λ question. query (ask question)) (lone_question name)
 alone_of name other = None
 
--- the form `ready <t>`
-abbrev pub ready_of : List (List ℕ) → Option Action
-ready_of (now ∷ []) = Some (ready now)
-ready_of other = None
-
--- the form `why <event>`
-abbrev pub why_of : List (List ℕ) → Option Action
-why_of (word ∷ []) = option_map (λ event. ask (Why event)) (event_of word)
-why_of other = None
-
--- the forms of questions by their names
-abbrev pub question_of : List ℕ → List (List ℕ) → Option Action
-question_of name words =
-    if bytes_eq name (codes "ready") then ready_of words else
-    (if bytes_eq name (codes "why") then why_of words else alone_of name words)
+-- the forms of queries by their names
+abbrev pub query_of : ℕ → List ℕ → List (List ℕ) → Option Action
+query_of events name words =
+    if bytes_eq name (codes "report") then report_of words else
+    (if bytes_eq name (codes "check") then check_of events words else
+    (if bytes_eq name (codes "next") then next_of words else
+    (if bytes_eq name (codes "rehearse") then rehearse_of words else
+    (if bytes_eq name (codes "ready") then ready_of words else
+    (if bytes_eq name (codes "why") then why_of words else alone_of name words)))))
 
 -- the forms by their names
 abbrev pub action_of : ℕ → List ℕ → List (List ℕ) → Option Action
 action_of events name words =
     if bytes_eq name (codes "add") then add_of words else
-    (if bytes_eq name (codes "done") then done_of words else
     (if bytes_eq name (codes "amend") then amend_of words else
     (if bytes_eq name (codes "withdraw") then withdraw_of words else
+    (if bytes_eq name (codes "done") then done_of words else
     (if bytes_eq name (codes "merge") then merge_of words else
     (if bytes_eq name (codes "send") then send_of words else
-    (if bytes_eq name (codes "deliver") then deliver_of words else
-    (if bytes_eq name (codes "report") then report_of words else
-    (if bytes_eq name (codes "check") then check_of events words else
-    (if bytes_eq name (codes "next") then next_of words else
-    (if bytes_eq name (codes "rehearse") then rehearse_of words else question_of name words))))))))))
+    (if bytes_eq name (codes "deliver") then deliver_of words else query_of events name words))))))
 
 -- a site's command
 abbrev pub sites_command : ℕ → Action → Command

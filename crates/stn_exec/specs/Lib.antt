@@ -1,7 +1,6 @@
 pub mod Answer
 pub mod Failures
 pub mod Command
-pub mod Dispatch
 pub mod Effect
 pub mod Blocks
 pub mod Saying

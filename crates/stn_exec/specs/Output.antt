@@ -1,32 +1,39 @@
 -- The output that replies are, and how many of them are refusals.
-use Rattle.std.specs.Prelude.{◌≡◌, ℕ, ◌+◌, Bool, if◌then◌else◌, List, [], ◌∷◌, ◌++◌, Option, ⊤}
+use Rattle.std.specs.Prelude.{◌≡◌, ◌⊎◌, ℕ, ◌+◌, Bool, if◌then◌else◌, List, [], ◌∷◌, ◌++◌, Option, Some, None}
 use Rattle.std.specs.Bool.{Decides}
 use Rattle.std.specs.Io.KnownBytes.{Appends}
+use Rattle.stn_refusal.specs.declared.failure.Failure.{Failure}
 use Rattle.stn_refusal.specs.declared.failure.Failure.TheVariants.{Refused, Failed}
 use Rattle.stn_refusal.specs.Printed.{refusal_text}
-use Rattle.stn_site.specs.Report.{IsReport}
-use Rattle.stn_questions.specs.Answer.{IsAnswer}
-use Rattle.stn_questions.specs.Ready.{IsReadyText}
+use Rattle.stn_site.specs.Held.{holding_state}
+use Rattle.stn_command.specs.Query.{IsSaid, IsQueryRefusal}
 use Rattle.stn_exec.specs.Answer.{answer_text}
-use Rattle.stn_exec.specs.Dispatch.{IsNextText, IsRehearseText, IsRefusedRehearsal}
-use Rattle.stn_exec.specs.Effect.{Reply, said, declined, reported, foreseen, rehearsed, readied, told}
+use Rattle.stn_exec.specs.Effect.{Reply, said, declined, told}
 
--- the text is printed for the reply; where memory runs out, none is
+-- the text is that of an answer, or is said to a query that nothing refuses
+abbrev pub IsAnswerText : Reply → List ℕ → Type 0
+IsAnswerText (said answer) text = text ≡ answer_text answer
+IsAnswerText (declined cause) text = ⊥
+IsAnswerText (told source state query) text = IsQueryRefusal query (holding_state source state) None × IsSaid query (holding_state source state) text
+
+-- the reply is no answer, for this cause
+abbrev pub Declines : Reply → Failure → Type 0
+Declines (said answer) cause = ⊥
+Declines (declined given) cause = cause ≡ given
+Declines (told source state query) cause = IsQueryRefusal query (holding_state source state) (Some cause)
+
+-- the text is the refusal's; where memory runs out, none is printed
+abbrev pub IsFailureText : Failure → List ℕ → Type 0
+IsFailureText (Refused refusal) text = text ≡ refusal_text refusal
+IsFailureText (Failed fault) text = ⊥
+
+-- the text is printed for the reply
 abbrev pub IsReplyText : Reply → List ℕ → Type 0
-IsReplyText (said answer) text = text ≡ answer_text answer
-IsReplyText (declined (Refused refusal)) text = text ≡ refusal_text refusal
-IsReplyText (declined (Failed fault)) text = ⊥
-IsReplyText (reported source state) text = IsReport source state text
-IsReplyText (foreseen source state now) text = IsNextText source state now text
-IsReplyText (rehearsed source state now) text = IsRehearseText source state now text
-IsReplyText (readied source state now) text = IsReadyText source state now text
-IsReplyText (told source state question) text = IsAnswer source state question text
+IsReplyText reply text = IsAnswerText reply text ⊎ ((cause : Failure) × Declines reply cause × IsFailureText cause text)
 
 -- the reply is a refusal
 abbrev pub IsRefusal : Reply → Type 0
-IsRefusal (declined cause) = ⊤
-IsRefusal (rehearsed source state now) = IsRefusedRehearsal source state now
-IsRefusal other = ⊥
+IsRefusal reply = (cause : Failure) × Declines reply cause
 
 -- so many of the replies are refusals
 abbrev pub CountsRefusals : List Reply → ℕ → Type 0

@@ -6,8 +6,9 @@ use Rattle.stn_time.specs.TimeOf.{time_of}
 use Rattle.stn_world.specs.World.{World, HasSite, opening_world}
 use Rattle.stn_world.specs.Steps.{Step, run}
 use Rattle.stn_questions.specs.declared.asked.Question.{Question}
-use Rattle.stn_exec.specs.Command.{report, ready, ask, sites_command, command_of}
-use Rattle.stn_exec.specs.Effect.{is_of_no_event, step_of}
+use Rattle.stn_questions.specs.Answer.{AsksOfNoEvent}
+use Rattle.stn_exec.specs.Command.{query, report, ready, ask, sites_command, command_of}
+use Rattle.stn_exec.specs.Effect.{step_of}
 use Rattle.stn_exec.specs.Script.{Start, is_skipped, heading_of, last_line, line_outcome, lines_outcome}
 use Rattle.stn_exec.specs.Output.{IsOutput}
 
@@ -47,21 +48,21 @@ world_at at = (lines_outcome at.start.number (first_world at) at.before).world
 -- the line is a site's command `report`, and the site is there
 pub record ReportsSite {script : List ℕ} (at : LineOf script) (site : ℕ) : Type 0 where
   pub kept : is_skipped (words_of at.line) ≡ false
-  pub command : command_of (events_of at.start.source) (words_of at.line) ≡ Some (sites_command site report)
+  pub command : command_of (events_of at.start.source) (words_of at.line) ≡ Some (sites_command site (query report))
   pub there : HasSite (first_world at) site
 
 -- the line is a site's question, which is about no event that the plan has not; and the site is there
 pub record AsksSite {script : List ℕ} (at : LineOf script) (site : ℕ) (question : Question) : Type 0 where
   pub kept : is_skipped (words_of at.line) ≡ false
-  pub command : command_of (events_of at.start.source) (words_of at.line) ≡ Some (sites_command site (ask question))
-  pub event : is_of_no_event at.start.source question ≡ false
+  pub command : command_of (events_of at.start.source) (words_of at.line) ≡ Some (sites_command site (query (ask question)))
+  pub event : ¬ AsksOfNoEvent at.start.source question
   pub there : HasSite (first_world at) site
 
 -- the line is a site's command `ready` from a time on, which can be read; and the site is there
 pub record AsksReady {script : List ℕ} (at : LineOf script) (site : ℕ) (now : ℤ) : Type 0 where
   pub kept : is_skipped (words_of at.line) ≡ false
   pub word : List ℕ
-  pub command : command_of (events_of at.start.source) (words_of at.line) ≡ Some (sites_command site (ready word))
+  pub command : command_of (events_of at.start.source) (words_of at.line) ≡ Some (sites_command site (query (ready word)))
   pub time : time_of word ≡ Ok now
   pub there : HasSite (first_world at) site
 

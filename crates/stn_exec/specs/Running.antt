@@ -1,45 +1,57 @@
 -- For proofs alone: no public clause cites these words.
 -- What the code has read of a line, and what running it leaves.
-use Rattle.std.specs.Prelude.{◌≡◌, ℕ, ◌+◌, ◌-◌, ◌^◌, min, Bool, List, ◌++◌, length, Option, Result, Ok, Err}
+use Rattle.std.specs.Prelude.{◌≡◌, ℕ, ◌+◌, ◌-◌, ◌^◌, min, Bool, List, ◌++◌, Option, Result, Ok, Err}
 use Rattle.std.specs.Bool.{Decides}
 use Rattle.stn_text.specs.Lines.{words_of}
 use Rattle.stn_world.specs.World.{World}
 use Rattle.stn_exec.specs.declared.command.Command.{Command as CommandOfLine}
 use Rattle.stn_exec.specs.declared.command.Action.{Action as ActionOfLine}
 use Rattle.stn_exec.specs.declared.command.Action.TheVariants as line
+use Rattle.stn_exec.specs.declared.command.BoundWords.{BoundWords as BoundOfLine}
+use Rattle.stn_exec.specs.declared.command.ChangeWords.{ChangeWords as ChangeOfLine}
+use Rattle.stn_exec.specs.declared.command.ChangeWords.TheVariants as changing
+use Rattle.stn_exec.specs.declared.command.QueryWords.{QueryWords as QueryOfLine}
+use Rattle.stn_exec.specs.declared.command.QueryWords.TheVariants as asking
 use Rattle.stn_exec.specs.declared.script.Ran.{Ran}
 use Rattle.stn_exec.specs.declared.script.RunFault.{RunFault}
 use Rattle.stn_exec.specs.declared.script.RunFault.TheVariants.{Write, Memory}
-use Rattle.stn_exec.specs.Command.{Action, add, done, amend, withdraw, merge, send_all, send_items, deliver, report, check, next, rehearse, ready, ask, Command, sites_command}
+use Rattle.stn_exec.specs.Command.{BoundWords, ChangeWords, add, amend, withdraw, done, QueryWords, report, check, next, rehearse, ready, ask, Action, change, merge, send_all, send_items, deliver, query, Command, sites_command}
 use Rattle.stn_exec.specs.Effect.{Effect}
 use Rattle.stn_exec.specs.Script.{Outcome}
 use Rattle.stn_exec.specs.Output.{IsReplyText, IsRefusal, CountsRefusals, WritesOutput, WritesOutputPart}
 
--- the action that the code has read from a line
+-- the bound that the code has read from a line
+abbrev pub seen_bound : BoundOfLine → BoundWords
+seen_bound bound = record { from = bound.from; to = bound.to; lo = bound.lo.now; hi = bound.hi.now }
+
+-- the change
+abbrev pub seen_change : ChangeOfLine → ChangeWords
+seen_change (changing.Add bound) = add (seen_bound bound)
+seen_change (changing.Amend old bound) = amend old (seen_bound bound)
+seen_change (changing.Withdraw id) = withdraw id
+seen_change (changing.Done event time) = done event time.now
+
+-- the query
+abbrev pub seen_query : QueryOfLine → QueryWords
+seen_query asking.Report = report
+seen_query (asking.Check times) = check (words_of times.now)
+seen_query (asking.Next now) = next now.now
+seen_query (asking.Rehearse now) = rehearse now.now
+seen_query (asking.Ready now) = ready now.now
+seen_query (asking.Ask question) = ask question
+
+-- the action
 abbrev pub seen_action : ActionOfLine → Action
-seen_action (line.Add from to lo hi) = add from to lo.now hi.now
-seen_action (line.Done event time) = done event time.now
-seen_action (line.Amend old from to lo hi) = amend old from to lo.now hi.now
-seen_action (line.Withdraw id) = withdraw id
+seen_action (line.Change words) = change (seen_change words)
 seen_action (line.Merge other) = merge other
 seen_action line.SendAll = send_all
 seen_action (line.Send items) = send_items (words_of items.now)
 seen_action (line.Deliver packet) = deliver packet
-seen_action line.Report = report
-seen_action (line.Check times) = check (words_of times.now)
-seen_action (line.Next now) = next now.now
-seen_action (line.Rehearse now) = rehearse now.now
-seen_action (line.Ready now) = ready now.now
-seen_action (line.Ask question) = ask question
+seen_action (line.Query words) = query (seen_query words)
 
 -- the command that the code has read from a line
 abbrev pub seen_command : CommandOfLine → Command
 seen_command command = sites_command command.site (seen_action command.action)
-
--- a check has one time for each event
-abbrev pub IsForEvents : ℕ → Action → Type 0
-IsForEvents events (check times) = length times ≡ events
-IsForEvents events other = Unit {0}
 
 -- the effect's world is left, its reply's text was appended, and the answer says whether it is a refusal
 pub record IsReplied (world : World) (old new : List ℕ) (effect : Effect) (refused : Bool) : Type 0 where

@@ -11,7 +11,8 @@ use Rattle.stn_records.specs.Id.{most_sites}
 use Rattle.stn_text.specs.Lines.{is_line_end, lines_of, words_of}
 use Rattle.stn_text.specs.Numbers.{number_of}
 use Rattle.stn_world.specs.World.{World, opening_world}
-use Rattle.stn_exec.specs.Effect.{Reply, declined, Effect, refusing, and_then, command_effect}
+use Rattle.stn_command.specs.Words.{and_then}
+use Rattle.stn_exec.specs.Effect.{Reply, declined, Effect, refusing, command_effect}
 use Rattle.stn_exec.specs.Command.{Command, command_of}
 use Rattle.stn_exec.specs.Blocks.{Block, is_alone, block_from}
 

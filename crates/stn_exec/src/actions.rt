@@ -1,81 +1,63 @@
-ghost use Rattle.std.specs.Prelude.{◌≡◌, ℕ, ◌+◌, Ok, Err, length, pos, neg_ℤ, IfOk, IfErr};
-ghost use Rattle.stn_time.specs.Time.{horizon};
-ghost use Rattle.stn_time.specs.TimeOf.{time_of};
-ghost use Rattle.stn_net.specs.Schedule.{times_of};
-ghost use Rattle.stn_lift.specs.PlanSource.{events_of};
+ghost use Rattle.std.specs.Prelude.{◌≡◌, Ok, IfOk};
 ghost use Rattle.stn_text.specs.Lines.{words_of};
-ghost use Rattle.stn_exec.specs.Command.{add, done, amend, withdraw, merge, send_all, send, send_items, deliver};
-ghost use Rattle.stn_exec.specs.Effect.{refusing_time, side_of, difference_read, action_effect, check_reply, times_answer, times_from};
-ghost use Rattle.stn_exec.specs.Saying.{IsReply, IsEffect};
+ghost use Rattle.stn_world.specs.World.{HasSite, content_at, next_id_at};
+ghost use Rattle.stn_world.specs.Steps.{IsStep};
+ghost use Rattle.stn_command.specs.Change.{made_by};
+ghost use Rattle.stn_command.specs.Query.{seen_query as asked_of};
+ghost use Rattle.stn_exec.specs.Command.{change, merge, send_all, send, send_items, deliver, query};
+ghost use Rattle.stn_exec.specs.Effect.{change_step, telling, action_effect};
+ghost use Rattle.stn_exec.specs.Running.{seen_change, seen_query};
+ghost use Rattle.stn_exec.specs.Saying.{IsEffect, IsDone};
 
 use crate::answer::Answer;
-use crate::command::{read_records, read_tombstones};
+use crate::command::{ChangeWords, QueryWords, read_records, read_tombstones};
+use crate::reading::{read_change, read_times};
 use std::alloc::Allocator;
-use stn_net::Event;
+use stn_command::{Change, Made, Query, append_said, read_time};
 use stn_records::Id;
 use stn_refusal::Failure;
-use stn_site::SitePlan;
-use stn_text::first_word;
-use stn_time::{HORIZON, Ms};
-use stn_world::World;
+use stn_replica::Replica;
+use stn_world::{World, WorldFault};
 
-/// Adds at a site the bound of these events and sides, which are words of a line.
-pub fn add<A: Allocator + Copy>(
+/// Changes what a site holds, as words of a line ask for.
+pub fn change<A: Allocator + Copy>(
     world: &mut World<A>,
     site: u32,
-    from: Event,
-    to: Event,
-    lo: &[u8],
-    hi: &[u8],
+    words: &ChangeWords<'_>,
 ) -> Result<Answer, Failure>
-    ensures { IsEffect result world.new (action_effect world.old site (add from to lo.now hi.now)) }
+    ensures { IsEffect result world.new (action_effect world.old site (change (seen_change words.now))) }
 {
-    let (low, high) = read_sides(lo, hi)?;
-    let id = world.add(site, from, to, low, high)?;
-    Ok(Answer::Added(id))
+    let asked = read_change(words)?;
+    let made = change_at(world, site, &asked)?;
+    Ok(Answer::Changed(made))
 }
 
-/// Records at a site the time at which an event was executed, which is a word of a line.
-pub fn done<A: Allocator + Copy>(
+fn change_at<A: Allocator + Copy>(
     world: &mut World<A>,
     site: u32,
-    event: Event,
-    time: &[u8],
-) -> Result<Answer, Failure>
-    ensures { IsEffect result world.new (action_effect world.old site (done event time.now)) }
+    asked: &Change,
+) -> Result<Made, WorldFault>
+    ensures made { IfOk result (λ made. made ≡ made_by asked.now (next_id_at world.old site)) }
+    ensures step { IsStep world.old (change_step site asked.now) result world.new }
 {
-    let time = read_time(time)?;
-    let id = world.done(site, event, time)?;
-    Ok(Answer::Added(id))
-}
-
-/// Amends a record at a site by the bound of these events and sides, which are words of a line.
-pub fn amend<A: Allocator + Copy>(
-    world: &mut World<A>,
-    site: u32,
-    old: Id,
-    from: Event,
-    to: Event,
-    lo: &[u8],
-    hi: &[u8],
-) -> Result<Answer, Failure>
-    ensures { IsEffect result world.new (action_effect world.old site (amend old from to lo.now hi.now)) }
-{
-    let (low, high) = read_sides(lo, hi)?;
-    let id = world.amend(site, old, from, to, low, high)?;
-    Ok(Answer::Amended(id))
-}
-
-/// Withdraws a record at a site.
-pub fn withdraw<A: Allocator + Copy>(
-    world: &mut World<A>,
-    site: u32,
-    id: Id,
-) -> Result<Answer, Failure>
-    ensures { IsEffect result world.new (action_effect world.old site (withdraw id)) }
-{
-    world.withdraw(site, id)?;
-    Ok(Answer::Withdrawn(id))
+    match *asked {
+        Change::Add(bound) => {
+            let id = world.add(site, bound.from, bound.to, bound.lo, bound.hi)?;
+            Ok(Made::Added(id))
+        }
+        Change::Amend(old, bound) => {
+            let id = world.amend(site, old, bound.from, bound.to, bound.lo, bound.hi)?;
+            Ok(Made::Amended(id))
+        }
+        Change::Withdraw(id) => {
+            world.withdraw(site, id)?;
+            Ok(Made::Withdrawn(id))
+        }
+        Change::Done(event, time) => {
+            let id = world.done(site, event, time)?;
+            Ok(Made::Added(id))
+        }
+    }
 }
 
 /// Takes in at a site all that another holds.
@@ -137,65 +119,57 @@ pub fn deliver<A: Allocator + Copy>(
     Ok(Answer::Delivered)
 }
 
-/// Checks the times of the events from 1 on, which are the words of a line.
-pub fn check<A: Allocator + Copy>(
+/// Appends what a site that is there says to a query, whose times are words of a line.
+pub fn tell<A: Allocator + Copy>(
     alloc: A,
-    plan: &SitePlan<A>,
-    line: &[u8],
-) -> Result<Answer, Failure>
-    requires { length (words_of line.now) ≡ events_of plan.now.source }
-    ensures { IsReply result (check_reply plan.now.source plan.now.state (times_from (words_of line.now))) }
+    world: &World<A>,
+    site: u32,
+    words: &QueryWords<'_>,
+    out: &mut Vec<u8, A>,
+) -> Result<(), Failure>
+    requires { HasSite world.now site }
+    ensures { IsDone world.now out.old.items out.new.items (action_effect world.now site (query (seen_query words.now))) result }
 {
-    let mut times = Vec::new(alloc);
-    times.push(Ms::new(0).unwrap())?;
-    let mut rest = line;
-    while let Some((word, behind)) = first_word(rest) {
-        let time = read_time(word)?;
-        times.push(time)?;
-        rest = behind;
+    match *words {
+        QueryWords::Report => tell_asked(world, site, &Query::Report, out),
+        QueryWords::Check(line) => {
+            let times = read_times(alloc, line)?;
+            tell_asked(world, site, &Query::Check(&times), out)
+        }
+        QueryWords::Next(now) => {
+            let time = read_time(now)?;
+            tell_asked(world, site, &Query::Next(time), out)
+        }
+        QueryWords::Rehearse(now) => {
+            let time = read_time(now)?;
+            tell_asked(world, site, &Query::Rehearse(time), out)
+        }
+        QueryWords::Ready(now) => {
+            let time = read_time(now)?;
+            tell_asked(world, site, &Query::Ready(time), out)
+        }
+        QueryWords::Ask(question) => tell_asked(world, site, &Query::Ask(question), out),
     }
-    Ok(check_times(plan, &times))
 }
 
-/// Checks the times of all events, the origin's, 0, first.
-pub fn check_times<A: Allocator + Copy>(plan: &SitePlan<A>, times: &[Ms]) -> Answer
-    requires origin { times_of times.now 0 ≡ pos 0 }
-    requires one_each { length times.now ≡ events_of plan.now.source + 1 }
-    ensures { result ≡ times_answer plan.now.source plan.now.state times.now }
+// Appends what a site that is there says to a query.
+fn tell_asked<A: Allocator + Copy>(
+    world: &World<A>,
+    site: u32,
+    asked: &Query<'_>,
+    out: &mut Vec<u8, A>,
+) -> Result<(), Failure>
+    requires { HasSite world.now site }
+    ensures { IsDone world.now out.old.items out.new.items (telling world.now site (Ok (asked_of asked.now))) result }
 {
-    match plan.check(times) {
-        Some(name) => Answer::Broken(name),
-        None => Answer::Schedule,
-    }
+    append_said(replica_at(world, site), asked, out)
 }
 
-// Both sides of a bound, the lower one first, or the first failure.
-fn read_sides(lo: &[u8], hi: &[u8]) -> Result<(Ms, Ms), Failure>
-    ensures low { IfOk result (λ sides. side_of (neg_ℤ horizon) lo.now ≡ Ok sides.0) }
-    ensures high { IfOk result (λ sides. side_of horizon hi.now ≡ Ok sides.1) }
-    ensures refused { IfErr result (λ failure. (from to : ℕ) → difference_read from to lo.now hi.now ≡ Err failure) }
+// The replica of a site that is there.
+fn replica_at<A: Allocator + Copy>(world: &World<A>, site: u32) -> &Replica<A>
+    requires { HasSite world.now site }
+    ensures source { result.now.source ≡ world.now.source }
+    ensures state { result.now.state ≡ content_at world.now site }
 {
-    let low = read_side(lo, Ms::new(-HORIZON).unwrap())?;
-    let high = read_side(hi, Ms::new(HORIZON).unwrap())?;
-    Ok((low, high))
-}
-
-// The side of a bound that a word is: the open one for `*`, else a time.
-fn read_side(word: &[u8], open_side: Ms) -> Result<Ms, Failure>
-    ensures { result ≡ side_of open_side word.now }
-{
-    if word == b"*".as_slice() {
-        return Ok(open_side);
-    }
-    read_time(word)
-}
-
-/// The time that a word spells.
-pub fn read_time(word: &[u8]) -> Result<Ms, Failure>
-    ensures { result ≡ refusing_time (time_of word.now) }
-{
-    match Ms::read(word) {
-        Ok(time) => Ok(time),
-        Err(fault) => Err(Failure::from(fault)),
-    }
+    world.replica(site).unwrap()
 }

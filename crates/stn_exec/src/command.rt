@@ -3,10 +3,12 @@ ghost use Rattle.std.specs.List.{list_all, filter_map};
 ghost use Rattle.std.specs.Option.{option_map};
 ghost use Rattle.std.specs.Str.{bytes_eq};
 ghost use Rattle.stn_text.specs.Lines.{words_of};
-ghost use Rattle.stn_exec.specs.Command.{add, command_of, action_of, add_of, done_of, amend_of, withdraw_of, merge_of, send_of, deliver_of, report_of, check_of, next_of, rehearse_of, alone_of, ready_of, why_of, question_of, event_of, id_of, tombstone_of, is_item};
-ghost use Rattle.stn_exec.specs.Running.{seen_command, seen_action};
+ghost use Rattle.stn_command.specs.Words.{id_of};
+ghost use Rattle.stn_exec.specs.Command.{lone_word, bound_words, command_of, action_of, add_of, done_of, amend_of, withdraw_of, merge_of, send_of, deliver_of, report_of, check_of, next_of, rehearse_of, alone_of, ready_of, why_of, query_of, tombstone_of, is_item};
+ghost use Rattle.stn_exec.specs.Running.{seen_bound, seen_command, seen_action};
 
 use std::alloc::Allocator;
+use stn_command::{read_event, read_id};
 use stn_net::Event;
 use stn_questions::Question;
 use stn_records::Id;
@@ -23,28 +25,8 @@ pub struct Command<'a> {
 /// What a command does.
 #[derive(Clone, Copy)]
 pub enum Action<'a> {
-    /// Adds the bound of two events and two sides.
-    Add {
-        from: Event,
-        to: Event,
-        lo: &'a [u8],
-        hi: &'a [u8],
-    },
-    /// Records the time at which an event was executed.
-    Done {
-        event: Event,
-        time: &'a [u8],
-    },
-    /// Amends the record of this id by the bound of two events and two sides.
-    Amend {
-        old: Id,
-        from: Event,
-        to: Event,
-        lo: &'a [u8],
-        hi: &'a [u8],
-    },
-    /// Withdraws the record of this id.
-    Withdraw(Id),
+    /// Changes what the site holds.
+    Change(ChangeWords<'a>),
     /// Takes in all that the site of this number holds.
     Merge(u32),
     /// Sends all that the site holds.
@@ -54,27 +36,47 @@ pub enum Action<'a> {
     Send(&'a [u8]),
     /// Takes in all that the packet of this number holds.
     Deliver(u32),
-    /// Prints the report.
-    Report,
-    /// Checks the times of all events, which are the words of this part of the line.
-    Check(&'a [u8]),
-    /// Prints what comes next from this time on.
-    Next(&'a [u8]),
-    /// Prints the whole rest of the plan from this time on.
-    Rehearse(&'a [u8]),
-    /// Prints which events may run from this time on.
-    Ready(&'a [u8]),
-    /// Answers a question of the plan.
-    Ask(Question),
+    /// Asks the site.
+    Query(QueryWords<'a>),
 }
 
-// The bound of two events and two sides, which are words of a line.
+/// The bound of two events and two sides, which are words of a line.
 #[derive(Clone, Copy)]
-struct BoundWords<'a> {
-    from: Event,
-    to: Event,
-    lo: &'a [u8],
-    hi: &'a [u8],
+pub struct BoundWords<'a> {
+    pub from: Event,
+    pub to: Event,
+    pub lo: &'a [u8],
+    pub hi: &'a [u8],
+}
+
+/// A change, whose sides and time are words of a line.
+#[derive(Clone, Copy)]
+pub enum ChangeWords<'a> {
+    /// Adds a bound.
+    Add(BoundWords<'a>),
+    /// Adds a bound in place of the record of this id.
+    Amend(Id, BoundWords<'a>),
+    /// Withdraws the record of this id.
+    Withdraw(Id),
+    /// Records the time at which an event was executed.
+    Done(Event, &'a [u8]),
+}
+
+/// A query, whose times are words of a line.
+#[derive(Clone, Copy)]
+pub enum QueryWords<'a> {
+    /// The report.
+    Report,
+    /// Whether the times of all events, which are the words of this part of the line, are a schedule.
+    Check(&'a [u8]),
+    /// What comes next from this time on.
+    Next(&'a [u8]),
+    /// The whole rest of the plan from this time on.
+    Rehearse(&'a [u8]),
+    /// Which events may run from this time on.
+    Ready(&'a [u8]),
+    /// The answer to a question of the plan.
+    Ask(Question),
 }
 
 /// The command that a line is, in a plan of so many events beside the origin, by its first word and
@@ -95,19 +97,27 @@ fn read_action<'a>(events: u16, name: &[u8], rest: &'a [u8]) -> Option<Action<'a
 {
     if is_named(name, b"add") {
         read_add(rest)
-    } else if is_named(name, b"done") {
-        read_done(rest)
     } else if is_named(name, b"amend") {
         read_amend(rest)
     } else if is_named(name, b"withdraw") {
         read_withdraw(rest)
+    } else if is_named(name, b"done") {
+        read_done(rest)
     } else if is_named(name, b"merge") {
         read_merge(rest)
     } else if is_named(name, b"send") {
         read_send(rest)
     } else if is_named(name, b"deliver") {
         read_deliver(rest)
-    } else if is_named(name, b"report") {
+    } else {
+        read_query(events, name, rest)
+    }
+}
+
+fn read_query<'a>(events: u16, name: &[u8], rest: &'a [u8]) -> Option<Action<'a>>
+    ensures { option_map seen_action result ≡ query_of events name.now (words_of rest.now) }
+{
+    if is_named(name, b"report") {
         read_report(rest)
     } else if is_named(name, b"check") {
         read_check(events, rest)
@@ -115,8 +125,12 @@ fn read_action<'a>(events: u16, name: &[u8], rest: &'a [u8]) -> Option<Action<'a
         read_next(rest)
     } else if is_named(name, b"rehearse") {
         read_rehearse(rest)
+    } else if is_named(name, b"ready") {
+        read_ready(rest)
+    } else if is_named(name, b"why") {
+        read_why(rest)
     } else {
-        read_question(name, rest)
+        read_alone(name, rest)
     }
 }
 
@@ -126,34 +140,19 @@ fn is_named(name: &[u8], word: &[u8]) -> bool
     name == word
 }
 
-fn read_question<'a>(name: &[u8], rest: &'a [u8]) -> Option<Action<'a>>
-    ensures { option_map seen_action result ≡ question_of name.now (words_of rest.now) }
+// The word that stands alone.
+fn lone_word(rest: &[u8]) -> Option<&[u8]>
+    ensures { option_map (λ word. word.now) result ≡ lone_word (words_of rest.now) }
 {
-    if is_named(name, b"ready") {
-        read_ready(rest)
-    } else if is_named(name, b"why") {
-        read_why(rest)
-    } else {
-        read_alone(name, rest)
-    }
-}
-
-fn read_add(rest: &[u8]) -> Option<Action<'_>>
-    ensures { option_map seen_action result ≡ add_of (words_of rest.now) }
-{
-    match read_bound(rest) {
-        Some(bound) => Some(Action::Add {
-            from: bound.from,
-            to: bound.to,
-            lo: bound.lo,
-            hi: bound.hi,
-        }),
-        None => None,
+    let (word, behind) = first_word(rest)?;
+    match first_word(behind) {
+        Some(_) => None,
+        None => Some(word),
     }
 }
 
 fn read_bound(rest: &[u8]) -> Option<BoundWords<'_>>
-    ensures { option_map (λ bound. add bound.from bound.to bound.lo.now bound.hi.now) result ≡ add_of (words_of rest.now) }
+    ensures { option_map seen_bound result ≡ bound_words (words_of rest.now) }
 {
     let (first, behind_first) = first_word(rest)?;
     let (second, behind_second) = first_word(behind_first)?;
@@ -167,16 +166,13 @@ fn read_bound(rest: &[u8]) -> Option<BoundWords<'_>>
     Some(BoundWords { from, to, lo, hi })
 }
 
-fn read_done(rest: &[u8]) -> Option<Action<'_>>
-    ensures { option_map seen_action result ≡ done_of (words_of rest.now) }
+fn read_add(rest: &[u8]) -> Option<Action<'_>>
+    ensures { option_map seen_action result ≡ add_of (words_of rest.now) }
 {
-    let (word, behind) = first_word(rest)?;
-    let (time, behind_time) = first_word(behind)?;
-    if first_word(behind_time).is_some() {
-        return None;
+    match read_bound(rest) {
+        Some(bound) => Some(Action::Change(ChangeWords::Add(bound))),
+        None => None,
     }
-    let event = read_event(word)?;
-    Some(Action::Done { event, time })
 }
 
 fn read_amend(rest: &[u8]) -> Option<Action<'_>>
@@ -185,13 +181,7 @@ fn read_amend(rest: &[u8]) -> Option<Action<'_>>
     let (word, behind) = first_word(rest)?;
     let old = read_id(word)?;
     match read_bound(behind) {
-        Some(bound) => Some(Action::Amend {
-            old,
-            from: bound.from,
-            to: bound.to,
-            lo: bound.lo,
-            hi: bound.hi,
-        }),
+        Some(bound) => Some(Action::Change(ChangeWords::Amend(old, bound))),
         None => None,
     }
 }
@@ -199,12 +189,20 @@ fn read_amend(rest: &[u8]) -> Option<Action<'_>>
 fn read_withdraw(rest: &[u8]) -> Option<Action<'_>>
     ensures { option_map seen_action result ≡ withdraw_of (words_of rest.now) }
 {
-    let (word, behind) = first_word(rest)?;
-    if first_word(behind).is_some() {
-        return None;
-    }
+    let word = lone_word(rest)?;
     match read_id(word) {
-        Some(id) => Some(Action::Withdraw(id)),
+        Some(id) => Some(Action::Change(ChangeWords::Withdraw(id))),
+        None => None,
+    }
+}
+
+fn read_done(rest: &[u8]) -> Option<Action<'_>>
+    ensures { option_map seen_action result ≡ done_of (words_of rest.now) }
+{
+    let (word, behind) = first_word(rest)?;
+    let time = lone_word(behind)?;
+    match read_event(word) {
+        Some(event) => Some(Action::Change(ChangeWords::Done(event, time))),
         None => None,
     }
 }
@@ -212,10 +210,7 @@ fn read_withdraw(rest: &[u8]) -> Option<Action<'_>>
 fn read_merge(rest: &[u8]) -> Option<Action<'_>>
     ensures { option_map seen_action result ≡ merge_of (words_of rest.now) }
 {
-    let (word, behind) = first_word(rest)?;
-    if first_word(behind).is_some() {
-        return None;
-    }
+    let word = lone_word(rest)?;
     match read_number(word) {
         Some(other) => Some(Action::Merge(other)),
         None => None,
@@ -290,10 +285,7 @@ pub fn read_tombstones<A: Allocator>(alloc: A, line: &[u8]) -> Result<Vec<Id, A>
 fn read_deliver(rest: &[u8]) -> Option<Action<'_>>
     ensures { option_map seen_action result ≡ deliver_of (words_of rest.now) }
 {
-    let (word, behind) = first_word(rest)?;
-    if first_word(behind).is_some() {
-        return None;
-    }
+    let word = lone_word(rest)?;
     match read_number(word) {
         Some(packet) => Some(Action::Deliver(packet)),
         None => None,
@@ -305,7 +297,7 @@ fn read_report(rest: &[u8]) -> Option<Action<'_>>
 {
     match first_word(rest) {
         Some(_) => None,
-        None => Some(Action::Report),
+        None => Some(Action::Query(QueryWords::Report)),
     }
 }
 
@@ -313,7 +305,7 @@ fn read_check(events: u16, rest: &[u8]) -> Option<Action<'_>>
     ensures { option_map seen_action result ≡ check_of events (words_of rest.now) }
 {
     if count_words(rest) == usize::from(events) {
-        Some(Action::Check(rest))
+        Some(Action::Query(QueryWords::Check(rest)))
     } else {
         None
     }
@@ -322,20 +314,37 @@ fn read_check(events: u16, rest: &[u8]) -> Option<Action<'_>>
 fn read_next(rest: &[u8]) -> Option<Action<'_>>
     ensures { option_map seen_action result ≡ next_of (words_of rest.now) }
 {
-    let (now, behind) = first_word(rest)?;
-    match first_word(behind) {
-        Some(_) => None,
-        None => Some(Action::Next(now)),
+    match lone_word(rest) {
+        Some(now) => Some(Action::Query(QueryWords::Next(now))),
+        None => None,
     }
 }
 
 fn read_rehearse(rest: &[u8]) -> Option<Action<'_>>
     ensures { option_map seen_action result ≡ rehearse_of (words_of rest.now) }
 {
-    let (now, behind) = first_word(rest)?;
-    match first_word(behind) {
-        Some(_) => None,
-        None => Some(Action::Rehearse(now)),
+    match lone_word(rest) {
+        Some(now) => Some(Action::Query(QueryWords::Rehearse(now))),
+        None => None,
+    }
+}
+
+fn read_ready(rest: &[u8]) -> Option<Action<'_>>
+    ensures { option_map seen_action result ≡ ready_of (words_of rest.now) }
+{
+    match lone_word(rest) {
+        Some(now) => Some(Action::Query(QueryWords::Ready(now))),
+        None => None,
+    }
+}
+
+fn read_why(rest: &[u8]) -> Option<Action<'_>>
+    ensures { option_map seen_action result ≡ why_of (words_of rest.now) }
+{
+    let word = lone_word(rest)?;
+    match read_event(word) {
+        Some(event) => Some(Action::Query(QueryWords::Ask(Question::Why(event)))),
+        None => None,
     }
 }
 
@@ -347,36 +356,13 @@ fn read_alone<'a>(name: &[u8], rest: &'a [u8]) -> Option<Action<'a>>
         return None;
     }
     if is_named(name, b"records") {
-        Some(Action::Ask(Question::Records))
+        Some(Action::Query(QueryWords::Ask(Question::Records)))
     } else if is_named(name, b"steps") {
-        Some(Action::Ask(Question::Steps))
+        Some(Action::Query(QueryWords::Ask(Question::Steps)))
     } else if is_named(name, b"bounds") {
-        Some(Action::Ask(Question::Bounds))
+        Some(Action::Query(QueryWords::Ask(Question::Bounds)))
     } else {
         None
-    }
-}
-
-fn read_ready(rest: &[u8]) -> Option<Action<'_>>
-    ensures { option_map seen_action result ≡ ready_of (words_of rest.now) }
-{
-    let (now, behind) = first_word(rest)?;
-    match first_word(behind) {
-        Some(_) => None,
-        None => Some(Action::Ready(now)),
-    }
-}
-
-fn read_why(rest: &[u8]) -> Option<Action<'_>>
-    ensures { option_map seen_action result ≡ why_of (words_of rest.now) }
-{
-    let (word, behind) = first_word(rest)?;
-    if first_word(behind).is_some() {
-        return None;
-    }
-    match read_event(word) {
-        Some(event) => Some(Action::Ask(Question::Why(event))),
-        None => None,
     }
 }
 
@@ -390,20 +376,6 @@ fn count_words(line: &[u8]) -> usize
         rest = behind;
     }
     count
-}
-
-/// The event that a word names.
-pub fn read_event(word: &[u8]) -> Option<Event>
-    ensures { result ≡ event_of word.now }
-{
-    Event::read(word)
-}
-
-/// The id that a word names.
-pub fn read_id(word: &[u8]) -> Option<Id>
-    ensures { result ≡ id_of word.now }
-{
-    Id::read(word)
 }
 
 // A withdrawn id stands after `-`.

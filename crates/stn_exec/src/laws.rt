@@ -11,9 +11,9 @@ ghost use Rattle.stn_exec.specs.Output.{IsOutput, CountsRefusals};
 ghost use Rattle.stn_exec.specs.Script.{Start, heading_of, last_line, script_outcome};
 ghost use Rattle.stn_exec.specs.Reports.{steps_of_lines, LineOf, first_world, steps_before, world_at, ReportsSite, AsksSite, AsksReady, PrintsAt};
 
+use stn_command::one_said;
 use stn_questions::{one_answer, one_ready_text};
 use stn_records::counts_same;
-use stn_site::one_report;
 use stn_world::{sites_are_unions, sites_took_same_same_bytes};
 
 /// The law that a script has one output, and one number of refusals; it does nothing.
@@ -23,9 +23,7 @@ pub fn one_script()
     ensures count { (script : List ℕ) (count other : ℕ)
         → CountsRefusals (script_outcome script).replies count → CountsRefusals (script_outcome script).replies other → count ≡ other }
 {
-    one_report();
-    one_answer();
-    one_ready_text();
+    one_said();
 }
 
 /// The law that the commands of a script are a run of the world's steps, and what its reports say; it

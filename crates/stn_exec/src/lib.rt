@@ -1,8 +1,6 @@
 //! Scripts: a text of commands, run from a reader to a writer.
 #![tactic(auto)]
 
-pub use command::{read_event, read_id};
-pub use dispatch::{append_check, append_next, append_rest};
 pub use laws::{one_script, questions_are_answered, ready_is_answered, scripts_are_runs};
 pub use script::{Ran, RunFault, run};
 pub use stn_device::{Counted, MOST_BYTES};
@@ -11,8 +9,8 @@ pub use stn_world::World;
 mod actions;
 mod answer;
 mod command;
-mod dispatch;
 mod failures;
 mod heading;
 mod laws;
+mod reading;
 mod script;

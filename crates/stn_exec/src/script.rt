@@ -2,31 +2,24 @@ ghost use Rattle.std.specs.Prelude.{◌≡◌, ◌≢◌, ◌+◌, ◌-◌, ◌^
 ghost use Rattle.std.specs.Io.KnownBytes.{Consumes, IsAtEnd, Keeps};
 ghost use Rattle.stn_device.specs.Counted.{counted_device, failure_count, KeepsCount};
 ghost use Rattle.stn_device.specs.Bytes.{most_bytes, ConsumesAtMost};
-ghost use Rattle.stn_lift.specs.PlanSource.{events_of};
 ghost use Rattle.stn_text.specs.Lines.{lines_of, words_of};
 ghost use Rattle.stn_refusal.specs.declared.failure.Failure.TheVariants.{Refused};
-ghost use Rattle.stn_world.specs.World.{HasSite, content_at};
-ghost use Rattle.stn_exec.specs.Command.{report, check, next, rehearse, ready, ask};
+ghost use Rattle.stn_world.specs.World.{HasSite};
 ghost use Rattle.stn_exec.specs.Effect.{action_effect, command_effect};
 ghost use Rattle.stn_exec.specs.Output.{CountsRefusals, WritesOutput, WritesOutputPart};
-ghost use Rattle.stn_exec.specs.Running.{seen_action, seen_command, IsForEvents, IsReplied, IsRun};
-ghost use Rattle.stn_exec.specs.Saying.{Says, Declines};
+ghost use Rattle.stn_exec.specs.Running.{seen_action, seen_command, IsReplied, IsRun};
+ghost use Rattle.stn_exec.specs.Saying.{IsDone, Does};
 ghost use Rattle.stn_exec.specs.Script.{line_effect, line_outcome, lines_outcome, started, script_outcome, last_line};
 ghost use Rattle.stn_exec.specs.declared.script.RunFault.TheVariants.{Read, Write, Bound, Memory};
 
-use crate::actions::{
-    add, amend, check, deliver, done, merge, read_time, send, send_all, withdraw,
-};
+use crate::actions::{change, deliver, merge, send, send_all, tell};
 use crate::answer::Answer;
 use crate::command::{Action, Command, read_command};
-use crate::dispatch::{append_next, append_rehearsal};
 use crate::heading::{open, opening_word};
 use std::alloc::{AllocError, Allocator};
 use std::io::{Read, Write};
 use stn_device::{Counted, MOST_BYTES, ReadFault, WriteFault, read_whole, write_whole};
-use stn_questions::{Question, WhyFault, print_answer, print_ready};
 use stn_refusal::{Code, Failure, Refusal};
-use stn_replica::Replica;
 use stn_text::first_line;
 use stn_time::Memory;
 use stn_world::World;
@@ -143,199 +136,78 @@ fn reply_line<A: Allocator + Copy>(
 ) -> Result<bool, Memory>
     ensures { IfOk result (IsReplied world.new out.old.items out.new.items (line_effect number world.old (word.now ∷ words_of rest.now))) }
 {
-    match read_command(world.base().events(), word, rest) {
-        Some(command) => reply_command(alloc, world, &command, out),
-        None => decline(Failure::refused_at(Code::Line, number), out),
+    match do_line(alloc, world, number, word, rest, out) {
+        Ok(()) => Ok(false),
+        Err(Failure::Refused(refusal)) => {
+            refusal.print(out)?;
+            Ok(true)
+        }
+        Err(Failure::Failed(_)) => Err(AllocError),
     }
 }
 
-// Appends what a command prints. Whether it is refused.
-fn reply_command<A: Allocator + Copy>(
+// Does what a line that is not skipped asks for, and appends what is answered.
+fn do_line<A: Allocator + Copy>(
+    alloc: A,
+    world: &mut World<A>,
+    number: u32,
+    word: &[u8],
+    rest: &[u8],
+    out: &mut Vec<u8, A>,
+) -> Result<(), Failure>
+    ensures { IsDone world.new out.old.items out.new.items (line_effect number world.old (word.now ∷ words_of rest.now)) result }
+{
+    match read_command(world.base().events(), word, rest) {
+        Some(command) => do_command(alloc, world, &command, out),
+        None => Err(Failure::refused_at(Code::Line, number)),
+    }
+}
+
+fn do_command<A: Allocator + Copy>(
     alloc: A,
     world: &mut World<A>,
     command: &Command<'_>,
     out: &mut Vec<u8, A>,
-) -> Result<bool, Memory>
-    requires { IsForEvents (events_of world.old.source) (seen_action command.now.action) }
-    ensures { IfOk result (IsReplied world.new out.old.items out.new.items (command_effect world.old (seen_command command.now))) }
+) -> Result<(), Failure>
+    ensures { IsDone world.new out.old.items out.new.items (command_effect world.old (seen_command command.now)) result }
 {
     if world.replica(command.site).is_none() {
-        return decline(Failure::refused(Code::NoSite), out);
+        return Err(Failure::refused(Code::NoSite));
     }
-    reply_action(alloc, world, command.site, &command.action, out)
+    do_action(alloc, world, command.site, &command.action, out)
 }
 
-// Appends what an action of a site that is there prints. Whether it is refused.
-fn reply_action<A: Allocator + Copy>(
+// Does an action of a site that is there.
+fn do_action<A: Allocator + Copy>(
     alloc: A,
     world: &mut World<A>,
     site: u32,
     action: &Action<'_>,
     out: &mut Vec<u8, A>,
-) -> Result<bool, Memory>
-    requires there { HasSite world.old site }
-    requires fits { IsForEvents (events_of world.old.source) (seen_action action.now) }
-    ensures { IfOk result (IsReplied world.new out.old.items out.new.items (action_effect world.old site (seen_action action.now))) }
+) -> Result<(), Failure>
+    requires { HasSite world.old site }
+    ensures { IsDone world.new out.old.items out.new.items (action_effect world.old site (seen_action action.now)) result }
 {
     match action {
-        Action::Add { from, to, lo, hi } => say_outcome(add(world, site, *from, *to, lo, hi), out),
-        Action::Done { event, time } => say_outcome(done(world, site, *event, time), out),
-        Action::Amend {
-            old,
-            from,
-            to,
-            lo,
-            hi,
-        } => say_outcome(amend(world, site, *old, *from, *to, lo, hi), out),
-        Action::Withdraw(id) => say_outcome(withdraw(world, site, *id), out),
-        Action::Merge(other) => say_outcome(merge(world, site, *other), out),
-        Action::SendAll => say_outcome(send_all(world, site), out),
-        Action::Send(items) => say_outcome(send(alloc, world, site, items), out),
-        Action::Deliver(packet) => say_outcome(deliver(world, site, *packet), out),
-        Action::Report => report_at(world, site, out),
-        Action::Check(times) => check_at(alloc, world, site, times, out),
-        Action::Next(now) => next_at(world, site, now, out),
-        Action::Rehearse(now) => rehearse_at(world, site, now, out),
-        Action::Ready(now) => ready_at(world, site, now, out),
-        Action::Ask(question) => answer_at(world, site, *question, out),
+        Action::Change(words) => print_answer(change(world, site, words), out),
+        Action::Merge(other) => print_answer(merge(world, site, *other), out),
+        Action::SendAll => print_answer(send_all(world, site), out),
+        Action::Send(items) => print_answer(send(alloc, world, site, items), out),
+        Action::Deliver(packet) => print_answer(deliver(world, site, *packet), out),
+        Action::Query(words) => tell(alloc, world, site, words, out),
     }
 }
 
-// The replica of a site that is there.
-fn replica_at<A: Allocator + Copy>(world: &World<A>, site: u32) -> &Replica<A>
-    requires { HasSite world.now site }
-    ensures source { result.now.source ≡ world.now.source }
-    ensures state { result.now.state ≡ content_at world.now site }
-{
-    world.replica(site).unwrap()
-}
-
-// Appends the report of a site.
-fn report_at<A: Allocator + Copy>(
-    world: &World<A>,
-    site: u32,
-    out: &mut Vec<u8, A>,
-) -> Result<bool, Memory>
-    requires { HasSite world.now site }
-    ensures { IfOk result (IsReplied world.now out.old.items out.new.items (action_effect world.now site report)) }
-{
-    replica_at(world, site).report(out)?;
-    Ok(false)
-}
-
-// Appends whether the times of all events, which are the words of a line, are a schedule of a site. Whether it is refused.
-fn check_at<A: Allocator + Copy>(
-    alloc: A,
-    world: &World<A>,
-    site: u32,
-    times: &[u8],
-    out: &mut Vec<u8, A>,
-) -> Result<bool, Memory>
-    requires there { HasSite world.now site }
-    requires fits { length (words_of times.now) ≡ events_of world.now.source }
-    ensures { IfOk result (IsReplied world.now out.old.items out.new.items (action_effect world.now site (check (words_of times.now)))) }
-{
-    say_outcome(check(alloc, replica_at(world, site).plan(), times), out)
-}
-
-// Appends what comes next at a site from a time on, which is a word of a line. Whether it is refused.
-fn next_at<A: Allocator + Copy>(
-    world: &World<A>,
-    site: u32,
-    now: &[u8],
-    out: &mut Vec<u8, A>,
-) -> Result<bool, Memory>
-    requires { HasSite world.now site }
-    ensures { IfOk result (IsReplied world.now out.old.items out.new.items (action_effect world.now site (next now.now))) }
-{
-    match read_time(now) {
-        Ok(time) => {
-            append_next(replica_at(world, site), time, out)?;
-            Ok(false)
-        }
-        Err(failure) => decline(failure, out),
-    }
-}
-
-// Appends the rest of a site's plan from a time on, which is a word of a line. Whether it is refused.
-fn rehearse_at<A: Allocator + Copy>(
-    world: &World<A>,
-    site: u32,
-    now: &[u8],
-    out: &mut Vec<u8, A>,
-) -> Result<bool, Memory>
-    requires { HasSite world.now site }
-    ensures { IfOk result (IsReplied world.now out.old.items out.new.items (action_effect world.now site (rehearse now.now))) }
-{
-    match read_time(now) {
-        Ok(time) => append_rehearsal(replica_at(world, site), time, out),
-        Err(failure) => decline(failure, out),
-    }
-}
-
-// Appends which events may run at a site from a time on, which is a word of a line. Whether it is refused.
-fn ready_at<A: Allocator + Copy>(
-    world: &World<A>,
-    site: u32,
-    now: &[u8],
-    out: &mut Vec<u8, A>,
-) -> Result<bool, Memory>
-    requires { HasSite world.now site }
-    ensures { IfOk result (IsReplied world.now out.old.items out.new.items (action_effect world.now site (ready now.now))) }
-{
-    match read_time(now) {
-        Ok(time) => {
-            print_ready(replica_at(world, site), time, out)?;
-            Ok(false)
-        }
-        Err(failure) => decline(failure, out),
-    }
-}
-
-// Appends what a site answers to a question. Whether it is refused.
-fn answer_at<A: Allocator + Copy>(
-    world: &World<A>,
-    site: u32,
-    question: Question,
-    out: &mut Vec<u8, A>,
-) -> Result<bool, Memory>
-    requires { HasSite world.now site }
-    ensures { IfOk result (IsReplied world.now out.old.items out.new.items (action_effect world.now site (ask question))) }
-{
-    match print_answer(replica_at(world, site).plan(), question, out) {
-        Ok(()) => Ok(false),
-        Err(WhyFault::NoEvent) => decline(Failure::refused(Code::NoEvent), out),
-        Err(WhyFault::Memory) => Err(AllocError),
-    }
-}
-
-// Appends what a command answered, or why it is refused. Whether it is refused.
-fn say_outcome<A: Allocator>(
+// Appends what a call answered, if it did.
+fn print_answer<A: Allocator>(
     outcome: Result<Answer, Failure>,
     out: &mut Vec<u8, A>,
-) -> Result<bool, Memory>
-    ensures { Says outcome out.old.items out.new.items result }
+) -> Result<(), Failure>
+    ensures { Does outcome out.old.items out.new.items result }
 {
-    match outcome {
-        Ok(answer) => {
-            answer.print(out)?;
-            Ok(false)
-        }
-        Err(failure) => decline(failure, out),
-    }
-}
-
-// Appends the line of a refusal: the command is refused. Where memory ran out, nothing is.
-fn decline<A: Allocator>(failure: Failure, out: &mut Vec<u8, A>) -> Result<bool, Memory>
-    ensures { Declines failure out.old.items out.new.items result }
-{
-    match failure {
-        Failure::Refused(refusal) => {
-            refusal.print(out)?;
-            Ok(true)
-        }
-        Failure::Failed(_) => Err(AllocError),
-    }
+    let answer = outcome?;
+    answer.print(out)?;
+    Ok(())
 }
 
 // Runs a script that was read whole.

@@ -1,7 +1,7 @@
 use Rattle.std.proofs.Common.{◌≡◌, ◌++◌, length}
 use Rattle.std.specs.List.{filter_map}
 use Rattle.stn_text.specs.Lines.{words_of}
-use Rattle.stn_exec.specs.Command.{id_of}
+use Rattle.stn_command.specs.Words.{id_of}
 use Rattle.stn_exec.proofs.command.read_records.Given as goal
 
 abbrev pub invariant-loop-word : goal.invariant-loop-word

@@ -1,4 +1,4 @@
-use Rattle.std.proofs.Common.{◌≡◌, refl, subst, arith}
+use Rattle.std.proofs.Common.{◌≡◌, inr, refl, subst, arith}
 use Rattle.std.proofs.lemmas.Grind.{common_steps}
 use Rattle.std.proofs.lemmas.Result.{err_from_is_err_and}
 use Rattle.stn_device.specs.Bytes.{AppendsPart}
@@ -17,7 +17,7 @@ returns-in_err-write_whole g c =
     let printed : c.deref.result.now ≡ refusal_text c.args.refusal = grind (arith, common_steps) in
     rw (p.1, p.2) (record {
       run = (
-        part-one before after (declined (Refused c.args.refusal)) (refusal_text c.args.refusal) refl (subst (AppendsPart before after) printed c.in_err-write_whole.ensures.part),
+        part-one before after (declined (Refused c.args.refusal)) (refusal_text c.args.refusal) (inr (Refused c.args.refusal, refl, refl)) (subst (AppendsPart before after) printed c.in_err-write_whole.ensures.part),
         c.in_err-write_whole.ensures.failed,
       );
     })

@@ -1,0 +1,22 @@
+use Rattle.std.proofs.lemmas.Result.{err_from_is_err_and}
+use Rattle.stn_command.specs.declared.changes.Made.{Made}
+use Rattle.stn_exec.specs.Effect.{change_read}
+use Rattle.stn_exec.specs.Running.{seen_change}
+use Rattle.stn_exec.proofs.Effects.{unread, refused_change, made_change}
+use Rattle.stn_exec.proofs.actions.change.Goals as goal
+
+pub returns-in_err-asked : goal.returns-in_err-asked
+returns-in_err-asked g c =
+    let returned = err_from_is_err_and c.from_residual.result c.from_residual.ensures.1 in
+    rw returned.1 (unread c.args.world.now c.args.site (change_read (seen_change c.args.words.now)) c.in_err-asked.field-0.0 returned.0 c.in_err-asked.ensures returned.2)
+
+pub returns-in_err-made : goal.returns-in_err-made
+returns-in_err-made g c =
+    let returned = err_from_is_err_and c.from_residual-in_err-made.result c.from_residual-in_err-made.ensures.1 in
+    rw returned.1 (refused_change Made c.args.world.now c.change_at.new.world c.args.site (change_read (seen_change c.args.words.now)) c.in_ok-asked.asked
+    c.in_err-made.field-0.0 returned.0 c.in_ok-asked.ensures c.in_err-made.ensures.step returned.2)
+
+pub returns : goal.returns
+returns g c =
+    made_change c.args.world.now c.change_at.new.world c.args.site (change_read (seen_change c.args.words.now)) c.in_ok-asked.asked c.in_ok-made.made
+    c.in_ok-asked.ensures c.in_ok-made.ensures.made c.in_ok-made.ensures.step
