@@ -1,6 +1,7 @@
 -- How a call ended, of what is known of it where it did its work and where it did not.
 use Rattle.std.proofs.Common.{◌≡◌, ◌⊎◌, inl, inr, refl, Some, Bor, option_map, ℕ, List, Option, None, Vec, Result, Ok, Err, OnOk, IfOk, IfErr, MatchResult}
-use Rattle.stn_exec.specs.Effect.{and_then}
+use Rattle.std.specs.Prelude.{IsOkAnd}
+use Rattle.stn_command.specs.Words.{and_then}
 use Rattle.stn_explain.specs.Explained.{IsExplained}
 use Rattle.stn_line.specs.declared.words.Line.{Line}
 use Rattle.stn_line.specs.declared.words.Line.TheVariants.{Explain}
@@ -9,9 +10,10 @@ use Rattle.stn_refusal.specs.declared.failure.Failure.{Failure}
 use Rattle.stn_refusal.specs.declared.failure.Failure.TheVariants.{Failed}
 use Rattle.stn_refusal.specs.declared.failure.Fault.{Fault}
 use Rattle.stn_refusal.specs.declared.failure.Fault.TheVariants.{Memory}
-use Rattle.stn_shell.specs.Commands.{IsAnswered}
-use Rattle.stn_shell.specs.Endings.{IsUndone, Succeeds}
-use Rattle.stn_shell.specs.Refusals.{IsExplainRefusal, IsRefusalOf}
+use Rattle.stn_shell.specs.Commands.{IsDone}
+use Rattle.stn_shell.specs.Endings.{Completes, IsUndone, Succeeds}
+use Rattle.stn_shell.specs.Refusals.{IsAskedRefusal, IsExplainRefusal, IsRefusalOf, WithWords}
+use Rattle.stn_shell.specs.Words.{Asked, asked_of}
 
 pub ended : {T E : Type 0} (call : Result T E) {Done Does : Type 0} {Stopped Stops : E → Type 0} → OnOk call Done → IfErr call Stopped
     → (Done → Does) → ((fault : E) → Stopped fault → Stops fault) → MatchResult call (λ _. Does) Stops
@@ -29,12 +31,14 @@ pub told_as : {T V E : Type 0} (value : V) (call : Result T E) (told : Result V 
 told_as value (Ok done) told Does Stops is all = rw is all
 told_as value (Err fault) told Does Stops is all = rw is all
 
--- a command on a log that was answered, and that nothing refuses
-pub succeeded : {A : Type 0} (call : Result (Vec ℕ A) Failure) (old new : Option (List Entry)) (line : Line) (Fails : Fault → Type 0)
-    → MatchResult call (λ text. IsAnswered old new line text.items × IsRefusalOf old line None) (IsUndone (IsRefusalOf old line) Fails old new)
-    → MatchResult call (λ text. Succeeds old new line text.items) (IsUndone (IsRefusalOf old line) Fails old new)
-succeeded (Ok text) old new line Fails is = record { answered = is.0; accepted = is.1 }
-succeeded (Err failure) old new line Fails is = is
+-- what a command asks of a log was done, or why it was not
+pub completed : {A : Type 0} (call : Result (Vec ℕ A) Failure) (old new : Option (List Entry)) (line : Line) (asked : Asked) (Fails : Fault → Type 0)
+    → asked_of line ≡ Ok asked
+    → MatchResult call (λ text. Completes old new asked text.items) (IsUndone (IsAskedRefusal old asked) Fails old new)
+    → MatchResult call (λ text. IsOkAnd (asked_of line) (λ one. IsDone old new one text.items) × WithWords (asked_of line) (IsAskedRefusal old) None)
+    (IsUndone (WithWords (asked_of line) (IsAskedRefusal old)) Fails old new)
+completed (Ok text) old new line asked Fails e is = rw e (is.done, is.accepted)
+completed (Err failure) old new line asked Fails e is = rw e is
 
 pub explained : {A : Type 0} (call : Result (Vec ℕ A) Failure) (entries : Option (List Entry)) (code : Option (Bor (List ℕ))) (Fails : Fault → Type 0)
     → MatchResult call (λ text. IsExplained (option_map (λ word. word.now) code) text.items × IsExplainRefusal code None)

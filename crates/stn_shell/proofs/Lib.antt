@@ -1,8 +1,8 @@
 pub mod Served
-pub mod Chains
 pub mod Joined
 mod Failed
 mod Readings
 mod Ended
 mod Made
 mod OnLog
+mod OfLogs

@@ -1,29 +1,26 @@
 -- What each command on a log does, and the text that it answers.
-use Rattle.std.specs.Prelude.{◌≡◌, ℕ, ℤ, ◌+◌, false, List, [], ◌∷◌, ◌++◌, length, codes, Option, Ok, IsOkAnd, option_map}
+use Rattle.std.specs.Prelude.{◌≡◌, ℕ, ℤ, false, List, [], ◌∷◌, ◌++◌, codes, Option, Ok, IsOkAnd, option_map}
 use Rattle.std.specs.Borrow.{Bor}
-use Rattle.stn_net.specs.Difference.{Difference}
 use Rattle.stn_net.specs.Schedule.{IsSchedule}
 use Rattle.stn_lift.specs.BaseBounds.{KeepsOrder}
 use Rattle.stn_lift.specs.PlanSource.{PlanSource, bare, files, base_of, base_bounds, steps_of, events_of, interfere_in_plan, planned_of}
 use Rattle.stn_records.specs.Content.{Content, no_content}
-use Rattle.stn_records.specs.Id.{SiteCounter, id_text}
-use Rattle.stn_site.specs.Calls.{added, amended, withdrew, took}
-use Rattle.stn_site.specs.Held.{Held, plain, executed}
+use Rattle.stn_records.specs.Id.{SiteCounter}
+use Rattle.stn_site.specs.Calls.{took}
+use Rattle.stn_site.specs.Held.{Held}
 use Rattle.stn_site.specs.Bounds.{all_bounds}
-use Rattle.stn_exec.specs.Answer.{answer_text}
-use Rattle.stn_exec.specs.Effect.{times_answer}
+use Rattle.stn_command.specs.Change.{change_call, made_by, made_text}
+use Rattle.stn_command.specs.Query.{Query, IsSaid}
+use Rattle.stn_command.specs.declared.changes.Change.{Change}
 use Rattle.stn_store.specs.Store.{Entry, IsThere, Spells, Opens, saved_too, Changes}
-use Rattle.stn_shell.specs.Words.{amendment_read, bound_read, event_read, execution_read, id_read, time_read, times_read, slack_read}
+use Rattle.stn_shell.specs.Words.{Asked, change, merge, query, asked_of, slack_read}
 use Rattle.stn_loosen.specs.Slack.{Slack}
 use Rattle.stn_loosen.specs.Loosened.{AreFewLoosened}
 use Rattle.stn_loosen.specs.Numbered.{HoldsSome}
 use Rattle.stn_explain.specs.Explained.{IsExplained}
 use Rattle.stn_line.specs.declared.words.SiteLog.{SiteLog}
 use Rattle.stn_line.specs.declared.words.Line.{Line}
-use Rattle.stn_line.specs.declared.words.Line.TheVariants.{Run, Bare, Init, Loosen, Add, Amend, Withdraw, Done, Merge, Report, Next, Ready, Why, Records, Steps, Bounds, Check, Rehearse, Draw, Explain, Serve, Send}
-use Rattle.stn_questions.specs.declared.asked.Question.TheVariants as question
-use Rattle.stn_shell.specs.Queries.{IsTold}
-use Rattle.stn_shell.specs.declared.queries.Query.TheVariants as query
+use Rattle.stn_line.specs.declared.words.Line.TheVariants.{Bare, Init, Loosen, Explain}
 
 -- a log of what a site holds, where none was
 pub record IsNewLog (old new : Option (List Entry)) (log : List ℕ) (source : PlanSource) (state : Content) (text : List ℕ) : Type 0 where
@@ -69,41 +66,13 @@ pub record IsLoosenedOfTexts (old new : Option (List Entry)) (log : SiteLog) (do
   pub second : Spells old plan steps
   pub made : IsMadeLoose old new log (files actions steps) slack text
 
--- a bound between two events, with the sides that are given
-pub record IsAdded (old new : Option (List Entry)) (log : SiteLog) (from to : List ℕ) (lo hi : Option (Bor (List ℕ)))
-    (text : List ℕ) : Type 0 where
-  pub bound : Difference
+-- a log that was changed and saved, and the line that says so
+pub record IsChanged (old new : Option (List Entry)) (log : SiteLog) (asked : Change) (text : List ℕ) : Type 0 where
   pub id : SiteCounter
-  pub read : bound_read from to lo hi ≡ Ok bound
-  pub change : Changes old new log.name.now log.site (added id (plain bound))
-  pub line : text ≡ codes "added " ++ (id_text id ++ 10 ∷ [])
+  pub change : Changes old new log.name.now log.site (change_call asked id)
+  pub line : text ≡ made_text (made_by asked id)
 
--- a bound in place of a record
-pub record IsAmended (old new : Option (List Entry)) (log : SiteLog) (word from to : List ℕ) (lo hi : Option (Bor (List ℕ)))
-    (text : List ℕ) : Type 0 where
-  pub replaced : SiteCounter
-  pub bound : Difference
-  pub id : SiteCounter
-  pub read : amendment_read word from to lo hi ≡ Ok (replaced, bound)
-  pub change : Changes old new log.name.now log.site (amended id replaced bound)
-  pub line : text ≡ codes "amended " ++ (id_text id ++ 10 ∷ [])
-
--- a record by its id
-pub record IsWithdrawn (old new : Option (List Entry)) (log : SiteLog) (word text : List ℕ) : Type 0 where
-  pub id : SiteCounter
-  pub read : id_read word ≡ Ok id
-  pub change : Changes old new log.name.now log.site (withdrew id)
-  pub line : text ≡ codes "withdrawn " ++ (id_text id ++ 10 ∷ [])
-
--- an event, and when it took place
-pub record IsDone (old new : Option (List Entry)) (log : SiteLog) (event time text : List ℕ) : Type 0 where
-  pub done : ℕ × ℤ
-  pub id : SiteCounter
-  pub read : execution_read event time ≡ Ok done
-  pub change : Changes old new log.name.now log.site (added id (executed done.1 done.0))
-  pub line : text ≡ codes "added " ++ (id_text id ++ 10 ∷ [])
-
--- all that another log of the same plan holds
+-- all that another log of the same plan says, taken in and saved
 pub record IsMerged (old new : Option (List Entry)) (log : SiteLog) (other text : List ℕ) : Type 0 where
   pub theirs : Held
   pub opened : Opens old other log.site theirs
@@ -111,38 +80,23 @@ pub record IsMerged (old new : Option (List Entry)) (log : SiteLog) (other text 
   pub same : change.before.source ≡ theirs.source
   pub line : text ≡ codes "merged" ++ 10 ∷ []
 
--- whether times, one for each event, are a schedule
-pub record IsChecked (old new : Option (List Entry)) (log : SiteLog) (words : List (Bor (List ℕ))) (text : List ℕ) : Type 0 where
+-- what is said of what a log says, which stays
+pub record IsTold (old new : Option (List Entry)) (log : SiteLog) (asked : Query) (text : List ℕ) : Type 0 where
   pub ours : Held
-  pub times : List ℤ
   pub opened : Opens old log.name.now log.site ours
-  pub read : times_read words ≡ Ok times
-  pub one_each : length times ≡ events_of ours.source + 1
-  pub answer : text ≡ answer_text (times_answer ours.source ours.state times)
+  pub said : IsSaid asked ours text
   pub unsaved : new ≡ old
 
--- what a command line does over logs, and the text that it answers
+-- what a command does to a log that is there, and the text that it answers
+abbrev pub IsDone : Option (List Entry) → Option (List Entry) → Asked → List ℕ → Type 0
+IsDone old new (change log asked) text = IsChanged old new log asked text
+IsDone old new (merge log other) text = IsMerged old new log other text
+IsDone old new (query log asked) text = IsTold old new log asked text
+
+-- what a command line does over logs, and the text that it answers; `run`, `serve` and `send` are no commands on a log, and ask for nothing
 abbrev pub IsAnswered : Option (List Entry) → Option (List Entry) → Line → List ℕ → Type 0
 IsAnswered old new (Bare log steps) text = IsMade old new log.name.now (bare steps) text
 IsAnswered old new (Init log domain plan) text = IsMadeOfTexts old new log.name.now domain.now plan.now text
 IsAnswered old new (Loosen log domain plan early late) text = IsLoosenedOfTexts old new log domain.now plan.now early late text
-IsAnswered old new (Add log from to lo hi) text = IsAdded old new log from.now to.now lo hi text
-IsAnswered old new (Amend log id from to lo hi) text = IsAmended old new log id.now from.now to.now lo hi text
-IsAnswered old new (Withdraw log id) text = IsWithdrawn old new log id.now text
-IsAnswered old new (Done log event time) text = IsDone old new log event.now time.now text
-IsAnswered old new (Merge log other) text = IsMerged old new log other.now text
-IsAnswered old new (Report log) text = IsTold old new log query.Report text
-IsAnswered old new (Next log now) text = IsOkAnd (time_read now.now) (λ time. IsTold old new log (query.Next time) text)
-IsAnswered old new (Ready log now) text = IsOkAnd (time_read now.now) (λ time. IsTold old new log (query.Ready time) text)
-IsAnswered old new (Why log event) text = IsOkAnd (event_read event.now) (λ which. IsTold old new log (query.Tell (question.Why which)) text)
-IsAnswered old new (Records log) text = IsTold old new log (query.Tell question.Records) text
-IsAnswered old new (Steps log) text = IsTold old new log (query.Tell question.Steps) text
-IsAnswered old new (Bounds log) text = IsTold old new log (query.Tell question.Bounds) text
-IsAnswered old new (Check log times) text = IsChecked old new log times.items text
-IsAnswered old new (Rehearse log now) text = IsOkAnd (time_read now.now) (λ time. IsTold old new log (query.Rehearse time) text)
-IsAnswered old new (Draw log) text = IsTold old new log query.Draw text
 IsAnswered old new (Explain code) text = (new ≡ old) × IsExplained (option_map (λ word. word.now) code) text
--- the others are no commands on a log
-IsAnswered old new Run text = ⊥
-IsAnswered old new (Serve log address count seconds) text = ⊥
-IsAnswered old new (Send log address seconds) text = ⊥
+IsAnswered old new line text = IsOkAnd (asked_of line) (λ asked. IsDone old new asked text)

@@ -2,8 +2,9 @@
 use Rattle.std.specs.Prelude.{◌≡◌, ◌⊎◌, ℕ, false, List, Option, Some, None}
 use Rattle.stn_lift.specs.PlanSource.{PlanSource, files}
 use Rattle.stn_records.specs.Content.{Content}
-use Rattle.stn_shell.specs.Commands.{IsAnswered}
-use Rattle.stn_shell.specs.Refusals.{IsRefusalOf}
+use Rattle.stn_shell.specs.Commands.{IsAnswered, IsDone}
+use Rattle.stn_shell.specs.Refusals.{IsRefusalOf, IsAskedRefusal}
+use Rattle.stn_shell.specs.Words.{Asked}
 use Rattle.stn_store.specs.Store.{Entry, IsThere, IsMissing, IsTaken, IsLack, Spells, saved_too}
 use Rattle.stn_refusal.specs.declared.failure.Failure.{Failure}
 use Rattle.stn_refusal.specs.declared.failure.Fault.{Fault}
@@ -13,6 +14,11 @@ use Rattle.stn_line.specs.declared.words.Line.{Line}
 pub record Succeeds (old new : Option (List Entry)) (line : Line) (text : List ℕ) : Type 0 where
   pub answered : IsAnswered old new line text
   pub accepted : IsRefusalOf old line None
+
+-- what a command asks of a log was done, and nothing refuses it
+pub record Completes (old new : Option (List Entry)) (asked : Asked) (text : List ℕ) : Type 0 where
+  pub done : IsDone old new asked text
+  pub accepted : IsAskedRefusal old asked None
 
 -- a call that was not done, and what refuses it; nothing was saved
 pub record IsUndone (Refuses : Option Failure → Type 0) (Fails : Fault → Type 0) (old new : Option (List Entry)) (failure : Failure) : Type 0 where

@@ -1,5 +1,4 @@
 pub mod Carried
-pub mod Changes
 pub mod Commands
 pub mod Connections
 pub mod Endings
@@ -7,6 +6,5 @@ pub mod Executed
 pub mod Joining
 pub mod Peer
 pub mod Printing
-pub mod Queries
 pub mod Refusals
 pub mod Words

@@ -1,27 +1,22 @@
 -- Why a command of a log is refused: the first cause that stands, or none.
-use Rattle.std.specs.Prelude.{◌≡◌, ◌≢◌, ◌⊎◌, ℕ, ℤ, ◌+◌, length, true, false, List, Option, Some, None, option_map, Result, Ok, Err}
-use Rattle.stn_lift.specs.PlanSource.{PlanSource, bare, files, base_of, events_of}
+use Rattle.std.specs.Prelude.{◌≡◌, ◌≢◌, ◌⊎◌, ℕ, true, false, List, Option, Some, None, option_map, Result, Ok, Err}
+use Rattle.std.specs.Borrow.{Bor}
+use Rattle.stn_lift.specs.PlanSource.{PlanSource, bare, files, base_of}
 use Rattle.stn_lift.specs.declared.fault.BaseFault.{BaseFault}
 use Rattle.stn_net.specs.Difference.{Difference}
 use Rattle.stn_site.specs.Held.{Held}
-use Rattle.stn_site.specs.Refusals.{add_refusal, amend_refusal, done_refusal, withdraw_refusal, take_refusal}
-use Rattle.stn_net.specs.declared.bound.BoundFault.TheVariants.{NoEvent}
-use Rattle.stn_questions.specs.declared.asked.Question.{Question}
-use Rattle.stn_questions.specs.declared.asked.Question.TheVariants as question
-use Rattle.stn_questions.specs.Answer.{AsksOfNoEvent}
-use Rattle.stn_exec.specs.Dispatch.{IsOverdueAt, IsRefusedRehearsal}
+use Rattle.stn_site.specs.Refusals.{take_refusal}
 use Rattle.stn_lift.specs.Failures.{base_failure}
-use Rattle.stn_net.specs.Failures.{bound_failure}
 use Rattle.stn_site.specs.Failures.{replica_failure}
 use Rattle.stn_loosen.specs.Failures.{loosen_failure}
+use Rattle.stn_command.specs.Change.{change_refusal}
+use Rattle.stn_command.specs.Query.{IsQueryRefusal}
+use Rattle.stn_command.specs.Words.{no_such_word}
 use Rattle.stn_store.specs.Store.{Entry, log_there, IsThere, Spells, Opens, IsMissing, IsUnopened}
-use Rattle.stn_shell.specs.Words.{no_such_word, amendment_read, bound_read, event_read, execution_read, id_read, time_read, times_read, slack_read}
-use Rattle.std.specs.Borrow.{Bor}
+use Rattle.stn_shell.specs.Words.{Asked, change, merge, query, asked_of, slack_read}
 use Rattle.stn_explain.specs.Explained.{NamesNothing}
 use Rattle.stn_line.specs.declared.words.Line.{Line}
-use Rattle.stn_line.specs.declared.words.Line.TheVariants.{Run, Bare, Init, Loosen, Add, Amend, Withdraw, Done, Merge, Report, Next, Ready, Why, Records, Steps, Bounds, Check, Rehearse, Draw, Explain, Serve, Send}
-use Rattle.stn_shell.specs.declared.queries.Query.{Query}
-use Rattle.stn_shell.specs.declared.queries.Query.TheVariants as query
+use Rattle.stn_line.specs.declared.words.Line.TheVariants.{Bare, Init, Loosen, Explain}
 use Rattle.stn_loosen.specs.declared.fault.LoosenFault.TheVariants.{Full}
 use Rattle.stn_loosen.specs.Slack.{Slack}
 use Rattle.stn_loosen.specs.Loosened.{AreFewLoosened, AreTooMany}
@@ -29,7 +24,7 @@ use Rattle.stn_refusal.specs.declared.code.Code.TheVariants as code
 use Rattle.stn_refusal.specs.declared.failure.Failure.{Failure}
 use Rattle.stn_refusal.specs.declared.failure.Failure.TheVariants.{Failed}
 use Rattle.stn_refusal.specs.declared.failure.Fault.TheVariants.{Memory}
-use Rattle.stn_refusal.specs.Refusals.{refused, refused_of}
+use Rattle.stn_refusal.specs.Refusals.{refused}
 
 -- words that can't be read refuse the command; else it goes on with what they say
 abbrev pub WithWords : {X : Type 0} → Result X Failure → (X → Option Failure → Type 0) → Option Failure → Type 0
@@ -73,36 +68,19 @@ abbrev pub IsMergeRefusal : Held → Held → Option Failure → Type 0
 IsMergeRefusal ours theirs cause = ((ours.source ≢ theirs.source) × (cause ≡ Some other_plan))
     ⊎ ((ours.source ≡ theirs.source) × (cause ≡ option_map replica_failure (take_refusal ours theirs.state)))
 
--- why a question is refused: it is about an event that the plan has not
-abbrev pub IsQuestionRefusal : Held → Question → Option Failure → Type 0
-IsQuestionRefusal held question cause = (AsksOfNoEvent held.source question × (cause ≡ Some (bound_failure NoEvent)))
-    ⊎ ((¬ AsksOfNoEvent held.source question) × (cause ≡ None))
-
--- why a rehearsal is: an event is overdue
-abbrev pub IsRehearseRefusal : Held → ℤ → Option Failure → Type 0
-IsRehearseRefusal held now cause = ((event : ℕ) × IsOverdueAt held.source held.state now event × (cause ≡ Some (refused_of code.Overdue event)))
-    ⊎ ((¬ IsRefusedRehearsal held.source held.state now) × (cause ≡ None))
-
--- why a check of times, the origin's first, is: there is not one time for each event
-abbrev pub IsCheckRefusal : Held → List ℤ → Option Failure → Type 0
-IsCheckRefusal held times cause = ((length times ≢ events_of held.source + 1) × (cause ≡ Some no_such_word))
-    ⊎ ((length times ≡ events_of held.source + 1) × (cause ≡ None))
-
-abbrev pub IsQueryRefusal : Query → Held → Option Failure → Type 0
-IsQueryRefusal query.Report held cause = cause ≡ None
-IsQueryRefusal (query.Next now) held cause = cause ≡ None
-IsQueryRefusal (query.Ready now) held cause = cause ≡ None
-IsQueryRefusal (query.Tell asked) held cause = IsQuestionRefusal held asked cause
-IsQueryRefusal (query.Rehearse now) held cause = IsRehearseRefusal held now cause
-IsQueryRefusal query.Draw held cause = cause ≡ None
-
 -- why nothing is explained: the word is no refusal's and no fault's
 abbrev pub IsExplainRefusal : Option (Bor (List ℕ)) → Option Failure → Type 0
 IsExplainRefusal code cause = (NamesNothing (option_map (λ word. word.now) code) × (cause ≡ Some no_such_word))
     ⊎ ((¬ NamesNothing (option_map (λ word. word.now) code)) × (cause ≡ None))
 
+-- why what a command asks of a log is refused: the log; then the change, the other log or the query
+abbrev pub IsAskedRefusal : Option (List Entry) → Asked → Option Failure → Type 0
+IsAskedRefusal entries (change log asked) = WithLog entries log.name.now log.site (λ held cause. cause ≡ option_map replica_failure (change_refusal held asked))
+IsAskedRefusal entries (merge log other) = WithLog entries log.name.now log.site (λ ours. WithLog entries other log.site (IsMergeRefusal ours))
+IsAskedRefusal entries (query log asked) = WithLog entries log.name.now log.site (IsQueryRefusal asked)
+
 -- the first cause: words that can't be read; a log that is there; the texts and the base; too many records; the log; the other log;
--- another plan; what the replica refuses
+-- another plan; what the site or the query refuses
 abbrev pub IsRefusalOf : Option (List Entry) → Line → Option Failure → Type 0
 IsRefusalOf entries (Bare log steps) = WhereFree entries log.name.now (IsBaseRefusal (bare steps))
 IsRefusalOf entries (Init log domain plan) = WhereFree entries log.name.now
@@ -110,49 +88,9 @@ IsRefusalOf entries (Init log domain plan) = WhereFree entries log.name.now
 IsRefusalOf entries (Loosen log domain plan early late) = WithWords (slack_read early late)
     (λ slack. WhereFree entries log.name.now
     (WithText entries domain.now (λ actions. WithText entries plan.now (λ steps. IsLooseningRefusal (files actions steps) slack))))
-IsRefusalOf entries (Add log from to lo hi) = WithWords (bound_read from.now to.now lo hi)
-    (λ bound. WithLog entries log.name.now log.site (λ held cause. cause ≡ option_map replica_failure (add_refusal held bound)))
-IsRefusalOf entries (Amend log id from to lo hi) = WithWords (amendment_read id.now from.now to.now lo hi)
-    (λ said. WithLog entries log.name.now log.site (λ held cause. cause ≡ option_map replica_failure (amend_refusal held said.0 said.1)))
-IsRefusalOf entries (Withdraw log id) = WithWords (id_read id.now)
-    (λ which. WithLog entries log.name.now log.site (λ held cause. cause ≡ option_map replica_failure (withdraw_refusal held which)))
-IsRefusalOf entries (Done log event time) = WithWords (execution_read event.now time.now)
-    (λ said. WithLog entries log.name.now log.site (λ held cause. cause ≡ option_map replica_failure (done_refusal held said.0)))
-IsRefusalOf entries (Merge log other) = WithLog entries log.name.now log.site
-    (λ ours. WithLog entries other.now log.site (IsMergeRefusal ours))
-IsRefusalOf entries (Report log) = WithLog entries log.name.now log.site (IsQueryRefusal query.Report)
-IsRefusalOf entries (Next log now) = WithWords (time_read now.now)
-    (λ time. WithLog entries log.name.now log.site (IsQueryRefusal (query.Next time)))
-IsRefusalOf entries (Ready log now) = WithWords (time_read now.now)
-    (λ time. WithLog entries log.name.now log.site (IsQueryRefusal (query.Ready time)))
-IsRefusalOf entries (Why log event) = WithWords (event_read event.now)
-    (λ which. WithLog entries log.name.now log.site (IsQueryRefusal (query.Tell (question.Why which))))
-IsRefusalOf entries (Records log) = WithLog entries log.name.now log.site (IsQueryRefusal (query.Tell question.Records))
-IsRefusalOf entries (Steps log) = WithLog entries log.name.now log.site (IsQueryRefusal (query.Tell question.Steps))
-IsRefusalOf entries (Bounds log) = WithLog entries log.name.now log.site (IsQueryRefusal (query.Tell question.Bounds))
-IsRefusalOf entries (Check log times) = WithWords (times_read times.items)
-    (λ read. WithLog entries log.name.now log.site (λ held. IsCheckRefusal held read))
-IsRefusalOf entries (Rehearse log now) = WithWords (time_read now.now)
-    (λ time. WithLog entries log.name.now log.site (IsQueryRefusal (query.Rehearse time)))
 IsRefusalOf entries (Explain code) = IsExplainRefusal code
-IsRefusalOf entries (Draw log) = WithLog entries log.name.now log.site (IsQueryRefusal query.Draw)
--- the others are no commands on a log
-IsRefusalOf entries Run = λ cause. cause ≡ Some no_such_word
-IsRefusalOf entries (Serve log address count seconds) = λ cause. cause ≡ Some no_such_word
-IsRefusalOf entries (Send log address seconds) = λ cause. cause ≡ Some no_such_word
+IsRefusalOf entries line = WithWords (asked_of line) (IsAskedRefusal entries)
 
 -- why a merge failed: memory ran out, or the first cause that refuses it
 abbrev pub IsMergeFailure : Held → Held → Failure → Type 0
 IsMergeFailure ours theirs failure = (failure ≡ Failed Memory) ⊎ IsMergeRefusal ours theirs (Some failure)
-
--- why a question did
-abbrev pub IsQuestionFailure : Held → Question → Failure → Type 0
-IsQuestionFailure held question failure = (failure ≡ Failed Memory) ⊎ IsQuestionRefusal held question (Some failure)
-
--- why a rehearsal did
-abbrev pub IsRehearseFailure : Held → ℤ → Failure → Type 0
-IsRehearseFailure held now failure = (failure ≡ Failed Memory) ⊎ IsRehearseRefusal held now (Some failure)
-
--- why a check did
-abbrev pub IsCheckFailure : Held → List ℤ → Failure → Type 0
-IsCheckFailure held times failure = (failure ≡ Failed Memory) ⊎ IsCheckRefusal held times (Some failure)

@@ -1,33 +1,39 @@
 -- What the words of a command say, or why they can't be read: the first word that can't decides, in the order of the words.
-use Rattle.std.specs.Prelude.{ℕ, ℤ, pos, neg_ℤ, int_lt, ◌||◌, if◌then◌else◌, List, [], ◌∷◌, Option, Some, None, Result, Ok, Err}
+use Rattle.std.specs.Prelude.{ℕ, ℤ, pos, neg_ℤ, int_lt, ◌||◌, if◌then◌else◌, List, map, Option, Some, None, Result, Ok, Err}
 use Rattle.std.specs.Borrow.{Bor}
 use Rattle.stn_time.specs.Time.{horizon}
-use Rattle.stn_time.specs.TimeOf.{time_of}
-use Rattle.stn_time.specs.declared.reading.TimeFault.{TimeFault}
-use Rattle.stn_net.specs.Difference.{Difference}
 use Rattle.stn_records.specs.Id.{SiteCounter}
-use Rattle.stn_site.specs.Held.{difference}
 use Rattle.stn_loosen.specs.Slack.{Slack}
-use Rattle.stn_exec.specs.Command.{event_of, id_of}
-use Rattle.stn_exec.specs.Effect.{and_then}
-use Rattle.stn_time.specs.Failures.{time_failure}
-use Rattle.stn_refusal.specs.declared.code.Code.TheVariants.{Line}
+use Rattle.stn_questions.specs.declared.asked.Question.TheVariants.{Records as records, Steps as steps, Bounds as bounds, Why as why}
+use Rattle.stn_command.specs.Words.{and_then, event_of, id_of, time_read, times_read, no_such_word}
+use Rattle.stn_command.specs.Query.{Query, seen_query, report, check, next, ready, rehearse, ask, draw}
+use Rattle.stn_command.specs.declared.changes.AskedBound.{AskedBound}
+use Rattle.stn_command.specs.declared.changes.Change.{Change}
+use Rattle.stn_command.specs.declared.changes.Change.TheVariants as made
+use Rattle.stn_line.specs.declared.words.SiteLog.{SiteLog}
+use Rattle.stn_line.specs.declared.words.Line.{Line}
+use Rattle.stn_line.specs.declared.words.Line.TheVariants.{Add, Amend, Withdraw, Done, Merge, Report, Next, Ready, Why, Records, Steps, Bounds, Check, Rehearse, Draw}
 use Rattle.stn_refusal.specs.declared.failure.Failure.{Failure}
-use Rattle.stn_refusal.specs.Refusals.{refused_at}
+use Rattle.stn_shell.specs.declared.words.Asked.{Asked as AskedOfCode}
+use Rattle.stn_shell.specs.declared.words.Asked.TheVariants as code
 
--- a word is no event, no id, or a time below 0 where none may be
-abbrev pub no_such_word : Failure
-no_such_word = refused_at Line 0
+-- what a command asks of a log that is there, all its words read: a change, to take in all that another log says, or a query
+pub data Asked : Type 0 where
+  change : (log : SiteLog) (asked : Change) → Asked
+  merge : (log : SiteLog) (other : List ℕ) → Asked
+  query : (log : SiteLog) (asked : Query) → Asked
+
+-- the same, as the code has it
+abbrev pub seen_asked : AskedOfCode → Asked
+seen_asked (code.Change log asked) = change log.now asked
+seen_asked (code.Merge log other) = merge log.now other.now
+seen_asked (code.Check log times) = query log.now (check times.items)
+seen_asked (code.Query log asked) = query log.now (seen_query asked)
 
 -- what a word names
 abbrev pub named : {X : Type 0} → Option X → Result X Failure
 named (Some value) = Ok value
 named None = Err no_such_word
-
--- what a word spells
-abbrev pub spelled : Result ℤ TimeFault → Result ℤ Failure
-spelled (Ok time) = Ok time
-spelled (Err fault) = Err (time_failure fault)
 
 abbrev pub event_read : List ℕ → Result ℕ Failure
 event_read word = named (event_of word)
@@ -35,29 +41,19 @@ event_read word = named (event_of word)
 abbrev pub id_read : List ℕ → Result SiteCounter Failure
 id_read word = named (id_of word)
 
-abbrev pub time_read : List ℕ → Result ℤ Failure
-time_read word = spelled (time_of word)
-
 -- the side of a bound; the open one, where there is no word
 abbrev pub side_read : ℤ → Option (Bor (List ℕ)) → Result ℤ Failure
 side_read open_side None = Ok open_side
 side_read open_side (Some word) = time_read word.now
 
 -- the bound of two events and two sides, which are open where they are not given
-unfoldable pub bound_read : List ℕ → List ℕ → Option (Bor (List ℕ)) → Option (Bor (List ℕ)) → Result Difference Failure
+unfoldable pub bound_read : List ℕ → List ℕ → Option (Bor (List ℕ)) → Option (Bor (List ℕ)) → Result AskedBound Failure
 bound_read from to lo hi =
     and_then (event_read from) (λ first.
     and_then (event_read to) (λ second.
     and_then (side_read (neg_ℤ horizon) lo) (λ least.
     and_then (side_read horizon hi) (λ greatest.
-    Ok (difference first second least greatest)))))
-
--- the id of the record to replace, and the bound in its place
-unfoldable pub amendment_read : List ℕ → List ℕ → List ℕ → Option (Bor (List ℕ)) → Option (Bor (List ℕ)) → Result (SiteCounter × Difference) Failure
-amendment_read id from to lo hi =
-    and_then (id_read id) (λ old.
-    and_then (bound_read from to lo hi) (λ bound.
-    Ok (old, bound)))
+    Ok (record { from = first; to = second; lo = least; hi = greatest })))))
 
 -- by how much durations may differ; neither time may be negative
 abbrev pub slack_of : ℤ → ℤ → Result Slack Failure
@@ -70,18 +66,27 @@ slack_read early late =
     and_then (side_read (pos 0) late) (λ more.
     slack_of less more))
 
--- an event, and when it took place
-unfoldable pub execution_read : List ℕ → List ℕ → Result (ℕ × ℤ) Failure
-execution_read event time =
-    and_then (event_read event) (λ which.
-    and_then (time_read time) (λ when.
-    Ok (which, when)))
+-- what a query asks of a log; the others are no commands on a log that is there
+abbrev pub query_of : Line → Result Asked Failure
+query_of (Report log) = Ok (query log report)
+query_of (Check log times) = and_then (times_read (map (λ word. word.now) times.items)) (λ all. Ok (query log (check all)))
+query_of (Next log now) = and_then (time_read now.now) (λ time. Ok (query log (next time)))
+query_of (Ready log now) = and_then (time_read now.now) (λ time. Ok (query log (ready time)))
+query_of (Rehearse log now) = and_then (time_read now.now) (λ time. Ok (query log (rehearse time)))
+query_of (Why log event) = and_then (event_read event.now) (λ which. Ok (query log (ask (why which))))
+query_of (Records log) = Ok (query log (ask records))
+query_of (Steps log) = Ok (query log (ask steps))
+query_of (Bounds log) = Ok (query log (ask bounds))
+query_of (Draw log) = Ok (query log draw)
+query_of other = Err no_such_word
 
--- the times that words spell, or why the first that spells none can't be read
-abbrev pub each_read : List (Bor (List ℕ)) → Result (List ℤ) Failure
-each_read [] = Ok []
-each_read (word ∷ words) = and_then (time_read word.now) (λ time. and_then (each_read words) (λ times. Ok (time ∷ times)))
-
--- the times of all events: the origin's, 0, and those that words spell for the events from 1 on
-unfoldable pub times_read : List (Bor (List ℕ)) → Result (List ℤ) Failure
-times_read words = and_then (each_read words) (λ times. Ok (pos 0 ∷ times))
+-- what a command asks of a log that is there
+abbrev pub asked_of : Line → Result Asked Failure
+asked_of (Add log from to lo hi) = and_then (bound_read from.now to.now lo hi) (λ bound. Ok (change log (made.Add bound)))
+asked_of (Amend log id from to lo hi) =
+    and_then (id_read id.now) (λ old. and_then (bound_read from.now to.now lo hi) (λ bound. Ok (change log (made.Amend old bound))))
+asked_of (Withdraw log id) = and_then (id_read id.now) (λ which. Ok (change log (made.Withdraw which)))
+asked_of (Done log event time) =
+    and_then (event_read event.now) (λ which. and_then (time_read time.now) (λ when. Ok (change log (made.Done which when))))
+asked_of (Merge log other) = Ok (merge log other.now)
+asked_of line = query_of line

@@ -1,30 +1,35 @@
 //! The commands on a log.
 
-ghost use Rattle.std.specs.Prelude.{◌≡◌, ◌⊎◌, false, None, IfOk, IfErr, MatchResult};
+ghost use Rattle.std.specs.Prelude.{◌≡◌, ◌⊎◌, false, None, IfOk, IfErr, IsOkAnd, MatchResult};
 ghost use Rattle.stn_lift.specs.PlanSource.{plan_source};
-ghost use Rattle.stn_shell.specs.Words.{times_read};
-ghost use Rattle.stn_shell.specs.Changes.{IsChanged, IsUnchanged};
-ghost use Rattle.stn_shell.specs.Commands.{IsChecked, IsMade, IsMadeLoose, IsNewLog};
-ghost use Rattle.stn_shell.specs.Endings.{Succeeds, IsUndone, SavesNew, IsUnsaved, IsUnmade, IsOfTexts, MissesText};
-ghost use Rattle.stn_shell.specs.Queries.{IsTold};
-ghost use Rattle.stn_shell.specs.Refusals.{IsRefusalOf, IsBaseRefusal, IsLooseningRefusal, IsQueryRefusal, IsCheckRefusal, WithWords, WithLog};
-ghost use Rattle.stn_store.specs.Store.{IsThere, IsMissing, IsTaken, IsLack, Opens};
+ghost use Rattle.stn_command.specs.Change.{made_text};
+ghost use Rattle.stn_command.specs.Query.{seen_query};
+ghost use Rattle.stn_shell.specs.Words.{asked_of, change, merge, query};
+ghost use Rattle.stn_shell.specs.Commands.{IsDone, IsMade, IsMadeLoose, IsNewLog};
+ghost use Rattle.stn_shell.specs.Endings.{Completes, Succeeds, IsUndone, SavesNew, IsUnsaved, IsUnmade, IsOfTexts, MissesText};
+ghost use Rattle.stn_shell.specs.Refusals.{IsRefusalOf, IsAskedRefusal, IsBaseRefusal, IsLooseningRefusal, WithWords};
+ghost use Rattle.stn_store.specs.Store.{IsThere, IsMissing, IsTaken, IsUnopened, IsLack, Opens};
 ghost use Rattle.stn_line.specs.declared.words.Line.TheVariants as of;
 
-use crate::changes::{Change, copied, loosen, make_change, opened};
+use crate::changes::{copied, loosen, opened, take_in};
 use crate::explaining::explain;
-use crate::queries::{Query, check, say};
-use crate::words::{
-    no_such_word, read_bound, read_event, read_id, read_time, read_times, read_tolerance,
-};
+use crate::words::{Asked, read_asked, read_tolerance};
 use std::alloc::Global;
+use stn_command::{Change, Made, Query, make_change, say};
 use stn_lift::Source;
 use stn_line::{Line, SiteLog};
 use stn_loosen::Tolerance;
-use stn_questions::Question;
 use stn_refusal::{Code, Failure, Fault};
 use stn_site::SitePlan;
 use stn_store::Store;
+use stn_time::Memory;
+
+// A log that is held, and what it says.
+#[derive(Drop)]
+struct OpenLog<H: Drop> {
+    held: H,
+    plan: SitePlan<Global>,
+}
 
 /// Does a command on a log: the answer. A refused command changes nothing; nor does one for which memory runs out or a device of
 /// the store fails. `run`, `serve` and `send` are no commands on a log, and are refused as words of a wrong form.
@@ -43,48 +48,24 @@ pub fn answer<S: Store>(alloc: Global, store: &mut S, line: &Line<'_>) -> Result
             early,
             late,
         } => loosen_texts(alloc, store, log, *domain, *plan, *early, *late),
-        Line::Add {
-            log,
-            from,
-            to,
-            lo,
-            hi,
-        } => add_to(alloc, store, log, *from, *to, *lo, *hi),
-        Line::Amend {
-            log,
-            id,
-            from,
-            to,
-            lo,
-            hi,
-        } => amend_in(alloc, store, log, *id, *from, *to, *lo, *hi),
-        Line::Withdraw { log, id } => withdraw_from(alloc, store, log, *id),
-        Line::Done { log, event, time } => done_at(alloc, store, log, *event, *time),
-        Line::Merge { log, other } => merge_with(alloc, store, log, *other),
-        Line::Report { log } => say_of(alloc, store, log, &Query::Report),
-        Line::Next { log, now } => next_of(alloc, store, log, *now),
-        Line::Ready { log, now } => ready_of(alloc, store, log, *now),
-        Line::Why { log, event } => why_of(alloc, store, log, *event),
-        Line::Records { log } => say_of(alloc, store, log, &Query::Tell(Question::Records)),
-        Line::Steps { log } => say_of(alloc, store, log, &Query::Tell(Question::Steps)),
-        Line::Bounds { log } => say_of(alloc, store, log, &Query::Tell(Question::Bounds)),
-        Line::Check { log, times } => check_of(alloc, store, log, times),
-        Line::Rehearse { log, now } => rehearse_of(alloc, store, log, *now),
-        Line::Draw { log } => say_of(alloc, store, log, &Query::Draw),
         Line::Explain { code } => explain_word(alloc, store, *code),
-        Line::Run | Line::Serve { .. } | Line::Send { .. } => Err(no_such_word()),
+        _ => do_asked(alloc, store, line),
     }
 }
 
-// Holds a log that is there. No other program changes it until what is held is dropped.
-fn hold_log<S: Store>(store: &S, name: &str) -> Result<S::Held, Failure>
-    ensures named { IfOk result (λ held. S.held_name held ≡ name.now) }
-    ensures failed { IfErr result (λ failure. IsMissing (S.entries store.now) name.now failure ⊎ IsLack S.fails failure) }
+// Does what a command asks of a log that is there.
+fn do_asked<S: Store>(alloc: Global, store: &mut S, line: &Line<'_>) -> Result<Vec<u8>, Failure>
+    ensures { MatchResult result
+        (λ text. IsOkAnd (asked_of line.now) (λ asked. IsDone (S.entries store.old) (S.entries store.new) asked text.items)
+        × WithWords (asked_of line.now) (IsAskedRefusal (S.entries store.old)) None)
+        (IsUndone (WithWords (asked_of line.now) (IsAskedRefusal (S.entries store.old))) S.fails (S.entries store.old) (S.entries store.new)) }
 {
-    if store.is_there(name)? {
-        store.hold(name)
-    } else {
-        Err(Failure::Failed(Fault::File))
+    let asked = read_asked(alloc, line)?;
+    match asked {
+        Asked::Change(log, asked) => change_log(alloc, store, log, &asked),
+        Asked::Merge(log, other) => merge_log(alloc, store, log, other),
+        Asked::Check(log, times) => say_of(store, log, &Query::Check(&times)),
+        Asked::Query(log, asked) => say_of(store, log, &asked),
     }
 }
 
@@ -225,231 +206,83 @@ fn loosen_texts<S: Store>(
     make_loose(alloc, store, log, &source, tolerance)
 }
 
-// Changes a log that is there. No other program changes it meanwhile.
+// Holds a log that is there. No other program changes it until what is held is dropped.
+fn hold_log<S: Store>(store: &S, name: &str) -> Result<S::Held, Failure>
+    ensures named { IfOk result (λ held. S.held_name held ≡ name.now) }
+    ensures failed { IfErr result (λ failure. IsMissing (S.entries store.now) name.now failure ⊎ IsLack S.fails failure) }
+{
+    if store.is_there(name)? {
+        store.hold(name)
+    } else {
+        Err(Failure::Failed(Fault::File))
+    }
+}
+
+// Holds a log that is there, and loads it. No other program changes it until what is held is dropped.
+fn open_log<S: Store>(store: &S, log: &SiteLog<'_>) -> Result<OpenLog<S::Held>, Failure>
+    ensures named { IfOk result (λ found. S.held_name found.held ≡ log.now.name.now) }
+    ensures opened { IfOk result (λ found. Opens (S.entries store.now) log.now.name.now log.now.site found.plan) }
+    ensures failed { IfErr result (λ failure. IsUnopened (S.entries store.now) log.now.name.now failure ⊎ IsLack S.fails failure) }
+{
+    let held = hold_log(store, log.name)?;
+    let plan = store.load_held(&held, log.site)?;
+    Ok(OpenLog { held, plan })
+}
+
+// Changes a log that is there.
 fn change_log<S: Store>(
     alloc: Global,
     store: &mut S,
     log: &SiteLog<'_>,
-    asked: &Change<'_>,
+    asked: &Change,
 ) -> Result<Vec<u8>, Failure>
     ensures { MatchResult result
-        (λ text. IsChanged (S.entries store.old) (S.entries store.new) log.now asked.now text.items)
-        (IsUnchanged S.fails (S.entries store.old) (S.entries store.new) log.now asked.now) }
+        (λ text. Completes (S.entries store.old) (S.entries store.new) (change log.now asked.now) text.items)
+        (IsUndone (IsAskedRefusal (S.entries store.old) (change log.now asked.now)) S.fails (S.entries store.old) (S.entries store.new)) }
 {
-    let held = hold_log(store, log.name)?;
-    change_held(alloc, store, log, &held, asked)
-}
-
-// Changes a log that is held.
-fn change_held<S: Store>(
-    alloc: Global,
-    store: &mut S,
-    log: &SiteLog<'_>,
-    held: &S::Held,
-    asked: &Change<'_>,
-) -> Result<Vec<u8>, Failure>
-    requires { S.held_name held.now ≡ log.now.name.now }
-    ensures { MatchResult result
-        (λ text. IsChanged (S.entries store.old) (S.entries store.new) log.now asked.now text.items)
-        (IsUnchanged S.fails (S.entries store.old) (S.entries store.new) log.now asked.now) }
-{
-    let mut plan = store.load_held(held, log.site)?;
-    let text = save_changed(alloc, store, log, held, &mut plan, asked);
-    drop(plan);
-    text
-}
-
-// Changes the plan of a log, and saves the log.
-fn save_changed<S: Store>(
-    alloc: Global,
-    store: &mut S,
-    log: &SiteLog<'_>,
-    held: &S::Held,
-    plan: &mut SitePlan<Global>,
-    asked: &Change<'_>,
-) -> Result<Vec<u8>, Failure>
-    requires named { S.held_name held.now ≡ log.now.name.now }
-    requires opened { Opens (S.entries store.old) log.now.name.now log.now.site plan.old }
-    ensures { MatchResult result
-        (λ text. IsChanged (S.entries store.old) (S.entries store.new) log.now asked.now text.items)
-        (IsUnchanged S.fails (S.entries store.old) (S.entries store.new) log.now asked.now) }
-{
-    let text = make_change(alloc, store, log.site, plan, asked)?;
-    store.save(held, plan)?;
+    let mut ours = open_log(store, log)?;
+    let made = make_change(&mut ours.plan, asked)?;
+    let text = line_of(alloc, made)?;
+    store.save(&ours.held, &ours.plan)?;
     Ok(text)
 }
 
-fn add_to<S: Store>(
-    alloc: Global,
-    store: &mut S,
-    log: &SiteLog<'_>,
-    from: &str,
-    to: &str,
-    lo: Option<&str>,
-    hi: Option<&str>,
-) -> Result<Vec<u8>, Failure>
-    ensures { MatchResult result
-        (λ text. Succeeds (S.entries store.old) (S.entries store.new) (of.Add log.now from.entry to.entry lo.entry hi.entry) text.items)
-        (IsUndone (IsRefusalOf (S.entries store.old) (of.Add log.now from.entry to.entry lo.entry hi.entry)) S.fails (S.entries store.old) (S.entries store.new)) }
+// The line that says what was made.
+fn line_of(alloc: Global, made: Made) -> Result<Vec<u8>, Memory>
+    ensures { IfOk result (λ text. text.items ≡ made_text made) }
 {
-    let bound = read_bound(from, to, lo, hi)?;
-    change_log(alloc, store, log, &Change::Add(bound))
+    let mut text = Vec::new(alloc);
+    made.print(&mut text)?;
+    Ok(text)
 }
 
-fn amend_in<S: Store>(
-    alloc: Global,
-    store: &mut S,
-    log: &SiteLog<'_>,
-    id: &str,
-    from: &str,
-    to: &str,
-    lo: Option<&str>,
-    hi: Option<&str>,
-) -> Result<Vec<u8>, Failure>
-    ensures { MatchResult result
-        (λ text. Succeeds (S.entries store.old) (S.entries store.new) (of.Amend log.now id.entry from.entry to.entry lo.entry hi.entry) text.items)
-        (IsUndone (IsRefusalOf (S.entries store.old) (of.Amend log.now id.entry from.entry to.entry lo.entry hi.entry)) S.fails (S.entries store.old) (S.entries store.new)) }
-{
-    let old = read_id(id)?;
-    let bound = read_bound(from, to, lo, hi)?;
-    change_log(alloc, store, log, &Change::Amend(old, bound))
-}
-
-fn withdraw_from<S: Store>(
-    alloc: Global,
-    store: &mut S,
-    log: &SiteLog<'_>,
-    id: &str,
-) -> Result<Vec<u8>, Failure>
-    ensures { MatchResult result
-        (λ text. Succeeds (S.entries store.old) (S.entries store.new) (of.Withdraw log.now id.entry) text.items)
-        (IsUndone (IsRefusalOf (S.entries store.old) (of.Withdraw log.now id.entry)) S.fails (S.entries store.old) (S.entries store.new)) }
-{
-    let id = read_id(id)?;
-    change_log(alloc, store, log, &Change::Withdraw(id))
-}
-
-fn done_at<S: Store>(
-    alloc: Global,
-    store: &mut S,
-    log: &SiteLog<'_>,
-    event: &str,
-    time: &str,
-) -> Result<Vec<u8>, Failure>
-    ensures { MatchResult result
-        (λ text. Succeeds (S.entries store.old) (S.entries store.new) (of.Done log.now event.entry time.entry) text.items)
-        (IsUndone (IsRefusalOf (S.entries store.old) (of.Done log.now event.entry time.entry)) S.fails (S.entries store.old) (S.entries store.new)) }
-{
-    let event = read_event(event)?;
-    let time = read_time(time)?;
-    change_log(alloc, store, log, &Change::Done(event, time))
-}
-
-fn merge_with<S: Store>(
+// Takes in all that another log of the same plan says.
+fn merge_log<S: Store>(
     alloc: Global,
     store: &mut S,
     log: &SiteLog<'_>,
     other: &str,
 ) -> Result<Vec<u8>, Failure>
     ensures { MatchResult result
-        (λ text. Succeeds (S.entries store.old) (S.entries store.new) (of.Merge log.now other.entry) text.items)
-        (IsUndone (IsRefusalOf (S.entries store.old) (of.Merge log.now other.entry)) S.fails (S.entries store.old) (S.entries store.new)) }
+        (λ text. Completes (S.entries store.old) (S.entries store.new) (merge log.now other.now) text.items)
+        (IsUndone (IsAskedRefusal (S.entries store.old) (merge log.now other.now)) S.fails (S.entries store.old) (S.entries store.new)) }
 {
-    change_log(alloc, store, log, &Change::Merge(other))
+    let mut ours = open_log(store, log)?;
+    let theirs = store.load(other, log.site)?;
+    take_in(&mut ours.plan, &theirs)?;
+    let text = copied(alloc, b"merged\n")?;
+    store.save(&ours.held, &ours.plan)?;
+    Ok(text)
 }
 
 // What is said of a log.
-fn say_of<S: Store>(
-    alloc: Global,
-    store: &mut S,
-    log: &SiteLog<'_>,
-    query: &Query,
-) -> Result<Vec<u8>, Failure>
+fn say_of<S: Store>(store: &mut S, log: &SiteLog<'_>, asked: &Query<'_>) -> Result<Vec<u8>, Failure>
     ensures { MatchResult result
-        (λ text. IsTold (S.entries store.old) (S.entries store.new) log.now query.now text.items
-        × WithLog (S.entries store.old) log.now.name.now log.now.site (IsQueryRefusal query.now) None)
-        (IsUndone (WithLog (S.entries store.old) log.now.name.now log.now.site (IsQueryRefusal query.now)) S.fails
-        (S.entries store.old) (S.entries store.new)) }
+        (λ text. Completes (S.entries store.old) (S.entries store.new) (query log.now (seen_query asked.now)) text.items)
+        (IsUndone (IsAskedRefusal (S.entries store.old) (query log.now (seen_query asked.now))) S.fails (S.entries store.old) (S.entries store.new)) }
 {
     let plan = store.load(log.name, log.site)?;
-    say(alloc, plan, query)
-}
-
-fn next_of<S: Store>(
-    alloc: Global,
-    store: &mut S,
-    log: &SiteLog<'_>,
-    now: &str,
-) -> Result<Vec<u8>, Failure>
-    ensures { MatchResult result
-        (λ text. Succeeds (S.entries store.old) (S.entries store.new) (of.Next log.now now.entry) text.items)
-        (IsUndone (IsRefusalOf (S.entries store.old) (of.Next log.now now.entry)) S.fails (S.entries store.old) (S.entries store.new)) }
-{
-    let now = read_time(now)?;
-    say_of(alloc, store, log, &Query::Next(now))
-}
-
-fn ready_of<S: Store>(
-    alloc: Global,
-    store: &mut S,
-    log: &SiteLog<'_>,
-    now: &str,
-) -> Result<Vec<u8>, Failure>
-    ensures { MatchResult result
-        (λ text. Succeeds (S.entries store.old) (S.entries store.new) (of.Ready log.now now.entry) text.items)
-        (IsUndone (IsRefusalOf (S.entries store.old) (of.Ready log.now now.entry)) S.fails (S.entries store.old) (S.entries store.new)) }
-{
-    let time = read_time(now)?;
-    say_of(alloc, store, log, &Query::Ready(time))
-}
-
-fn why_of<S: Store>(
-    alloc: Global,
-    store: &mut S,
-    log: &SiteLog<'_>,
-    event: &str,
-) -> Result<Vec<u8>, Failure>
-    ensures { MatchResult result
-        (λ text. Succeeds (S.entries store.old) (S.entries store.new) (of.Why log.now event.entry) text.items)
-        (IsUndone (IsRefusalOf (S.entries store.old) (of.Why log.now event.entry)) S.fails (S.entries store.old) (S.entries store.new)) }
-{
-    let event = read_event(event)?;
-    say_of(alloc, store, log, &Query::Tell(Question::Why(event)))
-}
-
-fn check_of<S: Store>(
-    alloc: Global,
-    store: &mut S,
-    log: &SiteLog<'_>,
-    words: &[&str],
-) -> Result<Vec<u8>, Failure>
-    ensures { MatchResult result
-        (λ text. IsChecked (S.entries store.old) (S.entries store.new) log.now words.entry.now text.items
-        × WithWords (times_read words.entry.now)
-        (λ times. WithLog (S.entries store.old) log.now.name.now log.now.site (λ held. IsCheckRefusal held times)) None)
-        (IsUndone (WithWords (times_read words.entry.now)
-        (λ times. WithLog (S.entries store.old) log.now.name.now log.now.site (λ held. IsCheckRefusal held times))) S.fails
-        (S.entries store.old) (S.entries store.new)) }
-{
-    let times = read_times(alloc, words)?;
-    let plan = store.load(log.name, log.site)?;
-    let text = check(alloc, &plan, &times);
-    drop(plan);
-    text
-}
-
-fn rehearse_of<S: Store>(
-    alloc: Global,
-    store: &mut S,
-    log: &SiteLog<'_>,
-    now: &str,
-) -> Result<Vec<u8>, Failure>
-    ensures { MatchResult result
-        (λ text. Succeeds (S.entries store.old) (S.entries store.new) (of.Rehearse log.now now.entry) text.items)
-        (IsUndone (IsRefusalOf (S.entries store.old) (of.Rehearse log.now now.entry)) S.fails (S.entries store.old) (S.entries store.new)) }
-{
-    let time = read_time(now)?;
-    say_of(alloc, store, log, &Query::Rehearse(time))
+    say(plan, asked)
 }
 
 // Explains a refusal or a fault. Nothing of the store is read.

@@ -16,5 +16,4 @@ mod joining;
 mod peer;
 mod printing;
 mod process;
-mod queries;
 mod words;

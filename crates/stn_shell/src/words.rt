@@ -1,55 +1,128 @@
 //! What the words of a command say.
 
-ghost use Rattle.std.specs.Prelude.{◌≡◌, ◌⊎◌, pos, neg_ℤ, Ok, Err, IfOk, IfErr};
+ghost use Rattle.std.specs.Prelude.{◌≡◌, ◌⊎◌, map, pos, neg_ℤ, Ok, Err, IfOk, IfErr, MatchResult};
 ghost use Rattle.stn_time.specs.Time.{horizon};
-ghost use Rattle.stn_net.specs.Schedule.{times_of};
-ghost use Rattle.stn_refusal.specs.declared.failure.Failure.TheVariants.{Failed};
-ghost use Rattle.stn_refusal.specs.declared.failure.Fault.TheVariants as lack;
-ghost use Rattle.stn_site.specs.Held.{difference};
-ghost use Rattle.stn_shell.specs.Words.{no_such_word, bound_read, event_read, id_read, time_read, times_read, side_read, slack_of, slack_read};
+ghost use Rattle.stn_refusal.specs.Refusals.{out_of_memory};
+ghost use Rattle.stn_command.specs.Words.{times_read};
+ghost use Rattle.stn_shell.specs.Words.{asked_of, query_of, seen_asked, bound_read, event_read, id_read, side_read, slack_of, slack_read};
 
-use crate::changes::AskedBound;
-use std::alloc::Allocator;
+use std::alloc::{Allocator, Global};
+use stn_command::{AskedBound, Change, Query, no_such_word, read_time};
+use stn_line::{Line, SiteLog};
 use stn_loosen::Tolerance;
 use stn_net::Event;
+use stn_questions::Question;
 use stn_records::Id;
-use stn_refusal::{Code, Failure};
+use stn_refusal::Failure;
 use stn_time::{HORIZON, Ms};
 
-/// A word is no event, no id, or a time below 0 where none may be.
-pub fn no_such_word() -> Failure
-    ensures { result ≡ no_such_word }
-{
-    Failure::refused_at(Code::Line, 0)
+/// What a command asks of a log that is there, all its words read.
+#[derive(Drop)]
+pub enum Asked<'l, 'a> {
+    /// Makes a change.
+    Change(&'l SiteLog<'a>, Change),
+    /// Takes in all that another log says.
+    Merge(&'l SiteLog<'a>, &'a str),
+    /// Checks times, one for each event.
+    Check(&'l SiteLog<'a>, Vec<Ms, Global>),
+    /// Answers another query.
+    Query(&'l SiteLog<'a>, Query<'a>),
 }
 
-/// The event that a word names.
-pub fn read_event(word: &str) -> Result<Event, Failure>
+/// Reads the words of a command on a log that is there; any other command line is none.
+pub fn read_asked<'l, 'a>(alloc: Global, line: &'l Line<'a>) -> Result<Asked<'l, 'a>, Failure>
+    ensures { MatchResult result (λ asked. asked_of line.now ≡ Ok (seen_asked asked))
+        (λ failure. (failure ≡ out_of_memory) ⊎ (asked_of line.now ≡ Err failure)) }
+{
+    match line {
+        Line::Add {
+            log,
+            from,
+            to,
+            lo,
+            hi,
+        } => {
+            let bound = read_bound(*from, *to, *lo, *hi)?;
+            Ok(Asked::Change(log, Change::Add(bound)))
+        }
+        Line::Amend {
+            log,
+            id,
+            from,
+            to,
+            lo,
+            hi,
+        } => {
+            let old = read_id(*id)?;
+            let bound = read_bound(*from, *to, *lo, *hi)?;
+            Ok(Asked::Change(log, Change::Amend(old, bound)))
+        }
+        Line::Withdraw { log, id } => {
+            let id = read_id(*id)?;
+            Ok(Asked::Change(log, Change::Withdraw(id)))
+        }
+        Line::Done { log, event, time } => {
+            let event = read_event(*event)?;
+            let time = read_time(time.as_bytes())?;
+            Ok(Asked::Change(log, Change::Done(event, time)))
+        }
+        Line::Merge { log, other } => Ok(Asked::Merge(log, *other)),
+        _ => read_query(alloc, line),
+    }
+}
+
+// Reads the words of a query.
+fn read_query<'l, 'a>(alloc: Global, line: &'l Line<'a>) -> Result<Asked<'l, 'a>, Failure>
+    ensures { MatchResult result (λ asked. query_of line.now ≡ Ok (seen_asked asked))
+        (λ failure. (failure ≡ out_of_memory) ⊎ (query_of line.now ≡ Err failure)) }
+{
+    match line {
+        Line::Report { log } => Ok(Asked::Query(log, Query::Report)),
+        Line::Check { log, times } => {
+            let times = read_times(alloc, times)?;
+            Ok(Asked::Check(log, times))
+        }
+        Line::Next { log, now } => {
+            let now = read_time(now.as_bytes())?;
+            Ok(Asked::Query(log, Query::Next(now)))
+        }
+        Line::Ready { log, now } => {
+            let now = read_time(now.as_bytes())?;
+            Ok(Asked::Query(log, Query::Ready(now)))
+        }
+        Line::Rehearse { log, now } => {
+            let now = read_time(now.as_bytes())?;
+            Ok(Asked::Query(log, Query::Rehearse(now)))
+        }
+        Line::Why { log, event } => {
+            let event = read_event(*event)?;
+            Ok(Asked::Query(log, Query::Ask(Question::Why(event))))
+        }
+        Line::Records { log } => Ok(Asked::Query(log, Query::Ask(Question::Records))),
+        Line::Steps { log } => Ok(Asked::Query(log, Query::Ask(Question::Steps))),
+        Line::Bounds { log } => Ok(Asked::Query(log, Query::Ask(Question::Bounds))),
+        Line::Draw { log } => Ok(Asked::Query(log, Query::Draw)),
+        _ => Err(no_such_word()),
+    }
+}
+
+// The event that a word names.
+fn read_event(word: &str) -> Result<Event, Failure>
     ensures { result ≡ event_read word.now }
 {
-    match stn_exec::read_event(word.as_bytes()) {
+    match stn_command::read_event(word.as_bytes()) {
         Some(event) => Ok(event),
         None => Err(no_such_word()),
     }
 }
 
-/// The id that a word names.
-pub fn read_id(word: &str) -> Result<Id, Failure>
+// The id that a word names.
+fn read_id(word: &str) -> Result<Id, Failure>
     ensures { result ≡ id_read word.now }
 {
-    match stn_exec::read_id(word.as_bytes()) {
+    match stn_command::read_id(word.as_bytes()) {
         Some(id) => Ok(id),
         None => Err(no_such_word()),
-    }
-}
-
-/// The time that a word spells.
-pub fn read_time(word: &str) -> Result<Ms, Failure>
-    ensures { result ≡ time_read word.now }
-{
-    match Ms::read(word.as_bytes()) {
-        Ok(time) => Ok(time),
-        Err(fault) => Err(Failure::from(fault)),
     }
 }
 
@@ -58,35 +131,26 @@ fn read_side(word: Option<&str>, open_side: Ms) -> Result<Ms, Failure>
     ensures { result ≡ side_read open_side word.entry }
 {
     match word {
-        Some(word) => read_time(word),
+        Some(word) => read_time(word.as_bytes()),
         None => Ok(open_side),
     }
 }
 
-/// The bound that the words of two events and of its two sides spell; a side without a word is open.
-#[tactic(auto, unfolding(crate::specs::Words::bound_read))]
-pub fn read_bound(
+// The bound that the words of two events and of its two sides spell; a side without a word is open.
+fn read_bound(
     from: &str,
     to: &str,
     lo: Option<&str>,
     hi: Option<&str>,
 ) -> Result<AskedBound, Failure>
-    ensures said { IfOk result (λ bound. bound_read from.now to.now lo.entry hi.entry ≡ Ok (difference bound.from bound.to bound.lo bound.hi)) }
-    ensures refused { IfErr result (λ failure. bound_read from.now to.now lo.entry hi.entry ≡ Err failure) }
+    ensures { result ≡ bound_read from.now to.now lo.entry hi.entry }
 {
     let (least, greatest) = open_sides();
-    match (
-        read_event(from),
-        read_event(to),
-        read_side(lo, least),
-        read_side(hi, greatest),
-    ) {
-        (Ok(from), Ok(to), Ok(lo), Ok(hi)) => Ok(AskedBound { from, to, lo, hi }),
-        (Err(failure), _, _, _) => Err(failure),
-        (_, Err(failure), _, _) => Err(failure),
-        (_, _, Err(failure), _) => Err(failure),
-        (_, _, _, Err(failure)) => Err(failure),
-    }
+    let from = read_event(from)?;
+    let to = read_event(to)?;
+    let lo = read_side(lo, least)?;
+    let hi = read_side(hi, greatest)?;
+    Ok(AskedBound { from, to, lo, hi })
 }
 
 /// The tolerance that the words of two times spell; a time without a word is 0.
@@ -127,16 +191,14 @@ fn open_sides() -> (Ms, Ms)
     (Ms::new(-HORIZON).unwrap(), Ms::new(HORIZON).unwrap())
 }
 
-/// The times of all events: the origin's, 0, and those that words spell.
-pub fn read_times<A: Allocator>(alloc: A, words: &[&str]) -> Result<Vec<Ms, A>, Failure>
-    ensures said { IfOk result (λ times. times_read words.entry.now ≡ Ok times.items) }
-    ensures origin { IfOk result (λ times. times_of times.items 0 ≡ pos 0) }
-    ensures refused { IfErr result (λ failure. (failure ≡ Failed lack.Memory) ⊎ (times_read words.entry.now ≡ Err failure)) }
+// The times that words spell.
+fn read_times<A: Allocator>(alloc: A, words: &[&str]) -> Result<Vec<Ms, A>, Failure>
+    ensures { MatchResult result (λ times. times_read (map (λ word. word.now) words.entry.now) ≡ Ok times.items)
+        (λ failure. (failure ≡ out_of_memory) ⊎ (times_read (map (λ word. word.now) words.entry.now) ≡ Err failure)) }
 {
     let mut times = Vec::new(alloc);
-    times.push(no_time())?;
     'words: for word in words {
-        let time = read_time(word)?;
+        let time = read_time(word.as_bytes())?;
         times.push(time)?;
     }
     Ok(times)

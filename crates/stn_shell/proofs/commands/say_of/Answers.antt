@@ -13,7 +13,10 @@ returns g c =
     let ours = c.in_ok-plan.plan in
     let opened = c.in_ok-plan.ensures.opened in
     MatchResult-weaker c.say.result c.say.ensures
-    (λ text said. (record { ours = ours; opened = opened; said = said.0; unsaved = refl }, inr (ours, opened, said.1)))
+    (λ text said. record {
+      done = record { ours = ours; opened = opened; said = said.0; unsaved = refl };
+      accepted = inr (ours, opened, said.1);
+    })
     (λ failure why. record {
       cause = ⊎_elim (λ memory. inr (lack_of_memory _ _ memory)) (λ refusal. inl (inr (ours, opened, refusal))) why;
       unsaved = refl;
