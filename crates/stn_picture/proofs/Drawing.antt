@@ -1,12 +1,13 @@
 -- What is drawn grows by one event.
-use Rattle.std.proofs.Common.{◌≡◌, ℕ, ℤ, suc, ◌+◌, ◌*◌, ◌<◌, Bool, List, [], ◌∷◌, ◌++◌, length, take, get_or, unsigned_abs, refl, sym, ap, subst, ◌∙◌, add-one, append_assoc}
+use Rattle.std.proofs.Common.{◌≡◌, ℕ, ℤ, suc, ◌+◌, ◌<◌, Bool, List, [], ◌∷◌, ◌++◌, length, take, get_or, refl, sym, ap, subst, ◌∙◌, add-one, append_assoc, arith}
+use Rattle.std.proofs.lemmas.Bool.Decides.{nat_tests}
 use Rattle.std.proofs.lemmas.List.{append-nil, take_more}
 use Rattle.std.proofs.lemmas.List.Concat.{flat_map-append}
 use Rattle.std.specs.List.{flat_map}
 use Rattle.stn_net.specs.Difference.{Difference}
 use Rattle.stn_windows.specs.Window.{IsWindow}
 use Rattle.stn_picture.specs.declared.span.Span.{Span}
-use Rattle.stn_picture.specs.Axis.{later, last_earliest, last_latest}
+use Rattle.stn_picture.specs.Axis.{later, furthest, reach, gap_of}
 use Rattle.stn_picture.specs.Spans.{AreSpans}
 use Rattle.stn_net.specs.Schedule.{HasSchedule}
 use Rattle.stn_lift.specs.PlanSource.{PlanSource, events_of}
@@ -14,8 +15,7 @@ use Rattle.stn_records.specs.Content.{Content}
 use Rattle.stn_site.specs.Bounds.{all_bounds}
 use Rattle.stn_site.specs.Report.{is_done}
 use Rattle.stn_questions.specs.Steps.{steps_text}
-use Rattle.stn_picture.specs.Axis.{gap_of}
-use Rattle.stn_picture.specs.Picture.{windows_text, IsWindowsPicture}
+use Rattle.stn_picture.specs.Picture.{rows_end, windows_text, IsWindowsPicture}
 
 -- one span more
 pub one_more_span : (bounds : List Difference) (done : ℕ → Bool) (n event : ℕ) (earliest latest : ℤ) (spans : List Span)
@@ -25,26 +25,16 @@ one_more_span bounds done n event earliest latest spans before is window =
     let e : event ≡ suc n = is ∙ add-one n in
     rw (add-one, e) (spans, earliest, latest, before, subst (λ k. IsWindow bounds k earliest latest) e window, refl)
 
-earliest_push : (time : ℕ) (spans : List Span) (span : Span) → last_earliest time (spans ++ span ∷ []) ≡ later (last_earliest time spans) (unsigned_abs span.earliest)
-earliest_push time [] span = refl
-earliest_push time (first ∷ spans) span = earliest_push (later time (unsigned_abs first.earliest)) spans span
+furthest_push : (time : ℕ) (spans : List Span) (span : Span) → furthest time (spans ++ span ∷ []) ≡ later (furthest time spans) (reach span)
+furthest_push time [] span = refl
+furthest_push time (first ∷ spans) span = furthest_push (later time (reach first)) spans span
 
-latest_push : (time : ℕ) (spans : List Span) (span : Span) → last_latest time (spans ++ span ∷ []) ≡ later (last_latest time spans) (unsigned_abs span.latest)
-latest_push time [] span = refl
-latest_push time (first ∷ spans) span = latest_push (later time (unsigned_abs first.latest)) spans span
-
--- the last of one time more
-pub earliest_more : (spans : List Span) (place time : ℕ) (span : Span) → place < length spans → span ≡ get_or spans place span → time ≡ last_earliest 0 (take place spans)
-    → later time (unsigned_abs span.earliest) ≡ last_earliest 0 (take (place + 1) spans)
-earliest_more spans place time span within is was =
-    ap (λ seen. later seen (unsigned_abs span.earliest)) was ∙ sym (earliest_push 0 (take place spans) span)
-    ∙ sym (ap (last_earliest 0) (take_more spans place span within ∙ ap (λ y. take place spans ++ y ∷ []) (sym is)))
-
-pub latest_more : (spans : List Span) (place time : ℕ) (span : Span) → place < length spans → span ≡ get_or spans place span → time ≡ last_latest 0 (take place spans)
-    → later time (unsigned_abs span.latest) ≡ last_latest 0 (take (place + 1) spans)
-latest_more spans place time span within is was =
-    ap (λ seen. later seen (unsigned_abs span.latest)) was ∙ sym (latest_push 0 (take place spans) span)
-    ∙ sym (ap (last_latest 0) (take_more spans place span within ∙ ap (λ y. take place spans ++ y ∷ []) (sym is)))
+-- how far the line has to reach for one event more
+pub furthest_more : (spans : List Span) (place time : ℕ) (span : Span) → place < length spans → span ≡ get_or spans place span → time ≡ furthest 0 (take place spans)
+    → later time (reach span) ≡ furthest 0 (take (place + 1) spans)
+furthest_more spans place time span within is was =
+    ap (λ seen. later seen (reach span)) was ∙ sym (furthest_push 0 (take place spans) span)
+    ∙ sym (ap (furthest 0) (take_more spans place span within ∙ ap (λ y. take place spans ++ y ∷ []) (sym is)))
 
 -- the text of one item more
 pub text_grown : {X : Type 0} (f : X → List ℕ) (items : List X) (place : ℕ) (item : X) (front old new : List ℕ) → place < length items → item ≡ get_or items place item
@@ -59,10 +49,13 @@ text_grown f items place item front old new within is was grown =
 -- the picture of bounds with a schedule
 pub windows_picture : (source : PlanSource) (state : Content) (spans seen : List Span) (text : List ℕ)
     → HasSchedule (all_bounds source state) → AreSpans (all_bounds source state) (is_done state) (events_of source) spans → seen ≡ spans
-    → text ≡ windows_text (20 * events_of source + 40) (gap_of seen) (steps_text source) seen → IsWindowsPicture source state text
+    → text ≡ windows_text (rows_end (events_of source)) (gap_of seen) (steps_text source) seen → IsWindowsPicture source state text
 windows_picture source state spans seen text possible windows is whole = record {
   possible = possible;
   spans = spans;
   windows = windows;
-  whole = whole ∙ ap (λ drawn. windows_text (20 * events_of source + 40) (gap_of drawn) (steps_text source) drawn) is;
+  whole = whole ∙ ap (λ drawn. windows_text (rows_end (events_of source)) (gap_of drawn) (steps_text source) drawn) is;
 }
+
+pub later_below : (one other most : ℕ) → one < most → other < most → later one other < most
+later_below one other most first second = grind (arith, nat_tests)

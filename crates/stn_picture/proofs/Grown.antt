@@ -1,6 +1,7 @@
 -- Texts that grow piece by piece.
-use Rattle.std.proofs.Common.{◌≡◌, ℕ, List, ◌++◌, cond, Result, Ok, Err, OnOk, ap, ◌∙◌, append_assoc}
-use Rattle.std.specs.Prelude.{is_ok}
+use Rattle.std.proofs.Common.{◌≡◌, ℕ, List, ◌++◌, codes, cond, Result, Ok, Err, OnOk, ap, sym, true≢false, ◌∙◌, append_assoc}
+use Rattle.std.specs.Prelude.{is_ok, MatchResult}
+use Rattle.std.specs.Result.{IsOk, IsErr}
 
 -- one piece more
 pub then : (front seen piece : List ℕ) {middle end : List ℕ} → middle ≡ front ++ seen → end ≡ middle ++ piece → end ≡ front ++ (seen ++ piece)
@@ -11,3 +12,31 @@ pub last : {T E : Type 0} (result : Result T E) (front seen piece : List ℕ) {m
     → end ≡ cond (is_ok result) (middle ++ piece) middle → OnOk result (end ≡ front ++ (seen ++ piece))
 last (Ok value) front seen piece first second = then front seen piece first second
 last (Err fault) front seen piece first second = tt
+
+-- what holds where a write to memory succeeded
+pub in_memory : {T E F : Type 0} (P : Type 0) (result : Result T E) (written : Result T F) → MatchResult result (λ _. IsOk written) (λ _. IsErr written) → OnOk written P → OnOk result P
+in_memory P (Ok value) (Ok other) was holds = holds
+in_memory P (Ok value) (Err fault) was holds = absurd (true≢false (sym was))
+in_memory P (Err fault) written was holds = tt
+
+-- what holds after a write that succeeded
+pub on_ok : {T F : Type 0} (P : Type 0) (written : Result T F) → IsOk written → OnOk written P → P
+on_ok P (Ok value) was holds = holds
+on_ok P (Err fault) was holds = absurd (true≢false (sym was))
+
+-- one piece more, if it could be appended
+pub further : {T E : Type 0} (result : Result T E) (front seen piece text end : List ℕ) {middle : List ℕ} → middle ≡ front ++ seen
+    → OnOk result (end ≡ middle ++ piece) → front ++ (seen ++ piece) ≡ front ++ text → OnOk result (end ≡ front ++ text)
+further (Ok value) front seen piece text end first second same = then front seen piece first second ∙ same
+further (Err fault) front seen piece text end first second same = tt
+
+-- the pieces of a bar, and those of the words beside it, in one text
+pub bar_joined : (front fill earliest top last more : List ℕ)
+    → front ++ (codes "<path fill='" ++ ((fill ++ (codes "' d='M" ++ (earliest ++ (codes " " ++ (top ++ (codes "H" ++ (last ++ (codes "h" ++ (more ++ (codes "e-2v10H" ++ earliest)))))))))) ++ codes "z'/>\n"))
+    ≡ front ++ (codes "<path fill='" ++ fill ++ codes "' d='M" ++ earliest ++ codes " " ++ top ++ codes "H" ++ last ++ codes "h" ++ more ++ codes "e-2v10H" ++ earliest ++ codes "z'/>\n")
+bar_joined front fill earliest top last more = simp append_assoc
+
+pub ends_joined : (front base window cut : List ℕ)
+    → front ++ (codes "<text x='535' y='" ++ (base ++ codes "'>") ++ window ++ (cut ++ codes "</text>\n"))
+    ≡ front ++ (codes "<text x='535' y='" ++ base ++ codes "'>" ++ window ++ cut ++ codes "</text>\n")
+ends_joined front base window cut = simp append_assoc

@@ -1,5 +1,5 @@
 -- A plan and its live records have one picture.
-use Rattle.std.proofs.Common.{◌≡◌, ℕ, zero, suc, ◌+◌, ◌*◌, Bool, List, [], ◌∷◌, ◌++◌, map, refl, sym, ap, subst, ◌∙◌, ⊎_elim, inl, inr}
+use Rattle.std.proofs.Common.{◌≡◌, ℕ, zero, suc, Bool, List, [], ◌∷◌, ◌++◌, map, refl, sym, ap, subst, ◌∙◌, ⊎_elim, inl, inr}
 use Rattle.std.proofs.lemmas.List.{append_cancel_left}
 use Rattle.std.specs.List.{flat_map}
 use Rattle.stn_net.specs.Difference.{Difference}
@@ -19,7 +19,7 @@ use Rattle.stn_questions.specs.Steps.{steps_text}
 use Rattle.stn_picture.specs.declared.span.Span.{Span}
 use Rattle.stn_picture.specs.Axis.{gap_of}
 use Rattle.stn_picture.specs.Spans.{AreSpans}
-use Rattle.stn_picture.specs.Picture.{windows_text, cycle_text, IsWindowsPicture, IsCyclePicture, IsPicture}
+use Rattle.stn_picture.specs.Picture.{rows_end, windows_text, cycle_height, cycle_text, IsWindowsPicture, IsCyclePicture, IsPicture}
 
 abbrev Entries : Type 0
 Entries = List (SiteCounter × Record)
@@ -57,14 +57,14 @@ one_picture reports refutes source state text other p q =
     (λ (mine : IsWindowsPicture source state text). ⊎_elim
     (λ (theirs : IsWindowsPicture source state other).
     mine.whole
-    ∙ ap (λ spans. windows_text (20 * events_of source + 40) (gap_of spans) (steps_text source) spans)
+    ∙ ap (λ spans. windows_text (rows_end (events_of source)) (gap_of spans) (steps_text source) spans)
     (one_spans (all_bounds source state) (is_done state) (events_of source) mine.spans theirs.spans mine.possible mine.windows theirs.windows)
     ∙ sym theirs.whole)
     (λ (theirs : IsCyclePicture source state other). absurd (refutes (all_bounds source state) theirs.part.links theirs.part.negative mine.possible)) q)
     (λ (mine : IsCyclePicture source state text). ⊎_elim
     (λ (theirs : IsWindowsPicture source state other). absurd (refutes (all_bounds source state) mine.part.links mine.part.negative theirs.possible))
     (λ (theirs : IsCyclePicture source state other).
-    mine.whole ∙ ap cycle_text (one_conflict reports source state mine.conflict theirs.conflict mine.part theirs.part) ∙ sym theirs.whole) q)
+    mine.whole ∙ ap (λ conflict. cycle_text (cycle_height (events_of source) conflict) (steps_text source) conflict) (one_conflict reports source state mine.conflict theirs.conflict mine.part theirs.part) ∙ sym theirs.whole) q)
     p
 
 module _ (source : PlanSource) (s t : Content) (live : live_of s ≡ live_of t) where

@@ -1,53 +1,69 @@
 ghost use Rattle.std.specs.Prelude.{◌≡◌, ◌<◌, ◌^◌, unsigned_abs};
-ghost use Rattle.stn_picture.specs.Axis.{gap_of, last_earliest, last_latest, later, lesser};
+ghost use Rattle.stn_picture.specs.Axis.{gap_of, furthest, reach, is_open, later, line_end};
 
 use crate::span::Span;
 use stn_time::Ms;
 
+// The milliseconds of half a year.
+const HALF_YEAR: u64 = 182 * 86_400_000 + 43_200_000;
+
 /// How many whole seconds lie between two marks on the line of time, which has five such gaps.
 pub fn gap_of(spans: &[Span]) -> u64
     ensures value { result ≡ gap_of spans.now }
-    ensures small { result < 2 ^ 60 }
+    ensures small { result < 2 ^ 40 }
 {
-    lesser(last_latest(spans) / 5000, last_earliest(spans) / 2500) + 1
+    furthest(spans) / 5000 + 1
 }
 
-fn lesser(one: u64, other: u64) -> u64
-    ensures { result ≡ lesser one other }
-{
-    if one < other { one } else { other }
-}
-
-fn last_earliest(spans: &[Span]) -> u64
-    ensures { result ≡ last_earliest 0 spans.now }
+fn furthest(spans: &[Span]) -> u64
+    ensures value { result ≡ furthest 0 spans.now }
+    ensures small { result < 2 ^ 50 }
 {
     let mut last = 0;
     for span in spans {
-        let time = size(span.earliest);
-        last = later(last, time);
+        last = later(last, reach(span));
     }
     last
 }
 
-fn last_latest(spans: &[Span]) -> u64
-    ensures { result ≡ last_latest 0 spans.now }
+// How far the line has to reach for an event, in milliseconds.
+fn reach(span: &Span) -> u64
+    ensures value { result ≡ reach span.now }
+    ensures small { result < 2 ^ 50 }
 {
-    let mut last = 0;
-    for span in spans {
-        let time = size(span.latest);
-        last = later(last, time);
+    if is_open(span.latest) {
+        2 * size(span.earliest)
+    } else {
+        size(span.latest)
     }
-    last
 }
 
-fn later(one: u64, other: u64) -> u64
+// Whether an event that may come so late has no deadline.
+fn is_open(latest: Ms) -> bool
+    ensures { result ≡ is_open latest }
+{
+    HALF_YEAR < size(latest)
+}
+
+/// The later of two times, or the larger of two numbers.
+pub fn later(one: u64, other: u64) -> u64
     ensures { result ≡ later one other }
 {
     if one < other { other } else { one }
 }
 
-fn size(time: Ms) -> u64
-    ensures { result ≡ unsigned_abs time }
+/// The milliseconds of a time that is not negative.
+pub fn size(time: Ms) -> u64
+    ensures value { result ≡ unsigned_abs time }
+    ensures small { result < 2 ^ 40 }
 {
     time.get().unsigned_abs()
+}
+
+/// The second at which the line of time ends.
+pub fn line_end(gap: u64) -> u64
+    requires { gap < 2 ^ 40 }
+    ensures { result ≡ line_end gap }
+{
+    5 * gap
 }

@@ -1,4 +1,4 @@
-ghost use Rattle.std.specs.Prelude.{◌≡◌, ◌+◌, ◌*◌, ℕ, List, ◌++◌, IfOk, OnOk, OnErr};
+ghost use Rattle.std.specs.Prelude.{◌≡◌, ◌+◌, ◌*◌, ◌<◌, ◌^◌, ℕ, List, ◌++◌, IfOk, OnOk, OnErr};
 ghost use Rattle.stn_net.specs.Schedule.{HasSchedule};
 ghost use Rattle.stn_lift.specs.PlanSource.{events_of};
 ghost use Rattle.stn_site.specs.Bounds.{all_bounds};
@@ -7,9 +7,9 @@ ghost use Rattle.stn_site.specs.Windows.{AreWindows};
 ghost use Rattle.stn_questions.specs.Steps.{steps_text};
 ghost use Rattle.stn_picture.specs.Axis.{gap_of};
 ghost use Rattle.stn_picture.specs.Spans.{AreSpans};
-ghost use Rattle.stn_picture.specs.Picture.{windows_text, IsPicture, IsWindowsPicture, IsCyclePicture};
+ghost use Rattle.stn_picture.specs.Picture.{rows_end, windows_text, cycle_text, IsPicture, IsWindowsPicture, IsCyclePicture};
 
-use crate::axis::gap_of;
+use crate::axis::{gap_of, later};
 use crate::span::Span;
 use crate::windows::{
     append_bars, append_cycle, append_ends, append_head, append_labels, append_marks,
@@ -60,21 +60,24 @@ fn cycle_of<A: Allocator + Copy>(plan: &SitePlan<A>) -> Result<Vec<u8, A>, Memor
     requires { ¬ HasSchedule (all_bounds plan.now.source plan.now.state) }
     ensures { IfOk result (λ text. IsCyclePicture plan.now.source plan.now.state text.items) }
 {
+    let mut steps = Vec::new(plan.alloc());
+    print_steps(plan, &mut steps)?;
     let mut conflict = Vec::new(plan.alloc());
     plan.report_conflict(&mut conflict)?;
+    let height = later(10 * u64::from(plan.base().events()), conflict.len() as u64) + 100;
     let mut text = Vec::new(plan.alloc());
-    append_cycle(&mut text, &conflict)?;
+    append_cycle(&mut text, height, &steps, &conflict)?;
     Ok(text)
 }
 
 // The picture of the steps and of these windows.
 fn windows_of<A: Allocator + Copy>(plan: &SitePlan<A>, spans: &[Span]) -> Result<Vec<u8, A>, Memory>
     ensures { IfOk result (λ text. text.items
-        ≡ windows_text (20 * events_of plan.now.source + 40) (gap_of spans.now) (steps_text plan.now.source) spans.now) }
+        ≡ windows_text (rows_end (events_of plan.now.source)) (gap_of spans.now) (steps_text plan.now.source) spans.now) }
 {
     let mut steps = Vec::new(plan.alloc());
     print_steps(plan, &mut steps)?;
-    let height = 20 * u64::from(plan.base().events()) + 40;
+    let height = 20 * u64::from(plan.base().events()) + 30;
     let mut text = Vec::new(plan.alloc());
     append_windows(&mut text, height, &steps, spans)?;
     Ok(text)
@@ -86,11 +89,12 @@ fn append_windows<B: Allocator>(
     steps: &[u8],
     spans: &[Span],
 ) -> Result<(), Memory>
+    requires { height < 2 ^ 40 }
     ensures { OnOk result (out.new.items ≡ out.old.items ++ windows_text height (gap_of spans.now) steps.now spans.now) }
 {
     let gap = gap_of(spans);
     append_head(out, height)?;
-    append_labels(out, steps)?;
+    append_labels(out, 50, b"</tspan><tspan x='800' dy='40'>", steps)?;
     append_marks(out, height, gap)?;
     append_bars(out, height, gap, spans)?;
     append_ends(out, gap, spans)?;

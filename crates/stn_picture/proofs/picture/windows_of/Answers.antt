@@ -1,8 +1,8 @@
-use Rattle.std.proofs.Common.{◌+◌, ◌*◌, ◌++◌, ap, ◌∙◌}
+use Rattle.std.proofs.Common.{◌++◌, ap, ◌∙◌}
 use Rattle.stn_lift.specs.PlanSource.{events_of}
 use Rattle.stn_questions.specs.Steps.{steps_text}
 use Rattle.stn_picture.specs.Axis.{gap_of}
-use Rattle.stn_picture.specs.Picture.{windows_text}
+use Rattle.stn_picture.specs.Picture.{rows_end, windows_text}
 use Rattle.stn_picture.proofs.picture.windows_of.Goals as goal
 
 pub returns : goal.returns
@@ -11,4 +11,4 @@ returns g c =
     let events = c.from.ensures ∙ c.events.ensures.value ∙ ap events_of c.base.ensures in
     let steps = c.deref.ensures.value ∙ c.in_ok-print_steps.ensures.printed ∙ ap (λ front. front ++ steps_text c.args.plan.now.source) c.new-steps.ensures.items in
     c.in_ok-append_windows.ensures
-    ∙ (λ i. c.new-text.ensures.items i ++ windows_text (20 * events i + 40) (gap_of spans) (steps i) spans)
+    ∙ (λ i. c.new-text.ensures.items i ++ windows_text (rows_end (events i)) (gap_of spans) (steps i) spans)

@@ -1,15 +1,8 @@
-use Rattle.std.proofs.Common.{◌+◌, ◌*◌, ◌++◌, ◌∙◌, ap, codes, decimal}
-use Rattle.stn_site.specs.Lines.{window_line}
-use Rattle.stn_picture.specs.Picture.{cut_text}
-use Rattle.stn_picture.proofs.Grown.{then, last}
+use Rattle.stn_picture.proofs.Grown.{on_ok, in_memory, then, further, ends_joined}
 use Rattle.stn_picture.proofs.windows.append_end.Goals as goal
 
 pub returns : goal.returns
-returns g c =
-    let span = c.args.span in
-    let first = c.in_ok-extend_from_slice.ensures.items in
-    let second = then c.args.out.now.items (codes "<text x='535' y='") (decimal (20 * span.event + 20)) first (c.in_ok-append_number.ensures ∙ ap (λ x. c.extend_from_slice.new.self.items ++ decimal (20 * x + 20)) (c.from.ensures ∙ c.number.ensures.value)) in
-    let third = then c.args.out.now.items (codes "<text x='535' y='" ++ (decimal (20 * span.event + 20))) (codes "'>") second c.in_ok-extend_from_slice-2.ensures.items in
-    let fourth = then c.args.out.now.items (codes "<text x='535' y='" ++ (decimal (20 * span.event + 20)) ++ codes "'>") (window_line span.event span.earliest span.latest span.done) third c.in_ok-append_window_line.ensures.line in
-    let fifth = then c.args.out.now.items (codes "<text x='535' y='" ++ (decimal (20 * span.event + 20)) ++ codes "'>" ++ (window_line span.event span.earliest span.latest span.done)) (cut_text c.args.gap span) fourth (c.in_ok-extend_from_slice-3.ensures.items ∙ ap (λ x. c.append_window_line.new.out.items ++ x) (c.cut_text.ensures)) in
-    last c.extend_from_slice-4.result c.args.out.now.items (codes "<text x='535' y='" ++ (decimal (20 * span.event + 20)) ++ codes "'>" ++ (window_line span.event span.earliest span.latest span.done) ++ (cut_text c.args.gap span)) (codes "</text>\n") fifth c.extend_from_slice-4.ensures.items
+returns g c = 
+    let first = on_ok _ c.write.result c.in_ok-in_memory.ensures c.write.ensures.bytes in
+    let second = then c.args.out.now.items _ _ first c.in_ok-append_window_line.ensures.line in
+    further c.in_memory-2.result c.args.out.now.items _ _ _ _ second (in_memory _ c.in_memory-2.result c.write-2.result c.in_memory-2.ensures c.write-2.ensures.bytes) (rw (c.words_base-base.ensures, c.cut_text-cut.ensures) (ends_joined _ _ _ _))
