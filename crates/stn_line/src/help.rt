@@ -1,3 +1,10 @@
+//! What the program says of words that are no command line.
+
+ghost use Rattle.std.specs.Prelude.{◌≢◌, [], IfOk};
+ghost use Rattle.std.specs.String.{string_bytes};
+
+use std::alloc::{AllocError, Global};
+
 /// What follows the list of commands in the help of the program.
 pub(crate) const REFUSALS: &str = "\
 Words:
@@ -34,3 +41,16 @@ A refusal is printed as `refused` and a number. Nothing is changed then.
 
 Status: 0 done; 1 refused, or a file, a device or the net failed; 2 wrong words.
 What one means and what to do: `stn explain 41`, `stn explain file`; all of them: `stn explain`.";
+
+/// What is said of words that are no command line, or ask for help or the version: the text of clap. Where clap has none, what
+/// follows the list of commands in the help.
+pub fn said(alloc: Global, error: &clap::Error) -> Result<String, AllocError>
+    ensures { IfOk result (λ text. string_bytes text ≢ []) }
+{
+    let text = format!(in alloc; "{error}")?;
+    if text.is_empty() {
+        String::from_str(alloc, REFUSALS)
+    } else {
+        Ok(text)
+    }
+}

@@ -1,6 +1,7 @@
 //! The words of the command line: what `stn` is asked to do, on which log and for which site.
 #![tactic(auto)]
 
+pub use help::said;
 pub use reading::line;
 pub use words::{Line, LineFault, SiteLog};
 
