@@ -3,8 +3,9 @@
 ghost use Rattle.std.specs.Prelude.{IfErr, ⊤};
 ghost use Rattle.stn_store.specs.Store.{IsLack};
 
+use crate::place::NEW_MODE;
 use std::alloc::Global;
-use std::fs::{self, File, Metadata, OpenFile, OpenOptions};
+use std::fs::{self, File, Metadata, OpenOptions};
 use std::io::{self, ErrorKind};
 use std::os::unix::fs::{MetadataExt, OpenOptionsExt, fchown};
 use std::rt::Files;
@@ -13,10 +14,7 @@ use stn_log::save_plan;
 use stn_refusal::{Failure, Fault};
 use stn_site::SitePlan;
 
-/// Who may read and write a new file; the system takes away what the umask says.
-pub const NEW_MODE: u32 = 0o666;
-
-/// The same of a file that is given the mode of another one.
+// Who may read and write a file until it is given the mode of another one.
 const OWN_MODE: u32 = 0o600;
 
 /// What a call on files answers.
@@ -37,21 +35,6 @@ pub fn make_file<T: Files>(rt: &T, path: &str, mode: u32) -> io::Result<T::File>
     options.create_new(true);
     options.mode(mode);
     options.open(rt, path)
-}
-
-/// Opens an empty file. What is no file, or isn't empty, is left alone.
-pub fn open_empty<T: Files>(rt: &T, path: &str) -> io::Result<T::File> {
-    let found = fs::symlink_metadata(rt, path)?;
-    if !found.is_file() || found.len() != 0 {
-        return Err(io::Error::from(ErrorKind::AlreadyExists));
-    }
-    let mut options = OpenOptions::new();
-    options.read(true);
-    options.write(true);
-    match options.open(rt, path) {
-        Err(error) if error.kind() == ErrorKind::PermissionDenied => fs::open(rt, path),
-        opened => opened,
-    }
 }
 
 /// Makes a file beside a log, under the first of its names that is free: its path, and the file.
@@ -114,13 +97,17 @@ fn fill(
     }
 }
 
-// Gives a file the owner and the mode of another one. The owner is the system's to refuse.
+// Gives a file the owner and the mode of another one.
 fn keep(file: &File, old: &Metadata) -> io::Result<()> {
-    let made = file.metadata()?;
+    give_owner(file, &file.metadata()?, old);
+    file.set_permissions(old.permissions())
+}
+
+/// Gives a file the owner and the group of another one, or the group alone. Both are the system's to refuse.
+pub fn give_owner(file: &File, made: &Metadata, old: &Metadata) {
     if made.uid() != old.uid() || made.gid() != old.gid() {
         if fchown(file, Some(old.uid()), Some(old.gid())).is_err() {
             let _ = fchown(file, None, Some(old.gid()));
         }
     }
-    file.set_permissions(old.permissions())
 }

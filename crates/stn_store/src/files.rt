@@ -4,7 +4,8 @@ ghost use Rattle.std.specs.Prelude.{IfErr, ⊤};
 ghost use Rattle.stn_store.specs.Store.{IsLack};
 
 use crate::beside::of_files;
-use crate::place::Place;
+use crate::lock::{Lock, can_lock};
+use crate::place::{Place, resolve};
 use crate::reading::{read_log, read_text};
 use crate::store::Store;
 use std::alloc::Global;
@@ -15,12 +16,12 @@ use stn_records::Site;
 use stn_refusal::{Failure, Fault};
 use stn_site::SitePlan;
 
-/// The log of a name, and the lock of a file beside it, which the system lets go when the file is closed, also where the program is
-/// stopped.
+/// The log of a name: the place that the name led to when it was held, and the lock beside that place.
 #[derive(Drop)]
 pub struct HeldFile {
     name: String,
-    _lock: File,
+    place: Place,
+    lock: Lock,
 }
 
 /// Files, each under its path.
@@ -50,12 +51,17 @@ impl<T: Files<File = File> + AllocGlobal> Store for FileStore<'_, T> {
     ghost held_name = { λ held. string_bytes held.name };
 
     fn hold(&self, path: &str) -> Result<HeldFile, Failure> {
-        let lock = Place::find(self.rt, path)?.hold(self.rt)?;
         let name = String::from_str(self.rt.alloc(), path)?;
-        Ok(HeldFile { name, _lock: lock })
+        let path = resolve(self.rt, path)?;
+        let lock = Lock::take(self.rt, path.as_str())?;
+        let place = Place::find(self.rt, path)?;
+        place.fit(self.rt, &lock);
+        Ok(HeldFile { name, place, lock })
     }
 
     fn can_save(&self, path: &str) -> Result<(), Failure> {
+        let path = resolve(self.rt, path)?;
+        can_lock(self.rt, path.as_str())?;
         Place::find(self.rt, path)?.can_save(self.rt)
     }
 
@@ -75,7 +81,7 @@ impl<T: Files<File = File> + AllocGlobal> Store for FileStore<'_, T> {
     }
 
     fn load_held(&self, held: &HeldFile, site: Site) -> Result<SitePlan<Global>, Failure> {
-        self.load(held.name.as_str(), site)
+        read_log(self.rt.alloc(), held.place.open(self.rt)?, site)
     }
 
     fn text(&self, path: &str) -> Result<Vec<u8>, Failure> {
@@ -83,10 +89,12 @@ impl<T: Files<File = File> + AllocGlobal> Store for FileStore<'_, T> {
     }
 
     fn save_new(&mut self, held: &HeldFile, plan: &SitePlan<Global>) -> Result<(), Failure> {
-        Place::find(self.rt, held.name.as_str())?.make(self.rt, plan)
+        let made = held.place.make(self.rt, plan);
+        held.place.fit(self.rt, &held.lock);
+        made
     }
 
     fn save(&mut self, held: &HeldFile, plan: &SitePlan<Global>) -> Result<(), Failure> {
-        Place::find(self.rt, held.name.as_str())?.replace(self.rt, plan)
+        held.place.replace(self.rt, &held.lock, plan)
     }
 }

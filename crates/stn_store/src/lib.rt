@@ -7,7 +7,9 @@ pub use store::Store;
 
 mod beside;
 mod files;
+mod lock;
 mod memory;
 mod place;
 mod reading;
+mod same;
 mod store;

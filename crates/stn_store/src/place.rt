@@ -1,97 +1,120 @@
-//! The file of a log: where it is, how it is held, and how it is replaced.
+//! The file of a log: where it is, and how it is replaced.
 
 ghost use Rattle.std.specs.Prelude.{◌≡◌, ◌⊎◌, IfErr, ⊤};
 ghost use Rattle.stn_store.specs.Store.{log_there};
 ghost use Rattle.stn_store.specs.Store.{IsLack};
 
-use crate::beside::{NEW_MODE, make_beside, make_file, of_files, open_empty, write_beside};
+use crate::beside::{make_beside, of_files, write_beside};
+use crate::lock::Lock;
+use crate::same::{has_name, is_free};
 use std::alloc::Global;
-use std::fs::{self, File, Metadata};
-use std::io::ErrorKind;
+use std::fs::{self, File, Metadata, OpenOptions};
+use std::io::{self, Error, ErrorKind};
 use std::os::unix::fs::MetadataExt;
 use std::path::Path;
 use std::rt::Files;
 use stn_refusal::{Code, Failure, Fault};
 use stn_site::SitePlan;
 
-/// Where a log is, or is to be. The path is no link.
+/// Who may read and write a new log; the system takes away what the umask says.
+pub const NEW_MODE: u32 = 0o666;
+
+/// Where a log is, or is to be, by a path that is no link. The log that is there is kept open, so that no other file becomes it.
 #[derive(Drop)]
 pub struct Place {
     path: String,
-    found: Option<Metadata>,
+    log: Option<File>,
+}
+
+/// The path that a name leads to by now. It is no link.
+pub fn resolve<T: Files + AllocGlobal>(rt: &T, name: &str) -> Result<String, Failure>
+    ensures { IfErr result (IsLack (λ _. ⊤)) }
+{
+    match fs::symlink_metadata(rt, name) {
+        Ok(found) if found.is_symlink() => {
+            Ok(of_files(fs::canonicalize(rt, name))?.into_string())
+        }
+        Ok(_) => Ok(String::from_str(rt.alloc(), name)?),
+        Err(error) if error.kind() == ErrorKind::NotFound && !name.is_empty() => {
+            Ok(String::from_str(rt.alloc(), name)?)
+        }
+        Err(_) => Err(Failure::Failed(Fault::File)),
+    }
+}
+
+// Whether a save may put another file in place of what was found: a file that may be written, and has no other name.
+fn may_replace(found: &Metadata) -> bool {
+    found.is_file() && found.nlink() == 1 && !found.permissions().readonly()
+}
+
+// Opens a log to be written. What is no such file is left alone.
+fn open_log<T: Files>(rt: &T, path: &str) -> io::Result<T::File> {
+    if !may_replace(&fs::symlink_metadata(rt, path)?) {
+        return Err(Error::from(ErrorKind::PermissionDenied));
+    }
+    let mut options = OpenOptions::new();
+    options.write(true);
+    options.open(rt, path)
 }
 
 impl Place {
-    /// The place that a path leads to. What is there and is no file is a fault.
-    pub fn find<T: Files + AllocGlobal>(rt: &T, path: &str) -> Result<Place, Failure>
+    /// The place of a path that is no link. A log that is there and may not be replaced is a fault: one that is no file, has another
+    /// name, or may not be written.
+    pub fn find<T: Files<File = File>>(rt: &T, path: String) -> Result<Place, Failure>
         ensures { IfErr result (IsLack (λ _. ⊤)) }
     {
-        match fs::symlink_metadata(rt, path) {
-            Ok(found) if found.is_symlink() => Place::of_link(rt, path),
-            Ok(found) => Place::of_file(String::from_str(rt.alloc(), path)?, found),
-            Err(error) if error.kind() == ErrorKind::NotFound && !path.is_empty() => Ok(Place {
-                path: String::from_str(rt.alloc(), path)?,
-                found: None,
+        match open_log(rt, path.as_str()) {
+            Ok(log) => Ok(Place {
+                path,
+                log: Some(log),
             }),
+            Err(error) if error.kind() == ErrorKind::NotFound => Ok(Place { path, log: None }),
             Err(_) => Err(Failure::Failed(Fault::File)),
         }
     }
 
-    // The place that a link leads to.
-    fn of_link<T: Files + AllocGlobal>(rt: &T, link: &str) -> Result<Place, Failure>
+    // What the system says of the log that was found.
+    fn found(&self) -> Result<Option<Metadata>, Failure>
         ensures { IfErr result (IsLack (λ _. ⊤)) }
     {
-        let path = of_files(fs::canonicalize(rt, link))?;
-        let found = of_files(fs::metadata(rt, path.as_path()))?;
-        Place::of_file(path.into_string(), found)
+        match &self.log {
+            Some(log) => Ok(Some(of_files(log.metadata())?)),
+            None => Ok(None),
+        }
     }
 
-    // The place of a file.
-    fn of_file(path: String, found: Metadata) -> Result<Place, Failure>
+    /// Gives its lock the owner and the group of the log that is there by now, and the mode of who may write it.
+    pub fn fit<T: Files>(&self, rt: &T, lock: &Lock) {
+        if let Ok(log) = fs::symlink_metadata(rt, self.path.as_str()) {
+            lock.fit(&log);
+        }
+    }
+
+    /// Opens the log to be read.
+    pub fn open<T: Files<File = File>>(&self, rt: &T) -> Result<File, Failure>
         ensures { IfErr result (IsLack (λ _. ⊤)) }
     {
-        if found.is_file() {
-            Ok(Place {
-                path,
-                found: Some(found),
-            })
+        if of_files(self.stands(rt))? {
+            of_files(fs::open(rt, self.path.as_str()))
         } else {
             Err(Failure::Failed(Fault::File))
         }
     }
 
-    /// Waits until no other program holds the log, and holds it for as long as the file is open.
-    pub fn hold<T: Files<File = File> + AllocGlobal>(&self, rt: &T) -> Result<File, Failure>
-        ensures { IfErr result (IsLack (λ _. ⊤)) }
-    {
-        let lock = self.open_lock(rt)?;
-        of_files(lock.lock())?;
-        Ok(lock)
-    }
-
-    // Opens the file beside that is locked by who holds the log. It is empty, and is never removed.
-    fn open_lock<T: Files<File = File> + AllocGlobal>(&self, rt: &T) -> Result<File, Failure>
-        ensures { IfErr result (IsLack (λ _. ⊤)) }
-    {
-        let log = self.path.as_str();
-        let path = format!(in rt.alloc(); "{log}.lock")?;
-        let mode = match &self.found {
-            Some(found) => found.mode() & NEW_MODE,
-            None => NEW_MODE,
-        };
-        match make_file(rt, path.as_str(), mode) {
-            Err(error) if error.kind() == ErrorKind::AlreadyExists => {
-                of_files(open_empty(rt, path.as_str()))
-            }
-            made => of_files(made),
+    // Whether the path is still that of the log that was found, or still nobody's.
+    fn stands<T: Files<File = File>>(&self, rt: &T) -> io::Result<bool> {
+        match &self.log {
+            Some(log) => has_name(rt, log, self.path.as_str()),
+            None => is_free(rt, self.path.as_str()),
         }
     }
 
-    /// Finds out whether the log can be held, and written beside.
+    /// Finds out whether the log can be written beside.
     pub fn can_save<T: Files<File = File> + AllocGlobal>(&self, rt: &T) -> Result<(), Failure>
         ensures { IfErr result (IsLack (λ _. ⊤)) }
     {
-        let _lock = self.open_lock(rt)?;
+        let folder = self.open_folder(rt)?;
+        of_files(folder.sync_all())?;
         let (path, _file) = make_beside(rt, self.path.as_str(), NEW_MODE)?;
         of_files(fs::remove_file(rt, path.as_str()))
     }
@@ -104,14 +127,13 @@ impl Place {
     ) -> Result<(), Failure>
         ensures { IfErr result (λ failure. (failure ≡ log_there) ⊎ IsLack (λ _. ⊤) failure) }
     {
+        let folder = self.open_folder(rt)?;
+        of_files(folder.sync_all())?;
         let beside = write_beside(rt, self.path.as_str(), None, plan)?;
         let linked = fs::hard_link(rt, beside.as_str(), self.path.as_str());
         let _ = fs::remove_file(rt, beside.as_str());
         match linked {
-            Ok(()) => {
-                self.force_folder(rt);
-                Ok(())
-            }
+            Ok(()) => force(&folder),
             Err(error) if error.kind() == ErrorKind::AlreadyExists => Err(Failure::refused(
                 Code::LogThere,
             )),
@@ -119,20 +141,20 @@ impl Place {
         }
     }
 
-    /// Saves the log of a site's plan in place of the file that is there.
+    /// Saves the log of a site's plan in place of the file that was found.
     pub fn replace<T: Files<File = File> + AllocGlobal>(
         &self,
         rt: &T,
+        lock: &Lock,
         plan: &SitePlan<Global>,
     ) -> Result<(), Failure>
         ensures { IfErr result (IsLack (λ _. ⊤)) }
     {
-        let beside = write_beside(rt, self.path.as_str(), self.found.as_ref(), plan)?;
-        match fs::rename(rt, beside.as_str(), self.path.as_str()) {
-            Ok(()) => {
-                self.force_folder(rt);
-                Ok(())
-            }
+        let folder = self.open_folder(rt)?;
+        let found = self.found()?;
+        let beside = write_beside(rt, self.path.as_str(), found.as_ref(), plan)?;
+        match self.take_name(rt, lock, &folder, beside.as_str()) {
+            Ok(()) => force(&folder),
             Err(_) => {
                 let _ = fs::remove_file(rt, beside.as_str());
                 Err(Failure::Failed(Fault::File))
@@ -140,14 +162,40 @@ impl Place {
         }
     }
 
-    // Waits until the device has the folder, as far as the system does so. The log is saved by then.
-    fn force_folder<T: Files<File = File>>(&self, rt: &T) {
+    // Gives the name of the log to the file beside, where the device takes the folder, the lock still holds and nobody else replaced
+    // the log.
+    fn take_name<T: Files<File = File>>(
+        &self,
+        rt: &T,
+        lock: &Lock,
+        folder: &File,
+        beside: &str,
+    ) -> io::Result<()> {
+        folder.sync_all()?;
+        if !lock.holds(rt)? || !self.stands(rt)? {
+            return Err(Error::from(ErrorKind::ResourceBusy));
+        }
+        fs::rename(rt, beside, self.path.as_str())
+    }
+
+    // The folder of the log.
+    fn open_folder<T: Files<File = File>>(&self, rt: &T) -> Result<File, Failure>
+        ensures { IfErr result (IsLack (λ _. ⊤)) }
+    {
         let folder = match Path::new(self.path.as_str()).parent() {
             Some(folder) if !folder.as_str().is_empty() => folder.as_str(),
             _ => ".",
         };
-        if let Ok(folder) = fs::open(rt, folder) {
-            let _ = folder.sync_all();
-        }
+        of_files(fs::open(rt, folder))
+    }
+}
+
+// Waits until the device has the names of a folder. The log is saved by then.
+fn force(folder: &File) -> Result<(), Failure>
+    ensures { IfErr result (IsLack (λ _. ⊤)) }
+{
+    match folder.sync_all() {
+        Ok(()) => Ok(()),
+        Err(_) => Err(Failure::Failed(Fault::Write)),
     }
 }

@@ -13,4 +13,4 @@ of_files name failure (inl there) = inl ((Some [], tt, refl), there)
 of_files name failure (inr lack) = inr lack
 
 pub returns-clause-failed : goal.returns-clause-failed
-returns-clause-failed g c = IfErr-weaker c.make.result _ _ (of_files (string_bytes c.args.held.now.name)) c.make.ensures
+returns-clause-failed g c = IfErr-weaker c.make-made.result _ _ (of_files (string_bytes c.args.held.now.name)) c.make-made.ensures
