@@ -8,15 +8,23 @@
 //! - `:folder NAME` makes a folder, `:link NAME TARGET` a link;
 //! - `:from FILE WORDS` does a command with the file as its standard input;
 //! - `:status WORDS` prints the status of a command alone;
+//! - `:told WORDS` does a command, and prints what stands on its output, what on the standard error, and its status;
+//! - `:mode FILE` prints who may read, write and run a file, in octal; `:chmod FILE MODE` sets that;
+//! - `:name FILE NAME` gives a file a second name;
+//! - `:hold LOG` holds a log, and prints whether its lock is free before, meanwhile and afterwards;
+//! - `:turn LINK OTHER SAID` holds the log that LINK leads to, lets LINK lead to OTHER, and saves what SAID says as the log held;
 //! - `:cuts FILE CUT WORDS` does a command once for each length that FILE can be cut to, over a file CUT that is cut so;
 //! - `:memory-text NAME LINES` puts a text whose lines `|` parts into the store under a name;
+//! - `:memory-told WORDS` is `:told` over the store;
 //! - `:memory WORDS` does a command over the store, and prints what it answers, or why it is refused;
 //! - `:loopback` serves and sends logs over connections on this machine, and prints what both ends make of it.
 #![tactic(auto)]
 
+mod edges;
 mod loopback;
 mod memory;
 
+use crate::edges::{hold, print_mode, save_by_link, set_mode, tell};
 use crate::loopback::run_both_ends;
 use crate::memory::{put, run_in_memory};
 use std::alloc::{AllocError, Global};
@@ -25,7 +33,7 @@ use std::os::unix::fs::symlink;
 use std::{fs, io};
 use stn_device::Counted;
 use stn_shell::execute;
-use stn_store::MemoryStore;
+use stn_store::{FileStore, MemoryStore, Store};
 
 // What stands on the standard input of a command.
 const SCRIPT: &[u8] = b"steps 0\nsites 1\n1 report\n";
@@ -181,6 +189,18 @@ fn run_each_cut(rt: &HostRuntime, bytes: &[u8], words: &str) -> io::Result<()> {
     Ok(())
 }
 
+// Does the command of a line over a store, and prints what stands where, and its status.
+fn tell_line<S: Store>(rt: &HostRuntime, store: &mut S, line: &str) -> io::Result<()> {
+    let mut words = Vec::new(rt.alloc());
+    append_words(line, &mut words)?;
+    tell(rt, store, &words)
+}
+
+fn turn(rt: &HostRuntime, link: &str, words: &str) -> io::Result<()> {
+    let (other, said) = cut_word(words);
+    save_by_link(rt, &mut FileStore::new(rt), link, other, said)
+}
+
 // Does a command over a file that is cut to each length.
 fn run_cuts(rt: &HostRuntime, name: &str, words: &str) -> io::Result<()> {
     let bytes = fs::read(rt, name)?;
@@ -205,6 +225,11 @@ fn do_other(rt: &HostRuntime, line: &str) -> io::Result<()> {
         ":link" => symlink(rt, rest, name),
         ":from" => run_from(rt, name, rest),
         ":cuts" => run_cuts(rt, name, rest),
+        ":mode" => print_mode(rt, name),
+        ":chmod" => set_mode(rt, name, rest),
+        ":name" => fs::hard_link(rt, name, rest),
+        ":hold" => hold(rt, &FileStore::new(rt), name),
+        ":turn" => turn(rt, name, rest),
         ":loopback" => run_both_ends(rt),
         _ => Err(Error::other("no such line")),
     }
@@ -216,6 +241,10 @@ fn do_line(rt: &HostRuntime, store: &mut MemoryStore, line: &str) -> io::Result<
         put(rt.alloc(), store, words)
     } else if let Some(words) = line.strip_prefix(":memory ") {
         run_in_memory(rt, store, words)
+    } else if let Some(words) = line.strip_prefix(":memory-told ") {
+        tell_line(rt, store, words)
+    } else if let Some(words) = line.strip_prefix(":told ") {
+        tell_line(rt, &mut FileStore::new(rt), words)
     } else if let Some(words) = line.strip_prefix(":status ") {
         run_quietly(rt, words)
     } else if line.starts_with(':') || line.starts_with('=') {
