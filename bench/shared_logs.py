@@ -23,6 +23,7 @@ import time
 
 ADDED = 200
 STOPPED = 150
+REMOVED = 120
 SECONDS = 60
 LITTER = re.compile(r"^(.*)\.saving-[0-9]+$")
 NOBODY = 65534
@@ -279,7 +280,7 @@ def missing(stn):
 
 
 def modes(stn):
-    """A log keeps its mode; its lock is open to nobody that the log is closed to."""
+    """A log keeps its mode; its lock is open to who may write the log, and to nobody else."""
     old = os.umask(0o022)
     try:
         stn.answers("made\n", "bare", "a.log", "1", "1")
@@ -289,7 +290,8 @@ def modes(stn):
             os.chmod("a.log", mode)
             stn.add("a.log")
             check(mode_of("a.log") == mode, f"{mode:o} became {mode_of('a.log'):o}")
-        check(mode_of("a.log.lock") == 0o600, f"lock {mode_of('a.log.lock'):o}")
+            wanted = (mode & 0o222) | (mode & 0o222) << 1
+            check(mode_of("a.log.lock") == wanted, f"lock {mode_of('a.log.lock'):o} of a log {mode:o}")
     finally:
         os.umask(old)
     no_litter()
@@ -302,8 +304,9 @@ def owners(stn):
     stn.answers("made\n", "bare", "a.log", "1", "1")
     os.chown("a.log", NOBODY, NOBODY)
     stn.add("a.log")
-    found = os.stat("a.log")
-    check((found.st_uid, found.st_gid) == (NOBODY, NOBODY), f"owner {found.st_uid}, group {found.st_gid}")
+    for name in ("a.log", "a.log.lock"):
+        found = os.stat(name)
+        check((found.st_uid, found.st_gid) == (NOBODY, NOBODY), f"{name}: owner {found.st_uid}, group {found.st_gid}")
 
 
 def links(stn):
@@ -327,6 +330,212 @@ def links(stn):
     stn.refuses("refused 64\n", "bare", "lost.log", "1", "1")
     stn.fails("fault file\n", "add", "lost.log", "1", "z", "s1")
     check(not os.path.exists("nowhere"), "a link to nothing was followed")
+
+
+def as_user(user, group, *groups):
+    """Options by which a program runs as another user, of a group and of further groups."""
+
+    def become():
+        os.setgroups(groups)
+        os.setgid(group)
+        os.setuid(user)
+
+    return {"preexec_fn": become}
+
+
+def reachable(stn, **options):
+    """Whether another user can run the program here."""
+    try:
+        return subprocess.run([os.path.abspath(stn.path), "--version"], capture_output=True, check=False, **options).returncode == 0
+    except OSError:
+        return False
+
+
+def link_changes(stn):
+    """A command goes on with the log that its name led to when it was held, whatever the name becomes."""
+    stn.answers("made\n", "bare", "a.log", "1", "1")
+    stn.answers("made\n", "bare", "b.log", "1", "1")
+    os.symlink("a.log", "one.log")
+    with open("a.log.lock", "rb") as lock:
+        fcntl.flock(lock, fcntl.LOCK_EX)
+        adding = stn.start("add", "one.log", "1", "z", "s1")
+        time.sleep(0.5)
+        check(adding.poll() is None, "add didn't wait")
+        os.symlink("b.log", "next")
+        os.rename("next", "one.log")
+    answer = adding.communicate(timeout=SECONDS)
+    check(answer == (b"added 1.1\n", b""), f"add: {answer}")
+    check((stn.records("a.log"), stn.records("b.log")) == (1, 0), "the bound is in the other log")
+    check(os.readlink("one.log") == "b.log", "the link was changed")
+    check(stn.add("one.log") == "1.1" and stn.records("b.log") == 1, "the next command follows the link as it is")
+    no_litter()
+
+
+def log_changes(stn):
+    """What took the place of a log that is held is left alone."""
+    stn.answers("made\n", "bare", "a.log", "1", "1")
+    stn.answers("made\n", "bare", "b.log", "2", "1")
+    stn.add("b.log", 0, "2")
+    address = f"127.0.0.1:{free_port()}"
+    stn.add("a.log")
+    server = stn.start("serve", "a.log", "1", address, "1")
+    try:
+        check(server.stdout.readline() == b"listening\n", "serve")
+        os.rename("a.log", "moved.log")
+        os.symlink("moved.log", "a.log")
+        check(stn.run("send", "b.log", "2", address)[0] == 0, "send")
+        check(server.wait(timeout=SECONDS) == 0, "serve")
+    finally:
+        server.kill()
+        server.communicate()
+    check(os.readlink("a.log") == "moved.log" and stn.records("moved.log") == 2, "the log that a link leads to by then")
+    no_litter()
+
+
+def removed_lock(stn):
+    """Three programs add while a fourth removes the lock: each bound that was acknowledged is there, and no id is given twice."""
+    stn.answers("made\n", "bare", "a.log", "1", "1")
+    ids, faults, done = [], [], threading.Event()
+
+    def adds(first):
+        try:
+            for number in range(REMOVED):
+                status, out, err = stn.run("add", "a.log", "1", "z", "s1", f"--hi={first + number}")
+                if status == 0:
+                    ids.append(out.split()[1])
+                else:
+                    check((status, out, err) == (1, "", "fault file\n"), f"add: {status} {out!r} {err!r}")
+        except Wrong as wrong:
+            faults.append(str(wrong))
+
+    def removes():
+        while not done.is_set():
+            try:
+                os.remove("a.log.lock")
+            except FileNotFoundError:
+                pass
+            time.sleep(random.random() * 0.02)
+
+    adders = [threading.Thread(target=adds, args=(1000 * number,)) for number in range(1, 4)]
+    remover = threading.Thread(target=removes)
+    for thread in [remover, *adders]:
+        thread.start()
+    for thread in adders:
+        thread.join()
+    done.set()
+    remover.join()
+    check(not faults, faults)
+    check(ids, "none of the bounds was acknowledged")
+    check(len(set(ids)) == len(ids), f"{len(set(ids))} ids of {len(ids)} bounds")
+    check(stn.records("a.log") == len(ids), f"{stn.records('a.log')} records of {len(ids)} acknowledged")
+    no_litter()
+
+
+def next_lock(stn):
+    """Who waited for a lock whose name was removed takes the next one."""
+    stn.answers("made\n", "bare", "a.log", "1", "1")
+    with open("a.log.lock", "rb") as removed:
+        fcntl.flock(removed, fcntl.LOCK_EX)
+        adding = stn.start("add", "a.log", "1", "z", "s1")
+        time.sleep(0.5)
+        os.remove("a.log.lock")
+        with open("a.log.lock", "wb") as lock:
+            fcntl.flock(lock, fcntl.LOCK_EX)
+            fcntl.flock(removed, fcntl.LOCK_UN)
+            time.sleep(0.5)
+            check(adding.poll() is None, "add took a lock that was removed")
+    check(adding.communicate(timeout=SECONDS) == (b"added 1.1\n", b""), "add by the next lock")
+
+
+def hard_links(stn):
+    """A log that has two names is read, and not changed."""
+    stn.answers("made\n", "bare", "a.log", "1", "1")
+    stn.add("a.log")
+    os.link("a.log", "b.log")
+    before = contents("a.log")
+    for name in ("a.log", "b.log"):
+        stn.fails("fault file\n", "add", name, "1", "z", "s1")
+        stn.fails("fault file\n", "serve", name, "1", "127.0.0.1:0", "1")
+        check(stn.records(name) == 1, f"report {name}")
+    check(contents("a.log") == before and os.path.samefile("a.log", "b.log"), "a log was changed")
+    os.remove("b.log")
+    check(stn.add("a.log") == "1.2", "add when there is one name again")
+    no_litter()
+
+
+def read_only(stn):
+    """A log that may not be written is not replaced."""
+    stn.answers("made\n", "bare", "a.log", "1", "1")
+    os.chmod("a.log", 0o444)
+    before = contents("a.log")
+    stn.fails("fault file\n", "add", "a.log", "1", "z", "s1")
+    stn.fails("fault file\n", "serve", "a.log", "1", "127.0.0.1:0", "1")
+    check(contents("a.log") == before and mode_of("a.log") == 0o444, "a log was changed")
+    check(stn.records("a.log") == 0, "report")
+    no_litter()
+    if os.geteuid() != 0:
+        return "a log of another user: only root may give files away"
+    options = as_user(NOBODY, NOBODY)
+    os.chmod(".", 0o777)
+    os.chmod("a.log", 0o644)
+    if not reachable(stn, **options):
+        return "a log of another user: another user can't run the program"
+    stn.fails("fault file\n", "add", "a.log", "1", "z", "s1", **options)
+    check(contents("a.log") == before, "a log of another user was changed")
+    no_litter()
+    return None
+
+
+def blind_folder(stn):
+    """A folder that can't be opened can't be forced to the disk: nothing is changed there."""
+    if os.geteuid() != 0:
+        return "a folder that can't be opened: only root may give files away"
+    options = as_user(NOBODY, NOBODY)
+    if not reachable(stn, **options):
+        return "a folder that can't be opened: another user can't run the program"
+    os.mkdir("blind")
+    stn.answers("made\n", "bare", "blind/a.log", "1", "1")
+    for name in ("blind", "blind/a.log", "blind/a.log.lock"):
+        os.chown(name, NOBODY, NOBODY)
+    before = contents("blind/a.log")
+    os.chmod("blind", 0o333)
+    try:
+        stn.fails("fault file\n", "add", "blind/a.log", "1", "z", "s1", **options)
+        stn.fails("fault file\n", "bare", "blind/b.log", "1", "1", **options)
+        stn.fails("fault file\n", "serve", "blind/a.log", "1", "127.0.0.1:0", "1", **options)
+    finally:
+        os.chmod("blind", 0o755)
+    check(contents("blind/a.log") == before and not os.path.exists("blind/b.log"), "a log was changed")
+    no_litter("blind")
+    check(stn.run("add", "blind/a.log", "1", "z", "s1", **options)[0] == 0, "add when the folder can be opened")
+    return None
+
+
+def two_writers(stn):
+    """Who may write a log by its group may hold it; who may only read it may not."""
+    if os.geteuid() != 0:
+        return "writers of one group: only root may give files away"
+    one, two, reader, group = NOBODY, NOBODY - 1, NOBODY - 2, NOBODY - 3
+    if not reachable(stn, **as_user(one, one, group)):
+        return "writers of one group: another user can't run the program"
+    os.chmod(".", 0o777)
+    old = os.umask(0o077)
+    try:
+        stn.answers("made\n", "bare", "a.log", "1", "1", **as_user(one, one, group))
+        os.chown("a.log", one, group)
+        os.chmod("a.log", 0o664)
+        check(stn.add("a.log", **as_user(one, one, group)) == "1.1", "the owner")
+        check(stn.add("a.log", **as_user(two, two, group)) == "1.2", "the second writer")
+        check(stn.add("a.log", **as_user(one, one, group)) == "1.3", "the owner again")
+    finally:
+        os.umask(old)
+    found = os.stat("a.log.lock")
+    check((found.st_gid, mode_of("a.log.lock")) == (group, 0o660), f"lock {found.st_gid} {mode_of('a.log.lock'):o}")
+    opened = subprocess.run([sys.executable, "-c", "open('a.log.lock')"], capture_output=True, check=False, **as_user(reader, reader))
+    check(opened.returncode != 0, "who may only read the log can open its lock")
+    check(stn.run("report", "a.log", "1", **as_user(reader, reader))[0] == 0, "who may only read the log can't")
+    no_litter()
+    return None
 
 
 def small_device(stn):
@@ -459,6 +668,14 @@ TRIED = [
     modes,
     owners,
     links,
+    link_changes,
+    log_changes,
+    removed_lock,
+    next_lock,
+    hard_links,
+    read_only,
+    blind_folder,
+    two_writers,
     small_device,
     full_device,
     unprinted,
