@@ -48,7 +48,8 @@ impl Peer {
         }
     }
 
-    /// A connection to the first of the addresses of a name that answers. This and all that follows may take this time.
+    /// A connection to the first of the addresses of a name that answers. This and all that follows may take this time; an address may
+    /// take half of what is left of it, so that the next one is tried too. No limit can be set to how long looking up the name takes.
     pub fn connect<T: Clock + Net<Stream = TcpStream>>(
         rt: &T,
         address: &str,
@@ -75,7 +76,7 @@ impl Peer {
             let Some(left) = deadline.left(rt.monotonic()?) else {
                 return Err(Error::from(ErrorKind::TimedOut));
             };
-            if let Ok(stream) = TcpStream::connect_timeout(rt, &address, left) {
+            if let Ok(stream) = TcpStream::connect_timeout(rt, &address, left / 2) {
                 return Ok(Peer { stream, deadline });
             }
         }
