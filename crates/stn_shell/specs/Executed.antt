@@ -1,5 +1,5 @@
 -- What became of the words of a command line.
-use Rattle.std.specs.Prelude.{◌≡◌, ◌≢◌, ◌⊎◌, ℕ, List, [], Option, None, IsSomeAnd, ⊤}
+use Rattle.std.specs.Prelude.{◌≡◌, ◌≢◌, ◌⊎◌, ℕ, List, [], ◌∷◌, ◌++◌, codes, Option, IsSomeAnd}
 use Rattle.clap.specs.Words.{IsAmong, Text, fault_of, subcommand_of}
 use Rattle.clap.specs.declared.error.kind.ErrorKind.{ErrorKind}
 use Rattle.clap.specs.declared.error.kind.ErrorKind.TheVariants.{DisplayHelp, DisplayVersion}
@@ -7,7 +7,9 @@ use Rattle.stn_line.specs.Commands.{stn}
 use Rattle.stn_line.specs.Lines.{IsLineOf}
 use Rattle.stn_line.specs.declared.words.Line.{Line}
 use Rattle.stn_shell.specs.Carried.{IsCarriedOut, Stops}
-use Rattle.stn_shell.specs.Printing.{Device, Prints, BreaksOff, TellsFault, Tells}
+use Rattle.stn_shell.specs.Printing.{Device, Prints, BreaksOff, TellsText, TellsFault, Tells}
+use Rattle.stn_shell.specs.declared.process.Wordless.{Wordless}
+use Rattle.stn_shell.specs.declared.process.Wordless.TheVariants as wordless
 use Rattle.stn_store.specs.Store.{Entry}
 use Rattle.stn_refusal.specs.declared.failure.Failure.{Failure}
 use Rattle.stn_refusal.specs.declared.failure.Fault.{Fault}
@@ -32,18 +34,37 @@ IsMistake kind = (kind ≢ DisplayHelp) × (kind ≢ DisplayVersion)
 abbrev pub LacksMemory : Device → Device → Device → Device → ℕ → Type 0
 LacksMemory old new err told status = (status ≡ 1) × (new ≡ old) × TellsFault Memory err told
 
--- what clap says was printed: of a mistake on the standard error, with status 2; help and the version on the output, with status 0, or
--- with status 1 where that can't be written
+-- a text of clap was printed: of a mistake on the standard error, as far as that could be written, with status 2; help and the version
+-- on the output, with status 0, or with status 1 where that can't be written
+abbrev pub SaysText : List ℕ → ErrorKind → Device → Device → Device → Device → ℕ → Type 0
+SaysText text kind old new err told status =
+    (IsMistake kind × (status ≡ 2) × (new ≡ old) × TellsText text err told)
+    ⊎ ((¬ IsMistake kind) × (status ≡ 0) × Prints old new text × (told ≡ err))
+    ⊎ ((¬ IsMistake kind) × (status ≡ 1) × BreaksOff old new text × TellsFault Write err told)
+
+-- what clap says was printed, and it is not empty; or memory ran out
 abbrev pub IsSaid : ErrorKind → Device → Device → Device → Device → ℕ → Type 0
 IsSaid kind old new err told status =
-    (IsMistake kind × (status ≡ 2) × (new ≡ old))
-    ⊎ ((text : List ℕ) × (¬ IsMistake kind) × (status ≡ 0) × Prints old new text × (told ≡ err))
-    ⊎ ((text : List ℕ) × (¬ IsMistake kind) × (status ≡ 1) × BreaksOff old new text × TellsFault Write err told)
+    ((text : List ℕ) × (text ≢ []) × SaysText text kind old new err told status)
     ⊎ LacksMemory old new err told status
 
--- over files, of which nothing is known: a command line was done or stopped; clap refused the words; or memory ran out before either
-abbrev pub IsExecuted : List Text → Device → Device → Device → Device → Device → Device → ℕ → Type 0
-IsExecuted words unread rest old new err told status =
-    ((line : Line) × AskFor words line × Ends (λ _. ⊤) None None line unread rest old new err told status)
-    ⊎ ((kind : ErrorKind) × IsAmong kind (fault_of stn words) × IsSaid kind old new err told status)
+-- words that clap refused were answered, or memory ran out before they were read
+abbrev pub IsRefused : List Text → Device → Device → Device → Device → ℕ → Type 0
+IsRefused words old new err told status =
+    ((kind : ErrorKind) × IsAmong kind (fault_of stn words) × IsSaid kind old new err told status)
     ⊎ LacksMemory old new err told status
+
+-- a command line was done or stopped; or there was none, and then nothing was read or saved
+abbrev pub IsExecuted : (Fault → Type 0) → Option (List Entry) → Option (List Entry) → List Text → Device → Device → Device → Device → Device → Device → ℕ → Type 0
+IsExecuted Fails before after words unread rest old new err told status =
+    ((line : Line) × AskFor words line × Ends Fails before after line unread rest old new err told status)
+    ⊎ ((after ≡ before) × (rest ≡ unread) × IsRefused words old new err told status)
+
+-- what is said of a word that is no text
+abbrev pub no_text : List ℕ
+no_text = codes "error: a word of the command line is not UTF-8" ++ 10 ∷ []
+
+-- a process has no words: one is no text, which is a mistake, or memory ran out; that was told, and nothing was read or printed
+abbrev pub IsWordless : Wordless → Device → Device → Device → Device → Device → Device → ℕ → Type 0
+IsWordless wordless.NoText unread rest old new err told status = (rest ≡ unread) × (new ≡ old) × (status ≡ 2) × TellsText no_text err told
+IsWordless wordless.Memory unread rest old new err told status = (rest ≡ unread) × LacksMemory old new err told status

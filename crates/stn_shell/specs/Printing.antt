@@ -32,9 +32,13 @@ abbrev pub IsUnprinted : Device → Device → List ℕ → Failure → Type 0
 IsUnprinted old new text failure =
     ((failure ≡ Failed Memory) × (new ≡ old)) ⊎ ((failure ≡ Failed Write) × BreaksOff old new text)
 
--- the line of a fault was printed on the standard error, as far as that could be written
+-- a text was printed on the standard error, as far as that could be written
+abbrev pub TellsText : List ℕ → Device → Device → Type 0
+TellsText text old new = Prints old new text ⊎ BreaksOff old new text
+
+-- the line of a fault was
 abbrev pub TellsFault : Fault → Device → Device → Type 0
-TellsFault fault old new = Prints old new (fault_text fault) ⊎ BreaksOff old new (fault_text fault)
+TellsFault fault old new = TellsText (fault_text fault) old new
 
 -- the line of a refusal was printed on the output, and nothing on the standard error; what kept it from being printed was told there
 abbrev pub TellsRefusal : Refusal → Device → Device → Device → Device → Type 0

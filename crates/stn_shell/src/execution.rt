@@ -6,7 +6,7 @@ ghost use Rattle.stn_device.specs.Counted.{failure_count};
 ghost use Rattle.stn_command.specs.Words.{and_then};
 ghost use Rattle.stn_shell.specs.Carried.{RunsScript, StopsScript, ServesAt, StopsAt, SendsFrom, StopsFrom, Answers, StopsCommand, IsCarriedOut, Stops, StopsListening};
 ghost use Rattle.stn_shell.specs.Connections.{Serves, StopsServing, Sends, StopsSending};
-ghost use Rattle.stn_shell.specs.Executed.{IsSaid, IsExecuted, Ends};
+ghost use Rattle.stn_shell.specs.Executed.{IsSaid, IsExecuted, SaysText, Ends};
 ghost use Rattle.stn_shell.specs.Printing.{Device, device_of, Prints};
 ghost use Rattle.stn_store.specs.Store.{IsLack};
 ghost use Rattle.stn_refusal.specs.declared.failure.Failure.TheVariants.{Failed};
@@ -16,7 +16,7 @@ ghost use Rattle.std.specs.Duration.{as_nanos};
 use crate::commands::answer;
 use crate::connections::{Service, exchange, serve_each};
 use crate::peer::Peer;
-use crate::printing::{print, print_now, tell_failure, tell_fault};
+use crate::printing::{print, print_now, tell, tell_failure, tell_fault};
 use std::alloc::Global;
 use std::fs::File;
 use std::io::{Read, Write};
@@ -25,14 +25,12 @@ use std::rt::Files;
 use std::time::{Clock, Duration};
 use stn_device::{Counted, write_whole};
 use stn_exec::run;
-use stn_line::{Line, LineFault, SiteLog, line};
+use stn_line::{Line, LineFault, SiteLog, line, said};
 use stn_refusal::{Failure, Fault};
 use stn_replica::Replica;
 use stn_store::{FileStore, Store};
 
-/// Does the command of the words, of which the first is the program's name, and says its status: 0 where nothing was refused
-/// and no device failed, 1 where something was, 2 where the words are no command's. An answer or a refusal is printed to `out`,
-/// a device's fault to `err`.
+/// Does the command of the words over files.
 pub fn execute<
     T: Files<File = File> + AllocGlobal + Clock + Net<Listener = TcpListener, Stream = TcpStream>,
     R: Read,
@@ -43,15 +41,45 @@ pub fn execute<
     requires out_counts { failure_count out.old < 2 ^ 64 - 1 }
     ensures status { result ≤ 2 }
 
-    // A command line was done or stopped, the words are refused or ask for help, or memory ran out. What files hold is not known.
-    ensures executed { IsExecuted (map (λ word. word.now) words.entry.now)
+    // What files hold, and how they fail, is not known.
+    ensures executed { IsExecuted (λ _. ⊤) None None (map (λ word. word.now) words.entry.now)
+        (device_of R.remaining reader.old) (device_of R.remaining reader.new)
+        (device_of W.contents out.old) (device_of W.contents out.new)
+        (device_of E.contents err.old) (device_of E.contents err.new) result }
+{
+    execute_over(rt, &mut FileStore::new(rt), words, reader, out, err)
+}
+
+/// Does the command of the words over a store, and says its status. The first word is the program's name. The status is 0 where nothing
+/// was refused and no device failed, 1 where something was, 2 where the words are no command's. An answer or a refusal is printed to
+/// `out`, a device's fault and a mistake in the words to `err`.
+pub fn execute_over<
+    S: Store,
+    T: AllocGlobal + Clock + Net<Listener = TcpListener, Stream = TcpStream>,
+    R: Read,
+    W: Write,
+    E: Write,
+>(
+    rt: &T,
+    store: &mut S,
+    words: &[&str],
+    reader: &mut Counted<R>,
+    out: &mut Counted<W>,
+    err: &mut Counted<E>,
+) -> u8
+    requires reader_counts { failure_count reader.old < 2 ^ 64 - 1 }
+    requires out_counts { failure_count out.old < 2 ^ 64 - 1 }
+    ensures status { result ≤ 2 }
+
+    // A command line was done or stopped, or the words are refused or ask for help, or memory ran out.
+    ensures executed { IsExecuted S.fails (S.entries store.old) (S.entries store.new) (map (λ word. word.now) words.entry.now)
         (device_of R.remaining reader.old) (device_of R.remaining reader.new)
         (device_of W.contents out.old) (device_of W.contents out.new)
         (device_of E.contents err.old) (device_of E.contents err.new) result }
 {
     let alloc = rt.alloc();
     match line(alloc, words) {
-        Ok(line) => end(rt, line, reader, out, err),
+        Ok(line) => end(rt, store, line, reader, out, err),
         Err(LineFault::Words(error)) => tell_words(alloc, &error, out, err),
         Err(LineFault::Memory) => {
             tell_fault(Fault::Memory, err);
@@ -62,20 +90,28 @@ pub fn execute<
 
 // Does a command line to its end, and says the status. Why it stopped is told.
 fn end<
-    T: Files<File = File> + AllocGlobal + Clock + Net<Listener = TcpListener, Stream = TcpStream>,
+    S: Store,
+    T: AllocGlobal + Clock + Net<Listener = TcpListener, Stream = TcpStream>,
     R: Read,
     W: Write,
     E: Write,
->(rt: &T, line: Line<'_>, reader: &mut Counted<R>, out: &mut Counted<W>, err: &mut Counted<E>) -> u8
+>(
+    rt: &T,
+    store: &mut S,
+    line: Line<'_>,
+    reader: &mut Counted<R>,
+    out: &mut Counted<W>,
+    err: &mut Counted<E>,
+) -> u8
     requires reader_counts { failure_count reader.old < 2 ^ 64 - 1 }
     requires out_counts { failure_count out.old < 2 ^ 64 - 1 }
     ensures status { result ≤ 1 }
-    ensures ended { Ends (λ _. ⊤) None None line.entry
+    ensures ended { Ends S.fails (S.entries store.old) (S.entries store.new) line.entry
         (device_of R.remaining reader.old) (device_of R.remaining reader.new)
         (device_of W.contents out.old) (device_of W.contents out.new)
         (device_of E.contents err.old) (device_of E.contents err.new) result }
 {
-    let done = do_line(rt, &mut FileStore::new(rt), &line, reader, out);
+    let done = do_line(rt, store, &line, reader, out);
     drop(line);
     match done {
         Ok(status) => status,
@@ -97,23 +133,34 @@ fn tell_words<W: Write, E: Write>(
     ensures said { IsSaid (kind_of error.now) (device_of W.contents out.old) (device_of W.contents out.new)
         (device_of E.contents err.old) (device_of E.contents err.new) result }
 {
-    match format!(in alloc; "{error}") {
-        Ok(text) => {
-            if error.use_stderr() {
-                let _ = write_whole(err, text.as_bytes());
-                2
-            } else {
-                match write_whole(out, text.as_bytes()) {
-                    Ok(()) => 0,
-                    Err(_) => {
-                        tell_fault(Fault::Write, err);
-                        1
-                    }
-                }
-            }
-        }
+    match said(alloc, error) {
+        Ok(text) => tell_text(error, text.as_bytes(), out, err),
         Err(_) => {
             tell_fault(Fault::Memory, err);
+            1
+        }
+    }
+}
+
+// Prints a text of clap: on the standard error where the words are a mistake, else on the output.
+fn tell_text<W: Write, E: Write>(
+    error: &clap::Error,
+    text: &[u8],
+    out: &mut Counted<W>,
+    err: &mut Counted<E>,
+) -> u8
+    ensures status { result ≤ 2 }
+    ensures said { SaysText text.now (kind_of error.now) (device_of W.contents out.old) (device_of W.contents out.new)
+        (device_of E.contents err.old) (device_of E.contents err.new) result }
+{
+    if error.use_stderr() {
+        tell(text, err);
+        return 2;
+    }
+    match write_whole(out, text) {
+        Ok(()) => 0,
+        Err(_) => {
+            tell_fault(Fault::Write, err);
             1
         }
     }

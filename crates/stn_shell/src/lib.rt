@@ -3,9 +3,9 @@
 
 pub use commands::answer;
 pub use connections::{Service, send_on, serve_on};
-pub use execution::execute;
+pub use execution::{execute, execute_over};
 pub use peer::Peer;
-pub use process::program;
+pub use process::{Wordless, program, run_process};
 
 mod changes;
 mod commands;

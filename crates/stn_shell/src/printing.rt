@@ -1,7 +1,7 @@
 //! What is printed, on the output and on the standard error.
 
 ghost use Rattle.std.specs.Prelude.{OnOk, IfErr};
-ghost use Rattle.stn_shell.specs.Printing.{device_of, Prints, IsUnprinted, TellsFault, TellsRefusal, Tells};
+ghost use Rattle.stn_shell.specs.Printing.{device_of, Prints, IsUnprinted, TellsText, TellsFault, TellsRefusal, Tells};
 
 use std::alloc::Allocator;
 use std::io::Write;
@@ -70,5 +70,12 @@ fn tell_refusal<W: Write, E: Write, A: Allocator>(
 pub fn tell_fault<E: Write>(fault: Fault, err: &mut Counted<E>)
     ensures { TellsFault fault (device_of E.contents err.old) (device_of E.contents err.new) }
 {
-    let _ = write_whole(err, fault.text());
+    tell(fault.text(), err);
+}
+
+/// Prints a text, as far as the standard error takes it.
+pub fn tell<E: Write>(text: &[u8], err: &mut Counted<E>)
+    ensures { TellsText text.now (device_of E.contents err.old) (device_of E.contents err.new) }
+{
+    let _ = write_whole(err, text);
 }

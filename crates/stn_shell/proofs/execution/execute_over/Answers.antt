@@ -1,6 +1,6 @@
 use Rattle.std.proofs.Common.{refl, inl, inr, arith}
 use Rattle.clap.specs.Words.{kind_of}
-use Rattle.stn_shell.proofs.execution.execute.Goals as goal
+use Rattle.stn_shell.proofs.execution.execute_over.Goals as goal
 
 pub returns-in-Ok : goal.returns-in-Ok
 returns-in-Ok g c = record {
@@ -13,8 +13,8 @@ returns-in-Err-Words g c =
     let refused = rw c.in-Err-Words.field-0-is at c.in-Err-Words.ensures.refused in
     record {
       status = c.tell_words.ensures.status;
-      executed = inr (inl (kind_of c.in-Err-Words.error, refused.1, c.tell_words.ensures.said));
+      executed = inr (refl, refl, inl (kind_of c.in-Err-Words.error, refused.1, c.tell_words.ensures.said));
     }
 
 pub returns-in-Err-Memory : goal.returns-in-Err-Memory
-returns-in-Err-Memory g c = record { status = omega arith; executed = inr (inr (refl, refl, c.tell_fault.ensures)) }
+returns-in-Err-Memory g c = record { status = omega arith; executed = inr (refl, refl, inr (refl, refl, c.tell_fault.ensures)) }
