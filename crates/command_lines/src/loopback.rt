@@ -16,7 +16,7 @@ use stn_log::load;
 use stn_records::Site;
 use stn_replica::Replica;
 use stn_session::{receive_replies, send_requests, serve};
-use stn_shell::{Peer, Service, execute, send_on, serve_on};
+use stn_shell::{Peer, Service, execute, meet, send_on, serve_on};
 use stn_store::FileStore;
 
 // How many milliseconds a session or an exchange may take.
@@ -227,21 +227,25 @@ fn serve_log(
     log: &str,
     replica: &mut Replica<Global>,
 ) -> io::Result<()> {
-    let service = Service {
+    let mut service = Service {
+        clock: rt,
         listener,
-        count,
         limit: Duration::from_millis(LIMIT),
     };
     let log = SiteLog {
         name: log,
         site: first_site(),
     };
-    print_status(rt, status_of_serving(rt, &service, &log, replica))
+    print_status(
+        rt,
+        status_of_serving(rt, &mut service, count, &log, replica),
+    )
 }
 
 fn status_of_serving(
     rt: &HostRuntime,
-    service: &Service<'_>,
+    service: &mut Service<'_, HostRuntime>,
+    count: u16,
     log: &SiteLog<'_>,
     replica: &mut Replica<Global>,
 ) -> u8 {
@@ -251,6 +255,7 @@ fn status_of_serving(
         rt,
         &mut FileStore::new(rt),
         service,
+        count,
         log,
         replica,
         &mut out,
@@ -441,13 +446,17 @@ fn write_all_of(stream: &TcpStream, bytes: &[u8]) -> io::Result<()> {
 
 // Sends over a connection, and prints the status.
 fn send_over(rt: &HostRuntime, stream: TcpStream, replica: &mut Replica<Global>) -> io::Result<()> {
-    match Peer::of(rt, stream, Duration::from_millis(LIMIT)) {
-        Ok(peer) => print_status(rt, status_of_sending(rt, &peer, replica)),
+    match meet(rt, stream, Duration::from_millis(LIMIT)) {
+        Ok(mut peer) => print_status(rt, status_of_sending(rt, &mut peer, replica)),
         Err(_) => Err(Error::other("no clock")),
     }
 }
 
-fn status_of_sending(rt: &HostRuntime, peer: &Peer, replica: &mut Replica<Global>) -> u8 {
+fn status_of_sending(
+    rt: &HostRuntime,
+    peer: &mut Peer<'_, HostRuntime>,
+    replica: &mut Replica<Global>,
+) -> u8 {
     let mut out = Counted::new(io::writer(rt));
     let mut err = Counted::new(io::writer(rt));
     send_on(

@@ -17,16 +17,21 @@
 //! - `:memory-text NAME LINES` puts a text whose lines `|` parts into the store under a name;
 //! - `:memory-told WORDS` is `:told` over the store;
 //! - `:memory WORDS` does a command over the store, and prints what it answers, or why it is refused;
+//! - `:memory-serve NAME COUNT HEX` serves by the log of site 1 in the store a site that says these bytes and COUNT zeros, and one
+//!   that says nothing, and prints what each is told;
+//! - `:memory-talk NAME OTHER` has the site 2 of one log in the store ask the site 1 of another, and prints what both make of it;
 //! - `:loopback` serves and sends logs over connections on this machine, and prints what both ends make of it.
 #![tactic(auto)]
 
 mod edges;
 mod loopback;
 mod memory;
+mod talk;
 
 use crate::edges::{hold, print_mode, save_by_link, set_mode, tell};
 use crate::loopback::run_both_ends;
 use crate::memory::{put, run_in_memory};
+use crate::talk::{serve_saying, talk};
 use std::alloc::{AllocError, Global};
 use std::io::{Error, Write};
 use std::os::unix::fs::symlink;
@@ -235,6 +240,15 @@ fn do_other(rt: &HostRuntime, line: &str) -> io::Result<()> {
     }
 }
 
+fn serve_in_memory(rt: &HostRuntime, store: &mut MemoryStore, words: &str) -> io::Result<()> {
+    let (name, rest) = cut_word(words);
+    let (count, digits) = cut_word(rest);
+    match count.parse::<usize>() {
+        Ok(zeros) => serve_saying(rt, store, name, digits, zeros),
+        Err(_) => Err(Error::other("no number")),
+    }
+}
+
 // Does what a line says.
 fn do_line(rt: &HostRuntime, store: &mut MemoryStore, line: &str) -> io::Result<()> {
     if let Some(words) = line.strip_prefix(":memory-text ") {
@@ -245,6 +259,11 @@ fn do_line(rt: &HostRuntime, store: &mut MemoryStore, line: &str) -> io::Result<
         tell_line(rt, store, words)
     } else if let Some(words) = line.strip_prefix(":told ") {
         tell_line(rt, &mut FileStore::new(rt), words)
+    } else if let Some(words) = line.strip_prefix(":memory-serve ") {
+        serve_in_memory(rt, store, words)
+    } else if let Some(words) = line.strip_prefix(":memory-talk ") {
+        let (asking, asked) = cut_word(words);
+        talk(rt, store, asking, asked)
     } else if let Some(words) = line.strip_prefix(":status ") {
         run_quietly(rt, words)
     } else if line.starts_with(':') || line.starts_with('=') {

@@ -2,7 +2,7 @@
 
 use crate::deadline::{TimedStream, Timer};
 use std::io::{self, Read, Write};
-use std::net::TcpStream;
+use std::net::{Shutdown, TcpStream};
 use std::time::{Clock, Duration};
 
 /// The time that a clock shows.
@@ -33,12 +33,12 @@ impl<C: Clock> Timer for Watch<'_, C> {
 #[derive(Drop)]
 pub struct Connection<'a, C> {
     clock: &'a C,
-    stream: &'a TcpStream,
+    stream: TcpStream,
 }
 
 impl<'a, C> Connection<'a, C> {
     /// The connection, timed by the clock.
-    pub fn new(clock: &'a C, stream: &'a TcpStream) -> Connection<'a, C> {
+    pub fn new(clock: &'a C, stream: TcpStream) -> Connection<'a, C> {
         Connection { clock, stream }
     }
 }
@@ -53,13 +53,15 @@ impl<C: Clock> Timer for Connection<'_, C> {
     }
 }
 
-// What a peer sends and takes is known to no clause.
+// What the other end sends and takes is known to no clause.
 impl<C: Clock> TimedStream for Connection<'_, C> {
     ghost use Rattle.std.specs.Prelude.{None};
 
     ghost remaining = { λ _. None };
 
     ghost contents = { λ _. None };
+
+    ghost ended = { λ _. None };
 
     fn read_within(&mut self, buf: &mut [u8], limit: Duration) -> io::Result<usize> {
         self.stream.set_read_timeout(Some(limit))?;
@@ -69,5 +71,9 @@ impl<C: Clock> TimedStream for Connection<'_, C> {
     fn write_within(&mut self, buf: &[u8], limit: Duration) -> io::Result<usize> {
         self.stream.set_write_timeout(Some(limit))?;
         self.stream.write(buf)
+    }
+
+    fn finish(&mut self) -> io::Result<()> {
+        self.stream.shutdown(Shutdown::Write)
     }
 }

@@ -2,7 +2,9 @@ ghost use Rattle.std.specs.Prelude.{◌≡◌, ◌<◌, ◌-◌, length, Ok, OnO
 ghost use Rattle.std.specs.Io.{ReadsAtMost, WritesAtMost};
 ghost use Rattle.std.specs.Io.KnownBytes.{Keeps, ReadConsumes, WriteAppends};
 ghost use Rattle.stn_device.specs.Counted.{counted_device, failure_count, CountsFailure, KeepsCount};
+ghost use Rattle.stn_device.specs.Partner.{IsEnded};
 
+use crate::partner::Finish;
 use std::io;
 use std::io::{Read, Write};
 
@@ -101,5 +103,23 @@ impl<W: Write> Write for Counted<W> {
             self.count_failure();
         }
         flushed
+    }
+}
+
+impl<W: Finish> Finish for Counted<W> {
+    ghost ended = { λ c. W.ended (counted_device c) };
+
+    fn finish(&mut self) -> io::Result<()>
+        ensures told { OnOk result (IsEnded (W.ended (counted_device self.new))) }
+        ensures untold { OnErr result (W.ended (counted_device self.new) ≡ W.ended (counted_device self.old)) }
+        ensures bytes { Keeps (W.contents (counted_device self.old)) (W.contents (counted_device self.new)) }
+        ensures failed { OnErr result (CountsFailure self.old self.new) }
+        ensures passed { OnOk result (KeepsCount self.old self.new) }
+    {
+        let finished = self.device.finish();
+        if finished.is_err() {
+            self.count_failure();
+        }
+        finished
     }
 }

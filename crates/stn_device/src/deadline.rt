@@ -1,12 +1,14 @@
 //! Streams whose calls end by a deadline.
 
-ghost use Rattle.std.specs.Prelude.{◌≡◌, ◌≢◌, ◌↔◌, ◌+◌, ◌<◌, IsSome, IfSome, IfOk, IfErr};
+ghost use Rattle.std.specs.Prelude.{◌≡◌, ◌≢◌, ◌↔◌, ◌+◌, ◌<◌, IsSome, IfSome, IfOk, IfErr, OnOk, OnErr};
 ghost use Rattle.std.specs.Duration.{as_nanos};
 ghost use Rattle.std.specs.Io.{ReadsAtMost, WritesAtMost};
 ghost use Rattle.std.specs.Io.KnownBytes.{Keeps, ReadConsumes, WriteAppends};
 ghost use Rattle.std.specs.IoError.{error_kind};
 ghost use Rattle.stn_device.specs.Deadline.{start_of, limit_of, end_of, timed_stream, deadline_of, ShowsTime, IsTimeLeft, PassesAtMost, KeepsDeadline};
+ghost use Rattle.stn_device.specs.Partner.{IsEnded};
 
+use crate::partner::Finish;
 use std::io::{self, Error, ErrorKind, Read, Write};
 use std::time::{Clock, Duration};
 
@@ -62,13 +64,16 @@ impl Deadline {
 /// A stream with a timer, each of whose calls can be given a time that it may take; it may fail sooner. What is written is kept back
 /// nowhere.
 pub trait TimedStream: Timer {
-    ghost use Rattle.std.specs.Prelude.{ℕ, List, Option};
+    ghost use Rattle.std.specs.Prelude.{ℕ, Bool, List, Option};
 
     /// The bytes that reads will give from here on, where they are known.
     ghost remaining: { Self → Option (List ℕ) };
 
     /// The bytes that were written, where they are known.
     ghost contents: { Self → Option (List ℕ) };
+
+    /// Whether its reader was told the end, where that is known.
+    ghost ended: { Self → Option Bool };
 
     /// Reads as `Read::read` does, for at most this time. It fails where nothing comes within it.
     fn read_within(&mut self, buf: &mut [u8], limit: Duration) -> io::Result<usize>
@@ -83,6 +88,12 @@ pub trait TimedStream: Timer {
         ensures bound { WritesAtMost result buf.now }
         ensures bytes { WriteAppends (contents self.old) (contents self.new) result buf.now }
         ensures passes { PassesAtMost (Self.time self.old) (Self.time self.new) (as_nanos limit) };
+
+    /// Tells the reader of what is written that nothing more comes. This waits for nobody.
+    fn finish(&mut self) -> io::Result<()>
+        ensures told { OnOk result (IsEnded (ended self.new)) }
+        ensures untold { OnErr result (ended self.new ≡ ended self.old) }
+        ensures bytes { Keeps (contents self.old) (contents self.new) };
 }
 
 /// A reader and a writer over a stream, whose calls are over by a deadline and fail after it. The stream may fail long before. A call
@@ -165,5 +176,13 @@ impl<S: TimedStream> Write for UntilDeadline<S> {
         ensures same { self.new ≡ self.old }
     {
         Ok(())
+    }
+}
+
+impl<S: TimedStream> Finish for UntilDeadline<S> {
+    ghost ended = { λ until. S.ended (timed_stream until) };
+
+    fn finish(&mut self) -> io::Result<()> {
+        self.stream.finish()
     }
 }

@@ -3,7 +3,8 @@ use std::io;
 use std::io::{Error, ErrorKind, Read, Write};
 use std::time::Duration;
 use stn_device::{
-    Counted, Deadline, TimedStream, Timer, UntilDeadline, WriteFault, drain, write_whole,
+    Counted, Deadline, Ear, Partner, TimedStream, Timer, UntilDeadline, WriteFault, drain,
+    write_whole,
 };
 use stn_refusing::{PieceReader, PieceWriter};
 
@@ -148,12 +149,18 @@ impl TimedStream for SlowPeer {
 
     ghost contents = { λ _. None };
 
+    ghost ended = { λ _. None };
+
     fn read_within(&mut self, buf: &mut [u8], limit: Duration) -> io::Result<usize> {
         Ok(self.wait(limit)?.min(buf.len()))
     }
 
     fn write_within(&mut self, buf: &[u8], limit: Duration) -> io::Result<usize> {
         Ok(self.wait(limit)?.min(buf.len()))
+    }
+
+    fn finish(&mut self) -> io::Result<()> {
+        Ok(())
     }
 }
 
@@ -219,6 +226,21 @@ fn a_deadline_counts_from_now(rt: HostRuntime) {
         }
         Err(_) => assert!(rt; false),
     }
+}
+
+#[test]
+fn a_parted_partner_is_heard_to_the_end(rt: HostRuntime) {
+    let mut partner = Partner {
+        reader: reader(3, 0),
+        writer: Counted::new(Ear::new(rt.alloc())),
+    };
+    assert!(rt; write_whole(&mut partner.writer, b"abc").is_ok());
+    partner.part();
+    let Partner { reader, writer } = partner;
+    assert!(rt; reader.into_inner().rest.is_empty());
+    let ear = writer.into_inner();
+    assert!(rt; ear.bytes() == b"abc".as_slice());
+    assert!(rt; ear.ended());
 }
 
 // How many bytes are left after a reader of them all is drained up to a limit.

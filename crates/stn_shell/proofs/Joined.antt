@@ -1,5 +1,6 @@
 -- What a log says, taken in before a session and after it.
 use Rattle.std.proofs.Common.{◌≡◌, ◌∙◌, ℕ, List, Option, Result, Ok, Err, OnOk, OnErr, sym, ap, subst, inr}
+use Rattle.stn_device.specs.Partner.{PartnerState}
 use Rattle.stn_lift.specs.PlanSource.{PlanSource}
 use Rattle.stn_records.specs.Content.{Content}
 use Rattle.stn_site.specs.Calls.{Accepted, Leaves, took}
@@ -40,36 +41,36 @@ join_saved (Ok done) log source here first last old new same joined saved =
 join_saved (Err failure) log source here first last old new same joined saved = tt
 
 -- a session between the two
-pub saved_session : (source here there : PlanSource) (log : SiteLog) (first found left last : Content) (old new : Option (List Entry))
+pub saved_session : (met gone : PartnerState) (source here there : PlanSource) (log : SiteLog) (first found left last : Content) (old new : Option (List Entry))
     (answer : Result Served ServeFault) → here ≡ source → there ≡ here → JoinsLog old log source first found
-    → IsSessionBetween here found answer left → SavesJoin log there left last old new → IsSavedSession source log first old answer last new
-saved_session source here there log first found left last old new answer same still before session saved = record {
+    → IsSessionBetween met gone here found answer left → SavesJoin log there left last old new → IsSavedSession met gone source log first old answer last new
+saved_session met gone source here there log first found left last old new answer same still before session saved = record {
   found = found;
   left = left;
   before = before;
-  session = subst (λ (plan : PlanSource). IsSessionBetween plan found answer left) same session;
+  session = subst (λ (plan : PlanSource). IsSessionBetween met gone plan found answer left) same session;
   saved = subst (λ (plan : PlanSource). SavesJoin log plan left last old new) (still ∙ same) saved;
 }
 
 -- one whose state was not saved
-pub unkept_session : (Fails : Fault → Type 0) (source here there : PlanSource) (log : SiteLog) (first found left last : Content)
+pub unkept_session : (Fails : Fault → Type 0) (met gone : PartnerState) (source here there : PlanSource) (log : SiteLog) (first found left last : Content)
     (entries : Option (List Entry)) (answer : Result Served ServeFault) (failure : Failure) → here ≡ source → there ≡ here
-    → JoinsLog entries log source first found → IsSessionBetween here found answer left
-    → IsUnkept Fails entries log there left last failure → IsUnservedSession Fails source log first last entries failure
-unkept_session Fails source here there log first found left last entries answer failure same still before session unkept = inr (
+    → JoinsLog entries log source first found → IsSessionBetween met gone here found answer left
+    → IsUnkept Fails entries log there left last failure → IsUnservedSession Fails met gone source log first last entries failure
+unkept_session Fails met gone source here there log first found left last entries answer failure same still before session unkept = inr (
   found,
   left,
   answer,
   before,
-  subst (λ (plan : PlanSource). IsSessionBetween plan found answer left) same session,
+  subst (λ (plan : PlanSource). IsSessionBetween met gone plan found answer left) same session,
   subst (λ (plan : PlanSource). IsUnkept Fails entries log plan left last failure) (still ∙ same) unkept,
 )
 
 -- an exchange and what was taken in after it
-pub saved_exchange : (source here : PlanSource) (log : SiteLog) (first left last : Content) (old new : Option (List Entry)) (text : List ℕ)
-    → here ≡ source → Exchanges source first left (Ok text) → SavesJoin log here left last old new
-    → IsSavedExchange source log first old text last new
-saved_exchange source here log first left last old new text same exchanged saved = record {
+pub saved_exchange : (met gone : PartnerState) (source here : PlanSource) (log : SiteLog) (first left last : Content) (old new : Option (List Entry)) (text : List ℕ)
+    → here ≡ source → Exchanges met gone source first left (Ok text) → SavesJoin log here left last old new
+    → IsSavedExchange met gone source log first old text last new
+saved_exchange met gone source here log first left last old new text same exchanged saved = record {
   left = left;
   exchanged = exchanged;
   saved = subst (λ (plan : PlanSource). SavesJoin log plan left last old new) same saved;

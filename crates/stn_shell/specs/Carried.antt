@@ -8,6 +8,7 @@ use Rattle.stn_exec.specs.Script.{script_outcome}
 use Rattle.stn_exec.specs.Output.{WritesOutput, WritesOutputPart, CountsRefusals}
 use Rattle.stn_shell.specs.Commands.{IsAnswered}
 use Rattle.stn_shell.specs.Connections.{Serves, StopsServing, Sends, StopsSending}
+use Rattle.stn_shell.specs.Peer.{strangers}
 use Rattle.stn_shell.specs.Printing.{Device, Prints, IsUnprinted}
 use Rattle.stn_shell.specs.Refusals.{IsRefusalOf}
 use Rattle.stn_store.specs.Store.{Entry, Opens, IsUnopened, IsLack}
@@ -41,14 +42,14 @@ StopsScript unread rest old new (Failed Write) = (old.failures < new.failures) �
 StopsScript unread rest old new (Failed Memory) = PrintsPart unread old new
 StopsScript unread rest old new other = ⊥
 
--- a log was served: `listening` was printed, and then so many sessions were served
+-- a log was served: `listening` was printed, and then so many sessions were served, with sites of which no clause knows what they say
 pub record ServesAt (before after : Option (List Entry)) (log : SiteLog) (count : ℕ) (old new : Device) : Type 0 where
   pub found : Held
   pub left : Content
   pub bound : Device
   pub opened : Opens before log.name.now log.site found
   pub listens : Prints old bound (codes "listening" ++ 10 ∷ [])
-  pub served : Serves count found.source log found.state left before after bound new
+  pub served : Serves count strangers strangers found.source log found.state left before after bound new
 
 -- why a service did not begin: the address can't be bound, or it can't be told that it is
 abbrev pub StopsListening : Device → Device → Failure → Type 0
@@ -61,7 +62,7 @@ StopsAt Fails before after log count old new failure =
     ⊎ ((found : Held) × Opens before log.name.now log.site found × (after ≡ before) × StopsListening old new failure)
     ⊎ ((found : Held) × (left : Content) × (bound : Device) × Opens before log.name.now log.site found
     × Prints old bound (codes "listening" ++ 10 ∷ [])
-    × StopsServing Fails count found.source log found.state left before after bound new failure)
+    × StopsServing Fails count strangers strangers found.source log found.state left before after bound new failure)
 
 -- an exchange over a log: what the replies brought was saved, and their text printed
 pub record SendsFrom (before after : Option (List Entry)) (log : SiteLog) (old new : Device) : Type 0 where

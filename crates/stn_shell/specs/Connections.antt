@@ -1,5 +1,9 @@
--- What sessions and exchanges over connections do to a replica, and what is printed of them.
-use Rattle.std.specs.Prelude.{◌≡◌, ◌⊎◌, ℕ, ◌<◌, List, [], ◌∷◌, ◌++◌, length, flat_map, codes, decimal, Option, Result, Ok, Err, IfOk, IfErr}
+-- What sessions and exchanges with other sites do to a replica, and what is printed of them.
+use Rattle.std.specs.Prelude.{◌≡◌, ◌≢◌, ◌⊎◌, ℕ, ◌<◌, List, [], ◌∷◌, ◌++◌, length, map, flat_map, codes, decimal, Option, None, Some, Result, Ok, Err, IfOk, IfErr, IsErrOf}
+use Rattle.std.specs.Io.KnownBytes.{Appends}
+use Rattle.stn_device.specs.Bytes.{AppendsPart}
+use Rattle.stn_device.specs.Partner.{PartnerState, Parts, stranger}
+use Rattle.stn_device.specs.Callers.{CallersState, Comes, gone_too}
 use Rattle.stn_lift.specs.PlanSource.{PlanSource}
 use Rattle.stn_records.specs.Content.{Content}
 use Rattle.stn_session.specs.Failures.{reply_failure}
@@ -12,9 +16,10 @@ use Rattle.stn_refusal.specs.declared.failure.Failure.TheVariants.{Failed}
 use Rattle.stn_refusal.specs.declared.failure.Fault.{Fault}
 use Rattle.stn_refusal.specs.declared.failure.Fault.TheVariants as fault
 use Rattle.stn_session.specs.Session.{opening}
-use Rattle.stn_session.specs.Serving.{IsServed, IsBroken}
-use Rattle.stn_session.specs.Exchange.{IsReceived}
+use Rattle.stn_session.specs.Serving.{IsServed, IsBroken, IsInputEnd}
+use Rattle.stn_session.specs.Exchange.{request_bytes, IsReceived}
 use Rattle.stn_session.specs.declared.exchange.ReplyFault.{ReplyFault}
+use Rattle.stn_session.specs.declared.exchange.ReplyFault.TheVariants as reply
 use Rattle.stn_session.specs.declared.session.End.{End}
 use Rattle.stn_session.specs.declared.session.End.TheVariants.{Closed, Cut, Refused}
 use Rattle.stn_session.specs.declared.session.Served.{Served}
@@ -39,98 +44,165 @@ abbrev pub session_text : Result Served ServeFault → List ℕ
 session_text (Ok served) = codes "session " ++ (decimal served.frames ++ (codes " " ++ (end_text served.end ++ 10 ∷ [])))
 session_text (Err fault) = codes "session " ++ (fault_word fault ++ 10 ∷ [])
 
--- a session of a plan, over what some reader gave and some writer took, that found one state and left another
-pub record IsSessionBetween (source : PlanSource) (first : Content) (answer : Result Served ServeFault) (last : Content) : Type 0 where
-  pub before : Option (List ℕ)
-  pub after : Option (List ℕ)
-  pub old : Option (List ℕ)
-  pub new : Option (List ℕ)
-  pub served : IfOk answer (IsServed (opening source first) before after old new last)
-  pub broken : IfErr answer (IsBroken (opening source first) before after old new last)
+-- a session of a plan with another site, by what that one said and was told, that found one state and left another
+pub record IsSessionBetween (met gone : PartnerState) (source : PlanSource) (first : Content) (answer : Result Served ServeFault) (last : Content) : Type 0 where
+  pub served : IfOk answer (IsServed (opening source first) met.unheard gone.unheard met.told gone.told last)
+  pub heard : IfOk answer (λ served. IsInputEnd served.end gone.unheard)
+  pub broken : IfErr answer (IsBroken (opening source first) met.unheard gone.unheard met.told gone.told last)
+  pub read_failed : IsErrOf answer Read → met.failed_reads < gone.failed_reads
+  pub write_failed : IsErrOf answer Write → met.failed_writes < gone.failed_writes
+  pub reads_kept : answer ≢ Err Read → gone.failed_reads ≡ met.failed_reads
+  pub writes_kept : answer ≢ Err Write → gone.failed_writes ≡ met.failed_writes
 
 -- a session that found what the log said, after which what the log said by then was taken in, and the log saved
-pub record IsSavedSession (source : PlanSource) (log : SiteLog) (first : Content) (old : Option (List Entry))
+pub record IsSavedSession (met gone : PartnerState) (source : PlanSource) (log : SiteLog) (first : Content) (old : Option (List Entry))
     (answer : Result Served ServeFault) (last : Content) (new : Option (List Entry)) : Type 0 where
   pub found : Content
   pub left : Content
   pub before : JoinsLog old log source first found
-  pub session : IsSessionBetween source found answer left
+  pub session : IsSessionBetween met gone source found answer left
   pub saved : SavesJoin log source left last old new
 
--- sessions, each of which began with what was saved of the one before it
-abbrev pub AreSessionsBetween : PlanSource → SiteLog → Content → Option (List Entry) → List (Result Served ServeFault)
-    → Content → Option (List Entry) → Type 0
-AreSessionsBetween source log first old [] last new = (last ≡ first) × (new ≡ old)
-AreSessionsBetween source log first old (answer ∷ answers) last new =
-    (next : Content) × (saves : Option (List Entry)) × IsSavedSession source log first old answer next saves
-    × AreSessionsBetween source log next saves answers last new
+-- a site that was refused is parted from, and no other one
+abbrev pub PartsAt : End → PartnerState → PartnerState → Type 0
+PartsAt (Refused code) heard gone = Parts heard gone
+PartsAt Closed heard gone = gone ≡ heard
+PartsAt Cut heard gone = gone ≡ heard
 
--- so many sessions, the log saved after each, and their lines
-pub record Serves (count : ℕ) (source : PlanSource) (log : SiteLog) (first last : Content) (before after : Option (List Entry))
-    (old new : Device) : Type 0 where
-  pub answers : List (Result Served ServeFault)
-  pub many : length answers ≡ count
-  pub sessions : AreSessionsBetween source log first before answers last after
-  pub printed : Prints old new (flat_map session_text answers)
+abbrev pub PartsAfter : Result Served ServeFault → PartnerState → PartnerState → Type 0
+PartsAfter (Ok served) heard gone = PartsAt served.end heard gone
+PartsAfter (Err fault) heard gone = gone ≡ heard
 
--- why a session was not served, or not saved: what the log says was not taken in before it; or its state was not saved
-abbrev pub IsUnservedSession : (Fault → Type 0) → PlanSource → SiteLog → Content → Content → Option (List Entry) → Failure → Type 0
-IsUnservedSession Fails source log first last entries failure =
-    (IsUntaken Fails entries log source first failure × (last ≡ first))
+-- a visit of another site: what it was when it came and when it went, and how its session ended
+pub record Visit : Type 0 where
+  pub met : PartnerState
+  pub gone : PartnerState
+  pub answer : Result Served ServeFault
+
+-- the line that is printed of it
+abbrev pub visit_text : Visit → List ℕ
+visit_text visit = session_text visit.answer
+
+-- a saved session with the site, and then the end of the talk
+pub record IsVisit (visit : Visit) (source : PlanSource) (log : SiteLog) (first : Content) (old : Option (List Entry))
+    (last : Content) (new : Option (List Entry)) : Type 0 where
+  pub heard : PartnerState
+  pub session : IsSavedSession visit.met heard source log first old visit.answer last new
+  pub parted : PartsAfter visit.answer heard visit.gone
+
+-- visits, each of which began with what was saved of the one before it
+abbrev pub AreVisits : PlanSource → SiteLog → Content → Option (List Entry) → List Visit → Content → Option (List Entry) → Type 0
+AreVisits source log first old [] last new = (last ≡ first) × (new ≡ old)
+AreVisits source log first old (visit ∷ visits) last new =
+    (next : Content) × (saves : Option (List Entry)) × IsVisit visit source log first old next saves × AreVisits source log next saves visits last new
+
+-- the next of the sites that were to come made these visits, and no other one came, where they are known
+abbrev pub ComeAndGo : Option CallersState → Option CallersState → List Visit → Type 0
+ComeAndGo None new visits = new ≡ None
+ComeAndGo (Some old) new visits = (later : List PartnerState) × (old.coming ≡ map (λ visit. visit.met) visits ++ later)
+    × (new ≡ Some (record { coming = later; gone = old.gone ++ map (λ visit. visit.gone) visits }))
+
+-- so many visits, the log saved at each, and their lines
+pub record Serves (count : ℕ) (came went : Option CallersState) (source : PlanSource) (log : SiteLog) (first last : Content)
+    (before after : Option (List Entry)) (old new : Device) : Type 0 where
+  pub visits : List Visit
+  pub many : length visits ≡ count
+  pub sites : ComeAndGo came went visits
+  pub sessions : AreVisits source log first before visits last after
+  pub printed : Prints old new (flat_map visit_text visits)
+
+-- why a session was not served, or not saved: what the log says is not taken in before it; or its state was not saved
+abbrev pub IsUnservedSession : (Fault → Type 0) → PartnerState → PartnerState → PlanSource → SiteLog → Content → Content → Option (List Entry)
+    → Failure → Type 0
+IsUnservedSession Fails met gone source log first last entries failure =
+    (IsUntaken Fails entries log source first failure × (last ≡ first) × (gone ≡ met))
     ⊎ ((found : Content) × (left : Content) × (answer : Result Served ServeFault) × JoinsLog entries log source first found
-    × IsSessionBetween source found answer left × IsUnkept Fails entries log source left last failure)
+    × IsSessionBetween met gone source found answer left × IsUnkept Fails entries log source left last failure)
 
--- why no further session was served, saved and printed: no connection came; it was not served or not saved, and nothing was printed; or
--- its line could not be printed, after the log was saved
-abbrev pub StopsAtSession : (Fault → Type 0) → PlanSource → SiteLog → Content → Content → Option (List Entry) → Option (List Entry)
-    → Device → Device → Failure → Type 0
-StopsAtSession Fails source log first last before after old new failure =
-    ((failure ≡ Failed fault.Net) × (last ≡ first) × (after ≡ before) × (new ≡ old))
-    ⊎ (IsUnservedSession Fails source log first last before failure × (after ≡ before) × (new ≡ old))
-    ⊎ ((answer : Result Served ServeFault) × IsSavedSession source log first before answer last after × IsUnprinted old new (session_text answer) failure)
+-- why a site was not served, saved and printed: it was not served or not saved, and nothing was printed; or its line could not be
+-- printed, after the log was saved
+abbrev pub StopsAtPartner : (Fault → Type 0) → PartnerState → PartnerState → PlanSource → SiteLog → Content → Content
+    → Option (List Entry) → Option (List Entry) → Device → Device → Failure → Type 0
+StopsAtPartner Fails met gone source log first last before after old new failure =
+    (IsUnservedSession Fails met gone source log first last before failure × (after ≡ before) × (new ≡ old))
+    ⊎ ((answer : Result Served ServeFault) × IsSavedSession met gone source log first before answer last after
+    × IsUnprinted old new (session_text answer) failure)
+
+-- nobody came, or there was no memory for it
+abbrev pub IsAlone : Failure → Type 0
+IsAlone failure = (failure ≡ Failed fault.Net) ⊎ (failure ≡ Failed fault.Memory)
+
+-- why no further session was served, saved and printed: nobody came, and nothing changed; or one came, stopped it and went
+abbrev pub StopsAtSession : (Fault → Type 0) → Option CallersState → Option CallersState → PlanSource → SiteLog → Content → Content
+    → Option (List Entry) → Option (List Entry) → Device → Device → Failure → Type 0
+StopsAtSession Fails came went source log first last before after old new failure =
+    (IsAlone failure × (went ≡ came) × (last ≡ first) × (after ≡ before) × (new ≡ old))
+    ⊎ ((met : PartnerState) × (gone : PartnerState) × (left : Option CallersState) × Comes came left met × (went ≡ gone_too left gone)
+    × StopsAtPartner Fails met gone source log first last before after old new failure)
 
 -- fewer sessions than were asked for, and why it was no more
-pub record StopsServing (Fails : Fault → Type 0) (count : ℕ) (source : PlanSource) (log : SiteLog) (first last : Content)
-    (before after : Option (List Entry)) (old new : Device) (failure : Failure) : Type 0 where
+pub record StopsServing (Fails : Fault → Type 0) (count : ℕ) (came went : Option CallersState) (source : PlanSource) (log : SiteLog)
+    (first last : Content) (before after : Option (List Entry)) (old new : Device) (failure : Failure) : Type 0 where
   pub served : ℕ
   pub fewer : served < count
+  pub since : Option CallersState
   pub middle : Content
   pub saves : Option (List Entry)
   pub between : Device
-  pub sessions : Serves served source log first middle before saves old between
-  pub stop : StopsAtSession Fails source log middle last saves after between new failure
+  pub sessions : Serves served came since source log first middle before saves old between
+  pub stop : StopsAtSession Fails since went source log middle last saves after between new failure
 
--- an exchange of a plan, over what some reader gave, that found one state, left another and had this answer
-pub record Exchanges (source : PlanSource) (first last : Content) (answer : Result (List ℕ) ReplyFault) : Type 0 where
-  pub before : Option (List ℕ)
-  pub after : Option (List ℕ)
-  pub received : IsReceived source first before after last answer
+-- an exchange of a plan with another site, which was told the requests, by what that one said; it found one state, left another and
+-- had this answer
+pub record Exchanges (met gone : PartnerState) (source : PlanSource) (first last : Content) (answer : Result (List ℕ) ReplyFault) : Type 0 where
+  pub asked : Appends met.told gone.told (request_bytes source first)
+  pub received : IsReceived source first met.unheard gone.unheard last answer
+  pub read_failed : IsErrOf answer reply.Read → met.failed_reads < gone.failed_reads
+  pub reads_kept : answer ≢ Err reply.Read → gone.failed_reads ≡ met.failed_reads
+  pub writes_kept : gone.failed_writes ≡ met.failed_writes
 
 -- an exchange, after which what the log said by then was taken in, and the log saved
-pub record IsSavedExchange (source : PlanSource) (log : SiteLog) (first : Content) (old : Option (List Entry))
+pub record IsSavedExchange (met gone : PartnerState) (source : PlanSource) (log : SiteLog) (first : Content) (old : Option (List Entry))
     (text : List ℕ) (last : Content) (new : Option (List Entry)) : Type 0 where
   pub left : Content
-  pub exchanged : Exchanges source first left (Ok text)
+  pub exchanged : Exchanges met gone source first left (Ok text)
   pub saved : SavesJoin log source left last old new
 
 -- such an exchange, and then the text of the replies printed
-pub record Sends (source : PlanSource) (log : SiteLog) (first last : Content) (before after : Option (List Entry)) (old new : Device) : Type 0 where
+pub record SendsTo (met gone : PartnerState) (source : PlanSource) (log : SiteLog) (first last : Content)
+    (before after : Option (List Entry)) (old new : Device) : Type 0 where
   pub text : List ℕ
-  pub exchanged : IsSavedExchange source log first before text last after
+  pub exchanged : IsSavedExchange met gone source log first before text last after
   pub printed : Prints old new text
 
--- why nothing came of an exchange: the requests could not be sent, and nothing changed; or the replies were refused, or no further one came
-abbrev pub StopsAsking : PlanSource → Content → Content → Failure → Type 0
-StopsAsking source first last failure =
-    (((failure ≡ Failed fault.Write) ⊎ (failure ≡ Failed fault.Memory)) × (last ≡ first))
-    ⊎ ((cause : ReplyFault) × Exchanges source first last (Err cause) × (failure ≡ reply_failure cause))
+-- the requests were not told, or not all of them, and nothing was heard: a write failed; or memory ran out, and nothing was told
+abbrev pub IsUnasked : PartnerState → PartnerState → PlanSource → Content → Failure → Type 0
+IsUnasked met gone source first failure =
+    ((failure ≡ Failed fault.Write) × (met.failed_writes < gone.failed_writes) × AppendsPart met.told gone.told (request_bytes source first)
+    × (gone.unheard ≡ met.unheard) × (gone.failed_reads ≡ met.failed_reads))
+    ⊎ ((failure ≡ Failed fault.Memory) × (gone ≡ met))
+
+-- why nothing came of an exchange: nothing was asked, and nothing changed; or the replies were refused, or no further one came
+abbrev pub StopsAsking : PartnerState → PartnerState → PlanSource → Content → Content → Failure → Type 0
+StopsAsking met gone source first last failure =
+    (IsUnasked met gone source first failure × (last ≡ first))
+    ⊎ ((cause : ReplyFault) × Exchanges met gone source first last (Err cause) × (failure ≡ reply_failure cause))
 
 -- why a text was not told: nothing came of the exchange, or its state was not saved, and nothing was printed; or the text could not be
 -- printed, after the log was saved
+abbrev pub StopsSendingTo : (Fault → Type 0) → PartnerState → PartnerState → PlanSource → SiteLog → Content → Content
+    → Option (List Entry) → Option (List Entry) → Device → Device → Failure → Type 0
+StopsSendingTo Fails met gone source log first last before after old new failure =
+    (StopsAsking met gone source first last failure × (after ≡ before) × (new ≡ old))
+    ⊎ ((text : List ℕ) × (left : Content) × Exchanges met gone source first left (Ok text) × IsUnkept Fails before log source left last failure
+    × (after ≡ before) × (new ≡ old))
+    ⊎ ((text : List ℕ) × IsSavedExchange met gone source log first before text last after × IsUnprinted old new text failure)
+
+-- the same with a site of which no clause knows what it says and is told
+abbrev pub Sends : PlanSource → SiteLog → Content → Content → Option (List Entry) → Option (List Entry) → Device → Device → Type 0
+Sends source log first last before after old new = (gone : PartnerState) × SendsTo stranger gone source log first last before after old new
+
 abbrev pub StopsSending : (Fault → Type 0) → PlanSource → SiteLog → Content → Content → Option (List Entry) → Option (List Entry)
     → Device → Device → Failure → Type 0
 StopsSending Fails source log first last before after old new failure =
-    (StopsAsking source first last failure × (after ≡ before) × (new ≡ old))
-    ⊎ ((text : List ℕ) × (left : Content) × Exchanges source first left (Ok text) × IsUnkept Fails before log source left last failure
-    × (after ≡ before) × (new ≡ old))
-    ⊎ ((text : List ℕ) × IsSavedExchange source log first before text last after × IsUnprinted old new text failure)
+    (gone : PartnerState) × StopsSendingTo Fails stranger gone source log first last before after old new failure

@@ -1,7 +1,16 @@
--- A connection to another site.
-use Rattle.stn_device.specs.declared.deadline.Deadline.{Deadline}
-use Rattle.stn_shell.specs.declared.peer.Peer.{Peer}
+-- A site at the other end of a connection.
+use Rattle.std.specs.Prelude.{◌≡◌, ℕ, Option, None}
+use Rattle.stn_device.specs.Callers.{CallersState}
+use Rattle.stn_device.specs.Counted.{counted_device}
+use Rattle.stn_device.specs.Deadline.{deadline_of, limit_of}
+use Rattle.stn_device.specs.declared.deadline.UntilDeadline.{UntilDeadline}
+use Rattle.stn_device.specs.declared.partner.Partner.{Partner}
 
--- when its time is over
-abbrev pub peer_deadline : Peer → Deadline
-peer_deadline peer = peer.deadline
+-- it is read and written up to one deadline, so many nanoseconds after some moment
+abbrev pub MayTake : {S : Type 0} → Partner (UntilDeadline S) (UntilDeadline S) → ℕ → Type 0
+MayTake peer limit = (deadline_of (counted_device peer.writer) ≡ deadline_of (counted_device peer.reader))
+    × (limit_of (deadline_of (counted_device peer.reader)) ≡ limit)
+
+-- sites of which no clause knows who they are
+abbrev pub strangers : Option CallersState
+strangers = None

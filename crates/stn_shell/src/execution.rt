@@ -7,6 +7,7 @@ ghost use Rattle.stn_command.specs.Words.{and_then};
 ghost use Rattle.stn_shell.specs.Carried.{RunsScript, StopsScript, ServesAt, StopsAt, SendsFrom, StopsFrom, Answers, StopsCommand, IsCarriedOut, Stops, StopsListening};
 ghost use Rattle.stn_shell.specs.Connections.{Serves, StopsServing, Sends, StopsSending};
 ghost use Rattle.stn_shell.specs.Executed.{IsSaid, IsExecuted, SaysText, Ends};
+ghost use Rattle.stn_shell.specs.Peer.{strangers};
 ghost use Rattle.stn_shell.specs.Printing.{Device, device_of, Prints};
 ghost use Rattle.stn_store.specs.Store.{IsLack};
 ghost use Rattle.stn_refusal.specs.declared.failure.Failure.TheVariants.{Failed};
@@ -14,8 +15,9 @@ ghost use Rattle.stn_refusal.specs.declared.failure.Fault.TheVariants as fault;
 ghost use Rattle.std.specs.Duration.{as_nanos};
 
 use crate::commands::answer;
-use crate::connections::{Service, exchange, serve_each};
-use crate::peer::Peer;
+use crate::connections::serve_each;
+use crate::partners::send_to_partner;
+use crate::peer::{Service, connect};
 use crate::printing::{print, print_now, tell, tell_failure, tell_fault};
 use std::alloc::Global;
 use std::fs::File;
@@ -301,24 +303,24 @@ fn serve_replica<
 ) -> Result<(), Failure>
     ensures { MatchResult result
         (λ _. (bound : Device) × Prints (device_of W.contents out.old) bound (codes "listening" ++ 10 ∷ [])
-        × Serves count replica.old.source log.now replica.old.state replica.new.state
+        × Serves count strangers strangers replica.old.source log.now replica.old.state replica.new.state
         (S.entries store.old) (S.entries store.new) bound (device_of W.contents out.new))
         (λ failure. (IsLack S.fails failure × (S.entries store.new ≡ S.entries store.old)
         × (device_of W.contents out.new ≡ device_of W.contents out.old))
         ⊎ ((S.entries store.new ≡ S.entries store.old)
         × StopsListening (device_of W.contents out.old) (device_of W.contents out.new) failure)
         ⊎ ((bound : Device) × Prints (device_of W.contents out.old) bound (codes "listening" ++ 10 ∷ [])
-        × StopsServing S.fails count replica.old.source log.now replica.old.state replica.new.state
+        × StopsServing S.fails count strangers strangers replica.old.source log.now replica.old.state replica.new.state
         (S.entries store.old) (S.entries store.new) bound (device_of W.contents out.new) failure)) }
 {
     store.can_save(log.name)?;
     let listener = listen(rt, address, out)?;
-    let service = Service {
+    let mut service = Service {
+        clock: rt,
         listener: &listener,
-        count,
         limit,
     };
-    serve_each(rt, store, &service, log, replica, out)
+    serve_each(rt.alloc(), store, &mut service, count, log, replica, out)
 }
 
 // Binds an address, and says so.
@@ -380,6 +382,6 @@ fn send_replica<S: Store, T: AllocGlobal + Clock + Net<Stream = TcpStream>, W: W
         ⊎ StopsSending S.fails replica.old.source log.now replica.old.state replica.new.state
         (S.entries store.old) (S.entries store.new) (device_of W.contents out.old) (device_of W.contents out.new) failure) }
 {
-    let peer = Peer::connect(rt, address, limit)?;
-    exchange(rt, store, &peer, log, replica, out)
+    let mut peer = connect(rt, address, limit)?;
+    send_to_partner(rt.alloc(), store, &mut peer, log, replica, out)
 }

@@ -1,10 +1,10 @@
-//! The commands of the program over log files, and its sessions and exchanges over connections.
+//! The commands of the program over log files, and its sessions and exchanges with other sites.
 #![tactic(auto)]
 
 pub use commands::answer;
-pub use connections::{Service, send_on, serve_on};
+pub use connections::{send_on, serve_on};
 pub use execution::{execute, execute_over};
-pub use peer::Peer;
+pub use peer::{Peer, Service, Talk, connect, meet};
 pub use process::{Wordless, program, run_process};
 
 mod changes;
@@ -13,6 +13,7 @@ mod connections;
 mod execution;
 mod explaining;
 mod joining;
+mod partners;
 mod peer;
 mod printing;
 mod process;

@@ -1,35 +1,22 @@
 use Rattle.std.proofs.Common.{refl, inl, inr}
-use Rattle.std.proofs.lemmas.Result.{err_from_is_err_and}
+use Rattle.std.proofs.lemmas.Result.{on_ok_weaker, IfErr-weaker, err_from_is_err_and}
+use Rattle.stn_shell.proofs.Served.{come_one}
 use Rattle.stn_shell.proofs.connections.serve_next.Goals as goal
 
-pub returns-in_err-peer : goal.returns-in_err-peer
-returns-in_err-peer g c =
+pub returns-in_err-partner : goal.returns-in_err-partner
+returns-in_err-partner g c =
     let p = err_from_is_err_and c.from_residual.result c.from_residual.ensures.1 in
-    rw (p.1, p.2) (record { served = tt; stopped = inl (c.in_err-peer.ensures.failed, refl, refl, refl); source = refl; site = refl })
-
-pub returns-in_err-session : goal.returns-in_err-session
-returns-in_err-session g c =
-    let p = err_from_is_err_and c.from_residual-in_err-session.result c.from_residual-in_err-session.ensures.1 in
-    let is = c.in_err-session.ensures in
-    rw (p.1, p.2) (record { served = tt; stopped = inr (inl (is.unserved, is.unsaved, refl)); source = is.source; site = is.site })
-
-pub returns-in_err-print_session : goal.returns-in_err-print_session
-returns-in_err-print_session g c =
-    let p = err_from_is_err_and c.from_residual-in_err-print_session.result c.from_residual-in_err-print_session.ensures.1 in
-    let is = c.in_ok-session.ensures in
-    rw (p.1, p.2) (record {
-      served = tt;
-      stopped = inr (inr (c.in_ok-session.session, is.served, c.in_err-print_session.ensures.failed));
-      source = is.source;
-      site = is.site;
-    })
+    let is = c.in_err-partner.ensures in
+    rw (p.1, p.2) (record { served = tt; stopped = inl (is.none, is.kept, refl, refl, refl); source = refl; site = refl })
 
 pub returns : goal.returns
 returns g c =
-    let is = c.in_ok-session.ensures in
+    let met = c.in_ok-partner.ensures.came in
+    let is = c.serve_partner-served.ensures in
     record {
-      served = (c.in_ok-session.session, is.served, c.in_ok-print_session.ensures.printed);
-      stopped = tt;
+      served = on_ok_weaker c.serve_partner-served.result
+          (λ all. (all.0, come_one _ _ _ all.0 _ _ all.1 all.2 met c.leave.ensures, all.3, all.4)) is.served;
+      stopped = IfErr-weaker c.serve_partner-served.result _ _ (λ failure stops. inr (_, _, _, met, c.leave.ensures, stops)) is.stopped;
       source = is.source;
       site = is.site;
     }

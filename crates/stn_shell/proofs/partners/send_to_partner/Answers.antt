@@ -1,7 +1,7 @@
 use Rattle.std.proofs.Common.{refl, inl, inr, ◌∙◌}
 use Rattle.std.proofs.lemmas.Result.{on_ok_weaker, IfErr-weaker, err_from_is_err_and}
 use Rattle.stn_shell.proofs.Joined.{saved_exchange, unkept_exchange}
-use Rattle.stn_shell.proofs.connections.exchange.Goals as goal
+use Rattle.stn_shell.proofs.partners.send_to_partner.Goals as goal
 
 pub returns-in_err-text : goal.returns-in_err-text
 returns-in_err-text g c =
@@ -32,7 +32,7 @@ pub returns : goal.returns
 returns g c =
     let asked = c.in_ok-text.ensures in
     let is = c.in_ok-save_join.ensures in
-    let exchanged = saved_exchange _ _ c.args.log.now _ _ _ _ _ _ asked.source asked.exchanged is.saved in
+    let exchanged = saved_exchange _ _ _ _ c.args.log.now _ _ _ _ _ _ asked.source asked.exchanged is.saved in
     record {
       sent = on_ok_weaker c.print.result (λ printed. record { text = c.in_ok-text.text.items; exchanged = exchanged; printed = printed })
           (rw c.deref.ensures.value at c.print.ensures.printed);
