@@ -28,6 +28,10 @@ pub record AreRobust (source : PlanSource) (slack : Slack) (records : List Diffe
   pub chosen : AreKept (bounds_with source loosened)
       (moved_bounds (loose_durations slack source) (are_loosened.made.kept ++ horizon_bounds (events_of source))) moved
 
+-- the same, where a site may know as many
+abbrev pub AreFewRobust : PlanSource → Slack → List Difference → Type 0
+AreFewRobust source slack records = AreRobust source slack records × (length records ≤ most_known)
+
 -- they would be too many, while those of the loosened plan are not
 pub record AreTooManyRobust (source : PlanSource) (slack : Slack) : Type 0 where
   pub records : List Difference

@@ -5,12 +5,15 @@ ghost use Rattle.stn_lift.specs.PlanSource.{bare, steps_of, base_bounds, events_
 ghost use Rattle.stn_records.specs.Content.{no_content, with_record};
 ghost use Rattle.stn_site.specs.Held.{next_id, plain};
 ghost use Rattle.stn_site.specs.Bounds.{all_bounds};
-ghost use Rattle.stn_loosen.specs.Loosened.{orders_of, Imply, AreFewLoosened};
-ghost use Rattle.stn_loosen.specs.Faults.{IsCause};
+ghost use Rattle.stn_loosen.specs.Loosened.{orders_of, loose_durations, Imply, AreFewLoosened};
+ghost use Rattle.stn_loosen.specs.Promise.{Promises};
+ghost use Rattle.stn_loosen.specs.Robust.{loose_bounds, HasPromise, AreFewRobust};
+ghost use Rattle.stn_loosen.specs.Faults.{IsCause, IsRobustCause};
 ghost use Rattle.stn_loosen.specs.Numbered.{Holds, HoldsSome};
 
-use crate::fault::LoosenFault;
+use crate::fault::{LoosenFault, RobustFault};
 use crate::plan::loosened;
+use crate::promise::robust;
 use crate::tolerance::Tolerance;
 use std::alloc::Allocator;
 use std::rc::Rc;
@@ -45,6 +48,38 @@ pub fn loosened_replica<A: Allocator + Copy>(
     ensures fault { IfErr result (IsCause base.now tolerance) }
 {
     let records = loosened(alloc, base, tolerance)?;
+    let mut replica = bare_replica(alloc, site, base.steps())?;
+    add_all(&mut replica, &records)?;
+    Ok(replica)
+}
+
+/// The same with the records of the robust plan, under which it completes however long its steps take.
+///
+/// Refused in this order: `Full`, where the loosened plan would have more than 4,096 records; `NotRobust`, where no times of the starts
+/// are a promise; `Full`, where the robust plan would have more than 4,096 records; `Memory`.
+pub fn robust_replica<A: Allocator + Copy>(
+    alloc: A,
+    site: Site,
+    base: &Base<A>,
+    tolerance: Tolerance,
+) -> Result<Replica<A>, RobustFault>
+    ensures site { IfOk result (λ replica. replica.site ≡ site) }
+    ensures source { IfOk result (λ replica. replica.source ≡ bare (steps_of base.now)) }
+    ensures records { IfOk result (λ replica. HoldsSome (AreFewRobust base.now tolerance) site replica.state) }
+
+    // There is a promise.
+    ensures promise { OnOk result (HasPromise base.now tolerance) }
+
+    // Each schedule of what the site holds is a promise of it: its starts hold, however long the steps take.
+    ensures promised { IfOk result (λ replica. (time : ℕ → ℤ) → IsSchedule (all_bounds replica.source replica.state) time
+        → Promises (loose_durations tolerance base.now) (all_bounds replica.source replica.state) time) }
+
+    // Each schedule of what the site holds is one of the loosened plan.
+    ensures loosened { IfOk result (λ replica. (time : ℕ → ℤ) → IsSchedule (all_bounds replica.source replica.state) time
+        → IsSchedule (loose_bounds base.now tolerance) time) }
+    ensures fault { IfErr result (IsRobustCause base.now tolerance) }
+{
+    let records = robust(alloc, base, tolerance)?;
     let mut replica = bare_replica(alloc, site, base.steps())?;
     add_all(&mut replica, &records)?;
     Ok(replica)

@@ -34,7 +34,8 @@ impl<T: Drop> From<AllocFailed<T>> for LoosenFault {
     }
 }
 
-/// Why a plan was not made robust.
+/// Why a plan was not made robust. Where it would have too many records, this comes before `NotRobust` if the loosened plan has too many,
+/// and after it if only the robust plan has.
 #[derive(Clone, Copy, Debug, PartialEq, Eq, Error)]
 pub enum RobustFault {
     /// More than 4,096 records would be made.
