@@ -1,6 +1,6 @@
 #!/usr/bin/env python3
-"""Runs examples/driver.py over four plans with 200 seeds each, and checks each run: prints how many runs came to
-`all done`, and at the end `passed`, or what is wrong, with status 1.
+"""Runs examples/driver.py over four plans with 200 seeds each, loosened and robust, and checks each run: prints how many
+runs came to `all done`, and at the end `passed`, or what is wrong, with status 1.
 
 usage: bench/driver_runs.py PROGRAM
 
@@ -9,10 +9,12 @@ which reads domains and plans by the formats alone:
 
 - each step takes its planned duration, with the tolerance;
 - events that interfere keep the planner's order, as far as they took place;
-- a run that doesn't come to `all done` stops at an event that can't take place any more.
+- a run that doesn't come to `all done` stops at an event that can't take place any more;
+- each run of a robust plan comes to `all done`, and there is a robust plan exactly if there is a promise.
 """
 import subprocess
 import sys
+import tempfile
 from pathlib import Path
 
 import plans
@@ -41,6 +43,18 @@ def loosened(bounds, steps, early, late):
         for start, end, low, high in bounds[events:events + steps]
     ]
     return bounds[:events] + loose + bounds[events + steps:]
+
+
+def robust(bounds, steps):
+    """The bounds of a loosened plan, and those of its orders and its horizon, moved from ends of steps to their starts."""
+    events = 2 * steps
+    durations = {end: (start, low, high) for start, end, low, high in bounds[events:events + steps]}
+    moved = []
+    for first, second, low, high in bounds[:events] + bounds[events + steps:]:
+        start, least, most = durations.get(first, (first, 0, 0))
+        other, shortest, longest = durations.get(second, (second, 0, 0))
+        moved.append((start, other, low - shortest + most, high - longest + least))
+    return bounds + moved
 
 
 def latest_times(bounds, done, events):
@@ -80,9 +94,9 @@ def check_run(lines, end, bounds, steps):
         check(latest is not None and event not in done and latest[event] < asked, f"{end}: it may still take place")
 
 
-def runs_of(program, domain, plan, early, late):
+def runs_of(program, domain, plan, options):
     """The lines of each run, and how it ended."""
-    words = [sys.executable, ROOT / "examples/driver.py", program, domain, plan, f"--early={early}", f"--late={late}", f"--seeds={SEEDS}"]
+    words = [sys.executable, ROOT / "examples/driver.py", program, domain, plan, *options, f"--seeds={SEEDS}"]
     printed = subprocess.run(words, capture_output=True, text=True, check=True).stdout.splitlines()
     lines = []
     for line in printed[:-1]:
@@ -93,17 +107,39 @@ def runs_of(program, domain, plan, early, late):
             lines.append(line)
 
 
+def complete_runs(program, domain, plan, options, bounds, steps):
+    """How many of all runs of a plan with a tolerance came to `all done`."""
+    ends = []
+    for lines, end in runs_of(program, domain, plan, options):
+        check_run(lines, end, bounds, steps)
+        ends.append(end)
+    check(len(ends) == SEEDS, "a run is missing")
+    return ends.count("all done")
+
+
+def refusal(program, domain, plan, options):
+    """What `loosen` prints that makes no log."""
+    with tempfile.TemporaryDirectory() as folder:
+        words = [program, "loosen", Path(folder) / "none.log", "1", domain, plan, *options]
+        return subprocess.run(words, capture_output=True, text=True, check=False).stdout.strip()
+
+
 def try_plan(program, domain, plan, early, late):
-    """All runs of a plan with a tolerance: how many came to `all done`."""
+    """All runs of a plan with a tolerance, loosened and robust."""
     bounds, planned = plans.lifted(domain.read_bytes(), plan.read_bytes())
     steps = len(planned) // 2
     loose = loosened(bounds, steps, plans.read_time(early), plans.read_time(late))
-    ends = []
-    for lines, end in runs_of(program, domain, plan, early, late):
-        check_run(lines, end, loose, steps)
-        ends.append(end)
-    check(len(ends) == SEEDS, "a run is missing")
-    print(f"{plan.stem} --early={early} --late={late}: {ends.count('all done')} of {SEEDS}", flush=True)
+    options = [f"--early={early}", f"--late={late}"]
+    count = complete_runs(program, domain, plan, options, loose, steps)
+    print(f"{plan.stem} {' '.join(options)}: {count} of {SEEDS}", flush=True)
+    options.append("--robust")
+    promised = robust(loose, steps)
+    if latest_times(promised, {}, 2 * steps) is None:
+        check(refusal(program, domain, plan, options) == "refused 45", "a robust plan, and there is no promise")
+        print(f"{plan.stem} {' '.join(options)}: refused", flush=True)
+        return
+    check(complete_runs(program, domain, plan, options, promised, steps) == SEEDS, "a run of a robust plan stopped")
+    print(f"{plan.stem} {' '.join(options)}: {SEEDS} of {SEEDS}", flush=True)
 
 
 def main():

@@ -1,12 +1,13 @@
 #!/usr/bin/env python3
 """Runs a plan against a clock: a planner's plan, loosened, with steps that end earlier or later than planned.
 
-usage: driver.py PROGRAM DOMAIN PLAN [--early=T] [--late=T] [--seeds=N] [--first=SEED] [--quiet]
+usage: driver.py PROGRAM DOMAIN PLAN [--early=T] [--late=T] [--robust] [--seeds=N] [--first=SEED] [--quiet]
 
 PROGRAM is the program `stn`, DOMAIN and PLAN are a planner's files. T is a time in seconds, 0 if it is not given.
 One run goes like this:
 
-- `loosen` makes a log of the plan, in which each step may end up to `--early` earlier and up to `--late` later.
+- `loosen` makes a log of the plan, in which each step may end up to `--early` earlier and up to `--late` later. With
+  `--robust`, the log also bounds the starts, so that the plan completes however long the steps take.
 - The driver reads the clock and asks `ready` which events may come next. It waits until the first of them that it can
   start may start, and starts that step; or it waits until the machine says that a step has ended.
 - Each event that takes place is recorded with `done`, at the time that the clock showed.
@@ -134,6 +135,7 @@ def main():
     parser.add_argument("plan")
     parser.add_argument("--early", type=float, default=0)
     parser.add_argument("--late", type=float, default=0)
+    parser.add_argument("--robust", action="store_true", help="bound the starts so that every run completes")
     parser.add_argument("--seeds", type=int, default=1)
     parser.add_argument("--first", type=int, default=1)
     parser.add_argument("--quiet", action="store_true", help="print how each run ends, and not its events")
@@ -145,7 +147,8 @@ def main():
         folder = Path(name)
         durations = planned_durations(words.program, words.domain, words.plan, folder)
         loose = Log(words.program, folder / "loose.log")
-        loose.ask("loosen", words.domain, words.plan, "--early=" + time_text(early), "--late=" + time_text(late))
+        robust = ["--robust"] if words.robust else []
+        loose.ask("loosen", words.domain, words.plan, "--early=" + time_text(early), "--late=" + time_text(late), *robust)
         for seed in range(words.first, words.first + words.seeds):
             log = loose.copy(folder / "run.log")
             end = run(log, SimulatedMachine(durations, early, late, seed), tell)

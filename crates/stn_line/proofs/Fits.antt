@@ -1,5 +1,6 @@
--- What the rows hold after a parse without a fault, where each argument takes one value, asks for help or takes any number of texts.
-use Rattle.std.proofs.Common.{◌≡◌, ◌≢◌, ◌⊎◌, ◌∙◌, ℕ, Bool, true, false, not, cond, List, [], ◌∷◌, ◌++◌, Option, Some, None, refl, sym, ap, subst, inl, inr, arith, length, zero, suc, is_some, ◌&&◌, ◌==◌, option_map}
+-- What the rows hold after a parse without a fault, where each argument takes one value, asks for help, takes any number of texts or is a
+-- flag.
+use Rattle.std.proofs.Common.{◌≡◌, ◌≢◌, ◌⊎◌, ◌∙◌, ℕ, Bool, codes, true, false, not, cond, List, [], ◌∷◌, ◌++◌, Option, Some, None, refl, sym, ap, subst, inl, inr, arith, length, zero, suc, is_some, ◌&&◌, ◌==◌, option_map}
 use Rattle.std.specs.Prelude.{IsSomeAnd, IfSome, find, fold, slice_get, option_and_then}
 use Rattle.std.specs.List.{list_any}
 use Rattle.std.specs.Option.{option_map_or}
@@ -24,7 +25,8 @@ use Rattle.clap.specs.declared.builder.action.ArgAction.{ArgAction}
 use Rattle.clap.specs.declared.builder.action.ArgAction.TheVariants as action
 use Rattle.clap.specs.declared.builder.value_parser.ValueParser.{ValueParser}
 use Rattle.clap.specs.declared.builder.value_parser.ValueParser.TheVariants.{String}
-use Rattle.clap.specs.declared.parser.matches.ValueSource.TheVariants.{CommandLine}
+use Rattle.clap.specs.declared.builder.value_parser.ValueParser.TheVariants as parser
+use Rattle.clap.specs.declared.parser.matches.ValueSource.TheVariants.{CommandLine, DefaultValue}
 use Rattle.clap.specs.declared.error.kind.ErrorKind.TheVariants as kind
 
 find_each : {X : Type 0} (P : X → Type 0) (f : X → Bool) (xs : List X) (a : X) → Each P xs → find f xs ≡ Some a → P a × (f a ≡ true)
@@ -62,10 +64,18 @@ pub record TakesMany (a : Rule) : Type 0 where
   pub defaults : a.defaults ≡ []
   pub optional : a.required ≡ false
 
-abbrev pub IsPlain : Rule → Type 0
-IsPlain a = TakesOne a ⊎ Asks a ⊎ TakesMany a
+-- the argument takes no value: it is `true` where it is used, and `false` where it is not
+pub record IsFlag (a : Rule) : Type 0 where
+  pub action : a.action ≡ Some action.SetTrue
+  pub range : a.range ≡ Some (record { start_inclusive = 0; end_inclusive = 0 })
+  pub missing : a.missing ≡ codes "true" ∷ []
+  pub parser : parser_of_value a.parser ≡ parser.Bool
+  pub defaults : a.defaults ≡ codes "false" ∷ []
 
--- an argument of one of the three kinds, that no other of the list hides
+abbrev pub IsPlain : Rule → Type 0
+IsPlain a = TakesOne a ⊎ Asks a ⊎ TakesMany a ⊎ IsFlag a
+
+-- an argument of one of the four kinds, that no other of the list hides
 pub record IsPlainIn (c : List Rule) (a : Rule) : Type 0 where
   pub plain : IsPlain a
   pub own : arg_by_id c a.id ≡ Some a
@@ -101,6 +111,17 @@ new_row c id more new (r ∷ rows) none fit fits = go (bytes_eq r.id id) refl (�
         → Fit c (at_row id more (new ∷ []) (without id (r ∷ rows)))
     go true t rest = let bad : true ≡ false = rw t at none in cc
     go false t rest = rw (t, t) (fit.0, rest (rw t at none))
+
+-- so does one that comes where none of its id is
+added_row : (c : List Rule) (id : Text) (more : Row → List Row) (new : Row) (rows : List Row) → has_row id rows ≡ false → Fit c rows → RowFits c new
+    → Fit c (at_row id more (new ∷ []) rows)
+added_row c id more new [] none fit fits = (fits, tt)
+added_row c id more new (r ∷ rows) none fit fits = go (bytes_eq r.id id) refl (λ rest. added_row c id more new rows rest fit.1 fits)
+  where
+    go : (t : Bool) → bytes_eq r.id id ≡ t → (has_row id rows ≡ false → Fit c (at_row id more (new ∷ []) rows))
+        → Fit c (at_row id more (new ∷ []) (r ∷ rows))
+    go true t rest = let bad : true ≡ false = rw t at none in cc
+    go false t rest = rw t (fit.0, rest (rw t at none))
 
 -- a row that is there may change to one that fits, and one that is not there goes to the end
 changed_row : (c : List Rule) (id : Text) (change : Row → Row) (new : Row) (rows : List Row)
@@ -140,6 +161,14 @@ one_value (v ∷ w ∷ rest) none =
     let bad = rw (some, more) at none in
     cc
 
+-- none, where none is wanted
+no_value : (values : List Text) → range_kinds 0 0 (length values) ≡ [] → values ≡ []
+no_value [] none = refl
+no_value (v ∷ rest) none =
+    let more : (0 == length (v ∷ rest)) ≡ false = ne_eqb _ _ (λ e. omega (arith, e)) in
+    let bad = rw more at none in
+    cc
+
 no_action : (x : ArgAction) (a : Rule) (values : List Text) (rows : List Row) → is_request x ≡ true → action_fault x false a values rows ≡ [] → request_kinds x ≡ []
 no_action x a values rows asks none = request_fault x false a values rows asks ∙ none
 
@@ -165,6 +194,16 @@ used_many c a values rows own many fit = rw many.action (changed_row c a.id chan
     changes : (r : Row) → r.id ≡ a.id → RowFits c (change r)
     changes r same = inr (record { rule = a; own = ap (arg_by_id c) same ∙ own; many = many })
 
+used_flag : (c : List Rule) (a : Rule) (values : List Text) (rows : List Row) → arg_by_id c a.id ≡ Some a → IsFlag a → values ≡ []
+    → action_fault action.SetTrue false a (values_or_missing a values) rows ≡ [] → Fit c rows → Fit c (used a values rows)
+used_flag c a values rows own flag is none fit =
+    let faults : or_else (repeat_fault false a.id rows) (values_fault a (codes "true" ∷ [])) ≡ [] = rw (is, flag.missing) at none in
+    let fresh = no_first _ (values_fault a (codes "true" ∷ [])) faults in
+    let passes = no_second (repeat_fault false a.id rows) _ faults in
+    let fits : RowFits c (record { id = a.id; values = codes "true" ∷ []; count = None; source = Some CommandLine; reading = reading_by a }) =
+    inl (record { rule = a; value = codes "true"; own = own; one = refl; reading = refl; passes = no_first _ [] passes }) in
+    rw (flag.action, is, flag.missing) (new_row c a.id (walk.more_values CommandLine (codes "true" ∷ [])) _ rows (not_there a.id rows fresh) fit fits)
+
 module _ (c : List Rule) where
   -- a use without a fault leaves rows that fit
   fits_used : (a : Rule) (values : List Text) (rows : List Row) → IsPlainIn c a → use_fault false a values rows ≡ [] → Fit c rows → Fit c (used a values rows)
@@ -174,7 +213,12 @@ module _ (c : List Rule) where
       own = plain.own
 
       go : IsPlain a → Fit c (used a values rows)
-      go (inr (inr many)) = used_many c a values rows own many fit
+      go (inr (inr (inr flag))) =
+          let split = rw (flag.action, flag.range) at none in
+          let value = no_value values (no_first _ _ split) in
+          let both = no_second _ (action_fault action.SetTrue false a (values_or_missing a values) rows) split in
+          used_flag c a values rows own flag value both fit
+      go (inr (inr (inl many))) = used_many c a values rows own many fit
       go (inr (inl asks)) =
           let acts = no_second (range_kinds (unwrap_or_range a.range).start_inclusive (most_values a) (length values)) _ none in
           absurd (no_request (action_of a) asks.action (no_action (action_of a) a (values_or_missing a values) rows asks.action acts))
@@ -357,21 +401,27 @@ module _ (s : Shape) (names : Names) (again : s.args_override_self ≡ false) (p
       walk_fits (walked s.rules names w word) rest (no_second (turn_fault s names w word) _ none)
       (turn_fits w word (no_first _ (walk_fault s names (walked s.rules names w word) rest) none) fit)
 
-no_defaults : (c rules : List Rule) (rows : List Row) → Each (IsPlainIn c) rules → fold with_default rows rules ≡ rows
-no_defaults c [] rows plain = refl
-no_defaults c (a ∷ rest) rows plain = ap (λ r. fold with_default r rest) (kept (has_row a.id rows)) ∙ no_defaults c rest rows plain.1
+-- a flag that was not used gets a value that it takes; no other argument has a default
+defaults_fit : (c rules : List Rule) (rows : List Row) → Each (IsPlainIn c) rules → Fit c rows → Fit c (fold with_default rows rules)
+defaults_fit c [] rows plain fit = fit
+defaults_fit c (a ∷ rest) rows plain fit = defaults_fit c rest (with_default rows a) plain.1 (given (has_row a.id rows) refl)
   where
-    none : a.defaults ≡ []
-    none = defaults plain.0.plain
-      where
-        defaults : IsPlain a → a.defaults ≡ []
-        defaults (inl one) = one.defaults
-        defaults (inr (inl asks)) = asks.defaults
-        defaults (inr (inr many)) = many.defaults
+    none : a.defaults ≡ [] → Fit c (walk.default_rows a.id (reading_by a) a.defaults rows)
+    none empty = rw empty fit
 
-    kept : (t : Bool) → cond t rows (walk.default_rows a.id (reading_by a) a.defaults rows) ≡ rows
-    kept true = refl
-    kept false = rw none refl
+    added : has_row a.id rows ≡ false → IsPlain a → Fit c (walk.default_rows a.id (reading_by a) a.defaults rows)
+    added new (inl one) = none one.defaults
+    added new (inr (inl asks)) = none asks.defaults
+    added new (inr (inr (inl many))) = none many.defaults
+    added new (inr (inr (inr flag))) =
+        let passes : value_kinds a.ignore_case (parser_of_value a.parser) (codes "false") ≡ [] = rw flag.parser refl in
+        let fits : RowFits c (record { id = a.id; values = codes "false" ∷ []; count = None; source = Some DefaultValue; reading = reading_by a }) =
+        inl (record { rule = a; value = codes "false"; own = plain.0.own; one = refl; reading = refl; passes = passes }) in
+        rw flag.defaults (added_row c a.id (walk.more_values DefaultValue (codes "false" ∷ [])) _ rows new fit fits)
+
+    given : (t : Bool) → has_row a.id rows ≡ t → Fit c (cond t rows (walk.default_rows a.id (reading_by a) a.defaults rows))
+    given true is = fit
+    given false is = added is plain.0.plain
 
 -- the first row of an argument has one value, which the argument takes, or the argument takes any texts
 fits_first : (c : List Rule) (rows : List Row) (a : Rule) (r : Row) → find (λ x. bytes_eq x.id a.id) rows ≡ Some r → Fit c rows → IsPlainIn c a
@@ -448,8 +498,7 @@ level_given commands s words plain none =
     let walked_fit = walk_fits s [] plain.again plain.rules (walk_from nothing_held) words (no_first _ (or_else [] (or_else (settle_fault s.rules s.args_override_self end) (or_else (defaults_fault (settled s.rules end).rows s.rules) (check_fault s (finished s.rules end) false)))) none) tt in
     let settle = no_first (settle_fault s.rules s.args_override_self end) _ rest in
     let settled_fit = settled_fits s.rules end plain.rules (rw plain.again at settle) walked_fit in
-    let same : finished s.rules end ≡ (settled s.rules end).rows = no_defaults s.rules s.rules (settled s.rules end).rows plain.rules in
-    let fit : Fit s.rules (finished s.rules end) = rw same settled_fit in
+    let fit : Fit s.rules (finished s.rules end) = defaults_fit s.rules s.rules (settled s.rules end).rows plain.rules settled_fit in
     let checks = no_second (defaults_fault (settled s.rules end).rows s.rules) _ (no_second (settle_fault s.rules s.args_override_self end) _ rest) in
     all_given s.rules (finished s.rules end) s.rules fit plain.rules (all_checked s (finished s.rules end) plain.negates checks)
 

@@ -11,9 +11,10 @@ use Rattle.clap.specs.declared.parser.matches.ArgMatches.{ArgMatches}
 use Rattle.clap.specs.declared.parser.matches.ArgMatches.TheViews.{out-ArgMatches}
 use Rattle.clap.specs.Walk.{action_of, arg_by_id, rows_of}
 use Rattle.clap.specs.Words.{Row, Rule, Shape, Text, built, fault_of, is_simple, is_simple_and_free, subcommand_of}
-use Rattle.clap.specs.declared.builder.action.ArgAction.TheVariants.{Append, Set}
+use Rattle.clap.specs.declared.builder.action.ArgAction.TheVariants.{Append, Set, SetTrue}
 use Rattle.clap.specs.declared.builder.value_parser.ValueParser.{ValueParser}
 use Rattle.clap.specs.declared.builder.value_parser.ValueParser.TheVariants.{String, Unsigned}
+use Rattle.clap.specs.declared.builder.value_parser.ValueParser.TheVariants as parser
 use Rattle.stn_line.specs.Commands.{commands, program, stn}
 use Rattle.stn_line.specs.Given.{Each, HasWords, HasWordsAmong, HoldsWord, HoldsWords, IsGiven}
 use Rattle.stn_line.proofs.Values.{at_value, entered_is}
@@ -27,7 +28,7 @@ pub stn_free : is_simple_and_free stn ≡ true
 unfolding stn
 stn_free = refl
 
--- an argument of each of the three kinds, that no other of the list hides
+-- an argument of each of the four kinds, that no other of the list hides
 one : {c : List Rule} {a : Rule} → a.action ≡ Some Set → a.range ≡ Some (record { start_inclusive = 1; end_inclusive = 1 }) → a.defaults ≡ []
     → arg_by_id c a.id ≡ Some a → IsPlainIn c a
 one action range defaults own = record { plain = inl (record { action = action; range = range; defaults = defaults }); own = own }
@@ -38,7 +39,14 @@ asks action defaults own = record { plain = inr (inl (record { action = action; 
 many : {c : List Rule} {a : Rule} → a.action ≡ Some Append → parser_of_value a.parser ≡ String → a.defaults ≡ [] → a.required ≡ false
     → arg_by_id c a.id ≡ Some a → IsPlainIn c a
 many action parser defaults optional own = record {
-  plain = inr (inr (record { action = action; parser = parser; defaults = defaults; optional = optional }));
+  plain = inr (inr (inl (record { action = action; parser = parser; defaults = defaults; optional = optional })));
+  own = own;
+}
+
+flag : {c : List Rule} {a : Rule} → a.action ≡ Some SetTrue → a.range ≡ Some (record { start_inclusive = 0; end_inclusive = 0 }) → a.missing ≡ codes "true" ∷ []
+    → parser_of_value a.parser ≡ parser.Bool → a.defaults ≡ codes "false" ∷ [] → arg_by_id c a.id ≡ Some a → IsPlainIn c a
+flag action range missing parser defaults own = record {
+  plain = inr (inr (inr (record { action = action; range = range; missing = missing; parser = parser; defaults = defaults })));
   own = own;
 }
 
@@ -55,7 +63,7 @@ all_plain = (
     (
       reads refl refl refl (one refl refl refl refl, (one refl refl refl refl, (one refl refl refl refl, (one refl refl refl refl, (asks refl refl refl, tt))))),
       (
-        reads refl refl refl (one refl refl refl refl, (one refl refl refl refl, (one refl refl refl refl, (one refl refl refl refl, (one refl refl refl refl, (one refl refl refl refl, (asks refl refl refl, tt))))))),
+        reads refl refl refl (one refl refl refl refl, (one refl refl refl refl, (one refl refl refl refl, (one refl refl refl refl, (one refl refl refl refl, (one refl refl refl refl, (flag refl refl refl refl refl refl, (asks refl refl refl, tt)))))))),
         (
           reads refl refl refl (one refl refl refl refl, (one refl refl refl refl, (one refl refl refl refl, (one refl refl refl refl, (one refl refl refl refl, (one refl refl refl refl, (asks refl refl refl, tt))))))),
           (

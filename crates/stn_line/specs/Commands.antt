@@ -4,6 +4,7 @@ use Rattle.stn_records.specs.Id.{most_sites}
 use Rattle.clap.specs.Lexer.{usize_max}
 use Rattle.clap.specs.Simple.{new_shape}
 use Rattle.clap.specs.Words.{App, Rule, Shape, Text, new_rule}
+use Rattle.clap.specs.declared.builder.action.ArgAction.TheVariants as action
 use Rattle.clap.specs.declared.builder.value_parser.ValueParser.TheVariants as parser
 
 -- the number of steps of a bare plan is read up to this; which of them make a plan is for the plan to say
@@ -45,6 +46,10 @@ option_rule name = record (new_rule name) { long = Some name; value_names = 1 }
 abbrev pub number_option_rule : Text → ℕ → ℕ → Rule
 number_option_rule name least most = record (option_rule name) { parser = Some (parser.Unsigned least most) }
 
+-- a flag `--name`, which may be left out
+abbrev pub flag_rule : Text → Rule
+flag_rule name = record (new_rule name) { long = Some name; action = Some action.SetTrue }
+
 -- a command with its words
 abbrev pub command : Text → List Rule → Shape
 command name words = record (new_shape name) { rules = words }
@@ -58,7 +63,8 @@ abbrev pub commands : List Shape
 commands = command (codes "run") []
     ∷ on_log (codes "bare") (number_rule (codes "STEPS") 0 most_read_steps ∷ [])
     ∷ on_log (codes "init") (word_rule (codes "DOMAIN") ∷ word_rule (codes "PLAN") ∷ [])
-    ∷ on_log (codes "loosen") (word_rule (codes "DOMAIN") ∷ word_rule (codes "PLAN") ∷ option_rule (codes "early") ∷ option_rule (codes "late") ∷ [])
+    ∷ on_log (codes "loosen") (word_rule (codes "DOMAIN") ∷ word_rule (codes "PLAN") ∷ option_rule (codes "early") ∷ option_rule (codes "late")
+    ∷ flag_rule (codes "robust") ∷ [])
     ∷ on_log (codes "add") (word_rule (codes "FROM") ∷ word_rule (codes "TO") ∷ option_rule (codes "lo") ∷ option_rule (codes "hi") ∷ [])
     ∷ on_log (codes "amend") (word_rule (codes "ID") ∷ word_rule (codes "FROM") ∷ word_rule (codes "TO") ∷ option_rule (codes "lo") ∷ option_rule (codes "hi") ∷ [])
     ∷ on_log (codes "withdraw") (word_rule (codes "ID") ∷ [])

@@ -1,5 +1,5 @@
 -- What the words of a command line ask for, by what clap finds in them: a command, and the value of each of its words.
-use Rattle.std.specs.Prelude.{◌≡◌, ◌≢◌, ◌≤◌, ℕ, List, [], Option, Some, codes, map, option_map, unwrap_or, ⊤}
+use Rattle.std.specs.Prelude.{◌≡◌, ◌≢◌, ◌↔◌, ◌≤◌, ℕ, Bool, IsTrue, List, [], Option, Some, codes, map, option_map, unwrap_or, ⊤}
 use Rattle.std.specs.Borrow.{Bor}
 use Rattle.std.specs.Str.Parse.{digits_value, without_leading_plus}
 use Rattle.clap.specs.Words.{IsAmong, Row, Text, all_of, fault_of, first_of, kind_of}
@@ -18,6 +18,10 @@ IsWord name word rows = first_of name rows ≡ Some word.now
 -- the value of the option with this name, where it is given
 abbrev pub IsOption : Text → Option (Bor Text) → List Row → Type 0
 IsOption name word rows = first_of name rows ≡ option_map (λ w. w.now) word
+
+-- whether the flag with this name is given: clap then takes its value to be `true`
+abbrev pub IsFlag : Text → Bool → List Row → Type 0
+IsFlag name given rows = IsTrue given ↔ (first_of name rows ≡ Some (codes "true"))
 
 -- all values of the word with this name, none where it is not given
 abbrev pub IsWords : Text → List (Bor Text) → List Row → Type 0
@@ -43,9 +47,9 @@ IsLineOf line.Run name rows = name ≡ codes "run"
 IsLineOf (line.Bare log steps) name rows = (name ≡ codes "bare") × IsOnLog log rows × IsNumber (codes "STEPS") steps rows
 IsLineOf (line.Init log domain plan) name rows =
     (name ≡ codes "init") × IsOnLog log rows × IsWord (codes "DOMAIN") domain rows × IsWord (codes "PLAN") plan rows
-IsLineOf (line.Loosen log domain plan early late) name rows =
+IsLineOf (line.Loosen log domain plan early late robust) name rows =
     (name ≡ codes "loosen") × IsOnLog log rows × IsWord (codes "DOMAIN") domain rows × IsWord (codes "PLAN") plan rows
-    × IsOption (codes "early") early rows × IsOption (codes "late") late rows
+    × IsOption (codes "early") early rows × IsOption (codes "late") late rows × IsFlag (codes "robust") robust rows
 IsLineOf (line.Add log from to lo hi) name rows =
     (name ≡ codes "add") × IsOnLog log rows × IsWord (codes "FROM") from rows × IsWord (codes "TO") to rows
     × IsOption (codes "lo") lo rows × IsOption (codes "hi") hi rows

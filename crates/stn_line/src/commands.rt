@@ -5,7 +5,7 @@ ghost use Rattle.stn_line.specs.Table.{Reads, read_rule, read_shape};
 
 use crate::help::REFUSALS;
 use clap::builder::ValueParser;
-use clap::{Arg, Command};
+use clap::{Arg, ArgAction, Command};
 use std::alloc::{AllocError, Global};
 use stn_records::MOST_SITES;
 
@@ -32,6 +32,8 @@ enum Word {
     Time(&'static str, &'static str),
     // An option that is a number of seconds, `--name=N`.
     Seconds(&'static str, &'static str),
+    // A flag, `--name`.
+    Flag(&'static str, &'static str),
 }
 
 // A command: its name, what the help says of it, and its words.
@@ -113,6 +115,10 @@ const COMMANDS: [Row; 22] = [
             Word::Time(
                 "late",
                 "How many seconds more than planned a step may take; 0 if not given",
+            ),
+            Word::Flag(
+                "robust",
+                "Bound the starts so that the plan completes however long the steps take",
             ),
         ],
     },
@@ -323,6 +329,10 @@ fn argument<'a>(alloc: Global, word: &Word) -> Arg<'a>
             .long(name)
             .value_name("N")
             .value_parser(ValueParser::unsigned(1, MOST_SECONDS))
+            .help(help),
+        Word::Flag(name, help) => Arg::new(alloc, name)
+            .long(name)
+            .action(ArgAction::SetTrue)
             .help(help),
     }
 }

@@ -3,7 +3,7 @@ ghost use Rattle.clap.specs.Words.{fault_of, found_of, rows_of, subcommand_of, s
 ghost use Rattle.stn_line.specs.Commands.{most_read_steps, most_seconds, stn as program};
 ghost use Rattle.stn_records.specs.Id.{most_sites};
 ghost use Rattle.stn_line.specs.Given.{HasWords, IsThere, IsNumberThere, IsNumberWhereGiven};
-ghost use Rattle.stn_line.specs.Lines.{IsFaultOf, IsLineOf, IsNumber, IsOnLog, IsOption, IsSeconds, IsWord, IsWords};
+ghost use Rattle.stn_line.specs.Lines.{IsFaultOf, IsFlag, IsLineOf, IsNumber, IsOnLog, IsOption, IsSeconds, IsWord, IsWords};
 
 use crate::commands::stn;
 use crate::words::{Line, LineFault, SiteLog};
@@ -111,6 +111,7 @@ fn loosen<'a>(words: &ArgMatches<'a>) -> Line<'a>
         plan: word(words, "PLAN"),
         early: option(words, "early"),
         late: option(words, "late"),
+        robust: flag(words, "robust"),
     }
 }
 
@@ -294,6 +295,16 @@ fn option<'a>(words: &ArgMatches<'a>, name: &str) -> Option<&'a str>
     ensures { IsOption name.now result (rows_of (found_of words.now)) }
 {
     words.get_str(name)
+}
+
+// Whether a flag is given.
+fn flag(words: &ArgMatches<'_>, name: &str) -> bool
+    ensures { IsFlag name.now result (rows_of (found_of words.now)) }
+{
+    match words.get_str(name) {
+        Some(value) => value == "true",
+        None => false,
+    }
 }
 
 // The log, and its site.

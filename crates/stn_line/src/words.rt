@@ -29,13 +29,14 @@ pub enum Line<'a> {
         plan: &'a str,
     },
     /// Makes the log of a plan whose steps may end so much earlier and so much later than a plan text over a domain text says; a time
-    /// that is not given is 0.
+    /// that is not given is 0. Where it is to be robust, the plan completes however long its steps take.
     Loosen {
         log: SiteLog<'a>,
         domain: &'a str,
         plan: &'a str,
         early: Option<&'a str>,
         late: Option<&'a str>,
+        robust: bool,
     },
     /// Adds a bound on the time from one event to another; a side that is not given is open.
     Add {

@@ -1,28 +1,14 @@
 -- New logs, and the texts that they are made of.
 use Rattle.std.proofs.Common.{◌≡◌, ◌⊎◌, ℕ, false, List, Option, Some, None, Result, Ok, Err, OnOk, OnErr, IfErr, MatchResult, refl, sym, ap, subst, inl, inr, ⊎_elim}
 use Rattle.stn_lift.specs.PlanSource.{PlanSource, files, base_of}
-use Rattle.stn_loosen.specs.Faults.{IsCause}
-use Rattle.stn_loosen.specs.Slack.{Slack}
-use Rattle.stn_loosen.specs.declared.fault.LoosenFault.{LoosenFault}
-use Rattle.stn_loosen.specs.declared.fault.LoosenFault.TheVariants as loosening
 use Rattle.stn_records.specs.Content.{Content, no_content}
 use Rattle.stn_site.specs.Held.{Held}
-use Rattle.stn_loosen.specs.Failures.{loosen_failure}
 use Rattle.stn_store.specs.Store.{Entry, IsThere, IsTaken, IsLack, saved_too}
 use Rattle.stn_refusal.specs.declared.failure.Failure.{Failure}
-use Rattle.stn_refusal.specs.declared.failure.Failure.TheVariants.{Failed}
 use Rattle.stn_refusal.specs.declared.failure.Fault.{Fault}
-use Rattle.stn_refusal.specs.declared.failure.Fault.TheVariants.{Memory}
 use Rattle.stn_shell.specs.Commands.{IsMade, IsNewLog}
 use Rattle.stn_shell.specs.Endings.{SavesNew, IsUnsaved, IsOfTexts, MissesText}
-use Rattle.stn_shell.specs.Refusals.{IsBaseRefusal, IsLooseningRefusal, WithText, base_refusal_of}
-
--- the fault of a loosening, over the base of a source
-pub loosening_failed : (source here : PlanSource) (slack : Slack) (fault : LoosenFault) → here ≡ source → base_of here ≡ Ok here
-    → IsCause here slack fault → (loosen_failure fault ≡ Failed Memory) ⊎ IsLooseningRefusal source slack (Some (loosen_failure fault))
-loosening_failed source here slack loosening.Full same based cause =
-    inr (subst (λ (plan : PlanSource). IsLooseningRefusal plan slack (Some (loosen_failure loosening.Full))) same (inr (inl (based, cause, refl))))
-loosening_failed source here slack loosening.Memory same based cause = inl refl
+use Rattle.stn_shell.specs.Refusals.{IsBaseRefusal, WithText, base_refusal_of}
 
 -- the log of a replica that holds nothing yet
 pub made_log : (old new : Option (List Entry)) (name : List ℕ) (source : PlanSource) (held : Held) (text : List ℕ) → held.source ≡ source

@@ -1,5 +1,5 @@
 -- A command line that asks something of a log that is there, or of none.
-use Rattle.std.proofs.Common.{◌≡◌, ℕ, List, Option, None, Vec, Result, Ok, Err, MatchResult, refl, ⊎_elim, inl, inr}
+use Rattle.std.proofs.Common.{◌≡◌, ℕ, Bool, List, Option, None, Vec, Result, Ok, Err, MatchResult, refl, ⊎_elim, inl, inr}
 use Rattle.std.specs.Prelude.{IsOkAnd}
 use Rattle.std.specs.Borrow.{Bor}
 use Rattle.stn_line.specs.declared.words.Line.{Line}
@@ -17,14 +17,14 @@ use Rattle.stn_shell.specs.Words.{asked_of}
 pub record IsOfLog (line : Line) : Type 0 where
   pub bare : (log : SiteLog) (steps : ℕ) → line ≡ Bare log steps → ⊥
   pub init : (log : SiteLog) (domain plan : Bor (List ℕ)) → line ≡ Init log domain plan → ⊥
-  pub loosen : (log : SiteLog) (domain plan : Bor (List ℕ)) (early late : Option (Bor (List ℕ))) → line ≡ Loosen log domain plan early late → ⊥
+  pub loosen : (log : SiteLog) (domain plan : Bor (List ℕ)) (early late : Option (Bor (List ℕ))) (robust : Bool) → line ≡ Loosen log domain plan early late robust → ⊥
   pub explain : (code : Option (Bor (List ℕ))) → line ≡ Explain code → ⊥
 
 answered : (old new : Option (List Entry)) (line : Line) (text : List ℕ) → IsOfLog line
     → IsOkAnd (asked_of line) (λ asked. IsDone old new asked text) → IsAnswered old new line text
 answered old new (Bare log steps) text is done = absurd (is.bare log steps refl)
 answered old new (Init log domain plan) text is done = absurd (is.init log domain plan refl)
-answered old new (Loosen log domain plan early late) text is done = absurd (is.loosen log domain plan early late refl)
+answered old new (Loosen log domain plan early late robust) text is done = absurd (is.loosen log domain plan early late robust refl)
 answered old new (Explain code) text is done = absurd (is.explain code refl)
 answered old new line text is done = done
 
@@ -32,7 +32,7 @@ refused : (entries : Option (List Entry)) (line : Line) (cause : Option Failure)
     → WithWords (asked_of line) (IsAskedRefusal entries) cause → IsRefusalOf entries line cause
 refused entries (Bare log steps) cause is why = absurd (is.bare log steps refl)
 refused entries (Init log domain plan) cause is why = absurd (is.init log domain plan refl)
-refused entries (Loosen log domain plan early late) cause is why = absurd (is.loosen log domain plan early late refl)
+refused entries (Loosen log domain plan early late robust) cause is why = absurd (is.loosen log domain plan early late robust refl)
 refused entries (Explain code) cause is why = absurd (is.explain code refl)
 refused entries line cause is why = why
 

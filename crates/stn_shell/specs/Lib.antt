@@ -4,6 +4,7 @@ pub mod Connections
 pub mod Endings
 pub mod Executed
 pub mod Joining
+pub mod Loosening
 pub mod Peer
 pub mod Printing
 pub mod Refusals

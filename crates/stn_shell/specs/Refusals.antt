@@ -3,12 +3,10 @@ use Rattle.std.specs.Prelude.{◌≡◌, ◌≢◌, ◌⊎◌, ℕ, true, false,
 use Rattle.std.specs.Borrow.{Bor}
 use Rattle.stn_lift.specs.PlanSource.{PlanSource, bare, files, base_of}
 use Rattle.stn_lift.specs.declared.fault.BaseFault.{BaseFault}
-use Rattle.stn_net.specs.Difference.{Difference}
 use Rattle.stn_site.specs.Held.{Held}
 use Rattle.stn_site.specs.Refusals.{take_refusal}
 use Rattle.stn_lift.specs.Failures.{base_failure}
 use Rattle.stn_site.specs.Failures.{replica_failure}
-use Rattle.stn_loosen.specs.Failures.{loosen_failure}
 use Rattle.stn_command.specs.Change.{change_refusal}
 use Rattle.stn_command.specs.Query.{IsQueryRefusal}
 use Rattle.stn_command.specs.Words.{no_such_word}
@@ -17,9 +15,7 @@ use Rattle.stn_shell.specs.Words.{Asked, change, merge, query, asked_of, slack_r
 use Rattle.stn_explain.specs.Explained.{NamesNothing}
 use Rattle.stn_line.specs.declared.words.Line.{Line}
 use Rattle.stn_line.specs.declared.words.Line.TheVariants.{Bare, Init, Loosen, Explain}
-use Rattle.stn_loosen.specs.declared.fault.LoosenFault.TheVariants.{Full}
-use Rattle.stn_loosen.specs.Slack.{Slack}
-use Rattle.stn_loosen.specs.Loosened.{AreFewLoosened, AreTooMany}
+use Rattle.stn_shell.specs.Loosening.{IsLooseningRefusal}
 use Rattle.stn_refusal.specs.declared.code.Code.TheVariants as code
 use Rattle.stn_refusal.specs.declared.failure.Failure.{Failure}
 use Rattle.stn_refusal.specs.declared.failure.Failure.TheVariants.{Failed}
@@ -53,12 +49,6 @@ base_refusal_of (Err fault) = Some (base_failure fault)
 abbrev pub IsBaseRefusal : PlanSource → Option Failure → Type 0
 IsBaseRefusal source cause = cause ≡ base_refusal_of (base_of source)
 
--- so does one whose loosened plan would have more records than a site may know
-abbrev pub IsLooseningRefusal : PlanSource → Slack → Option Failure → Type 0
-IsLooseningRefusal source slack cause = ((fault : BaseFault) × (base_of source ≡ Err fault) × (cause ≡ Some (base_failure fault)))
-    ⊎ ((base_of source ≡ Ok source) × AreTooMany source slack × (cause ≡ Some (loosen_failure Full)))
-    ⊎ ((base_of source ≡ Ok source) × ((records : List Difference) × AreFewLoosened source slack records) × (cause ≡ None))
-
 -- the bases of two logs differ
 abbrev pub other_plan : Failure
 other_plan = refused code.OtherPlan
@@ -79,15 +69,15 @@ IsAskedRefusal entries (change log asked) = WithLog entries log.name.now log.sit
 IsAskedRefusal entries (merge log other) = WithLog entries log.name.now log.site (λ ours. WithLog entries other log.site (IsMergeRefusal ours))
 IsAskedRefusal entries (query log asked) = WithLog entries log.name.now log.site (IsQueryRefusal asked)
 
--- the first cause: words that can't be read; a log that is there; the texts and the base; too many records; the log; the other log;
+-- the first cause: words that can't be read; a log that is there; the texts and the base; too many records, or no promise; the log; the other log;
 -- another plan; what the site or the query refuses
 abbrev pub IsRefusalOf : Option (List Entry) → Line → Option Failure → Type 0
 IsRefusalOf entries (Bare log steps) = WhereFree entries log.name.now (IsBaseRefusal (bare steps))
 IsRefusalOf entries (Init log domain plan) = WhereFree entries log.name.now
     (WithText entries domain.now (λ actions. WithText entries plan.now (λ steps. IsBaseRefusal (files actions steps))))
-IsRefusalOf entries (Loosen log domain plan early late) = WithWords (slack_read early late)
+IsRefusalOf entries (Loosen log domain plan early late robust) = WithWords (slack_read early late)
     (λ slack. WhereFree entries log.name.now
-    (WithText entries domain.now (λ actions. WithText entries plan.now (λ steps. IsLooseningRefusal (files actions steps) slack))))
+    (WithText entries domain.now (λ actions. WithText entries plan.now (λ steps. IsLooseningRefusal robust (files actions steps) slack))))
 IsRefusalOf entries (Explain code) = IsExplainRefusal code
 IsRefusalOf entries line = WithWords (asked_of line) (IsAskedRefusal entries)
 

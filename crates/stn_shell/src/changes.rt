@@ -1,22 +1,19 @@
 //! What a command makes of a plan, and takes in of another log.
 
 ghost use Rattle.std.specs.Prelude.{◌≡◌, ◌≢◌, ◌⊎◌, Some, None, Ok, OnOk, OnErr, IfOk, IfErr, MatchResult};
-ghost use Rattle.stn_lift.specs.PlanSource.{bare, plan_source, base_of, steps_of};
+ghost use Rattle.stn_lift.specs.PlanSource.{plan_source, base_of};
 ghost use Rattle.stn_records.specs.Content.{no_content};
 ghost use Rattle.stn_site.specs.Calls.{took, Leaves};
 ghost use Rattle.stn_site.specs.Refusals.{take_refusal};
-ghost use Rattle.stn_shell.specs.Refusals.{other_plan, IsBaseRefusal, IsMergeFailure, IsLooseningRefusal};
-ghost use Rattle.stn_shell.specs.Commands.{IsLoosened};
+ghost use Rattle.stn_shell.specs.Refusals.{other_plan, IsBaseRefusal, IsMergeFailure};
 ghost use Rattle.stn_refusal.specs.declared.failure.Failure.TheVariants.{Failed};
 ghost use Rattle.stn_refusal.specs.declared.failure.Fault.TheVariants as lack;
 
 use std::alloc::{Allocator, Global};
 use std::rc::Rc;
 use stn_lift::{Base, Source};
-use stn_loosen::{Tolerance, loosened_replica};
 use stn_records::Site;
 use stn_refusal::{Code, Failure};
-use stn_replica::Replica;
 use stn_site::SitePlan;
 use stn_time::Memory;
 
@@ -34,25 +31,6 @@ pub fn opened<A: Allocator + Copy>(
     let base = Base::from_source(alloc, source)?;
     let base = Rc::new(alloc, base)?;
     Ok(SitePlan::new(alloc, site, base))
-}
-
-/// The replica of a site with the loosened plan of a source.
-pub fn loosen<A: Allocator + Copy>(
-    alloc: A,
-    site: Site,
-    source: &Source<A>,
-    tolerance: Tolerance,
-) -> Result<Replica<A>, Failure>
-    ensures source { IfOk result (λ replica. replica.source ≡ bare (steps_of (plan_source source.now))) }
-    ensures loosened { IfOk result (λ replica. IsLoosened (plan_source source.now) tolerance site replica.state) }
-    ensures accepted { OnOk result (IsLooseningRefusal (plan_source source.now) tolerance None) }
-    ensures refused { IfErr result (λ failure. (failure ≡ Failed lack.Memory)
-        ⊎ IsLooseningRefusal (plan_source source.now) tolerance (Some failure)) }
-{
-    let base = Base::from_source(alloc, source)?;
-    let loosened = loosened_replica(alloc, site, &base, tolerance);
-    drop(base);
-    Ok(loosened?)
 }
 
 /// A copy of a text.

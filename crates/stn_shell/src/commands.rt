@@ -7,11 +7,13 @@ ghost use Rattle.stn_command.specs.Query.{seen_query};
 ghost use Rattle.stn_shell.specs.Words.{asked_of, change, merge, query};
 ghost use Rattle.stn_shell.specs.Commands.{IsDone, IsMade, IsMadeLoose, IsNewLog};
 ghost use Rattle.stn_shell.specs.Endings.{Completes, Succeeds, IsUndone, SavesNew, IsUnsaved, IsUnmade, IsOfTexts, MissesText};
-ghost use Rattle.stn_shell.specs.Refusals.{IsRefusalOf, IsAskedRefusal, IsBaseRefusal, IsLooseningRefusal, WithWords};
+ghost use Rattle.stn_shell.specs.Loosening.{IsLooseningRefusal};
+ghost use Rattle.stn_shell.specs.Refusals.{IsRefusalOf, IsAskedRefusal, IsBaseRefusal, WithWords};
 ghost use Rattle.stn_store.specs.Store.{IsThere, IsMissing, IsTaken, IsUnopened, IsLack, Opens};
 ghost use Rattle.stn_line.specs.declared.words.Line.TheVariants as of;
 
-use crate::changes::{copied, loosen, opened, take_in};
+use crate::changes::{copied, opened, take_in};
+use crate::loosening::loosen;
 use crate::explaining::explain;
 use crate::words::{Asked, read_asked, read_tolerance};
 use std::alloc::Global;
@@ -47,7 +49,8 @@ pub fn answer<S: Store>(alloc: Global, store: &mut S, line: &Line<'_>) -> Result
             plan,
             early,
             late,
-        } => loosen_texts(alloc, store, log, *domain, *plan, *early, *late),
+            robust,
+        } => loosen_texts(alloc, store, log, *domain, *plan, *early, *late, *robust),
         Line::Explain { code } => explain_word(alloc, store, *code),
         _ => do_asked(alloc, store, line),
     }
@@ -100,21 +103,22 @@ fn make<S: Store>(
     text
 }
 
-// Makes the log of the loosened plan of a source, under a name that is free.
+// Makes the log of the loosened plan of a source, or of its robust plan, under a name that is free.
 fn make_loose<S: Store>(
     alloc: Global,
     store: &mut S,
     log: &SiteLog<'_>,
     source: &Source<Global>,
     tolerance: Tolerance,
+    robust: bool,
 ) -> Result<Vec<u8>, Failure>
     ensures { MatchResult result
-        (λ text. IsMadeLoose (S.entries store.old) (S.entries store.new) log.now (plan_source source.now) tolerance text.items
-        × IsLooseningRefusal (plan_source source.now) tolerance None)
-        (IsUnmade (IsLooseningRefusal (plan_source source.now) tolerance) S.fails
+        (λ text. IsMadeLoose (S.entries store.old) (S.entries store.new) log.now (plan_source source.now) tolerance robust text.items
+        × IsLooseningRefusal robust (plan_source source.now) tolerance None)
+        (IsUnmade (IsLooseningRefusal robust (plan_source source.now) tolerance) S.fails
         (S.entries store.old) (S.entries store.new) log.now.name.now) }
 {
-    let replica = loosen(alloc, log.site, source, tolerance)?;
+    let replica = loosen(alloc, log.site, source, tolerance, robust)?;
     let text = save_made(alloc, store, log.name, replica.plan());
     drop(replica);
     text
@@ -195,15 +199,16 @@ fn loosen_texts<S: Store>(
     plan: &str,
     early: Option<&str>,
     late: Option<&str>,
+    robust: bool,
 ) -> Result<Vec<u8>, Failure>
     ensures { MatchResult result
-        (λ text. Succeeds (S.entries store.old) (S.entries store.new) (of.Loosen log.now domain.entry plan.entry early.entry late.entry) text.items)
-        (IsUndone (IsRefusalOf (S.entries store.old) (of.Loosen log.now domain.entry plan.entry early.entry late.entry)) S.fails (S.entries store.old) (S.entries store.new)) }
+        (λ text. Succeeds (S.entries store.old) (S.entries store.new) (of.Loosen log.now domain.entry plan.entry early.entry late.entry robust) text.items)
+        (IsUndone (IsRefusalOf (S.entries store.old) (of.Loosen log.now domain.entry plan.entry early.entry late.entry robust)) S.fails (S.entries store.old) (S.entries store.new)) }
 {
     let tolerance = read_tolerance(early, late)?;
     find_free(store, log.name)?;
     let source = source_of_texts(store, domain, plan)?;
-    make_loose(alloc, store, log, &source, tolerance)
+    make_loose(alloc, store, log, &source, tolerance, robust)
 }
 
 // Holds a log that is there. No other program changes it until what is held is dropped.

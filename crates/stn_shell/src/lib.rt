@@ -13,6 +13,7 @@ mod connections;
 mod execution;
 mod explaining;
 mod joining;
+mod loosening;
 mod partners;
 mod peer;
 mod printing;

@@ -1,7 +1,7 @@
 use Rattle.std.proofs.Common.{Some, refl, ap, subst, inl, inr, ⊎_elim}
 use Rattle.std.proofs.lemmas.Result.{err_from_is_err_and, MatchResult-weaker}
 use Rattle.stn_shell.specs.Commands.{IsMadeLoose}
-use Rattle.stn_shell.specs.Refusals.{IsLooseningRefusal}
+use Rattle.stn_shell.specs.Loosening.{IsLooseningRefusal}
 use Rattle.stn_shell.proofs.Made.{texts_say, text_missing}
 use Rattle.stn_shell.proofs.commands.loosen_texts.Goals as goal
 
@@ -23,7 +23,7 @@ returns-in_err-source g c =
     let p = err_from_is_err_and c.from_residual-in_err-source.result c.from_residual-in_err-source.ensures.1 in
     rw (p.1, p.2) (record {
       cause = ⊎_elim (λ missing. inl (rw c.in_ok-tolerance.ensures.said
-          (inr (c.in_ok-find_free.ensures, text_missing _ _ _ (λ source. IsLooseningRefusal source c.in_ok-tolerance.tolerance) _ missing)))) inr c.in_err-source.ensures;
+          (inr (c.in_ok-find_free.ensures, text_missing _ _ _ (λ source. IsLooseningRefusal c.args.robust source c.in_ok-tolerance.tolerance) _ missing)))) inr c.in_err-source.ensures;
       unsaved = refl;
     })
 
@@ -41,13 +41,13 @@ returns g c =
         read = c.in_ok-tolerance.ensures.said;
         first = said.first;
         second = said.second;
-        made = subst (λ source. IsMadeLoose (g.S.Store.entries c.args.store.now) (g.S.Store.entries c.make_loose.new.store) c.args.log.now source slack text.items) said.is made.0;
+        made = subst (λ source. IsMadeLoose (g.S.Store.entries c.args.store.now) (g.S.Store.entries c.make_loose.new.store) c.args.log.now source slack c.args.robust text.items) said.is made.0;
       };
-      accepted = rw c.in_ok-tolerance.ensures.said (inr (free, texts_say _ _ _ _ (λ source. IsLooseningRefusal source slack) _ said made.1));
+      accepted = rw c.in_ok-tolerance.ensures.said (inr (free, texts_say _ _ _ _ (λ source. IsLooseningRefusal c.args.robust source slack) _ said made.1));
     })
     (λ failure unmade. record {
       cause = ⊎_elim
-          (λ refusal. inl (rw c.in_ok-tolerance.ensures.said (inr (free, texts_say _ _ _ _ (λ source. IsLooseningRefusal source slack) _ said refusal))))
+          (λ refusal. inl (rw c.in_ok-tolerance.ensures.said (inr (free, texts_say _ _ _ _ (λ source. IsLooseningRefusal c.args.robust source slack) _ said refusal))))
           (⊎_elim (λ taken. inl (rw c.in_ok-tolerance.ensures.said (inl (taken.0, ap Some taken.1)))) inr) unmade.cause;
       unsaved = unmade.unsaved;
     })

@@ -1,0 +1,64 @@
+-- The loosened plan of a source, or its robust plan, at a site; and why there is none.
+use Rattle.std.specs.Prelude.{◌≡◌, ◌⊎◌, ℕ, ℤ, Bool, true, false, List, Option, Some, None, Ok, Err}
+use Rattle.stn_net.specs.Difference.{Difference}
+use Rattle.stn_net.specs.Schedule.{IsSchedule}
+use Rattle.stn_lift.specs.BaseBounds.{KeepsOrder}
+use Rattle.stn_lift.specs.PlanSource.{PlanSource, bare, base_of, base_bounds, steps_of, events_of, interfere_in_plan, planned_of}
+use Rattle.stn_lift.specs.Failures.{base_failure}
+use Rattle.stn_lift.specs.declared.fault.BaseFault.{BaseFault}
+use Rattle.stn_records.specs.Content.{Content}
+use Rattle.stn_site.specs.Bounds.{all_bounds}
+use Rattle.stn_loosen.specs.Slack.{Slack}
+use Rattle.stn_loosen.specs.Loosened.{loose_durations, AreFewLoosened, AreTooMany}
+use Rattle.stn_loosen.specs.Promise.{Promises}
+use Rattle.stn_loosen.specs.Robust.{loose_bounds, HasPromise, AreFewRobust, AreTooManyRobust}
+use Rattle.stn_loosen.specs.Numbered.{HoldsSome}
+use Rattle.stn_loosen.specs.Failures.{loosen_failure, robust_failure}
+use Rattle.stn_loosen.specs.declared.fault.LoosenFault.TheVariants as loosening
+use Rattle.stn_loosen.specs.declared.fault.RobustFault.TheVariants as robust
+use Rattle.stn_refusal.specs.declared.failure.Failure.{Failure}
+
+-- a site holds, over the bare plan of as many steps, the loosened plan of a source that has a base: its records. Each schedule of the
+-- plan is one of the loosened plan, and in each of its schedules events that interfere keep the plan's order
+pub record IsLoosened (source : PlanSource) (slack : Slack) (site : ℕ) (state : Content) : Type 0 where
+  pub base : base_of source ≡ Ok source
+  pub records : HoldsSome (AreFewLoosened source slack) site state
+  pub looser : (time : ℕ → ℤ) → IsSchedule (base_bounds source) time → IsSchedule (all_bounds (bare (steps_of source)) state) time
+  pub ordered : KeepsOrder (events_of source) (interfere_in_plan source) (planned_of source) (all_bounds (bare (steps_of source)) state)
+
+-- it holds the robust plan of such a source: its records. There is a promise; each schedule of what the site holds is a promise of it, and
+-- a schedule of the loosened plan
+pub record IsRobust (source : PlanSource) (slack : Slack) (site : ℕ) (state : Content) : Type 0 where
+  pub base : base_of source ≡ Ok source
+  pub records : HoldsSome (AreFewRobust source slack) site state
+  pub promise : HasPromise source slack
+  pub promised : (time : ℕ → ℤ) → IsSchedule (all_bounds (bare (steps_of source)) state) time
+      → Promises (loose_durations slack source) (all_bounds (bare (steps_of source)) state) time
+  pub loosened : (time : ℕ → ℤ) → IsSchedule (all_bounds (bare (steps_of source)) state) time → IsSchedule (loose_bounds source slack) time
+
+-- it holds the one that was asked for
+abbrev pub HoldsLoosened : Bool → PlanSource → Slack → ℕ → Content → Type 0
+HoldsLoosened false source slack site state = IsLoosened source slack site state
+HoldsLoosened true source slack site state = IsRobust source slack site state
+
+-- a loosened plan that would have more records than a site may know refuses the command
+abbrev pub IsLoosenedRefusal : PlanSource → Slack → Option Failure → Type 0
+IsLoosenedRefusal source slack cause = (AreTooMany source slack × (cause ≡ Some (loosen_failure loosening.Full)))
+    ⊎ (((records : List Difference) × AreFewLoosened source slack records) × (cause ≡ None))
+
+-- of a robust plan: so does a loosened plan with too many; then one without a promise; then a robust plan with too many
+abbrev pub IsRobustRefusal : PlanSource → Slack → Option Failure → Type 0
+IsRobustRefusal source slack cause = (AreTooMany source slack × (cause ≡ Some (robust_failure robust.Full)))
+    ⊎ (((records : List Difference) × AreFewLoosened source slack records) × (¬ HasPromise source slack)
+    × (cause ≡ Some (robust_failure robust.NotRobust)))
+    ⊎ (HasPromise source slack × AreTooManyRobust source slack × (cause ≡ Some (robust_failure robust.Full)))
+    ⊎ (HasPromise source slack × ((records : List Difference) × AreFewRobust source slack records) × (cause ≡ None))
+
+-- a source without a base comes before
+abbrev pub WithBase : PlanSource → (Option Failure → Type 0) → Option Failure → Type 0
+WithBase source Goes cause = ((fault : BaseFault) × (base_of source ≡ Err fault) × (cause ≡ Some (base_failure fault)))
+    ⊎ ((base_of source ≡ Ok source) × Goes cause)
+
+abbrev pub IsLooseningRefusal : Bool → PlanSource → Slack → Option Failure → Type 0
+IsLooseningRefusal false source slack cause = WithBase source (IsLoosenedRefusal source slack) cause
+IsLooseningRefusal true source slack cause = WithBase source (IsRobustRefusal source slack) cause
