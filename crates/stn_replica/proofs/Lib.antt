@@ -3,6 +3,7 @@ pub mod CatchingUp
 pub mod Changes
 pub mod Live
 pub mod Opening
+pub mod AllOwn
 pub mod Rest
 pub mod Schedules
 pub mod Sound

@@ -1,9 +1,10 @@
 -- What a rehearsal of all bounds says of a replica's plan.
-use Rattle.std.proofs.Common.{◌≡◌, ℕ, ℤ, true, false, ◌+◌, ◌≤◌, Bool, List, length, get_or, take, not, ap, ◌∙◌, arith, get_or-take}
+use Rattle.std.proofs.Common.{◌≡◌, ℕ, ℤ, true, false, ◌+◌, ◌≤◌, Bool, List, length, get_or, take, map, not, ap, ◌∙◌, arith, get_or-take}
 use Rattle.std.proofs.lemmas.Bool.{false≢true}
 use Rattle.std.proofs.lemmas.Int.{ints}
 use Rattle.std.proofs.lemmas.List.Elements.{All-filter}
 use Rattle.std.proofs.lemmas.List.FromFn.{fill_by_all}
+use Rattle.std.specs.List.{range_with_len}
 use Rattle.std.specs.FinMap.{entries}
 use Rattle.stn_net.specs.Difference.{Difference}
 use Rattle.stn_net.specs.Schedule.{IsSchedule, Meets}
@@ -16,19 +17,18 @@ use Rattle.stn_records.specs.declared.record.Record.{Record}
 use Rattle.stn_records.specs.Content.{Content, AllProper, live_of, is_replaced}
 use Rattle.stn_records.specs.ContentLaws.{ids_total, ids_exact}
 use Rattle.stn_site.specs.Bounds.{all_bounds, live_bounds}
-use Rattle.stn_site.specs.Report.{is_done, done_events}
 use Rattle.stn_windows.specs.Dispatch.{CanWaitUntil}
 use Rattle.stn_windows.specs.Rehearsal.{IsRehearsal, NeverFalls, RunsEachOnce, HasScheduleThrough}
-use Rattle.stn_replica.specs.Dispatch.{KeepsRecorded, IsRestOfPlan}
+use Rattle.stn_replica.specs.Dispatch.{KeepsRecorded, IsRestWith}
 use Rattle.stn_records.proofs.Gets.{entries_from_get}
 use Rattle.stn_site.proofs.Named.{records_from_bounds}
 use Rattle.stn_replica.proofs.Schedules.{met_behind}
 
--- the flags of the plan's events say which of them are done
-pub flags_are_done : (source : PlanSource) (state : Content) (events : ℕ) (flags given : List Bool) → events ≡ events_of source → given ≡ take (events + 1) flags → length given ≡ events + 1
-    → ((event : ℕ) → event ≤ events → get_or flags event false ≡ is_done state event) → given ≡ done_events source state
-flags_are_done source state events flags given same is one_each says =
-    rw (← same) (fill_by_all (is_done state) given (events + 1) false one_each
+-- the flags of the plan's events say which of them pass a test
+pub flags_are : (test : ℕ → Bool) (source : PlanSource) (events : ℕ) (flags given : List Bool) → events ≡ events_of source → given ≡ take (events + 1) flags → length given ≡ events + 1
+    → ((event : ℕ) → event ≤ events → get_or flags event false ≡ test event) → given ≡ map test (range_with_len 0 (events_of source + 1))
+flags_are test source events flags given same is one_each says =
+    rw (← same) (fill_by_all test given (events + 1) false one_each
     (λ k below. ap (λ (xs : List Bool). get_or xs k false) is ∙ get_or-take (events + 1) flags k false below ∙ says k (omega arith)))
 
 -- a Done record fixes its event
@@ -50,10 +50,10 @@ keeps_recorded source state times all_proper schedule = λ k d h done.
     omega (arith, ints)
 
 -- a rehearsal of all bounds is the rest of the plan
-pub rest_of_plan : (source : PlanSource) (state : Content) (now : ℤ) (runs : List (ℤ × ℕ)) → AllProper state.additions
-    → IsRehearsal (all_bounds source state) (done_events source state) now runs → RunsEachOnce (done_events source state) runs → NeverFalls now runs
-    → CanWaitUntil (all_bounds source state) (done_events source state) now → HasScheduleThrough (all_bounds source state) runs → IsRestOfPlan source state now runs
-rest_of_plan source state now runs all_proper rehearsal once rising in_time through = record {
+pub rest_of_plan : (source : PlanSource) (state : Content) (done : List Bool) (now : ℤ) (runs : List (ℤ × ℕ)) → AllProper state.additions
+    → IsRehearsal (all_bounds source state) done now runs → RunsEachOnce done runs → NeverFalls now runs
+    → CanWaitUntil (all_bounds source state) done now → HasScheduleThrough (all_bounds source state) runs → IsRestWith source state done now runs
+rest_of_plan source state done now runs all_proper rehearsal once rising in_time through = record {
   rehearsal = rehearsal;
   once = once;
   rising = rising;

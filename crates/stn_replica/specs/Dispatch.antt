@@ -1,5 +1,5 @@
 -- The rest of a replica's plan: the runs of the events that are left.
-use Rattle.std.specs.Prelude.{◌≡◌, ℕ, ℤ, true, List, All}
+use Rattle.std.specs.Prelude.{◌≡◌, ℕ, ℤ, true, Bool, List, All}
 use Rattle.stn_net.specs.Schedule.{IsSchedule}
 use Rattle.stn_windows.specs.Dispatch.{CanWaitUntil}
 use Rattle.stn_windows.specs.Rehearsal.{IsRehearsal, NeverFalls, RunsEachOnce}
@@ -13,14 +13,19 @@ use Rattle.stn_site.specs.Report.{done_events}
 abbrev pub KeepsRecorded : Content → (ℕ → ℤ) → Type 0
 KeepsRecorded state times = All (λ entry. marks_done entry.1.mark ≡ true → times entry.1.bound.to ≡ entry.1.bound.lo) (live_of state)
 
--- the runs are the rest of the plan from now on: the rehearsal of all bounds, in which each event that is not done runs once, at times
--- that never fall; and some schedule has each run's event at its time, and each done event at its recorded time
-pub record IsRestOfPlan (source : PlanSource) (state : Content) (now : ℤ) (runs : List (ℤ × ℕ)) : Type 0 where
-  pub rehearsal : IsRehearsal (all_bounds source state) (done_events source state) now runs
-  pub once : RunsEachOnce (done_events source state) runs
+-- the runs are the rest of the plan from now on, where these events count as done: the rehearsal of all bounds, in which each event that
+-- is left runs once, at times that never fall; and some schedule has each run's event at its time, and each event that a live record says is
+-- done at its recorded time
+pub record IsRestWith (source : PlanSource) (state : Content) (done : List Bool) (now : ℤ) (runs : List (ℤ × ℕ)) : Type 0 where
+  pub rehearsal : IsRehearsal (all_bounds source state) done now runs
+  pub once : RunsEachOnce done runs
   pub rising : NeverFalls now runs
-  pub in_time : CanWaitUntil (all_bounds source state) (done_events source state) now
+  pub in_time : CanWaitUntil (all_bounds source state) done now
   pub times : ℕ → ℤ
   pub schedule : IsSchedule (all_bounds source state) times
   pub running : All (λ run. times run.1 ≡ run.0) runs
   pub recorded : KeepsRecorded state times
+
+-- the same, where those events count as done that a live record says are done
+abbrev pub IsRestOfPlan : PlanSource → Content → ℤ → List (ℤ × ℕ) → Type 0
+IsRestOfPlan source state now runs = IsRestWith source state (done_events source state) now runs

@@ -1,4 +1,5 @@
 pub mod Invariant
 pub mod Work
 pub mod Walk
+pub mod Own
 pub mod Dispatch

@@ -1,12 +1,16 @@
 //! One site's replica of a plan: what it holds, with how far apart its events can be, and the rest of its plan.
 #![tactic(auto)]
 
+pub use own::{Own, StepRange, flags_among};
 pub use replica::Replica;
+pub use site_matrix::matrix_of;
 pub use stn_site::{BoundName, ReplicaFault};
 
 mod cursors;
 mod dispatch;
 mod matrices;
+mod own;
 mod plan_matrix;
 mod replica;
 mod report;
+mod site_matrix;

@@ -86,7 +86,7 @@ pub fn rebuild<A: Allocator + Copy>(
 
 // Takes the bounds of the live records, up to one with which the bounds have no schedule. Whether
 // there is no such bound.
-fn tighten_live<A: Allocator + Copy>(matrix: &mut Matrix<A>, records: &Records<A>) -> bool
+pub fn tighten_live<A: Allocator + Copy>(matrix: &mut Matrix<A>, records: &Records<A>) -> bool
     requires named { RecordsName matrix.old.events records.now }
     requires counted { matrix.old.steps ≤ u64.MAX }
     ensures settled { (bounds : List Difference) → IsExact bounds matrix.old → IsSettled (bounds ++ live_bounds records.now) matrix.new result }

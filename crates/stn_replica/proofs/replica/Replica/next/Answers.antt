@@ -1,15 +1,13 @@
-use Rattle.std.proofs.Common.{◌≡◌, arith}
+use Rattle.std.proofs.Common.{false, [], ◌∷◌, refl, subst, MatchOption}
+use Rattle.stn_net.specs.Schedule.{HasSchedule}
+use Rattle.stn_windows.specs.Dispatch.{IsNext}
 use Rattle.stn_site.specs.Bounds.{all_bounds}
-use Rattle.stn_site.specs.Report.{done_events}
-use Rattle.stn_replica.proofs.Rest.{flags_are_done}
+use Rattle.stn_replica.proofs.AllOwn.{all_own}
 use Rattle.stn_replica.proofs.replica.Replica.next.Goals as goal
 
 pub returns : goal.returns
 returns g c =
     let source = c.args.self.now.source in
     let state = c.args.self.now.state in
-    let exact = c.in_ok-matrix.ensures.exact in
-    let done : c.flags_of.result.now ≡ done_events source state =
-    flags_are_done source state c.in_ok-matrix.matrix.now.events c.done_flags-flags.result c.flags_of.result.now c.in_ok-matrix.ensures.events c.flags_of.ensures.value c.flags_of.ensures.one_each
-    (λ event within. rw c.plan.ensures.state at (c.done_flags-flags.ensures.done event (omega (arith, c.flags_of.ensures.few)))) in
-    (exact.possible, rw done at (c.next.ensures.next (all_bounds source state) exact))
+    subst (λ done. MatchOption c.next_among.result (¬ HasSchedule (all_bounds source state)) (λ answer. HasSchedule (all_bounds source state) × IsNext (all_bounds source state) done c.args.now answer))
+    (all_own (record { steps = record { ref_ptr = (0, 0); now = c.all_steps.result ∷ [] }; starts = false }) c.all_steps.result source state refl refl c.all_steps.ensures.first c.all_steps.ensures.last) c.next_among.ensures

@@ -1,29 +1,21 @@
-use Rattle.std.proofs.Common.{◌≡◌, Err, arith, rules}
+use Rattle.std.proofs.Common.{false, [], ◌∷◌, refl, subst, IfOk, IfErr, MatchOption}
+use Rattle.stn_net.specs.Schedule.{HasSchedule}
+use Rattle.stn_windows.specs.Rehearsal.{IsRehearseFault}
 use Rattle.stn_site.specs.Bounds.{all_bounds}
-use Rattle.stn_site.specs.Report.{done_events}
-use Rattle.stn_replica.proofs.Rest.{flags_are_done, rest_of_plan}
+use Rattle.stn_replica.specs.Dispatch.{IsRestWith}
+use Rattle.stn_replica.proofs.AllOwn.{all_own}
 use Rattle.stn_replica.proofs.replica.Replica.rehearse.Goals as goal
 
-pub returns-in_err-runs-in-Some-clause-fault : goal.returns-in_err-runs-in-Some-clause-fault
-returns-in_err-runs-in-Some-clause-fault g c =
+pub returns-clause-rest : goal.returns-clause-rest
+returns-clause-rest g c =
     let source = c.args.self.now.source in
     let state = c.args.self.now.state in
-    let exact = c.in-Some.ensures.exact in
-    let done : c.flags_of.result.now ≡ done_events source state =
-    flags_are_done source state c.in-Some.matrix.now.events c.done_flags-flags.result c.flags_of.result.now c.in-Some.ensures.events c.flags_of.ensures.value c.flags_of.ensures.one_each
-    (λ event within. rw c.plan.ensures.state at (c.done_flags-flags.ensures.done event (omega (arith, c.flags_of.ensures.few)))) in
-    let is : c.from_residual.result ≡ Err c.in_err-runs-in-Some.field-0.0 = search rules in
-    rw is (exact.possible, rw done at (c.in_err-runs-in-Some.ensures.fault (all_bounds source state) exact))
+    subst (λ done. IfOk c.rehearse_among.result (λ found. MatchOption found (¬ HasSchedule (all_bounds source state)) (λ runs. IsRestWith source state done c.args.now runs.items)))
+    (all_own (record { steps = record { ref_ptr = (0, 0); now = c.all_steps.result ∷ [] }; starts = false }) c.all_steps.result source state refl refl c.all_steps.ensures.first c.all_steps.ensures.last) c.rehearse_among.ensures.rest
 
-pub returns-in_ok-runs-in-Some-clause-rest : goal.returns-in_ok-runs-in-Some-clause-rest
-returns-in_ok-runs-in-Some-clause-rest g c =
+pub returns-clause-fault : goal.returns-clause-fault
+returns-clause-fault g c =
     let source = c.args.self.now.source in
     let state = c.args.self.now.state in
-    let exact = c.in-Some.ensures.exact in
-    let done : c.flags_of.result.now ≡ done_events source state =
-    flags_are_done source state c.in-Some.matrix.now.events c.done_flags-flags.result c.flags_of.result.now c.in-Some.ensures.events c.flags_of.ensures.value c.flags_of.ensures.one_each
-    (λ event within. rw c.plan.ensures.state at (c.done_flags-flags.ensures.done event (omega (arith, c.flags_of.ensures.few)))) in
-    let said = c.in_ok-runs-in-Some.ensures in
-    rest_of_plan source state c.args.now c.in_ok-runs-in-Some.runs.items (rw c.plan.ensures.state at c.done_flags-flags.ensures.fixed)
-    (rw done at (said.next (all_bounds source state) exact)) (rw done at (said.once (all_bounds source state) exact)) (said.rising (all_bounds source state) exact)
-    (rw done at (said.in_time (all_bounds source state) exact)) (said.possible (all_bounds source state) exact)
+    subst (λ done. IfErr c.rehearse_among.result (λ fault. HasSchedule (all_bounds source state) × IsRehearseFault (all_bounds source state) done c.args.now fault))
+    (all_own (record { steps = record { ref_ptr = (0, 0); now = c.all_steps.result ∷ [] }; starts = false }) c.all_steps.result source state refl refl c.all_steps.ensures.first c.all_steps.ensures.last) c.rehearse_among.ensures.fault
