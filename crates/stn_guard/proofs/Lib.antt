@@ -7,3 +7,5 @@ pub mod Steps
 pub mod Restricting
 pub mod Named
 pub mod Whole
+pub mod SameOwners
+pub mod Put

@@ -20,7 +20,7 @@ use Rattle.stn_guard.proofs.Steps.{some_front, some_behind, splits_on, can_share
 use Rattle.stn_guard.proofs.Owned.{all_front, all_behind}
 
 -- tests that agree on the elements of a list keep the same ones
-filter_same : {X : Type 0} (p q : X → Bool) (xs : List X) → All (λ x. p x ≡ q x) xs → filter p xs ≡ filter q xs
+pub filter_same : {X : Type 0} (p q : X → Bool) (xs : List X) → All (λ x. p x ≡ q x) xs → filter p xs ≡ filter q xs
 filter_same p q [] same = refl
 filter_same p q (x ∷ xs) same =
     ap (λ t. cond t (x ∷ filter p xs) (filter p xs)) (All-head (λ y. p y ≡ q y) x xs same)

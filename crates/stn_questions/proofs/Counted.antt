@@ -4,7 +4,6 @@ use Rattle.std.specs.List.{flat_map, range_with_len}
 use Rattle.stn_time.specs.Text.{printed}
 use Rattle.stn_net.specs.Difference.{Difference}
 use Rattle.stn_net.specs.Schedule.{HasSchedule}
-use Rattle.stn_windows.specs.Dispatch.{IsNext}
 use Rattle.stn_windows.specs.Window.{IsWindow}
 use Rattle.stn_lift.specs.PlanSource.{PlanSource, base_bounds, events_of}
 use Rattle.stn_records.specs.Id.{SiteCounter}
@@ -19,7 +18,7 @@ use Rattle.stn_site.specs.Report.{says_done, IsConflictPart}
 use Rattle.stn_questions.specs.declared.asked.Question.{Question}
 use Rattle.stn_questions.specs.declared.asked.Question.TheVariants.{Records, Steps, Bounds, Why}
 use Rattle.stn_questions.specs.Bounds.{listed_line}
-use Rattle.stn_questions.specs.Ready.{IsReadyAnswer, SaysReady, SaysConflict, IsReadyText}
+use Rattle.stn_questions.specs.Ready.{IsReadyWith, IsReadyText}
 use Rattle.stn_questions.specs.Why.{end_text, IsWhyPart}
 use Rattle.stn_questions.specs.Answer.{IsAnswer, AsksOfPlan}
 
@@ -39,18 +38,7 @@ ids_of records = map (λ entry. entry.0) records
 module _ (source : PlanSource) (s t : Content) (live : live_of s ≡ live_of t) where
   -- states with the same live records have the same events ready
   pub same_ready : (now : ℤ) (text : List ℕ) → IsReadyText source s now text → IsReadyText source t now text
-  same_ready now text p = ⊎_elim
-      (λ (says : SaysReady source s now text). inl (record {
-        possible = subst (λ (records : Entries). HasSchedule (bounds_with source records)) live says.possible;
-        answer = says.answer;
-        next = subst (λ (records : Entries). IsNext (bounds_with source records) (done_with source records) now says.answer) live says.next;
-        said = subst (λ (records : Entries). IsReadyAnswer (bounds_with source records) (done_with source records) now says.answer text) live says.said;
-      }))
-      (λ (says : SaysConflict source s text). inr (record {
-        conflict = subst (λ (records : Entries). ¬ HasSchedule (bounds_with source records)) live says.conflict;
-        said = says.said;
-      }))
-      p
+  same_ready now text p = subst (λ (records : Entries). IsReadyWith (bounds_with source records) (done_with source records) now text) live p
 
   same_conflict : (text : List ℕ) → IsConflictPart source s text → IsConflictPart source t text
   same_conflict text p = record {

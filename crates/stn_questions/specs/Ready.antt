@@ -48,18 +48,22 @@ IsReadyAnswer bounds done now (Run time event) text = AreReadyLines bounds done 
 IsReadyAnswer bounds done now AllDone text = text ≡ line (codes "all done")
 IsReadyAnswer bounds done now (Overdue event) text = text ≡ line (codes "overdue " ++ event_text event)
 
--- all bounds have a schedule, and the text says which events are ready from now on
-pub record SaysReady (source : PlanSource) (state : Content) (now : ℤ) (text : List ℕ) : Type 0 where
-  pub possible : HasSchedule (all_bounds source state)
+-- the bounds have a schedule, and the text says which events are ready from now on
+pub record SaysReady (bounds : List Difference) (done : List Bool) (now : ℤ) (text : List ℕ) : Type 0 where
+  pub possible : HasSchedule bounds
   pub answer : Next
-  pub next : IsNext (all_bounds source state) (done_events source state) now answer
-  pub said : IsReadyAnswer (all_bounds source state) (done_events source state) now answer text
+  pub next : IsNext bounds done now answer
+  pub said : IsReadyAnswer bounds done now answer text
 
--- all bounds have no schedule, and the text is `conflict`
-pub record SaysConflict (source : PlanSource) (state : Content) (text : List ℕ) : Type 0 where
-  pub conflict : ¬ HasSchedule (all_bounds source state)
+-- the bounds have no schedule, and the text is `conflict`
+pub record SaysConflict (bounds : List Difference) (text : List ℕ) : Type 0 where
+  pub conflict : ¬ HasSchedule bounds
   pub said : text ≡ line (codes "conflict")
 
--- the text that `ready` prints from now on
+-- the text that `ready` prints from now on, where these events count as done
+abbrev pub IsReadyWith : List Difference → List Bool → ℤ → List ℕ → Type 0
+IsReadyWith bounds done now text = SaysReady bounds done now text ⊎ SaysConflict bounds text
+
+-- the same, by all bounds, where those events count as done that a live record says are done
 abbrev pub IsReadyText : PlanSource → Content → ℤ → List ℕ → Type 0
-IsReadyText source state now text = SaysReady source state now text ⊎ SaysConflict source state text
+IsReadyText source state now text = IsReadyWith (all_bounds source state) (done_events source state) now text

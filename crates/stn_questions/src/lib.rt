@@ -6,7 +6,7 @@ pub use answer::print_answer;
 pub use asked::Question;
 pub use bounds::print_bounds;
 pub use laws::{one_answer, one_ready_text, ready_begins_with_next, same_answers};
-pub use ready::print_ready;
+pub use ready::{print_ready, print_ready_among};
 pub use ready_event::ReadyEvent;
 pub use records::print_records;
 pub use steps::print_steps;

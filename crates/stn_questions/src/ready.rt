@@ -6,15 +6,15 @@ ghost use Rattle.stn_net.specs.Schedule.{HasSchedule};
 ghost use Rattle.stn_matrix.specs.Tightest.{IsExact};
 ghost use Rattle.stn_windows.specs.Dispatch.{IsReady, AreReadyTimes};
 ghost use Rattle.stn_site.specs.Bounds.{all_bounds};
-ghost use Rattle.stn_site.specs.Report.{done_events};
 ghost use Rattle.stn_site.specs.Lines.{line};
-ghost use Rattle.stn_questions.specs.Ready.{AreReadyEvents, AreReadyLines, IsReadyAnswer, IsReadyText, ready_line};
+ghost use Rattle.stn_replica.specs.Own.{done_or_others};
+ghost use Rattle.stn_questions.specs.Ready.{AreReadyEvents, AreReadyLines, IsReadyAnswer, IsReadyText, IsReadyWith, ready_line};
 
 use crate::ready_event::ReadyEvent;
 use std::alloc::Allocator;
 use stn_matrix::Matrix;
 use stn_net::Event;
-use stn_replica::Replica;
+use stn_replica::{Own, Replica, flags_among};
 use stn_site::EVENT_FLAGS;
 use stn_time::{Memory, Ms};
 use stn_windows::{Next, ready_times};
@@ -31,20 +31,48 @@ pub fn print_ready<A: Allocator + Copy, B: Allocator>(
     ensures printed { OnOk result ((text : List ℕ) × IsReadyText replica.now.source replica.now.state now text × (out.new.items ≡ out.old.items ++ text)) }
     ensures kept { OnErr result (out.new.items ≡ out.old.items) }
 {
+    let all = [replica.all_steps()];
+    print_ready_among(
+        replica,
+        now,
+        &Own {
+            steps: &all,
+            starts: false,
+        },
+        out,
+    )
+}
+
+/// Appends the same where of the events that are not done only the site's own count as left: the others are not waited for,
+/// and have no lines; `all done` says that every event of its own is done.
+pub fn print_ready_among<A: Allocator + Copy, B: Allocator>(
+    replica: &Replica<A>,
+    now: Ms,
+    own: &Own<'_>,
+    out: &mut Vec<u8, B>,
+) -> Result<(), Memory>
+    ensures printed { OnOk result ((text : List ℕ)
+        × IsReadyWith (all_bounds replica.now.source replica.now.state) (done_or_others own.now replica.now.source replica.now.state) now text
+        × (out.new.items ≡ out.old.items ++ text)) }
+    ensures kept { OnErr result (out.new.items ≡ out.old.items) }
+{
     let mut text = Vec::new(replica.alloc());
-    append_text(replica, now, &mut text)?;
+    append_text(replica, now, own, &mut text)?;
     out.extend_from_slice(&text)
 }
 
 fn append_text<A: Allocator + Copy>(
     replica: &Replica<A>,
     now: Ms,
+    own: &Own<'_>,
     out: &mut Vec<u8, A>,
 ) -> Result<(), Memory>
-    ensures { OnOk result ((text : List ℕ) × IsReadyText replica.now.source replica.now.state now text × (out.new.items ≡ out.old.items ++ text)) }
+    ensures { OnOk result ((text : List ℕ)
+        × IsReadyWith (all_bounds replica.now.source replica.now.state) (done_or_others own.now replica.now.source replica.now.state) now text
+        × (out.new.items ≡ out.old.items ++ text)) }
 {
-    match replica.next(now) {
-        Some(answer) => append_answer(replica, now, answer, out),
+    match replica.next_among(now, own) {
+        Some(answer) => append_answer(replica, now, own, answer, out),
         None => out.extend_from_slice(b"conflict\n"),
     }
 }
@@ -53,16 +81,17 @@ fn append_text<A: Allocator + Copy>(
 fn append_answer<A: Allocator + Copy>(
     replica: &Replica<A>,
     now: Ms,
+    own: &Own<'_>,
     answer: Next,
     out: &mut Vec<u8, A>,
 ) -> Result<(), Memory>
     requires { HasSchedule (all_bounds replica.now.source replica.now.state) }
     ensures { OnOk result ((text : List ℕ)
-        × IsReadyAnswer (all_bounds replica.now.source replica.now.state) (done_events replica.now.source replica.now.state) now answer text
+        × IsReadyAnswer (all_bounds replica.now.source replica.now.state) (done_or_others own.now replica.now.source replica.now.state) now answer text
         × (out.new.items ≡ out.old.items ++ text)) }
 {
     match answer {
-        Next::Run(_, _) => append_ready(replica, now, out),
+        Next::Run(_, _) => append_ready(replica, now, own, out),
         Next::AllDone => out.extend_from_slice(b"all done\n"),
         Next::Overdue(event) => append_overdue(event, out),
     }
@@ -80,15 +109,16 @@ fn append_overdue<B: Allocator>(event: Event, out: &mut Vec<u8, B>) -> Result<()
 fn append_ready<A: Allocator + Copy>(
     replica: &Replica<A>,
     now: Ms,
+    own: &Own<'_>,
     out: &mut Vec<u8, A>,
 ) -> Result<(), Memory>
     requires { HasSchedule (all_bounds replica.now.source replica.now.state) }
     ensures { OnOk result ((text : List ℕ)
-        × AreReadyLines (all_bounds replica.now.source replica.now.state) (done_events replica.now.source replica.now.state) now text
+        × AreReadyLines (all_bounds replica.now.source replica.now.state) (done_or_others own.now replica.now.source replica.now.state) now text
         × (out.new.items ≡ out.old.items ++ text)) }
 {
     let matrix = replica.current().unwrap();
-    let flags = replica.plan().done_flags();
+    let flags = flags_among(replica.plan(), own);
     let done = flags_of(&flags, matrix);
     let ready = ready_events(replica.alloc(), matrix, done, now)?;
     append_lines(&ready, out)

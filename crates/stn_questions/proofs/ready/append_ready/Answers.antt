@@ -1,4 +1,4 @@
-use Rattle.std.proofs.Common.{◌≡◌, ◌++◌, refl, ap, subst, ◌∙◌, arith}
+use Rattle.std.proofs.Common.{◌≡◌, ◌||◌, not, ◌++◌, refl, ap, subst, ◌∙◌, arith}
 use Rattle.std.proofs.lemmas.Option.{MatchOption-at_some}
 use Rattle.std.proofs.lemmas.Result.{IfOk-weaker}
 use Rattle.std.specs.List.{flat_map}
@@ -7,9 +7,10 @@ use Rattle.stn_matrix.specs.Tightest.{IsExact}
 use Rattle.stn_lift.specs.PlanSource.{events_of}
 use Rattle.stn_records.specs.Content.{Content}
 use Rattle.stn_site.specs.Bounds.{all_bounds}
-use Rattle.stn_site.specs.Report.{is_done, done_events}
+use Rattle.stn_site.specs.Report.{is_done}
 use Rattle.stn_site.proofs.Printing.{if_some}
-use Rattle.stn_replica.proofs.Rest.{flags_are_done}
+use Rattle.stn_replica.specs.Own.{is_own, done_or_others}
+use Rattle.stn_replica.proofs.Rest.{flags_are}
 use Rattle.stn_questions.specs.Ready.{AreReadyEvents, ready_line}
 use Rattle.stn_questions.proofs.ready.append_ready.Goals as goal
 
@@ -22,9 +23,12 @@ returns g c =
     let items = c.in_ok-ready.ready.items in
     let exact = MatchOption-at_some (¬ HasSchedule bounds) (λ m. IsExact bounds m.now) matrix c.unwrap-matrix.ensures c.current.ensures.exact in
     let events = if_some c.current.result matrix (λ m. m.now.events ≡ events_of source) c.unwrap-matrix.ensures c.current.ensures.events in
-    let done : c.flags_of-done.result.now ≡ done_events source state =
-    flags_are_done source state matrix.now.events c.done_flags-flags.result c.flags_of-done.result.now events c.flags_of-done.ensures.value c.flags_of-done.ensures.one_each
-    (λ event within. c.done_flags-flags.ensures.done event (omega (arith, c.flags_of-done.ensures.few)) ∙ ap (λ (s : Content). is_done s event) c.plan.ensures.state) in
+    let own = c.args.own.now in
+    let done : c.flags_of-done.result.now ≡ done_or_others own source state =
+    flags_are (λ event. is_done state event || not (is_own own event)) source matrix.now.events c.flags_among-flags.result c.flags_of-done.result.now events
+    c.flags_of-done.ensures.value c.flags_of-done.ensures.one_each
+    (λ event within. c.flags_among-flags.ensures.left event (omega (arith, c.flags_of-done.ensures.few))
+    ∙ ap (λ (s : Content). is_done s event || not (is_own own event)) c.plan.ensures.state) in
     IfOk-weaker c.append_lines.result _ _ (λ _ appended. (
       flat_map ready_line items,
       record {

@@ -1,21 +1,15 @@
-use Rattle.std.proofs.Common.{◌++◌, ◌∙◌, refl, ap}
-use Rattle.std.proofs.lemmas.Result.{IfOk-weaker, err_from_is_err_and}
-use Rattle.stn_site.proofs.Printing.{appended_ok, kept_err}
+use Rattle.std.proofs.Common.{◌≡◌, ℕ, List, false, [], ◌∷◌, ◌++◌, subst}
+use Rattle.std.specs.Prelude.{OnOk}
+use Rattle.std.proofs.Common.{refl}
+use Rattle.stn_site.specs.Bounds.{all_bounds}
+use Rattle.stn_replica.proofs.AllOwn.{all_own}
+use Rattle.stn_questions.specs.Ready.{IsReadyWith}
 use Rattle.stn_questions.proofs.ready.print_ready.Goals as goal
 
-pub returns-in_err-append_text : goal.returns-in_err-append_text
-returns-in_err-append_text g c =
-    let returned = err_from_is_err_and c.from_residual.result c.from_residual.ensures.1 in
-    record { printed = rw returned.1 tt; kept = rw returned.1 refl }
-
-pub returns : goal.returns
-returns g c =
-    let said = c.in_ok-append_text.ensures in
-    record {
-      printed = IfOk-weaker c.extend_from_slice.result _ _ (λ _ ended. (
-        said.0,
-        said.1,
-        ended ∙ ap (λ text. c.args.out.now.items ++ text) (c.deref.ensures.value ∙ said.2 ∙ ap (λ front. front ++ said.0) c.new-text.ensures.items),
-      )) (appended_ok c.extend_from_slice.result c.extend_from_slice.new.self.items c.args.out.now.items c.deref.result.now c.extend_from_slice.ensures.items);
-      kept = kept_err c.extend_from_slice.result c.extend_from_slice.new.self.items c.args.out.now.items c.deref.result.now c.extend_from_slice.ensures.items;
-    }
+pub returns-clause-printed : goal.returns-clause-printed
+returns-clause-printed g c =
+    let source = c.args.replica.now.source in
+    let state = c.args.replica.now.state in
+    subst (λ done. OnOk c.print_ready_among.result ((text : List ℕ) × IsReadyWith (all_bounds source state) done c.args.now text × (c.print_ready_among.new.out.items ≡ c.args.out.now.items ++ text)))
+    (all_own (record { steps = record { ref_ptr = (0, 0); now = c.all_steps.result ∷ [] }; starts = false }) c.all_steps.result source state refl refl c.all_steps.ensures.first c.all_steps.ensures.last)
+    c.print_ready_among.ensures.printed

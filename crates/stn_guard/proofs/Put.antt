@@ -1,0 +1,136 @@
+-- Records that are put to a content one after the other.
+use Rattle.std.proofs.Common.{◌≡◌, ◌⊎◌, inl, inr, ⊎_elim, ℕ, Bool, true, false, not, List, [], ◌∷◌, ◌++◌, map, Some, refl, sym, ap, subst, ◌∙◌}
+use Rattle.std.specs.Prelude.{All}
+use Rattle.std.proofs.lemmas.List.Elements.{All-nil, All-cons, All-head, All-tail, All-append}
+use Rattle.stn_net.specs.Difference.{Difference}
+use Rattle.stn_net.specs.Schedule.{IsSchedule, Meets}
+use Rattle.stn_lift.specs.PlanSource.{base_bounds}
+use Rattle.stn_records.specs.Id.{SiteCounter}
+use Rattle.stn_records.specs.declared.record.Record.{Record}
+use Rattle.stn_records.specs.Content.{Content, HasItem, IsPart, join_contents, is_known, is_live, next_counter, with_record, plain}
+use Rattle.stn_records.specs.ContentLaws.{contents_join}
+use Rattle.stn_records.proofs.Counters.{next_is_new}
+use Rattle.stn_site.specs.Bounds.{live_bounds, all_bounds}
+use Rattle.stn_site.specs.Held.{Held}
+use Rattle.stn_site.specs.Calls.{added, AllLeave}
+use Rattle.stn_site.proofs.Items.{addition_items}
+use Rattle.stn_replica.proofs.Changes.{IsGrown, grown_with_record}
+use Rattle.stn_replica.proofs.Live.{LiveHold, live_from_bounds, bounds_from_live, left_true, new_hold, old_hold}
+use Rattle.stn_guard.specs.Owners.{is_own}
+use Rattle.stn_guard.specs.Guard.{Guards}
+use Rattle.stn_guard.specs.Putting.{AllPut, PutsEach}
+use Rattle.stn_guard.proofs.Owned.{all_front, all_behind, all_passing, all_filtered}
+
+abbrev pub Numbered : Type 0
+Numbered = SiteCounter × Difference
+
+abbrev pub bounds_in : List Numbered → List Difference
+bounds_in records = map (λ (one : Numbered). one.1) records
+
+map_push : {X Y : Type 0} (f : X → Y) (xs : List X) (x : X) → map f (xs ++ x ∷ []) ≡ map f xs ++ f x ∷ []
+map_push f [] x = refl
+map_push f (y ∷ xs) x = ap (λ l. f y ∷ l) (map_push f xs x)
+
+-- one more
+put_more : (site : ℕ) (old : Content) (records : List Numbered) (mid : Content) (id : SiteCounter) (bound : Difference) → AllPut site old records mid
+    → id ≡ record { site = site; counter = next_counter mid site } → AllPut site old (records ++ (id, bound) ∷ []) (with_record mid id (plain bound))
+put_more site old [] mid id bound is next = (next ∙ ap (λ (s : Content). record { site = site; counter = next_counter s site }) is, ap (λ (s : Content). with_record s id (plain bound)) is)
+put_more site old (one ∷ records) mid id bound (first, rest) next = (first, put_more site (with_record old one.0 (plain one.1)) records mid id bound rest next)
+
+pub puts_none : (site : ℕ) (old : Content) → PutsEach site old [] [] old
+puts_none site old = record { records = []; bounds_are = refl; ids_are = refl; put = refl }
+
+pub puts_more : (site : ℕ) (old : Content) (bounds : List Difference) (ids : List SiteCounter) (mid new : Content) (bound : Difference) (id : SiteCounter) → PutsEach site old bounds ids mid
+    → id ≡ record { site = site; counter = next_counter mid site } → new ≡ with_record mid id (plain bound) → PutsEach site old (bounds ++ bound ∷ []) (ids ++ id ∷ []) new
+puts_more site old bounds ids mid new bound id these next is = record {
+  records = these.records ++ (id, bound) ∷ [];
+  bounds_are = ap (λ l. l ++ bound ∷ []) these.bounds_are ∙ sym (map_push (λ (one : Numbered). one.1) these.records (id, bound));
+  ids_are = ap (λ l. l ++ id ∷ []) these.ids_are ∙ sym (map_push (λ (one : Numbered). one.0) these.records (id, bound));
+  put = subst (AllPut site old (these.records ++ (id, bound) ∷ [])) (sym is) (put_more site old these.records mid id bound these.put next);
+}
+
+next_unknown : (site : ℕ) (old : Content) (id : SiteCounter) → id ≡ record { site = site; counter = next_counter old site } → is_known old id ≡ false
+next_unknown site old id is = subst (λ i. is_known old i ≡ false) (sym is) (next_is_new old site (next_counter old site) refl)
+
+grown : (site : ℕ) (old : Content) (one : Numbered) → one.0 ≡ record { site = site; counter = next_counter old site } → IsGrown old (with_record old one.0 (plain one.1)) one.0 (plain one.1)
+grown site old one is = grown_with_record old one.0 (plain one.1) (next_unknown site old one.0 is)
+
+-- all that was there is there afterwards
+pub put_part : (site : ℕ) (old : Content) (records : List Numbered) (new : Content) → AllPut site old records new → IsPart old new
+put_part site old [] new is item there = subst (λ (s : Content). HasItem s item) (sym is) there
+put_part site old (one ∷ records) new (next, rest) item there =
+    put_part site (with_record old one.0 (plain one.1)) records new rest item
+    ((addition_items old one.0 (plain one.1) (next_unknown site old one.0 next) item).1 (inl there))
+
+-- the join with a content that has all that is there is that content
+pub absorbed : (a b c : Content) → join_contents a b ≡ Some c → IsPart a b → c ≡ b
+absorbed a b c joined part = contents_join.same c b (λ item.
+    let union = contents_join.union a b c joined item in
+    (λ h. ⊎_elim (part item) (λ there. there) (union.0 h), λ h. union.1 (inr h)))
+
+-- the site's additions, one after the other
+pub adds_some : (old new : Held) (state : Content) (one : Numbered) (records : List Numbered) → new.site ≡ old.site → new.source ≡ old.source → new.state ≡ state
+    → AllPut old.site old.state (one ∷ records) state → AllLeave old (map (λ (each : Numbered). added each.0 (plain each.1)) (one ∷ records)) new
+adds_some old new state one [] site source is (id, put) = (new, record { site = site; source = source; state = (id, is ∙ put) }, refl)
+adds_some old new state one (two ∷ records) site source is (id, put) =
+    let next : Held = record { site = old.site; source = old.source; state = with_record old.state one.0 (plain one.1); steps = old.steps } in
+    (next, record { site = refl; source = refl; state = (id, refl) }, adds_some next new state two records site source is put)
+
+pub adds_all : (old new : Held) (state : Content) (records : List Numbered) → new.site ≡ old.site → new.source ≡ old.source → new.state ≡ state → (state ≡ old.state → new ≡ old)
+    → AllPut old.site old.state records state → AllLeave old (map (λ (each : Numbered). added each.0 (plain each.1)) records) new
+adds_all old new state [] site source is again put = again put
+adds_all old new state (one ∷ records) site source is again put = adds_some old new state one records site source is put
+
+module _ (P : Difference → Type 0) (site : ℕ) where
+  -- what holds of the live bounds and of those that are put holds of all that are live afterwards, and the other way round
+  hold_after : (old : Content) (records : List Numbered) (new : Content) → AllPut site old records new → LiveHold P old → All P (bounds_in records) → LiveHold P new
+  hold_after old [] new is live all = subst (LiveHold P) (sym is) live
+  hold_after old (one ∷ records) new (id, put) live all =
+      let more = grown site old one id in
+      hold_after (with_record old one.0 (plain one.1)) records new put
+      (new_hold P old (with_record old one.0 (plain one.1)) more.extends more.keeps live
+      (λ q r there rose. subst (λ (v : Record). P v.bound) (sym (more.alone q r there rose)) (All-head P one.1 (bounds_in records) all)))
+      (All-tail P one.1 (bounds_in records) all)
+
+  hold_before : (old : Content) (records : List Numbered) (new : Content) → AllPut site old records new → LiveHold P new → LiveHold P old × All P (bounds_in records)
+  hold_before old [] new is live = (subst (LiveHold P) is live, All-nil P)
+  hold_before old (one ∷ records) new (id, put) live =
+      let next = with_record old one.0 (plain one.1) in
+      let more = grown site old one id in
+      let back = hold_before next records new put live in (
+        old_hold P old next more.extends more.keeps back.0,
+        All-cons P one.1 (bounds_in records) (back.0 one.0 (plain one.1) more.there (left_true (is_live next one.0) (not (is_live old one.0)) more.rose)) back.1,
+      )
+
+  module _ (base : List Difference) (old : Content) (records : List Numbered) (new : Content) (put : AllPut site old records new) where
+    all_after : All P ((base ++ live_bounds old) ++ bounds_in records) → All P ((base ++ live_bounds new) ++ [])
+    all_after all =
+        let before = all_front P (base ++ live_bounds old) (bounds_in records) all in
+        All-append P (base ++ live_bounds new) []
+        (All-append P base (live_bounds new) (all_front P base (live_bounds old) before)
+        (bounds_from_live P new (hold_after old records new put (live_from_bounds P old (all_behind P base (live_bounds old) before)) (all_behind P (base ++ live_bounds old) (bounds_in records) all))))
+        (All-nil P)
+
+    all_before : All P ((base ++ live_bounds new) ++ []) → All P ((base ++ live_bounds old) ++ bounds_in records)
+    all_before all =
+        let after = all_front P (base ++ live_bounds new) [] all in
+        let back = hold_before old records new put (live_from_bounds P new (all_behind P base (live_bounds new) after)) in
+        All-append P (base ++ live_bounds old) (bounds_in records)
+        (All-append P base (live_bounds old) (all_front P base (live_bounds new) after) (bounds_from_live P old back.0)) back.1
+
+-- what a site holds once it added its guard needs no further one
+pub guards_held : (owner : ℕ → ℕ) (site : ℕ) (base : List Difference) (old : Content) (records : List Numbered) (new : Content) → AllPut site old records new
+    → Guards owner (base ++ live_bounds old) (bounds_in records) → Guards owner (base ++ live_bounds new) []
+guards_held owner site base old records new put guards = record {
+  single = All-nil _;
+  possible = (guards.possible.0, record { origin = guards.possible.1.origin; met = all_after (Meets guards.possible.0) site base old records new put guards.possible.1.met });
+  enough = λ time own.
+      let whole = guards.enough time (λ at.
+      let its = own at in record {
+        origin = its.origin;
+        met = all_filtered (is_own owner at) (Meets time) ((base ++ live_bounds old) ++ bounds_in records)
+            (all_before (λ bound. is_own owner at bound ≡ true → Meets time bound) site base old records new put
+            (all_passing (is_own owner at) (Meets time) ((base ++ live_bounds new) ++ []) its.met));
+      }) in
+      record { origin = whole.origin; met = all_after (Meets time) site base old records new put whole.met };
+}

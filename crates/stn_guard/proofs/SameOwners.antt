@@ -1,0 +1,88 @@
+-- Owners that agree on the events that bounds name have the same guard.
+use Rattle.std.proofs.Common.{◌≡◌, ◌≢◌, ℕ, zero, suc, ◌+◌, ◌<◌, ◌≤◌, Bool, true, false, cond, not, ◌&&◌, ◌||◌, eqb, List, [], ◌∷◌, ◌++◌, length, map, inl, inr, refl, sym, ap, subst, ◌∙◌, arith}
+use Rattle.std.specs.Prelude.{All, filter, flat_map}
+use Rattle.std.specs.List.{list_any, range_with_len}
+use Rattle.std.proofs.lemmas.Bool.Decides.{eqb_tells}
+use Rattle.std.proofs.lemmas.List.Elements.{All-head, All-tail, All-append}
+use Rattle.std.proofs.lemmas.List.FromFn.{length-map-range_with_len, get_or-map-range_with_len}
+use Rattle.stn_net.specs.Difference.{Difference, NamesEvents}
+use Rattle.stn_net.specs.Schedule.{IsSchedule, HasSchedule}
+use Rattle.stn_guard.specs.Owners.{is_at, is_own, own_bounds, is_shared}
+use Rattle.stn_guard.specs.Guard.{Guards}
+use Rattle.stn_guard.specs.Making.{arcs_of, shared_arcs, window_bound, is_named, says_more, AreSplit, AreWindows, IsGuardOf}
+use Rattle.stn_guard.proofs.Owned.{all_filtered}
+use Rattle.stn_guard.proofs.Whole.{filter_same}
+
+beside_zero : (n : ℕ) → n ≢ 0 → 0 < n
+beside_zero zero beside = absurd (beside refl)
+beside_zero (suc n) beside = omega arith
+
+any_same : {X : Type 0} (p q : X → Bool) (xs : List X) → All (λ x. p x ≡ q x) xs → list_any p xs ≡ list_any q xs
+any_same p q [] same = refl
+any_same p q (x ∷ xs) same = λ i. All-head (λ y. p y ≡ q y) x xs same i || any_same p q xs (All-tail (λ y. p y ≡ q y) x xs same) i
+
+-- a guard names the events
+pub guard_named : (owner : ℕ → ℕ) (events : ℕ) (bounds within guard : List Difference) → AreWindows owner events bounds within guard → All (NamesEvents events) guard
+guard_named owner events bounds within guard windows =
+    subst (All (NamesEvents events)) (sym windows.windows_are)
+    (all_filtered (λ bound. is_named owner bounds bound.to && says_more bound) (NamesEvents events) (map at (range_with_len 1 events))
+    (λ k d h passes.
+    let few : k < events = omega (arith, length-map-range_with_len at 1 events) in
+    subst (NamesEvents events) (sym (get_or-map-range_with_len at 1 events k (1 + k) d few refl)) (record { from = omega arith; to = omega arith })))
+  where
+    at : ℕ → Difference
+    at event = window_bound event (windows.ends event)
+
+module _ (one other : ℕ → ℕ) (events : ℕ) (same : (event : ℕ) → 0 < event → event ≤ events → one event ≡ other event) where
+  same_at : (site event : ℕ) → event ≤ events → is_at one site event ≡ is_at other site event
+  same_at site event within = elim (eqb_tells event 0) [
+    | inl origin ↦ ap (λ t. t || eqb (one event) site) origin.0 ∙ sym (ap (λ t. t || eqb (other event) site) origin.0)
+    | inr beside ↦ ap (λ n. eqb event 0 || eqb n site) (same event (beside_zero event beside.1) within)
+  ]
+
+  same_own : (site : ℕ) (bound : Difference) → NamesEvents events bound → is_own one site bound ≡ is_own other site bound
+  same_own site bound named = λ i. same_at site bound.from named.from i && same_at site bound.to named.to i
+
+  same_shared : (bound : Difference) → NamesEvents events bound → is_shared one bound ≡ is_shared other bound
+  same_shared bound named = elim (eqb_tells bound.from 0) [
+    | inl origin ↦ ap (λ t. not t && (not (eqb bound.to 0) && not (eqb (one bound.from) (one bound.to)))) origin.0
+        ∙ sym (ap (λ t. not t && (not (eqb bound.to 0) && not (eqb (other bound.from) (other bound.to)))) origin.0)
+    | inr from ↦ elim (eqb_tells bound.to 0) [
+      | inl origin ↦ ap (λ t. not (eqb bound.from 0) && (not t && not (eqb (one bound.from) (one bound.to)))) origin.0
+          ∙ sym (ap (λ t. not (eqb bound.from 0) && (not t && not (eqb (other bound.from) (other bound.to)))) origin.0)
+      | inr to ↦ λ i. not (eqb bound.from 0) && (not (eqb bound.to 0)
+          && not (eqb (same bound.from (beside_zero bound.from from.1) named.from i) (same bound.to (beside_zero bound.to to.1) named.to i)))
+    ]
+  ]
+
+  module _ (bounds : List Difference) (named : All (NamesEvents events) bounds) where
+    same_arcs : shared_arcs one bounds ≡ shared_arcs other bounds
+    same_arcs = ap (flat_map arcs_of) (filter_same (is_shared one) (is_shared other) bounds (λ k d h. same_shared _ (named k d h)))
+
+    same_named : (event : ℕ) → is_named one bounds event ≡ is_named other bounds event
+    same_named event = any_same (λ bound. is_shared one bound && (eqb bound.from event || eqb bound.to event)) (λ bound. is_shared other bound && (eqb bound.from event || eqb bound.to event)) bounds
+        (λ k d h. ap (λ t. t && _) (same_shared _ (named k d h)))
+
+    pub same_guard : (guard : List Difference) → IsGuardOf one events bounds guard → IsGuardOf other events bounds guard
+    same_guard guard is = record {
+      split = is.split;
+      are_split = subst (λ arcs. AreSplit bounds arcs is.split) same_arcs is.are_split;
+      windows = record {
+        ends = is.windows.ends;
+        true_ends = is.windows.true_ends;
+        windows_are = is.windows.windows_are
+            ∙ filter_same (λ bound. is_named one bounds bound.to && says_more bound) (λ bound. is_named other bounds bound.to && says_more bound)
+              (map (λ event. window_bound event (is.windows.ends event)) (range_with_len 1 events)) (λ k d h. ap (λ t. t && _) (same_named _));
+      };
+    }
+
+  pub same_guards : (bounds guard : List Difference) → All (NamesEvents events) bounds → All (NamesEvents events) guard → Guards one bounds guard → Guards other bounds guard
+  same_guards bounds guard named guard_are guards = record {
+    single = guards.single;
+    possible = guards.possible;
+    enough = λ time own. guards.enough time (λ site. subst (λ (l : List Difference). IsSchedule l time) (sym (own_same site)) (own site));
+  }
+    where
+      own_same : (site : ℕ) → own_bounds one site (bounds ++ guard) ≡ own_bounds other site (bounds ++ guard)
+      own_same site = filter_same (is_own one site) (is_own other site) (bounds ++ guard)
+          (λ k d h. same_own site _ (All-append (NamesEvents events) bounds guard named guard_are k d h))

@@ -1,0 +1,21 @@
+use Rattle.std.proofs.Common.{◌++◌, ◌∙◌, refl, ap}
+use Rattle.std.proofs.lemmas.Result.{IfOk-weaker, err_from_is_err_and}
+use Rattle.stn_site.proofs.Printing.{appended_ok, kept_err}
+use Rattle.stn_questions.proofs.ready.print_ready_among.Goals as goal
+
+pub returns-in_err-append_text : goal.returns-in_err-append_text
+returns-in_err-append_text g c =
+    let returned = err_from_is_err_and c.from_residual.result c.from_residual.ensures.1 in
+    record { printed = rw returned.1 tt; kept = rw returned.1 refl }
+
+pub returns : goal.returns
+returns g c =
+    let said = c.in_ok-append_text.ensures in
+    record {
+      printed = IfOk-weaker c.extend_from_slice.result _ _ (λ _ ended. (
+        said.0,
+        said.1,
+        ended ∙ ap (λ text. c.args.out.now.items ++ text) (c.deref.ensures.value ∙ said.2 ∙ ap (λ front. front ++ said.0) c.new-text.ensures.items),
+      )) (appended_ok c.extend_from_slice.result c.extend_from_slice.new.self.items c.args.out.now.items c.deref.result.now c.extend_from_slice.ensures.items);
+      kept = kept_err c.extend_from_slice.result c.extend_from_slice.new.self.items c.args.out.now.items c.deref.result.now c.extend_from_slice.ensures.items;
+    }
