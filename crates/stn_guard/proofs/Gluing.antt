@@ -1,5 +1,5 @@
 use Rattle.std.proofs.Common.{◌≡◌, ℕ, ℤ, pos, true, cond, eqb, List, ◌++◌, inl, inr, refl, sym, ap, subst, ◌∙◌}
-use Rattle.std.specs.Prelude.{◌↔◌, All, filter, flat_map}
+use Rattle.std.specs.Prelude.{◌↔◌, All, flat_map}
 use Rattle.std.proofs.lemmas.Bool.{and_parts}
 use Rattle.std.proofs.lemmas.Bool.Decides.{eqb_tells}
 use Rattle.std.proofs.lemmas.List.Elements.{All-append, All-weaker, All-filter}

@@ -9,3 +9,4 @@ pub mod Named
 pub mod Whole
 pub mod SameOwners
 pub mod Put
+pub mod SiteGuard

@@ -1,10 +1,10 @@
 -- Records that are put to a content one after the other.
-use Rattle.std.proofs.Common.{◌≡◌, ◌⊎◌, inl, inr, ⊎_elim, ℕ, Bool, true, false, not, List, [], ◌∷◌, ◌++◌, map, Some, refl, sym, ap, subst, ◌∙◌}
+use Rattle.std.proofs.Common.{◌≡◌, inl, inr, ⊎_elim, ℕ, true, false, not, List, [], ◌∷◌, ◌++◌, map, Some, refl, sym, ap, subst, ◌∙◌}
 use Rattle.std.specs.Prelude.{All}
 use Rattle.std.proofs.lemmas.List.Elements.{All-nil, All-cons, All-head, All-tail, All-append}
 use Rattle.stn_net.specs.Difference.{Difference}
-use Rattle.stn_net.specs.Schedule.{IsSchedule, Meets}
-use Rattle.stn_lift.specs.PlanSource.{base_bounds}
+use Rattle.stn_net.specs.Schedule.{Meets}
+use Rattle.stn_lift.specs.PlanSource.{PlanSource, base_bounds}
 use Rattle.stn_records.specs.Id.{SiteCounter}
 use Rattle.stn_records.specs.declared.record.Record.{Record}
 use Rattle.stn_records.specs.Content.{Content, HasItem, IsPart, join_contents, is_known, is_live, next_counter, with_record, plain}
@@ -12,12 +12,13 @@ use Rattle.stn_records.specs.ContentLaws.{contents_join}
 use Rattle.stn_records.proofs.Counters.{next_is_new}
 use Rattle.stn_site.specs.Bounds.{live_bounds, all_bounds}
 use Rattle.stn_site.specs.Held.{Held}
-use Rattle.stn_site.specs.Calls.{added, AllLeave}
+use Rattle.stn_site.specs.Calls.{added, took, Leaves, AllLeave}
 use Rattle.stn_site.proofs.Items.{addition_items}
 use Rattle.stn_replica.proofs.Changes.{IsGrown, grown_with_record}
 use Rattle.stn_replica.proofs.Live.{LiveHold, live_from_bounds, bounds_from_live, left_true, new_hold, old_hold}
 use Rattle.stn_guard.specs.Owners.{is_own}
 use Rattle.stn_guard.specs.Guard.{Guards}
+use Rattle.stn_guard.specs.Adding.{AddsEach}
 use Rattle.stn_guard.specs.Putting.{AllPut, PutsEach}
 use Rattle.stn_guard.proofs.Owned.{all_front, all_behind, all_passing, all_filtered}
 
@@ -81,6 +82,16 @@ pub adds_all : (old new : Held) (state : Content) (records : List Numbered) → 
 adds_all old new state [] site source is again put = again put
 adds_all old new state (one ∷ records) site source is again put = adds_some old new state one records site source is put
 
+-- and what they put
+pub put_from : (old new : Held) (records : List Numbered) → AllLeave old (map (λ (each : Numbered). added each.0 (plain each.1)) records) new
+    → AllPut old.site old.state records new.state × (new.source ≡ old.source)
+put_from old new [] is = (ap (λ (held : Held). held.state) is, ap (λ (held : Held). held.source) is)
+put_from old new (one ∷ records) (next, leaves, later) =
+    let back = put_from next new records later in (
+      (leaves.state.0, subst (λ (s : Content). AllPut old.site s records new.state) leaves.state.1 (subst (λ (n : ℕ). AllPut n next.state records new.state) leaves.site back.0)),
+      back.1 ∙ leaves.source,
+    )
+
 module _ (P : Difference → Type 0) (site : ℕ) where
   -- what holds of the live bounds and of those that are put holds of all that are live afterwards, and the other way round
   hold_after : (old : Content) (records : List Numbered) (new : Content) → AllPut site old records new → LiveHold P old → All P (bounds_in records) → LiveHold P new
@@ -134,3 +145,22 @@ guards_held owner site base old records new put guards = record {
       }) in
       record { origin = whole.origin; met = all_after (Meets time) site base old records new put whole.met };
 }
+
+pub added_guards : (owner : ℕ → ℕ) (old new : Held) (bounds : List Difference) (ids : List SiteCounter) → AddsEach old bounds ids new
+    → Guards owner (all_bounds old.source old.state) bounds → Guards owner (all_bounds new.source new.state) []
+added_guards owner old new bounds ids adds guards =
+    let back = put_from old new adds.records adds.leave in
+    subst (λ (source : PlanSource). Guards owner (all_bounds source new.state) []) (sym back.1)
+    (guards_held owner old.site (base_bounds old.source) old.state adds.records new.state back.0
+    (subst (Guards owner (all_bounds old.source old.state)) adds.bounds_are guards))
+
+-- a site that took a content to which it put records has added them
+pub took_each : (old new : Held) (all : Content) (bounds : List Difference) (ids : List SiteCounter) → PutsEach old.site old.state bounds ids all → Leaves old (took all) new
+    → (IsPart all old.state → new ≡ old) → AddsEach old bounds ids new
+took_each old new all bounds ids puts leaves again =
+    let is : new.state ≡ all = absorbed old.state all new.state leaves.state (put_part old.site old.state puts.records all puts.put) in record {
+      records = puts.records;
+      bounds_are = puts.bounds_are;
+      ids_are = puts.ids_are;
+      leave = adds_all old new all puts.records leaves.site leaves.source is (λ same. again (λ item there. subst (λ (s : Content). HasItem s item) same there)) puts.put;
+    }

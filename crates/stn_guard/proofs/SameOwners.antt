@@ -1,12 +1,12 @@
 -- Owners that agree on the events that bounds name have the same guard.
-use Rattle.std.proofs.Common.{◌≡◌, ◌≢◌, ℕ, zero, suc, ◌+◌, ◌<◌, ◌≤◌, Bool, true, false, cond, not, ◌&&◌, ◌||◌, eqb, List, [], ◌∷◌, ◌++◌, length, map, inl, inr, refl, sym, ap, subst, ◌∙◌, arith}
-use Rattle.std.specs.Prelude.{All, filter, flat_map}
+use Rattle.std.proofs.Common.{◌≡◌, ◌≢◌, ℕ, zero, suc, ◌+◌, ◌<◌, ◌≤◌, Bool, not, ◌&&◌, ◌||◌, eqb, List, [], ◌∷◌, ◌++◌, get_or, map, inl, inr, refl, sym, ap, subst, ◌∙◌, arith}
+use Rattle.std.specs.Prelude.{All, flat_map}
 use Rattle.std.specs.List.{list_any, range_with_len}
 use Rattle.std.proofs.lemmas.Bool.Decides.{eqb_tells}
 use Rattle.std.proofs.lemmas.List.Elements.{All-head, All-tail, All-append}
 use Rattle.std.proofs.lemmas.List.FromFn.{length-map-range_with_len, get_or-map-range_with_len}
 use Rattle.stn_net.specs.Difference.{Difference, NamesEvents}
-use Rattle.stn_net.specs.Schedule.{IsSchedule, HasSchedule}
+use Rattle.stn_net.specs.Schedule.{IsSchedule}
 use Rattle.stn_guard.specs.Owners.{is_at, is_own, own_bounds, is_shared}
 use Rattle.stn_guard.specs.Guard.{Guards}
 use Rattle.stn_guard.specs.Making.{arcs_of, shared_arcs, window_bound, is_named, says_more, AreSplit, AreWindows, IsGuardOf}
@@ -61,7 +61,10 @@ module _ (one other : ℕ → ℕ) (events : ℕ) (same : (event : ℕ) → 0 < 
 
     same_named : (event : ℕ) → is_named one bounds event ≡ is_named other bounds event
     same_named event = any_same (λ bound. is_shared one bound && (eqb bound.from event || eqb bound.to event)) (λ bound. is_shared other bound && (eqb bound.from event || eqb bound.to event)) bounds
-        (λ k d h. ap (λ t. t && _) (same_shared _ (named k d h)))
+        (λ k d h. ap (λ t. t && (eqb (get_or bounds k d).from event || eqb (get_or bounds k d).to event)) (same_shared (get_or bounds k d) (named k d h)))
+
+    abbrev windows : {guard : List Difference} → IsGuardOf one events bounds guard → List Difference
+    windows is = map (λ event. window_bound event (is.windows.ends event)) (range_with_len 1 events)
 
     pub same_guard : (guard : List Difference) → IsGuardOf one events bounds guard → IsGuardOf other events bounds guard
     same_guard guard is = record {
@@ -71,8 +74,8 @@ module _ (one other : ℕ → ℕ) (events : ℕ) (same : (event : ℕ) → 0 < 
         ends = is.windows.ends;
         true_ends = is.windows.true_ends;
         windows_are = is.windows.windows_are
-            ∙ filter_same (λ bound. is_named one bounds bound.to && says_more bound) (λ bound. is_named other bounds bound.to && says_more bound)
-              (map (λ event. window_bound event (is.windows.ends event)) (range_with_len 1 events)) (λ k d h. ap (λ t. t && _) (same_named _));
+            ∙ filter_same (λ bound. is_named one bounds bound.to && says_more bound) (λ bound. is_named other bounds bound.to && says_more bound) (windows is)
+            (λ k d h. ap (λ t. t && says_more (get_or (windows is) k d)) (same_named (get_or (windows is) k d).to));
       };
     }
 

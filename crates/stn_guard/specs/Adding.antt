@@ -15,7 +15,7 @@ use Rattle.stn_site.specs.Bounds.{all_bounds}
 use Rattle.stn_site.specs.Held.{Held, plain}
 use Rattle.stn_site.specs.Calls.{added, AllLeave}
 use Rattle.stn_replica.specs.Own.{has, is_within}
-use Rattle.stn_guard.specs.declared.owned.OwnedSteps.{OwnedSteps}
+use Rattle.stn_guard.specs.declared.owners.OwnedSteps.{OwnedSteps}
 use Rattle.stn_guard.specs.Making.{IsGuardOf}
 
 -- the owner of an event: the site of the first of the lists that has the event's step, or else this site

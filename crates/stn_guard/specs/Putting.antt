@@ -1,5 +1,5 @@
 -- For proofs alone: no public clause cites these words.
-use Rattle.std.specs.Prelude.{◌≡◌, ℕ, List, [], ◌∷◌, ◌++◌, map, All}
+use Rattle.std.specs.Prelude.{◌≡◌, ℕ, List, [], ◌∷◌, map, All}
 use Rattle.stn_net.specs.Difference.{Difference, NamesEvents}
 use Rattle.stn_net.specs.Schedule.{HasSchedule}
 use Rattle.stn_lift.specs.PlanSource.{events_of}
@@ -7,7 +7,7 @@ use Rattle.stn_records.specs.Id.{SiteCounter}
 use Rattle.stn_records.specs.Content.{Content, next_counter, with_record, plain}
 use Rattle.stn_site.specs.Bounds.{all_bounds}
 use Rattle.stn_site.specs.Held.{Held}
-use Rattle.stn_guard.specs.declared.owned.OwnedSteps.{OwnedSteps}
+use Rattle.stn_guard.specs.declared.owners.OwnedSteps.{OwnedSteps}
 use Rattle.stn_guard.specs.Guard.{Guards}
 use Rattle.stn_guard.specs.Adding.{owner_by, IsGuardAt}
 

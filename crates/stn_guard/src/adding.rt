@@ -9,7 +9,7 @@ ghost use Rattle.stn_guard.specs.Adding.{owner_by, IsGuardRefusal, AddsEach, Add
 ghost use Rattle.stn_guard.specs.Putting.{MakesGuard, PutsEach};
 
 use crate::guarding::guard;
-use crate::owned::{OwnedSteps, are_within, owners_of};
+use crate::owners::{OwnedSteps, are_within, owners_of};
 use std::alloc::Allocator;
 use stn_net::{Bound, BoundFault};
 use stn_records::{Id, MOST_KNOWN, Mark, Records, Site};
@@ -41,11 +41,13 @@ pub fn add_guard<A: Allocator + Copy>(
     if !are_within(owned, plan.base().steps()) {
         return Err(ReplicaFault::Bound(BoundFault::NoEvent));
     }
-    let Some(bounds) = guard_of(plan, owned)? else {
-        return Ok(None);
+    let Ok(found) = guard_of(plan, owned) else {
+        return Err(ReplicaFault::Memory);
     };
-    let ids = add_each(plan, &bounds)?;
-    Ok(Some(ids))
+    match found {
+        Some(bounds) => Ok(Some(add_each(plan, &bounds)?)),
+        None => Ok(None),
+    }
 }
 
 // The guard of all bounds of a site; none where they have no schedule.
@@ -83,12 +85,25 @@ fn add_each<A: Allocator + Copy>(
     if let Some(fault) = records_refusal(plan, bounds.len()) {
         return Err(fault);
     }
-    let mut records = plan.records().copy()?;
-    let ids = put_each(plan.alloc(), &mut records, plan.site(), bounds)?;
+    let Ok((records, ids)) = with_each(plan, bounds) else {
+        return Err(ReplicaFault::Memory);
+    };
     match plan.take(&records) {
         Ok(()) => Ok(ids),
         Err(_) => Err(ReplicaFault::Memory),
     }
+}
+
+// What the site holds with a plain record of each bound, under its next ids, and these ids.
+fn with_each<A: Allocator + Copy>(
+    plan: &SitePlan<A>,
+    bounds: &[Bound],
+) -> Result<(Records<A>, Vec<Id, A>), Memory>
+    ensures { IfOk result (λ made. PutsEach plan.now.site plan.now.state bounds.now made.1.items made.0) }
+{
+    let mut records = plan.records().copy()?;
+    let ids = put_each(plan.alloc(), &mut records, plan.site(), bounds)?;
+    Ok((records, ids))
 }
 
 // Why the site can't make so many records more.
@@ -100,8 +115,12 @@ fn records_refusal<A: Allocator + Copy>(plan: &SitePlan<A>, count: usize) -> Opt
     }
     let records = plan.records();
     match records.next_counter(plan.site()) {
-        Ok(counter) if usize::from(counter) + (count - 1) <= usize::from(u16::MAX) => {
-            if records.known() + count > MOST_KNOWN { Some(ReplicaFault::Full) } else { None }
+        Ok(counter) if count - 1 <= usize::from(u16::MAX - counter) => {
+            if count <= MOST_KNOWN - records.known() {
+                None
+            } else {
+                Some(ReplicaFault::Full)
+            }
         }
         _ => Some(ReplicaFault::CounterSpent),
     }

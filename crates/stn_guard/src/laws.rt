@@ -1,8 +1,11 @@
-ghost use Rattle.std.specs.Prelude.{◌≡◌, ◌↔◌, ℕ, ℤ, true, false, List, ◌++◌, take, flat_map, All};
+ghost use Rattle.std.specs.Prelude.{◌≡◌, ◌↔◌, ◌<◌, ◌≤◌, ℕ, ℤ, true, false, List, ◌++◌, take, flat_map, All};
 ghost use Rattle.stn_net.specs.Difference.{Difference, NamesEvents};
 ghost use Rattle.stn_net.specs.Schedule.{HasSchedule};
 ghost use Rattle.stn_net.specs.Horizon.{horizon_bounds};
 ghost use Rattle.stn_windows.specs.Window.{IsInWindow};
+ghost use Rattle.stn_lift.specs.PlanSource.{PlanSource, events_of};
+ghost use Rattle.stn_records.specs.Content.{Content, CountsSame};
+ghost use Rattle.stn_site.specs.Bounds.{all_bounds};
 ghost use Rattle.stn_guard.specs.Owners.{is_own, own_bounds, is_shared};
 ghost use Rattle.stn_guard.specs.Guard.{Guards};
 ghost use Rattle.stn_guard.specs.Making.{AreWindows, IsGuardOf};
@@ -49,4 +52,14 @@ pub fn made_guards()
 pub fn one_guard()
     ensures { (owner : ℕ → ℕ) → (events : ℕ) → (bounds one other : List Difference) → HasSchedule bounds
         → IsGuardOf owner events bounds one → IsGuardOf owner events bounds other → one ≡ other }
+{}
+
+/// The law that sites of one plan whose states have the same records and the same replaced ids, with owners that agree on each of
+/// the plan's events, make the same guard; it does nothing.
+pub fn same_counts_same_guard()
+    ensures { (source : PlanSource) → (state like : Content) → (owner other : ℕ → ℕ) → (one last : List Difference) → CountsSame state like
+        → ((event : ℕ) → 0 < event → event ≤ events_of source → owner event ≡ other event)
+        → All (NamesEvents (events_of source)) (all_bounds source state) → HasSchedule (all_bounds source state)
+        → IsGuardOf owner (events_of source) (all_bounds source state) one
+        → IsGuardOf other (events_of source) (all_bounds source like) last → one ≡ last }
 {}

@@ -7,12 +7,12 @@ pub use adding::add_guard;
 pub use guarding::guard;
 pub use laws::{
     guard_needs_schedule, guards_glue, made_guards, one_guard, own_windows_are_whole,
-    shared_is_no_sites_own,
+    same_counts_same_guard, shared_is_no_sites_own,
 };
-pub use owned::OwnedSteps;
+pub use owners::OwnedSteps;
 
 mod adding;
 mod guarding;
 mod laws;
-mod owned;
+mod owners;
 mod splitting;

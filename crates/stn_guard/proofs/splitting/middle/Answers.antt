@@ -2,7 +2,6 @@ use Rattle.std.proofs.Common.{◌≡◌, ℤ, ◌-ℤ◌, to_z, of_z, w64, ap, �
 use Rattle.std.proofs.lemmas.Int.{ints}
 use Rattle.stn_time.specs.Time.{IsWithinHorizon}
 use Rattle.stn_guard.specs.declared.splitting.Arc.{Arc}
-use Rattle.stn_guard.specs.Making.{split_time}
 use Rattle.stn_guard.specs.Splitting.{LeavesTime}
 use Rattle.stn_guard.proofs.splitting.middle.Goals as goal
 

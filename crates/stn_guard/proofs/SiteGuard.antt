@@ -1,0 +1,48 @@
+-- The guard of what a site holds, from the owners of its steps.
+use Rattle.std.proofs.Common.{◌≡◌, ◌⊎◌, inl, inr, ℕ, ◌+◌, ◌<◌, ◌≤◌, List, ◌++◌, map, Option, Some, None, unwrap_or, ap, subst, ◌∙◌, arith}
+use Rattle.std.specs.Prelude.{All}
+use Rattle.std.specs.List.{range_with_len}
+use Rattle.std.proofs.lemmas.List.FromFn.{get_or-map-range_with_len}
+use Rattle.stn_net.specs.Difference.{Difference, NamesEvents}
+use Rattle.stn_net.specs.Schedule.{HasSchedule}
+use Rattle.stn_lift.specs.PlanSource.{events_of, base_bounds}
+use Rattle.stn_site.specs.declared.faults.ReplicaFault.{ReplicaFault}
+use Rattle.stn_site.specs.declared.faults.ReplicaFault.TheVariants.{Memory}
+use Rattle.stn_site.specs.Bounds.{live_bounds, all_bounds}
+use Rattle.stn_site.specs.Held.{Held}
+use Rattle.stn_guard.specs.declared.owners.OwnedSteps.{OwnedSteps}
+use Rattle.stn_guard.specs.Owners.{owner_of}
+use Rattle.stn_guard.specs.Guard.{Guards}
+use Rattle.stn_guard.specs.Making.{AreWindows, IsGuardOf}
+use Rattle.stn_guard.specs.Adding.{owner_by}
+use Rattle.stn_guard.specs.Putting.{MakesGuard}
+use Rattle.stn_guard.proofs.SameOwners.{guard_named, same_guard, same_guards}
+
+-- what was made of these bounds, with the owners as a list
+pub record IsMadeOf (owners : List ℕ) (events : ℕ) (bounds guard : List Difference) : Type 0 where
+  pub guards : Guards (owner_of owners) bounds guard
+  pub windows : AreWindows (owner_of owners) events bounds (bounds ++ guard) guard
+  pub made : IsGuardOf (owner_of owners) events bounds guard
+
+pub made_here : (owned : List OwnedSteps) (held : Held) (owners : List ℕ) (base extra guard : List Difference) (events : ℕ) → events ≡ events_of held.source
+    → owners ≡ map (owner_by held.site owned) (range_with_len 0 (events_of held.source + 1)) → base ≡ base_bounds held.source → extra ≡ live_bounds held.state
+    → HasSchedule (all_bounds held.source held.state) → All (NamesEvents (events_of held.source)) (all_bounds held.source held.state)
+    → IsMadeOf owners events (base ++ extra) guard → MakesGuard owned held guard
+made_here owned held owners base extra guard events many list base_is extra_is possible named made =
+    let bounds = all_bounds held.source held.state in
+    let here : IsMadeOf owners (events_of held.source) bounds guard =
+    subst (λ (l : List Difference). IsMadeOf owners (events_of held.source) l guard) (λ i. base_is i ++ extra_is i) (subst (λ n. IsMadeOf owners n (base ++ extra) guard) many made) in
+    let same : (event : ℕ) → 0 < event → event ≤ events_of held.source → owner_of owners event ≡ owner_by held.site owned event = (λ event beside within.
+    ap (λ (l : List ℕ). owner_of l event) list
+    ∙ get_or-map-range_with_len (owner_by held.site owned) 0 (events_of held.source + 1) event event 0 (omega arith) (omega arith)) in
+    let are = guard_named (owner_of owners) (events_of held.source) bounds (bounds ++ guard) guard here.windows in record {
+      possible = possible;
+      is_guard = same_guard (owner_of owners) (owner_by held.site owned) (events_of held.source) same bounds named guard here.made;
+      guards = same_guards (owner_of owners) (owner_by held.site owned) (events_of held.source) same bounds guard named are here.guards;
+      named = are;
+    }
+
+-- a fault is a cause that was given, or lack of memory
+pub cause_or_memory : (cause : Option ReplicaFault) (fault : ReplicaFault) → fault ≡ unwrap_or cause Memory → (fault ≡ Memory) ⊎ (Some fault ≡ cause)
+cause_or_memory None fault is = inl is
+cause_or_memory (Some cause) fault is = inr (ap Some is)

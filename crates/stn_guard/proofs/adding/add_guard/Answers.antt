@@ -1,0 +1,42 @@
+use Rattle.std.proofs.Common.{◌≡◌, inl, inr, ⊎_elim, true, List, Err, length, sym, ap, subst, ◌∙◌, rules}
+use Rattle.std.proofs.lemmas.Option.{MatchOption-at_some}
+use Rattle.stn_net.specs.Difference.{Difference}
+use Rattle.stn_net.specs.Schedule.{HasSchedule}
+use Rattle.stn_lift.specs.PlanSource.{steps_of}
+use Rattle.stn_site.specs.Bounds.{all_bounds}
+use Rattle.stn_guard.specs.Guard.{Guards}
+use Rattle.stn_guard.specs.Adding.{owner_by, are_within, records_refusal, guarded}
+use Rattle.stn_guard.specs.Putting.{MakesGuard}
+use Rattle.stn_guard.proofs.Put.{added_guards}
+use Rattle.stn_guard.proofs.SiteGuard.{cause_or_memory}
+use Rattle.stn_guard.proofs.adding.add_guard.Goals as goal
+
+pub returns-in_err-add_each-in-Some-clause-fault : goal.returns-in_err-add_each-in-Some-clause-fault
+returns-in_err-add_each-in-Some-clause-fault g c =
+    let held = c.args.plan.now in
+    let owned = c.args.owned.now in
+    let guard = c.in-Some.bounds.items in
+    let made = MatchOption-at_some (¬ HasSchedule (all_bounds held.source held.state)) (λ b. MakesGuard owned held b.items) c.in-Some.bounds c.in-Some.is c.in-Ok.ensures in
+    let within : are_within (steps_of held.source) owned ≡ true =
+    ap (λ n. are_within n owned) (sym (c.steps.ensures.value ∙ ap steps_of c.base.ensures)) ∙ sym c.are_within.ensures ∙ c.if-not-are_within.false in
+    let is : c.from_residual.result ≡ Err c.in_err-add_each-in-Some.field-0.0 = search rules in
+    rw is (⊎_elim inl (λ cause. inr (guarded within guard made.is_guard (cause ∙ ap (λ (l : List Difference). records_refusal held (length l)) c.deref.ensures.value)))
+    (cause_or_memory (records_refusal held (length c.deref.result.now)) c.in_err-add_each-in-Some.field-0.0 c.in_err-add_each-in-Some.ensures.fault))
+
+pub returns-in_ok-add_each-in-Some-clause-guarded : goal.returns-in_ok-add_each-in-Some-clause-guarded
+returns-in_ok-add_each-in-Some-clause-guarded g c =
+    let held = c.args.plan.now in
+    let owned = c.args.owned.now in
+    let made = MatchOption-at_some (¬ HasSchedule (all_bounds held.source held.state)) (λ b. MakesGuard owned held b.items) c.in-Some.bounds c.in-Some.is c.in-Ok.ensures in
+    added_guards (owner_by held.site owned) held c.add_each.new.plan c.deref.result.now c.in_ok-add_each-in-Some.field-0.items c.in_ok-add_each-in-Some.ensures.adds
+    (subst (Guards (owner_by held.site owned) (all_bounds held.source held.state)) (sym c.deref.ensures.value) made.guards)
+
+pub returns-in_ok-add_each-in-Some-clause-accepted : goal.returns-in_ok-add_each-in-Some-clause-accepted
+returns-in_ok-add_each-in-Some-clause-accepted g c =
+    let held = c.args.plan.now in
+    let owned = c.args.owned.now in
+    let made = MatchOption-at_some (¬ HasSchedule (all_bounds held.source held.state)) (λ b. MakesGuard owned held b.items) c.in-Some.bounds c.in-Some.is c.in-Ok.ensures in
+    let within : are_within (steps_of held.source) owned ≡ true =
+    ap (λ n. are_within n owned) (sym (c.steps.ensures.value ∙ ap steps_of c.base.ensures)) ∙ sym c.are_within.ensures ∙ c.if-not-are_within.false in
+    guarded within c.in-Some.bounds.items made.is_guard
+    (sym c.in_ok-add_each-in-Some.ensures.accepted ∙ ap (λ (l : List Difference). records_refusal held (length l)) c.deref.ensures.value)
