@@ -10,6 +10,8 @@ mod events;
 #[cfg(test)]
 mod frames;
 #[cfg(test)]
+mod guards;
+#[cfg(test)]
 mod readers;
 #[cfg(test)]
 mod records;

@@ -10,3 +10,4 @@ pub mod Alike
 pub mod Entries
 pub mod Lawful
 pub mod EachRun
+pub mod Guarded

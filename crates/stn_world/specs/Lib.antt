@@ -5,4 +5,5 @@ pub mod Parts
 pub mod Whole
 pub mod Steps
 pub mod Runs
+pub mod Guarded
 pub mod Failures

@@ -1,4 +1,4 @@
-ghost use Rattle.std.specs.Prelude.{◌≡◌, ℕ, ◌≤◌, ◌↔◌, List, ◌∷◌, None, true, false};
+ghost use Rattle.std.specs.Prelude.{◌≡◌, ℕ, ◌≤◌, ◌↔◌, List, ◌∷◌, All, None, true, false};
 ghost use Rattle.std.specs.List.{Contains};
 ghost use Rattle.stn_lift.specs.PlanSource.{PlanSource};
 ghost use Rattle.stn_records.specs.Id.{SiteCounter};
@@ -7,6 +7,7 @@ ghost use Rattle.stn_site.specs.Calls.{Replaces};
 ghost use Rattle.stn_site.specs.Report.{IsReport};
 ghost use Rattle.stn_world.specs.World.{World, HasSite, HasPacket, opening_world, content_at, packet_at};
 ghost use Rattle.stn_world.specs.Steps.{Step, merged, delivered, IsAccepted, run, Brings, TookAt, TookSameAt, TookSameItemsAt};
+ghost use Rattle.stn_world.specs.Guarded.{HoldsGuarded, KeepsToOwn, HaveOwnSchedules, HaveSchedules};
 ghost use Rattle.stn_world.specs.Runs.{Making, WasMade, records_made, states_of, HasEntries, InEachRun};
 
 use stn_site::{one_report, same_counts_same_bytes};
@@ -74,6 +75,15 @@ pub fn same_items_print_same()
 pub fn withdrawn_for_good()
     ensures { InEachRun (λ now items. (step : Step) (site : ℕ) (id : SiteCounter) → IsAccepted now step → Replaces (Brings now step site) id
         → (rest : List Step) → is_live (content_at (run now (step ∷ rest)) site) id ≡ false) }
+{}
+
+/// The law of acting out of contact. Take a world in any run in which each site holds a guarded state, and beside it nothing is
+/// held but records of bounds that are the own of the sites that made them. While from then on each site only adds bounds and
+/// executions of its own, and its own bounds keep a schedule, all that any site holds has one, whatever is merged or
+/// delivered. It does nothing.
+pub fn guarded_sites_keep_schedules()
+    ensures { InEachRun (λ start items. (owner : ℕ → ℕ) (state : Content) → HoldsGuarded owner state start
+        → (steps : List Step) → All (KeepsToOwn owner) steps → HaveOwnSchedules owner (run start steps) → HaveSchedules (run start steps)) }
 {}
 
 /// The law that two sites of one plan, in one world or in two, that took the same additions and

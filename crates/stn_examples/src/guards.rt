@@ -1,0 +1,171 @@
+// Guards of small plans, worked out by hand.
+use std::alloc::Global;
+use std::rc::Rc;
+use stn_guard::{OwnedSteps, add_guard};
+use stn_lift::Base;
+use stn_net::{Bound, BoundFault, Event};
+use stn_records::{Id, Mark, Records, Site};
+use stn_replica::StepRange;
+use stn_site::{ReplicaFault, SitePlan};
+use stn_time::Ms;
+
+// What site 1 of a bare plan of so many steps holds at first.
+fn bare_plan(alloc: Global, steps: u16) -> Option<SitePlan<Global>> {
+    let base = Base::bare(alloc, steps).ok()?;
+    let base = Rc::new(alloc, base).ok()?;
+    let site = Site::new(1)?;
+    Some(SitePlan::new(alloc, site, base))
+}
+
+fn add(plan: &mut SitePlan<Global>, from: u16, to: u16, least: i64, most: i64) -> bool {
+    match (Event::new(from), Event::new(to), Ms::new(least), Ms::new(most)) {
+        (Some(from), Some(to), Some(least), Some(most)) => {
+            plan.add(from, to, least, most).is_ok()
+        }
+        _ => false,
+    }
+}
+
+// The step is the site's.
+fn owned(site: u8, step: u32) -> Option<OwnedSteps> {
+    let site = Site::new(site)?;
+    Some(OwnedSteps {
+        site,
+        steps: StepRange {
+            first: step,
+            last: step,
+        },
+    })
+}
+
+// Whether the record at a place says only that the event comes within these times.
+fn is_window(plan: &SitePlan<Global>, place: usize, event: u16, least: i64, most: i64) -> bool {
+    match plan.records().record_at(place) {
+        Some((_, mark, bound)) => {
+            mark == Mark::Plain
+                && bound.from() == Event::origin()
+                && bound.to().number() == event
+                && bound.lo().get() == least
+                && bound.hi().get() == most
+        }
+        None => false,
+    }
+}
+
+// The second step starts at most four seconds after the end of the first, which comes by ten seconds.
+fn two_steps(alloc: Global) -> Option<SitePlan<Global>> {
+    let mut plan = bare_plan(alloc, 2)?;
+    if add(&mut plan, 2, 3, 0, 4_000) && add(&mut plan, 0, 2, 0, 10_000) {
+        Some(plan)
+    } else {
+        None
+    }
+}
+
+// The start comes by nine seconds, and so the end no earlier than five; the middle of what is left, seven, parts the two.
+fn guards_two_sites(alloc: Global) -> Option<bool> {
+    let mut plan = two_steps(alloc)?;
+    let other = owned(2, 2)?;
+    let ids = add_guard(&mut plan, &[other]).ok()??;
+    Some(ids.len() == 2 && is_window(&plan, 2, 2, 5_000, 7_000) && is_window(&plan, 3, 3, 7_000, 9_000))
+}
+
+#[test]
+fn two_sites_share_a_bound(rt: HostRuntime) {
+    assert!(rt; guards_two_sites(rt.alloc()) == Some(true));
+}
+
+// Three starts, each at most two seconds after the one before, the first by eight seconds: six and five part the first two,
+// and 7.5 and 5.75 the last two.
+fn guards_three_sites(alloc: Global) -> Option<bool> {
+    let mut plan = bare_plan(alloc, 3)?;
+    let added = add(&mut plan, 0, 1, 0, 8_000)
+        && add(&mut plan, 1, 3, 0, 2_000)
+        && add(&mut plan, 3, 5, 0, 2_000);
+    let second = owned(2, 2)?;
+    let third = owned(3, 3)?;
+    let ids = add_guard(&mut plan, &[second, third]).ok()??;
+    Some(
+        added
+            && ids.len() == 3
+            && is_window(&plan, 3, 1, 4_000, 5_000)
+            && is_window(&plan, 4, 3, 5_500, 5_750)
+            && is_window(&plan, 5, 5, 5_750, 7_500),
+    )
+}
+
+#[test]
+fn three_sites_share_two_bounds(rt: HostRuntime) {
+    assert!(rt; guards_three_sites(rt.alloc()) == Some(true));
+}
+
+// The second step starts no earlier than twenty seconds: a conflict, so nothing is added.
+fn guards_no_conflict(alloc: Global) -> Option<bool> {
+    let mut plan = two_steps(alloc)?;
+    let added = add(&mut plan, 0, 3, 20_000, 30_000);
+    let other = owned(2, 2)?;
+    let found = add_guard(&mut plan, &[other]).ok()?;
+    Some(added && found.is_none() && plan.records().known() == 3)
+}
+
+#[test]
+fn a_conflict_has_no_guard(rt: HostRuntime) {
+    assert!(rt; guards_no_conflict(rt.alloc()) == Some(true));
+}
+
+// The site's record of this counter, which another site held.
+fn late_record(alloc: Global, counter: u16) -> Option<Records<Global>> {
+    let least = Ms::new(0)?;
+    let most = Ms::new(1_000)?;
+    let bound = Bound::new(4, Event::origin(), Event::new(1)?, least, most).ok()?;
+    let site = Site::new(1)?;
+    let id = Id::new(site, counter)?;
+    let mut records = Records::new(alloc);
+    records.add(id, Mark::Plain, bound).ok()?;
+    Some(records)
+}
+
+// One record could still be made, and the guard has two.
+fn spends_no_counter(alloc: Global) -> Option<bool> {
+    let mut plan = two_steps(alloc)?;
+    let late = late_record(alloc, 65_534)?;
+    let taken = plan.take(&late).is_ok();
+    let other = owned(2, 2)?;
+    let refused = add_guard(&mut plan, &[other]) == Err(ReplicaFault::CounterSpent);
+    Some(taken && refused && plan.records().known() == 3)
+}
+
+#[test]
+fn a_guard_is_not_cut(rt: HostRuntime) {
+    assert!(rt; spends_no_counter(rt.alloc()) == Some(true));
+}
+
+// One id more could be known, and the guard has two.
+fn knows_no_more(alloc: Global) -> Option<bool> {
+    let mut plan = two_steps(alloc)?;
+    let mut added = true;
+    for _ in 0..4_093u16 {
+        added = added && add(&mut plan, 0, 4, 0, 30_000);
+    }
+    let other = owned(2, 2)?;
+    let refused = add_guard(&mut plan, &[other]) == Err(ReplicaFault::Full);
+    Some(added && refused && plan.records().known() == 4_095)
+}
+
+#[test]
+fn a_guard_wants_ids(rt: HostRuntime) {
+    assert!(rt; knows_no_more(rt.alloc()) == Some(true));
+}
+
+// The plan has two steps.
+fn has_no_third_step(alloc: Global) -> Option<bool> {
+    let mut plan = two_steps(alloc)?;
+    let other = owned(2, 3)?;
+    let refused = add_guard(&mut plan, &[other]) == Err(ReplicaFault::Bound(BoundFault::NoEvent));
+    Some(refused && plan.records().known() == 2)
+}
+
+#[test]
+fn a_step_beyond_the_plan(rt: HostRuntime) {
+    assert!(rt; has_no_third_step(rt.alloc()) == Some(true));
+}

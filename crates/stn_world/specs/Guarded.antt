@@ -1,0 +1,45 @@
+-- Worlds whose sites hold a guard, and act within what is their own.
+use Rattle.std.specs.Prelude.{◌≡◌, ℕ, true, ◌⊎◌, List, [], ⊤}
+use Rattle.stn_net.specs.Schedule.{HasSchedule}
+use Rattle.stn_records.specs.Content.{Content, Item, addition, withdrawal, replacement, HasItem, IsPart}
+use Rattle.stn_site.specs.Bounds.{all_bounds}
+use Rattle.stn_guard.specs.Owners.{is_own, own_bounds}
+use Rattle.stn_guard.specs.Guard.{Guards}
+use Rattle.stn_world.specs.World.{World, HasSite, content_at, packet_at}
+use Rattle.stn_world.specs.Steps.{Step, added, finished, amended, withdrew, merged, sent, delivered}
+
+-- the item is a record of a bound that is the own of the site that made it, one of the world
+abbrev pub IsOwnItem : (ℕ → ℕ) → World → Item → Type 0
+IsOwnItem owner world (addition id made) = HasSite world id.site × (is_own owner id.site made.bound ≡ true)
+IsOwnItem owner world (withdrawal id) = ⊥
+IsOwnItem owner world (replacement id old) = ⊥
+
+-- each item of the content is one of the state or such a record
+abbrev pub IsBesideOwn : (ℕ → ℕ) → World → Content → Content → Type 0
+IsBesideOwn owner world state content = (item : Item) → HasItem content item → HasItem state item ⊎ IsOwnItem owner world item
+
+-- each site holds the state, whose bounds are guarded, and what its sites and packets hold beside it are records of the sites' own bounds
+pub record HoldsGuarded (owner : ℕ → ℕ) (state : Content) (world : World) : Type 0 where
+  pub guarded : Guards owner (all_bounds world.source state) []
+  pub held : (site : ℕ) → HasSite world site → IsPart state (content_at world site)
+  pub sites : (site : ℕ) → IsBesideOwn owner world state (content_at world site)
+  pub packets : (number : ℕ) → IsBesideOwn owner world state (packet_at world number)
+
+-- a site that adds a bound or an execution does so within what is its own, and none amends or withdraws anything; what is merged, sent and
+-- delivered is free
+abbrev pub KeepsToOwn : (ℕ → ℕ) → Step → Type 0
+KeepsToOwn owner (added site bound) = is_own owner site bound ≡ true
+KeepsToOwn owner (finished site event time) = owner event ≡ site
+KeepsToOwn owner (amended site old bound) = ⊥
+KeepsToOwn owner (withdrew site id) = ⊥
+KeepsToOwn owner (merged site other) = ⊤
+KeepsToOwn owner (sent site part) = ⊤
+KeepsToOwn owner (delivered site number) = ⊤
+
+-- each site's own bounds, of all that it holds, have a schedule
+abbrev pub HaveOwnSchedules : (ℕ → ℕ) → World → Type 0
+HaveOwnSchedules owner world = (site : ℕ) → HasSite world site → HasSchedule (own_bounds owner site (all_bounds world.source (content_at world site)))
+
+-- all that each site holds has one
+abbrev pub HaveSchedules : World → Type 0
+HaveSchedules world = (site : ℕ) → HasSite world site → HasSchedule (all_bounds world.source (content_at world site))
