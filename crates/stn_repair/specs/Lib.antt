@@ -1,0 +1,5 @@
+pub mod Ranges
+pub mod Repairs
+pub mod Links
+pub mod Dropped
+pub mod Text
