@@ -14,8 +14,8 @@ use Rattle.stn_conflict.specs.declared.links.Side.{Side}
 use Rattle.stn_conflict.specs.declared.links.Side.TheVariants.{Upper, Lower}
 use Rattle.stn_conflict.specs.Arcs.{arc, arc_of, bound_at, IsChain, weight_of, IsNegativeCycle}
 use Rattle.stn_conflict.specs.Culprit.{IsRefusedSide, IsCulprit}
-use Rattle.stn_conflict.specs.Named.{IsWay, IsNamedCycle}
-use Rattle.stn_conflict.specs.Search.{IsCycleOf, IsWayOf}
+use Rattle.stn_conflict.specs.Named.{IsWay, IsWayOf, IsNamedCycle}
+use Rattle.stn_conflict.specs.Search.{IsCycleOf}
 use Rattle.stn_conflict.proofs.Tightness.{tightest_self, link_kept}
 use Rattle.stn_conflict.proofs.Between.{refused_lower}
 use Rattle.stn_conflict.proofs.OneCycle.{way_unique}

@@ -5,8 +5,7 @@ use Rattle.std.proofs.lemmas.Bool.{false≢true}
 use Rattle.stn_net.specs.Difference.{Difference}
 use Rattle.stn_net.specs.Schedule.{HasSchedule}
 use Rattle.stn_conflict.specs.declared.links.Cycle.{Cycle}
-use Rattle.stn_conflict.specs.declared.links.Way.{Way}
-use Rattle.stn_conflict.specs.Search.{IsCycleOf, IsWayOf}
+use Rattle.stn_conflict.specs.Search.{IsCycleOf}
 
 module _ {X E : Type 0} where
   found_some : (result : Result (Option X) E) (P : Type 0) (Q R : X → Type 0) → IfOk result (λ found. MatchOption found P Q) → ((x : X) → Q x → R x)
@@ -27,8 +26,3 @@ module _ {A E : Type 0} where
       → IfOk result (λ found. MatchOption found (HasSchedule bounds) (λ cycle. IsCycleOf bounds events cycle.links.items cycle.sum))
       → (R : Cycle A → Type 0) → ((cycle : Cycle A) → IsCycleOf bounds events cycle.links.items cycle.sum → R cycle) → IfOk result (λ found. IfSome found R)
   told_of_cycle bounds events result h R so = found_some result _ _ R h so
-
-  pub told_of_found_way : (bounds : List Difference) (from to count : ℕ) (result : Result (Option (Way A)) E)
-      → IfOk result (λ found. MatchOption found (¬ HasSchedule bounds) (λ way. IsWayOf bounds from to count way.links.items way.sum))
-      → (R : Way A → Type 0) → ((way : Way A) → IsWayOf bounds from to count way.links.items way.sum → R way) → IfOk result (λ found. IfSome found R)
-  told_of_found_way bounds from to count result h R so = found_some result _ _ R h so

@@ -15,7 +15,8 @@ use Rattle.stn_conflict.specs.Named.{IsLevel, IsStep, IsFirstStep, IsWay, IsName
 use Rattle.stn_conflict.proofs.Tightness.{schedule_before}
 use Rattle.stn_conflict.proofs.Chains.{IsPushedChain, chain-unpush, last_of}
 
-link_same : (p q : ℕ) (s t : Side) → p ≡ q → s ≡ t → (let one : Link = record { place = p; side = s } in let other : Link = record { place = q; side = t } in one ≡ other)
+-- links of one place and one side are equal
+pub link_same : (p q : ℕ) (s t : Side) → p ≡ q → s ≡ t → (let one : Link = record { place = p; side = s } in let other : Link = record { place = q; side = t } in one ≡ other)
 link_same p q s t e f = cc
 
 -- links of equal rank are equal

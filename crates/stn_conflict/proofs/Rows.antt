@@ -2,16 +2,22 @@
 use Rattle.std.proofs.Common.{◌≡◌, ◌≢◌, inl, inr, ℕ, zero, suc, ◌+◌, ◌-◌, ◌*◌, ◌<◌, List, [], ◌∷◌, ◌++◌, length, map, set, take, refl, sym, subst, ap, ◌∙◌, arith}
 use Rattle.std.specs.Prelude.{Vec, slice_index_or}
 use Rattle.std.specs.List.{Contains}
+use Rattle.std.specs.List.Sorted.{IsNonDecreasingBy}
 use Rattle.std.proofs.lemmas.Bool.{cases_eq, cases_lt}
 use Rattle.std.proofs.lemmas.List.{map-set, map-append, get_or-map, get_or_default, length-map, length-set, length-take, get_or-set_same, get_or-set_other, get_or_append_left, get_or-append_right}
 use Rattle.std.proofs.lemmas.List.Elements.{Contains-push, Contains-append_left, Contains-push_cases}
+use Rattle.std.proofs.lemmas.List.Sorted.{IsNonDecreasingBy-push, IsNonDecreasingBy-short}
 use Rattle.stn_net.specs.Difference.{Difference}
 use Rattle.stn_conflict.specs.declared.links.Link.{Link}
 use Rattle.stn_conflict.specs.Arcs.{Arc, arc_of, rank}
 use Rattle.stn_conflict.specs.Relaxation.{row_of, AreRows}
 use Rattle.stn_conflict.proofs.OneCycle.{rank_tells}
-use Rattle.stn_conflict.proofs.Steps.{rank_within}
+use Rattle.stn_conflict.proofs.Steps.{place_of_rank, rank_within}
 use Rattle.stn_conflict.proofs.Tightness.{arc_before}
+
+-- a link that is read from a row stands in it
+pub in_row : (row : List Link) (k : ℕ) (none : Link) → k < length row → Contains row (slice_index_or row k none)
+in_row row k none below = (k, below, get_or_default row k (slice_index_or row k none) none below)
 
 module _ {A : Type 0} where
   -- the links of each row
@@ -23,6 +29,8 @@ module _ {A : Type 0} where
     pub long : length rows ≡ count
     pub every : (link : Link) → rank link < seen → Contains (row_of rows (arc_of bounds link).from) link
     pub begin : (x : ℕ) (link : Link) → Contains (row_of rows x) link → (arc_of bounds link).from ≡ x
+    pub below : (x : ℕ) (link : Link) → Contains (row_of rows x) link → rank link < seen
+    pub ordered : (x : ℕ) → IsNonDecreasingBy (λ link. link.place) (row_of rows x)
 
   -- one more empty row
   pub rows_empty : (rows : List (Vec Link A)) (row : Vec Link A) → ((x : ℕ) → row_of rows x ≡ []) → row.items ≡ [] → (x : ℕ) → row_of (rows ++ row ∷ []) x ≡ []
@@ -43,6 +51,8 @@ module _ {A : Type 0} where
     long = long;
     every = λ link below. absurd (omega arith);
     begin = λ x link has. absurd (nothing link (subst (λ l. Contains l link) (none x) has));
+    below = λ x link has. absurd (nothing link (subst (λ l. Contains l link) (none x) has));
+    ordered = λ x. subst (IsNonDecreasingBy (λ link. link.place)) (sym (none x)) (IsNonDecreasingBy-short (λ link. link.place) [] (omega arith));
   }
     where
       nothing : (link : Link) → ¬ Contains [] link
@@ -77,6 +87,22 @@ module _ {A : Type 0} where
           ]
           | inr apart ↦ h.begin x other (subst (λ l. Contains l other) (others x apart) has)
         ];
+    below = λ x other has.
+        elim (cases_eq x from) [
+          | inl same ↦ elim (Contains-push_cases (row_of rows from) link other (subst (λ l. Contains l other) (ap (row_of (set rows from row)) same ∙ here) has)) [
+            | inl old ↦ omega (arith, h.below from other old)
+            | inr e ↦ omega (arith, ap rank e)
+          ]
+          | inr apart ↦ omega (arith, h.below x other (subst (λ l. Contains l other) (others x apart) has))
+        ];
+    ordered = λ x.
+        elim (cases_eq x from) [
+          | inl same ↦ subst (IsNonDecreasingBy (λ l. l.place)) (sym (ap (row_of (set rows from row)) same ∙ here))
+              (IsNonDecreasingBy-push (λ l. l.place) (row_of rows from) link (h.ordered from) (λ d some.
+              let last = slice_index_or (row_of rows from) (length (row_of rows from) - 1) d in
+              place_of_rank last link (omega (arith, h.below from last (in_row (row_of rows from) (length (row_of rows from) - 1) d (omega arith))))))
+          | inr apart ↦ subst (IsNonDecreasingBy (λ l. l.place)) (sym (others x apart)) (h.ordered x)
+        ];
   }
     where
       whole : lists (set rows from row) ≡ set (lists rows) from (row_of rows from ++ link ∷ [])
@@ -97,6 +123,7 @@ module _ {A : Type 0} where
     long = h.long;
     every = λ link there. h.every link (rank_within (length bounds) link there);
     begin = λ x link has there. h.begin x link has;
+    ordered = h.ordered;
   }
 
   -- the rows of bounds are those of the first of them, too
@@ -109,12 +136,9 @@ module _ {A : Type 0} where
     begin = λ x link has there.
         let e = arc_before bounds place link (omega (arith, there, length-take place bounds)) in
         ap (λ (a : Arc). a.from) e ∙ h.begin x link has (omega (arith, there, length-take place bounds));
+    ordered = h.ordered;
   }
 
   -- a row that is read
   pub row_is : (rows : List (Vec Link A)) (x : ℕ) (row : Vec Link A) → x < length rows → row ≡ slice_index_or rows x row → row_of rows x ≡ row.items
   row_is rows x row below is = get_or-map (λ (r : Vec Link A). r.items) rows x row [] below ∙ ap (λ (r : Vec Link A). r.items) (sym is)
-
--- a link that is read from a row stands in it
-pub in_row : (row : List Link) (k : ℕ) (none : Link) → k < length row → Contains row (slice_index_or row k none)
-in_row row k none below = (k, below, get_or_default row k (slice_index_or row k none) none below)

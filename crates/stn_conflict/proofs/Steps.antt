@@ -1,9 +1,8 @@
-use Rattle.std.proofs.Common.{◌≡◌, ◌≢◌, inl, inr, ℕ, zero, suc, ◌+◌, ◌*◌, ◌<◌, ◌≤◌, Option, Some, None, List, [], ◌∷◌, ◌++◌, length, eqb, eqb-true, eq-eqb, sym, subst, ap, refl, ◌∙◌, arith, to_z, of_z, w64}
-use Rattle.std.specs.Prelude.{ℤ, ◌+ℤ◌, IsTrue, reverse}
-use Rattle.std.specs.List.{AllByRecursion}
-use Rattle.std.specs.Option.{option_or}
-use Rattle.std.proofs.lemmas.List.{reverse-append}
-use Rattle.std.proofs.lemmas.Bool.{cases_eq}
+use Rattle.std.proofs.Common.{◌≡◌, ◌≢◌, inl, inr, ℕ, zero, suc, ◌+◌, ◌*◌, ◌<◌, ◌≤◌, Option, Some, List, [], ◌∷◌, ◌++◌, length, eqb, eqb-true, eq-eqb, sym, subst, ap, refl, ◌∙◌, arith, to_z, of_z, w64}
+use Rattle.std.specs.Prelude.{ℤ, ◌+ℤ◌, IsTrue, Vec, reverse, slice_index_or}
+use Rattle.std.specs.List.{AllByRecursion, Contains}
+use Rattle.std.proofs.lemmas.List.{get_or_default, reverse-append}
+use Rattle.std.proofs.lemmas.Bool.{cases_eq, cases_lt}
 use Rattle.std.proofs.lemmas.Int.{ints}
 use Rattle.stn_time.specs.Time.{IsWithinHorizon}
 use Rattle.stn_net.specs.Difference.{Difference}
@@ -11,11 +10,12 @@ use Rattle.stn_matrix.specs.Tightest.{IsTightest}
 use Rattle.stn_conflict.specs.declared.links.Link.{Link}
 use Rattle.stn_conflict.specs.declared.links.Side.{Side}
 use Rattle.stn_conflict.specs.declared.links.Side.TheVariants.{Upper, Lower}
-use Rattle.stn_conflict.specs.Arcs.{arc_of, rank, side_rank, IsChain}
+use Rattle.stn_conflict.specs.Arcs.{arc, arc_of, bound_at, rank, side_rank, IsChain}
 use Rattle.stn_conflict.specs.Named.{IsTight, IsLevel, IsStep, IsFirstStep}
-use Rattle.stn_conflict.specs.Search.{HasLevels, AreFirstSteps}
+use Rattle.stn_conflict.specs.Relaxation.{AreRows, row_of}
+use Rattle.stn_conflict.specs.Search.{other_side, across, HasLevels, HasNoStep, IsFirstStepTo}
 use Rattle.stn_conflict.proofs.Tightness.{tight_from_sum, sum_from_tight}
-use Rattle.stn_conflict.proofs.OneCycle.{rank_tells}
+use Rattle.stn_conflict.proofs.OneCycle.{link_same, level_unique}
 
 -- what a test of a sum of two times says
 pub sum_test : (m w n : ℤ) → IsWithinHorizon m → IsWithinHorizon w → IsWithinHorizon n
@@ -48,13 +48,17 @@ entries_from_step bounds start events levels link x y has from to step =
     let (level, low, high) = step.level in
     (level, ap levels from ∙ (has.level _ level).1 low, ap levels to ∙ (has.level _ (suc level)).1 high)
 
+side_low : (side : Side) → side_rank side ≤ 1
+side_low Upper = omega arith
+side_low Lower = omega arith
+
 -- the links of so many bounds have the first ranks
 pub rank_within : (count : ℕ) (link : Link) → link.place < count → rank link < 2 * count
 rank_within count link there = omega (arith, side_low link.side)
-  where
-    side_low : (side : Side) → side_rank side ≤ 1
-    side_low Upper = omega arith
-    side_low Lower = omega arith
+
+-- a link that stands before another is of no later bound
+pub place_of_rank : (one other : Link) → rank one ≤ rank other → one.place ≤ other.place
+place_of_rank one other before = omega (arith, side_low other.side)
 
 -- the start alone has the level 0
 level_zero : (bounds : List Difference) (start x : ℕ) → IsLevel bounds start x 0 → x ≡ start
@@ -66,76 +70,111 @@ level_zero bounds start x is =
     empty [] chain long = sym chain
     empty (link ∷ links) chain long = absurd (omega arith)
 
--- before any link is looked at no step is kept
-pub steps_none : (bounds : List Difference) (start : ℕ) (steps : ℕ → Option Link) → ((x : ℕ) → steps x ≡ None) → AreFirstSteps bounds start 0 steps
-steps_none bounds start steps none = record {
-  first = λ x link at. (let n = none x in absurd (cc));
-  none = λ x at link below. absurd (omega arith);
-}
-
--- a step is kept at its end where none is
-pub steps_keep : (bounds : List Difference) (start seen : ℕ) (steps kept : ℕ → Option Link) (link : Link) → rank link ≡ seen → IsStep bounds start link
-    → kept (arc_of bounds link).to ≡ option_or (steps (arc_of bounds link).to) (Some link) → ((x : ℕ) → x ≢ (arc_of bounds link).to → kept x ≡ steps x)
-    → AreFirstSteps bounds start seen steps → AreFirstSteps bounds start (seen + 1) kept
-steps_keep bounds start seen steps kept link at step here others h = record {
-  first = λ x one is.
-      elim (cases_eq x (arc_of bounds link).to) [
-        | inl same ↦ (let (first, ends) = at_end (steps (arc_of bounds link).to) refl one (sym here ∙ ap kept (sym same) ∙ is) in (first, ends ∙ sym same))
-        | inr differs ↦ h.first x one (sym (others x differs) ∙ is)
-      ];
-  none = λ x is other below ends other_step.
-      elim (cases_eq x (arc_of bounds link).to) [
-        | inl same ↦ never (steps (arc_of bounds link).to) (sym here ∙ ap kept (sym same) ∙ is)
-        | inr differs ↦ elim (cases_eq (rank other) seen) [
-          | inl equal ↦ differs (sym ends ∙ ap (λ l. (arc_of bounds l).to) (rank_tells other link (equal ∙ sym at)))
-          | inr less ↦ h.none x (sym (others x differs) ∙ is) other (omega arith) ends other_step
-        ]
-      ];
-}
+-- the link across begins where the link ends
+across_from : (bounds : List Difference) (link : Link) → (arc_of bounds (across link)).from ≡ (arc_of bounds link).to
+across_from bounds link = ends (bound_at bounds link.place) link.side
   where
-    at_end : (old : Option Link) → steps (arc_of bounds link).to ≡ old → (one : Link) → option_or old (Some link) ≡ Some one → IsFirstStep bounds start one × ((arc_of bounds one).to ≡ (arc_of bounds link).to)
-    at_end None was one is =
-        let e : link ≡ one = cc in
-        let first : IsFirstStep bounds start link = record { step = step; first = λ other below same. h.none _ was other (omega arith) same } in
-        (subst (IsFirstStep bounds start) e first, ap (λ l. (arc_of bounds l).to) (sym e))
-    at_end (Some old) was one is = h.first (arc_of bounds link).to one (was ∙ is)
+    ends : (bound : Difference) (side : Side) → (arc bound (other_side side)).from ≡ (arc bound side).to
+    ends bound Upper = refl
+    ends bound Lower = refl
 
-    never : (old : Option Link) → ¬ (option_or old (Some link) ≡ None)
-    never None is = cc
-    never (Some old) is = cc
+-- and ends where it begins
+across_to : (bounds : List Difference) (link : Link) → (arc_of bounds (across link)).to ≡ (arc_of bounds link).from
+across_to bounds link = ends (bound_at bounds link.place) link.side
+  where
+    ends : (bound : Difference) (side : Side) → (arc bound (other_side side)).to ≡ (arc bound side).from
+    ends bound Upper = refl
+    ends bound Lower = refl
 
--- a link that is no step changes nothing
-pub steps_pass : (bounds : List Difference) (start seen : ℕ) (steps : ℕ → Option Link) (link : Link) → rank link ≡ seen → ¬ IsStep bounds start link
-    → AreFirstSteps bounds start seen steps → AreFirstSteps bounds start (seen + 1) steps
-steps_pass bounds start seen steps link at apart h = record {
-  first = h.first;
-  none = λ x is other below ends step.
-      elim (cases_eq (rank other) seen) [
-        | inl equal ↦
-            let e : other ≡ link = rank_tells other link (equal ∙ sym at) in
-            apart (subst (IsStep bounds start) e step)
-        | inr less ↦ h.none x is other (omega arith) ends step
-      ];
-}
+-- across twice is back
+across_twice : (link : Link) → across (across link) ≡ link
+across_twice link = ap (λ side. record { place = link.place; side = side }) (twice link.side)
+  where
+    twice : (side : Side) → other_side (other_side side) ≡ side
+    twice Upper = refl
+    twice Lower = refl
 
--- the link is the first step to the event
-pub record IsStepBack (bounds : List Difference) (start : ℕ) (levels : ℕ → Option ℕ) (x : ℕ) (link : Link) : Type 0 where
-  pub first : IsFirstStep bounds start link
-  pub ends : (arc_of bounds link).to ≡ x
-  pub lower : (level : ℕ) × (levels (arc_of bounds link).from ≡ Some level) × (levels x ≡ Some (suc level))
+-- of the two links of a bound, that before the one across from a link is the link
+link_before_across : (one link : Link) → one.place ≡ link.place → rank one < rank (across link) → one ≡ link
+link_before_across one link place before = sides one.side link.side refl refl
+  where
+    sides : (s t : Side) → one.side ≡ s → link.side ≡ t → one ≡ link
+    sides Upper Upper p q = link_same one.place link.place one.side link.side place (p ∙ sym q)
+    sides Lower Lower p q = link_same one.place link.place one.side link.side place (p ∙ sym q)
+    sides Upper Lower p q = absurd (omega (arith, ap side_rank p, ap (λ s. side_rank (other_side s)) q))
+    sides Lower Upper p q = absurd (omega (arith, ap side_rank p, ap (λ s. side_rank (other_side s)) q))
 
--- the step that is kept of an event begins one level lower
-pub first_step_back : (bounds : List Difference) (start count seen : ℕ) (levels : ℕ → Option ℕ) (steps : ℕ → Option Link) (x : ℕ) (link : Link) → HasLevels bounds start count levels
-    → AreFirstSteps bounds start seen steps → steps x ≡ Some link → IsStepBack bounds start levels x link
-first_step_back bounds start count seen levels steps x link has h is =
-    let (first, ends) = h.first x link is in
-    let (level, low, high) = entries_from_step bounds start count levels link _ _ has refl refl first.step in
-    record { first = first; ends = ends; lower = (level, low, sym (ap levels ends) ∙ high) }
+-- a step ends at another event
+step_leaves : (bounds : List Difference) (start : ℕ) (link : Link) → IsStep bounds start link → (arc_of bounds link).from ≢ (arc_of bounds link).to
+step_leaves bounds start link step same =
+    let (level, low, high) = step.level in
+    absurd (omega (arith, level_unique bounds start _ level (suc level) low (subst (λ x. IsLevel bounds start x (suc level)) (sym same) high)))
+
+-- none of the first links of a row is across from a step
+abbrev pub ArePassed : List Difference → ℕ → List Link → ℕ → Type 0
+ArePassed bounds start row seen = (k : ℕ) (link : Link) → k < seen → slice_index_or row k link ≡ link → ¬ IsStep bounds start (across link)
+
+-- one more
+pub passed_more : (bounds : List Difference) (start seen : ℕ) (row : List Link) (link : Link) → seen < length row → slice_index_or row seen link ≡ link
+    → ¬ IsStep bounds start (across link) → ArePassed bounds start row seen → ArePassed bounds start row (seen + 1)
+passed_more bounds start seen row link there here none passed = λ k other below at.
+    elim (cases_eq k seen) [
+      | inl same ↦
+          let e : other ≡ link = sym at ∙ ap (λ n. slice_index_or row n other) same ∙ get_or_default row seen other link there ∙ here in
+          λ step. none (subst (λ l. IsStep bounds start (across l)) e step)
+      | inr differs ↦ passed k other (omega arith) at
+    ]
+
+module _ {A : Type 0} where
+  -- a link that ends at an event stands in the event's row, across
+  across_in_row : (bounds : List Difference) (count event : ℕ) (rows : List (Vec Link A)) (link : Link) → AreRows bounds count rows → link.place < length bounds
+      → (arc_of bounds link).to ≡ event → Contains (row_of rows event) (across link)
+  across_in_row bounds count event rows link h there ends =
+      subst (λ x. Contains (row_of rows x) (across link)) (across_from bounds link ∙ ends) (h.every (across link) there)
+
+  -- the first link of an event's row that is across from a step is across from the first step to the event
+  pub first_in_row : (bounds : List Difference) (start count event seen : ℕ) (rows : List (Vec Link A)) (link : Link) → AreRows bounds count rows → seen < length (row_of rows event)
+      → slice_index_or (row_of rows event) seen link ≡ link → ArePassed bounds start (row_of rows event) seen → IsStep bounds start (across link)
+      → IsFirstStepTo bounds start event (across link)
+  first_in_row bounds start count event seen rows link h there here passed step =
+      let row = row_of rows event in
+      let begins : (arc_of bounds link).from ≡ event = h.begin event link (seen, there, here) step.tight.there in
+      let ends : (arc_of bounds (across link)).to ≡ event = across_to bounds link ∙ begins in
+      record {
+        ends = ends;
+        first = record {
+          step = step;
+          first = λ other before same other_step.
+              let (k, within, at) = across_in_row bounds count event rows other h other_step.tight.there (same ∙ ends) in
+              elim (cases_lt k seen) [
+                | inl earlier ↦ passed k (across other) earlier at (subst (IsStep bounds start) (sym (across_twice other)) other_step)
+                | inr later ↦
+                    let found : slice_index_or row k link ≡ across other = get_or_default row k link (across other) within ∙ at in
+                    let order = h.ordered event seen k link later within in
+                    let place : other.place ≡ link.place = omega (arith, place_of_rank other (across link) (omega arith), order, ap (λ l. l.place) here, ap (λ l. l.place) found) in
+                    let e : other ≡ link = link_before_across other link place before in
+                    step_leaves bounds start (across link) step (across_from bounds link ∙ sym (ap (λ l. (arc_of bounds l).to) e) ∙ same)
+              ];
+        };
+      }
+
+  -- where no link of an event's row is across from a step, none leads to the event
+  pub none_in_row : (bounds : List Difference) (start count event seen : ℕ) (rows : List (Vec Link A)) → AreRows bounds count rows → length (row_of rows event) ≤ seen
+      → ArePassed bounds start (row_of rows event) seen → HasNoStep bounds start event
+  none_in_row bounds start count event seen rows h all passed = λ link ends step.
+      let (k, within, at) = across_in_row bounds count event rows link h step.tight.there ends in
+      passed k (across link) (omega arith) at (subst (IsStep bounds start) (sym (across_twice link)) step)
+
+-- a step to an event begins one level lower
+pub lower_by_one : (bounds : List Difference) (start count x : ℕ) (levels : ℕ → Option ℕ) (link : Link) → HasLevels bounds start count levels
+    → IsFirstStepTo bounds start x link → (level : ℕ) × (levels (arc_of bounds link).from ≡ Some level) × (levels x ≡ Some (suc level))
+lower_by_one bounds start count x levels link has h =
+    let (level, low, high) = entries_from_step bounds start count levels link _ _ has refl refl h.first.step in
+    (level, low, sym (ap levels h.ends) ∙ high)
 
 -- the start alone has no step
-pub at_start : (bounds : List Difference) (start count : ℕ) (levels : ℕ → Option ℕ) (steps : ℕ → Option Link) (x : ℕ) → HasLevels bounds start count levels
-    → AreFirstSteps bounds start (2 * length bounds) steps → x < count → steps x ≡ None → x ≡ start
-at_start bounds start count levels steps x has h within is =
+pub at_start : (bounds : List Difference) (start count x : ℕ) (levels : ℕ → Option ℕ) → HasLevels bounds start count levels → HasNoStep bounds start x → x < count → x ≡ start
+at_start bounds start count x levels has none within =
     let (level, at) = has.every x within in
     by_level level at
   where
@@ -143,8 +182,7 @@ at_start bounds start count levels steps x has h within is =
     by_level zero at = level_zero bounds start x ((has.level x 0).0 at)
     by_level (suc level) at =
         let (link, tight, ends, from) = has.back x level at in
-        let step = step_from_entries bounds start count levels link _ _ has refl refl tight (level, from, ap levels ends ∙ at) in
-        absurd (h.none x is link (rank_within (length bounds) link tight.there) ends step)
+        absurd (none link ends (step_from_entries bounds start count levels link _ _ has refl refl tight (level, from, ap levels ends ∙ at)))
 
 -- a first step added before a way to its end
 pub chain_before_way : (bounds : List Difference) (start here x : ℕ) (links : List Link) (link : Link) → IsFirstStep bounds start link → (arc_of bounds link).to ≡ here → IsChain bounds (reverse links) here x → AllByRecursion (IsFirstStep bounds start) (reverse links) → IsChain bounds (reverse (links ++ link ∷ [])) (arc_of bounds link).from x × AllByRecursion (IsFirstStep bounds start) (reverse (links ++ link ∷ []))

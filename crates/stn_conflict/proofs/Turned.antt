@@ -71,6 +71,7 @@ rows_turned bounds count rows h =
       begin = λ x link has there.
           let there' : link.place < length bounds = omega (arith, long) in
           begins_turned bounds link there' ∙ h.begin x link has there';
+      ordered = h.ordered;
     }
 
 -- the tightest difference of two events over turned bounds is that from the second to the first

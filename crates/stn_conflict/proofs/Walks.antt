@@ -129,7 +129,7 @@ count_marked levels x k there none =
     omega (arith, e, ap count none)
 
 -- a table that is made of nothing has nothing
-pub none_in_replicate : {X : Type 0} (table : List (Option X)) (n : ℕ) → table ≡ replicate n None → (x : ℕ) → slice_index_or table x None ≡ None
+none_in_replicate : {X : Type 0} (table : List (Option X)) (n : ℕ) → table ≡ replicate n None → (x : ℕ) → slice_index_or table x None ≡ None
 none_in_replicate {X} table n e x =
     elim (cases_lt x n) [
       | inl below ↦ ap (λ l. slice_index_or l x None) e ∙ get_or-replicate n x None None below

@@ -1,9 +1,10 @@
-use Rattle.std.specs.Prelude.{◌≡◌, ℕ, ℤ, suc, ◌<◌, ◌≤◌, ◌+ℤ◌, List, [], ◌∷◌, length, take}
+use Rattle.std.specs.Prelude.{◌≡◌, ℕ, ℤ, suc, ◌<◌, ◌≤◌, ◌+ℤ◌, List, [], ◌∷◌, length, take, All}
 use Rattle.std.specs.List.{AllByRecursion}
+use Rattle.stn_time.specs.Time.{IsWithinHorizon}
 use Rattle.stn_net.specs.Difference.{Difference}
 use Rattle.stn_matrix.specs.Tightest.{IsTightest}
 use Rattle.stn_conflict.specs.declared.links.Link.{Link}
-use Rattle.stn_conflict.specs.Arcs.{arc_of, rank, IsChain}
+use Rattle.stn_conflict.specs.Arcs.{arc_of, rank, weight_of, IsChain}
 use Rattle.stn_conflict.specs.Culprit.{IsCulprit}
 
 -- the link's end can be as far after `start` as the link allows when its beginning is as far as it can be
@@ -38,6 +39,16 @@ pub record IsFirstStep (bounds : List Difference) (start : ℕ) (link : Link) : 
 pub record IsWay (bounds : List Difference) (start x : ℕ) (links : List Link) : Type 0 where
   pub chain : IsChain bounds links start x
   pub first : AllByRecursion (IsFirstStep bounds start) links
+
+-- the way from `start` to x, with its sum, where there are so many events with the origin
+pub record IsWayOf (bounds : List Difference) (start x count : ℕ) (links : List Link) (sum : ℤ) : Type 0 where
+  pub way : IsWay bounds start x links
+  pub sum_is : sum ≡ weight_of bounds links
+  pub tightest : IsTightest bounds start x sum
+  pub within : IsWithinHorizon sum
+  pub places : All (λ link. link.place < length bounds) links
+  pub short : length links < count
+  pub empty : start ≡ x → length links ≡ 0
 
 -- the culprit's link, and then the way from its end to its beginning over the bounds before the culprit
 abbrev pub IsNamedCycle : List Difference → List Link → Type 0

@@ -1,5 +1,6 @@
 -- For proofs alone: no public clause cites these words.
 use Rattle.std.specs.Prelude.{◌≡◌, ℕ, ℤ, pos, neg_ℤ, ◌+ℤ◌, ◌-ℤ◌, ◌≤ℤ◌, ◌<◌, ◌≤◌, ◌+◌, Bool, true, false, List, [], length, map, All, Contains, Vec, slice_index_or, sum_by, unsigned_abs}
+use Rattle.std.specs.List.Sorted.{IsNonDecreasingBy}
 use Rattle.stn_time.specs.Time.{horizon}
 use Rattle.stn_net.specs.Event.{most_events}
 use Rattle.stn_net.specs.Difference.{Difference, NamesEvents}
@@ -85,8 +86,10 @@ IsArcTo bounds to from weight = (link : Link) × (link.place < length bounds) ×
 abbrev pub row_of : {A : Type 0} → List (Vec Link A) → ℕ → List Link
 row_of rows place = slice_index_or (map (λ row. row.items) rows) place []
 
--- there is a row for each of so many events; each link of the bounds stands in the row of the event at which it begins, and in no other
+-- there is a row for each of so many events; each link of the bounds stands in the row of the event at which it begins, and in no other,
+-- and those of each row stand in the order of their bounds
 pub record AreRows {A : Type 0} (bounds : List Difference) (count : ℕ) (rows : List (Vec Link A)) : Type 0 where
   pub long : length rows ≡ count
   pub every : (link : Link) → link.place < length bounds → Contains (row_of rows (arc_of bounds link).from) link
   pub begin : (x : ℕ) (link : Link) → Contains (row_of rows x) link → link.place < length bounds → (arc_of bounds link).from ≡ x
+  pub ordered : (x : ℕ) → IsNonDecreasingBy (λ link. link.place) (row_of rows x)

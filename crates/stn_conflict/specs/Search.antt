@@ -1,13 +1,14 @@
 -- For proofs alone: no public clause cites these words.
 use Rattle.std.specs.Prelude.{◌≡◌, ℕ, ℤ, pos, neg_ℤ, ◌*ℤ◌, ◌≤ℤ◌, suc, ◌+◌, ◌<◌, ◌≤◌, ◌↔◌, List, length, take, All, Option, Some, None, is_some, count_by, slice_index_or}
-use Rattle.stn_time.specs.Time.{horizon, IsWithinHorizon}
+use Rattle.stn_time.specs.Time.{horizon}
 use Rattle.stn_net.specs.Difference.{Difference}
 use Rattle.stn_net.specs.Schedule.{HasSchedule}
-use Rattle.stn_matrix.specs.Tightest.{IsTightest}
 use Rattle.stn_conflict.specs.declared.levels.Walk.{Walk}
 use Rattle.stn_conflict.specs.declared.links.Link.{Link}
-use Rattle.stn_conflict.specs.Arcs.{arc_of, rank, weight_of, IsNegativeCycle}
-use Rattle.stn_conflict.specs.Named.{IsTight, IsLevel, IsStep, IsFirstStep, IsWay, IsNamedCycle}
+use Rattle.stn_conflict.specs.declared.links.Side.{Side}
+use Rattle.stn_conflict.specs.declared.links.Side.TheVariants.{Upper, Lower}
+use Rattle.stn_conflict.specs.Arcs.{arc_of, weight_of, IsNegativeCycle}
+use Rattle.stn_conflict.specs.Named.{IsTight, IsLevel, IsStep, IsFirstStep, IsNamedCycle}
 
 -- the level that a table has of an event, if it has one yet
 abbrev pub level_at : List (Option ℕ) → ℕ → Option ℕ
@@ -59,14 +60,23 @@ pub record AreLevels (bounds : List Difference) (start count : ℕ) (table : Lis
   pub whole : length table ≡ count
   pub levels : HasLevels bounds start count (level_at table)
 
--- the link that a table keeps for an event, if there is one
-abbrev pub link_of : List (Option Link) → ℕ → Option Link
-link_of steps event = slice_index_or steps event None
+-- the other side of a bound
+abbrev pub other_side : Side → Side
+other_side Upper = Lower
+other_side Lower = Upper
 
--- the first step to each event, among the first so many links: the steps that are kept are such, and where none is kept there is none
-pub record AreFirstSteps (bounds : List Difference) (start seen : ℕ) (steps : ℕ → Option Link) : Type 0 where
-  pub first : (x : ℕ) (link : Link) → steps x ≡ Some link → IsFirstStep bounds start link × ((arc_of bounds link).to ≡ x)
-  pub none : (x : ℕ) → steps x ≡ None → (link : Link) → rank link < seen → (arc_of bounds link).to ≡ x → ¬ IsStep bounds start link
+-- the link of the other side of the bound
+abbrev pub across : Link → Link
+across link = record { place = link.place; side = other_side link.side }
+
+-- no step leads to the event
+abbrev pub HasNoStep : List Difference → ℕ → ℕ → Type 0
+HasNoStep bounds start event = (link : Link) → (arc_of bounds link).to ≡ event → ¬ IsStep bounds start link
+
+-- the link is the first step to the event
+pub record IsFirstStepTo (bounds : List Difference) (start event : ℕ) (link : Link) : Type 0 where
+  pub first : IsFirstStep bounds start link
+  pub ends : (arc_of bounds link).to ≡ event
 
 -- the bounds have a schedule before this place, and none with the bound at it
 pub record IsFirstRefused (bounds : List Difference) (events place : ℕ) : Type 0 where
@@ -83,13 +93,3 @@ pub record IsCycleOf (bounds : List Difference) (events : ℕ) (links : List Lin
   pub least : neg_ℤ (pos 2 *ℤ horizon) ≤ℤ sum
   pub places : All (λ link. link.place < length bounds) links
   pub short : length links ≤ events + 1
-
--- the way from `start` to x, with its sum, where there are so many events with the origin
-pub record IsWayOf (bounds : List Difference) (start x count : ℕ) (links : List Link) (sum : ℤ) : Type 0 where
-  pub way : IsWay bounds start x links
-  pub sum_is : sum ≡ weight_of bounds links
-  pub tightest : IsTightest bounds start x sum
-  pub within : IsWithinHorizon sum
-  pub places : All (λ link. link.place < length bounds) links
-  pub short : length links < count
-  pub empty : start ≡ x → length links ≡ 0

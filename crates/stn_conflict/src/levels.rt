@@ -1,11 +1,11 @@
-ghost use Rattle.std.specs.Prelude.{◌≡◌, ◌+◌, ◌*◌, ◌<◌, ◌≤◌, ◌↔◌, length, IsTrue, IfOk, OnOk};
+ghost use Rattle.std.specs.Prelude.{◌≡◌, ◌+◌, ◌<◌, ◌≤◌, ◌↔◌, length, IsTrue, IfOk, OnOk, MatchOption};
 ghost use Rattle.stn_net.specs.Event.{most_events};
 ghost use Rattle.stn_conflict.specs.Relaxation.{AreDistances, AreRows};
 ghost use Rattle.stn_conflict.specs.Named.{IsTight, IsStep};
-ghost use Rattle.stn_conflict.specs.Search.{level_at, link_of, LeadsOn, IsWalkOf, AreFirstSteps, AreLevels};
+ghost use Rattle.stn_conflict.specs.Search.{level_at, LeadsOn, IsWalkOf, AreLevels, HasNoStep, IsFirstStepTo};
 
 use crate::links::Link;
-use crate::listed::{Listed, link_at};
+use crate::listed::{Listed, across};
 use std::alloc::Allocator;
 use stn_net::Event;
 use stn_time::{Memory, Ms};
@@ -123,27 +123,27 @@ fn is_step(
     begin + 1 == end && is_tight(bounds, far, start, link)
 }
 
-// The first step to each event, where there is one.
-pub(crate) fn first_steps<A: Allocator + Copy>(
-    alloc: A,
+// The first step to an event: the links that end at it are those of its row with the other side of their bounds, in the row's order.
+pub(crate) fn first_step<A: Allocator>(
     bounds: &Listed<'_>,
+    outgoing: &[Vec<Link, A>],
     far: &[Ms],
     start: Event,
     levels: &[Option<u16>],
-) -> Result<Vec<Option<Link>, A>, Memory>
+    event: Event,
+) -> Option<Link>
     requires far { AreDistances bounds.now start far.now }
     requires few { length far.now ≤ most_events + 1 }
+    requires rows { AreRows bounds.now (length far.now) outgoing.now }
     requires levels { AreLevels bounds.now start (length far.now) levels.now }
-    ensures long { IfOk result (λ steps. length steps.items ≡ length far.now) }
-    ensures first { IfOk result (λ steps. AreFirstSteps bounds.now start (2 * length bounds.now) (link_of steps.items)) }
+    requires event { event < length far.now }
+    ensures { MatchOption result (HasNoStep bounds.now start event) (IsFirstStepTo bounds.now start event) }
 {
-    let mut steps = vec![in alloc; None; far.len()]?;
-    for index in 0..bounds.links() {
-        let link = link_at(index);
-        if is_step(bounds, far, start, levels, link) {
-            let end = usize::from(bounds.arc(link).to.number());
-            steps[end] = steps[end].or(Some(link));
+    for link in &outgoing[usize::from(event.number())] {
+        let into = across(*link);
+        if into.place < bounds.len() && is_step(bounds, far, start, levels, into) {
+            return Some(into);
         }
     }
-    Ok(steps)
+    None
 }

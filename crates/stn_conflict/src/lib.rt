@@ -3,11 +3,12 @@
 #![tactic(auto)]
 
 pub use links::{
-    Cycle, Distances, Link, Side, Way, negative_cycle_is_conflict, one_named_cycle, one_way,
+    BothWays, Cycle, Distances, Link, Side, Way, negative_cycle_is_conflict, one_named_cycle,
+    one_way,
 };
 pub use reach::distances;
 pub use search::cycle;
-pub use ways::way;
+pub use ways::both_ways;
 
 mod levels;
 mod links;

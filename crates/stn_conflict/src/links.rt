@@ -45,6 +45,15 @@ pub struct Way<A: Allocator> {
     pub sum: i64,
 }
 
+/// The ways between two events.
+#[derive(Drop)]
+pub struct BothWays<A: Allocator> {
+    /// The way from the one to the other.
+    pub onward: Way<A>,
+    /// The way from the other to the one.
+    pub back: Way<A>,
+}
+
 /// The tightest differences between one event and each of a plan's events, the origin first.
 #[derive(Drop)]
 pub struct Distances<A: Allocator> {

@@ -1,6 +1,7 @@
 ghost use Rattle.std.specs.Prelude.{◌≡◌, ◌*◌, ◌<◌, ◌≤◌, ◌≤ℤ◌, ◌++◌, length, take};
 ghost use Rattle.stn_conflict.specs.Arcs.{arc_of, bound_at, rank};
 ghost use Rattle.stn_conflict.specs.Directions.{faced, facing};
+ghost use Rattle.stn_conflict.specs.Search.{across};
 
 use crate::links::{Link, Side};
 use std::marker::Model;
@@ -151,6 +152,20 @@ pub(crate) fn link_at(index: usize) -> Link
     };
     Link {
         place: index / 2,
+        side,
+    }
+}
+
+// The link of the other side of the bound: it begins where the link ends, and ends where it begins.
+pub(crate) fn across(link: Link) -> Link
+    ensures { result ≡ across link }
+{
+    let side = match link.side {
+        Side::Upper => Side::Lower,
+        Side::Lower => Side::Upper,
+    };
+    Link {
+        place: link.place,
         side,
     }
 }

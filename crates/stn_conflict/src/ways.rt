@@ -1,35 +1,31 @@
 ghost use Rattle.std.specs.Prelude.{◌≡◌, ◌+◌, ◌<◌, ◌≤◌, ◌↔◌, ◌++◌, length, take, reverse, All, IsNone, IfOk, IfSome, MatchOption};
-ghost use Rattle.stn_time.specs.Time.{IsWithinHorizon};
 ghost use Rattle.stn_net.specs.Event.{most_events};
 ghost use Rattle.stn_net.specs.Difference.{NamesEvents};
 ghost use Rattle.stn_net.specs.Schedule.{HasSchedule};
 ghost use Rattle.stn_net.specs.Horizon.{horizon_bounds};
-ghost use Rattle.stn_matrix.specs.Tightest.{IsTightest};
-ghost use Rattle.stn_conflict.specs.Arcs.{weight_of};
 ghost use Rattle.stn_conflict.specs.Relaxation.{AreDistances, AreRows, IsNetwork};
-ghost use Rattle.stn_conflict.specs.Named.{IsWay};
-ghost use Rattle.stn_conflict.specs.Search.{IsWayOf};
+ghost use Rattle.stn_conflict.specs.Named.{IsWay, IsWayOf};
 
-use crate::levels::{first_steps, levels_from};
-use crate::links::{Link, Way};
+use crate::levels::{first_step, levels_from};
+use crate::links::{BothWays, Link, Way};
 use crate::listed::{Direction, Listed};
 use crate::relaxation::{Search, outgoing_links};
 use std::alloc::Allocator;
 use stn_net::{Bound, Event};
 use stn_time::{Memory, Ms};
 
-/// The way from one event to another over the bounds of `base` followed by those of `extra`, with places
-/// counted from 0 through both: the sides of bounds that let `to` come at most `sum` after `from`; none exactly
-/// where these bounds have no schedule. There are so many `events` beside the origin, `base` begins with their
-/// horizon bounds, and all bounds are about them. It fails only if memory runs out.
-pub fn way<A: Allocator + Copy>(
+/// The ways from one event to another and back, over the bounds of `base` followed by those of `extra`, with places
+/// counted from 0 through both: the sides of bounds that let `to` come at most so long after `from`, and `from` after
+/// `to`; none exactly where these bounds have no schedule. There are so many `events` beside the origin, `base` begins
+/// with their horizon bounds, and all bounds are about them. It fails only if memory runs out.
+pub fn both_ways<A: Allocator + Copy>(
     alloc: A,
     events: u16,
     base: &[Bound],
     extra: &[Bound],
     from: Event,
     to: Event,
-) -> Result<Option<Way<A>>, Memory>
+) -> Result<Option<BothWays<A>>, Memory>
     requires few { events ≤ most_events }
     requires begins { take events base.now ≡ horizon_bounds events }
     requires base_named { All (NamesEvents events) base.now }
@@ -37,40 +33,43 @@ pub fn way<A: Allocator + Copy>(
     requires from { from ≤ events }
     requires to { to ≤ events }
     ensures none { IfOk result (λ found. IsNone found ↔ ¬ HasSchedule (base.now ++ extra.now)) }
-    ensures way { IfOk result (λ found. IfSome found (λ way. IsWay (base.now ++ extra.now) from to way.links.items)) }
-    ensures sum { IfOk result (λ found. IfSome found
-        (λ way. way.sum ≡ weight_of (base.now ++ extra.now) way.links.items)) }
-    ensures tightest { IfOk result (λ found. IfSome found (λ way. IsTightest (base.now ++ extra.now) from to way.sum)) }
-    ensures within { IfOk result (λ found. IfSome found (λ way. IsWithinHorizon way.sum)) }
-    ensures places { IfOk result (λ found. IfSome found
-        (λ way. All (λ link. link.place < length (base.now ++ extra.now)) way.links.items)) }
-    ensures short { IfOk result (λ found. IfSome found (λ way. length way.links.items ≤ events)) }
-    ensures empty { IfOk result (λ found. IfSome found (λ way. from ≡ to → length way.links.items ≡ 0)) }
+    ensures onward { IfOk result (λ found. IfSome found
+        (λ both. IsWayOf (base.now ++ extra.now) from to (events + 1) both.onward.links.items both.onward.sum)) }
+    ensures back { IfOk result (λ found. IfSome found
+        (λ both. IsWayOf (base.now ++ extra.now) to from (events + 1) both.back.links.items both.back.sum)) }
 {
     let bounds = Listed::new(Direction::Forward, base, extra);
-    way_over(alloc, events, &bounds, from, to)
+    let outgoing = outgoing_links(alloc, events, &bounds)?;
+    let Some(onward) = way(alloc, events, &bounds, &outgoing, from, to)? else {
+        return Ok(None);
+    };
+    let Some(back) = way(alloc, events, &bounds, &outgoing, to, from)? else {
+        return Ok(None);
+    };
+    Ok(Some(BothWays { onward, back }))
 }
 
 // The way over the bounds, or none where they have no schedule.
-fn way_over<A: Allocator + Copy>(
+fn way<A: Allocator + Copy>(
     alloc: A,
     events: u16,
     bounds: &Listed<'_>,
+    outgoing: &[Vec<Link, A>],
     from: Event,
     to: Event,
 ) -> Result<Option<Way<A>>, Memory>
     requires few { events ≤ most_events }
     requires network { IsNetwork events bounds.now }
+    requires rows { AreRows bounds.now (events + 1) outgoing.now }
     requires from { from ≤ events }
     requires to { to ≤ events }
     ensures { IfOk result (λ found. MatchOption found (¬ HasSchedule bounds.now)
         (λ way. IsWayOf bounds.now from to (events + 1) way.links.items way.sum)) }
 {
-    let outgoing = outgoing_links(alloc, events, bounds)?;
     let mut search = Search::new(alloc, usize::from(events) + 1)?;
     search.begin(from);
-    if search.settle(bounds, &outgoing) {
-        Ok(Some(way_to(alloc, bounds, &outgoing, &search.far, from, to)?))
+    if search.settle(bounds, outgoing) {
+        Ok(Some(way_to(alloc, bounds, outgoing, &search.far, from, to)?))
     } else {
         Ok(None)
     }
@@ -116,10 +115,9 @@ pub(crate) fn way_back<A: Allocator + Copy>(
     ensures short { IfOk result (λ links. length links.items < length far.now) }
 {
     let levels = levels_from(alloc, bounds, outgoing, far, start)?;
-    let steps = first_steps(alloc, bounds, far, start, &levels)?;
     let mut links = Vec::new(alloc);
     let mut here = end;
-    while let Some(link) = steps[usize::from(here.number())] {
+    while let Some(link) = first_step(bounds, outgoing, far, start, &levels, here) {
         links.push(link)?;
         here = bounds.arc(link).from;
     }

@@ -1,14 +1,15 @@
 -- What `why` prints.
-use Rattle.std.specs.Prelude.{◌≡◌, ◌⊎◌, ℕ, ℤ, neg_ℤ, List, ◌++◌, codes}
+use Rattle.std.specs.Prelude.{◌≡◌, ◌⊎◌, ℕ, ℤ, neg_ℤ, ◌+◌, List, ◌++◌, codes}
 use Rattle.std.specs.List.{flat_map}
 use Rattle.stn_time.specs.Text.{printed}
 use Rattle.stn_net.specs.Schedule.{HasSchedule}
 use Rattle.stn_windows.specs.Window.{IsWindow}
-use Rattle.stn_lift.specs.PlanSource.{PlanSource, base_bounds}
+use Rattle.stn_lift.specs.PlanSource.{PlanSource, base_bounds, events_of}
 use Rattle.stn_records.specs.Content.{Content}
 use Rattle.stn_conflict.specs.declared.links.Link.{Link}
+use Rattle.stn_conflict.specs.declared.links.BothWays.{BothWays}
 use Rattle.stn_conflict.specs.Arcs.{weight_of}
-use Rattle.stn_conflict.specs.Named.{IsWay}
+use Rattle.stn_conflict.specs.Named.{IsWay, IsWayOf}
 use Rattle.stn_site.specs.Bounds.{all_bounds, live_bounds}
 use Rattle.stn_site.specs.Names.{live_ids}
 use Rattle.stn_site.specs.Lines.{line, window_line, link_line}
@@ -18,6 +19,11 @@ use Rattle.stn_site.specs.Report.{is_done, IsConflictPart}
 abbrev pub end_text : PlanSource → Content → List ℕ → ℤ → List Link → List ℕ
 end_text source state word time links =
     line (word ++ codes " " ++ printed time) ++ flat_map (link_line (base_bounds source) (live_ids state) (live_bounds state)) links
+
+-- the ways between an event and the origin, which hold the ends of the event's window
+pub record HoldEnds {A : Type 0} (source : PlanSource) (state : Content) (event : ℕ) (ends : BothWays A) : Type 0 where
+  pub onward : IsWayOf (all_bounds source state) event 0 (events_of source + 1) ends.onward.links.items ends.onward.sum
+  pub back : IsWayOf (all_bounds source state) 0 event (events_of source + 1) ends.back.links.items ends.back.sum
 
 -- the text is the line of the event's window, and then for each end of it the way of bounds that holds it: the negated sum of the way
 -- from the event to the origin is the earliest time, and the sum of the way from the origin to the event the latest

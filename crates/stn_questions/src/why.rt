@@ -1,21 +1,16 @@
-ghost use Rattle.std.specs.Prelude.{◌≡◌, ◌↔◌, ◌<◌, ◌≤◌, ◌++◌, ℕ, List, codes, IfOk, IfErr, OnOk, OnErr, IsErrOf};
+ghost use Rattle.std.specs.Prelude.{◌≡◌, ◌↔◌, ◌<◌, ◌≤◌, ◌++◌, ℕ, List, length, codes, All, IfOk, OnOk, OnErr, IsErrOf, MatchOption};
 ghost use Rattle.std.specs.List.{flat_map};
 ghost use Rattle.stn_time.specs.Text.{printed};
 ghost use Rattle.stn_net.specs.Schedule.{HasSchedule};
-ghost use Rattle.stn_matrix.specs.Tightest.{IsTightest};
-ghost use Rattle.stn_windows.specs.Window.{IsWindow};
 ghost use Rattle.stn_lift.specs.PlanSource.{events_of, base_bounds};
-ghost use Rattle.stn_conflict.specs.declared.links.Link.{Link};
-ghost use Rattle.stn_conflict.specs.Arcs.{weight_of};
-ghost use Rattle.stn_conflict.specs.Named.{IsWay};
 ghost use Rattle.stn_site.specs.Bounds.{all_bounds, live_bounds};
 ghost use Rattle.stn_site.specs.Names.{live_ids};
 ghost use Rattle.stn_site.specs.Lines.{line, link_line};
-ghost use Rattle.stn_questions.specs.Why.{IsWhyPart, IsWhyText};
+ghost use Rattle.stn_questions.specs.Why.{HoldEnds, IsWhyPart, IsWhyText};
 ghost use Rattle.stn_questions.specs.declared.why.WhyFault.TheVariants.{Memory as want_of_memory};
 
 use std::alloc::{AllocError, Allocator};
-use stn_conflict::way;
+use stn_conflict::{BothWays, Link, both_ways};
 use stn_net::Event;
 use stn_site::{SitePlan, append_link_lines, append_window_line};
 use stn_time::{Memory, Ms};
@@ -73,35 +68,57 @@ fn append_why<A: Allocator + Copy, B: Allocator>(
     ensures printed { OnOk result ((text : List ℕ) × IsWhyText plan.now.source plan.now.state event text × (out.new.items ≡ out.old.items ++ text)) }
     ensures kept { OnErr result (out.new.items ≡ out.old.items) }
 {
-    match plan.windows()? {
-        Some(windows) => {
-            let window = windows[usize::from(event.number())];
-            let text = text_of(plan, event, window)?;
+    match ends_of(plan, event)? {
+        Some(ends) => {
+            let text = text_of(plan, event, &ends)?;
             out.extend_from_slice(&text)
         }
         None => plan.report_conflict(out),
     }
 }
 
+// The ways that hold the ends of an event's window: from the event to the origin, and back; none where all bounds have no schedule.
+fn ends_of<A: Allocator + Copy>(
+    plan: &SitePlan<A>,
+    event: Event,
+) -> Result<Option<BothWays<A>>, Memory>
+    requires { event ≤ events_of plan.now.source }
+    ensures { IfOk result (λ found. MatchOption found (¬ HasSchedule (all_bounds plan.now.source plan.now.state))
+        (HoldEnds plan.now.source plan.now.state event)) }
+{
+    let live = plan.live_bounds()?;
+    let base = plan.base();
+    let origin = Event::origin();
+    both_ways(
+        plan.alloc(),
+        base.events(),
+        base.bounds(),
+        &live,
+        event,
+        origin,
+    )
+}
+
 // The line of an event's window, and the ways that hold its ends.
 fn text_of<A: Allocator + Copy>(
     plan: &SitePlan<A>,
     event: Event,
-    window: (Ms, Ms),
+    ends: &BothWays<A>,
 ) -> Result<Vec<u8, A>, Memory>
     requires within { event ≤ events_of plan.now.source }
-    requires possible { HasSchedule (all_bounds plan.now.source plan.now.state) }
-    requires window { IsWindow (all_bounds plan.now.source plan.now.state) event window.0 window.1 }
+    requires ends { HoldEnds plan.now.source plan.now.state event ends.now }
     ensures { IfOk result (λ text. IsWhyPart plan.now.source plan.now.state event text.items) }
 {
     let flags = plan.done_flags();
     let done = flags[usize::from(event.number())];
+    let earliest = Ms::new(-ends.onward.sum).unwrap();
+    let latest = Ms::new(ends.back.sum).unwrap();
     let mut text = Vec::new(plan.alloc());
-    append_window_line(&mut text, event, window.0, window.1, done)?;
-    append_end(&mut text, b"earliest", window.0)?;
-    append_way(plan, event, Event::origin(), &mut text)?;
-    append_end(&mut text, b"latest", window.1)?;
-    append_way(plan, Event::origin(), event, &mut text)?;
+    append_window_line(&mut text, event, earliest, latest, done)?;
+    append_end(&mut text, b"earliest", earliest)?;
+    append_way(plan, &ends.onward.links, &mut text)?;
+    append_end(&mut text, b"latest", latest)?;
+    append_way(plan, &ends.back.links, &mut text)?;
     Ok(text)
 }
 
@@ -115,27 +132,17 @@ fn append_end<B: Allocator>(out: &mut Vec<u8, B>, word: &[u8], time: Ms) -> Resu
     out.extend_from_slice(b"\n")
 }
 
-// Appends the lines of the way from an event to another.
+// Appends the lines of the links of a way.
 fn append_way<A: Allocator + Copy>(
     plan: &SitePlan<A>,
-    from: Event,
-    to: Event,
+    links: &[Link],
     out: &mut Vec<u8, A>,
 ) -> Result<(), Memory>
-    requires from { from ≤ events_of plan.now.source }
-    requires to { to ≤ events_of plan.now.source }
-    requires possible { HasSchedule (all_bounds plan.now.source plan.now.state) }
-    ensures { OnOk result ((links : List Link) × IsWay (all_bounds plan.now.source plan.now.state) from to links
-        × IsTightest (all_bounds plan.now.source plan.now.state) from to (weight_of (all_bounds plan.now.source plan.now.state) links)
-        × (out.new.items ≡ out.old.items
-        ++ flat_map (link_line (base_bounds plan.now.source) (live_ids plan.now.state) (live_bounds plan.now.state)) links)) }
+    requires { All (λ link. link.place < length (all_bounds plan.now.source plan.now.state)) links.now }
+    ensures { OnOk result (out.new.items ≡ out.old.items
+        ++ flat_map (link_line (base_bounds plan.now.source) (live_ids plan.now.state) (live_bounds plan.now.state)) links.now) }
 {
-    let all_ids = plan.live_ids()?;
-    let all_others = plan.live_bounds()?;
-    let ids = all_ids.as_slice();
-    let others = all_others.as_slice();
-    let base = plan.base().bounds();
-    let found = way(plan.alloc(), plan.base().events(), base, others, from, to)?;
-    let named = found.unwrap();
-    append_link_lines(base, ids, others, &named.links, out)
+    let ids = plan.live_ids()?;
+    let others = plan.live_bounds()?;
+    append_link_lines(plan.base().bounds(), &ids, &others, links, out)
 }

@@ -8,3 +8,4 @@ pub mod Rest
 pub mod Schedules
 pub mod Sound
 pub mod Tightening
+pub mod Rows

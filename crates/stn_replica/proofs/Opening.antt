@@ -1,8 +1,8 @@
 -- The matrix of the plan's own bounds.
-use Rattle.std.proofs.Common.{◌≡◌, ℕ, ◌+◌, ◌-◌, ◌<◌, ◌≤◌, ◌↔◌, Bool, IsTrue, List, [], ◌∷◌, ◌++◌, length, map, take, drop, get_or, sym, ap, subst, ◌∙◌, arith, length-take, length-drop, append_assoc, append-nil}
+use Rattle.std.proofs.Common.{◌≡◌, ℕ, ◌+◌, ◌-◌, ◌<◌, ◌≤◌, ◌↔◌, Bool, IsTrue, List, [], ◌∷◌, ◌++◌, length, take, drop, get_or, sym, ap, subst, ◌∙◌, arith, length-take, length-drop, append_assoc, append-nil}
 use Rattle.std.specs.Prelude.{All}
 use Rattle.std.specs.List.Sorted.{IsPermutation}
-use Rattle.std.proofs.lemmas.List.{take_more, take_all, take-append-drop, length-map, get_or-map}
+use Rattle.std.proofs.lemmas.List.{take_more, take_all, take-append-drop}
 use Rattle.std.proofs.lemmas.List.Sorted.{All-permutation, IsPermutation-sym, IsPermutation-append_right}
 use Rattle.stn_time.proofs.Each.{All-right}
 use Rattle.stn_net.specs.Difference.{Difference, NamesEvents}
@@ -12,17 +12,12 @@ use Rattle.stn_matrix.specs.Table.{Table}
 use Rattle.stn_matrix.specs.Tightest.{IsExact}
 use Rattle.stn_lift.specs.PlanSource.{PlanSource, base_bounds, events_of, planned_of, IsSoundSource}
 use Rattle.stn_net.proofs.Horizons.{length-horizon_bounds}
-use Rattle.stn_replica.specs.declared.matrices.PlannedBound.{PlannedBound}
 use Rattle.stn_replica.proofs.Schedules.{schedule_before, schedule_permuted, exact_permuted}
 
 -- the bounds are no fewer than the events
 pub horizon_within : (source : PlanSource) → IsSoundSource source → events_of source ≤ length (base_bounds source)
 horizon_within source sound =
     omega (arith, ap length sound.horizon, length-horizon_bounds (events_of source), length-take (events_of source) (base_bounds source))
-
--- the bounds of a list, in its order
-abbrev pub bounds_in : List PlannedBound → List Difference
-bounds_in found = map (λ planned. planned.bound) found
 
 -- the bounds after those of the horizon name the events of the plan
 pub rest_named : (source : PlanSource) → IsSoundSource source → All (NamesEvents (events_of source)) (drop (events_of source) (base_bounds source))
@@ -38,10 +33,10 @@ AreOthers source others = IsPermutation (drop (events_of source) (base_bounds so
 pub slice_is : (all base : List Difference) (from first : ℕ) → all ≡ base → from ≡ first → drop first base ≡ take (length all - from) (drop from all)
 slice_is all base from first same here = rw (← same, ← here) (sym (take_all (length all - from) (drop from all) (omega (arith, length-drop from all))))
 
-pub others_are : (source : PlanSource) (all : List Difference) (from : ℕ) (found items : List PlannedBound) → all ≡ base_bounds source → from ≡ events_of source → items ≡ found
-    → IsPermutation (take (length all - from) (drop from all)) (bounds_in found) → AreOthers source (bounds_in items)
+pub others_are : (source : PlanSource) (all : List Difference) (from : ℕ) (found items : List Difference) → all ≡ base_bounds source → from ≡ events_of source → items ≡ found
+    → IsPermutation (take (length all - from) (drop from all)) found → AreOthers source items
 others_are source all from found items same here is moved =
-    rw is (subst (λ rest. IsPermutation rest (bounds_in found)) (sym (slice_is all (base_bounds source) from (events_of source) same here)) moved)
+    rw is (subst (λ rest. IsPermutation rest found) (sym (slice_is all (base_bounds source) from (events_of source) same here)) moved)
 
 -- each of the others names events of the plan
 pub other_named : (source : PlanSource) (others : List Difference) (count : ℕ) (bound : Difference) (table : Table) → IsSoundSource source → AreOthers source others
@@ -49,17 +44,6 @@ pub other_named : (source : PlanSource) (others : List Difference) (count : ℕ)
 other_named source others count bound table sound moved within here events =
     let named = All-permutation (NamesEvents (events_of source)) (drop (events_of source) (base_bounds source)) others moved (rest_named source sound) in
     subst (λ n. NamesEvents n bound) (sym events) (subst (NamesEvents (events_of source)) (sym here) (named count bound within))
-
--- the bound at a place of a list
-pub other_at : (found : List PlannedBound) (count : ℕ) (planned : PlannedBound) → count < length found → planned ≡ get_or found count planned
-    → (count < length (bounds_in found)) × (planned.bound ≡ get_or (bounds_in found) count planned.bound)
-other_at found count planned within here = (
-  omega (arith, length-map found (λ (p : PlannedBound). p.bound)),
-  ap (λ (p : PlannedBound). p.bound) here ∙ sym (get_or-map (λ (p : PlannedBound). p.bound) found count planned planned.bound within),
-)
-
-pub past_all : (found : List PlannedBound) (count : ℕ) → length found ≤ count → length (bounds_in found) ≤ count
-past_all found count last = omega (arith, length-map found (λ (p : PlannedBound). p.bound))
 
 -- the horizon bounds and the others are all, in some order
 all_permuted : (source : PlanSource) (others : List Difference) → IsSoundSource source → AreOthers source others → IsPermutation (base_bounds source) (horizon_bounds (events_of source) ++ others)

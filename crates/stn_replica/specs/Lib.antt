@@ -3,3 +3,4 @@ pub mod Work
 pub mod Walk
 pub mod Own
 pub mod Dispatch
+pub mod Rows

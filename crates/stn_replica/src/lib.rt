@@ -6,6 +6,7 @@ pub use replica::Replica;
 pub use site_matrix::matrix_of;
 pub use stn_site::{BoundName, ReplicaFault};
 
+mod closest;
 mod cursors;
 mod dispatch;
 mod matrices;

@@ -1,7 +1,6 @@
-ghost use Rattle.std.specs.Prelude.{◌≡◌, ◌+◌, ◌≤◌, ◌++◌, ◌↔◌, ◌&&◌, not, List, [], ◌∷◌, length, map, Some, IsTrue, IfOk, All};
-ghost use Rattle.std.specs.List.Sorted.{IsPermutation};
+ghost use Rattle.std.specs.Prelude.{◌≡◌, ◌+◌, ◌≤◌, ◌++◌, ◌↔◌, ◌&&◌, not, List, [], ◌∷◌, length, Some, IsTrue, IfOk};
 ghost use Rattle.std.specs.FinMap.{get, contains_key};
-ghost use Rattle.stn_net.specs.Difference.{Difference, NamesEvents};
+ghost use Rattle.stn_net.specs.Difference.{Difference};
 ghost use Rattle.stn_matrix.specs.Tightest.{IsExact};
 ghost use Rattle.stn_lift.specs.PlanSource.{PlanSource, base_bounds, events_of};
 ghost use Rattle.stn_records.specs.declared.record.Record.{Record};
@@ -11,21 +10,14 @@ ghost use Rattle.stn_replica.specs.Work.{risen, KeepsLive};
 ghost use Rattle.stn_replica.specs.Walk as walk;
 ghost use Rattle.stn_replica.specs.Walk.{Extends};
 
+use crate::closest::closest_first;
 use crate::cursors::{begins_with, from_id};
 use crate::plan_matrix::PlanMatrix;
 use std::alloc::Allocator;
 use stn_lift::Base;
 use stn_matrix::Matrix;
-use stn_net::Bound;
 use stn_records::{Id, Record, Records};
 use stn_time::Memory;
-
-// A bound, and by how many milliseconds the plan has its events apart.
-#[derive(Clone, Copy)]
-struct PlannedBound {
-    apart: u64,
-    bound: Bound,
-}
 
 // The matrix of the plan's own bounds. Those of events that the plan has close together are taken first: where many events
 // interfere, nearly all others are then implied when they come.
@@ -36,34 +28,10 @@ pub fn opening_matrix<A: Allocator + Copy>(alloc: A, base: &Base<A>) -> Result<M
     let events = base.events();
     let mut matrix = Matrix::bare(alloc, events)?;
     let others = &base.bounds()[usize::from(events)..];
-    for planned in &closest_first(alloc, base, others)? {
-        let _fits = matrix.tighten(planned.bound);
+    for bound in &closest_first(alloc, base, others)? {
+        let _fits = matrix.tighten(*bound);
     }
     Ok(matrix)
-}
-
-// The bounds, those whose events the plan has closest together first. Of many that are as close, as in a row of equal steps, those
-// of every other event come first: so chains of events of about the same length are joined, and each bound changes few entries of a
-// matrix. Joined one event after another, a row of 256 steps takes three times as many instructions.
-fn closest_first<A: Allocator + Copy>(
-    alloc: A,
-    base: &Base<A>,
-    bounds: &[Bound],
-) -> Result<Vec<PlannedBound, A>, Memory>
-    requires { All (NamesEvents (events_of base.now)) bounds.now }
-    ensures { IfOk result (λ found. IsPermutation bounds.now (map (λ planned. planned.bound) found.items)) }
-{
-    let mut found = Vec::with_capacity(alloc, bounds.len())?;
-    for bound in bounds {
-        let from = base.planned(bound.from()).get();
-        let to = base.planned(bound.to()).get();
-        found.push(PlannedBound {
-            apart: from.abs_diff(to),
-            bound: *bound,
-        })?;
-    }
-    found.sort_by_key(|planned| (planned.apart, planned.bound.from().number().reverse_bits()))?;
-    Ok(found)
 }
 
 // Takes the opening matrix in place of the current one, and then the bounds of the live records.

@@ -1,32 +1,40 @@
-use Rattle.std.proofs.Common.{◌+◌, arith}
-use Rattle.std.specs.Prelude.{◌++◌}
-use Rattle.stn_net.specs.Schedule.{HasSchedule}
-use Rattle.stn_conflict.specs.Search.{IsWayOf}
-use Rattle.stn_conflict.proofs.Found.{found_none, told_of_found_way}
-use Rattle.stn_conflict.proofs.Relaxing.{network_of}
+use Rattle.std.proofs.Common.{◌≡◌, ◌+◌, ◌∙◌, length, ap, refl, sym, arith}
+use Rattle.std.proofs.lemmas.Bool.{false≢true}
+use Rattle.stn_conflict.proofs.Searches.{tables_of}
 use Rattle.stn_conflict.proofs.ways.way.Goals as goal
 
-pub way_over-requires : goal.way_over-requires
-way_over-requires g c =
-    rw c.new-bounds.ensures (record {
-      few = c.requires.few;
-      network = network_of c.args.events c.args.base.now c.args.extra.now c.requires.begins c.requires.base_named c.requires.extra_named;
-      from = c.requires.from;
-      to = c.requires.to;
+pub begin-requires : goal.begin-requires
+begin-requires g c = record {
+  tables = tables_of _ _ c.in_ok-search.ensures;
+  start = omega (arith, c.in_ok-search.ensures.far, c.from.ensures, c.requires.from);
+}
+
+pub settle-requires : goal.settle-requires
+settle-requires g c =
+    let long : length c.in_ok-search.search.far.items ≡ c.args.events + 1 = c.in_ok-search.ensures.far ∙ ap (λ n. n + 1) c.from.ensures in
+    record {
+      search = record {
+        tables = tables_of _ _ c.begin.ensures.tables;
+        from = refl;
+        estimates = rw c.begin.ensures.start (c.begin.ensures.estimates c.args.bounds.now c.args.events long c.requires.network);
+      };
+      rows = rw (c.begin.ensures.tables.far ∙ long) c.requires.rows;
+    }
+
+pub way_to-requires : goal.way_to-requires
+way_to-requires g c =
+    let long : length c.settle.new.self.far.items ≡ c.args.events + 1 = c.settle.ensures.search.tables.far ∙ c.begin.ensures.tables.far ∙ c.in_ok-search.ensures.far ∙ ap (λ n. n + 1) c.from.ensures in
+    rw c.deref.ensures.value (record {
+      far = rw c.begin.ensures.start at (c.settle.ensures.distances c.if-settle.true);
+      few = omega (arith, c.requires.few);
+      rows = rw long c.requires.rows;
+      end = omega (arith, c.requires.to);
     })
 
+pub returns-then-settle : goal.returns-then-settle
+returns-then-settle g c =
+    let long : length c.settle.new.self.far.items ≡ c.args.events + 1 = c.settle.ensures.search.tables.far ∙ c.begin.ensures.tables.far ∙ c.in_ok-search.ensures.far ∙ ap (λ n. n + 1) c.from.ensures in
+    rw (c.deref.ensures.value, long) at c.in_ok-way_to.ensures
+
 pub returns : goal.returns
-returns g c =
-    let bounds = c.args.base.now ++ c.args.extra.now in
-    let found = rw c.new-bounds.ensures at c.way_over.ensures in
-    let told = told_of_found_way bounds c.args.from c.args.to (c.args.events + 1) c.way_over.result found in
-    record {
-      none = found_none c.way_over.result (¬ HasSchedule bounds) (λ way. IsWayOf bounds c.args.from c.args.to (c.args.events + 1) way.links.items way.sum) found (λ way h refused. refused (h.tightest.attained.0, h.tightest.attained.1));
-      way = told _ (λ way h. h.way);
-      sum = told _ (λ way h. h.sum_is);
-      tightest = told _ (λ way h. h.tightest);
-      within = told _ (λ way h. h.within);
-      places = told _ (λ way h. h.places);
-      short = told _ (λ way h. (let short = h.short in omega arith));
-      empty = told _ (λ way h. h.empty);
-    }
+returns g c = λ has. false≢true (sym c.if-settle.false ∙ c.settle.ensures.possible.1 has)

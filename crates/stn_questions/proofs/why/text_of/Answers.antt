@@ -9,15 +9,15 @@ pub returns : goal.returns
 returns g c =
     let state = c.args.plan.now.state in
     let event = c.args.event in
-    let window = c.args.window in
-    let back = c.in_ok-append_way.ensures in
-    let forth = c.in_ok-append_way-2.ensures in
+    let ends = c.args.ends.now in
+    let earliest = c.unwrap-earliest.result in
+    let latest = c.unwrap-latest.result in
     let place = c.from.ensures ∙ c.number.ensures.value in
     let within : c.from.result ≤ most_events = omega (arith, c.from.ensures, c.number.ensures.within) in
     let flag : slice_index_or c.done_flags-flags.result c.from.result false ≡ is_done state event =
     c.done_flags-flags.ensures.done c.from.result within ∙ ap (is_done state) place in
-    why_part c.args.plan.now.source state event c.origin.result c.origin-2.result window.0 window.1 back.0 forth.0
+    why_part c.args.plan.now.source state event ends earliest latest
     c.append_window_line.new.out.items c.append_end.new.out.items c.append_way.new.out.items c.append_end-2.new.out.items c.append_way-2.new.out.items
-    c.origin.ensures c.origin-2.ensures c.requires.possible c.requires.window back.1 back.2 forth.1 forth.2
-    (c.in_ok-append_window_line.ensures.line ∙ (λ i. c.new-text.ensures.items i ++ window_line event window.0 window.1 (flag i)))
-    c.in_ok-append_end.ensures back.3 c.in_ok-append_end-2.ensures forth.3
+    c.requires.ends c.unwrap-earliest.ensures c.unwrap-latest.ensures
+    (c.in_ok-append_window_line.ensures.line ∙ (λ i. c.new-text.ensures.items i ++ window_line event earliest latest (flag i)))
+    c.in_ok-append_end.ensures c.in_ok-append_way.ensures c.in_ok-append_end-2.ensures c.in_ok-append_way-2.ensures

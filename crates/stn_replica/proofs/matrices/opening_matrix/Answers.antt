@@ -4,7 +4,7 @@ use Rattle.stn_net.specs.Difference.{NamesEvents}
 use Rattle.stn_net.specs.Horizon.{horizon_bounds}
 use Rattle.stn_lift.specs.PlanSource.{base_bounds, events_of}
 use Rattle.stn_matrix.specs.Tightest.{IsExact}
-use Rattle.stn_replica.proofs.Opening.{horizon_within, rest_named, bounds_in, slice_is, others_are, other_named, other_at, opened, opened_more, past_all, all_opened}
+use Rattle.stn_replica.proofs.Opening.{horizon_within, rest_named, slice_is, others_are, other_named, opened, opened_more, all_opened}
 use Rattle.stn_replica.proofs.matrices.opening_matrix.Goals as goal
 
 pub slice_bounds-others-start : goal.slice_bounds-others-start
@@ -21,33 +21,31 @@ closest_first-requires g c =
 
 pub tighten-fits-requires : goal.tighten-fits-requires
 tighten-fits-requires g c =
-    let moved = others_are c.args.base.now c.bounds.result.now c.from.result c.in_ok-closest_first.field-0.items c.deref-planned-items.result.now
-    c.bounds.ensures.value (c.from.ensures ∙ c.events-events.ensures.value) c.deref-planned-items.ensures.value c.in_ok-closest_first.ensures in
-    let item = other_at c.deref-planned-items.result.now c.loop-planned.planned-index c.planned-item.result c.loop-planned-test.true c.planned-item.is in
-    other_named c.args.base.now (bounds_in c.deref-planned-items.result.now) c.loop-planned.planned-index c.planned-item.result.bound c.loop-planned.matrix
-    c.bounds.ensures.sound moved item.0 item.1 c.loop-planned.invariant.events
+    let moved = others_are c.args.base.now c.bounds.result.now c.from.result c.in_ok-closest_first.field-0.items c.deref-bound-items.result.now
+    c.bounds.ensures.value (c.from.ensures ∙ c.events-events.ensures.value) c.deref-bound-items.ensures.value c.in_ok-closest_first.ensures in
+    other_named c.args.base.now c.deref-bound-items.result.now c.loop-bound.bound-index c.bound-item.result c.loop-bound.matrix
+    c.bounds.ensures.sound moved c.loop-bound-test.true c.bound-item.is c.loop-bound.invariant.events
 
-pub loop-planned-init : goal.loop-planned-init
-loop-planned-init g c =
-    opened c.args.base.now (bounds_in c.deref-planned-items.result.now) c.in_ok-matrix.matrix
+pub loop-bound-init : goal.loop-bound-init
+loop-bound-init g c =
+    opened c.args.base.now c.deref-bound-items.result.now c.in_ok-matrix.matrix
     (subst (λ n. IsExact (horizon_bounds n) c.in_ok-matrix.matrix) c.events-events.ensures.value c.in_ok-matrix.ensures.exact)
     (c.in_ok-matrix.ensures.events ∙ c.events-events.ensures.value)
 
-pub loop-planned-preserved : goal.loop-planned-preserved
-loop-planned-preserved g c =
-    let moved = others_are c.args.base.now c.bounds.result.now c.from.result c.in_ok-closest_first.field-0.items c.deref-planned-items.result.now
-    c.bounds.ensures.value (c.from.ensures ∙ c.events-events.ensures.value) c.deref-planned-items.ensures.value c.in_ok-closest_first.ensures in
-    let item = other_at c.deref-planned-items.result.now c.loop-planned.planned-index c.planned-item.result c.loop-planned-test.true c.planned-item.is in
-    opened_more c.args.base.now (bounds_in c.deref-planned-items.result.now) c.bounds.ensures.sound moved c.loop-planned.planned-index c.planned-item.result.bound
-    c.loop-planned.matrix c.tighten-fits.new.self c.tighten-fits.result item.0 item.1
-    c.loop-planned.invariant c.tighten-fits.ensures.possible c.tighten-fits.ensures.exact c.tighten-fits.ensures.events
+pub loop-bound-preserved : goal.loop-bound-preserved
+loop-bound-preserved g c =
+    let moved = others_are c.args.base.now c.bounds.result.now c.from.result c.in_ok-closest_first.field-0.items c.deref-bound-items.result.now
+    c.bounds.ensures.value (c.from.ensures ∙ c.events-events.ensures.value) c.deref-bound-items.ensures.value c.in_ok-closest_first.ensures in
+    opened_more c.args.base.now c.deref-bound-items.result.now c.bounds.ensures.sound moved c.loop-bound.bound-index c.bound-item.result
+    c.loop-bound.matrix c.tighten-fits.new.self c.tighten-fits.result c.loop-bound-test.true c.bound-item.is
+    c.loop-bound.invariant c.tighten-fits.ensures.possible c.tighten-fits.ensures.exact c.tighten-fits.ensures.events
 
 pub returns : goal.returns
 returns g c =
-    let moved = others_are c.args.base.now c.bounds.result.now c.from.result c.in_ok-closest_first.field-0.items c.deref-planned-items.result.now
-    c.bounds.ensures.value (c.from.ensures ∙ c.events-events.ensures.value) c.deref-planned-items.ensures.value c.in_ok-closest_first.ensures in
+    let moved = others_are c.args.base.now c.bounds.result.now c.from.result c.in_ok-closest_first.field-0.items c.deref-bound-items.result.now
+    c.bounds.ensures.value (c.from.ensures ∙ c.events-events.ensures.value) c.deref-bound-items.ensures.value c.in_ok-closest_first.ensures in
     record {
-      exact = all_opened c.args.base.now (bounds_in c.deref-planned-items.result.now) c.loop-planned.planned-index c.loop-planned.matrix c.bounds.ensures.sound moved
-          (past_all c.deref-planned-items.result.now c.loop-planned.planned-index c.loop-planned-test.false) c.loop-planned.invariant;
-      events = c.loop-planned.invariant.events;
+      exact = all_opened c.args.base.now c.deref-bound-items.result.now c.loop-bound.bound-index c.loop-bound.matrix c.bounds.ensures.sound moved
+          c.loop-bound-test.false c.loop-bound.invariant;
+      events = c.loop-bound.invariant.events;
     }

@@ -1,5 +1,5 @@
-use Rattle.stn_replica.proofs.Opening.{IsOpenedTo, bounds_in}
+use Rattle.stn_replica.proofs.Opening.{IsOpenedTo}
 use Rattle.stn_replica.proofs.matrices.opening_matrix.Given as goal
 
-abbrev pub invariant-loop-planned : goal.invariant-loop-planned
-invariant-loop-planned g l = IsOpenedTo l.base (bounds_in l.planned-items) l.planned-index l.matrix
+abbrev pub invariant-loop-bound : goal.invariant-loop-bound
+invariant-loop-bound g l = IsOpenedTo l.base l.bound-items l.bound-index l.matrix

@@ -1,0 +1,56 @@
+-- Rows of bounds, one after the other.
+use Rattle.std.proofs.Common.{◌≡◌, ℕ, suc, ◌+◌, ◌<◌, List, [], ◌∷◌, ◌++◌, length, take, drop, set, get_or, sym, ap, subst, ◌∙◌, append_assoc, append-nil}
+use Rattle.std.specs.Prelude.{All, Vec}
+use Rattle.std.specs.List.Sorted.{IsPermutation}
+use Rattle.std.proofs.Math.Seq.{split_at}
+use Rattle.std.proofs.lemmas.List.{set_split, take_more}
+use Rattle.std.proofs.lemmas.List.Concat.{flat_map-append}
+use Rattle.std.proofs.lemmas.List.Sorted.{All-permutation, IsPermutation-append_comm, IsPermutation-append_left, IsPermutation-append_right, IsPermutation-trans}
+use Rattle.stn_net.specs.Difference.{Difference, NamesEvents}
+use Rattle.stn_replica.specs.Rows.{in_turn}
+
+module _ {A : Type 0} where
+  -- the bounds of one row
+  in_one : (row : Vec Difference A) → in_turn (row ∷ []) ≡ row.items
+  in_one row = append-nil row.items
+
+  -- one more row
+  pub in_turn_more : (rows : List (Vec Difference A)) (row : Vec Difference A) → in_turn (rows ++ row ∷ []) ≡ in_turn rows ++ row.items
+  in_turn_more rows row = flat_map-append (λ (r : Vec Difference A). r.items) rows (row ∷ []) ∙ ap (λ l. in_turn rows ++ l) (in_one row)
+
+  -- so many rows, and the next
+  pub in_turn_next : (rows : List (Vec Difference A)) (i : ℕ) (row : Vec Difference A) → i < length rows → row ≡ get_or rows i row
+      → in_turn (take (i + 1) rows) ≡ in_turn (take i rows) ++ row.items
+  in_turn_next rows i row within is =
+      ap (λ r. in_turn r) (take_more rows i row within ∙ ap (λ r. take i rows ++ r ∷ []) (sym is)) ∙ in_turn_more (take i rows) row
+
+  -- a bound more in a row is a bound more
+  pub in_turn_pushed : (rows : List (Vec Difference A)) (i : ℕ) (none new : Vec Difference A) (bound : Difference) → i < length rows
+      → new.items ≡ (get_or rows i none).items ++ bound ∷ [] → IsPermutation (in_turn rows ++ bound ∷ []) (in_turn (set rows i new))
+  in_turn_pushed rows i none new bound within items =
+      let old : Vec Difference A = get_or rows i none in
+      let front = in_turn (take i rows) in
+      let behind = in_turn (drop (suc i) rows) in
+      let was : in_turn rows ≡ (front ++ old.items) ++ behind =
+      ap (λ r. in_turn r) (split_at rows i none within) ∙ flat_map-append (λ (r : Vec Difference A). r.items) (take i rows) (old ∷ drop (suc i) rows) ∙ sym (append_assoc front old.items behind) in
+      let now : in_turn (set rows i new) ≡ (front ++ old.items) ++ (bound ∷ [] ++ behind) =
+      ap (λ r. in_turn r) (set_split rows i new within) ∙ flat_map-append (λ (r : Vec Difference A). r.items) (take i rows) (new ∷ drop (suc i) rows)
+      ∙ ap (λ l. front ++ (l ++ behind)) items ∙ ap (λ l. front ++ l) (append_assoc old.items (bound ∷ []) behind) ∙ sym (append_assoc front old.items (bound ∷ [] ++ behind)) in
+      subst (λ l. IsPermutation (in_turn rows ++ bound ∷ []) l) (sym now)
+      (subst (λ l. IsPermutation (l ++ bound ∷ []) ((front ++ old.items) ++ (bound ∷ [] ++ behind))) (sym was)
+      (subst (λ l. IsPermutation l ((front ++ old.items) ++ (bound ∷ [] ++ behind))) (sym (append_assoc (front ++ old.items) behind (bound ∷ [])))
+      (IsPermutation-append_right (front ++ old.items) (behind ++ bound ∷ []) (bound ∷ [] ++ behind) (IsPermutation-append_comm behind (bound ∷ [])))))
+
+  -- the bounds up to a place stand in the rows, and then the next one too
+  pub in_rows_next : (bounds : List Difference) (i : ℕ) (bound : Difference) (old new : List (Vec Difference A)) → i < length bounds → bound ≡ get_or bounds i bound
+      → IsPermutation (take i bounds) (in_turn old) → IsPermutation (in_turn old ++ bound ∷ []) (in_turn new) → IsPermutation (take (i + 1) bounds) (in_turn new)
+  in_rows_next bounds i bound old new within is so_far more =
+      subst (λ l. IsPermutation l (in_turn new)) (sym (take_more bounds i bound within ∙ ap (λ b. take i bounds ++ b ∷ []) (sym is)))
+      (IsPermutation-trans (take i bounds ++ bound ∷ []) (in_turn old ++ bound ∷ []) (in_turn new) (IsPermutation-append_left (bound ∷ []) (take i bounds) (in_turn old) so_far) more)
+
+-- each bound of a list that has those of another, in some order, names the events that they name
+pub named_of : (events : ℕ) (bounds found items : List Difference) (i : ℕ) (bound : Difference) → All (NamesEvents events) bounds → IsPermutation bounds found
+    → items ≡ found → i < length items → bound ≡ get_or items i bound → NamesEvents events bound
+named_of events bounds found items i bound named moved same within here =
+    let each : All (NamesEvents events) items = subst (All (NamesEvents events)) (sym same) (All-permutation (NamesEvents events) bounds found moved named) in
+    subst (NamesEvents events) (sym here) (each i bound within)

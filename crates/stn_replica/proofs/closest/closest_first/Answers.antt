@@ -1,0 +1,43 @@
+use Rattle.std.proofs.Common.{[], sym, subst, ap, ◌∙◌, arith}
+use Rattle.std.specs.List.Sorted.{IsPermutation}
+use Rattle.std.proofs.lemmas.List.{take_all}
+use Rattle.std.proofs.lemmas.List.Sorted.{IsPermutation-refl, IsPermutation-trans}
+use Rattle.std.proofs.lemmas.Result.{IfOk-weaker}
+use Rattle.stn_lift.specs.PlanSource.{events_of}
+use Rattle.stn_replica.specs.Rows.{in_turn}
+use Rattle.stn_replica.proofs.Rows.{in_rows_next, named_of}
+use Rattle.stn_replica.proofs.closest.closest_first.Goals as goal
+
+pub loop-bound-init : goal.loop-bound-init
+loop-bound-init g c = record {
+  long = c.in_ok-rows.ensures.long;
+  so_far = subst (IsPermutation []) (sym c.in_ok-rows.ensures.empty) (IsPermutation-refl []);
+}
+
+pub planned-requires : goal.planned-requires
+planned-requires g c =
+    let named = named_of (events_of c.args.base.now) c.args.bounds.now c.in_ok-spread.spread.items c.deref-bound-items.result.now c.loop-bound.bound-index c.bound-item.result
+    c.requires c.in_ok-spread.ensures c.deref-bound-items.ensures.value c.loop-bound-test.true c.bound-item.is in
+    omega (arith, named.from, c.from.ensures.value)
+
+pub planned-requires-in-loop-bound : goal.planned-requires-in-loop-bound
+planned-requires-in-loop-bound g c =
+    let named = named_of (events_of c.args.base.now) c.args.bounds.now c.in_ok-spread.spread.items c.deref-bound-items.result.now c.loop-bound.bound-index c.bound-item.result
+    c.requires c.in_ok-spread.ensures c.deref-bound-items.ensures.value c.loop-bound-test.true c.bound-item.is in
+    omega (arith, named.to, c.to.ensures.value)
+
+pub loop-bound-preserved : goal.loop-bound-preserved
+loop-bound-preserved g c = record {
+  long = c.append_to.ensures.long ∙ c.loop-bound.invariant.long;
+  so_far = in_rows_next c.deref-bound-items.result.now c.loop-bound.bound-index c.bound-item.result c.loop-bound.rows.items c.append_to.new.rows.items c.loop-bound-test.true
+      c.bound-item.is c.loop-bound.invariant.so_far c.in_ok-append_to.ensures.more;
+}
+
+pub returns : goal.returns
+returns g c =
+    let items = c.deref-bound-items.result.now in
+    let bounds = c.args.bounds.now in
+    let rows = c.loop-bound.rows.items in
+    let taken : IsPermutation items (in_turn rows) = subst (λ l. IsPermutation l (in_turn rows)) (take_all c.loop-bound.bound-index items c.loop-bound-test.false) c.loop-bound.invariant.so_far in
+    let all : IsPermutation bounds (in_turn rows) = IsPermutation-trans bounds items (in_turn rows) (subst (IsPermutation bounds) (sym c.deref-bound-items.ensures.value) c.in_ok-spread.ensures) taken in
+    IfOk-weaker c.joined.result _ _ (λ found is. subst (IsPermutation bounds) (sym (is ∙ ap (λ r. in_turn r) c.deref.ensures.value)) all) c.joined.ensures
