@@ -2,7 +2,7 @@
 use Rattle.std.specs.Prelude.{◌≡◌, ◌≢◌, ◌⊎◌, ℕ, ◌<◌, List, [], ◌∷◌, ◌++◌, length, map, flat_map, codes, decimal, Option, None, Some, Result, Ok, Err, IfOk, IfErr, IsErrOf}
 use Rattle.std.specs.Io.KnownBytes.{Appends}
 use Rattle.stn_device.specs.Bytes.{AppendsPart}
-use Rattle.stn_device.specs.Partner.{PartnerState, Parts, stranger}
+use Rattle.stn_device.specs.Partner.{PartnerState, Parts}
 use Rattle.stn_device.specs.Callers.{CallersState, Comes, gone_too}
 use Rattle.stn_lift.specs.PlanSource.{PlanSource}
 use Rattle.stn_records.specs.Content.{Content}
@@ -198,11 +198,17 @@ StopsSendingTo Fails met gone source log first last before after old new failure
     × (after ≡ before) × (new ≡ old))
     ⊎ ((text : List ℕ) × IsSavedExchange met gone source log first before text last after × IsUnprinted old new text failure)
 
--- the same with a site of which no clause knows what it says and is told
+-- no clause knows what a site says and is told
+abbrev pub IsStranger : PartnerState → Type 0
+IsStranger site = (site.unheard ≡ None) × (site.told ≡ None) × (site.ended ≡ None)
+
+-- the same with such a site
 abbrev pub Sends : PlanSource → SiteLog → Content → Content → Option (List Entry) → Option (List Entry) → Device → Device → Type 0
-Sends source log first last before after old new = (gone : PartnerState) × SendsTo stranger gone source log first last before after old new
+Sends source log first last before after old new =
+    (met : PartnerState) × (gone : PartnerState) × IsStranger met × SendsTo met gone source log first last before after old new
 
 abbrev pub StopsSending : (Fault → Type 0) → PlanSource → SiteLog → Content → Content → Option (List Entry) → Option (List Entry)
     → Device → Device → Failure → Type 0
 StopsSending Fails source log first last before after old new failure =
-    (gone : PartnerState) × StopsSendingTo Fails stranger gone source log first last before after old new failure
+    (met : PartnerState) × (gone : PartnerState) × IsStranger met
+    × StopsSendingTo Fails met gone source log first last before after old new failure

@@ -1,5 +1,7 @@
-use Rattle.std.proofs.Common.{refl, inl, inr}
+use Rattle.std.proofs.Common.{None, refl, inl, inr}
 use Rattle.std.proofs.lemmas.Result.{err_from_is_err_and}
+use Rattle.stn_device.specs.Counted.{failure_count}
+use Rattle.stn_device.specs.Partner.{PartnerState}
 use Rattle.stn_shell.proofs.Ended.{ended}
 use Rattle.stn_shell.proofs.execution.send_replica.Goals as goal
 
@@ -9,4 +11,10 @@ returns-in_err-peer g c =
     rw (p.1, p.2) (inl (refl, c.in_err-peer.ensures.failed, refl))
 
 pub returns : goal.returns
-returns g c = ended c.exchange.result c.exchange.ensures.sent c.exchange.ensures.stopped (λ sent. sent) (λ failure stopped. inr stopped)
+returns g c =
+    let site = c.in_ok-peer.peer in
+    let after = c.send_to_partner.new.partner in
+    let met : PartnerState = record { unheard = None; told = None; ended = None; failed_reads = failure_count site.reader; failed_writes = failure_count site.writer } in
+    let gone : PartnerState = record { unheard = None; told = None; ended = None; failed_reads = failure_count after.reader; failed_writes = failure_count after.writer } in
+    ended c.send_to_partner.result c.send_to_partner.ensures.sent c.send_to_partner.ensures.stopped
+    (λ sent. (met, gone, (refl, refl, refl), sent)) (λ failure stopped. inr (met, gone, (refl, refl, refl), stopped))
