@@ -18,7 +18,12 @@ fn bare_plan(alloc: Global, steps: u16) -> Option<SitePlan<Global>> {
 }
 
 fn add(plan: &mut SitePlan<Global>, from: u16, to: u16, least: i64, most: i64) -> bool {
-    match (Event::new(from), Event::new(to), Ms::new(least), Ms::new(most)) {
+    match (
+        Event::new(from),
+        Event::new(to),
+        Ms::new(least),
+        Ms::new(most),
+    ) {
         (Some(from), Some(to), Some(least), Some(most)) => {
             plan.add(from, to, least, most).is_ok()
         }
@@ -67,7 +72,11 @@ fn guards_two_sites(alloc: Global) -> Option<bool> {
     let mut plan = two_steps(alloc)?;
     let other = owned(2, 2)?;
     let ids = add_guard(&mut plan, &[other]).ok()??;
-    Some(ids.len() == 2 && is_window(&plan, 2, 2, 5_000, 7_000) && is_window(&plan, 3, 3, 7_000, 9_000))
+    Some(
+        ids.len() == 2
+            && is_window(&plan, 2, 2, 5_000, 7_000)
+            && is_window(&plan, 3, 3, 7_000, 9_000),
+    )
 }
 
 #[test]

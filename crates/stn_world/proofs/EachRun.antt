@@ -1,15 +1,13 @@
 -- The law over all runs of a world.
-use Rattle.std.proofs.Common.{◌≡◌, inr, ⊎_elim, ℕ, suc, ◌-◌, ◌≤◌, Bool, true, false, not, ◌&&◌, ltb, None, List, get_or, refl, ap, subst, ◌∙◌, arith}
+use Rattle.std.proofs.Common.{◌≡◌, inr, ⊎_elim, ℕ, ◌≤◌, Bool, true, false, not, ◌&&◌, ltb, None, List, refl, ap, subst, ◌∙◌, arith}
 use Rattle.std.specs.Prelude.{option_map}
 use Rattle.std.specs.Bool.{then_some}
 use Rattle.std.specs.List.{Contains}
 use Rattle.std.specs.FinMap as fin
 use Rattle.std.proofs.lemmas.Bool.{cases_eq}
 use Rattle.std.proofs.lemmas.Bool.Decides.{nat_tests}
-use Rattle.std.proofs.lemmas.List.{get_or_default}
-use Rattle.std.proofs.lemmas.List.Elements.{Contains-append_cases}
 use Rattle.stn_records.specs.Id.{SiteCounter}
-use Rattle.stn_records.specs.Content.{most_known, Content, Item, HasItem, is_known, is_replaced, is_live, known_in_either, dispute_contents, no_content, IsPart}
+use Rattle.stn_records.specs.Content.{most_known, Content, Item, HasItem, is_known, is_replaced, is_live, known_in_either, dispute_contents, IsPart}
 use Rattle.stn_site.specs.declared.faults.ReplicaFault.TheVariants.{Full}
 use Rattle.stn_site.specs.Calls.{Replaces}
 use Rattle.stn_site.specs.Refusals.{take_refusal}

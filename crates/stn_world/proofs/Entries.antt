@@ -8,7 +8,7 @@ use Rattle.stn_net.specs.Difference.{Difference}
 use Rattle.stn_lift.specs.PlanSource.{PlanSource}
 use Rattle.stn_records.specs.Id.{SiteCounter}
 use Rattle.stn_records.specs.declared.record.Record.{Record}
-use Rattle.stn_records.specs.Content.{Content, Item, addition, withdrawal, replacement, HasItem, no_content, plain, with_record, with_amendment, with_tombstone, joined_contents, IsPart}
+use Rattle.stn_records.specs.Content.{Content, Item, addition, replacement, HasItem, no_content, plain, with_record, with_amendment, with_tombstone, joined_contents, IsPart}
 use Rattle.stn_records.specs.ContentLaws.{contents_join, contents_undisputed}
 use Rattle.stn_records.proofs.Counters.{next_is_new}
 use Rattle.stn_site.specs.Held.{executed}

@@ -1,5 +1,5 @@
 -- Sites that keep to what is their own keep a schedule of all that they hold.
-use Rattle.std.proofs.Common.{◌≡◌, ◌⊎◌, inl, inr, ⊎_elim, ℕ, ℤ, ◌+◌, ◌-◌, ◌<◌, ◌≤◌, Bool, true, false, cond, not, ◌&&◌, ◌||◌, eqb, is_some, Some, List, [], ◌∷◌, ◌++◌, length, get_or, refl, sym, ap, subst, ◌∙◌, arith}
+use Rattle.std.proofs.Common.{◌≡◌, inl, inr, ⊎_elim, ℕ, ℤ, ◌+◌, ◌-◌, ◌<◌, ◌≤◌, Bool, true, false, cond, not, ◌&&◌, ◌||◌, eqb, is_some, List, [], ◌∷◌, ◌++◌, length, get_or, refl, sym, subst, ◌∙◌, arith}
 use Rattle.std.specs.Prelude.{All, filter, flat_map}
 use Rattle.std.specs.List.{range_with_len}
 use Rattle.std.proofs.lemmas.Bool.{false≢true, and_parts}
@@ -8,9 +8,9 @@ use Rattle.std.proofs.lemmas.List.{length-set}
 use Rattle.std.proofs.lemmas.List.Elements.{All-nil, All-append, All-filter, All-head, All-tail}
 use Rattle.std.proofs.lemmas.List.FromFn.{length-range_with_len, get_or-range_with_len}
 use Rattle.stn_net.specs.Difference.{Difference}
-use Rattle.stn_net.specs.Schedule.{HasSchedule, IsSchedule, Meets}
+use Rattle.stn_net.specs.Schedule.{HasSchedule, Meets}
 use Rattle.stn_windows.specs.Rehearsal.{fixed_at}
-use Rattle.stn_lift.specs.PlanSource.{PlanSource, base_bounds}
+use Rattle.stn_lift.specs.PlanSource.{base_bounds}
 use Rattle.stn_records.specs.Id.{SiteCounter}
 use Rattle.stn_records.specs.declared.record.Record.{Record}
 use Rattle.stn_records.specs.Content.{Content, Item, addition, withdrawal, replacement, HasItem, IsPart, is_replaced, is_live, plain, with_record, joined_contents}
@@ -22,7 +22,6 @@ use Rattle.stn_site.specs.Held.{executed}
 use Rattle.stn_site.proofs.Items.{addition_items}
 use Rattle.stn_replica.proofs.Live.{live_from_bounds, bounds_from_live}
 use Rattle.stn_guard.specs.Owners.{is_own, own_bounds}
-use Rattle.stn_guard.specs.Guard.{Guards}
 use Rattle.stn_guard.proofs.Owned.{all_front, all_behind, all_passing, all_filtered, all_of_pieces}
 use Rattle.stn_guard.proofs.Gluing.{glue}
 use Rattle.stn_world.specs.World.{World, HasSite, has_site, content_at, packet_at, next_id_at, with_content, make, send}

@@ -1,5 +1,5 @@
 -- Worlds whose sites hold a guard, and act within what is their own.
-use Rattle.std.specs.Prelude.{◌≡◌, ℕ, true, ◌⊎◌, List, [], ⊤}
+use Rattle.std.specs.Prelude.{◌≡◌, ℕ, true, ◌⊎◌, [], ⊤}
 use Rattle.stn_net.specs.Schedule.{HasSchedule}
 use Rattle.stn_records.specs.Content.{Content, Item, addition, withdrawal, replacement, HasItem, IsPart}
 use Rattle.stn_site.specs.Bounds.{all_bounds}
