@@ -1,12 +1,16 @@
 -- Why a window ends where it does.
-use Rattle.std.proofs.Common.{◌≡◌, ℕ, ℤ, neg_ℤ, List, ◌++◌, codes, ap, ◌∙◌, append_assoc}
+use Rattle.std.proofs.Common.{◌≡◌, ℕ, ℤ, neg_ℤ, ◌+◌, List, ◌++◌, codes, Option, Some, None, Result, Ok, Err, refl, subst, ap, ◌∙◌, append_assoc}
+use Rattle.std.specs.Prelude.{◌↔◌, IsNone, IfOk, IfSome, MatchOption}
 use Rattle.std.specs.List.{flat_map}
 use Rattle.stn_time.specs.Text.{printed}
+use Rattle.stn_net.specs.Difference.{Difference}
+use Rattle.stn_net.specs.Schedule.{HasSchedule}
 use Rattle.stn_windows.specs.Window.{IsWindow}
 use Rattle.stn_windows.proofs.Windows.{window_of_ends}
-use Rattle.stn_lift.specs.PlanSource.{PlanSource, base_bounds}
+use Rattle.stn_lift.specs.PlanSource.{PlanSource, base_bounds, events_of}
 use Rattle.stn_records.specs.Content.{Content}
 use Rattle.stn_conflict.specs.declared.links.BothWays.{BothWays}
+use Rattle.stn_conflict.specs.Named.{IsWayOf}
 use Rattle.stn_site.specs.Bounds.{all_bounds, live_bounds}
 use Rattle.stn_site.specs.Names.{live_ids}
 use Rattle.stn_site.specs.Lines.{line, window_line, link_line}
@@ -47,3 +51,16 @@ why_part source state event ends earliest latest t1 t2 t3 t4 t5 hold early late 
           (line (codes "latest" ++ codes " " ++ printed latest)) (flat_map (link_line (base_bounds source) (live_ids state) (live_bounds state)) ends.back.links.items)
           t1 t2 t3 t4 t5 a b c d e;
     }
+
+-- what is found of the ways between an event and the origin
+pub ends_found : {A E : Type 0} (source : PlanSource) (state : Content) (event origin events : ℕ) (bounds : List Difference) (result : Result (Option (BothWays A)) E)
+    → bounds ≡ all_bounds source state → origin ≡ 0 → events ≡ events_of source → IfOk result (λ found. IsNone found ↔ ¬ HasSchedule bounds)
+    → IfOk result (λ found. IfSome found (λ both. IsWayOf bounds event origin (events + 1) both.onward.links.items both.onward.sum))
+    → IfOk result (λ found. IfSome found (λ both. IsWayOf bounds origin event (events + 1) both.back.links.items both.back.sum))
+    → IfOk result (λ found. MatchOption found (¬ HasSchedule (all_bounds source state)) (HoldEnds source state event))
+ends_found source state event origin events bounds (Err fault) same start count none onward back = tt
+ends_found source state event origin events bounds (Ok None) same start count none onward back = subst (λ b. ¬ HasSchedule b) same (none.0 refl)
+ends_found source state event origin events bounds (Ok (Some both)) same start count none onward back = record {
+  onward = rw (← same, ← start, ← count) onward;
+  back = rw (← same, ← start, ← count) back;
+}

