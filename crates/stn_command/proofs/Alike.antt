@@ -14,8 +14,9 @@ use Rattle.stn_site.specs.Report.{IsReport}
 use Rattle.stn_questions.specs.Answer.{IsAnswer}
 use Rattle.stn_questions.specs.Ready.{IsReadyText}
 use Rattle.stn_picture.specs.Picture.{IsPicture}
+use Rattle.stn_repair.specs.Text.{IsRepairsText}
 use Rattle.stn_command.specs.Dispatch.{check_text, IsNextText, IsRestText, IsOverdueAt, IsRefusedRehearsal}
-use Rattle.stn_command.specs.Query.{Query, report, check, next, ready, rehearse, ask, draw, IsSaid, IsCheckRefusal, IsRehearseRefusal, IsQuestionRefusal, IsQueryRefusal, Says}
+use Rattle.stn_command.specs.Query.{Query, report, check, next, ready, rehearse, ask, repairs, draw, IsSaid, IsCheckRefusal, IsRehearseRefusal, IsQuestionRefusal, IsQueryRefusal, Says}
 
 module _ (one other : Held) (plan : one.source ≡ other.source) (state : one.state ≡ other.state) where
   along : (Holds : PlanSource → Content → Type 0) → Holds one.source one.state → Holds other.source other.state
@@ -28,6 +29,7 @@ module _ (one other : Held) (plan : one.source ≡ other.source) (state : one.st
   said_alike (ready now) text = along (λ s c. IsReadyText s c now text)
   said_alike (rehearse now) text = along (λ s c. IsRestText s c now text)
   said_alike (ask question) text = along (λ s c. IsAnswer s c question text)
+  said_alike repairs text = along (λ s c. IsRepairsText s c text)
   said_alike draw text = along (λ s c. IsPicture s c text)
 
   pub refused_alike : (query : Query) (cause : Option Failure) → IsQueryRefusal query one cause → IsQueryRefusal query other cause
@@ -37,6 +39,7 @@ module _ (one other : Held) (plan : one.source ≡ other.source) (state : one.st
   refused_alike (ready now) cause is = is
   refused_alike (rehearse now) cause is = along (λ s c. IsRehearseRefusal (holding_state s c) now cause) is
   refused_alike (ask question) cause is = along (λ s c. IsQuestionRefusal (holding_state s c) question cause) is
+  refused_alike repairs cause is = is
   refused_alike draw cause is = is
 
   -- what a replica of a plan says is said of the plan

@@ -11,21 +11,24 @@ use Rattle.stn_questions.specs.declared.asked.Question.{Question}
 use Rattle.stn_questions.specs.Answer.{IsAnswer}
 use Rattle.stn_questions.specs.Ready.{IsReadyText}
 use Rattle.stn_picture.specs.Picture.{IsPicture}
-use Rattle.stn_command.specs.Query.{Query, report, check, next, ready, rehearse, ask, draw, IsSaid, IsRehearseRefusal, IsQueryRefusal}
+use Rattle.stn_repair.specs.Text.{IsRepairsText}
+use Rattle.stn_command.specs.Query.{Query, report, check, next, ready, rehearse, ask, repairs, draw, IsSaid, IsRehearseRefusal, IsQueryRefusal}
 use Rattle.stn_command.proofs.Foresight.{one_next_text, one_rest_text, one_overdue}
 
 pub one_text : ((source : PlanSource) → (state : Content) → (text other : List ℕ) → IsReport source state text → IsReport source state other → text ≡ other)
     → ((source : PlanSource) → (state : Content) → (question : Question) → (text other : List ℕ) → IsAnswer source state question text → IsAnswer source state question other → text ≡ other)
     → ((source : PlanSource) → (state : Content) → (now : ℤ) → (text other : List ℕ) → IsReadyText source state now text → IsReadyText source state now other → text ≡ other)
+    → ((source : PlanSource) → (state : Content) → (text other : List ℕ) → IsRepairsText source state text → IsRepairsText source state other → text ≡ other)
     → ((source : PlanSource) → (state : Content) → (text other : List ℕ) → IsPicture source state text → IsPicture source state other → text ≡ other)
     → (query : Query) (held : Held) (text other : List ℕ) → IsSaid query held text → IsSaid query held other → text ≡ other
-one_text reports answers readies pictures report held text other p q = reports held.source held.state text other p q
-one_text reports answers readies pictures (check times) held text other p q = p ∙ sym q
-one_text reports answers readies pictures (next now) held text other p q = one_next_text held.source held.state now text other p q
-one_text reports answers readies pictures (ready now) held text other p q = readies held.source held.state now text other p q
-one_text reports answers readies pictures (rehearse now) held text other p q = one_rest_text held.source held.state now text other p q
-one_text reports answers readies pictures (ask question) held text other p q = answers held.source held.state question text other p q
-one_text reports answers readies pictures draw held text other p q = pictures held.source held.state text other p q
+one_text reports answers readies mends pictures report held text other p q = reports held.source held.state text other p q
+one_text reports answers readies mends pictures (check times) held text other p q = p ∙ sym q
+one_text reports answers readies mends pictures (next now) held text other p q = one_next_text held.source held.state now text other p q
+one_text reports answers readies mends pictures (ready now) held text other p q = readies held.source held.state now text other p q
+one_text reports answers readies mends pictures (rehearse now) held text other p q = one_rest_text held.source held.state now text other p q
+one_text reports answers readies mends pictures (ask question) held text other p q = answers held.source held.state question text other p q
+one_text reports answers readies mends pictures repairs held text other p q = mends held.source held.state text other p q
+one_text reports answers readies mends pictures draw held text other p q = pictures held.source held.state text other p q
 
 -- one test, and what stands against a query where it holds
 one_of : {P Q : Type 0} (found cause other : Option Failure) → ¬ (P × Q) → (P × (cause ≡ found)) ⊎ (Q × (cause ≡ None))
@@ -49,4 +52,5 @@ one_refusal (next now) held cause other p q = p ∙ sym q
 one_refusal (ready now) held cause other p q = p ∙ sym q
 one_refusal (rehearse now) held cause other p q = rehearsal_refused held now cause other p q
 one_refusal (ask question) held cause other p q = one_of _ cause other (λ both. both.1 both.0) p q
+one_refusal repairs held cause other p q = p ∙ sym q
 one_refusal draw held cause other p q = p ∙ sym q

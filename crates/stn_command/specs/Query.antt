@@ -14,13 +14,14 @@ use Rattle.stn_questions.specs.declared.asked.Question.{Question}
 use Rattle.stn_questions.specs.Answer.{IsAnswer, AsksOfNoEvent}
 use Rattle.stn_questions.specs.Ready.{IsReadyText}
 use Rattle.stn_picture.specs.Picture.{IsPicture}
+use Rattle.stn_repair.specs.Text.{IsRepairsText}
 use Rattle.stn_command.specs.declared.queries.Query.{Query as QueryOfCode}
 use Rattle.stn_command.specs.declared.queries.Query.TheVariants as asked
 use Rattle.stn_command.specs.Words.{no_such_word}
 use Rattle.stn_command.specs.Dispatch.{check_text, IsNextText, IsRestText, IsOverdueAt, IsRefusedRehearsal}
 
 -- the report; whether times for the events from 1 on are a schedule; what comes next from a time on; which events may run from a time
--- on; the rest of the plan from a time on; another question; the picture
+-- on; the rest of the plan from a time on; another question; what mends a conflict; the picture
 pub data Query : Type 0 where
   report : Query
   check : (times : List ℤ) → Query
@@ -28,6 +29,7 @@ pub data Query : Type 0 where
   ready : (now : ℤ) → Query
   rehearse : (now : ℤ) → Query
   ask : (question : Question) → Query
+  repairs : Query
   draw : Query
 
 -- the query that the code has
@@ -38,6 +40,7 @@ seen_query (asked.Next now) = next now
 seen_query (asked.Ready now) = ready now
 seen_query (asked.Rehearse now) = rehearse now
 seen_query (asked.Ask question) = ask question
+seen_query asked.Repairs = repairs
 seen_query asked.Draw = draw
 
 -- the text answers the query; the origin's time is 0
@@ -48,6 +51,7 @@ IsSaid (next now) held text = IsNextText held.source held.state now text
 IsSaid (ready now) held text = IsReadyText held.source held.state now text
 IsSaid (rehearse now) held text = IsRestText held.source held.state now text
 IsSaid (ask question) held text = IsAnswer held.source held.state question text
+IsSaid repairs held text = IsRepairsText held.source held.state text
 IsSaid draw held text = IsPicture held.source held.state text
 
 -- why a check is refused: there is not one time for each event
@@ -73,6 +77,7 @@ IsQueryRefusal (next now) held cause = cause ≡ None
 IsQueryRefusal (ready now) held cause = cause ≡ None
 IsQueryRefusal (rehearse now) held cause = IsRehearseRefusal held now cause
 IsQueryRefusal (ask question) held cause = IsQuestionRefusal held question cause
+IsQueryRefusal repairs held cause = cause ≡ None
 IsQueryRefusal draw held cause = cause ≡ None
 
 -- the text is said; or something refuses the query; or memory ran out where nothing does

@@ -5,6 +5,7 @@ ghost use Rattle.stn_command.specs.Query.{Query, IsSaid, IsQueryRefusal};
 
 use stn_picture::one_picture;
 use stn_questions::{one_answer, one_ready_text};
+use stn_repair::one_repairs_text;
 use stn_site::one_report;
 
 /// The law that what a site holds has one answer to each query, and one cause that refuses it or none; it
@@ -17,5 +18,6 @@ pub fn one_said()
     one_report();
     one_answer();
     one_ready_text();
+    one_repairs_text();
     one_picture();
 }

@@ -2,7 +2,7 @@
 
 ghost use Rattle.std.specs.Prelude.{◌≡◌, ◌⊎◌, ◌++◌, ◌∷◌, ℕ, pos, List, None, Some, OnOk, OnErr, IfOk, IfErr, IsErrOf, MatchResult};
 ghost use Rattle.stn_refusal.specs.Refusals.{out_of_memory};
-ghost use Rattle.stn_command.specs.Query.{report, check, next, ready, rehearse, ask, draw, seen_query, IsSaid, IsQueryRefusal, Says};
+ghost use Rattle.stn_command.specs.Query.{report, check, next, ready, rehearse, ask, repairs, draw, seen_query, IsSaid, IsQueryRefusal, Says};
 
 use crate::dispatch::{append_check, append_next, append_rest};
 use crate::words::no_such_word;
@@ -11,6 +11,7 @@ use stn_net::BoundFault;
 use stn_picture::print_picture;
 use stn_questions::{Question, WhyFault, print_answer, print_ready};
 use stn_refusal::{Failure, Fault};
+use stn_repair::print_repairs;
 use stn_replica::Replica;
 use stn_site::SitePlan;
 use stn_time::{Memory, Ms};
@@ -30,6 +31,8 @@ pub enum Query<'a> {
     Rehearse(Ms),
     /// The answer to another question.
     Ask(Question),
+    /// What mends a conflict.
+    Repairs,
     /// The picture of the plan.
     Draw,
 }
@@ -66,6 +69,7 @@ pub fn say<A: Allocator + Copy>(plan: SitePlan<A>, query: &Query<'_>) -> Result<
         Query::Report => report(&plan),
         Query::Check(times) => check(&plan, times),
         Query::Ask(question) => tell(&plan, question),
+        Query::Repairs => repairs(&plan),
         Query::Draw => draw(&plan),
         Query::Next(_) | Query::Ready(_) | Query::Rehearse(_) => {
             let replica = Replica::of(plan)?;
@@ -87,6 +91,7 @@ fn said<A: Allocator + Copy>(replica: &Replica<A>, query: &Query<'_>) -> Result<
         Query::Ready(now) => ready(replica, now),
         Query::Rehearse(now) => rehearse(replica, now),
         Query::Ask(question) => tell(replica.plan(), question),
+        Query::Repairs => repairs(replica.plan()),
         Query::Draw => draw(replica.plan()),
     }
 }
@@ -169,6 +174,15 @@ fn tell<A: Allocator + Copy>(plan: &SitePlan<A>, question: Question) -> Result<V
         Err(WhyFault::NoEvent) => Err(Failure::from(BoundFault::NoEvent)),
         Err(WhyFault::Memory) => Err(Failure::Failed(Fault::Memory)),
     }
+}
+
+// What mends a conflict.
+fn repairs<A: Allocator + Copy>(plan: &SitePlan<A>) -> Result<Vec<u8, A>, Failure>
+    ensures { Says repairs plan.now result }
+{
+    let mut text = Vec::new(plan.alloc());
+    print_repairs(plan, &mut text)?;
+    Ok(text)
 }
 
 // The picture of the plan.

@@ -74,6 +74,7 @@ commands = command (codes "run") []
     ∷ on_log (codes "next") (word_rule (codes "NOW") ∷ [])
     ∷ on_log (codes "ready") (word_rule (codes "NOW") ∷ [])
     ∷ on_log (codes "why") (word_rule (codes "EVENT") ∷ [])
+    ∷ on_log (codes "repairs") []
     ∷ on_log (codes "records") []
     ∷ on_log (codes "steps") []
     ∷ on_log (codes "bounds") []

@@ -64,6 +64,7 @@ IsLineOf (line.Report log) name rows = (name ≡ codes "report") × IsOnLog log 
 IsLineOf (line.Next log now) name rows = (name ≡ codes "next") × IsOnLog log rows × IsWord (codes "NOW") now rows
 IsLineOf (line.Ready log now) name rows = (name ≡ codes "ready") × IsOnLog log rows × IsWord (codes "NOW") now rows
 IsLineOf (line.Why log event) name rows = (name ≡ codes "why") × IsOnLog log rows × IsWord (codes "EVENT") event rows
+IsLineOf (line.Repairs log) name rows = (name ≡ codes "repairs") × IsOnLog log rows
 IsLineOf (line.Records log) name rows = (name ≡ codes "records") × IsOnLog log rows
 IsLineOf (line.Steps log) name rows = (name ≡ codes "steps") × IsOnLog log rows
 IsLineOf (line.Bounds log) name rows = (name ≡ codes "bounds") × IsOnLog log rows

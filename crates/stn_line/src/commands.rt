@@ -75,7 +75,7 @@ const HI: Word = Word::Time(
 
 const NOW: Word = Word::Text("NOW", "The time now, in seconds after the origin");
 
-const COMMANDS: [Row; 22] = [
+const COMMANDS: [Row; 23] = [
     Row {
         name: "run",
         about: "Runs the script on standard input",
@@ -194,6 +194,11 @@ const COMMANDS: [Row; 22] = [
             SITE,
             Word::Text("EVENT", "The event: `s1`, `e1`, or `z` for the origin"),
         ],
+    },
+    Row {
+        name: "repairs",
+        about: "Prints what mends a conflict: each record without which the others can be kept, and which to drop",
+        words: &[LOG, SITE],
     },
     Row {
         name: "records",

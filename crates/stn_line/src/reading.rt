@@ -60,6 +60,9 @@ fn command<'a>(alloc: Global, name: &str, words: &ArgMatches<'a>) -> Result<Line
         "next" => Ok(next(words)),
         "ready" => Ok(ready(words)),
         "why" => Ok(why(words)),
+        "repairs" => Ok(Line::Repairs {
+            log: site_log(words),
+        }),
         "records" => Ok(Line::Records {
             log: site_log(words),
         }),

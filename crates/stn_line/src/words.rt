@@ -90,6 +90,10 @@ pub enum Line<'a> {
         log: SiteLog<'a>,
         event: &'a str,
     },
+    /// Tells what mends a conflict.
+    Repairs {
+        log: SiteLog<'a>,
+    },
     /// Tells which records the log holds.
     Records {
         log: SiteLog<'a>,
