@@ -31,6 +31,7 @@ pub data QueryWords : Type 0 where
   rehearse : (now : List ℕ) → QueryWords
   ready : (now : List ℕ) → QueryWords
   ask : (question : Question) → QueryWords
+  repairs : QueryWords
 
 -- what a command does: it changes what the site holds, merges another site, sends all that the site holds or some of its records and
 -- withdrawn ids, takes in a packet, or asks the site
@@ -127,6 +128,11 @@ ready_of words = option_map (λ now. query (ready now)) (lone_word words)
 abbrev pub why_of : List (List ℕ) → Option Action
 why_of words = option_map (λ event. query (ask (Why event))) (option_and_then event_of (lone_word words))
 
+-- the form `repairs`
+abbrev pub repairs_of : List (List ℕ) → Option Action
+repairs_of [] = Some (query repairs)
+repairs_of other = None
+
 -- the question that a name asks alone
 abbrev pub lone_question : List ℕ → Option Question
 lone_question name =
@@ -147,7 +153,8 @@ query_of events name words =
     (if bytes_eq name (codes "next") then next_of words else
     (if bytes_eq name (codes "rehearse") then rehearse_of words else
     (if bytes_eq name (codes "ready") then ready_of words else
-    (if bytes_eq name (codes "why") then why_of words else alone_of name words)))))
+    (if bytes_eq name (codes "why") then why_of words else
+    (if bytes_eq name (codes "repairs") then repairs_of words else alone_of name words))))))
 
 -- the forms by their names
 abbrev pub action_of : ℕ → List ℕ → List (List ℕ) → Option Action

@@ -23,7 +23,7 @@ use Rattle.stn_command.specs.Query.{Query}
 use Rattle.stn_command.specs.Query as asked
 use Rattle.stn_exec.specs.declared.answer.Answer.{Answer}
 use Rattle.stn_exec.specs.declared.answer.Answer.TheVariants as answer
-use Rattle.stn_exec.specs.Command.{BoundWords, ChangeWords, add, amend, withdraw, done, QueryWords, report, check, next, rehearse, ready, ask, Action, change, merge, send_all, send, deliver, query, Command}
+use Rattle.stn_exec.specs.Command.{BoundWords, ChangeWords, add, amend, withdraw, done, QueryWords, report, check, next, rehearse, ready, ask, repairs, Action, change, merge, send_all, send, deliver, query, Command}
 
 -- what a line prints: an answer; why there is none; or what is said to a query about a plan and what a site holds
 pub data Reply : Type 0 where
@@ -78,6 +78,7 @@ change_read (done event time) = and_then (time_read time) (λ read. Ok (Done eve
 -- the query that is asked, where its words can be read
 abbrev pub query_read : QueryWords → Result Query Failure
 query_read report = Ok asked.report
+query_read repairs = Ok asked.repairs
 query_read (check times) = and_then (times_read times) (λ read. Ok (asked.check read))
 query_read (next now) = and_then (time_read now) (λ time. Ok (asked.next time))
 query_read (rehearse now) = and_then (time_read now) (λ time. Ok (asked.rehearse time))

@@ -15,7 +15,7 @@ use Rattle.stn_exec.specs.declared.command.QueryWords.TheVariants as asking
 use Rattle.stn_exec.specs.declared.script.Ran.{Ran}
 use Rattle.stn_exec.specs.declared.script.RunFault.{RunFault}
 use Rattle.stn_exec.specs.declared.script.RunFault.TheVariants.{Write, Memory}
-use Rattle.stn_exec.specs.Command.{BoundWords, ChangeWords, add, amend, withdraw, done, QueryWords, report, check, next, rehearse, ready, ask, Action, change, merge, send_all, send_items, deliver, query, Command, sites_command}
+use Rattle.stn_exec.specs.Command.{BoundWords, ChangeWords, add, amend, withdraw, done, QueryWords, report, check, next, rehearse, ready, ask, repairs, Action, change, merge, send_all, send_items, deliver, query, Command, sites_command}
 use Rattle.stn_exec.specs.Effect.{Effect}
 use Rattle.stn_exec.specs.Script.{Outcome}
 use Rattle.stn_exec.specs.Output.{IsReplyText, IsRefusal, CountsRefusals, WritesOutput, WritesOutputPart}
@@ -34,6 +34,7 @@ seen_change (changing.Done event time) = done event time.now
 -- the query
 abbrev pub seen_query : QueryOfLine → QueryWords
 seen_query asking.Report = report
+seen_query asking.Repairs = repairs
 seen_query (asking.Check times) = check (words_of times.now)
 seen_query (asking.Next now) = next now.now
 seen_query (asking.Rehearse now) = rehearse now.now

@@ -132,6 +132,7 @@ pub fn tell<A: Allocator + Copy>(
 {
     match *words {
         QueryWords::Report => tell_asked(world, site, &Query::Report, out),
+        QueryWords::Repairs => tell_asked(world, site, &Query::Repairs, out),
         QueryWords::Check(line) => {
             let times = read_times(alloc, line)?;
             tell_asked(world, site, &Query::Check(&times), out)

@@ -4,7 +4,7 @@ ghost use Rattle.std.specs.Option.{option_map};
 ghost use Rattle.std.specs.Str.{bytes_eq};
 ghost use Rattle.stn_text.specs.Lines.{words_of};
 ghost use Rattle.stn_command.specs.Words.{id_of};
-ghost use Rattle.stn_exec.specs.Command.{lone_word, bound_words, command_of, action_of, add_of, done_of, amend_of, withdraw_of, merge_of, send_of, deliver_of, report_of, check_of, next_of, rehearse_of, alone_of, ready_of, why_of, query_of, tombstone_of, is_item};
+ghost use Rattle.stn_exec.specs.Command.{lone_word, bound_words, command_of, action_of, add_of, done_of, amend_of, withdraw_of, merge_of, send_of, deliver_of, report_of, check_of, next_of, rehearse_of, alone_of, ready_of, why_of, repairs_of, query_of, tombstone_of, is_item};
 ghost use Rattle.stn_exec.specs.Running.{seen_bound, seen_command, seen_action};
 
 use std::alloc::Allocator;
@@ -67,6 +67,8 @@ pub enum ChangeWords<'a> {
 pub enum QueryWords<'a> {
     /// The report.
     Report,
+    /// What mends a conflict.
+    Repairs,
     /// Whether the times of all events, which are the words of this part of the line, are a schedule.
     Check(&'a [u8]),
     /// What comes next from this time on.
@@ -129,6 +131,8 @@ fn read_query<'a>(events: u16, name: &[u8], rest: &'a [u8]) -> Option<Action<'a>
         read_ready(rest)
     } else if is_named(name, b"why") {
         read_why(rest)
+    } else if is_named(name, b"repairs") {
+        read_repairs(rest)
     } else {
         read_alone(name, rest)
     }
@@ -298,6 +302,15 @@ fn read_report(rest: &[u8]) -> Option<Action<'_>>
     match first_word(rest) {
         Some(_) => None,
         None => Some(Action::Query(QueryWords::Report)),
+    }
+}
+
+fn read_repairs(rest: &[u8]) -> Option<Action<'_>>
+    ensures { option_map seen_action result ≡ repairs_of (words_of rest.now) }
+{
+    match first_word(rest) {
+        Some(_) => None,
+        None => Some(Action::Query(QueryWords::Repairs)),
     }
 }
 

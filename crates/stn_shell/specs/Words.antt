@@ -6,13 +6,13 @@ use Rattle.stn_records.specs.Id.{SiteCounter}
 use Rattle.stn_loosen.specs.Slack.{Slack}
 use Rattle.stn_questions.specs.declared.asked.Question.TheVariants.{Records as records, Steps as steps, Bounds as bounds, Why as why}
 use Rattle.stn_command.specs.Words.{and_then, event_of, id_of, time_read, times_read, no_such_word}
-use Rattle.stn_command.specs.Query.{Query, seen_query, report, check, next, ready, rehearse, ask, draw}
+use Rattle.stn_command.specs.Query.{Query, seen_query, report, check, next, ready, rehearse, ask, repairs, draw}
 use Rattle.stn_command.specs.declared.changes.AskedBound.{AskedBound}
 use Rattle.stn_command.specs.declared.changes.Change.{Change}
 use Rattle.stn_command.specs.declared.changes.Change.TheVariants as made
 use Rattle.stn_line.specs.declared.words.SiteLog.{SiteLog}
 use Rattle.stn_line.specs.declared.words.Line.{Line}
-use Rattle.stn_line.specs.declared.words.Line.TheVariants.{Add, Amend, Withdraw, Done, Merge, Report, Next, Ready, Why, Records, Steps, Bounds, Check, Rehearse, Draw}
+use Rattle.stn_line.specs.declared.words.Line.TheVariants.{Add, Amend, Withdraw, Done, Merge, Report, Next, Ready, Why, Repairs, Records, Steps, Bounds, Check, Rehearse, Draw}
 use Rattle.stn_refusal.specs.declared.failure.Failure.{Failure}
 use Rattle.stn_shell.specs.declared.words.Asked.{Asked as AskedOfCode}
 use Rattle.stn_shell.specs.declared.words.Asked.TheVariants as code
@@ -77,6 +77,7 @@ query_of (Why log event) = and_then (event_read event.now) (λ which. Ok (query 
 query_of (Records log) = Ok (query log (ask records))
 query_of (Steps log) = Ok (query log (ask steps))
 query_of (Bounds log) = Ok (query log (ask bounds))
+query_of (Repairs log) = Ok (query log repairs)
 query_of (Draw log) = Ok (query log draw)
 query_of other = Err no_such_word
 

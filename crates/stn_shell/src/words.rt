@@ -101,6 +101,7 @@ fn read_query<'l, 'a>(alloc: Global, line: &'l Line<'a>) -> Result<Asked<'l, 'a>
         Line::Records { log } => Ok(Asked::Query(log, Query::Ask(Question::Records))),
         Line::Steps { log } => Ok(Asked::Query(log, Query::Ask(Question::Steps))),
         Line::Bounds { log } => Ok(Asked::Query(log, Query::Ask(Question::Bounds))),
+        Line::Repairs { log } => Ok(Asked::Query(log, Query::Repairs)),
         Line::Draw { log } => Ok(Asked::Query(log, Query::Draw)),
         _ => Err(no_such_word()),
     }
