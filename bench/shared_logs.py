@@ -531,7 +531,7 @@ def two_writers(stn):
         os.umask(old)
     found = os.stat("a.log.lock")
     check((found.st_gid, mode_of("a.log.lock")) == (group, 0o660), f"lock {found.st_gid} {mode_of('a.log.lock'):o}")
-    opened = subprocess.run([sys.executable, "-c", "open('a.log.lock')"], capture_output=True, check=False, **as_user(reader, reader))
+    opened = subprocess.run(["/bin/cat", "a.log.lock"], capture_output=True, check=False, **as_user(reader, reader))
     check(opened.returncode != 0, "who may only read the log can open its lock")
     check(stn.run("report", "a.log", "1", **as_user(reader, reader))[0] == 0, "who may only read the log can't")
     no_litter()
