@@ -27,4 +27,5 @@ returns g c =
     c.append_window_line.new.out.items c.append_end.new.out.items c.append_way.new.out.items c.append_end-2.new.out.items c.append_way-2.new.out.items
     c.requires.ends early late
     (c.in_ok-append_window_line.ensures.line ∙ (λ i. c.new-text.ensures.items i ++ window_line event earliest latest (flag i)))
-    c.in_ok-append_end.ensures c.in_ok-append_way.ensures c.in_ok-append_end-2.ensures c.in_ok-append_way-2.ensures
+    c.in_ok-append_end.ensures (rw c.deref.ensures.value at c.in_ok-append_way.ensures)
+    c.in_ok-append_end-2.ensures (rw c.deref-2.ensures.value at c.in_ok-append_way-2.ensures)
