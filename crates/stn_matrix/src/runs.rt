@@ -7,18 +7,17 @@ ghost use Rattle.stn_matrix.specs.Way.{IsWhole, AreNearer, AreRuns, IsOnWay};
 
 use crate::square::{Arc, entry_of};
 
-// How many columns begin a run. Without runs the bounds of `windows` take 1,108 million instructions in place of 361, and those of
-// `conflict` 1,332 in place of 515. With eight `conflict` takes seven in a hundred more instructions; with sixteen it takes two less,
-// but `merges` and `dense` take more.
-const HUBS: usize = 12;
+// How many columns begin a run. Without runs the bounds of `windows` take 1,108 million instructions in place of 366, and those of
+// `conflict` 1,332 in place of 519. With ten `conflict` takes two in a hundred more; with twelve, and eight in place of five below,
+// `merges` takes two in a hundred more, and `amended` three.
+const HUBS: usize = 11;
 
 // Every eighth row is asked whether it changes. To put the columns into runs without asking takes six in a hundred more instructions
 // in `windows`, and eleven in a hundred in the matrices of `merges`.
 const SAMPLED: usize = 8;
 
-// If so many of those asked change, the columns are put into runs; half as many or twice as many take
-// one or two in a hundred more instructions.
-const MANY: usize = 8;
+// If so many of those asked change, the columns are put into runs.
+const MANY: usize = 5;
 
 // Columns, and for each the place at which its run ends: the columns after it, up to there, are those
 // of events to which a tightest way from the arc's end leads by its own. So where its entry does not
