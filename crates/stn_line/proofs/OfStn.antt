@@ -84,25 +84,26 @@ all_plain = (
                           reads refl refl refl (one refl refl refl refl, (one refl refl refl refl, (one refl refl refl refl, (asks refl refl refl, tt)))),
                           (
                             reads refl refl refl (one refl refl refl refl, (one refl refl refl refl, (asks refl refl refl, tt))),
-                          (
-                            reads refl refl refl (one refl refl refl refl, (one refl refl refl refl, (asks refl refl refl, tt))),
                             (
                               reads refl refl refl (one refl refl refl refl, (one refl refl refl refl, (asks refl refl refl, tt))),
                               (
                                 reads refl refl refl (one refl refl refl refl, (one refl refl refl refl, (asks refl refl refl, tt))),
                                 (
-                                  reads refl refl refl (one refl refl refl refl, (one refl refl refl refl, (many refl refl refl refl refl, (asks refl refl refl, tt)))),
+                                  reads refl refl refl (one refl refl refl refl, (one refl refl refl refl, (asks refl refl refl, tt))),
                                   (
-                                    reads refl refl refl (one refl refl refl refl, (one refl refl refl refl, (one refl refl refl refl, (asks refl refl refl, tt)))),
+                                    reads refl refl refl (one refl refl refl refl, (one refl refl refl refl, (many refl refl refl refl refl, (asks refl refl refl, tt)))),
                                     (
-                                      reads refl refl refl (one refl refl refl refl, (one refl refl refl refl, (asks refl refl refl, tt))),
+                                      reads refl refl refl (one refl refl refl refl, (one refl refl refl refl, (one refl refl refl refl, (asks refl refl refl, tt)))),
                                       (
-                                        reads refl refl refl (one refl refl refl refl, (asks refl refl refl, tt)),
+                                        reads refl refl refl (one refl refl refl refl, (one refl refl refl refl, (asks refl refl refl, tt))),
                                         (
-                                          reads refl refl refl (one refl refl refl refl, (one refl refl refl refl, (one refl refl refl refl, (one refl refl refl refl, (one refl refl refl refl, (asks refl refl refl, tt)))))),
+                                          reads refl refl refl (one refl refl refl refl, (asks refl refl refl, tt)),
                                           (
-                                            reads refl refl refl (one refl refl refl refl, (one refl refl refl refl, (one refl refl refl refl, (one refl refl refl refl, (asks refl refl refl, tt))))),
-                                            tt,
+                                            reads refl refl refl (one refl refl refl refl, (one refl refl refl refl, (one refl refl refl refl, (one refl refl refl refl, (one refl refl refl refl, (asks refl refl refl, tt)))))),
+                                            (
+                                              reads refl refl refl (one refl refl refl refl, (one refl refl refl refl, (one refl refl refl refl, (one refl refl refl refl, (asks refl refl refl, tt))))),
+                                              tt,
+                                            ),
                                           ),
                                         ),
                                       ),
@@ -124,7 +125,7 @@ all_plain = (
       ),
     ),
   ),
-))
+)
 
 is_required : (built stn).top.subcommand_required ≡ true
 unfolding stn

@@ -13,8 +13,8 @@ ghost use Rattle.stn_store.specs.Store.{IsThere, IsMissing, IsTaken, IsUnopened,
 ghost use Rattle.stn_line.specs.declared.words.Line.TheVariants as of;
 
 use crate::changes::{copied, opened, take_in};
-use crate::loosening::loosen;
 use crate::explaining::explain;
+use crate::loosening::loosen;
 use crate::words::{Asked, read_asked, read_tolerance};
 use std::alloc::Global;
 use stn_command::{Change, Made, Query, make_change, say};
