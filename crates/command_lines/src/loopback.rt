@@ -1,6 +1,9 @@
 // Both ends of connections on this machine, one end after the other. What a session answers is printed, and what the other site
 // makes of the replies, what `serve_on` and `send_on` print and their statuses, and what the saved log then reports. Some of the
 // other ends keep silent, or read nothing.
+ghost use Rattle.std.specs.Prelude.{◌≡◌};
+ghost use Rattle.stn_device.specs.Counted.{failure_count};
+
 mod changing;
 mod untrusted;
 
@@ -456,7 +459,10 @@ fn status_of_sending(
     rt: &HostRuntime,
     peer: &mut Peer<'_, HostRuntime>,
     replica: &mut Replica<Global>,
-) -> u8 {
+) -> u8
+    requires reads { failure_count peer.old.reader ≡ 0 }
+    requires writes { failure_count peer.old.writer ≡ 0 }
+{
     let mut out = Counted::new(io::writer(rt));
     let mut err = Counted::new(io::writer(rt));
     send_on(

@@ -10,9 +10,9 @@ use stn_replica::Replica;
 use stn_shell::{send_on, serve_on};
 use stn_store::{MemoryStore, Store};
 
-fn log_of(name: &str, number: u8) -> io::Result<SiteLog<'_>> {
+fn site_of(number: u8) -> io::Result<Site> {
     match Site::new(number) {
-        Some(site) => Ok(SiteLog { name, site }),
+        Some(site) => Ok(site),
         None => Err(Error::other("no site")),
     }
 }
@@ -44,7 +44,8 @@ fn send(
     name: &str,
     bytes: &[u8],
 ) -> io::Result<Vec<u8>> {
-    let log = log_of(name, 2)?;
+    let site = site_of(2)?;
+    let log = SiteLog { name, site };
     let mut replica = load(store, &log)?;
     let mut partner = Partner {
         reader: Counted::new(bytes),
@@ -74,7 +75,8 @@ fn serve(
     callers: &mut MemoryCallers<'_>,
     count: u16,
 ) -> io::Result<()> {
-    let log = log_of(name, 1)?;
+    let site = site_of(1)?;
+    let log = SiteLog { name, site };
     let mut replica = load(store, &log)?;
     let mut out = Counted::new(io::writer(rt));
     let mut err = Counted::new(io::writer(rt));
