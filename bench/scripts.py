@@ -117,6 +117,19 @@ def named_cycle(table, bounds, culprit):
     return [first, *way_of(table, bounds[:bounds.index(culprit)], first.ends, first.begins)]
 
 
+def kept_of(table, bounds, ends_at_first):
+    """The table of the bounds with which those before have a schedule, taken one by one; and those with which they have none."""
+    table, dropped = table.copy(), []
+    for bound in bounds:
+        if not table.refused_link(bound):
+            table.add(bound)
+            continue
+        dropped.append(bound)
+        if ends_at_first:
+            break
+    return table, dropped
+
+
 def id_text(one):
     return f"{one[0]}.{one[1]}"
 
@@ -309,6 +322,21 @@ class Site:
         lines.append(f"latest {time_text(sum(link.weight for link in latest))}")
         return lines + [link.text() for link in latest]
 
+    def repairs(self):
+        """The range that the others leave each record without which they have a schedule, and the records to drop, facts last."""
+        if self.judged()[1] is None:
+            return ["ok"]
+        live = self.bounds()[len(self.plan.bounds):]
+        lines = []
+        for one in live:
+            table, culprit = kept_of(self.plan.table, [bound for bound in live if bound is not one], True)
+            if not culprit:
+                ends = f"{event_text(one.start)} {event_text(one.to)}"
+                lines.append(f"{one.name} {ends} {time_text(-table.rows[one.to][one.start])} {time_text(table.rows[one.start][one.to])}")
+        facts = {id_text(one) for one, (mark, *_) in self.added.items() if mark == "done"}
+        dropped = kept_of(self.plan.table, sorted(live, key=lambda bound: bound.name not in facts), False)[1]
+        return lines + [" ".join(["drop"] + [bound.name for bound in live if bound in dropped])]
+
     def coming(self, now):
         """What is left from a time on, by time and event; or the word that says why not, and the overdue event."""
         table, culprit = self.judged()
@@ -382,6 +410,7 @@ WORDS = {
     "bounds": 0,
     "ready": 1,
     "why": 1,
+    "repairs": 0,
 }
 
 
@@ -556,6 +585,9 @@ class Script:
     def read_why(self, event):
         event = EVENTS.get(event)
         return None if event is None else lambda site: site.why(event)
+
+    def read_repairs(self):
+        return Site.repairs
 
     def read_check(self, *times):
         if len(times) != self.sites[0].plan.events:
