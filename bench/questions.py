@@ -5,8 +5,10 @@ usage: bench/questions.py PROGRAM
 
 After each command of the scripts in `examples/`, every site is asked for its report, for `why` of every event, and for
 `next` and `ready` at some times. The links of `why` have to form a chain from the event to the origin, or back, whose sum
-is the end of the window. The first line of `ready` has to say what `next` says. The last line printed is `passed`, with the
-number of comparisons; if something differs, it is printed, and the status is 1.
+is the end of the window. The first line of `ready` has to say what `next` says. Where the report names a conflict, `repairs`
+has to list the records whose withdrawal alone leads to `ok`, each with the least and the greatest time that can then be added
+between its events, and to drop records whose withdrawal does, but not if one of them stays. The last line printed is `passed`,
+with the number of comparisons; if something differs, it is printed, and the status is 1.
 """
 import re
 import subprocess
@@ -14,6 +16,8 @@ import sys
 from pathlib import Path
 
 TOP = Path(__file__).resolve().parent.parent
+
+HORIZON = 31_536_000_000
 
 
 def run(program, script):
@@ -71,9 +75,40 @@ def answers(program, script, questions):
     return [printed[place + 1:end] for place, end in zip(marks, marks[1:])]
 
 
+def is_ok(program, script, site, *commands):
+    """Whether the site's bounds have a schedule after further commands."""
+    text = script + "".join(f"{site} {command}\n" for command in commands)
+    return "ok" in answers(program, text, [f"{site} report"])[0]
+
+
+def is_range(program, script, site, words):
+    """Whether the two times of a line of `repairs` are the least and the greatest that its events can be apart without the record."""
+    name, start, to, least, greatest = words
+    gone = f"withdraw {name}"
+    inner = [f"add {start} {to} {time} {time}" for time in (least, greatest)]
+    outer = [f"add {start} {to} * {text(ms(least) - 1)}", f"add {start} {to} {text(ms(greatest) + 1)} *"]
+    return all(is_ok(program, script, site, gone, line) for line in inner) and \
+        not any(is_ok(program, script, site, gone, line) for line, end in zip(outer, (least, greatest)) if abs(ms(end)) < HORIZON)
+
+
+def text(time):
+    return f"{'-' if time < 0 else ''}{abs(time) // 1000}.{abs(time) % 1000:03}"
+
+
+def repairs_agree(program, script, site, lines):
+    """Whether the answer to `repairs` in a conflict is what trying each withdrawal on a copy gives."""
+    listed, dropped = [line.split() for line in lines[:-1]], lines[-1].split()[1:]
+    (records,) = answers(program, script, [f"{site} records"])
+    live = [words[0] for words in map(str.split, records) if len(words) > 4 and not {"withdrawn", "replaced"} & set(words)]
+    gone = [f"withdraw {name}" for name in dropped]
+    return [words[0] for words in listed] == [name for name in live if is_ok(program, script, site, f"withdraw {name}")] and \
+        all(is_range(program, script, site, words) for words in listed) and is_ok(program, script, site, *gone) and \
+        not any(is_ok(program, script, site, *gone[:place], *gone[place + 1:]) for place in range(len(gone)))
+
+
 def compare(program, script, site):
     """How many questions were compared with the report of a site, and those that differ."""
-    (report,) = answers(program, script, [f"{site} report"])
+    report, repairs = answers(program, script, [f"{site} report", f"{site} repairs"])
     windows = [line for line in report if re.match(r"[se]\d+ ", line)] if "ok" in report else []
     times = ["0.000", *(time for line in windows[:12] for time in line.split()[1:3])]
     asked = [f"{site} why {line.split()[0]}" for line in windows] + [f"{site} {word} {time}" for time in times for word in ("next", "ready")]
@@ -81,7 +116,9 @@ def compare(program, script, site):
     wrong = [asked[place] for place, line in enumerate(windows) if not why_agrees(given[place], line)]
     pairs = range(len(windows), len(asked), 2)
     wrong += [asked[place + 1] for place in pairs if not ready_agrees(given[place + 1], given[place][0])]
-    return len(windows) + len(pairs), wrong
+    if not (repairs == ["ok"] if "ok" in report else repairs_agree(program, script, site, repairs)):
+        wrong.append(f"{site} repairs")
+    return len(windows) + len(pairs) + 1, wrong
 
 
 def main():
