@@ -81,6 +81,11 @@ def conflict():
     return lines + ["1 add s1 e256 * -1000000.000", "1 report"]
 
 
+def repairs():
+    """As `conflict`, but what mends it in place of the report."""
+    return conflict()[:-1] + ["1 repairs"]
+
+
 def rehearse():
     """512 events, 2,000 bounds that have a schedule, and the rehearsal of all."""
     rng = random.Random(4)
@@ -108,7 +113,7 @@ def dense():
     return domain + plan + ["sites 64", "64 report"]
 
 
-SCRIPTS = {made.__name__: made for made in (windows, merges, amended, conflict, dense, rehearse, packets)}
+SCRIPTS = {made.__name__: made for made in (windows, merges, amended, conflict, repairs, dense, rehearse, packets)}
 
 
 def processor():
