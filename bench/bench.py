@@ -123,10 +123,11 @@ def processor():
     return "unknown"
 
 
-def timed(words, folder, given):
-    """The best wall time of three runs, and the last run."""
+def timed(words, folder, given, begin=lambda: None):
+    """The best wall time of three runs, each after `begin`, and the last run."""
     best = None
     for _ in range(3):
+        begin()
         with given.open("rb") as text:
             begun = time.monotonic()
             done = subprocess.run([str(PROGRAM), *words], cwd=folder, stdin=text, stdout=subprocess.PIPE, check=False)
@@ -202,38 +203,43 @@ def bounded_log(records):
     return frame(struct.pack(">BBH", 7, 0, 256)) + frame(struct.pack(">BH", 8, records) + b"".join(listed) + struct.pack(">H", 0)), times
 
 
+def run_command(name, words, folder, begin):
+    """A command on a log, which `begin` makes as it was before each run."""
+    nothing = folder / "nothing"
+    nothing.write_bytes(b"")
+    best, done = timed(words, folder, nothing, begin)
+    begin()
+    count = instructions(words, folder, nothing)
+    row = f"{name}: {len(done.stdout)} bytes printed, status {done.returncode}, {best:.3f} s"
+    print(row if count is None else f"{row}, {count / 1e6:.1f} million instructions", flush=True)
+
+
 def commands(folder):
     """Single commands on a log of 4,000 records over 256 steps."""
     made, times = bounded_log(4000)
-    log, nothing = folder / "commands.log", folder / "nothing"
-    nothing.write_bytes(b"")
+    log = folder / "commands.log"
     for words in ("add s1 e256 --lo=-1000000", "done s1 500", "withdraw 1.2000", "records", f"check {times}", "report", "why e128",
                   "draw", "next 0", "ready 0", "rehearse 0"):
         command, *rest = words.split()
-        words = [command, "commands.log", "1", *rest]
-        log.write_bytes(made)
-        best, done = timed(words, folder, nothing)
-        log.write_bytes(made)
-        count = instructions(words, folder, nothing)
-        row = f"{command}: {len(done.stdout)} bytes printed, status {done.returncode}, {best:.3f} s"
-        print(row if count is None else f"{row}, {count / 1e6:.1f} million instructions", flush=True)
+        run_command(command, [command, log.name, "1", *rest], folder, lambda: log.write_bytes(made))
 
 
 def crowded(folder):
-    """Single commands on a log of a plan of 256 steps that all interfere."""
+    """Single commands on a log of a plan of 256 steps that all interfere, every other of which is another site's for its guard."""
     domain, _, plan = "\n".join(dense()[1:-2]).partition("\nend\nplan\n")
-    log, nothing = folder / "crowded.log", folder / "nothing"
-    nothing.write_bytes(b"")
+    log = folder / "crowded.log"
     (folder / "domain.pddl").write_text(domain + "\n")
     (folder / "plan.txt").write_text(plan.removesuffix("\nend") + "\n")
     subprocess.run([str(PROGRAM), "init", log.name, "1", "domain.pddl", "plan.txt"], cwd=folder, stdout=subprocess.DEVNULL, check=True)
-    for words in ("report", "why e128", "draw", "next 0"):
+    made = log.read_bytes()
+    other = ",".join(str(step) for step in range(2, 257, 2))
+    for words in ("report", "why e128", "draw", "next 0", f"guard --own=2:{other}"):
         command, *rest = words.split()
-        words = [command, log.name, "1", *rest]
-        best, done = timed(words, folder, nothing)
-        count = instructions(words, folder, nothing)
-        row = f"crowded {command}: {len(done.stdout)} bytes printed, status {done.returncode}, {best:.3f} s"
-        print(row if count is None else f"{row}, {count / 1e6:.1f} million instructions", flush=True)
+        run_command(f"crowded {command}", [command, log.name, "1", *rest], folder, lambda: log.write_bytes(made))
+    loose = folder / "loose.log"
+    for robust in ([], ["--robust"]):
+        words = ["loosen", loose.name, "1", "domain.pddl", "plan.txt", "--early=0.1", "--late=0.4", *robust]
+        run_command(" ".join(["crowded loosen", *robust]), words, folder, lambda: loose.unlink(missing_ok=True))
 
 
 def send_pieces(port, data, piece):

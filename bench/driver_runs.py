@@ -2,24 +2,29 @@
 """Runs examples/driver.py over four plans with 200 seeds each, loosened and robust, and checks each run: prints how many
 runs came to `all done`, and at the end `passed`, or what is wrong, with status 1.
 
-usage: bench/driver_runs.py PROGRAM
+usage: bench/driver_runs.py PROGRAM [PROCESSES]
 
-PROGRAM is the built program, whose path ./stn build prints. A run is checked by bench/plans.py,
-which reads domains and plans by the formats alone:
+PROGRAM is the built program, whose path ./stn build prints. So many drivers run side by side, each with a part of the seeds
+(as many as there are processors, if it is not given). A run is checked by bench/plans.py, which reads domains and plans by
+the formats alone:
 
 - each step takes its planned duration, with the tolerance;
 - events that interfere keep the planner's order, as far as they took place;
 - a run that doesn't come to `all done` stops at an event that can't take place any more;
 - each run of a robust plan comes to `all done`, and there is a robust plan exactly if there is a promise.
 """
+import os
 import subprocess
 import sys
 import tempfile
+from concurrent.futures import ThreadPoolExecutor
 from pathlib import Path
 
 import plans
 
 SEEDS = 200
+# How many of them one driver runs.
+PART = 25
 ROOT = Path(__file__).resolve().parent.parent
 EXAMPLES = ROOT / "examples"
 PLANS = ("cellar", "doors", "workshop", "satellites")
@@ -94,27 +99,29 @@ def check_run(lines, end, bounds, steps):
         check(latest is not None and event not in done and latest[event] < asked, f"{end}: it may still take place")
 
 
-def runs_of(program, domain, plan, options):
-    """The lines of each run, and how it ended."""
-    words = [sys.executable, ROOT / "examples/driver.py", program, domain, plan, *options, f"--seeds={SEEDS}"]
-    printed = subprocess.run(words, capture_output=True, text=True, check=True).stdout.splitlines()
-    lines = []
-    for line in printed[:-1]:
+def runs_of(program, domain, plan, options, first):
+    """The lines of each run of a part of the seeds, and how it ended."""
+    words = [sys.executable, ROOT / "examples/driver.py", program, domain, plan, *options, f"--first={first}", f"--seeds={PART}"]
+    done = subprocess.run(words, capture_output=True, text=True, check=False)
+    check(done.returncode == 0, done.stderr)
+    runs, lines = [], []
+    for line in done.stdout.splitlines()[:-1]:
         if line.startswith("seed "):
-            yield lines, line.partition(": ")[2]
+            runs.append((lines, line.partition(": ")[2]))
             lines = []
         else:
             lines.append(line)
+    return runs
 
 
-def complete_runs(program, domain, plan, options, bounds, steps):
+def complete_runs(pool, words, bounds, steps):
     """How many of all runs of a plan with a tolerance came to `all done`."""
-    ends = []
-    for lines, end in runs_of(program, domain, plan, options):
+    parts = pool.map(lambda first: runs_of(*words, first), range(1, SEEDS + 1, PART))
+    runs = [run for part in parts for run in part]
+    check(len(runs) == SEEDS, "a run is missing")
+    for lines, end in runs:
         check_run(lines, end, bounds, steps)
-        ends.append(end)
-    check(len(ends) == SEEDS, "a run is missing")
-    return ends.count("all done")
+    return sum(end == "all done" for _, end in runs)
 
 
 def refusal(program, domain, plan, options):
@@ -124,30 +131,33 @@ def refusal(program, domain, plan, options):
         return subprocess.run(words, capture_output=True, text=True, check=False).stdout.strip()
 
 
-def try_plan(program, domain, plan, early, late):
+def try_plan(pool, program, name, early, late):
     """All runs of a plan with a tolerance, loosened and robust."""
+    domain, plan = EXAMPLES / f"{name}.pddl", EXAMPLES / f"{name}.plan"
     bounds, planned = plans.lifted(domain.read_bytes(), plan.read_bytes())
     steps = len(planned) // 2
     loose = loosened(bounds, steps, plans.read_time(early), plans.read_time(late))
     options = [f"--early={early}", f"--late={late}"]
-    count = complete_runs(program, domain, plan, options, loose, steps)
-    print(f"{plan.stem} {' '.join(options)}: {count} of {SEEDS}", flush=True)
+    count = complete_runs(pool, (program, domain, plan, options), loose, steps)
+    print(f"{name} {' '.join(options)}: {count} of {SEEDS}", flush=True)
     options.append("--robust")
     promised = robust(loose, steps)
     if latest_times(promised, {}, 2 * steps) is None:
         check(refusal(program, domain, plan, options) == "refused 45", "a robust plan, and there is no promise")
-        print(f"{plan.stem} {' '.join(options)}: refused", flush=True)
+        print(f"{name} {' '.join(options)}: refused", flush=True)
         return
-    check(complete_runs(program, domain, plan, options, promised, steps) == SEEDS, "a run of a robust plan stopped")
-    print(f"{plan.stem} {' '.join(options)}: {SEEDS} of {SEEDS}", flush=True)
+    count = complete_runs(pool, (program, domain, plan, options), promised, steps)
+    print(f"{name} {' '.join(options)}: {count} of {SEEDS}", flush=True)
+    check(count == SEEDS, "a run of a robust plan stopped")
 
 
 def main():
-    program = sys.argv[1]
+    program, *rest = sys.argv[1:] or sys.exit(__doc__)
     try:
-        for name in PLANS:
-            for tolerance in TOLERANCES:
-                try_plan(program, EXAMPLES / f"{name}.pddl", EXAMPLES / f"{name}.plan", *tolerance)
+        with ThreadPoolExecutor(int(rest[0]) if rest else os.cpu_count()) as pool:
+            for name in PLANS:
+                for tolerance in TOLERANCES:
+                    try_plan(pool, program, name, *tolerance)
     except Wrong as wrong:
         sys.exit(str(wrong))
     print("passed")

@@ -2,15 +2,21 @@
 """Prints a script in which sites of one plan work over links that lose, repeat and reorder what they carry, until all have heard all.
 
 usage: simulate.py SEED [SITES [STEPS [WORK]]]    64 sites, 2 steps and 300 commands, unless told
+       simulate.py apart PROGRAM [SEEDS]          200 seeds, unless told
 
 First come random commands: bounds that a hidden schedule meets, amendments, withdrawals, packets of all or of some items, deliveries of any packet at any
 age and any number of times, and merges; a packet that is never delivered is lost. Then each site sends all to the first, and the first to
 each, in any order and some of them twice. At the end each site reports, and all should print the same bytes:
 
     bench/simulate.py 1 | ./stn run
+
+With `apart` it runs PROGRAM, whose path ./stn build prints, on plans whose steps belong to two to four sites that act out of
+contact: apart.py says how.
 """
 import random
 import sys
+
+import apart
 
 # Over how many milliseconds the events of the hidden schedule are spread.
 SPREAD = 1_000_000_000
@@ -148,6 +154,9 @@ class Simulation:
 
 
 def main():
+    if sys.argv[1:2] == ["apart"]:
+        apart.main(*sys.argv[2:])
+        return
     seed, *sizes = [int(word) for word in sys.argv[1:]] or sys.exit(__doc__)
     sites, steps, work = sizes + [64, 2, 300][len(sizes):]
     simulation = Simulation(seed, sites, steps)

@@ -8,9 +8,11 @@ One run goes like this:
 
 - `loosen` makes a log of the plan, in which each step may end up to `--early` earlier and up to `--late` later. With
   `--robust`, the log also bounds the starts, so that the plan completes however long the steps take.
-- The driver reads the clock and asks `ready` which events may come next. It waits until the first of them that it can
-  start may start, and starts that step; or it waits until the machine says that a step has ended.
-- Each event that takes place is recorded with `done`, at the time that the clock showed.
+- The driver reads the clock and asks `ready` which events may come next: one question for each decision. It waits until
+  the first of them that it can start may start, and starts that step; or it waits until the machine says that a step has
+  ended. In a robust plan it asks `ready --starts`: a start may then take place at any time of its window, whatever steps
+  still run, as long as none of them takes longer than its tolerance.
+- Each event that takes place is recorded with `done`, at the time that the clock showed. No end is ever commanded.
 
 The run ends with `all done`, or with `overdue` and the event that can't take place any more, or with `conflict`. The
 machine and its clock are simulated: no one waits. With `--seeds=N` there are N runs, from SEED on (1 if it is not
@@ -27,6 +29,7 @@ import tempfile
 from pathlib import Path
 
 SITE = "1"
+HORIZON = 31_536_000_000
 
 
 def millis_of(text):
@@ -99,9 +102,23 @@ def planned_durations(program, domain, plan, folder):
     return {words[0]: millis_of(words[-1]) for words in (line.split() for line in log.ask("steps"))}
 
 
-def run(log, machine, tell):
+def longest_durations(log):
+    """The longest duration of each step, in milliseconds, by the bounds of a log; steps that may take any time have none."""
+    longest = {}
+    for _, first, second, _, most in (line.split() for line in log.ask("bounds")):
+        step = first[1:]
+        if (first, second) == ("s" + step, "e" + step) and most != "*":
+            longest[step] = min(millis_of(most), longest.get(step, HORIZON))
+    return longest
+
+
+def run(log, machine, tell, robust=False):
     """Runs the plan of a log on a machine. Returns how the run ended: `all done`, or `overdue` with an event, or `conflict`,
     and when that was found."""
+    options = ["--starts"] if robust else []
+    longest = longest_durations(log) if robust else {}
+    # By when each step that runs has to end, where `ready` says nothing of ends.
+    due = {}
 
     def record(event, time):
         log.ask("done", event, time_text(time))
@@ -109,23 +126,29 @@ def run(log, machine, tell):
 
     while True:
         now = machine.now()
-        answer = log.ask("ready", time_text(now))
-        ready = [line.split() for line in answer]
-        if answer[0] == "all done":
+        late = [step for step, time in due.items() if time < now]
+        if late:
+            return f"overdue e{late[0]} at {time_text(now)}"
+        answer = log.ask("ready", time_text(now), *options)
+        if answer[0] == "all done" and not due:
             return answer[0]
-        if len(ready[0]) < 3:
+        if answer[0] == "conflict" or answer[0].startswith("overdue"):
             return f"{answer[0]} at {time_text(now)}"
         # Lines are in order of the first time, and each has the same last time.
-        start = next((line for line in ready if line[0][0] == "s"), None)
-        last = millis_of(ready[0][2])
-        ended = machine.wait_until(millis_of(start[1]) if start else last + 1)
+        ready = [(line.split()[0], *map(millis_of, line.split()[1:])) for line in answer if line != "all done"]
+        start, first, _ = next((line for line in ready if line[0][0] == "s"), (None, HORIZON, None))
+        last = min([time for _, _, time in ready[:1]] + list(due.values()))
+        ended = machine.wait_until(min(first, last + 1))
         if ended:
             time, step = ended
+            due.pop(step, None)
             record("e" + step, time)
         elif start and machine.now() <= last:
-            now = machine.now()
-            machine.start_step(start[0][1:])
-            record(start[0], now)
+            now, step = machine.now(), start[1:]
+            machine.start_step(step)
+            record(start, now)
+            if robust:
+                due[step] = now + longest.get(step, HORIZON)
 
 
 def main():
@@ -151,7 +174,7 @@ def main():
         loose.ask("loosen", words.domain, words.plan, "--early=" + time_text(early), "--late=" + time_text(late), *robust)
         for seed in range(words.first, words.first + words.seeds):
             log = loose.copy(folder / "run.log")
-            end = run(log, SimulatedMachine(durations, early, late, seed), tell)
+            end = run(log, SimulatedMachine(durations, early, late, seed), tell, words.robust)
             complete += end == "all done"
             print(f"seed {seed}: {end}")
     print(f"{complete} of {words.seeds} runs came to `all done`")
