@@ -84,6 +84,65 @@ fn two_sites_share_a_bound(rt: HostRuntime) {
     assert!(rt; guards_two_sites(rt.alloc()) == Some(true));
 }
 
+// The two sites, each of which holds the guard.
+fn two_guarded_sites(alloc: Global) -> Option<(SitePlan<Global>, SitePlan<Global>)> {
+    let mut plan = two_steps(alloc)?;
+    let other = owned(2, 2)?;
+    add_guard(&mut plan, &[other]).ok()??;
+    let site = Site::new(2)?;
+    let mut beside = plan.beside(site).ok()?;
+    beside.take(plan.records()).ok()?;
+    Some((plan, beside))
+}
+
+fn execute(plan: &mut SitePlan<Global>, event: u16, time: i64) -> Option<()> {
+    let event = Event::new(event)?;
+    let time = Ms::new(time)?;
+    plan.done(event, time).ok()?;
+    Some(())
+}
+
+// Each takes what the other holds. Whether all their bounds have a schedule then.
+fn meet(one: &mut SitePlan<Global>, other: &mut SitePlan<Global>) -> Option<bool> {
+    one.take(other.records()).ok()?;
+    other.take(one.records()).ok()?;
+    let windows = one.windows().ok()?;
+    let others = other.windows().ok()?;
+    Some(windows.is_some() && others.is_some())
+}
+
+// Site 1 ends its step at the first moment that the guard leaves it, and meets site 2, which then starts its own at the last:
+// four seconds later, as many as there may be.
+fn first_site_acts_first(alloc: Global) -> Option<bool> {
+    let (mut first, mut second) = two_guarded_sites(alloc)?;
+    execute(&mut first, 2, 5_000)?;
+    let met = meet(&mut first, &mut second)?;
+    execute(&mut second, 3, 9_000)?;
+    let met_again = meet(&mut first, &mut second)?;
+    Some(met && met_again)
+}
+
+#[test]
+fn the_end_is_known_before_the_start(rt: HostRuntime) {
+    assert!(rt; first_site_acts_first(rt.alloc()) == Some(true));
+}
+
+// Site 2 starts its step at the first moment that the guard leaves it, and meets site 1, which then ends its own at the last:
+// at that same moment.
+fn second_site_acts_first(alloc: Global) -> Option<bool> {
+    let (mut first, mut second) = two_guarded_sites(alloc)?;
+    execute(&mut second, 3, 7_000)?;
+    let met = meet(&mut first, &mut second)?;
+    execute(&mut first, 2, 7_000)?;
+    let met_again = meet(&mut first, &mut second)?;
+    Some(met && met_again)
+}
+
+#[test]
+fn the_start_is_known_before_the_end(rt: HostRuntime) {
+    assert!(rt; second_site_acts_first(rt.alloc()) == Some(true));
+}
+
 // Three starts, each at most two seconds after the one before, the first by eight seconds: six and five part the first two,
 // and 7.5 and 5.75 the last two.
 fn guards_three_sites(alloc: Global) -> Option<bool> {
