@@ -614,11 +614,11 @@ def as_taken(site):
 
 def print_same(name, text):
     """Prints how many reports of a script, of each site before and after each line, a new site that has merged the site prints too."""
-    steps, sites, *lines = text.removesuffix(b"\n").split(b"\n")
-    script = Script(steps + b"\nsites %d\n" % MOST_SITES)
+    heading, sites, rest = re.split(rb"^(sites \d+)\n", text, maxsplit=1, flags=re.M)
+    script = Script(heading + b"sites %d\n" % MOST_SITES)
     script.run()
     same = 0
-    for line in [b"", *lines]:
+    for line in [b"", *rest.removesuffix(b"\n").split(b"\n")]:
         repeated = re.fullmatch(rb"\* (\d+) (.*)", line)
         script.lines += int(repeated[1]) * [repeated[2]] if repeated else [line]
         script.run_commands()

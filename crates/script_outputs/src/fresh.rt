@@ -40,12 +40,22 @@ fn are_same_at(alloc: Global, script: &str, sites: u8) -> Result<bool, AllocErro
     Ok(true)
 }
 
-// The number of sites of a line `sites <number>`, and 0 of any other.
-fn sites_of(line: &str) -> u8 {
-    match line.strip_prefix("sites ") {
-        Some(number) => number.parse::<u8>().unwrap_or(0),
-        None => 0,
+// The last line of a script's heading, counted from 0, and the number of sites that it says.
+#[derive(Clone, Copy)]
+struct Heading {
+    last: usize,
+    sites: u8,
+}
+
+// The heading up to the first line `sites <number>`.
+fn heading_of(text: &str) -> Option<Heading> {
+    for (last, line) in text.lines().enumerate() {
+        if let Some(number) = line.strip_prefix("sites ") {
+            let sites = number.parse::<u8>().unwrap_or(0);
+            return Some(Heading { last, sites });
+        }
     }
+    None
 }
 
 fn append_often(script: &mut String, count: u16, command: &str) -> Result<(), AllocError> {
@@ -71,39 +81,43 @@ fn append_line(script: &mut String, line: &str) -> Result<(), AllocError> {
 fn find_difference(
     script: &mut String,
     text: &str,
-    sites: u8,
+    heading: Heading,
 ) -> Result<Option<usize>, AllocError> {
     let alloc = *script.allocator();
     for (place, line) in text.lines().enumerate() {
-        append_line(script, if place == 1 { "sites 64" } else { line })?;
-        if place > 0 && !are_same_at(alloc, script, sites)? {
+        let last = place == heading.last;
+        append_line(script, if last { "sites 64" } else { line })?;
+        if place >= heading.last && !are_same_at(alloc, script, heading.sites)? {
             return Ok(Some(place.saturating_add(1)));
         }
     }
     Ok(None)
 }
 
-fn difference(alloc: Global, text: &str, sites: u8) -> Result<Option<usize>, AllocError> {
+fn difference(alloc: Global, text: &str, heading: Heading) -> Result<Option<usize>, AllocError> {
     let mut script = String::new(alloc);
-    let place = find_difference(&mut script, text, sites);
+    let place = find_difference(&mut script, text, heading);
     drop(script);
     place
 }
 
-fn print_compared(rt: &HostRuntime, name: &str, text: &str, sites: u8) -> io::Result<()> {
-    match difference(rt.alloc(), text, sites)? {
+fn print_compared(rt: &HostRuntime, name: &str, text: &str, heading: Heading) -> io::Result<()> {
+    match difference(rt.alloc(), text, heading)? {
         Some(line) => println!(rt; "{name} line {line} differs"),
         None => {
-            let times = text.lines().count().saturating_sub(1);
-            println!(rt; "{name} {} same", times.saturating_mul(usize::from(sites)))
+            let times = text.lines().count().saturating_sub(heading.last);
+            println!(rt;
+                "{name} {} same",
+                times.saturating_mul(usize::from(heading.sites))
+            )
         }
     }
 }
 
-/// Compares the reports of a script with a heading of two lines, and prints how many were the same, or the first that was not.
+/// Compares the reports of a script, and prints how many were the same, or the first that was not.
 pub fn compare(rt: &HostRuntime, name: &str, text: &str) -> io::Result<()> {
-    match text.lines().nth(1) {
-        Some(line) => print_compared(rt, name, text, sites_of(line)),
+    match heading_of(text) {
+        Some(heading) => print_compared(rt, name, text, heading),
         None => println!(rt; "{name} has no heading"),
     }
 }
