@@ -581,6 +581,41 @@ def full_device(stn):
     return None
 
 
+def full_behind_serve(stn):
+    """A log that can't be saved behind `serve`: the command ends with the fault, and the old log stays."""
+    os.mkdir("small")
+    mounted = subprocess.run(["mount", "-t", "tmpfs", "-o", "size=16k", "none", "small"], capture_output=True)
+    if mounted.returncode != 0:
+        return "a full file system behind serve: it can't be mounted"
+    address = f"127.0.0.1:{free_port()}"
+    server = None
+    try:
+        stn.answers("made\n", "bare", "small/a.log", "1", "1")
+        stn.answers("made\n", "bare", "b.log", "2", "1")
+        stn.add("b.log", 0, "2")
+        server = stn.start("serve", "small/a.log", "1", address, "1")
+        check(server.stdout.readline() == b"listening\n", "serve")
+        try:
+            with open("small/filler", "wb", buffering=0) as file:
+                while file.write(b"x" * 512):
+                    pass
+        except OSError:
+            pass
+        before = contents("small/a.log")
+        stn.run("send", "b.log", "2", address)
+        out, err = server.communicate(timeout=SECONDS)
+        check((server.returncode, out) == (1, b"") and err in (b"fault write\n", b"fault file\n"), f"serve: {server.returncode} {out} {err}")
+        check(contents("small/a.log") == before, "a log was changed")
+        check(stn.records("b.log", "2") == 1, "what the sender had is lost")
+        no_litter("small")
+    finally:
+        if server is not None:
+            server.kill()
+            server.communicate()
+        subprocess.run(["umount", "small"], check=False)
+    return None
+
+
 def unprinted(stn):
     """An answer that can't be printed comes after the save."""
     stn.answers("made\n", "bare", "a.log", "1", "1")
@@ -644,6 +679,106 @@ def serving(stn):
     no_litter()
 
 
+def stopped_and_continued(process):
+    """A signal comes while the process waits for its connection."""
+    time.sleep(0.3)
+    os.kill(process.pid, signal.SIGSTOP)
+    time.sleep(0.3)
+    os.kill(process.pid, signal.SIGCONT)
+    time.sleep(0.3)
+
+
+def received(peer):
+    """The body of the next frame."""
+    with peer.makefile("rb") as frames:
+        return frames.read(int.from_bytes(frames.read(4), "big"))
+
+
+def interrupted(stn):
+    """A session and an exchange that a signal interrupts go on."""
+    stn.answers("made\n", "bare", "a.log", "1", "1")
+    stn.answers("made\n", "bare", "b.log", "2", "1")
+    stn.add("b.log", 0, "2")
+    port = free_port()
+    server = stn.start("serve", "a.log", "1", f"127.0.0.1:{port}", "2", "--seconds=20")
+    try:
+        check(server.stdout.readline() == b"listening\n", "serve")
+        with socket.create_connection(("127.0.0.1", port), timeout=SECONDS) as peer:
+            stopped_and_continued(server)
+            peer.sendall(bytes.fromhex("0000000407000001"))
+            check(received(peer) == b"\x06", "HELLO after a signal")
+            stopped_and_continued(server)
+            peer.sendall(bytes.fromhex("0000000103"))
+            check(received(peer)[:1] == b"\x04", "ASK after a signal")
+        check(server.stdout.readline() == b"session 2 closed\n", "the session")
+        check(stn.run("send", "b.log", "2", f"127.0.0.1:{port}")[0] == 0, "send")
+        check(server.wait(timeout=SECONDS) == 0, "serve")
+    finally:
+        server.kill()
+        server.communicate()
+    check(stn.records("a.log") == 1, "the records of the second session")
+    with socket.create_server(("127.0.0.1", 0)) as listener:
+        sending = stn.start("send", "b.log", "2", f"127.0.0.1:{listener.getsockname()[1]}", "--seconds=20")
+        try:
+            peer = listener.accept()[0]
+            with peer:
+                stopped_and_continued(sending)
+                peer.sendall(bytes.fromhex("000000020528"))
+            check(sending.communicate(timeout=SECONDS) == (b"refused 40\n", b""), "send after a signal")
+        finally:
+            sending.kill()
+            sending.communicate()
+    no_litter()
+
+
+def second_address(stn):
+    """Where the first address of a name refuses, or doesn't answer, the second is tried within the limit."""
+    if os.geteuid() != 0:
+        return "two addresses of a name: only root may give names to addresses"
+    with open("hosts", "w", encoding="ascii") as hosts:
+        hosts.write("127.0.0.2 twice.test\n127.0.0.1 twice.test\n")
+    named = ["unshare", "--mount", "sh", "-c", 'mount --bind hosts /etc/hosts && exec "$@"', "sh"]
+    found = subprocess.run([*named, "getent", "ahostsv4", "twice.test"], capture_output=True, check=False).stdout.decode()
+    addresses = [line.split()[0] for line in found.splitlines() if "STREAM" in line]
+    if len(addresses) != 2:
+        return "two addresses of a name: a name can't be given to two here"
+    first, second = addresses
+    stn.answers("made\n", "bare", "a.log", "1", "1")
+    stn.answers("made\n", "bare", "b.log", "2", "1")
+    stn.add("b.log", 0, "2")
+    port = free_port()
+    server = stn.start("serve", "a.log", "1", f"{second}:{port}", "2")
+    try:
+        check(server.stdout.readline() == b"listening\n", "serve")
+
+        def sends():
+            began = time.monotonic()
+            sent = subprocess.run([*named, stn.path, "send", "b.log", "2", f"twice.test:{port}", "--seconds=8"], capture_output=True, timeout=SECONDS, check=False)
+            check(sent.returncode == 0, f"send: {sent.returncode} {sent.stdout} {sent.stderr}")
+            check(time.monotonic() - began < 8, "the limit")
+
+        sends()
+        with socket.socket() as deaf:
+            deaf.bind((first, port))
+            deaf.listen(0)
+            callers = [socket.socket() for _ in range(4)]
+            try:
+                for caller in callers:
+                    caller.setblocking(False)
+                    caller.connect_ex((first, port))
+                time.sleep(0.2)
+                sends()
+            finally:
+                for caller in callers:
+                    caller.close()
+        check(server.wait(timeout=SECONDS) == 0, "serve")
+    finally:
+        server.kill()
+        server.communicate()
+    check(stn.records("a.log") == 1, "the records that were sent")
+    return None
+
+
 def edges(stn):
     """Words that are no text, and the first cause of a refusal."""
     status, out, err = stn.run(b"report", b"\xff\xfe.log", b"1")
@@ -678,9 +813,12 @@ TRIED = [
     two_writers,
     small_device,
     full_device,
+    full_behind_serve,
     unprinted,
     closed_folder,
     serving,
+    interrupted,
+    second_address,
     edges,
 ]
 
