@@ -50,6 +50,14 @@ number_option_rule name least most = record (option_rule name) { parser = Some (
 abbrev pub flag_rule : Text → Rule
 flag_rule name = record (new_rule name) { long = Some name; action = Some action.SetTrue }
 
+-- an option `--name=VALUE` that may be given any number of times
+abbrev pub options_rule : Text → Rule
+options_rule name = record (option_rule name) { action = Some action.Append }
+
+-- the options that choose events
+abbrev pub choice_rules : List Rule
+choice_rules = option_rule (codes "steps") ∷ flag_rule (codes "starts") ∷ []
+
 -- a command with its words
 abbrev pub command : Text → List Rule → Shape
 command name words = record (new_shape name) { rules = words }
@@ -70,16 +78,17 @@ commands = command (codes "run") []
     ∷ on_log (codes "withdraw") (word_rule (codes "ID") ∷ [])
     ∷ on_log (codes "done") (word_rule (codes "EVENT") ∷ word_rule (codes "TIME") ∷ [])
     ∷ on_log (codes "merge") (word_rule (codes "OTHER") ∷ [])
+    ∷ on_log (codes "guard") (options_rule (codes "own") ∷ [])
     ∷ on_log (codes "report") []
-    ∷ on_log (codes "next") (word_rule (codes "NOW") ∷ [])
-    ∷ on_log (codes "ready") (word_rule (codes "NOW") ∷ [])
+    ∷ on_log (codes "next") (word_rule (codes "NOW") ∷ choice_rules)
+    ∷ on_log (codes "ready") (word_rule (codes "NOW") ∷ choice_rules)
     ∷ on_log (codes "why") (word_rule (codes "EVENT") ∷ [])
     ∷ on_log (codes "repairs") []
     ∷ on_log (codes "records") []
     ∷ on_log (codes "steps") []
     ∷ on_log (codes "bounds") []
     ∷ on_log (codes "check") (many_rule (codes "TIME") ∷ [])
-    ∷ on_log (codes "rehearse") (word_rule (codes "NOW") ∷ [])
+    ∷ on_log (codes "rehearse") (word_rule (codes "NOW") ∷ choice_rules)
     ∷ on_log (codes "draw") []
     ∷ command (codes "explain") (maybe_rule (codes "CODE") ∷ [])
     ∷ on_log (codes "serve") (word_rule (codes "ADDR") ∷ number_rule (codes "COUNT") 1 most_connections ∷ number_option_rule (codes "seconds") 1 most_seconds ∷ [])

@@ -6,6 +6,7 @@ use Rattle.clap.specs.Words.{IsAmong, Row, Text, all_of, fault_of, first_of, kin
 use Rattle.clap.specs.declared.error.kind.ErrorKind.TheVariants.{OutOfMemory}
 use Rattle.stn_line.specs.Commands.{most_connections, most_seconds, usual_seconds, stn}
 use Rattle.stn_line.specs.declared.words.SiteLog.{SiteLog}
+use Rattle.stn_line.specs.declared.words.EventChoice.{EventChoice}
 use Rattle.stn_line.specs.declared.words.Line.{Line}
 use Rattle.stn_line.specs.declared.words.Line.TheVariants as line
 use Rattle.stn_line.specs.declared.words.LineFault.{LineFault}
@@ -41,6 +42,11 @@ pub record IsOnLog (log : SiteLog) (rows : List Row) : Type 0 where
   pub file : IsWord (codes "LOG") log.name rows
   pub number : IsNumber (codes "SITE") log.site rows
 
+-- the events that a command is about
+pub record IsChoice (choice : EventChoice) (rows : List Row) : Type 0 where
+  pub steps : IsOption (codes "steps") choice.steps rows
+  pub starts : IsFlag (codes "starts") choice.starts rows
+
 -- the command line is one of the command of this name, with the values of its words
 abbrev pub IsLineOf : Line → Text → List Row → Type 0
 IsLineOf line.Run name rows = name ≡ codes "run"
@@ -60,16 +66,20 @@ IsLineOf (line.Withdraw log id) name rows = (name ≡ codes "withdraw") × IsOnL
 IsLineOf (line.Done log event time) name rows =
     (name ≡ codes "done") × IsOnLog log rows × IsWord (codes "EVENT") event rows × IsWord (codes "TIME") time rows
 IsLineOf (line.Merge log other) name rows = (name ≡ codes "merge") × IsOnLog log rows × IsWord (codes "OTHER") other rows
+IsLineOf (line.Guard log owned) name rows = (name ≡ codes "guard") × IsOnLog log rows × IsWords (codes "own") owned.items rows
 IsLineOf (line.Report log) name rows = (name ≡ codes "report") × IsOnLog log rows
-IsLineOf (line.Next log now) name rows = (name ≡ codes "next") × IsOnLog log rows × IsWord (codes "NOW") now rows
-IsLineOf (line.Ready log now) name rows = (name ≡ codes "ready") × IsOnLog log rows × IsWord (codes "NOW") now rows
+IsLineOf (line.Next log now choice) name rows =
+    (name ≡ codes "next") × IsOnLog log rows × IsWord (codes "NOW") now rows × IsChoice choice rows
+IsLineOf (line.Ready log now choice) name rows =
+    (name ≡ codes "ready") × IsOnLog log rows × IsWord (codes "NOW") now rows × IsChoice choice rows
 IsLineOf (line.Why log event) name rows = (name ≡ codes "why") × IsOnLog log rows × IsWord (codes "EVENT") event rows
 IsLineOf (line.Repairs log) name rows = (name ≡ codes "repairs") × IsOnLog log rows
 IsLineOf (line.Records log) name rows = (name ≡ codes "records") × IsOnLog log rows
 IsLineOf (line.Steps log) name rows = (name ≡ codes "steps") × IsOnLog log rows
 IsLineOf (line.Bounds log) name rows = (name ≡ codes "bounds") × IsOnLog log rows
 IsLineOf (line.Check log times) name rows = (name ≡ codes "check") × IsOnLog log rows × IsWords (codes "TIME") times.items rows
-IsLineOf (line.Rehearse log now) name rows = (name ≡ codes "rehearse") × IsOnLog log rows × IsWord (codes "NOW") now rows
+IsLineOf (line.Rehearse log now choice) name rows =
+    (name ≡ codes "rehearse") × IsOnLog log rows × IsWord (codes "NOW") now rows × IsChoice choice rows
 IsLineOf (line.Draw log) name rows = (name ≡ codes "draw") × IsOnLog log rows
 IsLineOf (line.Explain code) name rows = (name ≡ codes "explain") × IsOption (codes "CODE") code rows
 IsLineOf (line.Serve log address count seconds) name rows =

@@ -4,7 +4,7 @@ use Rattle.std.specs.Prelude.{◌≡◌, false, map}
 use Rattle.clap.specs.Words.{Rule, Shape, shape_of}
 use Rattle.clap.specs.declared.builder.command.Command.{Command}
 use Rattle.clap.specs.declared.builder.command.Command.TheViews.{out-Command as fields_of}
-use Rattle.stn_line.specs.Commands.{command, word_rule, number_rule, maybe_rule, many_rule, option_rule, number_option_rule, flag_rule, most_seconds}
+use Rattle.stn_line.specs.Commands.{command, word_rule, number_rule, maybe_rule, many_rule, option_rule, number_option_rule, flag_rule, options_rule, most_seconds}
 use Rattle.stn_line.specs.declared.commands.Word.{Word}
 use Rattle.stn_line.specs.declared.commands.Word.TheVariants as word
 use Rattle.stn_line.specs.declared.commands.Row.{Row}
@@ -17,6 +17,8 @@ read_rule (word.Texts name help) = many_rule name.now
 read_rule (word.Time name help) = option_rule name.now
 read_rule (word.Seconds name help) = number_option_rule name.now 1 most_seconds
 read_rule (word.Flag name help) = flag_rule name.now
+read_rule (word.Steps name help) = option_rule name.now
+read_rule (word.Owned name help) = options_rule name.now
 
 abbrev pub read_shape : Row → Shape
 read_shape row = command row.name.now (map read_rule row.words.now)

@@ -34,6 +34,10 @@ enum Word {
     Seconds(&'static str, &'static str),
     // A flag, `--name`.
     Flag(&'static str, &'static str),
+    // An option that names steps, `--name=STEPS`.
+    Steps(&'static str, &'static str),
+    // An option that names steps of a site, `--name=SITE:STEPS`. It may be given any number of times.
+    Owned(&'static str, &'static str),
 }
 
 // A command: its name, what the help says of it, and its words.
@@ -75,7 +79,14 @@ const HI: Word = Word::Time(
 
 const NOW: Word = Word::Text("NOW", "The time now, in seconds after the origin");
 
-const COMMANDS: [Row; 23] = [
+const STEPS: Word = Word::Steps(
+    "steps",
+    "Only events of these steps, as `2,4-6`, count as left; all, if not given",
+);
+
+const STARTS: Word = Word::Flag("starts", "Only starts count as left");
+
+const COMMANDS: [Row; 24] = [
     Row {
         name: "run",
         about: "Runs the script on standard input",
@@ -172,6 +183,18 @@ const COMMANDS: [Row; 23] = [
         ],
     },
     Row {
+        name: "guard",
+        about: "Adds windows that make the plan hold whatever each site does within its own bounds",
+        words: &[
+            LOG,
+            SITE,
+            Word::Owned(
+                "own",
+                "Steps of a site, as `2:4-6`; given once for each other site, and all other steps are SITE's",
+            ),
+        ],
+    },
+    Row {
         name: "report",
         about: "Prints each event's window of times, or the bounds that contradict each other",
         words: &[LOG, SITE],
@@ -179,12 +202,12 @@ const COMMANDS: [Row; 23] = [
     Row {
         name: "next",
         about: "Says which event to run next, and when",
-        words: &[LOG, SITE, NOW],
+        words: &[LOG, SITE, NOW, STEPS, STARTS],
     },
     Row {
         name: "ready",
         about: "Says which events may run from NOW on, and until when",
-        words: &[LOG, SITE, NOW],
+        words: &[LOG, SITE, NOW, STEPS, STARTS],
     },
     Row {
         name: "why",
@@ -230,7 +253,7 @@ const COMMANDS: [Row; 23] = [
     Row {
         name: "rehearse",
         about: "Prints the rest of the plan as `next` would run it from NOW on",
-        words: &[LOG, SITE, NOW],
+        words: &[LOG, SITE, NOW, STEPS, STARTS],
     },
     Row {
         name: "draw",
@@ -338,6 +361,15 @@ fn argument<'a>(alloc: Global, word: &Word) -> Arg<'a>
         Word::Flag(name, help) => Arg::new(alloc, name)
             .long(name)
             .action(ArgAction::SetTrue)
+            .help(help),
+        Word::Steps(name, help) => Arg::new(alloc, name)
+            .long(name)
+            .value_name("STEPS")
+            .help(help),
+        Word::Owned(name, help) => Arg::new(alloc, name)
+            .long(name)
+            .value_name("SITE:STEPS")
+            .action(ArgAction::Append)
             .help(help),
     }
 }

@@ -12,6 +12,7 @@ Words:
   SITE   the number of this site, from 1 to 64; always give a log the same one
   times  in seconds: 5, 2.5 or 0.001; write a negative one as `--lo=-5`, or after the word `--`
   events `z` is the origin, `s1` the start of step 1, `e1` its end
+  steps  `2,4-6` are the steps 2, 4, 5 and 6
   ids    `1.2` is the second record that site 1 made
 
 An example:

@@ -3,7 +3,7 @@
 
 pub use help::said;
 pub use reading::line;
-pub use words::{Line, LineFault, SiteLog};
+pub use words::{EventChoice, Line, LineFault, SiteLog};
 
 mod commands;
 mod help;

@@ -3,10 +3,10 @@ ghost use Rattle.clap.specs.Words.{fault_of, found_of, rows_of, subcommand_of, s
 ghost use Rattle.stn_line.specs.Commands.{most_read_steps, most_seconds, stn as program};
 ghost use Rattle.stn_records.specs.Id.{most_sites};
 ghost use Rattle.stn_line.specs.Given.{HasWords, IsThere, IsNumberThere, IsNumberWhereGiven};
-ghost use Rattle.stn_line.specs.Lines.{IsFaultOf, IsFlag, IsLineOf, IsNumber, IsOnLog, IsOption, IsSeconds, IsWord, IsWords};
+ghost use Rattle.stn_line.specs.Lines.{IsFaultOf, IsChoice, IsFlag, IsLineOf, IsNumber, IsOnLog, IsOption, IsSeconds, IsWord, IsWords};
 
 use crate::commands::stn;
-use crate::words::{Line, LineFault, SiteLog};
+use crate::words::{EventChoice, Line, LineFault, SiteLog};
 use clap::ArgMatches;
 use clap::error::ErrorKind;
 use std::alloc::{AllocError, Global};
@@ -54,6 +54,7 @@ fn command<'a>(alloc: Global, name: &str, words: &ArgMatches<'a>) -> Result<Line
         "withdraw" => Ok(withdraw(words)),
         "done" => Ok(done(words)),
         "merge" => Ok(merge(words)),
+        "guard" => guard(alloc, words),
         "report" => Ok(Line::Report {
             log: site_log(words),
         }),
@@ -176,6 +177,17 @@ fn merge<'a>(words: &ArgMatches<'a>) -> Line<'a>
     }
 }
 
+fn guard<'a>(alloc: Global, words: &ArgMatches<'a>) -> Result<Line<'a>, AllocError>
+    requires { HasWords (codes "guard") (rows_of (found_of words.now)) }
+    ensures { IfOk result (λ line. IsLineOf line (codes "guard") (rows_of (found_of words.now))) }
+{
+    let owned = all_words(alloc, words, "own")?;
+    Ok(Line::Guard {
+        log: site_log(words),
+        owned,
+    })
+}
+
 fn next<'a>(words: &ArgMatches<'a>) -> Line<'a>
     requires { HasWords (codes "next") (rows_of (found_of words.now)) }
     ensures { IsLineOf result (codes "next") (rows_of (found_of words.now)) }
@@ -183,6 +195,7 @@ fn next<'a>(words: &ArgMatches<'a>) -> Line<'a>
     Line::Next {
         log: site_log(words),
         now: word(words, "NOW"),
+        choice: choice(words),
     }
 }
 
@@ -193,6 +206,7 @@ fn ready<'a>(words: &ArgMatches<'a>) -> Line<'a>
     Line::Ready {
         log: site_log(words),
         now: word(words, "NOW"),
+        choice: choice(words),
     }
 }
 
@@ -224,6 +238,7 @@ fn rehearse<'a>(words: &ArgMatches<'a>) -> Line<'a>
     Line::Rehearse {
         log: site_log(words),
         now: word(words, "NOW"),
+        choice: choice(words),
     }
 }
 
@@ -298,6 +313,16 @@ fn option<'a>(words: &ArgMatches<'a>, name: &str) -> Option<&'a str>
     ensures { IsOption name.now result (rows_of (found_of words.now)) }
 {
     words.get_str(name)
+}
+
+// The events that a command is about.
+fn choice<'a>(words: &ArgMatches<'a>) -> EventChoice<'a>
+    ensures { IsChoice result (rows_of (found_of words.now)) }
+{
+    EventChoice {
+        steps: option(words, "steps"),
+        starts: flag(words, "starts"),
+    }
 }
 
 // Whether a flag is given.

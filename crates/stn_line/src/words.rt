@@ -11,8 +11,18 @@ pub struct SiteLog<'a> {
     pub site: Site,
 }
 
-/// A command line. Events (`z`, `s1`, `e1`), times (in seconds), ids (`1.2`), addresses and the names of texts and logs
-/// are given as they were written: whoever does the command reads them.
+/// The events that a command is about: those of the steps that are named, or of all steps where none are; or the starts
+/// of these steps alone.
+#[derive(Clone, Copy)]
+pub struct EventChoice<'a> {
+    /// The steps, as `2,4-6`.
+    pub steps: Option<&'a str>,
+    /// Whether it is about starts alone.
+    pub starts: bool,
+}
+
+/// A command line. Events (`z`, `s1`, `e1`), steps, times (in seconds), ids (`1.2`), addresses and the names of texts and
+/// logs are given as they were written: whoever does the command reads them.
 #[derive(Drop)]
 pub enum Line<'a> {
     /// Runs a script from the standard input.
@@ -71,19 +81,27 @@ pub enum Line<'a> {
         log: SiteLog<'a>,
         other: &'a str,
     },
+    /// Adds bounds under which each site may act alone; a word `SITE:STEPS` names steps of a site, and all others are the
+    /// log's.
+    Guard {
+        log: SiteLog<'a>,
+        owned: Vec<&'a str, Global>,
+    },
     /// Tells every event's window, or a cycle of bounds that contradict each other.
     Report {
         log: SiteLog<'a>,
     },
-    /// Tells which event is to take place next.
+    /// Tells which of the chosen events is to take place next.
     Next {
         log: SiteLog<'a>,
         now: &'a str,
+        choice: EventChoice<'a>,
     },
-    /// Tells which events may run from a time on, and until when.
+    /// Tells which of the chosen events may run from a time on, and until when.
     Ready {
         log: SiteLog<'a>,
         now: &'a str,
+        choice: EventChoice<'a>,
     },
     /// Tells why an event's window ends where it does.
     Why {
@@ -111,10 +129,11 @@ pub enum Line<'a> {
         log: SiteLog<'a>,
         times: Vec<&'a str, Global>,
     },
-    /// Tells how the rest of the plan runs from a time on.
+    /// Tells how the rest of the chosen events runs from a time on.
     Rehearse {
         log: SiteLog<'a>,
         now: &'a str,
+        choice: EventChoice<'a>,
     },
     /// Draws every event's window, or a cycle of bounds that contradict each other.
     Draw {
