@@ -12,7 +12,7 @@ use Rattle.stn_questions.specs.Answer.{IsAnswer}
 use Rattle.stn_questions.specs.Ready.{IsReadyText}
 use Rattle.stn_picture.specs.Picture.{IsPicture}
 use Rattle.stn_repair.specs.Text.{IsRepairsText}
-use Rattle.stn_command.specs.Query.{Query, report, check, next, ready, rehearse, ask, repairs, draw, IsSaid, IsRehearseRefusal, IsQueryRefusal}
+use Rattle.stn_command.specs.Query.{Query, report, check, next, ready, rehearse, ask, repairs, draw, IsSaid, IsRehearseRefusal, IsQuestionRefusal, IsQueryRefusal}
 use Rattle.stn_command.proofs.Foresight.{one_next_text, one_rest_text, one_overdue}
 
 pub one_text : ((source : PlanSource) → (state : Content) → (text other : List ℕ) → IsReport source state text → IsReport source state other → text ≡ other)
@@ -45,12 +45,23 @@ rehearsal_refused held now cause other (inl p) (inr q) = absurd (q.0 (p.0, p.1))
 rehearsal_refused held now cause other (inr p) (inl q) = absurd (p.0 (q.0, q.1))
 rehearsal_refused held now cause other (inr p) (inr q) = p.1 ∙ sym q.1
 
+question_refused : (held : Held) (question : Question) (cause other : Option Failure) → IsQuestionRefusal held question cause → IsQuestionRefusal held question other → cause ≡ other
+question_refused held question cause other (inl p) (inl q) = p.1 ∙ sym q.1
+question_refused held question cause other (inl p) (inr (inl q)) = absurd (q.0 p.0)
+question_refused held question cause other (inl p) (inr (inr q)) = absurd (q.0 p.0)
+question_refused held question cause other (inr (inl p)) (inl q) = absurd (p.0 q.0)
+question_refused held question cause other (inr (inr p)) (inl q) = absurd (p.0 q.0)
+question_refused held question cause other (inr (inl p)) (inr (inl q)) = p.2 ∙ sym q.2
+question_refused held question cause other (inr (inl p)) (inr (inr q)) = absurd (q.1 p.1)
+question_refused held question cause other (inr (inr p)) (inr (inl q)) = absurd (p.1 q.1)
+question_refused held question cause other (inr (inr p)) (inr (inr q)) = p.2 ∙ sym q.2
+
 pub one_refusal : (query : Query) (held : Held) (cause other : Option Failure) → IsQueryRefusal query held cause → IsQueryRefusal query held other → cause ≡ other
 one_refusal report held cause other p q = p ∙ sym q
 one_refusal (check times) held cause other p q = one_of _ cause other (λ both. both.0 both.1) p q
 one_refusal (next now) held cause other p q = p ∙ sym q
 one_refusal (ready now) held cause other p q = p ∙ sym q
 one_refusal (rehearse now) held cause other p q = rehearsal_refused held now cause other p q
-one_refusal (ask question) held cause other p q = one_of _ cause other (λ both. both.1 both.0) p q
+one_refusal (ask question) held cause other p q = question_refused held question cause other p q
 one_refusal repairs held cause other p q = p ∙ sym q
 one_refusal draw held cause other p q = p ∙ sym q

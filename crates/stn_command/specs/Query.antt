@@ -5,13 +5,13 @@ use Rattle.stn_refusal.specs.declared.failure.Failure.{Failure}
 use Rattle.stn_refusal.specs.Refusals.{refused_of, out_of_memory}
 use Rattle.stn_net.specs.Failures.{bound_failure}
 use Rattle.stn_net.specs.Schedule.{times_of}
-use Rattle.stn_net.specs.declared.bound.BoundFault.TheVariants.{NoEvent}
+use Rattle.stn_net.specs.declared.bound.BoundFault.TheVariants.{NoEvent, SameEvent}
 use Rattle.stn_lift.specs.PlanSource.{events_of}
 use Rattle.stn_site.specs.Held.{Held}
 use Rattle.stn_site.specs.Names.{broken_bound}
 use Rattle.stn_site.specs.Report.{IsReport}
 use Rattle.stn_questions.specs.declared.asked.Question.{Question}
-use Rattle.stn_questions.specs.Answer.{IsAnswer, AsksOfNoEvent}
+use Rattle.stn_questions.specs.Answer.{IsAnswer, AsksOfNoEvent, AsksOfSameEvent}
 use Rattle.stn_questions.specs.Ready.{IsReadyText}
 use Rattle.stn_picture.specs.Picture.{IsPicture}
 use Rattle.stn_repair.specs.Text.{IsRepairsText}
@@ -64,10 +64,11 @@ abbrev pub IsRehearseRefusal : Held → ℤ → Option Failure → Type 0
 IsRehearseRefusal held now cause = ((event : ℕ) × IsOverdueAt held.source held.state now event × (cause ≡ Some (refused_of code.Overdue event)))
     ⊎ ((¬ IsRefusedRehearsal held.source held.state now) × (cause ≡ None))
 
--- why a question is: it is about an event that the plan has not
+-- why a question is: it is about an event that the plan has not, or about an event and itself
 abbrev pub IsQuestionRefusal : Held → Question → Option Failure → Type 0
 IsQuestionRefusal held question cause = (AsksOfNoEvent held.source question × (cause ≡ Some (bound_failure NoEvent)))
-    ⊎ ((¬ AsksOfNoEvent held.source question) × (cause ≡ None))
+    ⊎ ((¬ AsksOfNoEvent held.source question) × AsksOfSameEvent question × (cause ≡ Some (bound_failure SameEvent)))
+    ⊎ ((¬ AsksOfNoEvent held.source question) × (¬ AsksOfSameEvent question) × (cause ≡ None))
 
 -- why a query is refused, or that it is not
 abbrev pub IsQueryRefusal : Query → Held → Option Failure → Type 0

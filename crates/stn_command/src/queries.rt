@@ -40,7 +40,8 @@ pub enum Query<'a> {
 /// Appends what a replica says to a query. After an error nothing is appended.
 ///
 /// Refused as 70 where a check has not one time for each event, 7 where an event of a rehearsal is overdue,
-/// 4 where a question is about an event that the plan has not; then `Memory`.
+/// 4 where a question is about an event that the plan has not, 5 where it is about an event and itself;
+/// then `Memory`.
 pub fn append_said<A: Allocator + Copy, B: Allocator>(
     replica: &Replica<A>,
     query: &Query<'_>,
@@ -172,6 +173,7 @@ fn tell<A: Allocator + Copy>(plan: &SitePlan<A>, question: Question) -> Result<V
     match print_answer(plan, question, &mut text) {
         Ok(()) => Ok(text),
         Err(WhyFault::NoEvent) => Err(Failure::from(BoundFault::NoEvent)),
+        Err(WhyFault::SameEvent) => Err(Failure::from(BoundFault::SameEvent)),
         Err(WhyFault::Memory) => Err(Failure::Failed(Fault::Memory)),
     }
 }

@@ -15,11 +15,12 @@ use Rattle.stn_conflict.specs.Named.{IsWay, IsNamedCycle}
 use Rattle.stn_site.specs.Bounds.{bounds_of}
 use Rattle.stn_site.specs.Lines.{line, window_line, conflict_line, link_line}
 use Rattle.stn_site.specs.Report.{says_done, IsConflictPart}
+use Rattle.stn_repair.specs.Ranges.{IsRange}
 use Rattle.stn_questions.specs.declared.asked.Question.{Question}
-use Rattle.stn_questions.specs.declared.asked.Question.TheVariants.{Records, Steps, Bounds, Why}
+use Rattle.stn_questions.specs.declared.asked.Question.TheVariants.{Records, Steps, Bounds, Why, WhyApart}
 use Rattle.stn_questions.specs.Bounds.{listed_line}
 use Rattle.stn_questions.specs.Ready.{IsReadyWith, IsReadyText}
-use Rattle.stn_questions.specs.Why.{end_text, IsWhyPart}
+use Rattle.stn_questions.specs.Why.{end_text, range_line, IsWhyPart, IsApartPart}
 use Rattle.stn_questions.specs.Answer.{IsAnswer, AsksOfPlan}
 
 abbrev Entries : Type 0
@@ -68,6 +69,22 @@ module _ (source : PlanSource) (s t : Content) (live : live_of s ≡ live_of t) 
         ++ (same_end (codes "earliest") p.earliest p.to_origin i ++ same_end (codes "latest") p.latest p.from_origin i));
   }
 
+  same_apart : (from to : ℕ) (text : List ℕ) → IsApartPart source s from to text → IsApartPart source t from to text
+  same_apart from to text p = record {
+    possible = subst (λ (records : Entries). HasSchedule (bounds_with source records)) live p.possible;
+    least = p.least;
+    greatest = p.greatest;
+    range = subst (λ (records : Entries). IsRange (bounds_with source records) from to p.least p.greatest) live p.range;
+    back = p.back;
+    onward = p.onward;
+    way_back = subst (λ (records : Entries). IsWay (bounds_with source records) to from p.back) live p.way_back;
+    way_onward = subst (λ (records : Entries). IsWay (bounds_with source records) from to p.onward) live p.way_onward;
+    holds_least = p.holds_least ∙ ap (λ (records : Entries). neg_ℤ (weight_of (bounds_with source records) p.back)) live;
+    holds_greatest = p.holds_greatest ∙ ap (λ (records : Entries). weight_of (bounds_with source records) p.onward) live;
+    whole = p.whole ∙ (λ i. range_line from to p.least p.greatest
+        ++ (same_end (codes "least") p.least p.back i ++ same_end (codes "greatest") p.greatest p.onward i));
+  }
+
   -- states with the same live records have the same answers, but of their records
   pub counted_answer : (question : Question) (text : List ℕ) → AsksOfPlan question → IsAnswer source s question text → IsAnswer source t question text
   counted_answer Records text asks p = absurd asks
@@ -75,3 +92,4 @@ module _ (source : PlanSource) (s t : Content) (live : live_of s ≡ live_of t) 
   counted_answer Bounds text asks p =
       p ∙ (λ i. flat_map (listed_line (base_bounds source) (ids_of (live i)) (bounds_of (live i))) (range_with_len 0 (length (bounds_with source (live i)))))
   counted_answer (Why event) text asks p = ⊎_elim (λ why. inl (same_why event text why)) (λ conflict. inr (same_conflict text conflict)) p
+  counted_answer (WhyApart from to) text asks p = ⊎_elim (λ apart. inl (same_apart from to text apart)) (λ conflict. inr (same_conflict text conflict)) p

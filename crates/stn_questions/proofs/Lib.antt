@@ -1,5 +1,4 @@
 pub mod Counted
-pub mod Ends
 pub mod KnownOnce
 pub mod Lasting
 pub mod Listing
@@ -7,3 +6,4 @@ pub mod OneAnswer
 pub mod OneReady
 pub mod ReadyLists
 pub mod ReadyNext
+pub mod Reasons

@@ -1,5 +1,5 @@
 -- A plan and a state have one answer to each question.
-use Rattle.std.proofs.Common.{◌≡◌, ℕ, ℤ, Bool, List, ◌++◌, codes, refl, sym, ap, subst, ◌∙◌, ⊎_elim, inr}
+use Rattle.std.proofs.Common.{◌≡◌, ℕ, ℤ, Bool, List, ◌++◌, codes, refl, sym, ap, subst, ◌∙◌, ◌⊎◌, ⊎_elim, inr}
 use Rattle.std.proofs.lemmas.List.{append_cancel_left}
 use Rattle.std.specs.List.{flat_map}
 use Rattle.stn_net.specs.Difference.{Difference}
@@ -16,10 +16,11 @@ use Rattle.stn_conflict.specs.Named.{IsWay}
 use Rattle.stn_site.specs.Bounds.{all_bounds}
 use Rattle.stn_site.specs.Report.{done_events, is_done, IsConflictPart, IsReport, heading}
 use Rattle.stn_site.specs.Lines.{window_line}
+use Rattle.stn_repair.proofs.Ranges.{one_range}
 use Rattle.stn_questions.specs.Ready.{ready_line, IsReadyAnswer, IsReadyText}
-use Rattle.stn_questions.specs.Why.{end_text, IsWhyPart, IsWhyText}
+use Rattle.stn_questions.specs.Why.{end_text, range_line, IsWhyPart, IsApartPart}
 use Rattle.stn_questions.specs.declared.asked.Question.{Question}
-use Rattle.stn_questions.specs.declared.asked.Question.TheVariants.{Records, Steps, Bounds, Why}
+use Rattle.stn_questions.specs.declared.asked.Question.TheVariants.{Records, Steps, Bounds, Why, WhyApart}
 use Rattle.stn_questions.specs.Records.{record_line, IsRecordsText}
 use Rattle.stn_questions.specs.Answer.{IsAnswer}
 use Rattle.stn_questions.proofs.KnownOnce.{one_known}
@@ -77,16 +78,28 @@ one_part unique source state event text other p q =
     ++ (end_text source state (codes "earliest") (ends.0 i) (back i) ++ end_text source state (codes "latest") (ends.1 i) (forth i)))
     ∙ sym q.whole
 
--- one text says why a window ends where it does
-one_why : OneReport → OneWay → Refutes → (source : PlanSource) (state : Content) (event : ℕ) (text other : List ℕ)
-    → IsWhyText source state event text → IsWhyText source state event other → text ≡ other
-one_why reports ways refutes source state event text other p q =
+one_apart : OneWay → (source : PlanSource) (state : Content) (from to : ℕ) (text other : List ℕ) → IsApartPart source state from to text → IsApartPart source state from to other → text ≡ other
+one_apart unique source state from to text other p q =
+    let bounds = all_bounds source state in
+    let ends = one_range bounds from to p.least p.greatest q.least q.greatest p.possible p.range q.range in
+    let back = unique bounds to from p.back q.back p.way_back q.way_back in
+    let forth = unique bounds from to p.onward q.onward p.way_onward q.way_onward in
+    p.whole
+    ∙ (λ i. range_line from to (ends.0 i) (ends.1 i)
+    ++ (end_text source state (codes "least") (ends.0 i) (back i) ++ end_text source state (codes "greatest") (ends.1 i) (forth i)))
+    ∙ sym q.whole
+
+-- a text that says the reasons where there is a schedule, and else the conflict, is one text where that of the reasons is
+one_or_conflict : OneReport → Refutes → (source : PlanSource) (state : Content) (reasons : List ℕ → Type 0) (text other : List ℕ)
+    → ((said : List ℕ) → reasons said → HasSchedule (all_bounds source state)) → (reasons text → reasons other → text ≡ other)
+    → (reasons text ⊎ IsConflictPart source state text) → (reasons other ⊎ IsConflictPart source state other) → text ≡ other
+one_or_conflict reports refutes source state reasons text other possible one p q =
     ⊎_elim
     (λ mine. ⊎_elim
-    (λ theirs. one_part ways source state event text other mine theirs)
-    (λ theirs. absurd (refutes (all_bounds source state) theirs.links theirs.negative mine.possible)) q)
+    (λ theirs. one mine theirs)
+    (λ theirs. absurd (refutes (all_bounds source state) theirs.links theirs.negative (possible text mine))) q)
     (λ mine. ⊎_elim
-    (λ theirs. absurd (refutes (all_bounds source state) mine.links mine.negative theirs.possible))
+    (λ theirs. absurd (refutes (all_bounds source state) mine.links mine.negative (possible other theirs)))
     (λ theirs. one_conflict reports source state text other mine theirs) q)
     p
 
@@ -99,7 +112,10 @@ pub one_answer : OneReport → OneWay → Refutes → (source : PlanSource) (sta
 one_answer reports ways refutes source state Records text other p q = one_text state text other p q
 one_answer reports ways refutes source state Steps text other p q = p ∙ sym q
 one_answer reports ways refutes source state Bounds text other p q = p ∙ sym q
-one_answer reports ways refutes source state (Why event) text other p q = one_why reports ways refutes source state event text other p q
+one_answer reports ways refutes source state (Why event) text other p q =
+    one_or_conflict reports refutes source state (IsWhyPart source state event) text other (λ said part. part.possible) (one_part ways source state event text other) p q
+one_answer reports ways refutes source state (WhyApart from to) text other p q =
+    one_or_conflict reports refutes source state (IsApartPart source state from to) text other (λ said part. part.possible) (one_apart ways source state from to text other) p q
 
 -- equal plans and equal states have the same answer
 pub same_answer : ((source : PlanSource) → (state : Content) → (question : Question) → (text other : List ℕ) → IsAnswer source state question text → IsAnswer source state question other → text ≡ other)

@@ -1,6 +1,7 @@
 ghost use Rattle.std.specs.Prelude.{◌≡◌, ◌↔◌, ◌++◌, ℕ, List, OnOk, OnErr, IsErrOf};
-ghost use Rattle.stn_questions.specs.Answer.{IsAnswer, AsksOfNoEvent};
+ghost use Rattle.stn_questions.specs.Answer.{IsAnswer, AsksOfNoEvent, AsksOfSameEvent};
 
+use crate::apart::print_apart;
 use crate::asked::Question;
 use crate::bounds::print_bounds;
 use crate::records::print_records;
@@ -12,7 +13,8 @@ use stn_site::SitePlan;
 /// Appends the answer to a question about a plan and what a site holds of it.
 ///
 /// Refused in this order: `NoEvent`, where the question is about an event that is neither one of the
-/// plan nor the origin; `Memory`. After a fault nothing is appended.
+/// plan nor the origin; `SameEvent`, where it is about an event and itself; `Memory`. After a fault
+/// nothing is appended.
 pub fn print_answer<A: Allocator + Copy, B: Allocator>(
     plan: &SitePlan<A>,
     question: Question,
@@ -20,6 +22,7 @@ pub fn print_answer<A: Allocator + Copy, B: Allocator>(
 ) -> Result<(), WhyFault>
     ensures answer { OnOk result ((text : List ℕ) × IsAnswer plan.now.source plan.now.state question text × (out.new.items ≡ out.old.items ++ text)) }
     ensures no_event { IsErrOf result WhyFault.NoEvent ↔ AsksOfNoEvent plan.now.source question }
+    ensures same { IsErrOf result WhyFault.SameEvent ↔ (AsksOfSameEvent question × ¬ AsksOfNoEvent plan.now.source question) }
     ensures kept { OnErr result (out.new.items ≡ out.old.items) }
 {
     match question {
@@ -27,6 +30,7 @@ pub fn print_answer<A: Allocator + Copy, B: Allocator>(
         Question::Steps => print_steps(plan, out)?,
         Question::Bounds => print_bounds(plan, out)?,
         Question::Why(event) => print_why(plan, event, out)?,
+        Question::WhyApart(from, to) => print_apart(plan, from, to, out)?,
     }
     Ok(())
 }

@@ -11,4 +11,6 @@ pub enum Question {
     Bounds,
     /// Why does this event's window end where it does?
     Why(Event),
+    /// Why does the second of these events come no sooner and no later after the first?
+    WhyApart(Event, Event),
 }

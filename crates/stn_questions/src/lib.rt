@@ -1,8 +1,10 @@
 //! Questions that people ask of a plan: which records, steps and bounds it has, what may run from now on,
-//! and why an event's window ends where it does. They change nothing.
+//! why an event's window ends where it does, and why two events come no closer and no further apart. They
+//! change nothing.
 #![tactic(auto)]
 
 pub use answer::print_answer;
+pub use apart::print_apart;
 pub use asked::Question;
 pub use bounds::print_bounds;
 pub use laws::{one_answer, one_ready_text, ready_begins_with_next, same_answers};
@@ -13,8 +15,10 @@ pub use steps::print_steps;
 pub use why::{WhyFault, print_why};
 
 mod answer;
+mod apart;
 mod asked;
 mod bounds;
+mod ends;
 mod laws;
 mod ready;
 mod ready_event;

@@ -1,27 +1,25 @@
-ghost use Rattle.std.specs.Prelude.{◌≡◌, ◌↔◌, ◌<◌, ◌≤◌, ◌++◌, ℕ, List, length, codes, All, IfOk, OnOk, OnErr, IsErrOf, MatchOption};
-ghost use Rattle.std.specs.List.{flat_map};
-ghost use Rattle.stn_time.specs.Text.{printed};
-ghost use Rattle.stn_net.specs.Schedule.{HasSchedule};
-ghost use Rattle.stn_lift.specs.PlanSource.{events_of, base_bounds};
-ghost use Rattle.stn_site.specs.Bounds.{all_bounds, live_bounds};
-ghost use Rattle.stn_site.specs.Names.{live_ids};
-ghost use Rattle.stn_site.specs.Lines.{line, link_line};
+ghost use Rattle.std.specs.Prelude.{◌≡◌, ◌↔◌, ◌<◌, ◌≤◌, ◌++◌, ℕ, List, IfOk, OnOk, OnErr, IsErrOf};
+ghost use Rattle.stn_lift.specs.PlanSource.{events_of};
 ghost use Rattle.stn_questions.specs.Why.{HoldEnds, IsWhyPart, IsWhyText};
 ghost use Rattle.stn_questions.specs.declared.why.WhyFault.TheVariants.{Memory as want_of_memory};
 
+use crate::ends::{append_end, ends_of};
 use std::alloc::{AllocError, Allocator};
-use stn_conflict::{BothWays, Link, both_ways};
+use stn_conflict::BothWays;
 use stn_net::Event;
-use stn_site::{SitePlan, append_link_lines, append_window_line};
+use stn_site::{SitePlan, append_window_line};
 use stn_time::{Memory, Ms};
 use thiserror::Error;
 
-/// Why a question about an event has no answer.
+/// Why a question about an event, or about two, has no answer.
 #[derive(Clone, Copy, Debug, PartialEq, Eq, Error)]
 pub enum WhyFault {
-    /// The event is not one of the plan.
+    /// An event is not one of the plan.
     #[error("no such event")]
     NoEvent,
+    /// Both events are the same.
+    #[error("an event and itself")]
+    SameEvent,
     /// Memory ran out.
     #[error("out of memory")]
     Memory,
@@ -49,6 +47,7 @@ pub fn print_why<A: Allocator + Copy, B: Allocator>(
     ensures printed { OnOk result ((text : List ℕ) × IsWhyText plan.now.source plan.now.state event text × (out.new.items ≡ out.old.items ++ text)) }
     ensures there { OnOk result (event ≤ events_of plan.now.source) }
     ensures no_event { IsErrOf result WhyFault.NoEvent ↔ (events_of plan.now.source < event) }
+    ensures one { ¬ IsErrOf result WhyFault.SameEvent }
     ensures kept { OnErr result (out.new.items ≡ out.old.items) }
 {
     if event.number() > plan.base().events() {
@@ -68,35 +67,13 @@ fn append_why<A: Allocator + Copy, B: Allocator>(
     ensures printed { OnOk result ((text : List ℕ) × IsWhyText plan.now.source plan.now.state event text × (out.new.items ≡ out.old.items ++ text)) }
     ensures kept { OnErr result (out.new.items ≡ out.old.items) }
 {
-    match ends_of(plan, event)? {
+    match ends_of(plan, Event::origin(), event)? {
         Some(ends) => {
             let text = text_of(plan, event, &ends)?;
             out.extend_from_slice(&text)
         }
         None => plan.report_conflict(out),
     }
-}
-
-// The ways that hold the ends of an event's window: from the event to the origin, and back; none where all bounds have no schedule.
-fn ends_of<A: Allocator + Copy>(
-    plan: &SitePlan<A>,
-    event: Event,
-) -> Result<Option<BothWays<A>>, Memory>
-    requires { event ≤ events_of plan.now.source }
-    ensures { IfOk result (λ found. MatchOption found (¬ HasSchedule (all_bounds plan.now.source plan.now.state))
-        (HoldEnds plan.now.source plan.now.state event)) }
-{
-    let live = plan.live_bounds()?;
-    let base = plan.base();
-    let origin = Event::origin();
-    both_ways(
-        plan.alloc(),
-        base.events(),
-        base.bounds(),
-        &live,
-        event,
-        origin,
-    )
 }
 
 // The line of an event's window, and the ways that hold its ends.
@@ -106,7 +83,7 @@ fn text_of<A: Allocator + Copy>(
     ends: &BothWays<A>,
 ) -> Result<Vec<u8, A>, Memory>
     requires within { event ≤ events_of plan.now.source }
-    requires ends { HoldEnds plan.now.source plan.now.state event ends.now }
+    requires ends { HoldEnds plan.now.source plan.now.state 0 event ends.now }
     ensures { IfOk result (λ text. IsWhyPart plan.now.source plan.now.state event text.items) }
 {
     let flags = plan.done_flags();
@@ -115,34 +92,7 @@ fn text_of<A: Allocator + Copy>(
     let latest = Ms::new(ends.back.sum).unwrap();
     let mut text = Vec::new(plan.alloc());
     append_window_line(&mut text, event, earliest, latest, done)?;
-    append_end(&mut text, b"earliest", earliest)?;
-    append_way(plan, &ends.onward.links, &mut text)?;
-    append_end(&mut text, b"latest", latest)?;
-    append_way(plan, &ends.back.links, &mut text)?;
+    append_end(plan, b"earliest", earliest, &ends.onward.links, &mut text)?;
+    append_end(plan, b"latest", latest, &ends.back.links, &mut text)?;
     Ok(text)
-}
-
-// Appends an end of a window.
-fn append_end<B: Allocator>(out: &mut Vec<u8, B>, word: &[u8], time: Ms) -> Result<(), Memory>
-    ensures { OnOk result (out.new.items ≡ out.old.items ++ line (word.now ++ codes " " ++ printed time)) }
-{
-    out.extend_from_slice(word)?;
-    out.extend_from_slice(b" ")?;
-    time.print(out)?;
-    out.extend_from_slice(b"\n")
-}
-
-// Appends the lines of the links of a way.
-fn append_way<A: Allocator + Copy>(
-    plan: &SitePlan<A>,
-    links: &[Link],
-    out: &mut Vec<u8, A>,
-) -> Result<(), Memory>
-    requires { All (λ link. link.place < length (all_bounds plan.now.source plan.now.state)) links.now }
-    ensures { OnOk result (out.new.items ≡ out.old.items
-        ++ flat_map (link_line (base_bounds plan.now.source) (live_ids plan.now.state) (live_bounds plan.now.state)) links.now) }
-{
-    let ids = plan.live_ids()?;
-    let others = plan.live_bounds()?;
-    append_link_lines(plan.base().bounds(), &ids, &others, links, out)
 }

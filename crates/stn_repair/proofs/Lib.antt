@@ -1,4 +1,4 @@
-mod Ranges
+pub mod Ranges
 mod Found
 mod Once
 mod Elements

@@ -7,6 +7,7 @@ returns-in_err-print_records-in-Records g c =
     record {
       answer = rw returned.1 tt;
       no_event = rw (returned.1, returned.2, c.in-Records.is) (λ refused. absurd (cc), λ asks. absurd asks);
+      same = rw (returned.1, returned.2, c.in-Records.is) (λ refused. absurd (cc), λ asks. absurd asks.0);
       kept = rw returned.1 c.in_err-print_records-in-Records.ensures.kept;
     }
 
@@ -16,6 +17,7 @@ returns-in_err-print_steps-in-Steps g c =
     record {
       answer = rw returned.1 tt;
       no_event = rw (returned.1, returned.2, c.in-Steps.is) (λ refused. absurd (cc), λ asks. absurd asks);
+      same = rw (returned.1, returned.2, c.in-Steps.is) (λ refused. absurd (cc), λ asks. absurd asks.0);
       kept = rw returned.1 c.in_err-print_steps-in-Steps.ensures.kept;
     }
 
@@ -25,6 +27,7 @@ returns-in_err-print_bounds-in-Bounds g c =
     record {
       answer = rw returned.1 tt;
       no_event = rw (returned.1, returned.2, c.in-Bounds.is) (λ refused. absurd (cc), λ asks. absurd asks);
+      same = rw (returned.1, returned.2, c.in-Bounds.is) (λ refused. absurd (cc), λ asks. absurd asks.0);
       kept = rw returned.1 c.in_err-print_bounds-in-Bounds.ensures.kept;
     }
 
@@ -34,5 +37,16 @@ returns-in_err-print_why-in-Why g c =
     record {
       answer = rw returned.1 tt;
       no_event = rw (returned.1, returned.2, c.in-Why.is) c.in_err-print_why-in-Why.ensures.no_event;
+      same = rw (returned.1, returned.2, c.in-Why.is) (λ refused. absurd (c.in_err-print_why-in-Why.ensures.one refused), λ asks. absurd asks.0);
       kept = rw returned.1 c.in_err-print_why-in-Why.ensures.kept;
+    }
+
+pub returns-in_err-print_apart-in-WhyApart : goal.returns-in_err-print_apart-in-WhyApart
+returns-in_err-print_apart-in-WhyApart g c =
+    let returned = err_from_is_err_and c.from_residual-in_err-print_apart-in-WhyApart.result c.from_residual-in_err-print_apart-in-WhyApart.ensures.1 in
+    record {
+      answer = rw returned.1 tt;
+      no_event = rw (returned.1, returned.2, c.in-WhyApart.is) c.in_err-print_apart-in-WhyApart.ensures.no_event;
+      same = rw (returned.1, returned.2, c.in-WhyApart.is) c.in_err-print_apart-in-WhyApart.ensures.same;
+      kept = rw returned.1 c.in_err-print_apart-in-WhyApart.ensures.kept;
     }

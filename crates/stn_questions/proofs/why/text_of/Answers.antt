@@ -3,7 +3,7 @@ use Rattle.std.proofs.lemmas.Int.{ints}
 use Rattle.stn_net.specs.Event.{most_events}
 use Rattle.stn_site.specs.Lines.{window_line}
 use Rattle.stn_site.specs.Report.{is_done}
-use Rattle.stn_questions.proofs.Ends.{why_part}
+use Rattle.stn_questions.proofs.Reasons.{why_part}
 use Rattle.stn_questions.proofs.why.text_of.Goals as goal
 
 pub returns : goal.returns
@@ -24,8 +24,7 @@ returns g c =
     let late_is = rw c.unwrap-latest.ensures at c.new-2.ensures.value in
     let late : latest ≡ ends.back.sum = omega (arith, ints, late_is, last_low, last_high) in
     why_part c.args.plan.now.source state event ends earliest latest
-    c.append_window_line.new.out.items c.append_end.new.out.items c.append_way.new.out.items c.append_end-2.new.out.items c.append_way-2.new.out.items
+    c.append_window_line.new.out.items c.append_end.new.out.items c.append_end-2.new.out.items
     c.requires.ends early late
     (c.in_ok-append_window_line.ensures.line ∙ (λ i. c.new-text.ensures.items i ++ window_line event earliest latest (flag i)))
-    c.in_ok-append_end.ensures (rw c.deref.ensures.value at c.in_ok-append_way.ensures)
-    c.in_ok-append_end-2.ensures (rw c.deref-2.ensures.value at c.in_ok-append_way-2.ensures)
+    (rw c.deref.ensures.value at c.in_ok-append_end.ensures) (rw c.deref-2.ensures.value at c.in_ok-append_end-2.ensures)

@@ -1,0 +1,98 @@
+ghost use Rattle.std.specs.Prelude.{◌≡◌, ◌↔◌, ◌≤◌, ◌++◌, ℕ, List, IfOk, OnOk, OnErr, IsErrOf};
+ghost use Rattle.stn_lift.specs.PlanSource.{events_of};
+ghost use Rattle.stn_questions.specs.Why.{range_line, HoldEnds, IsApartPart, IsApartText, NamesNoEvent};
+
+use crate::ends::{append_end, ends_of};
+use crate::why::WhyFault;
+use std::alloc::Allocator;
+use stn_conflict::BothWays;
+use stn_net::Event;
+use stn_site::SitePlan;
+use stn_time::{Memory, Ms};
+
+/// Appends why one event comes no sooner and no later after another: the least and the greatest time from
+/// `from` to `to` over all schedules, and for each of both the way of bounds that holds it. Where all
+/// bounds have no schedule, it appends the conflict of the report.
+///
+/// Refused in this order: `NoEvent`, where one of them is not an event of the plan nor the origin;
+/// `SameEvent`, where both are the same; `Memory`. After a fault nothing is appended.
+pub fn print_apart<A: Allocator + Copy, B: Allocator>(
+    plan: &SitePlan<A>,
+    from: Event,
+    to: Event,
+    out: &mut Vec<u8, B>,
+) -> Result<(), WhyFault>
+    ensures printed { OnOk result ((text : List ℕ) × IsApartText plan.now.source plan.now.state from to text × (out.new.items ≡ out.old.items ++ text)) }
+    ensures no_event { IsErrOf result WhyFault.NoEvent ↔ NamesNoEvent plan.now.source from to }
+    ensures same { IsErrOf result WhyFault.SameEvent ↔ ((from ≡ to) × ¬ NamesNoEvent plan.now.source from to) }
+    ensures kept { OnErr result (out.new.items ≡ out.old.items) }
+{
+    let events = plan.base().events();
+    if from.number() > events || to.number() > events {
+        return Err(WhyFault::NoEvent);
+    }
+    if from == to {
+        return Err(WhyFault::SameEvent);
+    }
+    append_apart(plan, from, to, out)?;
+    Ok(())
+}
+
+// The same of two events of the plan.
+fn append_apart<A: Allocator + Copy, B: Allocator>(
+    plan: &SitePlan<A>,
+    from: Event,
+    to: Event,
+    out: &mut Vec<u8, B>,
+) -> Result<(), Memory>
+    requires from { from ≤ events_of plan.now.source }
+    requires to { to ≤ events_of plan.now.source }
+    ensures printed { OnOk result ((text : List ℕ) × IsApartText plan.now.source plan.now.state from to text × (out.new.items ≡ out.old.items ++ text)) }
+    ensures kept { OnErr result (out.new.items ≡ out.old.items) }
+{
+    match ends_of(plan, from, to)? {
+        Some(ends) => {
+            let text = text_of(plan, from, to, &ends)?;
+            out.extend_from_slice(&text)
+        }
+        None => plan.report_conflict(out),
+    }
+}
+
+// The line of the least and the greatest time, and the ways that hold them.
+fn text_of<A: Allocator + Copy>(
+    plan: &SitePlan<A>,
+    from: Event,
+    to: Event,
+    ends: &BothWays<A>,
+) -> Result<Vec<u8, A>, Memory>
+    requires { HoldEnds plan.now.source plan.now.state from to ends.now }
+    ensures { IfOk result (λ text. IsApartPart plan.now.source plan.now.state from to text.items) }
+{
+    let least = Ms::new(-ends.onward.sum).unwrap();
+    let greatest = Ms::new(ends.back.sum).unwrap();
+    let mut text = Vec::new(plan.alloc());
+    append_range(&mut text, from, to, least, greatest)?;
+    append_end(plan, b"least", least, &ends.onward.links, &mut text)?;
+    append_end(plan, b"greatest", greatest, &ends.back.links, &mut text)?;
+    Ok(text)
+}
+
+fn append_range<B: Allocator>(
+    out: &mut Vec<u8, B>,
+    from: Event,
+    to: Event,
+    least: Ms,
+    greatest: Ms,
+) -> Result<(), Memory>
+    ensures { OnOk result (out.new.items ≡ out.old.items ++ range_line from to least greatest) }
+{
+    from.print(out)?;
+    out.extend_from_slice(b" ")?;
+    to.print(out)?;
+    out.extend_from_slice(b" ")?;
+    least.print(out)?;
+    out.extend_from_slice(b" ")?;
+    greatest.print(out)?;
+    out.extend_from_slice(b"\n")
+}

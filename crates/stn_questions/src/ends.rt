@@ -1,0 +1,71 @@
+ghost use Rattle.std.specs.Prelude.{◌≡◌, ◌<◌, ◌≤◌, ◌++◌, length, codes, All, IfOk, OnOk, MatchOption};
+ghost use Rattle.std.specs.List.{flat_map};
+ghost use Rattle.stn_time.specs.Text.{printed};
+ghost use Rattle.stn_net.specs.Schedule.{HasSchedule};
+ghost use Rattle.stn_lift.specs.PlanSource.{events_of, base_bounds};
+ghost use Rattle.stn_site.specs.Bounds.{all_bounds, live_bounds};
+ghost use Rattle.stn_site.specs.Names.{live_ids};
+ghost use Rattle.stn_site.specs.Lines.{line, link_line};
+ghost use Rattle.stn_questions.specs.Why.{HoldEnds, end_text};
+
+use std::alloc::Allocator;
+use stn_conflict::{BothWays, Link, both_ways};
+use stn_net::Event;
+use stn_site::{SitePlan, append_link_lines};
+use stn_time::{Memory, Ms};
+
+// The ways that hold the least and the greatest time from one event to another: from `to` to `from`, and back; none where all
+// bounds have no schedule.
+pub fn ends_of<A: Allocator + Copy>(
+    plan: &SitePlan<A>,
+    from: Event,
+    to: Event,
+) -> Result<Option<BothWays<A>>, Memory>
+    requires from { from ≤ events_of plan.now.source }
+    requires to { to ≤ events_of plan.now.source }
+    ensures { IfOk result (λ found. MatchOption found (¬ HasSchedule (all_bounds plan.now.source plan.now.state))
+        (HoldEnds plan.now.source plan.now.state from to)) }
+{
+    let live = plan.live_bounds()?;
+    let base = plan.base();
+    both_ways(plan.alloc(), base.events(), base.bounds(), &live, to, from)
+}
+
+// Appends such an end: its time after a word, and the links of the way that holds it.
+pub fn append_end<A: Allocator + Copy>(
+    plan: &SitePlan<A>,
+    word: &[u8],
+    time: Ms,
+    links: &[Link],
+    out: &mut Vec<u8, A>,
+) -> Result<(), Memory>
+    requires { All (λ link. link.place < length (all_bounds plan.now.source plan.now.state)) links.now }
+    ensures { OnOk result (out.new.items ≡ out.old.items ++ end_text plan.now.source plan.now.state word.now time links.now) }
+{
+    append_time(out, word, time)?;
+    append_way(plan, links, out)
+}
+
+fn append_time<B: Allocator>(out: &mut Vec<u8, B>, word: &[u8], time: Ms) -> Result<(), Memory>
+    ensures { OnOk result (out.new.items ≡ out.old.items ++ line (word.now ++ codes " " ++ printed time)) }
+{
+    out.extend_from_slice(word)?;
+    out.extend_from_slice(b" ")?;
+    time.print(out)?;
+    out.extend_from_slice(b"\n")
+}
+
+// Appends the lines of the links of a way.
+fn append_way<A: Allocator + Copy>(
+    plan: &SitePlan<A>,
+    links: &[Link],
+    out: &mut Vec<u8, A>,
+) -> Result<(), Memory>
+    requires { All (λ link. link.place < length (all_bounds plan.now.source plan.now.state)) links.now }
+    ensures { OnOk result (out.new.items ≡ out.old.items
+        ++ flat_map (link_line (base_bounds plan.now.source) (live_ids plan.now.state) (live_bounds plan.now.state)) links.now) }
+{
+    let ids = plan.live_ids()?;
+    let others = plan.live_bounds()?;
+    append_link_lines(plan.base().bounds(), &ids, &others, links, out)
+}
