@@ -5,7 +5,9 @@ usage: bench/questions.py PROGRAM
 
 After each command of the scripts in `examples/`, every site is asked for its report, for `why` of every event, and for
 `next` and `ready` at some times. The links of `why` have to form a chain from the event to the origin, or back, whose sum
-is the end of the window. The first line of `ready` has to say what `next` says. Where the report names a conflict, `repairs`
+is the end of the window. After the last command each site is also asked for `why` of each pair of events: the range of their
+difference has to be that of the second one's window on a copy that fixes the first one at its earliest time and then at its
+latest, both taken together; and the links have to form chains from each to the other whose sums are its ends. The first line of `ready` has to say what `next` says. Where the report names a conflict, `repairs`
 has to list the records whose withdrawal alone leads to `ok`, each with the least and the greatest time that can then be added
 between its events, and to drop records whose withdrawal does, but not if one of them stays. The last line printed is `passed`,
 with the number of comparisons; if something differs, it is printed, and the status is 1.
@@ -59,6 +61,32 @@ def why_agrees(lines, window):
     back, there = ([line.split() for line in part] for part in (lines[2:middle], lines[middle + 1:]))
     return (lines[1], lines[middle]) == (f"earliest {least}", f"latest {most}") and \
         chain_sum(back, event, "z") == -ms(least) and chain_sum(there, "z", event) == ms(most)
+
+
+def apart_agrees(lines, start, to, least, most):
+    """Whether an answer to `why` of two events has this range of their difference, and its chains give the ends."""
+    middle = next((number for number, line in enumerate(lines) if line.startswith("greatest ")), 0)
+    back, there = ([line.split() for line in part] for part in (lines[2:middle], lines[middle + 1:]))
+    return lines[0] == f"{start} {to} {text(least)} {text(most)}" and \
+        (lines[1], lines[middle]) == (f"least {text(least)}", f"greatest {text(most)}") and \
+        chain_sum(back, to, start) == -least and chain_sum(there, start, to) == most
+
+
+def windows_in(report):
+    """The window of each event and of the origin, in a report of a site whose bounds have a schedule."""
+    return {"z": (0, 0)} | {words[0]: (ms(words[1]), ms(words[2])) for words in map(str.split, report) if re.fullmatch(r"[se]\d+", words[0])}
+
+
+def ranges_after(program, script, site, start, times):
+    """The least and the greatest difference of each event to one, on copies that fix this one at some times."""
+    found = {}
+    for time in times:
+        fixed = "" if start == "z" else f"{site} add z {start} {text(time)} {text(time)}\n"
+        (report,) = answers(program, script + fixed, [f"{site} report"])
+        for event, (least, most) in windows_in(report).items():
+            low, high = found.get(event, (least - time, most - time))
+            found[event] = (min(low, least - time), max(high, most - time))
+    return found
 
 
 def ready_agrees(ready, following):
@@ -121,17 +149,38 @@ def compare(program, script, site):
     return len(windows) + len(pairs) + 1, wrong
 
 
+def compare_pairs(program, script, site):
+    """How many answers to `why` of two events were compared with the windows after fixing the first, and those that differ."""
+    (report,) = answers(program, script, [f"{site} report"])
+    windows = windows_in(report) if "ok" in report else {}
+    count, wrong = 0, []
+    for start, ends in windows.items():
+        ranges = ranges_after(program, script, site, start, ends)
+        others = [event for event in windows if event != start]
+        given = answers(program, script, [f"{site} why {start} {event}" for event in others])
+        wrong += [f"{site} why {start} {event}" for event, lines in zip(others, given) if not apart_agrees(lines, start, event, *ranges[event])]
+        count += len(others)
+    return count, wrong
+
+
+def compare_all(program, text):
+    """For each site after each command of a script: the number of lines so far, how many were compared, and those that differ."""
+    for script, sites in prefixes(text):
+        for site in range(1, sites + 1):
+            yield len(script.splitlines()), *compare(program, script, site)
+    for site in range(1, sites + 1):
+        yield len(script.splitlines()), *compare_pairs(program, script, site)
+
+
 def main():
     program = Path(sys.argv[1]).resolve()
     count, failed = 0, False
     for path in sorted((TOP / "examples").glob("*.stn")):
-        for script, sites in prefixes(path.read_bytes().decode()):
-            for site in range(1, sites + 1):
-                more, wrong = compare(program, script, site)
-                count += more
-                for question in wrong:
-                    failed = True
-                    print(f"{path.name}, after {len(script.splitlines())} lines: {question}")
+        for lines, more, wrong in compare_all(program, path.read_bytes().decode()):
+            count += more
+            for question in wrong:
+                failed = True
+                print(f"{path.name}, after {lines} lines: {question}")
     print(f"{count} comparisons")
     print("failed" if failed else "passed")
     return 1 if failed else 0

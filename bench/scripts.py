@@ -322,6 +322,20 @@ class Site:
         lines.append(f"latest {time_text(sum(link.weight for link in latest))}")
         return lines + [link.text() for link in latest]
 
+    def why_apart(self, start, to):
+        """How long one event can come after another over all schedules, and the ways that hold both ends."""
+        if max(start, to) > self.plan.events:
+            raise Refused(4)
+        if start == to:
+            raise Refused(5)
+        table, culprit = self.judged()
+        if culprit:
+            return self.conflict(table, culprit)
+        back, onward = way_of(table, self.bounds(), to, start), way_of(table, self.bounds(), start, to)
+        least, greatest = time_text(-table.rows[to][start]), time_text(table.rows[start][to])
+        return [f"{event_text(start)} {event_text(to)} {least} {greatest}", f"least {least}", *(link.text() for link in back),
+                f"greatest {greatest}", *(link.text() for link in onward)]
+
     def repairs(self):
         """The range that the others leave each record without which they have a schedule, and the records to drop, facts last."""
         if self.judged()[1] is None:
@@ -392,7 +406,7 @@ def words_of(line):
     return [word for word in re.split("[ \t\r]", line.decode("latin-1")) if word]
 
 
-# How many words follow the name of a command; after `send` and `check` there may be any number.
+# How many words follow the name of a command; after `send`, `check` and `why` their readers count them.
 WORDS = {
     "add": 4,
     "amend": 5,
@@ -409,7 +423,7 @@ WORDS = {
     "steps": 0,
     "bounds": 0,
     "ready": 1,
-    "why": 1,
+    "why": None,
     "repairs": 0,
 }
 
@@ -582,9 +596,11 @@ class Script:
     def read_ready(self, time):
         return lambda site: site.ready(read_time(time))
 
-    def read_why(self, event):
-        event = EVENTS.get(event)
-        return None if event is None else lambda site: site.why(event)
+    def read_why(self, *words):
+        events = [EVENTS.get(word) for word in words]
+        if None in events or len(events) not in (1, 2):
+            return None
+        return lambda site: site.why(*events) if len(events) == 1 else site.why_apart(*events)
 
     def read_repairs(self):
         return Site.repairs

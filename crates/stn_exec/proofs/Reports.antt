@@ -264,7 +264,7 @@ same_bytes law script other output last text last_text at there site others one 
 pub answers : (script output text : List ℕ) (at : LineOf script) (site : ℕ) (question : Question) → AsksSite at site question → PrintsAt at output text
     → IsAnswer at.start.source (content_at (world_at at) site) question text
 answers script output text at site question asks printed =
-    answers_at script output text at site (ask question) (asked.ask question) asks.kept asks.command asks.there refl (inr (asks.event, refl)) printed
+    answers_at script output text at site (ask question) (asked.ask question) asks.kept asks.command asks.there refl (inr (inr (asks.event, asks.apart, refl))) printed
 
 pub ready_said : (script output text : List ℕ) (at : LineOf script) (site : ℕ) (now : ℤ) → AsksReady at site now → PrintsAt at output text
     → IsReadyText at.start.source (content_at (world_at at) site) now text

@@ -5,7 +5,7 @@ use Rattle.std.specs.Option.{option_map}
 use Rattle.std.specs.Str.{bytes_eq}
 use Rattle.stn_records.specs.Id.{SiteCounter}
 use Rattle.stn_questions.specs.declared.asked.Question.{Question}
-use Rattle.stn_questions.specs.declared.asked.Question.TheVariants.{Records, Steps, Bounds, Why}
+use Rattle.stn_questions.specs.declared.asked.Question.TheVariants.{Records, Steps, Bounds, Why, WhyApart}
 use Rattle.stn_text.specs.Numbers.{number_of}
 use Rattle.stn_command.specs.Words.{event_of, id_of}
 
@@ -124,9 +124,11 @@ rehearse_of words = option_map (λ now. query (rehearse now)) (lone_word words)
 abbrev pub ready_of : List (List ℕ) → Option Action
 ready_of words = option_map (λ now. query (ready now)) (lone_word words)
 
--- the form `why <event>`
+-- the forms `why <event>` and `why <event> <event>`
 abbrev pub why_of : List (List ℕ) → Option Action
-why_of words = option_map (λ event. query (ask (Why event))) (option_and_then event_of (lone_word words))
+why_of (event ∷ []) = option_map (λ which. query (ask (Why which))) (event_of event)
+why_of (from ∷ (to ∷ [])) = option_and_then (λ first. option_map (λ second. query (ask (WhyApart first second))) (event_of to)) (event_of from)
+why_of other = None
 
 -- the form `repairs`
 abbrev pub repairs_of : List (List ℕ) → Option Action

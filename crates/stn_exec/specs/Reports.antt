@@ -6,7 +6,7 @@ use Rattle.stn_time.specs.TimeOf.{time_of}
 use Rattle.stn_world.specs.World.{World, HasSite, opening_world}
 use Rattle.stn_world.specs.Steps.{Step, run}
 use Rattle.stn_questions.specs.declared.asked.Question.{Question}
-use Rattle.stn_questions.specs.Answer.{AsksOfNoEvent}
+use Rattle.stn_questions.specs.Answer.{AsksOfNoEvent, AsksOfSameEvent}
 use Rattle.stn_exec.specs.Command.{query, report, ready, ask, sites_command, command_of}
 use Rattle.stn_exec.specs.Effect.{step_of}
 use Rattle.stn_exec.specs.Script.{Start, is_skipped, heading_of, last_line, line_outcome, lines_outcome}
@@ -51,11 +51,12 @@ pub record ReportsSite {script : List ℕ} (at : LineOf script) (site : ℕ) : T
   pub command : command_of (events_of at.start.source) (words_of at.line) ≡ Some (sites_command site (query report))
   pub there : HasSite (first_world at) site
 
--- the line is a site's question, which is about no event that the plan has not; and the site is there
+-- the line is a site's question, which is about no event that the plan has not, nor about an event and itself; and the site is there
 pub record AsksSite {script : List ℕ} (at : LineOf script) (site : ℕ) (question : Question) : Type 0 where
   pub kept : is_skipped (words_of at.line) ≡ false
   pub command : command_of (events_of at.start.source) (words_of at.line) ≡ Some (sites_command site (query (ask question)))
   pub event : ¬ AsksOfNoEvent at.start.source question
+  pub apart : ¬ AsksOfSameEvent question
   pub there : HasSite (first_world at) site
 
 -- the line is a site's command `ready` from a time on, which can be read; and the site is there

@@ -354,10 +354,20 @@ fn read_ready(rest: &[u8]) -> Option<Action<'_>>
 fn read_why(rest: &[u8]) -> Option<Action<'_>>
     ensures { option_map seen_action result ≡ why_of (words_of rest.now) }
 {
-    let word = lone_word(rest)?;
-    match read_event(word) {
-        Some(event) => Some(Action::Query(QueryWords::Ask(Question::Why(event)))),
-        None => None,
+    let (word, behind) = first_word(rest)?;
+    match first_word(behind) {
+        None => {
+            let event = read_event(word)?;
+            Some(Action::Query(QueryWords::Ask(Question::Why(event))))
+        }
+        Some((other, after)) => {
+            if first_word(after).is_some() {
+                return None;
+            }
+            let from = read_event(word)?;
+            let to = read_event(other)?;
+            Some(Action::Query(QueryWords::Ask(Question::WhyApart(from, to))))
+        }
     }
 }
 
