@@ -82,7 +82,7 @@ commands = command (codes "run") []
     ∷ on_log (codes "report") []
     ∷ on_log (codes "next") (word_rule (codes "NOW") ∷ choice_rules)
     ∷ on_log (codes "ready") (word_rule (codes "NOW") ∷ choice_rules)
-    ∷ on_log (codes "why") (word_rule (codes "EVENT") ∷ [])
+    ∷ on_log (codes "why") (word_rule (codes "EVENT") ∷ maybe_rule (codes "TO") ∷ [])
     ∷ on_log (codes "repairs") []
     ∷ on_log (codes "records") []
     ∷ on_log (codes "steps") []

@@ -72,7 +72,8 @@ IsLineOf (line.Next log now choice) name rows =
     (name ≡ codes "next") × IsOnLog log rows × IsWord (codes "NOW") now rows × IsChoice choice rows
 IsLineOf (line.Ready log now choice) name rows =
     (name ≡ codes "ready") × IsOnLog log rows × IsWord (codes "NOW") now rows × IsChoice choice rows
-IsLineOf (line.Why log event) name rows = (name ≡ codes "why") × IsOnLog log rows × IsWord (codes "EVENT") event rows
+IsLineOf (line.Why log event to) name rows =
+    (name ≡ codes "why") × IsOnLog log rows × IsWord (codes "EVENT") event rows × IsOption (codes "TO") to rows
 IsLineOf (line.Repairs log) name rows = (name ≡ codes "repairs") × IsOnLog log rows
 IsLineOf (line.Records log) name rows = (name ≡ codes "records") × IsOnLog log rows
 IsLineOf (line.Steps log) name rows = (name ≡ codes "steps") × IsOnLog log rows

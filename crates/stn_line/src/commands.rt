@@ -211,11 +211,12 @@ const COMMANDS: [Row; 24] = [
     },
     Row {
         name: "why",
-        about: "Says which bounds hold the two ends of an event's window",
+        about: "Says which bounds hold the ends of an event's window, or of the time between two events",
         words: &[
             LOG,
             SITE,
             Word::Text("EVENT", "The event: `s1`, `e1`, or `z` for the origin"),
+            Word::MaybeText("TO", "A second event: how long after the first it comes"),
         ],
     },
     Row {

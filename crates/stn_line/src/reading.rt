@@ -217,6 +217,7 @@ fn why<'a>(words: &ArgMatches<'a>) -> Line<'a>
     Line::Why {
         log: site_log(words),
         event: word(words, "EVENT"),
+        to: option(words, "TO"),
     }
 }
 

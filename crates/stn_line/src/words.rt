@@ -103,10 +103,11 @@ pub enum Line<'a> {
         now: &'a str,
         choice: EventChoice<'a>,
     },
-    /// Tells why an event's window ends where it does.
+    /// Tells why an event's window ends where it does; of two events, why the second comes no sooner and no later after the first.
     Why {
         log: SiteLog<'a>,
         event: &'a str,
+        to: Option<&'a str>,
     },
     /// Tells what mends a conflict.
     Repairs {

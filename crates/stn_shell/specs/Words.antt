@@ -4,7 +4,8 @@ use Rattle.std.specs.Borrow.{Bor}
 use Rattle.stn_time.specs.Time.{horizon}
 use Rattle.stn_records.specs.Id.{SiteCounter}
 use Rattle.stn_loosen.specs.Slack.{Slack}
-use Rattle.stn_questions.specs.declared.asked.Question.TheVariants.{Records as records, Steps as steps, Bounds as bounds, Why as why}
+use Rattle.stn_questions.specs.declared.asked.Question.{Question}
+use Rattle.stn_questions.specs.declared.asked.Question.TheVariants.{Records as records, Steps as steps, Bounds as bounds, Why as why, WhyApart as why_apart}
 use Rattle.stn_command.specs.Words.{and_then, event_of, id_of, time_read, times_read, no_such_word}
 use Rattle.stn_command.specs.Query.{Query, seen_query, report, check, next, ready, rehearse, ask, repairs, draw}
 use Rattle.stn_command.specs.declared.changes.AskedBound.{AskedBound}
@@ -66,6 +67,11 @@ slack_read early late =
     and_then (side_read (pos 0) late) (λ more.
     slack_of less more))
 
+-- the question why, about an event, or about two
+abbrev pub why_read : List ℕ → Option (Bor (List ℕ)) → Result Question Failure
+why_read event None = and_then (event_read event) (λ which. Ok (why which))
+why_read from (Some to) = and_then (event_read from) (λ first. and_then (event_read to.now) (λ second. Ok (why_apart first second)))
+
 -- what a query asks of a log; the others are no commands on a log that is there
 abbrev pub query_of : Line → Result Asked Failure
 query_of (Report log) = Ok (query log report)
@@ -73,7 +79,7 @@ query_of (Check log times) = and_then (times_read (map (λ word. word.now) times
 query_of (Next log now) = and_then (time_read now.now) (λ time. Ok (query log (next time)))
 query_of (Ready log now) = and_then (time_read now.now) (λ time. Ok (query log (ready time)))
 query_of (Rehearse log now) = and_then (time_read now.now) (λ time. Ok (query log (rehearse time)))
-query_of (Why log event) = and_then (event_read event.now) (λ which. Ok (query log (ask (why which))))
+query_of (Why log event to) = and_then (why_read event.now to) (λ question. Ok (query log (ask question)))
 query_of (Records log) = Ok (query log (ask records))
 query_of (Steps log) = Ok (query log (ask steps))
 query_of (Bounds log) = Ok (query log (ask bounds))

@@ -4,7 +4,7 @@ ghost use Rattle.std.specs.Prelude.{◌≡◌, ◌⊎◌, map, pos, neg_ℤ, Ok,
 ghost use Rattle.stn_time.specs.Time.{horizon};
 ghost use Rattle.stn_refusal.specs.Refusals.{out_of_memory};
 ghost use Rattle.stn_command.specs.Words.{times_read};
-ghost use Rattle.stn_shell.specs.Words.{asked_of, query_of, seen_asked, bound_read, event_read, id_read, side_read, slack_of, slack_read};
+ghost use Rattle.stn_shell.specs.Words.{asked_of, query_of, seen_asked, bound_read, event_read, id_read, side_read, slack_of, slack_read, why_read};
 
 use std::alloc::{Allocator, Global};
 use stn_command::{AskedBound, Change, Query, no_such_word, read_time};
@@ -94,9 +94,9 @@ fn read_query<'l, 'a>(alloc: Global, line: &'l Line<'a>) -> Result<Asked<'l, 'a>
             let now = read_time(now.as_bytes())?;
             Ok(Asked::Query(log, Query::Rehearse(now)))
         }
-        Line::Why { log, event } => {
-            let event = read_event(*event)?;
-            Ok(Asked::Query(log, Query::Ask(Question::Why(event))))
+        Line::Why { log, event, to } => {
+            let question = read_why(*event, *to)?;
+            Ok(Asked::Query(log, Query::Ask(question)))
         }
         Line::Records { log } => Ok(Asked::Query(log, Query::Ask(Question::Records))),
         Line::Steps { log } => Ok(Asked::Query(log, Query::Ask(Question::Steps))),
@@ -114,6 +114,24 @@ fn read_event(word: &str) -> Result<Event, Failure>
     match stn_command::read_event(word.as_bytes()) {
         Some(event) => Ok(event),
         None => Err(no_such_word()),
+    }
+}
+
+// The question why, about the event of a word, or about the events of two.
+fn read_why(event: &str, to: Option<&str>) -> Result<Question, Failure>
+    ensures { MatchResult result (λ question. why_read event.now to.entry ≡ Ok question)
+        (λ failure. why_read event.now to.entry ≡ Err failure) }
+{
+    match to {
+        Some(word) => {
+            let from = read_event(event)?;
+            let to = read_event(word)?;
+            Ok(Question::WhyApart(from, to))
+        }
+        None => {
+            let event = read_event(event)?;
+            Ok(Question::Why(event))
+        }
     }
 }
 
