@@ -6,3 +6,4 @@ mod Ended
 mod Made
 mod OnLog
 mod OfLogs
+mod OneCause

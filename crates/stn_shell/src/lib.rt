@@ -4,6 +4,7 @@
 pub use commands::answer;
 pub use connections::{send_on, serve_on};
 pub use execution::{execute, execute_over};
+pub use laws::one_cause;
 pub use peer::{Peer, Service, Talk, connect, meet};
 pub use process::{Wordless, program, run_process};
 
@@ -13,6 +14,7 @@ mod connections;
 mod execution;
 mod explaining;
 mod joining;
+mod laws;
 mod loosening;
 mod partners;
 mod peer;
