@@ -1,7 +1,8 @@
--- What comes next has one text, and a rehearsal has one, or one cause that refuses it.
-use Rattle.std.proofs.Common.{◌≡◌, ◌⊎◌, inl, inr, ℕ, ◌≤◌, ℤ, List, ◌++◌, append_assoc, length, take, take_all, Result, Ok, Err, OnOk, refl, sym, ap, subst, ◌∙◌}
+-- What comes next and what is ready has one text, and a rehearsal has one, or one cause that refuses it.
+use Rattle.std.proofs.Common.{◌≡◌, ◌⊎◌, inl, inr, ℕ, ◌≤◌, ℤ, Bool, List, ◌++◌, append_assoc, length, take, take_all, Result, Ok, Err, OnOk, refl, sym, ap, subst, ◌∙◌}
 use Rattle.std.specs.Prelude.{if◌then◌else◌, is_ok}
 use Rattle.std.specs.List.{flat_map}
+use Rattle.stn_net.specs.Difference.{Difference}
 use Rattle.stn_net.specs.Schedule.{HasSchedule}
 use Rattle.stn_windows.specs.declared.answers.Next.{Next}
 use Rattle.stn_windows.specs.declared.answers.Next.TheVariants.{Run, AllDone, Overdue}
@@ -13,32 +14,48 @@ use Rattle.stn_lift.specs.PlanSource.{PlanSource}
 use Rattle.stn_records.specs.Content.{Content}
 use Rattle.stn_site.specs.Bounds.{all_bounds}
 use Rattle.stn_site.specs.Lines.{line}
-use Rattle.stn_site.specs.Report.{done_events}
+use Rattle.stn_questions.specs.Ready.{ready_line, IsReadyAnswer, IsReadyWith}
+use Rattle.stn_questions.proofs.OneReady.{one_list}
 use Rattle.stn_command.specs.Dispatch.{next_text, IsNextText, run_line, runs_text, SaysRuns, IsRestText, IsOverdueAt, IsRefusedRehearsal}
 use Rattle.std.specs.Prelude.{codes}
 
-pub one_next_text : (source : PlanSource) (state : Content) (now : ℤ) (text other : List ℕ) → IsNextText source state now text → IsNextText source state now other → text ≡ other
-one_next_text source state now text other (inl p) (inl q) =
-    p.said ∙ ap next_text (one_next (all_bounds source state) (done_events source state) now p.answer q.answer p.next q.next) ∙ sym q.said
-one_next_text source state now text other (inl p) (inr q) = absurd (q.conflict p.possible)
-one_next_text source state now text other (inr p) (inl q) = absurd (p.conflict q.possible)
-one_next_text source state now text other (inr p) (inr q) = p.said ∙ sym q.said
+pub one_next_text : (source : PlanSource) (state : Content) (done : List Bool) (now : ℤ) (text other : List ℕ) → IsNextText source state done now text → IsNextText source state done now other → text ≡ other
+one_next_text source state done now text other (inl p) (inl q) =
+    p.said ∙ ap next_text (one_next (all_bounds source state) done now p.answer q.answer p.next q.next) ∙ sym q.said
+one_next_text source state done now text other (inl p) (inr q) = absurd (q.conflict p.possible)
+one_next_text source state done now text other (inr p) (inl q) = absurd (p.conflict q.possible)
+one_next_text source state done now text other (inr p) (inr q) = p.said ∙ sym q.said
 
 -- where some schedule runs the whole plan, no event is overdue
-runs_not_overdue : (source : PlanSource) (state : Content) (now : ℤ) (text : List ℕ) (event : ℕ) → SaysRuns source state now text → ¬ IsOverdueAt source state now event
-runs_not_overdue source state now text event says late = late.overdue.1 says.rest.in_time
+runs_not_overdue : (source : PlanSource) (state : Content) (done : List Bool) (now : ℤ) (text : List ℕ) (event : ℕ) → SaysRuns source state done now text → ¬ IsOverdueAt source state done now event
+runs_not_overdue source state done now text event says late = late.overdue.1 says.rest.in_time
 
 -- the rest of the plan, or a conflict: no event is overdue
-pub rest_accepted : (source : PlanSource) (state : Content) (now : ℤ) (text : List ℕ) → IsRestText source state now text → ¬ IsRefusedRehearsal source state now
-rest_accepted source state now text (inl says) late = runs_not_overdue source state now text late.0 says late.1
-rest_accepted source state now text (inr says) late = says.conflict late.1.possible
+pub rest_accepted : (source : PlanSource) (state : Content) (done : List Bool) (now : ℤ) (text : List ℕ) → IsRestText source state done now text → ¬ IsRefusedRehearsal source state done now
+rest_accepted source state done now text (inl says) late = runs_not_overdue source state done now text late.0 says late.1
+rest_accepted source state done now text (inr says) late = says.conflict late.1.possible
 
-pub one_rest_text : (source : PlanSource) (state : Content) (now : ℤ) (text other : List ℕ) → IsRestText source state now text → IsRestText source state now other → text ≡ other
-one_rest_text source state now text other (inl p) (inl q) =
-    p.lines ∙ ap runs_text (one_rehearsal p.runs q.runs (all_bounds source state) (done_events source state) now p.rest.rehearsal q.rest.rehearsal) ∙ sym q.lines
-one_rest_text source state now text other (inl p) (inr q) = absurd (q.conflict (p.rest.times, p.rest.schedule))
-one_rest_text source state now text other (inr p) (inl q) = absurd (p.conflict (q.rest.times, q.rest.schedule))
-one_rest_text source state now text other (inr p) (inr q) = p.said ∙ sym q.said
+pub one_rest_text : (source : PlanSource) (state : Content) (done : List Bool) (now : ℤ) (text other : List ℕ) → IsRestText source state done now text → IsRestText source state done now other → text ≡ other
+one_rest_text source state done now text other (inl p) (inl q) =
+    p.lines ∙ ap runs_text (one_rehearsal p.runs q.runs (all_bounds source state) done now p.rest.rehearsal q.rest.rehearsal) ∙ sym q.lines
+one_rest_text source state done now text other (inl p) (inr q) = absurd (q.conflict (p.rest.times, p.rest.schedule))
+one_rest_text source state done now text other (inr p) (inl q) = absurd (p.conflict (q.rest.times, q.rest.schedule))
+one_rest_text source state done now text other (inr p) (inr q) = p.said ∙ sym q.said
+
+one_ready_answer : (bounds : List Difference) (done : List Bool) (now : ℤ) (answer : Next) (text other : List ℕ) → IsReadyAnswer bounds done now answer text
+    → IsReadyAnswer bounds done now answer other → text ≡ other
+one_ready_answer bounds done now (Run time event) text other p q =
+    p.lines ∙ ap (flat_map ready_line) (one_list bounds done now p.ready q.ready p.events q.events) ∙ sym q.lines
+one_ready_answer bounds done now AllDone text other p q = p ∙ sym q
+one_ready_answer bounds done now (Overdue event) text other p q = p ∙ sym q
+
+pub one_ready_text : (bounds : List Difference) (done : List Bool) (now : ℤ) (text other : List ℕ) → IsReadyWith bounds done now text → IsReadyWith bounds done now other → text ≡ other
+one_ready_text bounds done now text other (inl p) (inl q) =
+    let same : p.answer ≡ q.answer = one_next bounds done now p.answer q.answer p.next q.next in
+    one_ready_answer bounds done now q.answer text other (subst (λ answer. IsReadyAnswer bounds done now answer text) same p.said) q.said
+one_ready_text bounds done now text other (inl p) (inr q) = absurd (q.conflict p.possible)
+one_ready_text bounds done now text other (inr p) (inl q) = absurd (p.conflict q.possible)
+one_ready_text bounds done now text other (inr p) (inr q) = p.said ∙ sym q.said
 
 -- the lines of all runs, and the last line
 pub runs_ended : {T E : Type 0} (result : Result T E) (runs : List (ℤ × ℕ)) (place : ℕ) (old lines new : List ℕ) → length runs ≤ place
@@ -49,16 +66,16 @@ runs_ended (Ok value) runs place old lines new past each last =
 runs_ended (Err fault) runs place old lines new past each last = tt
 
 -- why a rehearsal is refused
-pub refused_as : (source : PlanSource) (state : Content) (now : ℤ) (fault : RehearseFault) → HasSchedule (all_bounds source state)
-    → IsRehearseFault (all_bounds source state) (done_events source state) now fault
-    → (fault ≡ rehearse_fault.Memory) ⊎ ((event : ℕ) × (fault ≡ rehearse_fault.Overdue event) × IsOverdueAt source state now event)
-refused_as source state now rehearse_fault.Memory possible late = inl refl
-refused_as source state now (rehearse_fault.Overdue event) possible late = inr (event, refl, record { possible = possible; overdue = late })
+pub refused_as : (source : PlanSource) (state : Content) (done : List Bool) (now : ℤ) (fault : RehearseFault) → HasSchedule (all_bounds source state)
+    → IsRehearseFault (all_bounds source state) done now fault
+    → (fault ≡ rehearse_fault.Memory) ⊎ ((event : ℕ) × (fault ≡ rehearse_fault.Overdue event) × IsOverdueAt source state done now event)
+refused_as source state done now rehearse_fault.Memory possible late = inl refl
+refused_as source state done now (rehearse_fault.Overdue event) possible late = inr (event, refl, record { possible = possible; overdue = late })
 
 -- and lack of memory stops only a rehearsal in which no event is
-pub lack_as : (source : PlanSource) (state : Content) (now : ℤ) (fault : RehearseFault) → IsRehearseFault (all_bounds source state) (done_events source state) now fault
-    → fault ≡ rehearse_fault.Memory → ¬ IsRefusedRehearsal source state now
-lack_as source state now fault late is refused = refused.1.overdue.1 (subst (IsRehearseFault (all_bounds source state) (done_events source state) now) is late)
+pub lack_as : (source : PlanSource) (state : Content) (done : List Bool) (now : ℤ) (fault : RehearseFault) → IsRehearseFault (all_bounds source state) done now fault
+    → fault ≡ rehearse_fault.Memory → ¬ IsRefusedRehearsal source state done now
+lack_as source state done now fault late is refused = refused.1.overdue.1 (subst (IsRehearseFault (all_bounds source state) done now) is late)
 
 -- the event of an answer that names one as overdue
 abbrev overdue_event : Next → ℕ
@@ -67,6 +84,6 @@ overdue_event (Run time event) = event
 overdue_event AllDone = 0
 
 -- one event is overdue
-pub one_overdue : (source : PlanSource) (state : Content) (now : ℤ) (event other : ℕ) → IsOverdueAt source state now event → IsOverdueAt source state now other → event ≡ other
-one_overdue source state now event other p q =
-    ap overdue_event (one_next (all_bounds source state) (done_events source state) now (Overdue event) (Overdue other) p.overdue.0 q.overdue.0)
+pub one_overdue : (source : PlanSource) (state : Content) (done : List Bool) (now : ℤ) (event other : ℕ) → IsOverdueAt source state done now event → IsOverdueAt source state done now other → event ≡ other
+one_overdue source state done now event other p q =
+    ap overdue_event (one_next (all_bounds source state) done now (Overdue event) (Overdue other) p.overdue.0 q.overdue.0)

@@ -3,3 +3,5 @@ mod Ids
 pub mod Foresight
 pub mod OneSaid
 pub mod Alike
+mod Chosen
+mod StepWords

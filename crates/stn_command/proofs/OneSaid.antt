@@ -1,34 +1,45 @@
 -- A query has one answer, and one cause that refuses it or none.
-use Rattle.std.proofs.Common.{◌≡◌, ◌⊎◌, inl, inr, ℕ, ℤ, List, Option, Some, None, sym, ap, ◌∙◌}
+use Rattle.std.proofs.Common.{◌≡◌, ◌⊎◌, true≢false, inl, inr, ℕ, ℤ, Bool, true, false, List, Option, Some, None, sym, ap, ◌∙◌}
 use Rattle.stn_refusal.specs.declared.code.Code.TheVariants as code
 use Rattle.stn_refusal.specs.declared.failure.Failure.{Failure}
 use Rattle.stn_refusal.specs.Refusals.{refused_of}
 use Rattle.stn_lift.specs.PlanSource.{PlanSource}
 use Rattle.stn_records.specs.Content.{Content}
 use Rattle.stn_site.specs.Held.{Held}
-use Rattle.stn_site.specs.Report.{IsReport}
+use Rattle.stn_site.specs.Bounds.{all_bounds}
+use Rattle.stn_site.specs.Report.{IsReport, done_events}
 use Rattle.stn_questions.specs.declared.asked.Question.{Question}
 use Rattle.stn_questions.specs.Answer.{IsAnswer}
-use Rattle.stn_questions.specs.Ready.{IsReadyText}
 use Rattle.stn_picture.specs.Picture.{IsPicture}
 use Rattle.stn_repair.specs.Text.{IsRepairsText}
-use Rattle.stn_command.specs.Query.{Query, report, check, next, ready, rehearse, ask, repairs, draw, IsSaid, IsRehearseRefusal, IsQuestionRefusal, IsQueryRefusal}
-use Rattle.stn_command.proofs.Foresight.{one_next_text, one_rest_text, one_overdue}
+use Rattle.stn_command.specs.Query.{Query, report, check, next, ready, rehearse, among, ask, repairs, draw, IsSaid, IsForeseen, IsRehearseRefusal, IsOutlookRefusal, IsQuestionRefusal, IsQueryRefusal}
+use Rattle.stn_command.specs.Dispatch.{done_or_not_chosen}
+use Rattle.stn_command.specs.declared.queries.Outlook.{Outlook}
+use Rattle.stn_command.specs.declared.queries.Outlook.TheVariants as outlook
+use Rattle.stn_net.specs.Failures.{bound_failure}
+use Rattle.stn_net.specs.declared.bound.BoundFault.TheVariants.{NoEvent}
+use Rattle.stn_command.proofs.Foresight.{one_next_text, one_ready_text, one_rest_text, one_overdue}
+
+one_foreseen : (outlook : Outlook) (held : Held) (done : List Bool) (now : ℤ) (text other : List ℕ) → IsForeseen outlook held done now text → IsForeseen outlook held done now other → text ≡ other
+one_foreseen outlook.Next held done now text other p q = one_next_text held.source held.state done now text other p q
+one_foreseen outlook.Ready held done now text other p q = one_ready_text (all_bounds held.source held.state) done now text other p q
+one_foreseen outlook.Rehearse held done now text other p q = one_rest_text held.source held.state done now text other p q
 
 pub one_text : ((source : PlanSource) → (state : Content) → (text other : List ℕ) → IsReport source state text → IsReport source state other → text ≡ other)
     → ((source : PlanSource) → (state : Content) → (question : Question) → (text other : List ℕ) → IsAnswer source state question text → IsAnswer source state question other → text ≡ other)
-    → ((source : PlanSource) → (state : Content) → (now : ℤ) → (text other : List ℕ) → IsReadyText source state now text → IsReadyText source state now other → text ≡ other)
     → ((source : PlanSource) → (state : Content) → (text other : List ℕ) → IsRepairsText source state text → IsRepairsText source state other → text ≡ other)
     → ((source : PlanSource) → (state : Content) → (text other : List ℕ) → IsPicture source state text → IsPicture source state other → text ≡ other)
     → (query : Query) (held : Held) (text other : List ℕ) → IsSaid query held text → IsSaid query held other → text ≡ other
-one_text reports answers readies mends pictures report held text other p q = reports held.source held.state text other p q
-one_text reports answers readies mends pictures (check times) held text other p q = p ∙ sym q
-one_text reports answers readies mends pictures (next now) held text other p q = one_next_text held.source held.state now text other p q
-one_text reports answers readies mends pictures (ready now) held text other p q = readies held.source held.state now text other p q
-one_text reports answers readies mends pictures (rehearse now) held text other p q = one_rest_text held.source held.state now text other p q
-one_text reports answers readies mends pictures (ask question) held text other p q = answers held.source held.state question text other p q
-one_text reports answers readies mends pictures repairs held text other p q = mends held.source held.state text other p q
-one_text reports answers readies mends pictures draw held text other p q = pictures held.source held.state text other p q
+one_text reports answers mends pictures report held text other p q = reports held.source held.state text other p q
+one_text reports answers mends pictures (check times) held text other p q = p ∙ sym q
+one_text reports answers mends pictures (next now) held text other p q = one_foreseen outlook.Next held (done_events held.source held.state) now text other p q
+one_text reports answers mends pictures (ready now) held text other p q = one_foreseen outlook.Ready held (done_events held.source held.state) now text other p q
+one_text reports answers mends pictures (rehearse now) held text other p q = one_foreseen outlook.Rehearse held (done_events held.source held.state) now text other p q
+one_text reports answers mends pictures (among outlook now choice) held text other p q =
+    one_foreseen outlook held (done_or_not_chosen choice held.source held.state) now text other p q
+one_text reports answers mends pictures (ask question) held text other p q = answers held.source held.state question text other p q
+one_text reports answers mends pictures repairs held text other p q = mends held.source held.state text other p q
+one_text reports answers mends pictures draw held text other p q = pictures held.source held.state text other p q
 
 -- one test, and what stands against a query where it holds
 one_of : {P Q : Type 0} (found cause other : Option Failure) → ¬ (P × Q) → (P × (cause ≡ found)) ⊎ (Q × (cause ≡ None))
@@ -38,12 +49,27 @@ one_of found cause other not_both (inl p) (inr q) = absurd (not_both (p.0, q.0))
 one_of found cause other not_both (inr p) (inl q) = absurd (not_both (q.0, p.0))
 one_of found cause other not_both (inr p) (inr q) = p.1 ∙ sym q.1
 
-rehearsal_refused : (held : Held) (now : ℤ) (cause other : Option Failure) → IsRehearseRefusal held now cause → IsRehearseRefusal held now other → cause ≡ other
-rehearsal_refused held now cause other (inl p) (inl q) =
-    p.2 ∙ (ap (λ (event : ℕ). Some (refused_of code.Overdue event)) (one_overdue held.source held.state now p.0 q.0 p.1 q.1) ∙ sym q.2)
-rehearsal_refused held now cause other (inl p) (inr q) = absurd (q.0 (p.0, p.1))
-rehearsal_refused held now cause other (inr p) (inl q) = absurd (p.0 (q.0, q.1))
-rehearsal_refused held now cause other (inr p) (inr q) = p.1 ∙ sym q.1
+rehearsal_refused : (held : Held) (done : List Bool) (now : ℤ) (cause other : Option Failure) → IsRehearseRefusal held done now cause → IsRehearseRefusal held done now other → cause ≡ other
+rehearsal_refused held done now cause other (inl p) (inl q) =
+    p.2 ∙ (ap (λ (event : ℕ). Some (refused_of code.Overdue event)) (one_overdue held.source held.state done now p.0 q.0 p.1 q.1) ∙ sym q.2)
+rehearsal_refused held done now cause other (inl p) (inr q) = absurd (q.0 (p.0, p.1))
+rehearsal_refused held done now cause other (inr p) (inl q) = absurd (p.0 (q.0, q.1))
+rehearsal_refused held done now cause other (inr p) (inr q) = p.1 ∙ sym q.1
+
+outlook_refused : (outlook : Outlook) (held : Held) (done : List Bool) (now : ℤ) (cause other : Option Failure) → IsOutlookRefusal outlook held done now cause
+    → IsOutlookRefusal outlook held done now other → cause ≡ other
+outlook_refused outlook.Next held done now cause other p q = p ∙ sym q
+outlook_refused outlook.Ready held done now cause other p q = p ∙ sym q
+outlook_refused outlook.Rehearse held done now cause other p q = rehearsal_refused held done now cause other p q
+
+-- a test that refuses where it fails, and what refuses else
+one_behind : (t : Bool) (found : Option Failure) (Refuses : Option Failure → Type 0) (cause other : Option Failure)
+    → ((a b : Option Failure) → Refuses a → Refuses b → a ≡ b) → ((t ≡ false) × (cause ≡ found)) ⊎ ((t ≡ true) × Refuses cause)
+    → ((t ≡ false) × (other ≡ found)) ⊎ ((t ≡ true) × Refuses other) → cause ≡ other
+one_behind t found Refuses cause other one (inl p) (inl q) = p.1 ∙ sym q.1
+one_behind t found Refuses cause other one (inl p) (inr q) = absurd (true≢false (sym q.0 ∙ p.0))
+one_behind t found Refuses cause other one (inr p) (inl q) = absurd (true≢false (sym p.0 ∙ q.0))
+one_behind t found Refuses cause other one (inr p) (inr q) = one cause other p.1 q.1
 
 question_refused : (held : Held) (question : Question) (cause other : Option Failure) → IsQuestionRefusal held question cause → IsQuestionRefusal held question other → cause ≡ other
 question_refused held question cause other (inl p) (inl q) = p.1 ∙ sym q.1
@@ -61,7 +87,10 @@ one_refusal report held cause other p q = p ∙ sym q
 one_refusal (check times) held cause other p q = one_of _ cause other (λ both. both.0 both.1) p q
 one_refusal (next now) held cause other p q = p ∙ sym q
 one_refusal (ready now) held cause other p q = p ∙ sym q
-one_refusal (rehearse now) held cause other p q = rehearsal_refused held now cause other p q
+one_refusal (rehearse now) held cause other p q = rehearsal_refused held (done_events held.source held.state) now cause other p q
+one_refusal (among outlook now choice) held cause other p q =
+    one_behind _ (Some (bound_failure NoEvent)) (IsOutlookRefusal outlook held (done_or_not_chosen choice held.source held.state) now) cause other
+    (outlook_refused outlook held (done_or_not_chosen choice held.source held.state) now) p q
 one_refusal (ask question) held cause other p q = question_refused held question cause other p q
 one_refusal repairs held cause other p q = p ∙ sym q
 one_refusal draw held cause other p q = p ∙ sym q

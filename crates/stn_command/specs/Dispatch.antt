@@ -1,6 +1,6 @@
 -- What is said of times for the events, of what comes next, and of the rest of the plan.
-use Rattle.std.specs.Prelude.{◌≡◌, ◌⊎◌, ℕ, ℤ, List, ◌++◌, codes, Option, Some, None}
-use Rattle.std.specs.List.{flat_map}
+use Rattle.std.specs.Prelude.{◌≡◌, ◌⊎◌, ℕ, ◌+◌, ℤ, Bool, true, not, ◌&&◌, ◌||◌, List, ◌++◌, map, codes, Option, Some, None}
+use Rattle.std.specs.List.{flat_map, list_any, range_with_len}
 use Rattle.stn_time.specs.Text.{printed}
 use Rattle.stn_net.specs.Event.{event_text}
 use Rattle.stn_net.specs.Schedule.{HasSchedule}
@@ -9,14 +9,33 @@ use Rattle.stn_windows.specs.declared.answers.Next.TheVariants.{Run, AllDone, Ov
 use Rattle.stn_windows.specs.declared.answers.RehearseFault.TheVariants as rehearse_fault
 use Rattle.stn_windows.specs.Dispatch.{IsNext}
 use Rattle.stn_windows.specs.Rehearsal.{IsRehearseFault}
-use Rattle.stn_lift.specs.PlanSource.{PlanSource}
+use Rattle.stn_lift.specs.PlanSource.{PlanSource, events_of}
 use Rattle.stn_records.specs.Content.{Content}
 use Rattle.stn_site.specs.declared.names.BoundName.{BoundName}
 use Rattle.stn_site.specs.Bounds.{all_bounds}
 use Rattle.stn_site.specs.Lines.{line}
 use Rattle.stn_site.specs.Names.{name_text}
-use Rattle.stn_site.specs.Report.{done_events}
-use Rattle.stn_replica.specs.Dispatch.{IsRestOfPlan}
+use Rattle.stn_site.specs.Report.{is_done}
+use Rattle.stn_replica.specs.Dispatch.{IsRestWith}
+use Rattle.stn_replica.specs.Own.{has, is_end}
+use Rattle.stn_replica.specs.declared.own.StepRange.{StepRange}
+
+-- events of a plan: those of the steps of some ranges, or of all steps where none are given; or the starts of these steps alone
+pub record Choice : Type 0 where
+  pub steps : Option (List StepRange)
+  pub starts : Bool
+
+-- the event is of one of these steps
+abbrev pub is_of : Option (List StepRange) → ℕ → Bool
+is_of (Some ranges) event = list_any (λ range. has range event) ranges
+is_of None event = true
+
+abbrev pub is_chosen : Choice → ℕ → Bool
+is_chosen choice event = is_of choice.steps event && not (choice.starts && is_end event)
+
+-- for each event of the plan, the origin first, that it doesn't count as left: some live record says that it is done, or it is not chosen
+abbrev pub done_or_not_chosen : Choice → PlanSource → Content → List Bool
+done_or_not_chosen choice source state = map (λ event. is_done state event || not (is_chosen choice event)) (range_with_len 0 (events_of source + 1))
 
 -- `broken <name>`, by the first bound that the times break; `schedule`, where they break none
 abbrev pub check_text : Option BoundName → List ℕ
@@ -38,36 +57,36 @@ pub record SaysConflict (source : PlanSource) (state : Content) (text : List ℕ
   pub conflict : ¬ HasSchedule (all_bounds source state)
   pub said : text ≡ line (codes "conflict")
 
--- all bounds have a schedule, and the text is the line of what comes next from now on
-pub record SaysNext (source : PlanSource) (state : Content) (now : ℤ) (text : List ℕ) : Type 0 where
+-- all bounds have a schedule, and the text is the line of what comes next from now on, where these events count as done
+pub record SaysNext (source : PlanSource) (state : Content) (done : List Bool) (now : ℤ) (text : List ℕ) : Type 0 where
   pub possible : HasSchedule (all_bounds source state)
   pub answer : Next
-  pub next : IsNext (all_bounds source state) (done_events source state) now answer
+  pub next : IsNext (all_bounds source state) done now answer
   pub said : text ≡ next_text answer
 
--- the text that a site's `next` prints
-abbrev pub IsNextText : PlanSource → Content → ℤ → List ℕ → Type 0
-IsNextText source state now text = SaysNext source state now text ⊎ SaysConflict source state text
+-- the text that `next` prints, where these events count as done
+abbrev pub IsNextText : PlanSource → Content → List Bool → ℤ → List ℕ → Type 0
+IsNextText source state done now text = SaysNext source state done now text ⊎ SaysConflict source state text
 
 -- a line for each run, and `all done`
 abbrev pub runs_text : List (ℤ × ℕ) → List ℕ
 runs_text runs = flat_map (λ run. run_line run.0 run.1) runs ++ line (codes "all done")
 
--- the text is the lines of the rest of the plan from now on
-pub record SaysRuns (source : PlanSource) (state : Content) (now : ℤ) (text : List ℕ) : Type 0 where
+-- the text is the lines of the rest of the plan from now on, where these events count as done
+pub record SaysRuns (source : PlanSource) (state : Content) (done : List Bool) (now : ℤ) (text : List ℕ) : Type 0 where
   pub runs : List (ℤ × ℕ)
-  pub rest : IsRestOfPlan source state now runs
+  pub rest : IsRestWith source state done now runs
   pub lines : text ≡ runs_text runs
 
 -- the text is the rest of the plan from now on, or `conflict`
-abbrev pub IsRestText : PlanSource → Content → ℤ → List ℕ → Type 0
-IsRestText source state now text = SaysRuns source state now text ⊎ SaysConflict source state text
+abbrev pub IsRestText : PlanSource → Content → List Bool → ℤ → List ℕ → Type 0
+IsRestText source state done now text = SaysRuns source state done now text ⊎ SaysConflict source state text
 
 -- all bounds have a schedule, and the event is the one that is overdue
-pub record IsOverdueAt (source : PlanSource) (state : Content) (now : ℤ) (event : ℕ) : Type 0 where
+pub record IsOverdueAt (source : PlanSource) (state : Content) (done : List Bool) (now : ℤ) (event : ℕ) : Type 0 where
   pub possible : HasSchedule (all_bounds source state)
-  pub overdue : IsRehearseFault (all_bounds source state) (done_events source state) now (rehearse_fault.Overdue event)
+  pub overdue : IsRehearseFault (all_bounds source state) done now (rehearse_fault.Overdue event)
 
 -- a rehearsal is refused
-abbrev pub IsRefusedRehearsal : PlanSource → Content → ℤ → Type 0
-IsRefusedRehearsal source state now = (event : ℕ) × IsOverdueAt source state now event
+abbrev pub IsRefusedRehearsal : PlanSource → Content → List Bool → ℤ → Type 0
+IsRefusedRehearsal source state done now = (event : ℕ) × IsOverdueAt source state done now event

@@ -2,3 +2,5 @@ pub mod Words
 pub mod Change
 pub mod Dispatch
 pub mod Query
+pub mod Steps
+pub mod Guarding

@@ -1,36 +1,47 @@
 -- What a site is asked about its plan and what it holds, what is said of it, and why that is refused.
-use Rattle.std.specs.Prelude.{◌≡◌, ◌≢◌, ◌⊎◌, ℕ, ℤ, pos, List, ◌∷◌, length, Vec, Option, Some, None, Result, Ok, Err}
+use Rattle.std.specs.Prelude.{◌≡◌, ◌≢◌, ◌⊎◌, ℕ, ℤ, pos, Bool, true, false, List, [], ◌∷◌, length, Vec, Option, Some, None, option_map, unwrap_or, Result, Ok, Err}
+use Rattle.std.specs.List.{list_all}
 use Rattle.stn_refusal.specs.declared.code.Code.TheVariants as code
 use Rattle.stn_refusal.specs.declared.failure.Failure.{Failure}
 use Rattle.stn_refusal.specs.Refusals.{refused_of, out_of_memory}
 use Rattle.stn_net.specs.Failures.{bound_failure}
 use Rattle.stn_net.specs.Schedule.{times_of}
 use Rattle.stn_net.specs.declared.bound.BoundFault.TheVariants.{NoEvent, SameEvent}
-use Rattle.stn_lift.specs.PlanSource.{events_of}
+use Rattle.stn_lift.specs.PlanSource.{events_of, steps_of}
+use Rattle.stn_site.specs.Bounds.{all_bounds}
 use Rattle.stn_site.specs.Held.{Held}
 use Rattle.stn_site.specs.Names.{broken_bound}
-use Rattle.stn_site.specs.Report.{IsReport}
+use Rattle.stn_site.specs.Report.{IsReport, done_events}
+use Rattle.stn_replica.specs.Own.{is_within}
 use Rattle.stn_questions.specs.declared.asked.Question.{Question}
 use Rattle.stn_questions.specs.Answer.{IsAnswer, AsksOfNoEvent, AsksOfSameEvent}
-use Rattle.stn_questions.specs.Ready.{IsReadyText}
+use Rattle.stn_questions.specs.Ready.{IsReadyWith}
 use Rattle.stn_picture.specs.Picture.{IsPicture}
 use Rattle.stn_repair.specs.Text.{IsRepairsText}
 use Rattle.stn_command.specs.declared.queries.Query.{Query as QueryOfCode}
 use Rattle.stn_command.specs.declared.queries.Query.TheVariants as asked
+use Rattle.stn_command.specs.declared.queries.Choice.{Choice as ChoiceOfCode}
+use Rattle.stn_command.specs.declared.queries.Outlook.{Outlook}
+use Rattle.stn_command.specs.declared.queries.Outlook.TheVariants as outlook
 use Rattle.stn_command.specs.Words.{no_such_word}
-use Rattle.stn_command.specs.Dispatch.{check_text, IsNextText, IsRestText, IsOverdueAt, IsRefusedRehearsal}
+use Rattle.stn_command.specs.Dispatch.{Choice, done_or_not_chosen, check_text, IsNextText, IsRestText, IsOverdueAt, IsRefusedRehearsal}
 
 -- the report; whether times for the events from 1 on are a schedule; what comes next from a time on; which events may run from a time
--- on; the rest of the plan from a time on; another question; what mends a conflict; the picture
+-- on; the rest of the plan from a time on; one of these three of chosen events; another question; what mends a conflict; the picture
 pub data Query : Type 0 where
   report : Query
   check : (times : List ℤ) → Query
   next : (now : ℤ) → Query
   ready : (now : ℤ) → Query
   rehearse : (now : ℤ) → Query
+  among : (outlook : Outlook) (now : ℤ) (choice : Choice) → Query
   ask : (question : Question) → Query
   repairs : Query
   draw : Query
+
+-- the choice that the code has
+abbrev pub seen_choice : ChoiceOfCode → Choice
+seen_choice choice = record { steps = option_map (λ ranges. ranges.now) choice.steps; starts = choice.starts }
 
 -- the query that the code has
 abbrev pub seen_query : QueryOfCode → Query
@@ -39,17 +50,25 @@ seen_query (asked.Check times) = check times.now
 seen_query (asked.Next now) = next now
 seen_query (asked.Ready now) = ready now
 seen_query (asked.Rehearse now) = rehearse now
+seen_query (asked.Among outlook now choice) = among outlook now (seen_choice choice)
 seen_query (asked.Ask question) = ask question
 seen_query asked.Repairs = repairs
 seen_query asked.Draw = draw
+
+-- what is said of the events that are left from now on, where these events count as done
+abbrev pub IsForeseen : Outlook → Held → List Bool → ℤ → List ℕ → Type 0
+IsForeseen outlook.Next held done now text = IsNextText held.source held.state done now text
+IsForeseen outlook.Ready held done now text = IsReadyWith (all_bounds held.source held.state) done now text
+IsForeseen outlook.Rehearse held done now text = IsRestText held.source held.state done now text
 
 -- the text answers the query; the origin's time is 0
 abbrev pub IsSaid : Query → Held → List ℕ → Type 0
 IsSaid report held text = IsReport held.source held.state text
 IsSaid (check times) held text = text ≡ check_text (broken_bound held.source held.state (times_of (pos 0 ∷ times)))
-IsSaid (next now) held text = IsNextText held.source held.state now text
-IsSaid (ready now) held text = IsReadyText held.source held.state now text
-IsSaid (rehearse now) held text = IsRestText held.source held.state now text
+IsSaid (next now) held text = IsForeseen outlook.Next held (done_events held.source held.state) now text
+IsSaid (ready now) held text = IsForeseen outlook.Ready held (done_events held.source held.state) now text
+IsSaid (rehearse now) held text = IsForeseen outlook.Rehearse held (done_events held.source held.state) now text
+IsSaid (among outlook now choice) held text = IsForeseen outlook held (done_or_not_chosen choice held.source held.state) now text
 IsSaid (ask question) held text = IsAnswer held.source held.state question text
 IsSaid repairs held text = IsRepairsText held.source held.state text
 IsSaid draw held text = IsPicture held.source held.state text
@@ -60,9 +79,23 @@ IsCheckRefusal held times cause = ((length times ≢ events_of held.source) × (
     ⊎ ((length times ≡ events_of held.source) × (cause ≡ None))
 
 -- why a rehearsal is: an event is overdue
-abbrev pub IsRehearseRefusal : Held → ℤ → Option Failure → Type 0
-IsRehearseRefusal held now cause = ((event : ℕ) × IsOverdueAt held.source held.state now event × (cause ≡ Some (refused_of code.Overdue event)))
-    ⊎ ((¬ IsRefusedRehearsal held.source held.state now) × (cause ≡ None))
+abbrev pub IsRehearseRefusal : Held → List Bool → ℤ → Option Failure → Type 0
+IsRehearseRefusal held done now cause = ((event : ℕ) × IsOverdueAt held.source held.state done now event × (cause ≡ Some (refused_of code.Overdue event)))
+    ⊎ ((¬ IsRefusedRehearsal held.source held.state done now) × (cause ≡ None))
+
+-- why nothing is said of the events that are left
+abbrev pub IsOutlookRefusal : Outlook → Held → List Bool → ℤ → Option Failure → Type 0
+IsOutlookRefusal outlook.Rehearse held done now cause = IsRehearseRefusal held done now cause
+IsOutlookRefusal other held done now cause = cause ≡ None
+
+-- a plan of so many steps has all steps that are chosen
+abbrev pub has_steps : Choice → ℕ → Bool
+has_steps choice steps = list_all (λ range. is_within steps range) (unwrap_or choice.steps [])
+
+-- why nothing is said of chosen events: the plan has not all their steps; or the same
+abbrev pub IsAmongRefusal : Held → Outlook → ℤ → Choice → Option Failure → Type 0
+IsAmongRefusal held outlook now choice cause = ((has_steps choice (steps_of held.source) ≡ false) × (cause ≡ Some (bound_failure NoEvent)))
+    ⊎ ((has_steps choice (steps_of held.source) ≡ true) × IsOutlookRefusal outlook held (done_or_not_chosen choice held.source held.state) now cause)
 
 -- why a question is: it is about an event that the plan has not, or about an event and itself
 abbrev pub IsQuestionRefusal : Held → Question → Option Failure → Type 0
@@ -76,10 +109,17 @@ IsQueryRefusal report held cause = cause ≡ None
 IsQueryRefusal (check times) held cause = IsCheckRefusal held times cause
 IsQueryRefusal (next now) held cause = cause ≡ None
 IsQueryRefusal (ready now) held cause = cause ≡ None
-IsQueryRefusal (rehearse now) held cause = IsRehearseRefusal held now cause
+IsQueryRefusal (rehearse now) held cause = IsRehearseRefusal held (done_events held.source held.state) now cause
+IsQueryRefusal (among outlook now choice) held cause = IsAmongRefusal held outlook now choice cause
 IsQueryRefusal (ask question) held cause = IsQuestionRefusal held question cause
 IsQueryRefusal repairs held cause = cause ≡ None
 IsQueryRefusal draw held cause = cause ≡ None
+
+-- the text is said of the events that are left; or something refuses that; or memory ran out where nothing does
+abbrev pub Foresees : {A : Type 0} → Outlook → ℤ → List Bool → Held → Result (Vec ℕ A) Failure → Type 0
+Foresees outlook now done held (Ok text) = IsForeseen outlook held done now text.items × IsOutlookRefusal outlook held done now None
+Foresees outlook now done held (Err failure) =
+    IsOutlookRefusal outlook held done now (Some failure) ⊎ ((failure ≡ out_of_memory) × IsOutlookRefusal outlook held done now None)
 
 -- the text is said; or something refuses the query; or memory ran out where nothing does
 abbrev pub Says : {A : Type 0} → Query → Held → Result (Vec ℕ A) Failure → Type 0

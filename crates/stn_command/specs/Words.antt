@@ -54,3 +54,8 @@ times_read (word ∷ words) = and_then (time_read word) (λ time. and_then (time
 -- words that are not of the form that a command wants, where no line of a script is to be named
 abbrev pub no_such_word : Failure
 no_such_word = refused_at Line 0
+
+-- what a word names
+abbrev pub named : {X : Type 0} → Option X → Result X Failure
+named (Some value) = Ok value
+named None = Err no_such_word

@@ -2,13 +2,14 @@
 
 ghost use Rattle.std.specs.Prelude.{◌≡◌, ◌⊎◌, ◌++◌, List, ℕ, codes, OnOk, IfErr, IsErrOf};
 ghost use Rattle.stn_net.specs.Event.{event_text};
+ghost use Rattle.stn_replica.specs.Own.{done_or_others};
 ghost use Rattle.stn_site.specs.Lines.{line};
 ghost use Rattle.stn_windows.specs.declared.answers.RehearseFault.TheVariants.{Overdue, Memory as want_of_memory};
 ghost use Rattle.stn_command.specs.Dispatch.{check_text, run_line, runs_text, next_text, IsNextText, IsRestText, IsOverdueAt, IsRefusedRehearsal};
 
 use std::alloc::Allocator;
 use stn_net::Event;
-use stn_replica::Replica;
+use stn_replica::{Own, Replica};
 use stn_site::BoundName;
 use stn_time::{Memory, Ms};
 use stn_windows::{Next, RehearseFault};
@@ -30,16 +31,19 @@ pub fn append_check<B: Allocator>(
     }
 }
 
-/// Appends what comes next in a replica's plan from now on, or `conflict`. After an error a part of it may
-/// stand there.
+/// Appends which of a site's own events comes next in a replica's plan from now on, or `conflict`. After an error a part
+/// of it may stand there.
 pub fn append_next<A: Allocator + Copy, B: Allocator>(
     replica: &Replica<A>,
     now: Ms,
+    own: &Own<'_>,
     out: &mut Vec<u8, B>,
 ) -> Result<(), Memory>
-    ensures { OnOk result ((text : List ℕ) × IsNextText replica.now.source replica.now.state now text × (out.new.items ≡ out.old.items ++ text)) }
+    ensures { OnOk result ((text : List ℕ)
+        × IsNextText replica.now.source replica.now.state (done_or_others own.now replica.now.source replica.now.state) now text
+        × (out.new.items ≡ out.old.items ++ text)) }
 {
-    match replica.next(now) {
+    match replica.next_among(now, own) {
         Some(answer) => append_answer(out, answer),
         None => out.extend_from_slice(b"conflict\n"),
     }
@@ -55,23 +59,27 @@ fn append_answer<B: Allocator>(out: &mut Vec<u8, B>, answer: Next) -> Result<(),
     }
 }
 
-/// Appends the rest of a replica's plan from now on, or `conflict`. After an error a part of it may stand
-/// there.
+/// Appends the rest of a site's own events in a replica's plan from now on, or `conflict`. After an error a part of it
+/// may stand there.
 ///
-/// Refused in this order: `Overdue`, where every schedule has an event that is not done before now;
-/// `Memory`.
+/// Refused in this order: `Overdue`, where every schedule has an own event that is not done before now; `Memory`.
 pub fn append_rest<A: Allocator + Copy, B: Allocator>(
     replica: &Replica<A>,
     now: Ms,
+    own: &Own<'_>,
     out: &mut Vec<u8, B>,
 ) -> Result<(), RehearseFault>
-    ensures text { OnOk result ((text : List ℕ) × IsRestText replica.now.source replica.now.state now text × (out.new.items ≡ out.old.items ++ text)) }
-    ensures accepted { OnOk result (¬ IsRefusedRehearsal replica.now.source replica.now.state now) }
-    ensures refused { IfErr result (λ fault. (fault ≡ want_of_memory)
-        ⊎ ((event : ℕ) × (fault ≡ Overdue event) × IsOverdueAt replica.now.source replica.now.state now event)) }
-    ensures memory { IsErrOf result want_of_memory → ¬ IsRefusedRehearsal replica.now.source replica.now.state now }
+    ensures text { OnOk result ((text : List ℕ)
+        × IsRestText replica.now.source replica.now.state (done_or_others own.now replica.now.source replica.now.state) now text
+        × (out.new.items ≡ out.old.items ++ text)) }
+    ensures accepted { OnOk result
+        (¬ IsRefusedRehearsal replica.now.source replica.now.state (done_or_others own.now replica.now.source replica.now.state) now) }
+    ensures refused { IfErr result (λ fault. (fault ≡ want_of_memory) ⊎ ((event : ℕ) × (fault ≡ Overdue event)
+        × IsOverdueAt replica.now.source replica.now.state (done_or_others own.now replica.now.source replica.now.state) now event)) }
+    ensures memory { IsErrOf result want_of_memory
+        → ¬ IsRefusedRehearsal replica.now.source replica.now.state (done_or_others own.now replica.now.source replica.now.state) now }
 {
-    match replica.rehearse(now)? {
+    match replica.rehearse_among(now, own)? {
         Some(runs) => append_runs(out, &runs)?,
         None => out.extend_from_slice(b"conflict\n")?,
     }

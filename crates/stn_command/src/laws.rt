@@ -1,10 +1,14 @@
-ghost use Rattle.std.specs.Prelude.{◌≡◌, ℕ, List, Option};
+ghost use Rattle.std.specs.Prelude.{◌≡◌, ℕ, false, None, List, Option};
 ghost use Rattle.stn_refusal.specs.declared.failure.Failure.{Failure};
 ghost use Rattle.stn_site.specs.Held.{Held};
+ghost use Rattle.stn_lift.specs.PlanSource.{PlanSource};
+ghost use Rattle.stn_records.specs.Content.{Content};
+ghost use Rattle.stn_site.specs.Report.{done_events};
+ghost use Rattle.stn_command.specs.Dispatch.{done_or_not_chosen};
 ghost use Rattle.stn_command.specs.Query.{Query, IsSaid, IsQueryRefusal};
 
 use stn_picture::one_picture;
-use stn_questions::{one_answer, one_ready_text};
+use stn_questions::one_answer;
 use stn_repair::one_repairs_text;
 use stn_site::one_report;
 
@@ -17,7 +21,12 @@ pub fn one_said()
 {
     one_report();
     one_answer();
-    one_ready_text();
     one_repairs_text();
     one_picture();
 }
+
+/// The law that where neither steps nor starts are chosen, an event counts as left exactly if it is not done; it does nothing.
+pub fn among_all()
+    ensures { (source : PlanSource) (state : Content)
+        → done_or_not_chosen (record { steps = None; starts = false }) source state ≡ done_events source state }
+{}

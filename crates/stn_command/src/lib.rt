@@ -3,12 +3,16 @@
 #![tactic(auto)]
 
 pub use changes::{AskedBound, Change, Made, make_change};
-pub use laws::one_said;
-pub use queries::{Query, append_said, say};
+pub use guarding::print_guard;
+pub use laws::{among_all, one_said};
+pub use queries::{Choice, Outlook, Query, append_said, say};
+pub use steps::{read_owned, read_steps};
 pub use words::{no_such_word, read_event, read_id, read_time};
 
 mod changes;
 mod dispatch;
+mod guarding;
 mod laws;
 mod queries;
+mod steps;
 mod words;

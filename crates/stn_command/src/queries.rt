@@ -1,20 +1,45 @@
 //! What a site is asked about its plan and what it holds.
 
 ghost use Rattle.std.specs.Prelude.{◌≡◌, ◌⊎◌, ◌++◌, ◌∷◌, ℕ, pos, List, None, Some, OnOk, OnErr, IfOk, IfErr, IsErrOf, MatchResult};
+ghost use Rattle.stn_lift.specs.PlanSource.{steps_of};
 ghost use Rattle.stn_refusal.specs.Refusals.{out_of_memory};
-ghost use Rattle.stn_command.specs.Query.{report, check, next, ready, rehearse, ask, repairs, draw, seen_query, IsSaid, IsQueryRefusal, Says};
+ghost use Rattle.stn_site.specs.Report.{done_events};
+ghost use Rattle.stn_replica.specs.Own.{done_or_others};
+ghost use Rattle.stn_command.specs.Dispatch.{done_or_not_chosen};
+ghost use Rattle.stn_command.specs.Query as asked;
+ghost use Rattle.stn_command.specs.Query.{report, check, ask, repairs, draw, seen_query, seen_choice, IsSaid, IsQueryRefusal, Says, Foresees};
+ghost use Rattle.stn_command.specs.declared.queries.Outlook.TheVariants as outlook;
 
 use crate::dispatch::{append_check, append_next, append_rest};
 use crate::words::no_such_word;
 use std::alloc::Allocator;
 use stn_net::BoundFault;
 use stn_picture::print_picture;
-use stn_questions::{Question, WhyFault, print_answer, print_ready};
+use stn_questions::{Question, WhyFault, print_answer, print_ready_among};
 use stn_refusal::{Failure, Fault};
 use stn_repair::print_repairs;
-use stn_replica::Replica;
+use stn_replica::{Own, Replica, StepRange};
 use stn_site::SitePlan;
 use stn_time::{Memory, Ms};
+
+/// What is asked of the events that are left.
+#[derive(Clone, Copy)]
+pub enum Outlook {
+    /// What comes next.
+    Next,
+    /// Which of them may run.
+    Ready,
+    /// How the rest runs.
+    Rehearse,
+}
+
+/// Events of a plan: those of the steps of some ranges, or of all steps where none are given; or the starts of these steps
+/// alone.
+#[derive(Clone, Copy)]
+pub struct Choice<'a> {
+    pub steps: Option<&'a [StepRange]>,
+    pub starts: bool,
+}
 
 /// What is asked of a site.
 #[derive(Clone, Copy)]
@@ -29,6 +54,8 @@ pub enum Query<'a> {
     Ready(Ms),
     /// The rest of the plan from this time on.
     Rehearse(Ms),
+    /// The same of the chosen events, from this time on: only they count as left.
+    Among(Outlook, Ms, Choice<'a>),
     /// The answer to another question.
     Ask(Question),
     /// What mends a conflict.
@@ -39,9 +66,9 @@ pub enum Query<'a> {
 
 /// Appends what a replica says to a query. After an error nothing is appended.
 ///
-/// Refused as 70 where a check has not one time for each event, 7 where an event of a rehearsal is overdue,
-/// 4 where a question is about an event that the plan has not, 5 where it is about an event and itself;
-/// then `Memory`.
+/// Refused as 70 where a check has not one time for each event, 4 where a question is about an event that the plan has not,
+/// or a step is chosen that it has not, 5 where a question is about an event and itself, 7 where an event of a rehearsal is
+/// overdue; then `Memory`.
 pub fn append_said<A: Allocator + Copy, B: Allocator>(
     replica: &Replica<A>,
     query: &Query<'_>,
@@ -72,7 +99,7 @@ pub fn say<A: Allocator + Copy>(plan: SitePlan<A>, query: &Query<'_>) -> Result<
         Query::Ask(question) => tell(&plan, question),
         Query::Repairs => repairs(&plan),
         Query::Draw => draw(&plan),
-        Query::Next(_) | Query::Ready(_) | Query::Rehearse(_) => {
+        Query::Next(_) | Query::Ready(_) | Query::Rehearse(_) | Query::Among(_, _, _) => {
             let replica = Replica::of(plan)?;
             let text = said(&replica, query);
             drop(replica);
@@ -88,9 +115,10 @@ fn said<A: Allocator + Copy>(replica: &Replica<A>, query: &Query<'_>) -> Result<
     match *query {
         Query::Report => report_by_matrix(replica),
         Query::Check(times) => check(replica.plan(), times),
-        Query::Next(now) => next(replica, now),
-        Query::Ready(now) => ready(replica, now),
-        Query::Rehearse(now) => rehearse(replica, now),
+        Query::Next(now) => of_all(replica, Outlook::Next, now),
+        Query::Ready(now) => of_all(replica, Outlook::Ready, now),
+        Query::Rehearse(now) => of_all(replica, Outlook::Rehearse, now),
+        Query::Among(outlook, now, choice) => among(replica, outlook, now, &choice),
         Query::Ask(question) => tell(replica.plan(), question),
         Query::Repairs => repairs(replica.plan()),
         Query::Draw => draw(replica.plan()),
@@ -138,30 +166,131 @@ fn behind_origin<A: Allocator>(alloc: A, times: &[Ms]) -> Result<Vec<Ms, A>, Mem
     Ok(all)
 }
 
-// What comes next from a time on.
-fn next<A: Allocator + Copy>(replica: &Replica<A>, now: Ms) -> Result<Vec<u8, A>, Failure>
-    ensures { Says (next now) replica.now result }
+// What a replica says of the chosen events.
+fn among<A: Allocator + Copy>(
+    replica: &Replica<A>,
+    outlook: Outlook,
+    now: Ms,
+    choice: &Choice<'_>,
+) -> Result<Vec<u8, A>, Failure>
+    ensures { Says (asked.among outlook now (seen_choice choice.now)) replica.now result }
+{
+    if has_steps(choice, replica.base().steps()) {
+        of_chosen(replica, outlook, now, choice)
+    } else {
+        Err(Failure::from(BoundFault::NoEvent))
+    }
+}
+
+// Whether a plan of so many steps has all chosen steps.
+fn has_steps(choice: &Choice<'_>, steps: u16) -> bool
+    ensures { result ≡ asked.has_steps (seen_choice choice.now) steps }
+{
+    match choice.steps {
+        Some(ranges) => ranges.iter().all(|range| range.is_within(steps)),
+        None => true,
+    }
+}
+
+// The same of chosen events, whose steps the plan has.
+fn of_chosen<A: Allocator + Copy>(
+    replica: &Replica<A>,
+    outlook: Outlook,
+    now: Ms,
+    choice: &Choice<'_>,
+) -> Result<Vec<u8, A>, Failure>
+    ensures { Foresees outlook now (done_or_not_chosen (seen_choice choice.now) replica.now.source replica.now.state) replica.now result }
+{
+    let starts = choice.starts;
+    match choice.steps {
+        Some(steps) => foresee(replica, outlook, now, &Own { steps, starts }),
+        None => {
+            let all = [replica.all_steps()];
+            foresee(
+                replica,
+                outlook,
+                now,
+                &Own {
+                    steps: &all,
+                    starts,
+                },
+            )
+        }
+    }
+}
+
+// What a replica says of all events.
+fn of_all<A: Allocator + Copy>(
+    replica: &Replica<A>,
+    outlook: Outlook,
+    now: Ms,
+) -> Result<Vec<u8, A>, Failure>
+    ensures { Foresees outlook now (done_events replica.now.source replica.now.state) replica.now result }
+{
+    let all = [replica.all_steps()];
+    foresee(
+        replica,
+        outlook,
+        now,
+        &Own {
+            steps: &all,
+            starts: false,
+        },
+    )
+}
+
+// What a replica says of a site's own events.
+fn foresee<A: Allocator + Copy>(
+    replica: &Replica<A>,
+    outlook: Outlook,
+    now: Ms,
+    own: &Own<'_>,
+) -> Result<Vec<u8, A>, Failure>
+    ensures { Foresees outlook now (done_or_others own.now replica.now.source replica.now.state) replica.now result }
+{
+    match outlook {
+        Outlook::Next => next(replica, now, own),
+        Outlook::Ready => ready(replica, now, own),
+        Outlook::Rehearse => rehearse(replica, now, own),
+    }
+}
+
+// Which own event comes next from a time on.
+fn next<A: Allocator + Copy>(
+    replica: &Replica<A>,
+    now: Ms,
+    own: &Own<'_>,
+) -> Result<Vec<u8, A>, Failure>
+    ensures { Foresees outlook.Next now (done_or_others own.now replica.now.source replica.now.state) replica.now result }
 {
     let mut text = Vec::new(replica.alloc());
-    append_next(replica, now, &mut text)?;
+    append_next(replica, now, own, &mut text)?;
     Ok(text)
 }
 
-// Which events may run from a time on.
-fn ready<A: Allocator + Copy>(replica: &Replica<A>, now: Ms) -> Result<Vec<u8, A>, Failure>
-    ensures { Says (ready now) replica.now result }
+// Which own events may run from a time on.
+fn ready<A: Allocator + Copy>(
+    replica: &Replica<A>,
+    now: Ms,
+    own: &Own<'_>,
+) -> Result<Vec<u8, A>, Failure>
+    ensures { Foresees outlook.Ready now (done_or_others own.now replica.now.source replica.now.state) replica.now result }
 {
     let mut text = Vec::new(replica.alloc());
-    print_ready(replica, now, &mut text)?;
+    print_ready_among(replica, now, own, &mut text)?;
     Ok(text)
 }
 
-// The rest of the plan from a time on.
-fn rehearse<A: Allocator + Copy>(replica: &Replica<A>, now: Ms) -> Result<Vec<u8, A>, Failure>
-    ensures { Says (rehearse now) replica.now result }
+// The rest of the own events from a time on.
+fn rehearse<A: Allocator + Copy>(
+    replica: &Replica<A>,
+    now: Ms,
+    own: &Own<'_>,
+) -> Result<Vec<u8, A>, Failure>
+    ensures { Foresees outlook.Rehearse now (done_or_others own.now replica.now.source replica.now.state) replica.now result }
 {
     let mut text = Vec::new(replica.alloc());
-    append_rest(replica, now, &mut text)?;
+    append_rest(replica, now, own, &mut text)?;
     Ok(text)
 }
 

@@ -1,0 +1,33 @@
+-- Where all steps are chosen, the events that don't count as left, by the steps of a plan and without them.
+use Rattle.std.proofs.Common.{◌≡◌, ℕ, ◌+◌, ◌*◌, ◌≤◌, Bool, true, false, ◌||◌, ◌&&◌, not, leb, List, [], ◌∷◌, None, ap, sym, ◌∙◌, arith}
+use Rattle.std.proofs.lemmas.Bool.Decides.{nat_tests}
+use Rattle.std.proofs.lemmas.List.FromFn.{fill_by_all, get_or-map-range_with_len, length-map-range_with_len}
+use Rattle.std.specs.List.{list_any}
+use Rattle.stn_lift.specs.BaseBounds.{step_of}
+use Rattle.stn_lift.specs.PlanSource.{PlanSource, steps_of, events_of}
+use Rattle.stn_records.specs.Content.{Content}
+use Rattle.stn_site.specs.Report.{is_done}
+use Rattle.stn_replica.specs.declared.own.StepRange.{StepRange}
+use Rattle.stn_replica.specs.declared.own.Own.{Own}
+use Rattle.stn_replica.specs.Own.{has, is_end, is_own, done_or_others}
+use Rattle.stn_command.specs.Dispatch.{Choice, is_chosen, done_or_not_chosen}
+
+-- each event is one of all steps'
+has_all : (steps event : ℕ) → event ≤ 2 * steps → (leb 0 (step_of event) && leb (step_of event) steps) ≡ true
+has_all steps event within = let low : step_of event ≤ steps = omega arith in grind (arith, nat_tests)
+
+chosen_all : (own : Own) (range : StepRange) (steps event : ℕ) → own.steps.now ≡ range ∷ [] → range.first ≡ 0 → range.last ≡ steps → event ≤ 2 * steps
+    → is_own own event ≡ is_chosen (record { steps = None; starts = own.starts }) event
+chosen_all own range steps event list first last within =
+    (λ i. list_any (λ (r : StepRange). has r event) (list i) && not (own.starts && is_end event))
+    ∙ (λ i. (leb (first i) (step_of event) && leb (step_of event) (last i) || false) && not (own.starts && is_end event))
+    ∙ ap (λ t. (t || false) && not (own.starts && is_end event)) (has_all steps event within)
+
+pub all_chosen : (own : Own) (range : StepRange) (source : PlanSource) (state : Content) → own.steps.now ≡ range ∷ [] → range.first ≡ 0 → range.last ≡ steps_of source
+    → done_or_others own source state ≡ done_or_not_chosen (record { steps = None; starts = own.starts }) source state
+all_chosen own range source state list first last =
+    fill_by_all (λ event. is_done state event || not (is_chosen (record { steps = None; starts = own.starts }) event)) (done_or_others own source state) (events_of source + 1) false
+    (length-map-range_with_len (λ event. is_done state event || not (is_own own event)) 0 (events_of source + 1))
+    (λ k below.
+    get_or-map-range_with_len (λ event. is_done state event || not (is_own own event)) 0 (events_of source + 1) k k false below (omega arith)
+    ∙ ap (λ t. is_done state k || not t) (chosen_all own range (steps_of source) k list first last (omega arith)))
