@@ -1,5 +1,5 @@
 -- Where all steps are chosen, the events that don't count as left, by the steps of a plan and without them.
-use Rattle.std.proofs.Common.{◌≡◌, ℕ, ◌+◌, ◌*◌, ◌≤◌, Bool, true, false, ◌||◌, ◌&&◌, not, leb, List, [], ◌∷◌, None, ap, sym, ◌∙◌, arith}
+use Rattle.std.proofs.Common.{◌≡◌, ℕ, ◌+◌, ◌*◌, ◌≤◌, true, false, ◌||◌, ◌&&◌, not, leb, [], ◌∷◌, None, ap, ◌∙◌, arith}
 use Rattle.std.proofs.lemmas.Bool.Decides.{nat_tests}
 use Rattle.std.proofs.lemmas.List.FromFn.{fill_by_all, get_or-map-range_with_len, length-map-range_with_len}
 use Rattle.std.specs.List.{list_any}
@@ -10,7 +10,7 @@ use Rattle.stn_site.specs.Report.{is_done}
 use Rattle.stn_replica.specs.declared.own.StepRange.{StepRange}
 use Rattle.stn_replica.specs.declared.own.Own.{Own}
 use Rattle.stn_replica.specs.Own.{has, is_end, is_own, done_or_others}
-use Rattle.stn_command.specs.Dispatch.{Choice, is_chosen, done_or_not_chosen}
+use Rattle.stn_command.specs.Dispatch.{is_chosen, done_or_not_chosen}
 
 -- each event is one of all steps'
 has_all : (steps event : ℕ) → event ≤ 2 * steps → (leb 0 (step_of event) && leb (step_of event) steps) ≡ true

@@ -44,8 +44,8 @@ pub data IsGuardRefusal (owned : List OwnedSteps) (held : Held) (cause : Option 
   no_step : are_within (steps_of held.source) owned ≡ false → cause ≡ Some (Bound NoEvent) → IsGuardRefusal owned held cause
   conflict : are_within (steps_of held.source) owned ≡ true → ¬ HasSchedule (all_bounds held.source held.state) → cause ≡ None
       → IsGuardRefusal owned held cause
-  guarded : are_within (steps_of held.source) owned ≡ true → (guard : List Difference) → IsGuardAt owned held guard
-      → cause ≡ records_refusal held (length guard) → IsGuardRefusal owned held cause
+  guarded : are_within (steps_of held.source) owned ≡ true → HasSchedule (all_bounds held.source held.state)
+      → (guard : List Difference) → IsGuardAt owned held guard → cause ≡ records_refusal held (length guard) → IsGuardRefusal owned held cause
 
 -- the site added a plain record of each of the bounds, one after the other, under these ids
 pub record AddsEach (old : Held) (bounds : List Difference) (ids : List SiteCounter) (new : Held) : Type 0 where

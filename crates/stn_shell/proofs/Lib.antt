@@ -7,3 +7,4 @@ mod Made
 mod OnLog
 mod OfLogs
 mod OneCause
+mod Guarded

@@ -15,7 +15,15 @@ use Rattle.stn_log.specs.declared.fault.LoadFault.{LoadFault}
 use Rattle.stn_command.specs.Change.{change_refusal}
 use Rattle.stn_command.specs.declared.changes.Change.{Change}
 use Rattle.stn_command.specs.declared.changes.Change.TheVariants.{Add, Amend, Withdraw, Done}
-use Rattle.stn_command.specs.Query.{Query, report, check, next, ready, rehearse, ask, repairs, draw, IsQueryRefusal}
+use Rattle.stn_command.specs.Query.{Query, report, check, next, ready, rehearse, among, ask, repairs, draw, IsQueryRefusal}
+use Rattle.stn_command.specs.declared.queries.Outlook.TheVariants as outlook
+use Rattle.stn_net.specs.Schedule.{HasSchedule}
+use Rattle.stn_lift.specs.PlanSource.{events_of}
+use Rattle.stn_site.specs.Bounds.{all_bounds}
+use Rattle.stn_site.specs.declared.faults.ReplicaFault.{ReplicaFault}
+use Rattle.stn_guard.specs.Adding.{IsGuardRefusal, no_step, conflict, guarded, records_refusal, owner_by}
+use Rattle.stn_guard.specs.Making.{IsGuardOf}
+use Rattle.stn_guard.specs.declared.owners.OwnedSteps.{OwnedSteps}
 use Rattle.stn_loosen.specs.Slack.{Slack}
 use Rattle.stn_loosen.specs.Loosened.{AreFewLoosened, AreTooMany}
 use Rattle.stn_loosen.specs.Robust.{AreRobust, AreFewRobust, AreTooManyRobust}
@@ -23,9 +31,9 @@ use Rattle.stn_refusal.specs.declared.failure.Failure.{Failure}
 use Rattle.stn_line.specs.declared.words.Line.{Line}
 use Rattle.stn_line.specs.declared.words.Line.TheVariants.{Bare, Init, Loosen, Explain}
 use Rattle.stn_store.specs.Store.{Entry, Holds, IsThere, Spells, Means, Opens, IsMissing, IsUnopened}
-use Rattle.stn_shell.specs.Words.{Asked, change, merge, query, asked_of, slack_read}
+use Rattle.stn_shell.specs.Words.{Asked, change, merge, guard, query, asked_of, slack_read}
 use Rattle.stn_shell.specs.Loosening.{IsLoosenedRefusal, IsRobustRefusal, WithBase, IsLooseningRefusal}
-use Rattle.stn_shell.specs.Refusals.{WithWords, WhereFree, WithText, WithLog, IsBaseRefusal, IsMergeRefusal, IsExplainRefusal, IsAskedRefusal, IsRefusalOf}
+use Rattle.stn_shell.specs.Refusals.{WithWords, WhereFree, WithText, WithLog, IsBaseRefusal, IsMergeRefusal, IsUnguarded, IsExplainRefusal, IsAskedRefusal, IsRefusalOf}
 
 -- at most one cause is named
 abbrev IsOne : (Option Failure → Type 0) → Type 0
@@ -134,11 +142,42 @@ query_at_rest (check times) held cause p = p
 query_at_rest (next now) held cause p = p
 query_at_rest (ready now) held cause p = p
 query_at_rest (rehearse now) held cause p = p
+query_at_rest (among outlook.Next now choice) held cause p = p
+query_at_rest (among outlook.Ready now choice) held cause p = p
+query_at_rest (among outlook.Rehearse now choice) held cause p = p
 query_at_rest (ask question) held cause p = p
 query_at_rest repairs held cause p = p
 query_at_rest draw held cause p = p
 
+-- at most one refusal of a guard
+module _ (guards : (owner : ℕ → ℕ) (events : ℕ) (bounds one other : List Difference) → HasSchedule bounds → IsGuardOf owner events bounds one → IsGuardOf owner events bounds other → one ≡ other)
+    (owned : List OwnedSteps) (held : Held) where
+  one_guarding : (refusal other : Option ReplicaFault) → IsGuardRefusal owned held refusal → IsGuardRefusal owned held other → refusal ≡ other
+  one_guarding refusal other (no_step absent p) (no_step _ q) = p ∙ sym q
+  one_guarding refusal other (no_step absent p) (conflict there _ _) = absurd (false≢true (sym absent ∙ there))
+  one_guarding refusal other (no_step absent p) (guarded there _ _ _ _) = absurd (false≢true (sym absent ∙ there))
+  one_guarding refusal other (conflict there _ _) (no_step absent q) = absurd (false≢true (sym absent ∙ there))
+  one_guarding refusal other (conflict _ none p) (conflict _ _ q) = p ∙ sym q
+  one_guarding refusal other (conflict _ none p) (guarded _ possible _ _ _) = absurd (none possible)
+  one_guarding refusal other (guarded there _ _ _ _) (no_step absent q) = absurd (false≢true (sym absent ∙ there))
+  one_guarding refusal other (guarded _ possible _ _ _) (conflict _ none q) = absurd (none possible)
+  one_guarding refusal other (guarded _ possible one is_one p) (guarded _ _ last is_last q) =
+      p ∙ (ap (λ (guard : List Difference). records_refusal held (length guard))
+      (guards (owner_by held.site owned) (events_of held.source) (all_bounds held.source held.state) one last possible is_one is_last) ∙ sym q)
+
+  one_unguarded : IsOne (IsUnguarded owned held)
+  one_unguarded cause other p q = p.2 ∙ (ap (option_map replica_failure) (one_guarding p.0 q.0 p.1 q.1) ∙ sym q.2)
+
+guard_at_rest : (owned : List OwnedSteps) (held : Held) (cause : Option Failure) → IsUnguarded owned held cause → IsUnguarded owned (idle held) cause
+guard_at_rest owned held cause p = (p.0, at_rest p.0 p.1, p.2)
+  where
+    at_rest : (refusal : Option ReplicaFault) → IsGuardRefusal owned held refusal → IsGuardRefusal owned (idle held) refusal
+    at_rest refusal (no_step absent is) = no_step absent is
+    at_rest refusal (conflict there none is) = conflict there none is
+    at_rest refusal (guarded there possible one is_one is) = guarded there possible one is_one is
+
 module _ (logs : (bytes : List ℕ) (one other : Result Log LoadFault) → IsLog bytes one → IsLog bytes other → one ≡ other)
+    (guards : (owner : ℕ → ℕ) (events : ℕ) (bounds one other : List Difference) → HasSchedule bounds → IsGuardOf owner events bounds one → IsGuardOf owner events bounds other → one ≡ other)
     (queries : (asked : Query) (held : Held) (cause other : Option Failure) → IsQueryRefusal asked held cause → IsQueryRefusal asked held other → cause ≡ other)
     (robusts : (source : PlanSource) (slack : Slack) (one other : List Difference) → AreRobust source slack one → AreRobust source slack other → one ≡ other)
     (many : (source : PlanSource) (slack : Slack) → AreTooMany source slack → (records : List Difference) → ¬ AreFewLoosened source slack records) where
@@ -147,6 +186,7 @@ module _ (logs : (bytes : List ℕ) (one other : Result Log LoadFault) → IsLog
       (λ held cause p. p ∙ ap (option_map replica_failure) (change_at_rest held asked)) (λ held cause other p q. p ∙ sym q)
   one_asked entries (merge log other) = with_log entries log.name.now logs log.site (λ ours. WithLog (Some entries) other log.site (IsMergeRefusal ours)) (λ ours cause p. p)
       (λ ours. with_log entries other logs log.site (IsMergeRefusal ours) (λ theirs cause p. p) (one_merge ours))
+  one_asked entries (guard log owned) = with_log entries log.name.now logs log.site (IsUnguarded owned) (guard_at_rest owned) (one_unguarded guards owned)
   one_asked entries (query log asked) = with_log entries log.name.now logs log.site (IsQueryRefusal asked) (query_at_rest asked) (queries asked)
 
   -- ---- a loosened plan, and a robust one

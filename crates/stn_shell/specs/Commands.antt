@@ -8,9 +8,11 @@ use Rattle.stn_site.specs.Calls.{took}
 use Rattle.stn_site.specs.Held.{Held}
 use Rattle.stn_command.specs.Change.{change_call, made_by, made_text}
 use Rattle.stn_command.specs.Query.{Query, IsSaid}
+use Rattle.stn_command.specs.Guarding.{IsGuarded}
+use Rattle.stn_guard.specs.declared.owners.OwnedSteps.{OwnedSteps}
 use Rattle.stn_command.specs.declared.changes.Change.{Change}
 use Rattle.stn_store.specs.Store.{Entry, IsThere, Spells, Opens, saved_too, Changes}
-use Rattle.stn_shell.specs.Words.{Asked, change, merge, query, asked_of, slack_read}
+use Rattle.stn_shell.specs.Words.{Asked, change, guard, merge, query, asked_of, slack_read}
 use Rattle.stn_loosen.specs.Slack.{Slack}
 use Rattle.stn_shell.specs.Loosening.{HoldsLoosened}
 use Rattle.stn_explain.specs.Explained.{IsExplained}
@@ -68,6 +70,14 @@ pub record IsMerged (old new : Option (List Entry)) (log : SiteLog) (other text 
   pub same : change.before.source ≡ theirs.source
   pub line : text ≡ codes "merged" ++ 10 ∷ []
 
+-- the guard of what a log says, added and saved, and the text that says so; in a conflict what is saved is what the log says
+pub record IsGuardAdded (old new : Option (List Entry)) (log : SiteLog) (owned : List OwnedSteps) (text : List ℕ) : Type 0 where
+  pub before : Held
+  pub after : Held
+  pub opened : Opens old log.name.now log.site before
+  pub guarded : IsGuarded owned before after text
+  pub saved : new ≡ saved_too old log.name.now (record { source = after.source; state = after.state })
+
 -- what is said of what a log says, which stays
 pub record IsTold (old new : Option (List Entry)) (log : SiteLog) (asked : Query) (text : List ℕ) : Type 0 where
   pub ours : Held
@@ -79,6 +89,7 @@ pub record IsTold (old new : Option (List Entry)) (log : SiteLog) (asked : Query
 abbrev pub IsDone : Option (List Entry) → Option (List Entry) → Asked → List ℕ → Type 0
 IsDone old new (change log asked) text = IsChanged old new log asked text
 IsDone old new (merge log other) text = IsMerged old new log other text
+IsDone old new (guard log owned) text = IsGuardAdded old new log owned text
 IsDone old new (query log asked) text = IsTold old new log asked text
 
 -- what a command line does over logs, and the text that it answers; `run`, `serve` and `send` are no commands on a log, and ask for nothing

@@ -9,9 +9,12 @@ use Rattle.stn_lift.specs.Failures.{base_failure}
 use Rattle.stn_site.specs.Failures.{replica_failure}
 use Rattle.stn_command.specs.Change.{change_refusal}
 use Rattle.stn_command.specs.Query.{IsQueryRefusal}
+use Rattle.stn_guard.specs.Adding.{IsGuardRefusal}
+use Rattle.stn_guard.specs.declared.owners.OwnedSteps.{OwnedSteps}
+use Rattle.stn_site.specs.declared.faults.ReplicaFault.{ReplicaFault}
 use Rattle.stn_command.specs.Words.{no_such_word}
 use Rattle.stn_store.specs.Store.{Entry, log_there, IsThere, Spells, Opens, IsMissing, IsUnopened}
-use Rattle.stn_shell.specs.Words.{Asked, change, merge, query, asked_of, slack_read}
+use Rattle.stn_shell.specs.Words.{Asked, change, guard, merge, query, asked_of, slack_read}
 use Rattle.stn_explain.specs.Explained.{NamesNothing}
 use Rattle.stn_line.specs.declared.words.Line.{Line}
 use Rattle.stn_line.specs.declared.words.Line.TheVariants.{Bare, Init, Loosen, Explain}
@@ -58,15 +61,20 @@ abbrev pub IsMergeRefusal : Held → Held → Option Failure → Type 0
 IsMergeRefusal ours theirs cause = ((ours.source ≢ theirs.source) × (cause ≡ Some other_plan))
     ⊎ ((ours.source ≡ theirs.source) × (cause ≡ option_map replica_failure (take_refusal ours theirs.state)))
 
+-- why a replica doesn't add its guard
+abbrev pub IsUnguarded : List OwnedSteps → Held → Option Failure → Type 0
+IsUnguarded owned held cause = (refusal : Option ReplicaFault) × IsGuardRefusal owned held refusal × (cause ≡ option_map replica_failure refusal)
+
 -- why nothing is explained: the word is no refusal's and no fault's
 abbrev pub IsExplainRefusal : Option (Bor (List ℕ)) → Option Failure → Type 0
 IsExplainRefusal code cause = (NamesNothing (option_map (λ word. word.now) code) × (cause ≡ Some no_such_word))
     ⊎ ((¬ NamesNothing (option_map (λ word. word.now) code)) × (cause ≡ None))
 
--- why what a command asks of a log is refused: the log; then the change, the other log or the query
+-- why what a command asks of a log is refused: the log; then the change, the other log, the guard or the query
 abbrev pub IsAskedRefusal : Option (List Entry) → Asked → Option Failure → Type 0
 IsAskedRefusal entries (change log asked) = WithLog entries log.name.now log.site (λ held cause. cause ≡ option_map replica_failure (change_refusal held asked))
 IsAskedRefusal entries (merge log other) = WithLog entries log.name.now log.site (λ ours. WithLog entries other log.site (IsMergeRefusal ours))
+IsAskedRefusal entries (guard log owned) = WithLog entries log.name.now log.site (IsUnguarded owned)
 IsAskedRefusal entries (query log asked) = WithLog entries log.name.now log.site (IsQueryRefusal asked)
 
 -- the first cause: words that can't be read; a log that is there; the texts and the base; too many records, or no promise; the log; the other log;

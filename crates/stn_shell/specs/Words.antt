@@ -1,41 +1,48 @@
 -- What the words of a command say, or why they can't be read: the first word that can't decides, in the order of the words.
-use Rattle.std.specs.Prelude.{ℕ, ℤ, pos, neg_ℤ, int_lt, ◌||◌, if◌then◌else◌, List, map, Option, Some, None, Result, Ok, Err}
+use Rattle.std.specs.Prelude.{ℕ, ℤ, pos, neg_ℤ, int_lt, ◌||◌, if◌then◌else◌, List, map, Option, Some, None, option_map, Result, Ok, Err}
 use Rattle.std.specs.Borrow.{Bor}
 use Rattle.stn_time.specs.Time.{horizon}
 use Rattle.stn_records.specs.Id.{SiteCounter}
 use Rattle.stn_loosen.specs.Slack.{Slack}
 use Rattle.stn_questions.specs.declared.asked.Question.{Question}
 use Rattle.stn_questions.specs.declared.asked.Question.TheVariants.{Records as records, Steps as steps, Bounds as bounds, Why as why, WhyApart as why_apart}
-use Rattle.stn_command.specs.Words.{and_then, event_of, id_of, time_read, times_read, no_such_word}
-use Rattle.stn_command.specs.Query.{Query, seen_query, report, check, next, ready, rehearse, ask, repairs, draw}
+use Rattle.stn_command.specs.Words.{and_then, event_of, id_of, named, time_read, times_read, no_such_word}
+use Rattle.stn_command.specs.Query.{Query, seen_query, report, check, among, ask, repairs, draw}
+use Rattle.stn_command.specs.Steps.{steps_read, all_owned}
+use Rattle.stn_command.specs.declared.queries.Outlook.{Outlook}
+use Rattle.stn_command.specs.declared.queries.Outlook.TheVariants as outlook
+use Rattle.stn_guard.specs.declared.owners.OwnedSteps.{OwnedSteps}
+use Rattle.stn_replica.specs.declared.own.StepRange.{StepRange}
+use Rattle.stn_line.specs.declared.words.EventChoice.{EventChoice}
 use Rattle.stn_command.specs.declared.changes.AskedBound.{AskedBound}
 use Rattle.stn_command.specs.declared.changes.Change.{Change}
 use Rattle.stn_command.specs.declared.changes.Change.TheVariants as made
 use Rattle.stn_line.specs.declared.words.SiteLog.{SiteLog}
 use Rattle.stn_line.specs.declared.words.Line.{Line}
-use Rattle.stn_line.specs.declared.words.Line.TheVariants.{Add, Amend, Withdraw, Done, Merge, Report, Next, Ready, Why, Repairs, Records, Steps, Bounds, Check, Rehearse, Draw}
+use Rattle.stn_line.specs.declared.words.Line.TheVariants.{Add, Amend, Withdraw, Done, Merge, Guard, Report, Next, Ready, Why, Repairs, Records, Steps, Bounds, Check, Rehearse, Draw}
 use Rattle.stn_refusal.specs.declared.failure.Failure.{Failure}
 use Rattle.stn_shell.specs.declared.words.Asked.{Asked as AskedOfCode}
 use Rattle.stn_shell.specs.declared.words.Asked.TheVariants as code
 
--- what a command asks of a log that is there, all its words read: a change, to take in all that another log says, or a query
+-- what a command asks of a log that is there, all its words read: a change, to take in all that another log says, to add the guard of what it
+-- says, or a query
 pub data Asked : Type 0 where
   change : (log : SiteLog) (asked : Change) → Asked
   merge : (log : SiteLog) (other : List ℕ) → Asked
+  guard : (log : SiteLog) (owned : List OwnedSteps) → Asked
   query : (log : SiteLog) (asked : Query) → Asked
 
 -- the same, as the code has it
 abbrev pub seen_asked : AskedOfCode → Asked
 seen_asked (code.Change log asked) = change log.now asked
 seen_asked (code.Merge log other) = merge log.now other.now
+seen_asked (code.Guard log owned) = guard log.now owned.items
+seen_asked (code.Among log outlook now chosen starts) =
+    query log.now (among outlook now (record { steps = option_map (λ all. all.items) chosen; starts = starts }))
 seen_asked (code.Check log times) = query log.now (check times.items)
 seen_asked (code.Query log asked) = query log.now (seen_query asked)
 
 -- what a word names
-abbrev pub named : {X : Type 0} → Option X → Result X Failure
-named (Some value) = Ok value
-named None = Err no_such_word
-
 abbrev pub event_read : List ℕ → Result ℕ Failure
 event_read word = named (event_of word)
 
@@ -72,13 +79,25 @@ abbrev pub why_read : List ℕ → Option (Bor (List ℕ)) → Result Question F
 why_read event None = and_then (event_read event) (λ which. Ok (why which))
 why_read from (Some to) = and_then (event_read from) (λ first. and_then (event_read to.now) (λ second. Ok (why_apart first second)))
 
+-- the steps that are chosen, where a word names some
+abbrev pub chosen_read : Option (Bor (List ℕ)) → Result (Option (List StepRange)) Failure
+chosen_read None = Ok None
+chosen_read (Some word) = and_then (steps_read word.now) (λ steps. Ok (Some steps))
+
+-- what is asked of the chosen events from a time on
+unfoldable pub among_read : SiteLog → Outlook → List ℕ → EventChoice → Result Asked Failure
+among_read log outlook now choice =
+    and_then (chosen_read choice.steps) (λ steps.
+    and_then (time_read now) (λ time.
+    Ok (query log (among outlook time (record { steps = steps; starts = choice.starts })))))
+
 -- what a query asks of a log; the others are no commands on a log that is there
 abbrev pub query_of : Line → Result Asked Failure
 query_of (Report log) = Ok (query log report)
 query_of (Check log times) = and_then (times_read (map (λ word. word.now) times.items)) (λ all. Ok (query log (check all)))
-query_of (Next log now) = and_then (time_read now.now) (λ time. Ok (query log (next time)))
-query_of (Ready log now) = and_then (time_read now.now) (λ time. Ok (query log (ready time)))
-query_of (Rehearse log now) = and_then (time_read now.now) (λ time. Ok (query log (rehearse time)))
+query_of (Next log now choice) = among_read log outlook.Next now.now choice
+query_of (Ready log now choice) = among_read log outlook.Ready now.now choice
+query_of (Rehearse log now choice) = among_read log outlook.Rehearse now.now choice
 query_of (Why log event to) = and_then (why_read event.now to) (λ question. Ok (query log (ask question)))
 query_of (Records log) = Ok (query log (ask records))
 query_of (Steps log) = Ok (query log (ask steps))
@@ -96,4 +115,5 @@ asked_of (Withdraw log id) = and_then (id_read id.now) (λ which. Ok (change log
 asked_of (Done log event time) =
     and_then (event_read event.now) (λ which. and_then (time_read time.now) (λ when. Ok (change log (made.Done which when))))
 asked_of (Merge log other) = Ok (merge log other.now)
+asked_of (Guard log owned) = and_then (all_owned (map (λ word. word.now) owned.items)) (λ all. Ok (guard log all))
 asked_of line = query_of line

@@ -1,10 +1,11 @@
 //! The commands on a log.
 
-ghost use Rattle.std.specs.Prelude.{◌≡◌, ◌⊎◌, false, None, IfOk, IfErr, IsOkAnd, MatchResult};
+ghost use Rattle.std.specs.Prelude.{◌≡◌, ◌⊎◌, false, None, option_map, IfOk, IfErr, IsOkAnd, MatchResult};
 ghost use Rattle.stn_lift.specs.PlanSource.{plan_source};
 ghost use Rattle.stn_command.specs.Change.{made_text};
-ghost use Rattle.stn_command.specs.Query.{seen_query};
-ghost use Rattle.stn_shell.specs.Words.{asked_of, change, merge, query};
+ghost use Rattle.stn_command.specs.Guarding.{guard_text};
+ghost use Rattle.stn_command.specs.Query.{seen_query, seen_choice};
+ghost use Rattle.stn_shell.specs.Words.{asked_of, change, guard, merge, query};
 ghost use Rattle.stn_shell.specs.Commands.{IsDone, IsMade, IsMadeLoose, IsNewLog};
 ghost use Rattle.stn_shell.specs.Endings.{Completes, Succeeds, IsUndone, SavesNew, IsUnsaved, IsUnmade, IsOfTexts, MissesText};
 ghost use Rattle.stn_shell.specs.Loosening.{IsLooseningRefusal};
@@ -17,11 +18,14 @@ use crate::explaining::explain;
 use crate::loosening::loosen;
 use crate::words::{Asked, read_asked, read_tolerance};
 use std::alloc::Global;
-use stn_command::{Change, Made, Query, make_change, say};
+use stn_command::{Change, Choice, Made, Query, make_change, print_guard, say};
+use stn_guard::{OwnedSteps, add_guard};
 use stn_lift::Source;
 use stn_line::{Line, SiteLog};
 use stn_loosen::Tolerance;
+use stn_records::Id;
 use stn_refusal::{Code, Failure, Fault};
+use stn_replica::StepRange;
 use stn_site::SitePlan;
 use stn_store::Store;
 use stn_time::Memory;
@@ -67,7 +71,12 @@ fn do_asked<S: Store>(alloc: Global, store: &mut S, line: &Line<'_>) -> Result<V
     match asked {
         Asked::Change(log, asked) => change_log(alloc, store, log, &asked),
         Asked::Merge(log, other) => merge_log(alloc, store, log, other),
+        Asked::Guard(log, owned) => guard_log(alloc, store, log, &owned),
         Asked::Check(log, times) => say_of(store, log, &Query::Check(&times)),
+        Asked::Among(log, outlook, now, steps, starts) => {
+            let choice = choice_of(&steps, starts);
+            say_of(store, log, &Query::Among(outlook, now, choice))
+        }
         Asked::Query(log, asked) => say_of(store, log, &asked),
     }
 }
@@ -278,6 +287,52 @@ fn merge_log<S: Store>(
     let text = copied(alloc, b"merged\n")?;
     store.save(&ours.held, &ours.plan)?;
     Ok(text)
+}
+
+// Adds the guard of what a log says.
+fn guard_log<S: Store>(
+    alloc: Global,
+    store: &mut S,
+    log: &SiteLog<'_>,
+    owned: &[OwnedSteps],
+) -> Result<Vec<u8>, Failure>
+    ensures { MatchResult result
+        (λ text. Completes (S.entries store.old) (S.entries store.new) (guard log.now owned.now) text.items)
+        (IsUndone (IsAskedRefusal (S.entries store.old) (guard log.now owned.now)) S.fails (S.entries store.old) (S.entries store.new)) }
+{
+    let mut ours = open_log(store, log)?;
+    let ids = add_guard(&mut ours.plan, owned)?;
+    let text = lines_of(alloc, &ids)?;
+    store.save(&ours.held, &ours.plan)?;
+    Ok(text)
+}
+
+// The lines that say which records a guard has.
+fn lines_of(alloc: Global, ids: &Option<Vec<Id, Global>>) -> Result<Vec<u8>, Memory>
+    ensures { IfOk result (λ text. text.items ≡ guard_text (option_map (λ all. all.items) ids.now)) }
+{
+    let mut text = Vec::new(alloc);
+    match ids {
+        Some(ids) => print_guard(Some(ids), &mut text)?,
+        None => print_guard(None, &mut text)?,
+    }
+    Ok(text)
+}
+
+// The choice of events that was asked for.
+fn choice_of(steps: &Option<Vec<StepRange, Global>>, starts: bool) -> Choice<'_>
+    ensures { seen_choice result ≡ record { steps = option_map (λ all. all.items) steps.now; starts = starts } }
+{
+    match steps {
+        Some(steps) => Choice {
+            steps: Some(steps),
+            starts,
+        },
+        None => Choice {
+            steps: None,
+            starts,
+        },
+    }
 }
 
 // What is said of a log.

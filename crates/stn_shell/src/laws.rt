@@ -5,6 +5,7 @@ ghost use Rattle.stn_shell.specs.Refusals.{IsRefusalOf};
 ghost use Rattle.stn_store.specs.Store.{Entry};
 
 use stn_command::one_said;
+use stn_guard::one_guard;
 use stn_log::one_log;
 use stn_loosen::{one_robust_plan, too_many_are_not_few};
 
@@ -14,6 +15,7 @@ pub fn one_cause()
         → IsRefusalOf (Some entries) line cause → IsRefusalOf (Some entries) line other → cause ≡ other }
 {
     one_log();
+    one_guard();
     one_said();
     one_robust_plan();
     too_many_are_not_few();

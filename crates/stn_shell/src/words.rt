@@ -1,19 +1,23 @@
 //! What the words of a command say.
 
-ghost use Rattle.std.specs.Prelude.{◌≡◌, ◌⊎◌, map, pos, neg_ℤ, Ok, Err, IfOk, IfErr, MatchResult};
+ghost use Rattle.std.specs.Prelude.{◌≡◌, ◌⊎◌, map, option_map, pos, neg_ℤ, Ok, Err, IfOk, IfErr, MatchResult};
 ghost use Rattle.stn_time.specs.Time.{horizon};
 ghost use Rattle.stn_refusal.specs.Refusals.{out_of_memory};
 ghost use Rattle.stn_command.specs.Words.{times_read};
-ghost use Rattle.stn_shell.specs.Words.{asked_of, query_of, seen_asked, bound_read, event_read, id_read, side_read, slack_of, slack_read, why_read};
+ghost use Rattle.stn_shell.specs.Words.{asked_of, query_of, among_read, chosen_read, seen_asked, bound_read, event_read, id_read, side_read, slack_of, slack_read, why_read};
 
 use std::alloc::{Allocator, Global};
-use stn_command::{AskedBound, Change, Query, no_such_word, read_time};
-use stn_line::{Line, SiteLog};
+use stn_command::{
+    AskedBound, Change, Outlook, Query, no_such_word, read_owned, read_steps, read_time,
+};
+use stn_guard::OwnedSteps;
+use stn_line::{EventChoice, Line, SiteLog};
 use stn_loosen::Tolerance;
 use stn_net::Event;
 use stn_questions::Question;
 use stn_records::Id;
 use stn_refusal::Failure;
+use stn_replica::StepRange;
 use stn_time::{HORIZON, Ms};
 
 /// What a command asks of a log that is there, all its words read.
@@ -23,8 +27,12 @@ pub enum Asked<'l, 'a> {
     Change(&'l SiteLog<'a>, Change),
     /// Takes in all that another log says.
     Merge(&'l SiteLog<'a>, &'a str),
+    /// Adds the guard of what the log says, where these steps belong to their sites.
+    Guard(&'l SiteLog<'a>, Vec<OwnedSteps, Global>),
     /// Checks times, one for each event.
     Check(&'l SiteLog<'a>, Vec<Ms, Global>),
+    /// Asks of chosen events, from a time on: those of these steps, or of all where none are given; or their starts alone.
+    Among(&'l SiteLog<'a>, Outlook, Ms, Option<Vec<StepRange, Global>>, bool),
     /// Answers another query.
     Query(&'l SiteLog<'a>, Query<'a>),
 }
@@ -67,6 +75,10 @@ pub fn read_asked<'l, 'a>(alloc: Global, line: &'l Line<'a>) -> Result<Asked<'l,
             Ok(Asked::Change(log, Change::Done(event, time)))
         }
         Line::Merge { log, other } => Ok(Asked::Merge(log, *other)),
+        Line::Guard { log, owned } => {
+            let owned = read_owned(alloc, owned)?;
+            Ok(Asked::Guard(log, owned))
+        }
         _ => read_query(alloc, line),
     }
 }
@@ -82,17 +94,10 @@ fn read_query<'l, 'a>(alloc: Global, line: &'l Line<'a>) -> Result<Asked<'l, 'a>
             let times = read_times(alloc, times)?;
             Ok(Asked::Check(log, times))
         }
-        Line::Next { log, now } => {
-            let now = read_time(now.as_bytes())?;
-            Ok(Asked::Query(log, Query::Next(now)))
-        }
-        Line::Ready { log, now } => {
-            let now = read_time(now.as_bytes())?;
-            Ok(Asked::Query(log, Query::Ready(now)))
-        }
-        Line::Rehearse { log, now } => {
-            let now = read_time(now.as_bytes())?;
-            Ok(Asked::Query(log, Query::Rehearse(now)))
+        Line::Next { log, now, choice } => read_among(alloc, log, Outlook::Next, *now, choice),
+        Line::Ready { log, now, choice } => read_among(alloc, log, Outlook::Ready, *now, choice),
+        Line::Rehearse { log, now, choice } => {
+            read_among(alloc, log, Outlook::Rehearse, *now, choice)
         }
         Line::Why { log, event, to } => {
             let question = read_why(*event, *to)?;
@@ -104,6 +109,36 @@ fn read_query<'l, 'a>(alloc: Global, line: &'l Line<'a>) -> Result<Asked<'l, 'a>
         Line::Repairs { log } => Ok(Asked::Query(log, Query::Repairs)),
         Line::Draw { log } => Ok(Asked::Query(log, Query::Draw)),
         _ => Err(no_such_word()),
+    }
+}
+
+// Reads the words of a query of chosen events.
+fn read_among<'l, 'a>(
+    alloc: Global,
+    log: &'l SiteLog<'a>,
+    outlook: Outlook,
+    now: &str,
+    choice: &EventChoice<'_>,
+) -> Result<Asked<'l, 'a>, Failure>
+    ensures { MatchResult result (λ asked. among_read log.now outlook now.now choice.now ≡ Ok (seen_asked asked))
+        (λ failure. (failure ≡ out_of_memory) ⊎ (among_read log.now outlook now.now choice.now ≡ Err failure)) }
+{
+    let steps = read_chosen(alloc, choice.steps)?;
+    let now = read_time(now.as_bytes())?;
+    Ok(Asked::Among(log, outlook, now, steps, choice.starts))
+}
+
+// The steps that a word names, where there is one.
+fn read_chosen(alloc: Global, word: Option<&str>) -> Result<Option<Vec<StepRange, Global>>, Failure>
+    ensures { MatchResult result (λ steps. chosen_read word.entry ≡ Ok (option_map (λ all. all.items) steps))
+        (λ failure. (failure ≡ out_of_memory) ⊎ (chosen_read word.entry ≡ Err failure)) }
+{
+    match word {
+        Some(word) => {
+            let steps = read_steps(alloc, word)?;
+            Ok(Some(steps))
+        }
+        None => Ok(None),
     }
 }
 

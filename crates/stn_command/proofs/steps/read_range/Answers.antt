@@ -1,6 +1,6 @@
-use Rattle.std.proofs.Common.{◌≡◌, Some, option_map, refl, sym, ap, ◌∙◌}
+use Rattle.std.proofs.Common.{option_map, refl, sym, ap, ◌∙◌}
 use Rattle.std.proofs.lemmas.Result.{err_from_is_err_and}
-use Rattle.stn_command.specs.Steps.{around, range_read}
+use Rattle.stn_command.specs.Steps.{range_read}
 use Rattle.stn_command.proofs.steps.read_range.Goals as goal
 
 pub returns-in_err-first-in-Some : goal.returns-in_err-first-in-Some

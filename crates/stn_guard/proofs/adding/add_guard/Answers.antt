@@ -20,7 +20,7 @@ returns-in_err-add_each-in-Some-clause-fault g c =
     let within : are_within (steps_of held.source) owned ≡ true =
     ap (λ n. are_within n owned) (sym (c.steps.ensures.value ∙ ap steps_of c.base.ensures)) ∙ sym c.are_within.ensures ∙ c.if-not-are_within.false in
     let is : c.from_residual.result ≡ Err c.in_err-add_each-in-Some.field-0.0 = search rules in
-    rw is (⊎_elim inl (λ cause. inr (guarded within guard made.is_guard (cause ∙ ap (λ (l : List Difference). records_refusal held (length l)) c.deref.ensures.value)))
+    rw is (⊎_elim inl (λ cause. inr (guarded within made.possible guard made.is_guard (cause ∙ ap (λ (l : List Difference). records_refusal held (length l)) c.deref.ensures.value)))
     (cause_or_memory (records_refusal held (length c.deref.result.now)) c.in_err-add_each-in-Some.field-0.0 c.in_err-add_each-in-Some.ensures.fault))
 
 pub returns-in_ok-add_each-in-Some-clause-guarded : goal.returns-in_ok-add_each-in-Some-clause-guarded
@@ -38,5 +38,5 @@ returns-in_ok-add_each-in-Some-clause-accepted g c =
     let made = MatchOption-at_some (¬ HasSchedule (all_bounds held.source held.state)) (λ b. MakesGuard owned held b.items) c.in-Some.bounds c.in-Some.is c.in-Ok.ensures in
     let within : are_within (steps_of held.source) owned ≡ true =
     ap (λ n. are_within n owned) (sym (c.steps.ensures.value ∙ ap steps_of c.base.ensures)) ∙ sym c.are_within.ensures ∙ c.if-not-are_within.false in
-    guarded within c.in-Some.bounds.items made.is_guard
+    guarded within made.possible c.in-Some.bounds.items made.is_guard
     (sym c.in_ok-add_each-in-Some.ensures.accepted ∙ ap (λ (l : List Difference). records_refusal held (length l)) c.deref.ensures.value)

@@ -18,9 +18,18 @@ pub returns-in-Merge : goal.returns-in-Merge
 returns-in-Merge g c =
     completed c.merge_log.result _ _ _ _ _ (c.in_ok-asked.ensures ∙ ap (λ asked. Ok (seen_asked asked)) c.in-Merge.is) c.merge_log.ensures
 
+pub returns-in-Guard : goal.returns-in-Guard
+returns-in-Guard g c =
+    completed c.guard_log.result _ _ _ _ _ (c.in_ok-asked.ensures ∙ ap (λ asked. Ok (seen_asked asked)) c.in-Guard.is) (rw c.deref.ensures.value at c.guard_log.ensures)
+
 pub returns-in-Check : goal.returns-in-Check
 returns-in-Check g c =
-    completed c.say_of.result _ _ _ _ _ (c.in_ok-asked.ensures ∙ ap (λ asked. Ok (seen_asked asked)) c.in-Check.is) (rw c.deref.ensures.value at c.say_of.ensures)
+    completed c.say_of.result _ _ _ _ _ (c.in_ok-asked.ensures ∙ ap (λ asked. Ok (seen_asked asked)) c.in-Check.is) (rw c.deref-in-Check.ensures.value at c.say_of.ensures)
+
+pub returns-in-Among : goal.returns-in-Among
+returns-in-Among g c =
+    completed c.say_of-in-Among.result _ _ _ _ _ (c.in_ok-asked.ensures ∙ ap (λ asked. Ok (seen_asked asked)) c.in-Among.is)
+    (rw c.choice_of-choice.ensures at c.say_of-in-Among.ensures)
 
 pub returns-in-Query : goal.returns-in-Query
 returns-in-Query g c =
