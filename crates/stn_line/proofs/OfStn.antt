@@ -101,10 +101,13 @@ all_plain = (
                                           (
                                             reads refl refl refl (one refl refl refl refl, (asks refl refl refl, tt)),
                                             (
-                                              reads refl refl refl (one refl refl refl refl, (one refl refl refl refl, (one refl refl refl refl, (one refl refl refl refl, (one refl refl refl refl, (asks refl refl refl, tt)))))),
+                                              reads refl refl refl (one refl refl refl refl, (one refl refl refl refl, (asks refl refl refl, tt))),
                                               (
-                                                reads refl refl refl (one refl refl refl refl, (one refl refl refl refl, (one refl refl refl refl, (one refl refl refl refl, (asks refl refl refl, tt))))),
-                                                tt,
+                                                reads refl refl refl (one refl refl refl refl, (one refl refl refl refl, (one refl refl refl refl, (one refl refl refl refl, (one refl refl refl refl, (asks refl refl refl, tt)))))),
+                                                (
+                                                  reads refl refl refl (one refl refl refl refl, (one refl refl refl refl, (one refl refl refl refl, (one refl refl refl refl, (asks refl refl refl, tt))))),
+                                                  tt,
+                                                ),
                                               ),
                                             ),
                                           ),
@@ -187,7 +190,7 @@ is_last (n ∷ names) last name (inr is) none = is_last names last name is none.
 
 -- the commands before `send`, the last
 abbrev pub others : List Text
-others = codes "run" ∷ codes "bare" ∷ codes "init" ∷ codes "loosen" ∷ codes "add" ∷ codes "amend" ∷ codes "withdraw" ∷ codes "done" ∷ codes "merge" ∷ codes "guard" ∷ codes "report" ∷ codes "next" ∷ codes "ready" ∷ codes "why" ∷ codes "repairs" ∷ codes "records" ∷ codes "steps" ∷ codes "bounds" ∷ codes "check" ∷ codes "rehearse" ∷ codes "draw" ∷ codes "explain" ∷ codes "serve" ∷ []
+others = codes "run" ∷ codes "bare" ∷ codes "init" ∷ codes "loosen" ∷ codes "add" ∷ codes "amend" ∷ codes "withdraw" ∷ codes "done" ∷ codes "merge" ∷ codes "guard" ∷ codes "report" ∷ codes "next" ∷ codes "ready" ∷ codes "why" ∷ codes "repairs" ∷ codes "records" ∷ codes "steps" ∷ codes "bounds" ∷ codes "check" ∷ codes "rehearse" ∷ codes "draw" ∷ codes "explain" ∷ codes "shell" ∷ codes "serve" ∷ []
 
 pub is_send : (name : Text) (rows : List Row) → HasWords name rows → Each (λ n. name ≢ n) others → name ≡ codes "send"
 is_send name rows has none = is_last others (codes "send") name (is_one_of (λ command. HoldsWords rows command.rules) (built (program commands)).subs name has) none

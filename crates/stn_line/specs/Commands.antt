@@ -91,6 +91,7 @@ commands = command (codes "run") []
     ∷ on_log (codes "rehearse") (word_rule (codes "NOW") ∷ choice_rules)
     ∷ on_log (codes "draw") []
     ∷ command (codes "explain") (maybe_rule (codes "CODE") ∷ [])
+    ∷ on_log (codes "shell") []
     ∷ on_log (codes "serve") (word_rule (codes "ADDR") ∷ number_rule (codes "COUNT") 1 most_connections ∷ number_option_rule (codes "seconds") 1 most_seconds ∷ [])
     ∷ on_log (codes "send") (word_rule (codes "ADDR") ∷ number_option_rule (codes "seconds") 1 most_seconds ∷ [])
     ∷ []

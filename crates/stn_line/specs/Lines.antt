@@ -83,6 +83,7 @@ IsLineOf (line.Rehearse log now choice) name rows =
     (name ≡ codes "rehearse") × IsOnLog log rows × IsWord (codes "NOW") now rows × IsChoice choice rows
 IsLineOf (line.Draw log) name rows = (name ≡ codes "draw") × IsOnLog log rows
 IsLineOf (line.Explain code) name rows = (name ≡ codes "explain") × IsOption (codes "CODE") code rows
+IsLineOf (line.Shell log) name rows = (name ≡ codes "shell") × IsOnLog log rows
 IsLineOf (line.Serve log address count seconds) name rows =
     (name ≡ codes "serve") × IsOnLog log rows × IsWord (codes "ADDR") address rows
     × IsNumber (codes "COUNT") count rows × (1 ≤ count) × (count ≤ most_connections) × IsSeconds seconds rows

@@ -86,7 +86,7 @@ const STEPS: Word = Word::Steps(
 
 const STARTS: Word = Word::Flag("starts", "Only starts count as left");
 
-const COMMANDS: [Row; 24] = [
+const COMMANDS: [Row; 25] = [
     Row {
         name: "run",
         about: "Runs the script on standard input",
@@ -268,6 +268,11 @@ const COMMANDS: [Row; 24] = [
             "CODE",
             "The number after `refused`, or the word after `fault`; all, if not given",
         )],
+    },
+    Row {
+        name: "shell",
+        about: "Answers each line of standard input, a command without LOG and SITE, and an empty line after it",
+        words: &[LOG, SITE],
     },
     Row {
         name: "serve",

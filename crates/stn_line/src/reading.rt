@@ -79,6 +79,9 @@ fn command<'a>(alloc: Global, name: &str, words: &ArgMatches<'a>) -> Result<Line
             log: site_log(words),
         }),
         "explain" => Ok(explain(words)),
+        "shell" => Ok(Line::Shell {
+            log: site_log(words),
+        }),
         "serve" => Ok(serve(words)),
         _ => Ok(send(words)),
     }

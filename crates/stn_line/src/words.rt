@@ -144,6 +144,10 @@ pub enum Line<'a> {
     Explain {
         code: Option<&'a str>,
     },
+    /// Does the lines of the standard input, each as a command on the log, and answers each before it reads on.
+    Shell {
+        log: SiteLog<'a>,
+    },
     /// Serves connections at an address, one after another; each session may take so many seconds.
     Serve {
         log: SiteLog<'a>,

@@ -1,4 +1,5 @@
 pub mod Served
+pub mod Turns
 pub mod Joined
 mod Failed
 mod Readings
@@ -8,3 +9,4 @@ mod OnLog
 mod OfLogs
 mod OneCause
 mod Guarded
+mod Bytes

@@ -2,9 +2,10 @@
 use Rattle.std.proofs.Common.{◌≡◌, ℕ, List, Option, refl}
 use Rattle.std.specs.Borrow.{Bor}
 use Rattle.stn_line.specs.declared.words.Line.{Line}
-use Rattle.stn_line.specs.declared.words.Line.TheVariants.{Run, Serve, Send}
+use Rattle.stn_line.specs.declared.words.Line.TheVariants.{Run, Serve, Send, Shell}
 use Rattle.stn_line.specs.declared.words.SiteLog.{SiteLog}
 use Rattle.stn_shell.specs.Carried.{Answers, IsCarriedOut, Stops, StopsCommand}
+use Rattle.stn_shell.specs.Executed.{Ends, Finishes}
 use Rattle.stn_shell.specs.Printing.{Device}
 use Rattle.stn_store.specs.Store.{Entry}
 use Rattle.stn_refusal.specs.declared.failure.Failure.{Failure}
@@ -28,3 +29,10 @@ stopped Fails before after Run unread rest old new failure is stops = absurd (is
 stopped Fails before after (Serve log address count seconds) unread rest old new failure is stops = absurd (is.serve log address count seconds refl)
 stopped Fails before after (Send log address seconds) unread rest old new failure is stops = absurd (is.send log address seconds refl)
 stopped Fails before after line unread rest old new failure is stops = stops
+
+-- a command line that is no shell
+pub finished : (Fails : Fault → Type 0) (before after : Option (List Entry)) (line : Line) (unread rest old new err told : Device) (status : ℕ)
+    → ((log : SiteLog) → line ≡ Shell log → ⊥) → Finishes Fails before after line unread rest old new err told status
+    → Ends Fails before after line unread rest old new err told status
+finished Fails before after (Shell log) unread rest old new err told status other finishes = absurd (other log refl)
+finished Fails before after line unread rest old new err told status other finishes = finishes

@@ -1,12 +1,14 @@
 -- What became of the words of a command line.
-use Rattle.std.specs.Prelude.{◌≡◌, ◌≢◌, ◌⊎◌, ℕ, List, [], ◌∷◌, ◌++◌, codes, Option, IsSomeAnd}
-use Rattle.clap.specs.Words.{IsAmong, Text, fault_of, subcommand_of}
+use Rattle.std.specs.Prelude.{◌≡◌, ◌≢◌, ◌⊎◌, ℕ, List, [], Option}
+use Rattle.clap.specs.Words.{IsAmong, Text, fault_of}
 use Rattle.clap.specs.declared.error.kind.ErrorKind.{ErrorKind}
 use Rattle.clap.specs.declared.error.kind.ErrorKind.TheVariants.{DisplayHelp, DisplayVersion}
 use Rattle.stn_line.specs.Commands.{stn}
-use Rattle.stn_line.specs.Lines.{IsLineOf}
 use Rattle.stn_line.specs.declared.words.Line.{Line}
+use Rattle.stn_line.specs.declared.words.Line.TheVariants.{Shell}
+use Rattle.stn_shell.specs.Asking.{AskFor, no_text}
 use Rattle.stn_shell.specs.Carried.{IsCarriedOut, Stops}
+use Rattle.stn_shell.specs.Coprocess.{EndsShell}
 use Rattle.stn_shell.specs.Printing.{Device, Prints, BreaksOff, TellsText, TellsFault, Tells}
 use Rattle.stn_shell.specs.declared.process.Wordless.{Wordless}
 use Rattle.stn_shell.specs.declared.process.Wordless.TheVariants as wordless
@@ -16,15 +18,16 @@ use Rattle.stn_refusal.specs.declared.failure.Fault.{Fault}
 use Rattle.stn_refusal.specs.declared.failure.Fault.TheVariants.{Write, Memory}
 
 -- a command line came to its end, and nothing stands on the standard error; or it stopped, and that was told
-abbrev pub Ends : (Fault → Type 0) → Option (List Entry) → Option (List Entry) → Line → Device → Device → Device → Device → Device → Device → ℕ → Type 0
-Ends Fails before after line unread rest old new err told status =
+abbrev pub Finishes : (Fault → Type 0) → Option (List Entry) → Option (List Entry) → Line → Device → Device → Device → Device → Device → Device → ℕ → Type 0
+Finishes Fails before after line unread rest old new err told status =
     (IsCarriedOut before after line unread rest old new status × (told ≡ err))
     ⊎ ((failure : Failure) × (between : Device) × Stops Fails before after line unread rest old between failure
     × Tells failure between new err told × (status ≡ 1))
 
--- the words are this command line
-abbrev pub AskFor : List Text → Line → Type 0
-AskFor words line = (fault_of stn words ≡ []) × IsSomeAnd (subcommand_of stn words) (λ command. IsLineOf line command.0 command.1)
+-- the same of any command line: a shell also tells what is wrong with its lines
+abbrev pub Ends : (Fault → Type 0) → Option (List Entry) → Option (List Entry) → Line → Device → Device → Device → Device → Device → Device → ℕ → Type 0
+Ends Fails before after (Shell log) unread rest old new err told status = EndsShell Fails before after log unread rest old new err told status
+Ends Fails before after line unread rest old new err told status = Finishes Fails before after line unread rest old new err told status
 
 -- what clap says of words is a mistake, no help and no version
 abbrev pub IsMistake : ErrorKind → Type 0
@@ -59,10 +62,6 @@ abbrev pub IsExecuted : (Fault → Type 0) → Option (List Entry) → Option (L
 IsExecuted Fails before after words unread rest old new err told status =
     ((line : Line) × AskFor words line × Ends Fails before after line unread rest old new err told status)
     ⊎ ((after ≡ before) × (rest ≡ unread) × IsRefused words old new err told status)
-
--- what is said of a word that is no text
-abbrev pub no_text : List ℕ
-no_text = codes "error: a word of the command line is not UTF-8" ++ 10 ∷ []
 
 -- a process has no words: one is no text, which is a mistake, or memory ran out; that was told, and nothing was read or printed
 abbrev pub IsWordless : Wordless → Device → Device → Device → Device → Device → Device → ℕ → Type 0

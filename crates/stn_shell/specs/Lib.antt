@@ -1,9 +1,12 @@
+pub mod Asking
 pub mod Carried
 pub mod Commands
 pub mod Connections
+pub mod Coprocess
 pub mod Endings
 pub mod Executed
 pub mod Joining
+pub mod Lines
 pub mod Loosening
 pub mod Peer
 pub mod Printing

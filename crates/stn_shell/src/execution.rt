@@ -6,7 +6,7 @@ ghost use Rattle.stn_device.specs.Counted.{failure_count};
 ghost use Rattle.stn_command.specs.Words.{and_then};
 ghost use Rattle.stn_shell.specs.Carried.{RunsScript, StopsScript, ServesAt, StopsAt, SendsFrom, StopsFrom, Answers, StopsCommand, IsCarriedOut, Stops, StopsListening};
 ghost use Rattle.stn_shell.specs.Connections.{Serves, StopsServing, Sends, StopsSending};
-ghost use Rattle.stn_shell.specs.Executed.{IsSaid, IsExecuted, SaysText, Ends};
+ghost use Rattle.stn_shell.specs.Executed.{IsSaid, IsExecuted, SaysText, Ends, Finishes};
 ghost use Rattle.stn_shell.specs.Peer.{strangers};
 ghost use Rattle.stn_shell.specs.Printing.{Device, device_of, Prints};
 ghost use Rattle.stn_store.specs.Store.{IsLack};
@@ -16,6 +16,7 @@ ghost use Rattle.std.specs.Duration.{as_nanos};
 
 use crate::commands::answer;
 use crate::connections::serve_each;
+use crate::coprocess::run_shell;
 use crate::partners::send_to_partner;
 use crate::peer::{Service, connect};
 use crate::printing::{print, print_now, tell, tell_failure, tell_fault};
@@ -81,7 +82,11 @@ pub fn execute_over<
 {
     let alloc = rt.alloc();
     match line(alloc, words) {
-        Ok(line) => end(rt, store, line, reader, out, err),
+        Ok(line) => {
+            let status = end(rt, store, &line, reader, out, err);
+            drop(line);
+            status
+        }
         Err(LineFault::Words(error)) => tell_words(alloc, &error, out, err),
         Err(LineFault::Memory) => {
             tell_fault(Fault::Memory, err);
@@ -100,7 +105,7 @@ fn end<
 >(
     rt: &T,
     store: &mut S,
-    line: Line<'_>,
+    line: &Line<'_>,
     reader: &mut Counted<R>,
     out: &mut Counted<W>,
     err: &mut Counted<E>,
@@ -108,14 +113,41 @@ fn end<
     requires reader_counts { failure_count reader.old < 2 ^ 64 - 1 }
     requires out_counts { failure_count out.old < 2 ^ 64 - 1 }
     ensures status { result ≤ 1 }
-    ensures ended { Ends S.fails (S.entries store.old) (S.entries store.new) line.entry
+    ensures ended { Ends S.fails (S.entries store.old) (S.entries store.new) line.now
         (device_of R.remaining reader.old) (device_of R.remaining reader.new)
         (device_of W.contents out.old) (device_of W.contents out.new)
         (device_of E.contents err.old) (device_of E.contents err.new) result }
 {
-    let done = do_line(rt, store, &line, reader, out);
-    drop(line);
-    match done {
+    match line {
+        Line::Shell { log } => run_shell(rt.alloc(), store, log, reader, out, err),
+        _ => finish(rt, store, line, reader, out, err),
+    }
+}
+
+// Does a command line that is no shell to its end.
+fn finish<
+    S: Store,
+    T: AllocGlobal + Clock + Net<Listener = TcpListener, Stream = TcpStream>,
+    R: Read,
+    W: Write,
+    E: Write,
+>(
+    rt: &T,
+    store: &mut S,
+    line: &Line<'_>,
+    reader: &mut Counted<R>,
+    out: &mut Counted<W>,
+    err: &mut Counted<E>,
+) -> u8
+    requires reader_counts { failure_count reader.old < 2 ^ 64 - 1 }
+    requires out_counts { failure_count out.old < 2 ^ 64 - 1 }
+    ensures status { result ≤ 1 }
+    ensures ended { Finishes S.fails (S.entries store.old) (S.entries store.new) line.now
+        (device_of R.remaining reader.old) (device_of R.remaining reader.new)
+        (device_of W.contents out.old) (device_of W.contents out.new)
+        (device_of E.contents err.old) (device_of E.contents err.new) result }
+{
+    match do_line(rt, store, line, reader, out) {
         Ok(status) => status,
         Err(failure) => {
             tell_failure(rt.alloc(), failure, out, err);

@@ -3,6 +3,7 @@
 
 pub use commands::answer;
 pub use connections::{send_on, serve_on};
+pub use coprocess::run_shell;
 pub use execution::{execute, execute_over};
 pub use laws::one_cause;
 pub use peer::{Peer, Service, Talk, connect, meet};
@@ -11,10 +12,12 @@ pub use process::{Wordless, program, run_process};
 mod changes;
 mod commands;
 mod connections;
+mod coprocess;
 mod execution;
 mod explaining;
 mod joining;
 mod laws;
+mod lines;
 mod loosening;
 mod partners;
 mod peer;

@@ -18,8 +18,8 @@ use std::{env, io};
 use stn_device::Counted;
 use stn_refusal::Fault;
 
-/// What is said of a word that is no text.
-const NO_TEXT: &[u8] = b"error: a word of the command line is not UTF-8\n";
+//// What is said of a word that is no text.
+pub const NO_TEXT: &[u8] = b"error: a word of the command line is not UTF-8\n";
 
 /// Why a process has no words.
 #[derive(Clone, Copy)]

@@ -9,5 +9,5 @@ rows-preserved c = joins _ _ _ _ _ _ c.rows.invariant c.in_ok-command.ensures.is
 pub returns : goal.returns
 unfolding spec.stn
 returns c =
-    let all : c.rows.row-index ≡ 24 = omega arith in
+    let all : c.rows.row-index ≡ 25 = omega arith in
     record { app = rw all at c.rows.invariant.is }

@@ -4,8 +4,8 @@ use Rattle.stn_shell.proofs.execution.execute_over.Goals as goal
 
 pub returns-in-Ok : goal.returns-in-Ok
 returns-in-Ok g c = record {
-  status = omega (arith, c.end.ensures.status);
-  executed = inl (c.in-Ok.line, (c.in-Ok.ensures.taken, c.in-Ok.ensures.found), c.end.ensures.ended);
+  status = omega (arith, c.end-status.ensures.status);
+  executed = inl (c.in-Ok.line, (c.in-Ok.ensures.taken, c.in-Ok.ensures.found), c.end-status.ensures.ended);
 }
 
 pub returns-in-Err-Words : goal.returns-in-Err-Words

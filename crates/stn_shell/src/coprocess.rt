@@ -1,0 +1,336 @@
+//! A shell on a log.
+
+ghost use Rattle.std.specs.Prelude.{◌≡◌, ◌≢◌, ◌⊎◌, ◌+◌, ◌<◌, ◌≤◌, ◌++◌, [], ◌∷◌, ℕ, List, true, false, map, IsUtf8, IfOk, IfErr, OnOk, OnErr, MatchResult, IfSome, IsNone};
+ghost use Rattle.std.specs.List.{AllByRecursion};
+ghost use Rattle.stn_device.specs.Bytes.{most_bytes};
+ghost use Rattle.stn_text.specs.Bytes.{line_feed};
+ghost use Rattle.stn_text.specs.Lines.{words_of};
+ghost use Rattle.stn_exec.specs.Script.{is_skipped as skips};
+ghost use Rattle.stn_site.specs.Held.{Held};
+ghost use Rattle.stn_store.specs.Store.{Opens, IsUnopened, IsLack};
+ghost use Rattle.stn_refusal.specs.Printed.{refusal_text};
+ghost use Rattle.stn_shell.specs.Coprocess as spec;
+ghost use Rattle.stn_shell.specs.Coprocess.{standing, line_words, IsCommand, AsksFor, IsUndoneCommand, IsUndoneLine, EndsTurn, StopsAtLine, DoesAll, StopsShell, EndsShell};
+ghost use Rattle.stn_shell.specs.Endings.{Succeeds};
+ghost use Rattle.stn_shell.specs.Printing.{device_of, Prints, IsUnprinted, TellsText};
+
+use crate::commands::answer;
+use crate::lines::read_line;
+use crate::printing::{print_now, tell, tell_failure};
+use crate::process::NO_TEXT;
+use itoa::Buffer;
+use std::alloc::Global;
+use std::io::{Read, Write};
+use stn_device::{Counted, MOST_BYTES};
+use stn_line::{Line, LineFault, SiteLog, line, said};
+use stn_refusal::{Code, Failure, Fault, Refusal};
+use stn_store::Store;
+use stn_text::first_word;
+use stn_time::Memory;
+
+/// How far a shell came: how many lines it read, how many bytes it may still read, and whether a line was refused.
+#[derive(Clone, Copy)]
+pub struct Progress {
+    lines: u32,
+    room: usize,
+    refused: bool,
+}
+
+/// Does each line of an input as the command on a log, and answers it, before it reads more. Its status is 0 where no line was refused
+/// and no device failed, else 1.
+pub fn run_shell<S: Store, R: Read, W: Write, E: Write>(
+    alloc: Global,
+    store: &mut S,
+    log: &SiteLog<'_>,
+    reader: &mut Counted<R>,
+    out: &mut Counted<W>,
+    err: &mut Counted<E>,
+) -> u8
+    ensures status { result ≤ 1 }
+    ensures ended { EndsShell S.fails (S.entries store.old) (S.entries store.new) log.now
+        (device_of R.remaining reader.old) (device_of R.remaining reader.new)
+        (device_of W.contents out.old) (device_of W.contents out.new)
+        (device_of E.contents err.old) (device_of E.contents err.new) result }
+{
+    let mut progress = Progress {
+        lines: 0,
+        room: MOST_BYTES,
+        refused: false,
+    };
+    match do_lines(alloc, store, log, &mut progress, reader, out, err) {
+        Ok(()) => u8::from(progress.refused),
+        Err(failure) => {
+            tell_failure(alloc, failure, out, err);
+            1
+        }
+    }
+}
+
+// Does the lines of an input.
+fn do_lines<S: Store, R: Read, W: Write, E: Write>(
+    alloc: Global,
+    store: &mut S,
+    log: &SiteLog<'_>,
+    progress: &mut Progress,
+    reader: &mut Counted<R>,
+    out: &mut Counted<W>,
+    err: &mut Counted<E>,
+) -> Result<(), Failure>
+    requires { progress.old.lines + progress.old.room ≤ most_bytes }
+    ensures { MatchResult result
+        (λ _. DoesAll S.fails log.now
+        (standing progress.old (S.entries store.old) (device_of R.remaining reader.old) (device_of W.contents out.old) (device_of E.contents err.old))
+        (standing progress.new (S.entries store.new) (device_of R.remaining reader.new) (device_of W.contents out.new) (device_of E.contents err.new)))
+        (StopsShell S.fails log.now
+        (standing progress.old (S.entries store.old) (device_of R.remaining reader.old) (device_of W.contents out.old) (device_of E.contents err.old))
+        (standing progress.new (S.entries store.new) (device_of R.remaining reader.new) (device_of W.contents out.new) (device_of E.contents err.new))) }
+{
+    find_log(store, log)?;
+    'turns: loop {
+        let more = turn(alloc, store, log, progress, reader, out, err)?;
+        if !more {
+            return Ok(());
+        }
+    }
+}
+
+// Finds that a log can be opened.
+fn find_log<S: Store>(store: &S, log: &SiteLog<'_>) -> Result<(), Failure>
+    ensures { MatchResult result (λ _. (found : Held) × Opens (S.entries store.now) log.now.name.now log.now.site found)
+        (λ failure. IsUnopened (S.entries store.now) log.now.name.now failure ⊎ IsLack S.fails failure) }
+{
+    let plan = store.load(log.name, log.site)?;
+    drop(plan);
+    Ok(())
+}
+
+// Reads a line, does it, and answers it. Whether there was one.
+fn turn<S: Store, R: Read, W: Write, E: Write>(
+    alloc: Global,
+    store: &mut S,
+    log: &SiteLog<'_>,
+    progress: &mut Progress,
+    reader: &mut Counted<R>,
+    out: &mut Counted<W>,
+    err: &mut Counted<E>,
+) -> Result<bool, Failure>
+    requires { progress.old.lines + progress.old.room ≤ most_bytes }
+    ensures room { IfOk result (λ more. (more ≡ true → progress.new.room < progress.old.room)
+        × (progress.new.lines + progress.new.room ≤ most_bytes)) }
+    ensures turned { MatchResult result
+        (λ more. EndsTurn S.fails log.now more
+        (standing progress.old (S.entries store.old) (device_of R.remaining reader.old) (device_of W.contents out.old) (device_of E.contents err.old))
+        (standing progress.new (S.entries store.new) (device_of R.remaining reader.new) (device_of W.contents out.new) (device_of E.contents err.new)))
+        (StopsAtLine S.fails log.now
+        (standing progress.old (S.entries store.old) (device_of R.remaining reader.old) (device_of W.contents out.old) (device_of E.contents err.old))
+        (standing progress.new (S.entries store.new) (device_of R.remaining reader.new) (device_of W.contents out.new) (device_of E.contents err.new))) }
+{
+    match read_line(alloc, reader, &mut progress.room)? {
+        Some(text) => {
+            progress.lines += 1;
+            let refused = do_line(alloc, store, log, progress.lines, &text, out, err);
+            drop(text);
+            progress.refused |= refused?;
+            Ok(true)
+        }
+        None => Ok(false),
+    }
+}
+
+// Does a line of this number, and answers it; but not a comment, nor a line without words. Whether it is refused.
+fn do_line<S: Store, W: Write, E: Write>(
+    alloc: Global,
+    store: &mut S,
+    log: &SiteLog<'_>,
+    number: u32,
+    text: &[u8],
+    out: &mut Counted<W>,
+    err: &mut Counted<E>,
+) -> Result<bool, Failure>
+    ensures done { IfOk result (λ refused. spec.Does S.fails log.now number text.now (S.entries store.old) (S.entries store.new)
+        (device_of W.contents out.old) (device_of W.contents out.new)
+        (device_of E.contents err.old) (device_of E.contents err.new) refused) }
+    ensures stopped { IfErr result (spec.StopsDoing S.fails log.now number text.now (S.entries store.old) (S.entries store.new)
+        (device_of W.contents out.old) (device_of W.contents out.new)
+        (device_of E.contents err.old) (device_of E.contents err.new)) }
+{
+    if is_skipped(text) {
+        return Ok(false);
+    }
+    match reply(alloc, store, log, number, text, err) {
+        Ok(answered) => {
+            print_answer(answered, out)?;
+            Ok(false)
+        }
+        Err(Failure::Refused(refusal)) => {
+            print_answer(text_of(alloc, refusal)?, out)?;
+            Ok(true)
+        }
+        Err(failed) => Err(failed),
+    }
+}
+
+// Whether a line has no words, or is a comment.
+fn is_skipped(text: &[u8]) -> bool
+    ensures { result ≡ skips (words_of text.now) }
+{
+    match first_word(text) {
+        Some((word, _)) => word.first() == Some(&b'#'),
+        None => true,
+    }
+}
+
+// Prints an answer, and the empty line that ends it, which is seen before more is read.
+fn print_answer<W: Write>(answered: Vec<u8>, out: &mut Counted<W>) -> Result<(), Failure>
+    ensures printed { OnOk result (Prints (device_of W.contents out.old) (device_of W.contents out.new) (answered.items ++ line_feed ∷ [])) }
+    ensures failed { IfErr result (IsUnprinted (device_of W.contents out.old) (device_of W.contents out.new) (answered.items ++ line_feed ∷ [])) }
+{
+    let mut text = answered;
+    text.push(b'\n')?;
+    print_now(&text, out)
+}
+
+// The line of a refusal.
+fn text_of(alloc: Global, refusal: Refusal) -> Result<Vec<u8>, Memory>
+    ensures { IfOk result (λ text. text.items ≡ refusal_text refusal) }
+{
+    let mut text = Vec::new(alloc);
+    refusal.print(&mut text)?;
+    Ok(text)
+}
+
+// Does the command that a line asks for: its answer. Where it asks for none, why is told.
+fn reply<S: Store, E: Write>(
+    alloc: Global,
+    store: &mut S,
+    log: &SiteLog<'_>,
+    number: u32,
+    text: &[u8],
+    err: &mut Counted<E>,
+) -> Result<Vec<u8>, Failure>
+    ensures { MatchResult result
+        (λ answered. (line : Line) × AsksFor log.now (words_of text.now) line × Succeeds (S.entries store.old) (S.entries store.new) line answered.items
+        × (device_of E.contents err.new ≡ device_of E.contents err.old))
+        (λ failure. (S.entries store.new ≡ S.entries store.old) × IsUndoneLine S.fails log.now number (words_of text.now) (S.entries store.old)
+        (device_of E.contents err.old) (device_of E.contents err.new) failure) }
+{
+    let mut digits = Buffer::new();
+    let site = digits.format(log.site.number());
+    match read_words(alloc, log.name, site, text)? {
+        Some(words) => reply_to(alloc, store, number, &words, err),
+        None => {
+            tell(NO_TEXT, err);
+            Err(Failure::refused_at(Code::Line, number))
+        }
+    }
+}
+
+// The words of the command line that a line asks for; none where one is no text. LOG and SITE stand behind the command, but for the
+// one of no log.
+fn read_words<'a>(
+    alloc: Global,
+    log: &'a str,
+    site: &'a str,
+    text: &'a [u8],
+) -> Result<Option<Vec<&'a str>>, Memory>
+    ensures words { IfOk result (λ read. IfSome read (λ words. map (λ word. word.now) words.items
+        ≡ line_words log.entry.now site.entry.now (words_of text.entry.now))) }
+    ensures texts { IfOk result (λ read. IfSome read (λ _. AllByRecursion IsUtf8 (words_of text.entry.now))) }
+    ensures none { IfOk result (λ read. IsNone read → ¬ (AllByRecursion IsUtf8 (words_of text.entry.now))) }
+{
+    let mut words = Vec::new(alloc);
+    words.push("stn")?;
+    match first_word(text) {
+        Some((word, rest)) => match str::from_utf8(word) {
+            Ok(command) => {
+                words.push(command)?;
+                if command != "explain" {
+                    words.push(log)?;
+                    words.push(site)?;
+                }
+                read_further(words, rest)
+            }
+            Err(_) => Ok(None),
+        },
+        None => Ok(Some(words)),
+    }
+}
+
+// Words, and those of a text behind them; none where one of the text is no text.
+fn read_further<'a>(before: Vec<&'a str>, text: &'a [u8]) -> Result<Option<Vec<&'a str>>, Memory>
+    ensures words { IfOk result (λ read. IfSome read (λ words. map (λ word. word.now) words.items
+        ≡ map (λ word. word.now) before.entry.items ++ words_of text.entry.now)) }
+    ensures texts { IfOk result (λ read. IfSome read (λ _. AllByRecursion IsUtf8 (words_of text.entry.now))) }
+    ensures none { IfOk result (λ read. IsNone read → ¬ (AllByRecursion IsUtf8 (words_of text.entry.now))) }
+{
+    let mut words = before;
+    let mut rest = text;
+    'words: while let Some((word, behind)) = first_word(rest) {
+        match str::from_utf8(word) {
+            Ok(word) => words.push(word)?,
+            Err(_) => return Ok(None),
+        }
+        rest = behind;
+    }
+    Ok(Some(words))
+}
+
+// Does the command that the words of a command line ask for.
+fn reply_to<S: Store, E: Write>(
+    alloc: Global,
+    store: &mut S,
+    number: u32,
+    words: &[&str],
+    err: &mut Counted<E>,
+) -> Result<Vec<u8>, Failure>
+    ensures { MatchResult result
+        (λ answered. (line : Line) × IsCommand (map (λ word. word.now) words.now) line × Succeeds (S.entries store.old) (S.entries store.new) line answered.items
+        × (device_of E.contents err.new ≡ device_of E.contents err.old))
+        (λ failure. (S.entries store.new ≡ S.entries store.old) × IsUndoneCommand S.fails number (map (λ word. word.now) words.now) (S.entries store.old)
+        (device_of E.contents err.old) (device_of E.contents err.new) failure) }
+{
+    match line(alloc, words) {
+        Ok(asked) => {
+            if is_of_shell(&asked) {
+                answer(alloc, store, &asked)
+            } else {
+                Err(Failure::refused_at(Code::Line, number))
+            }
+        }
+        Err(LineFault::Words(error)) => {
+            tell_mistake(alloc, &error, err)?;
+            Err(Failure::refused_at(Code::Line, number))
+        }
+        Err(LineFault::Memory) => Err(Failure::Failed(Fault::Memory)),
+    }
+}
+
+// Whether a command line is a command on a log that is there, or an explanation.
+fn is_of_shell(line: &Line<'_>) -> bool
+    ensures { result ≡ spec.is_of_shell line.now }
+{
+    match line {
+        Line::Run
+        | Line::Bare { .. }
+        | Line::Init { .. }
+        | Line::Loosen { .. }
+        | Line::Shell { .. }
+        | Line::Serve { .. }
+        | Line::Send { .. } => false,
+        _ => true,
+    }
+}
+
+// Prints what clap says of words, as far as the standard error takes it.
+fn tell_mistake<E: Write>(
+    alloc: Global,
+    error: &clap::Error,
+    err: &mut Counted<E>,
+) -> Result<(), Memory>
+    ensures told { OnOk result ((text : List ℕ) × (text ≢ []) × TellsText text (device_of E.contents err.old) (device_of E.contents err.new)) }
+    ensures kept { OnErr result (device_of E.contents err.new ≡ device_of E.contents err.old) }
+{
+    let text = said(alloc, error)?;
+    tell(text.as_bytes(), err);
+    Ok(())
+}

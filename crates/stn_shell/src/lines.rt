@@ -1,0 +1,50 @@
+//! The lines of an input, each read when it is asked for.
+
+ghost use Rattle.std.specs.Prelude.{◌≡◌, ◌≢◌, [], Err, IsErrOf, IsNone, IfSome};
+ghost use Rattle.stn_device.specs.Counted.{counted_device, CountsFailure, KeepsCount};
+ghost use Rattle.stn_device.specs.declared.whole.ReadFault.TheVariants.{Read};
+ghost use Rattle.stn_shell.specs.Lines.{IsLineRead};
+
+use std::alloc::Global;
+use std::io::Read;
+use stn_device::{Counted, ReadFault};
+use stn_text::LINE_FEED;
+
+/// The next line of an input, without its LF, which the last may lack; none at the end. No byte behind the line is read: the reader
+/// is asked for one after the other. `room` says how many bytes may still be read; one more shows that the input is too long.
+pub fn read_line<R: Read>(
+    alloc: Global,
+    reader: &mut Counted<R>,
+    room: &mut usize,
+) -> Result<Option<Vec<u8>>, ReadFault>
+    ensures line { IsLineRead (R.remaining (counted_device reader.old)) (R.remaining (counted_device reader.new)) room.old room.new result }
+    ensures read { IsErrOf result ReadFault.Read → CountsFailure reader.old reader.new }
+    ensures kept { result ≢ Err ReadFault.Read → KeepsCount reader.old reader.new }
+{
+    let mut line = Vec::new(alloc);
+    let mut byte = [0u8; 1];
+    'bytes: loop {
+        match reader.read(&mut byte) {
+            Ok(0) => return Ok(last_line(line)),
+            Ok(_) => {
+                if *room == 0 {
+                    return Err(ReadFault::Bound);
+                }
+                *room -= 1;
+                if byte[0] == LINE_FEED {
+                    return Ok(Some(line));
+                }
+                line.extend_from_slice(&byte)?;
+            }
+            Err(_) => return Err(ReadFault::Read),
+        }
+    }
+}
+
+// What stands in front of the end of an input: a last line, if it has a byte.
+fn last_line(line: Vec<u8>) -> Option<Vec<u8>>
+    ensures none { IsNone result → line.items ≡ [] }
+    ensures some { IfSome result (λ last. (last.items ≡ line.items) × (line.items ≢ [])) }
+{
+    if line.is_empty() { None } else { Some(line) }
+}
