@@ -20,103 +20,107 @@ use std::rc::Rc;
 use stn_lift::Base;
 use stn_net::Bound;
 use stn_records::Site;
-use stn_replica::Replica;
+use stn_site::SitePlan;
 use stn_time::Memory;
 
-/// The replica of a site over a bare plan with as many steps, which holds the records of the loosened plan and nothing else: they are
+/// A site's copy of a bare plan with as many steps, which holds the records of the loosened plan and nothing else: they are
 /// plain, with the site's ids from counter 1 on.
 ///
 /// Refused in this order: `Full`, where more than 4,096 records would be made; `Memory`.
-pub fn loosened_replica<A: Allocator + Copy>(
+pub fn loosened_site_plan<A: Allocator + Copy>(
     alloc: A,
     site: Site,
     base: &Base<A>,
     tolerance: Tolerance,
-) -> Result<Replica<A>, LoosenFault>
-    ensures site { IfOk result (λ replica. replica.site ≡ site) }
-    ensures source { IfOk result (λ replica. replica.source ≡ bare (steps_of base.now)) }
-    ensures records { IfOk result (λ replica. HoldsSome (AreFewLoosened base.now tolerance) site replica.state) }
+) -> Result<SitePlan<A>, LoosenFault>
+    ensures site { IfOk result (λ plan. plan.site ≡ site) }
+    ensures source { IfOk result (λ plan. plan.source ≡ bare (steps_of base.now)) }
+    ensures records { IfOk result (λ plan. HoldsSome (AreFewLoosened base.now tolerance) site plan.state) }
 
     // Each schedule of the plan is one of the loosened plan.
-    ensures looser { IfOk result (λ replica. (time : ℕ → ℤ) → IsSchedule (base_bounds base.now) time → IsSchedule (all_bounds replica.source replica.state) time) }
+    ensures looser { IfOk result (λ plan. (time : ℕ → ℤ) → IsSchedule (base_bounds base.now) time → IsSchedule (all_bounds plan.source plan.state) time) }
 
     // The loosened plan implies each order of the plan.
-    ensures implied { IfOk result (λ replica. All (Imply (all_bounds replica.source replica.state)) (orders_of base.now)) }
+    ensures implied { IfOk result (λ plan. All (Imply (all_bounds plan.source plan.state)) (orders_of base.now)) }
 
     // In every schedule of the loosened plan events that interfere keep the plan's order.
-    ensures ordered { IfOk result (λ replica. KeepsOrder (events_of base.now) (interfere_in_plan base.now) (planned_of base.now) (all_bounds replica.source replica.state)) }
+    ensures ordered { IfOk result (λ plan. KeepsOrder (events_of base.now) (interfere_in_plan base.now) (planned_of base.now) (all_bounds plan.source plan.state)) }
     ensures fault { IfErr result (IsCause base.now tolerance) }
 {
     let records = loosened(alloc, base, tolerance)?;
-    let mut replica = bare_replica(alloc, site, base.steps())?;
-    add_all(&mut replica, &records)?;
-    Ok(replica)
+    let mut plan = bare_site_plan(alloc, site, base.steps())?;
+    add_all(&mut plan, &records)?;
+    Ok(plan)
 }
 
 /// The same with the records of the robust plan, under which it completes however long its steps take.
 ///
 /// Refused in this order: `Full`, where the loosened plan would have more than 4,096 records; `NotRobust`, where no times of the starts
 /// are a promise; `Full`, where the robust plan would have more than 4,096 records; `Memory`.
-pub fn robust_replica<A: Allocator + Copy>(
+pub fn robust_site_plan<A: Allocator + Copy>(
     alloc: A,
     site: Site,
     base: &Base<A>,
     tolerance: Tolerance,
-) -> Result<Replica<A>, RobustFault>
-    ensures site { IfOk result (λ replica. replica.site ≡ site) }
-    ensures source { IfOk result (λ replica. replica.source ≡ bare (steps_of base.now)) }
-    ensures records { IfOk result (λ replica. HoldsSome (AreFewRobust base.now tolerance) site replica.state) }
+) -> Result<SitePlan<A>, RobustFault>
+    ensures site { IfOk result (λ plan. plan.site ≡ site) }
+    ensures source { IfOk result (λ plan. plan.source ≡ bare (steps_of base.now)) }
+    ensures records { IfOk result (λ plan. HoldsSome (AreFewRobust base.now tolerance) site plan.state) }
 
     // There is a promise.
     ensures promise { OnOk result (HasPromise base.now tolerance) }
 
     // Each schedule of what the site holds is a promise of it: its starts hold, however long the steps take.
-    ensures promised { IfOk result (λ replica. (time : ℕ → ℤ) → IsSchedule (all_bounds replica.source replica.state) time
-        → Promises (loose_durations tolerance base.now) (all_bounds replica.source replica.state) time) }
+    ensures promised { IfOk result (λ plan. (time : ℕ → ℤ) → IsSchedule (all_bounds plan.source plan.state) time
+        → Promises (loose_durations tolerance base.now) (all_bounds plan.source plan.state) time) }
 
     // Each schedule of what the site holds is one of the loosened plan.
-    ensures loosened { IfOk result (λ replica. (time : ℕ → ℤ) → IsSchedule (all_bounds replica.source replica.state) time
+    ensures loosened { IfOk result (λ plan. (time : ℕ → ℤ) → IsSchedule (all_bounds plan.source plan.state) time
         → IsSchedule (loose_bounds base.now tolerance) time) }
     ensures fault { IfErr result (IsRobustCause base.now tolerance) }
 {
     let records = robust(alloc, base, tolerance)?;
-    let mut replica = bare_replica(alloc, site, base.steps())?;
-    add_all(&mut replica, &records)?;
-    Ok(replica)
+    let mut plan = bare_site_plan(alloc, site, base.steps())?;
+    add_all(&mut plan, &records)?;
+    Ok(plan)
 }
 
-// The replica of a site over a bare plan, which holds nothing yet.
-fn bare_replica<A: Allocator + Copy>(alloc: A, site: Site, steps: u16) -> Result<Replica<A>, Memory>
-    ensures site { IfOk result (λ replica. replica.site ≡ site) }
-    ensures source { IfOk result (λ replica. replica.source ≡ bare steps) }
-    ensures empty { IfOk result (λ replica. replica.state ≡ no_content) }
+// A site's copy of a bare plan, which holds nothing yet.
+fn bare_site_plan<A: Allocator + Copy>(
+    alloc: A,
+    site: Site,
+    steps: u16,
+) -> Result<SitePlan<A>, Memory>
+    ensures site { IfOk result (λ plan. plan.site ≡ site) }
+    ensures source { IfOk result (λ plan. plan.source ≡ bare steps) }
+    ensures empty { IfOk result (λ plan. plan.state ≡ no_content) }
 {
     match Base::bare(alloc, steps) {
-        Ok(base) => Replica::new(alloc, site, Rc::new(alloc, base)?),
+        Ok(base) => Ok(SitePlan::new(alloc, site, Rc::new(alloc, base)?)),
         Err(_) => Err(Memory),
     }
 }
 
-// Adds bounds to a replica that holds nothing yet.
-fn add_all<A: Allocator + Copy>(replica: &mut Replica<A>, bounds: &[Bound]) -> Result<(), Memory>
-    requires { replica.old.state ≡ no_content }
-    ensures site { OnOk result (replica.new.site ≡ replica.old.site) }
-    ensures source { OnOk result (replica.new.source ≡ replica.old.source) }
-    ensures holds { OnOk result (Holds replica.old.site bounds.now replica.new.state) }
+// Adds bounds to a site's copy of a plan that holds nothing yet.
+fn add_all<A: Allocator + Copy>(plan: &mut SitePlan<A>, bounds: &[Bound]) -> Result<(), Memory>
+    requires { plan.old.state ≡ no_content }
+    ensures site { OnOk result (plan.new.site ≡ plan.old.site) }
+    ensures source { OnOk result (plan.new.source ≡ plan.old.source) }
+    ensures holds { OnOk result (Holds plan.old.site bounds.now plan.new.state) }
 {
     for bound in bounds {
-        add_bound(replica, *bound)?;
+        add_bound(plan, *bound)?;
     }
     Ok(())
 }
 
 // Adds a bound.
-fn add_bound<A: Allocator + Copy>(replica: &mut Replica<A>, bound: Bound) -> Result<(), Memory>
-    ensures site { OnOk result (replica.new.site ≡ replica.old.site) }
-    ensures source { OnOk result (replica.new.source ≡ replica.old.source) }
-    ensures added { OnOk result (replica.new.state ≡ with_record replica.old.state (next_id replica.old) (plain bound)) }
+fn add_bound<A: Allocator + Copy>(plan: &mut SitePlan<A>, bound: Bound) -> Result<(), Memory>
+    ensures site { OnOk result (plan.new.site ≡ plan.old.site) }
+    ensures source { OnOk result (plan.new.source ≡ plan.old.source) }
+    ensures added { OnOk result (plan.new.state ≡ with_record plan.old.state (next_id plan.old) (plain bound)) }
 {
-    match replica.add(bound.from(), bound.to(), bound.lo(), bound.hi()) {
+    match plan.add(bound.from(), bound.to(), bound.lo(), bound.hi()) {
         Ok(_) => Ok(()),
         Err(_) => Err(Memory),
     }

@@ -1,7 +1,7 @@
 //! Plans for real clocks: a planner's plan with durations that give, over a bare plan with as many steps.
 #![tactic(auto)]
 
-pub use adding::{loosened_replica, robust_replica};
+pub use adding::{loosened_site_plan, robust_site_plan};
 pub use fault::{LoosenFault, RobustFault};
 pub use laws::{
     ends_have_their_durations, one_loosened_plan, one_robust_plan,

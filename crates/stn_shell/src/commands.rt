@@ -127,9 +127,9 @@ fn make_loose<S: Store>(
         (IsUnmade (IsLooseningRefusal robust (plan_source source.now) tolerance) S.fails
         (S.entries store.old) (S.entries store.new) log.now.name.now) }
 {
-    let replica = loosen(alloc, log.site, source, tolerance, robust)?;
-    let text = save_made(alloc, store, log.name, replica.plan());
-    drop(replica);
+    let plan = loosen(alloc, log.site, source, tolerance, robust)?;
+    let text = save_made(alloc, store, log.name, &plan);
+    drop(plan);
     text
 }
 

@@ -7,13 +7,13 @@ use Rattle.stn_loosen.proofs.NumberedStates.{holds_none, holds_more}
 use Rattle.stn_loosen.proofs.adding.add_all.Goals as goal
 
 pub loop-bound-init : goal.loop-bound-init
-loop-bound-init g c = record { site = refl; source = refl; holds = holds_none c.args.replica.now.site c.args.replica.now.state c.requires }
+loop-bound-init g c = record { site = refl; source = refl; holds = holds_none c.args.plan.now.site c.args.plan.now.state c.requires }
 
 pub loop-bound-preserved : goal.loop-bound-preserved
 loop-bound-preserved g c =
-    let site = c.args.replica.now.site in
-    let old = c.loop-bound.replica in
-    let new = c.add_bound.new.replica in
+    let site = c.args.plan.now.site in
+    let old = c.loop-bound.plan in
+    let new = c.add_bound.new.plan in
     let place = c.loop-bound.bound-index in
     let bound = c.bound-item.result in
     let bounds = c.args.bounds.now in

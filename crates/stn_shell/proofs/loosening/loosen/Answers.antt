@@ -11,8 +11,8 @@ pub returns : goal.returns
 returns g c =
     let made : c.in_ok-base.base ≡ plan_source c.args.source.now = c.in_ok-base.ensures.made in
     let slack = c.args.tolerance in
-    let result = c.replica_of-replica.result in
-    let ensures = c.replica_of-replica.ensures in
+    let result = c.copy_of-plan.result in
+    let ensures = c.copy_of-plan.ensures in
     record {
       source = subst (λ (s : PlanSource). IfOk result (λ (held : Held). held.source ≡ bare (steps_of s))) made ensures.source;
       loosened = subst (λ (s : PlanSource). IfOk result (λ (held : Held). HoldsLoosened c.args.robust s slack c.args.site held.state)) made ensures.loosened;

@@ -7,7 +7,7 @@ use Rattle.stn_lift.specs.PlanSource.{bare, steps_of, events_of, interfere_in_pl
 use Rattle.stn_site.specs.Bounds.{all_bounds}
 use Rattle.stn_loosen.specs.Loosened.{bounds_with, orders_of, Imply}
 use Rattle.stn_loosen.proofs.NumberedStates.{all_are}
-use Rattle.stn_loosen.proofs.adding.loosened_replica.Goals as goal
+use Rattle.stn_loosen.proofs.adding.loosened_site_plan.Goals as goal
 
 pub returns-in_err-records : goal.returns-in_err-records
 returns-in_err-records g c =
@@ -22,9 +22,9 @@ returns-in_err-records g c =
       fault = rw (returned.1, returned.2) c.in_err-records.ensures.fault;
     }
 
-pub returns-in_err-replica : goal.returns-in_err-replica
-returns-in_err-replica g c =
-    let returned = err_from_is_err_and c.from_residual-in_err-replica.result c.from_residual-in_err-replica.ensures.1 in
+pub returns-in_err-plan : goal.returns-in_err-plan
+returns-in_err-plan g c =
+    let returned = err_from_is_err_and c.from_residual-in_err-plan.result c.from_residual-in_err-plan.ensures.1 in
     record {
       site = rw returned.1 tt;
       source = rw returned.1 tt;
@@ -51,15 +51,15 @@ returns-in_err-add_all g c =
 pub returns : goal.returns
 returns g c =
     let base = c.args.base.now in
-    let new = c.add_all.new.replica in
+    let new = c.add_all.new.plan in
     let bounds = c.in_ok-records.records.items in
     let holds = rw c.deref.ensures.value at c.in_ok-add_all.ensures.holds in
-    let source : new.source ≡ bare (steps_of base) = c.in_ok-add_all.ensures.source ∙ c.in_ok-replica.ensures.source ∙ ap bare c.steps.ensures.value in
-    let same : all_bounds new.source new.state ≡ bounds_with base bounds = ap (λ s. all_bounds s new.state) source ∙ all_are base c.in_ok-replica.replica.site bounds new.state holds in
+    let source : new.source ≡ bare (steps_of base) = c.in_ok-add_all.ensures.source ∙ c.in_ok-plan.ensures.source ∙ ap bare c.steps.ensures.value in
+    let same : all_bounds new.source new.state ≡ bounds_with base bounds = ap (λ s. all_bounds s new.state) source ∙ all_are base c.in_ok-plan.plan.site bounds new.state holds in
     record {
-      site = c.in_ok-add_all.ensures.site ∙ c.in_ok-replica.ensures.site;
+      site = c.in_ok-add_all.ensures.site ∙ c.in_ok-plan.ensures.site;
       source = source;
-      records = (bounds, (c.in_ok-records.ensures.records, c.in_ok-records.ensures.few), rw c.in_ok-replica.ensures.site at holds);
+      records = (bounds, (c.in_ok-records.ensures.records, c.in_ok-records.ensures.few), rw c.in_ok-plan.ensures.site at holds);
       looser = λ time schedule. subst (λ (l : List Difference). IsSchedule l time) (sym same) (c.in_ok-records.ensures.looser time schedule);
       implied = subst (λ (l : List Difference). All (Imply l) (orders_of base)) (sym same) c.in_ok-records.ensures.implied;
       ordered = subst (KeepsOrder (events_of base) (interfere_in_plan base) (planned_of base)) (sym same) c.in_ok-records.ensures.ordered;

@@ -7,13 +7,13 @@ use Rattle.stn_site.specs.Held.{Held}
 use Rattle.stn_loosen.specs.Loosened.{loose_durations}
 use Rattle.stn_loosen.specs.Promise.{Promises}
 use Rattle.stn_loosen.specs.Robust.{loose_bounds}
-use Rattle.stn_shell.proofs.loosening.replica_of.Goals as goal
+use Rattle.stn_shell.proofs.loosening.copy_of.Goals as goal
 
-pub returns-in_ok-robust_replica-clause-loosened : goal.returns-in_ok-robust_replica-clause-loosened
-returns-in_ok-robust_replica-clause-loosened g c =
-    let held : Held = c.in_ok-robust_replica.field-0 in
+pub returns-in_ok-robust_site_plan-clause-loosened : goal.returns-in_ok-robust_site_plan-clause-loosened
+returns-in_ok-robust_site_plan-clause-loosened g c =
+    let held : Held = c.in_ok-robust_site_plan.field-0 in
     let base = c.args.base.now in
-    let is = c.in_ok-robust_replica.ensures in
+    let is = c.in_ok-robust_site_plan.ensures in
     rw c.if-robust.true (record {
       base = c.requires;
       records = is.records;
@@ -24,11 +24,11 @@ returns-in_ok-robust_replica-clause-loosened g c =
           is.source is.loosened;
     })
 
-pub returns-in_ok-loosened_replica-clause-loosened : goal.returns-in_ok-loosened_replica-clause-loosened
-returns-in_ok-loosened_replica-clause-loosened g c =
-    let held : Held = c.in_ok-loosened_replica.field-0 in
+pub returns-in_ok-loosened_site_plan-clause-loosened : goal.returns-in_ok-loosened_site_plan-clause-loosened
+returns-in_ok-loosened_site_plan-clause-loosened g c =
+    let held : Held = c.in_ok-loosened_site_plan.field-0 in
     let base = c.args.base.now in
-    let is = c.in_ok-loosened_replica.ensures in
+    let is = c.in_ok-loosened_site_plan.ensures in
     rw c.if-robust.false (record {
       base = c.requires;
       records = is.records;
