@@ -1,4 +1,4 @@
-mod Events
+pub mod Events
 mod Ids
 pub mod Foresight
 pub mod OneSaid

@@ -4,3 +4,4 @@ pub mod Outputs
 pub mod Runs
 pub mod Scripts
 pub mod Reports
+mod ReadBack

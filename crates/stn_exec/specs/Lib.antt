@@ -9,3 +9,4 @@ pub mod Heading
 pub mod Output
 pub mod Running
 pub mod Reports
+pub mod ReadBack

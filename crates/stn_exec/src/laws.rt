@@ -1,12 +1,21 @@
-ghost use Rattle.std.specs.Prelude.{◌≡◌, ◌↔◌, ℕ, ℤ, List, Ok};
+ghost use Rattle.std.specs.Prelude.{◌≡◌, ◌↔◌, ℕ, ℤ, List, Some, Ok};
+ghost use Rattle.std.specs.FinMap as map;
 ghost use Rattle.stn_text.specs.Lines.{lines_of};
-ghost use Rattle.stn_records.specs.Content.{Item, HasItem};
+ghost use Rattle.stn_net.specs.Difference.{Difference};
+ghost use Rattle.stn_records.specs.Content.{Content, Item, HasItem};
+ghost use Rattle.stn_records.specs.Id.{SiteCounter, IsId};
+ghost use Rattle.stn_records.specs.declared.record.Record.{Record};
+ghost use Rattle.stn_site.specs.Lines.{line};
+ghost use Rattle.stn_site.specs.declared.names.BoundName.{BoundName};
 ghost use Rattle.stn_site.specs.Report.{IsReport};
 ghost use Rattle.stn_questions.specs.declared.asked.Question.{Question};
 ghost use Rattle.stn_questions.specs.Answer.{AsksOfPlan, IsAnswer};
+ghost use Rattle.stn_questions.specs.Bounds.{named_line};
 ghost use Rattle.stn_questions.specs.Ready.{IsReadyText};
+ghost use Rattle.stn_questions.specs.Records.{record_line};
 ghost use Rattle.stn_world.specs.World.{opening_world, content_at};
 ghost use Rattle.stn_world.specs.Steps.{run, TookAt, TookSameAt, TookSameItemsAt};
+ghost use Rattle.stn_exec.specs.ReadBack.{IsName, IsReadable, ReadsBack};
 ghost use Rattle.stn_exec.specs.Output.{IsOutput, CountsRefusals};
 ghost use Rattle.stn_exec.specs.Script.{Start, heading_of, last_line, script_outcome};
 ghost use Rattle.stn_exec.specs.Reports.{steps_of_lines, LineOf, first_world, steps_before, world_at, ReportsSite, AsksSite, AsksReady, PrintsAt};
@@ -89,3 +98,12 @@ pub fn ready_is_answered()
     one_ready_text();
     counts_same();
 }
+
+/// The law that the lines of `bounds` and `records` are read as they say: an addition of the second to the fifth word of one, as
+/// its events and sides, adds its bound. It does nothing.
+pub fn listed_bounds_read_back()
+    ensures bounds { (name : BoundName) (bound : Difference) → IsName name → IsReadable bound
+        → (text : List ℕ) × (named_line name bound ≡ line text) × ReadsBack text bound }
+    ensures records { (state : Content) (id : SiteCounter) (one : Record) → map.get state.additions id ≡ Some one → IsId id → IsReadable one.bound
+        → (text : List ℕ) × (record_line state id ≡ line text) × ReadsBack text one.bound }
+{}

@@ -1,7 +1,9 @@
 //! Scripts: a text of commands, run from a reader to a writer.
 #![tactic(auto)]
 
-pub use laws::{one_script, questions_are_answered, ready_is_answered, scripts_are_runs};
+pub use laws::{
+    listed_bounds_read_back, one_script, questions_are_answered, ready_is_answered, scripts_are_runs,
+};
 pub use script::{Ran, RunFault, run};
 pub use stn_device::{Counted, MOST_BYTES};
 pub use stn_world::World;
