@@ -1,3 +1,4 @@
+use crate::commands::{Asked, loosen_refused, say_refused};
 use crate::conflict::cycle_refused;
 use crate::readers::{domain_refused, plan_refused};
 use crate::records::{Change, Reading, change_refused, print_refused, read_refused, take_refused};
@@ -45,6 +46,8 @@ pub enum Call {
     Take,
     Reading(Reading),
     Print,
+    Say(Asked, bool),
+    Loosen,
 }
 
 // What the call answers while the request of this number is refused. The allocator refuses nothing yet: each of these functions
@@ -58,6 +61,8 @@ fn answer_with(heap: &Refusing<Global>, number: u64, call: Call) -> Answer {
         Call::Take => take_refused(heap, number),
         Call::Reading(reading) => read_refused(heap, number, reading),
         Call::Print => print_refused(heap, number),
+        Call::Say(asked, conflict) => say_refused(heap, number, asked, conflict),
+        Call::Loosen => loosen_refused(heap, number),
     }
 }
 

@@ -1,0 +1,188 @@
+// What commands on logs ask, and the loosened plan, while a request for memory is refused. The commands themselves ask the global
+// allocator.
+use crate::sweep::{Answer, Call, judged, requests};
+use std::alloc::Global;
+use std::process::Abort;
+use std::rc::Rc;
+use stn_command::{Query, say};
+use stn_lift::{Base, Source};
+use stn_loosen::{LoosenFault, Tolerance, loosened_replica};
+use stn_net::Event;
+use stn_questions::Question;
+use stn_records::Site;
+use stn_refusal::{Failure, Fault};
+use stn_refusing::Refusing;
+use stn_replica::Replica;
+use stn_site::SitePlan;
+use stn_time::Ms;
+
+// Adds that the end comes five seconds after the start and, for a conflict, within four seconds.
+fn add_bounds(plan: &mut SitePlan<&Refusing<Global>>, conflict: bool) -> bool {
+    let start = Event::new(1).unwrap();
+    let end = Event::new(2).unwrap();
+    let none = Ms::new(0).unwrap();
+    let four = Ms::new(4_000).unwrap();
+    let five = Ms::new(5_000).unwrap();
+    let added = plan.add(start, end, five, five).is_ok();
+    let tight = !conflict || plan.add(Event::origin(), end, none, four).is_ok();
+    added && tight
+}
+
+fn new_plan(heap: &Refusing<Global>) -> Option<SitePlan<&Refusing<Global>>> {
+    let base = Base::bare(heap, 1).ok()?;
+    let base = Rc::new(heap, base).ok()?;
+    Some(SitePlan::new(heap, Site::new(1).unwrap(), base))
+}
+
+/// What is asked of a plan.
+#[derive(Clone, Copy)]
+pub enum Asked {
+    Report,
+    Repairs,
+    Draw,
+    Next,
+    Ready,
+    Rehearse,
+    Records,
+    Steps,
+    Bounds,
+    Why,
+}
+
+fn say_asked<'a>(
+    plan: SitePlan<&'a Refusing<Global>>,
+    asked: Asked,
+) -> Result<Vec<u8, &'a Refusing<Global>>, Failure> {
+    let now = Ms::new(0).unwrap();
+    match asked {
+        Asked::Report => say(plan, &Query::Report),
+        Asked::Repairs => say(plan, &Query::Repairs),
+        Asked::Draw => say(plan, &Query::Draw),
+        Asked::Next => say(plan, &Query::Next(now)),
+        Asked::Ready => say(plan, &Query::Ready(now)),
+        Asked::Rehearse => say(plan, &Query::Rehearse(now)),
+        Asked::Records => say(plan, &Query::Ask(Question::Records)),
+        Asked::Steps => say(plan, &Query::Ask(Question::Steps)),
+        Asked::Bounds => say(plan, &Query::Ask(Question::Bounds)),
+        Asked::Why => say(plan, &Query::Ask(Question::Why(Event::new(2).unwrap()))),
+    }
+}
+
+// What is said of a plan with these bounds, while the request of this number is refused.
+fn said<'a>(
+    heap: &'a Refusing<Global>,
+    number: u64,
+    asked: Asked,
+    conflict: bool,
+) -> Option<Result<Vec<u8, &'a Refusing<Global>>, Failure>> {
+    let mut plan = new_plan(heap)?;
+    if !add_bounds(&mut plan, conflict) {
+        drop(plan);
+        return None;
+    }
+    heap.refuse(number);
+    Some(say_asked(plan, asked))
+}
+
+// Whether this is said, or memory was lacking.
+fn is_said(
+    said: Option<Result<Vec<u8, &Refusing<Global>>, Failure>>,
+    wanted: &[u8],
+) -> (bool, bool) {
+    match said {
+        Some(Ok(text)) => {
+            let right = text.as_slice() == wanted;
+            drop(text);
+            (right, false)
+        }
+        Some(Err(failure)) => (false, failure == Failure::Failed(Fault::Memory)),
+        None => (false, false),
+    }
+}
+
+/// What is said to a query of a plan while a request is refused: the same as with memory, where the request only asked in advance
+/// for more room.
+pub fn say_refused(heap: &Refusing<Global>, number: u64, asked: Asked, conflict: bool) -> Answer {
+    match said(heap, 0, asked, conflict) {
+        Some(Ok(wanted)) => {
+            let (right, memory) = is_said(said(heap, number, asked, conflict), &wanted);
+            drop(wanted);
+            judged(heap, right, memory || right)
+        }
+        _ => Answer::Wrong,
+    }
+}
+
+// Has each request for memory of a query refused in turn, of a plan that has a schedule and of one that has none.
+fn sweep(rt: &impl Abort, alloc: Global, asked: Asked) {
+    for conflict in [false, true] {
+        assert!(rt; requests(rt, alloc, Call::Say(asked, conflict)) > 1);
+    }
+}
+
+#[test]
+fn queries(rt: HostRuntime) {
+    for asked in [
+        Asked::Report,
+        Asked::Repairs,
+        Asked::Draw,
+        Asked::Next,
+        Asked::Ready,
+        Asked::Rehearse,
+    ] {
+        sweep(&rt, rt.alloc(), asked);
+    }
+}
+
+#[test]
+fn questions(rt: HostRuntime) {
+    for asked in [Asked::Records, Asked::Steps, Asked::Bounds, Asked::Why] {
+        sweep(&rt, rt.alloc(), asked);
+    }
+}
+
+const DOMAIN: &[u8] =
+    b"(define (domain d) (:durative-action a :parameters () :duration (= ?duration 5) :effect (at end (p))))";
+
+const PLAN: &[u8] = b"0: (a)\n6: (a)\n";
+
+// The plan whose steps are loosened.
+fn loose_base(heap: &Refusing<Global>) -> Option<Base<&Refusing<Global>>> {
+    let domain = DOMAIN.to_vec(heap).ok()?;
+    let plan = PLAN.to_vec(heap).ok()?;
+    let source = Source::Files(domain, plan);
+    let base = Base::from_source(heap, &source);
+    drop(source);
+    base.ok()
+}
+
+// Whether a replica holds the durations of both steps, or memory was lacking.
+fn is_loosened(loosened: Result<Replica<&Refusing<Global>>, LoosenFault>) -> (bool, bool) {
+    match loosened {
+        Ok(replica) => {
+            let right = replica.records().known() == 2;
+            drop(replica);
+            (right, false)
+        }
+        Err(fault) => (false, fault == LoosenFault::Memory),
+    }
+}
+
+/// What a plan is loosened to while a request is refused.
+pub fn loosen_refused(heap: &Refusing<Global>, number: u64) -> Answer {
+    let Some(base) = loose_base(heap) else {
+        return Answer::Wrong;
+    };
+    let second = Ms::new(1_000).unwrap();
+    let tolerance = Tolerance::new(second, second).unwrap();
+    heap.refuse(number);
+    let loosened = loosened_replica(heap, Site::new(1).unwrap(), &base, tolerance);
+    drop(base);
+    let (right, memory) = is_loosened(loosened);
+    judged(heap, right, memory)
+}
+
+#[test]
+fn loosened_plans(rt: HostRuntime) {
+    assert!(rt; requests(&rt, rt.alloc(), Call::Loosen) > 3);
+}
