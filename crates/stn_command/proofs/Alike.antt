@@ -1,16 +1,12 @@
 -- What is said, and why not, depends on the plan and on what the site holds alone.
 use Rattle.std.proofs.Common.{◌≡◌, ◌⊎◌, inl, inr, ℕ, ℤ, pos, Bool, List, ◌∷◌, Vec, Option, Some, None, Result, Ok, Err, MatchResult, refl, ap, subst, ◌∙◌}
-use Rattle.stn_refusal.specs.declared.failure.Failure.{Failure}
-use Rattle.stn_refusal.specs.Refusals.{out_of_memory}
+use Rattle.stn_refusal.specs.{declared.failure.Failure.Failure, Refusals.out_of_memory}
 use Rattle.stn_net.specs.Schedule.{times_of}
-use Rattle.stn_windows.specs.Failures.{rehearse_failure}
-use Rattle.stn_windows.specs.declared.answers.RehearseFault.{RehearseFault}
+use Rattle.stn_windows.specs.{Failures.rehearse_failure, declared.answers.RehearseFault.RehearseFault}
 use Rattle.stn_windows.specs.declared.answers.RehearseFault.TheVariants as rehearse_fault
 use Rattle.stn_lift.specs.PlanSource.{PlanSource}
 use Rattle.stn_records.specs.Content.{Content}
-use Rattle.stn_site.specs.Held.{Held, holding_state}
-use Rattle.stn_site.specs.Names.{broken_bound}
-use Rattle.stn_site.specs.Report.{IsReport, done_events}
+use Rattle.stn_site.specs.{Held.Held, Held.holding_state, Names.broken_bound, Report.IsReport, Report.done_events}
 use Rattle.stn_questions.specs.Answer.{IsAnswer}
 use Rattle.stn_picture.specs.Picture.{IsPicture}
 use Rattle.stn_repair.specs.Text.{IsRepairsText}

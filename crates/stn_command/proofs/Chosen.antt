@@ -3,13 +3,10 @@ use Rattle.std.proofs.Common.{◌≡◌, ℕ, ◌+◌, ◌*◌, ◌≤◌, true,
 use Rattle.std.proofs.lemmas.Bool.Decides.{nat_tests}
 use Rattle.std.proofs.lemmas.List.FromFn.{fill_by_all, get_or-map-range_with_len, length-map-range_with_len}
 use Rattle.std.specs.List.{list_any}
-use Rattle.stn_lift.specs.BaseBounds.{step_of}
-use Rattle.stn_lift.specs.PlanSource.{PlanSource, steps_of, events_of}
+use Rattle.stn_lift.specs.{BaseBounds.step_of, PlanSource.PlanSource, PlanSource.steps_of, PlanSource.events_of}
 use Rattle.stn_records.specs.Content.{Content}
 use Rattle.stn_site.specs.Report.{is_done}
-use Rattle.stn_replica.specs.declared.own.StepRange.{StepRange}
-use Rattle.stn_replica.specs.declared.own.Own.{Own}
-use Rattle.stn_replica.specs.Own.{has, is_end, is_own, done_or_others}
+use Rattle.stn_replica.specs.{declared.own.StepRange.StepRange, declared.own.Own.Own, Own.has, Own.is_end, Own.is_own, Own.done_or_others}
 use Rattle.stn_command.specs.Dispatch.{is_chosen, done_or_not_chosen}
 
 -- each event is one of all steps'

@@ -1,23 +1,17 @@
 -- What comes next and what is ready has one text, and a rehearsal has one, or one cause that refuses it.
 use Rattle.std.proofs.Common.{◌≡◌, ◌⊎◌, inl, inr, ℕ, ◌≤◌, ℤ, Bool, List, ◌++◌, append_assoc, length, take, take_all, Result, Ok, Err, OnOk, refl, sym, ap, subst, ◌∙◌}
-use Rattle.std.specs.Prelude.{if◌then◌else◌, is_ok}
-use Rattle.std.specs.List.{flat_map}
-use Rattle.stn_net.specs.Difference.{Difference}
-use Rattle.stn_net.specs.Schedule.{HasSchedule}
-use Rattle.stn_windows.specs.declared.answers.Next.{Next}
+use Rattle.std.specs.{Prelude.if◌then◌else◌, Prelude.is_ok, List.flat_map, Prelude.codes}
+use Rattle.stn_net.specs.{Difference.Difference, Schedule.HasSchedule}
+use Rattle.stn_windows.specs.{declared.answers.Next.Next, declared.answers.RehearseFault.RehearseFault, Rehearsal.IsRehearseFault}
 use Rattle.stn_windows.specs.declared.answers.Next.TheVariants.{Run, AllDone, Overdue}
-use Rattle.stn_windows.specs.declared.answers.RehearseFault.{RehearseFault}
 use Rattle.stn_windows.specs.declared.answers.RehearseFault.TheVariants as rehearse_fault
-use Rattle.stn_windows.specs.Rehearsal.{IsRehearseFault}
 use Rattle.stn_windows.proofs.OneAnswer.{one_next, one_rehearsal}
 use Rattle.stn_lift.specs.PlanSource.{PlanSource}
 use Rattle.stn_records.specs.Content.{Content}
-use Rattle.stn_site.specs.Bounds.{all_bounds}
-use Rattle.stn_site.specs.Lines.{line}
+use Rattle.stn_site.specs.{Bounds.all_bounds, Lines.line}
 use Rattle.stn_questions.specs.Ready.{ready_line, IsReadyAnswer, IsReadyWith}
 use Rattle.stn_questions.proofs.OneReady.{one_list}
 use Rattle.stn_command.specs.Dispatch.{next_text, IsNextText, run_line, runs_text, SaysRuns, IsRestText, IsOverdueAt, IsRefusedRehearsal}
-use Rattle.std.specs.Prelude.{codes}
 
 pub one_next_text : (source : PlanSource) (state : Content) (done : List Bool) (now : ℤ) (text other : List ℕ) → IsNextText source state done now text → IsNextText source state done now other → text ≡ other
 one_next_text source state done now text other (inl p) (inl q) =

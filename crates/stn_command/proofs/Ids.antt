@@ -1,15 +1,7 @@
 -- The id that a word names.
 use Rattle.std.proofs.Common.{◌≡◌, ◌≢◌, ℕ, suc, ◌+◌, ◌<◌, ◌^◌, Bool, true, false, ◌==◌, ◌&&◌, cond, List, [], ◌∷◌, ◌++◌, length, take, drop, Some, None, decimal, refl, sym, ap, ◌∙◌, arith, append_assoc, bytes_eq}
-use Rattle.std.specs.Prelude.{nat_le}
-use Rattle.std.specs.List.{before_first, after_first, position_or_len}
-use Rattle.std.specs.Char.{is_ascii_digit}
-use Rattle.std.specs.Str.{all_ascii_digits}
-use Rattle.std.specs.Str.Parse.{digits_value}
-use Rattle.std.proofs.lemmas.Slice.Eq.{bytes_eq-Decides}
-use Rattle.std.proofs.lemmas.Bool.Decides.{nat_tests}
-use Rattle.std.proofs.lemmas.Bool.{and_parts, and_from}
-use Rattle.std.proofs.lemmas.Fmt.{digits_decimal, digits_value-decimal}
-use Rattle.std.proofs.lemmas.List.{take_at, drop_at, length_push}
+use Rattle.std.specs.{Prelude.nat_le, List.before_first, List.after_first, List.position_or_len, Char.is_ascii_digit, Str.all_ascii_digits, Str.Parse.digits_value}
+use Rattle.std.proofs.{lemmas.Slice.Eq.bytes_eq-Decides, lemmas.Bool.Decides.nat_tests, lemmas.Bool.and_parts, lemmas.Bool.and_from, lemmas.Fmt.digits_decimal, lemmas.Fmt.digits_value-decimal, lemmas.List.take_at, lemmas.List.drop_at, lemmas.List.length_push}
 use Rattle.stn_text.proofs.Digits.{own}
 use Rattle.stn_records.specs.Id.{SiteCounter, IsId, id_text}
 use Rattle.stn_command.specs.Words.{around_dot, is_id, id_of}

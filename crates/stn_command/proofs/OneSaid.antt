@@ -1,23 +1,17 @@
 -- A query has one answer, and one cause that refuses it or none.
 use Rattle.std.proofs.Common.{◌≡◌, ◌⊎◌, true≢false, inl, inr, ℕ, ℤ, Bool, true, false, List, Option, Some, None, sym, ap, ◌∙◌}
 use Rattle.stn_refusal.specs.declared.code.Code.TheVariants as code
-use Rattle.stn_refusal.specs.declared.failure.Failure.{Failure}
-use Rattle.stn_refusal.specs.Refusals.{refused_of}
+use Rattle.stn_refusal.specs.{declared.failure.Failure.Failure, Refusals.refused_of}
 use Rattle.stn_lift.specs.PlanSource.{PlanSource}
 use Rattle.stn_records.specs.Content.{Content}
-use Rattle.stn_site.specs.Held.{Held}
-use Rattle.stn_site.specs.Bounds.{all_bounds}
-use Rattle.stn_site.specs.Report.{IsReport, done_events}
-use Rattle.stn_questions.specs.declared.asked.Question.{Question}
-use Rattle.stn_questions.specs.Answer.{IsAnswer}
+use Rattle.stn_site.specs.{Held.Held, Bounds.all_bounds, Report.IsReport, Report.done_events}
+use Rattle.stn_questions.specs.{declared.asked.Question.Question, Answer.IsAnswer}
 use Rattle.stn_picture.specs.Picture.{IsPicture}
 use Rattle.stn_repair.specs.Text.{IsRepairsText}
 use Rattle.stn_command.specs.Query.{Query, report, check, next, ready, rehearse, among, ask, repairs, draw, IsSaid, IsForeseen, IsRehearseRefusal, IsOutlookRefusal, IsQuestionRefusal, IsQueryRefusal}
-use Rattle.stn_command.specs.Dispatch.{done_or_not_chosen}
-use Rattle.stn_command.specs.declared.queries.Outlook.{Outlook}
+use Rattle.stn_command.specs.{Dispatch.done_or_not_chosen, declared.queries.Outlook.Outlook}
 use Rattle.stn_command.specs.declared.queries.Outlook.TheVariants as outlook
-use Rattle.stn_net.specs.Failures.{bound_failure}
-use Rattle.stn_net.specs.declared.bound.BoundFault.TheVariants.{NoEvent}
+use Rattle.stn_net.specs.{Failures.bound_failure, declared.bound.BoundFault.TheVariants.NoEvent}
 use Rattle.stn_command.proofs.Foresight.{one_next_text, one_ready_text, one_rest_text, one_overdue}
 
 one_foreseen : (outlook : Outlook) (held : Held) (done : List Bool) (now : ℤ) (text other : List ℕ) → IsForeseen outlook held done now text → IsForeseen outlook held done now other → text ≡ other

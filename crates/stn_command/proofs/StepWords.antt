@@ -5,8 +5,7 @@ use Rattle.std.proofs.lemmas.List.{at_drop_more, at_drop_all}
 use Rattle.stn_guard.specs.declared.owners.OwnedSteps.{OwnedSteps}
 use Rattle.stn_replica.specs.declared.own.StepRange.{StepRange}
 use Rattle.stn_refusal.specs.declared.failure.Failure.{Failure}
-use Rattle.stn_command.specs.Steps.{range_read, ranges_read, owned_after, owned_too}
-use Rattle.stn_command.specs.Words.{and_then}
+use Rattle.stn_command.specs.{Steps.range_read, Steps.ranges_read, Steps.owned_after, Steps.owned_too, Words.and_then}
 
 abbrev pub ranges_said : List (Bor (List ℕ)) → Result (List StepRange) Failure
 ranges_said words = ranges_read (map (λ word. word.now) words)

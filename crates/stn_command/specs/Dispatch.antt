@@ -2,23 +2,14 @@
 use Rattle.std.specs.Prelude.{◌≡◌, ◌⊎◌, ℕ, ◌+◌, ℤ, Bool, true, not, ◌&&◌, ◌||◌, List, ◌++◌, map, codes, Option, Some, None}
 use Rattle.std.specs.List.{flat_map, list_any, range_with_len}
 use Rattle.stn_time.specs.Text.{printed}
-use Rattle.stn_net.specs.Event.{event_text}
-use Rattle.stn_net.specs.Schedule.{HasSchedule}
-use Rattle.stn_windows.specs.declared.answers.Next.{Next}
+use Rattle.stn_net.specs.{Event.event_text, Schedule.HasSchedule}
+use Rattle.stn_windows.specs.{declared.answers.Next.Next, Dispatch.IsNext, Rehearsal.IsRehearseFault}
 use Rattle.stn_windows.specs.declared.answers.Next.TheVariants.{Run, AllDone, Overdue}
 use Rattle.stn_windows.specs.declared.answers.RehearseFault.TheVariants as rehearse_fault
-use Rattle.stn_windows.specs.Dispatch.{IsNext}
-use Rattle.stn_windows.specs.Rehearsal.{IsRehearseFault}
 use Rattle.stn_lift.specs.PlanSource.{PlanSource, events_of}
 use Rattle.stn_records.specs.Content.{Content}
-use Rattle.stn_site.specs.declared.names.BoundName.{BoundName}
-use Rattle.stn_site.specs.Bounds.{all_bounds}
-use Rattle.stn_site.specs.Lines.{line}
-use Rattle.stn_site.specs.Names.{name_text}
-use Rattle.stn_site.specs.Report.{is_done}
-use Rattle.stn_replica.specs.Dispatch.{IsRestWith}
-use Rattle.stn_replica.specs.Own.{has, is_end}
-use Rattle.stn_replica.specs.declared.own.StepRange.{StepRange}
+use Rattle.stn_site.specs.{declared.names.BoundName.BoundName, Bounds.all_bounds, Lines.line, Names.name_text, Report.is_done}
+use Rattle.stn_replica.specs.{Dispatch.IsRestWith, Own.has, Own.is_end, declared.own.StepRange.StepRange}
 
 -- events of a plan: those of the steps of some ranges, or of all steps where none are given; or the starts of these steps alone
 pub record Choice : Type 0 where

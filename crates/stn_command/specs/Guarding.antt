@@ -3,13 +3,9 @@ use Rattle.std.specs.Prelude.{◌≡◌, ◌⊎◌, ℕ, List, codes, Option, So
 use Rattle.std.specs.List.{flat_map}
 use Rattle.stn_net.specs.Schedule.{HasSchedule}
 use Rattle.stn_records.specs.Id.{SiteCounter}
-use Rattle.stn_site.specs.Bounds.{all_bounds}
-use Rattle.stn_site.specs.Held.{Held}
-use Rattle.stn_site.specs.Lines.{line}
-use Rattle.stn_guard.specs.Adding.{AddsGuard}
-use Rattle.stn_guard.specs.declared.owners.OwnedSteps.{OwnedSteps}
-use Rattle.stn_command.specs.Change.{made_text}
-use Rattle.stn_command.specs.declared.changes.Made.TheVariants.{Added}
+use Rattle.stn_site.specs.{Bounds.all_bounds, Held.Held, Lines.line}
+use Rattle.stn_guard.specs.{Adding.AddsGuard, declared.owners.OwnedSteps.OwnedSteps}
+use Rattle.stn_command.specs.{Change.made_text, declared.changes.Made.TheVariants.Added}
 
 abbrev pub added_line : SiteCounter → List ℕ
 added_line id = made_text (Added id)

@@ -2,28 +2,18 @@
 use Rattle.std.specs.Prelude.{◌≡◌, ◌≢◌, ◌⊎◌, ℕ, ℤ, pos, Bool, true, false, List, [], ◌∷◌, length, Vec, Option, Some, None, option_map, unwrap_or, Result, Ok, Err}
 use Rattle.std.specs.List.{list_all}
 use Rattle.stn_refusal.specs.declared.code.Code.TheVariants as code
-use Rattle.stn_refusal.specs.declared.failure.Failure.{Failure}
-use Rattle.stn_refusal.specs.Refusals.{refused_of, out_of_memory}
-use Rattle.stn_net.specs.Failures.{bound_failure}
-use Rattle.stn_net.specs.Schedule.{times_of}
+use Rattle.stn_refusal.specs.{declared.failure.Failure.Failure, Refusals.refused_of, Refusals.out_of_memory}
+use Rattle.stn_net.specs.{Failures.bound_failure, Schedule.times_of}
 use Rattle.stn_net.specs.declared.bound.BoundFault.TheVariants.{NoEvent, SameEvent}
 use Rattle.stn_lift.specs.PlanSource.{events_of, steps_of}
-use Rattle.stn_site.specs.Bounds.{all_bounds}
-use Rattle.stn_site.specs.Held.{Held}
-use Rattle.stn_site.specs.Names.{broken_bound}
-use Rattle.stn_site.specs.Report.{IsReport, done_events}
+use Rattle.stn_site.specs.{Bounds.all_bounds, Held.Held, Names.broken_bound, Report.IsReport, Report.done_events}
 use Rattle.stn_replica.specs.Own.{is_within}
-use Rattle.stn_questions.specs.declared.asked.Question.{Question}
-use Rattle.stn_questions.specs.Answer.{IsAnswer, AsksOfNoEvent, AsksOfSameEvent}
-use Rattle.stn_questions.specs.Ready.{IsReadyWith}
+use Rattle.stn_questions.specs.{declared.asked.Question.Question, Answer.IsAnswer, Answer.AsksOfNoEvent, Answer.AsksOfSameEvent, Ready.IsReadyWith}
 use Rattle.stn_picture.specs.Picture.{IsPicture}
 use Rattle.stn_repair.specs.Text.{IsRepairsText}
-use Rattle.stn_command.specs.declared.queries.Query.{Query as QueryOfCode}
+use Rattle.stn_command.specs.{declared.queries.Query.Query as QueryOfCode, declared.queries.Choice.Choice as ChoiceOfCode, declared.queries.Outlook.Outlook, Words.no_such_word}
 use Rattle.stn_command.specs.declared.queries.Query.TheVariants as asked
-use Rattle.stn_command.specs.declared.queries.Choice.{Choice as ChoiceOfCode}
-use Rattle.stn_command.specs.declared.queries.Outlook.{Outlook}
 use Rattle.stn_command.specs.declared.queries.Outlook.TheVariants as outlook
-use Rattle.stn_command.specs.Words.{no_such_word}
 use Rattle.stn_command.specs.Dispatch.{Choice, done_or_not_chosen, check_text, IsNextText, IsRestText, IsOverdueAt, IsRefusedRehearsal}
 
 -- the report; whether times for the events from 1 on are a schedule; what comes next from a time on; which events may run from a time

@@ -1,14 +1,10 @@
 use Rattle.std.proofs.Common.{◌≡◌, ℕ, ◌<◌, List, [], ◌∷◌, ◌++◌, length, take, sym, subst, ap, refl, ◌∙◌, arith}
-use Rattle.std.specs.Prelude.{ℤ, pos, ◌+ℤ◌}
-use Rattle.std.specs.List.{AllByRecursion}
-use Rattle.std.proofs.lemmas.Int.{ints}
-use Rattle.std.proofs.lemmas.List.{length-take}
+use Rattle.std.specs.{Prelude.ℤ, Prelude.pos, Prelude.◌+ℤ◌, List.AllByRecursion}
+use Rattle.std.proofs.{lemmas.Int.ints, lemmas.List.length-take}
 use Rattle.stn_net.specs.Difference.{Difference}
 use Rattle.stn_matrix.specs.Tightest.{IsTightest}
 use Rattle.stn_matrix.proofs.Tightest.{tightest_unique}
-use Rattle.stn_conflict.specs.declared.links.Link.{Link}
-use Rattle.stn_conflict.specs.Arcs.{Arc, arc_of, IsChain, weight_of}
-use Rattle.stn_conflict.specs.Named.{IsTight, IsTightChain, IsFirstStep, IsWay}
+use Rattle.stn_conflict.specs.{declared.links.Link.Link, Arcs.Arc, Arcs.arc_of, Arcs.IsChain, Arcs.weight_of, Named.IsTight, Named.IsTightChain, Named.IsFirstStep, Named.IsWay}
 use Rattle.stn_conflict.proofs.Tightness.{arc_before}
 
 -- one chain and a link that begins where it ends are a chain

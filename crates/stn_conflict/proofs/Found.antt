@@ -2,10 +2,8 @@
 use Rattle.std.proofs.Common.{ℕ, List, Option, Some, None, Result, Ok, Err, sym, refl}
 use Rattle.std.specs.Prelude.{◌↔◌, IfOk, IfSome, IsNone, MatchOption}
 use Rattle.std.proofs.lemmas.Bool.{false≢true}
-use Rattle.stn_net.specs.Difference.{Difference}
-use Rattle.stn_net.specs.Schedule.{HasSchedule}
-use Rattle.stn_conflict.specs.declared.links.Cycle.{Cycle}
-use Rattle.stn_conflict.specs.Search.{IsCycleOf}
+use Rattle.stn_net.specs.{Difference.Difference, Schedule.HasSchedule}
+use Rattle.stn_conflict.specs.{declared.links.Cycle.Cycle, Search.IsCycleOf}
 
 module _ {X E : Type 0} where
   found_some : (result : Result (Option X) E) (P : Type 0) (Q R : X → Type 0) → IfOk result (λ found. MatchOption found P Q) → ((x : X) → Q x → R x)

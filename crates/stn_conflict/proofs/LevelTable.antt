@@ -1,21 +1,12 @@
 use Rattle.std.proofs.Common.{◌≡◌, ◌⊎◌, inl, inr, ℕ, zero, suc, ◌+◌, ◌<◌, ◌≤◌, Option, Some, None, List, [], ◌∷◌, ◌++◌, length, sym, subst, ap, refl, ◌∙◌, arith}
 use Rattle.std.specs.Prelude.{ℤ, pos, neg_ℤ, ◌+ℤ◌, ◌-ℤ◌, ◌≤ℤ◌, ◌<ℤ◌}
 use Rattle.std.specs.List.{AllByRecursion}
-use Rattle.std.proofs.lemmas.Int.{ints, by_lt_z}
-use Rattle.std.proofs.lemmas.List.{length_push}
-use Rattle.std.proofs.lemmas.List.Elements.{All-from_get_or}
+use Rattle.std.proofs.{lemmas.Int.ints, lemmas.Int.by_lt_z, lemmas.List.length_push, lemmas.List.Elements.All-from_get_or}
 use Rattle.stn_time.proofs.Each.{each_pushed}
-use Rattle.stn_net.specs.Difference.{Difference}
-use Rattle.stn_net.specs.Schedule.{Meets, IsSchedule, times_of}
+use Rattle.stn_net.specs.{Difference.Difference, Schedule.Meets, Schedule.IsSchedule, Schedule.times_of}
 use Rattle.stn_matrix.specs.Tightest.{IsTightest}
-use Rattle.stn_conflict.specs.declared.links.Link.{Link}
-use Rattle.stn_conflict.specs.declared.links.Side.{Side}
-use Rattle.stn_conflict.specs.declared.links.Side.TheVariants.{Upper, Lower}
-use Rattle.stn_conflict.specs.Arcs.{arc, arc_of, bound_at, IsChain}
-use Rattle.stn_conflict.specs.Relaxation.{AreDistances}
-use Rattle.stn_conflict.specs.Named.{IsTight, IsTightChain, IsLevel}
-use Rattle.stn_conflict.proofs.Tightness.{tightest_self, link_reaches, link_among}
-use Rattle.stn_conflict.proofs.Chains.{chain-push}
+use Rattle.stn_conflict.specs.{declared.links.Link.Link, declared.links.Side.Side, declared.links.Side.TheVariants.Upper, declared.links.Side.TheVariants.Lower, Arcs.arc, Arcs.arc_of, Arcs.bound_at, Arcs.IsChain, Relaxation.AreDistances, Named.IsTight, Named.IsTightChain, Named.IsLevel}
+use Rattle.stn_conflict.proofs.{Tightness.tightest_self, Tightness.link_reaches, Tightness.link_among, Chains.chain-push}
 
 pub some_or_none : (o : Option ℕ) → (o ≡ None) ⊎ ((k : ℕ) × (o ≡ Some k))
 some_or_none None = inl refl

@@ -1,21 +1,14 @@
 use Rattle.std.proofs.Common.{◌≡◌, ◌≢◌, inl, inr, ℕ, Bool, true, false, ◌+◌, ◌<◌, ◌≤◌, List, ◌++◌, length, set, take, replicate, sym, subst, ap, refl, ◌∙◌, arith}
 use Rattle.std.specs.Prelude.{ℤ, pos, negsuc, neg_ℤ, ◌+ℤ◌, ◌-ℤ◌, ◌≤ℤ◌, ◌<ℤ◌, All, unsigned_abs}
-use Rattle.std.proofs.lemmas.Int.{ints}
-use Rattle.std.proofs.lemmas.Bool.{cases_eq, false≢true}
+use Rattle.std.proofs.{lemmas.Int.ints, lemmas.Bool.cases_eq, lemmas.Bool.false≢true, lemmas.List.Sums.sum_by-set}
 use Rattle.std.proofs.lemmas.List.{take-take, get_or-set_same, get_or-set_other, get_or-replicate, length-set, length-replicate}
 use Rattle.std.proofs.lemmas.List.Elements.{All-from_get_or, All-take, All-append}
-use Rattle.std.proofs.lemmas.List.Sums.{sum_by-set}
 use Rattle.stn_time.specs.Time.{horizon, IsWithinHorizon}
-use Rattle.stn_net.specs.Difference.{Difference, NamesEvents}
-use Rattle.stn_net.specs.Schedule.{Meets, IsSchedule, HasSchedule, times_of}
-use Rattle.stn_net.specs.Horizon.{horizon_bounds}
+use Rattle.stn_net.specs.{Difference.Difference, Difference.NamesEvents, Schedule.Meets, Schedule.IsSchedule, Schedule.HasSchedule, Schedule.times_of, Horizon.horizon_bounds}
 use Rattle.stn_matrix.proofs.Widest.{horizon_times}
-use Rattle.stn_conflict.specs.declared.links.Link.{Link}
-use Rattle.stn_conflict.specs.Arcs.{arc_of, bound_at}
+use Rattle.stn_conflict.specs.{declared.links.Link.Link, Arcs.arc_of, Arcs.bound_at}
 use Rattle.stn_conflict.specs.Relaxation.{NamesAmong, IsNetwork, AreEstimates, AreDistances, AreRelaxed, IsRelaxed, IsRelaxedBut, is_fresh, room}
-use Rattle.stn_conflict.proofs.Tightness.{schedule_before, link_kept, link_among}
-use Rattle.stn_conflict.proofs.Known.{known_first}
-use Rattle.stn_conflict.proofs.LevelTable.{meets_moved}
+use Rattle.stn_conflict.proofs.{Tightness.schedule_before, Tightness.link_kept, Tightness.link_among, Known.known_first, LevelTable.meets_moved}
 
 -- the events of the plan are so many and the origin
 pub among_events : (bounds : List Difference) (events count : ℕ) → count ≡ events + 1 → All (NamesEvents events) bounds → All (NamesAmong count) bounds

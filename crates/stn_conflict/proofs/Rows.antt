@@ -1,19 +1,12 @@
 -- Rows of links, by the event at which they begin.
 use Rattle.std.proofs.Common.{◌≡◌, ◌≢◌, inl, inr, ℕ, zero, suc, ◌+◌, ◌-◌, ◌*◌, ◌<◌, List, [], ◌∷◌, ◌++◌, length, map, set, take, refl, sym, subst, ap, ◌∙◌, arith}
-use Rattle.std.specs.Prelude.{Vec, slice_index_or}
-use Rattle.std.specs.List.{Contains}
-use Rattle.std.specs.List.Sorted.{IsNonDecreasingBy}
-use Rattle.std.proofs.lemmas.Bool.{cases_eq, cases_lt}
+use Rattle.std.specs.{Prelude.Vec, Prelude.slice_index_or, List.Contains, List.Sorted.IsNonDecreasingBy}
+use Rattle.std.proofs.{lemmas.Bool.cases_eq, lemmas.Bool.cases_lt, lemmas.List.Sorted.IsNonDecreasingBy-push, lemmas.List.Sorted.IsNonDecreasingBy-short}
 use Rattle.std.proofs.lemmas.List.{map-set, map-append, get_or-map, get_or_default, length-map, length-set, length-take, get_or-set_same, get_or-set_other, get_or_append_left, get_or-append_right}
 use Rattle.std.proofs.lemmas.List.Elements.{Contains-push, Contains-append_left, Contains-push_cases}
-use Rattle.std.proofs.lemmas.List.Sorted.{IsNonDecreasingBy-push, IsNonDecreasingBy-short}
 use Rattle.stn_net.specs.Difference.{Difference}
-use Rattle.stn_conflict.specs.declared.links.Link.{Link}
-use Rattle.stn_conflict.specs.Arcs.{Arc, arc_of, rank}
-use Rattle.stn_conflict.specs.Relaxation.{row_of, AreRows}
-use Rattle.stn_conflict.proofs.OneCycle.{rank_tells}
-use Rattle.stn_conflict.proofs.Steps.{place_of_rank, rank_within}
-use Rattle.stn_conflict.proofs.Tightness.{arc_before}
+use Rattle.stn_conflict.specs.{declared.links.Link.Link, Arcs.Arc, Arcs.arc_of, Arcs.rank, Relaxation.row_of, Relaxation.AreRows}
+use Rattle.stn_conflict.proofs.{OneCycle.rank_tells, Steps.place_of_rank, Steps.rank_within, Tightness.arc_before}
 
 -- a link that is read from a row stands in it
 pub in_row : (row : List Link) (k : ℕ) (none : Link) → k < length row → Contains row (slice_index_or row k none)

@@ -1,14 +1,10 @@
 -- How a search goes on.
 use Rattle.std.proofs.Common.{◌≡◌, inl, inr, ℕ, ◌+◌, ◌-◌, ◌<◌, Bool, true, false, List, Option, Some, None, length, set, sym, subst, ap, ◌∙◌, arith}
 use Rattle.std.specs.Prelude.{ℤ, Vec, All, IfSome, IfNone}
-use Rattle.std.specs.List.{Contains}
-use Rattle.std.specs.Option.{option_or}
-use Rattle.std.proofs.lemmas.Bool.{cases_eq}
-use Rattle.std.proofs.lemmas.List.{get_or-set_same, get_or-set_other}
+use Rattle.std.specs.{List.Contains, Option.option_or}
+use Rattle.std.proofs.{lemmas.Bool.cases_eq, lemmas.List.get_or-set_same, lemmas.List.get_or-set_other}
 use Rattle.stn_net.specs.Difference.{Difference}
-use Rattle.stn_conflict.specs.declared.links.Link.{Link}
-use Rattle.stn_conflict.specs.declared.relaxation.Search.{Search}
-use Rattle.stn_conflict.specs.Arcs.{arc_of}
+use Rattle.stn_conflict.specs.{declared.links.Link.Link, declared.relaxation.Search.Search, Arcs.arc_of}
 use Rattle.stn_conflict.specs.Relaxation.{AreRelaxed, AreRows, NamesAmong, HasTables, IsRelaxed, IsRelaxedBut, IsRelaxedOf, IsSearch, KeepsRelaxed, is_fresh, row_of}
 use Rattle.stn_conflict.proofs.Tightness.{link_among}
 

@@ -1,21 +1,12 @@
 use Rattle.std.proofs.Common.{◌≡◌, ◌≢◌, inl, inr, ℕ, zero, suc, ◌+◌, ◌*◌, ◌<◌, ◌≤◌, Option, Some, List, [], ◌∷◌, ◌++◌, length, eqb, eqb-true, eq-eqb, sym, subst, ap, refl, ◌∙◌, arith, to_z, of_z, w64}
 use Rattle.std.specs.Prelude.{ℤ, ◌+ℤ◌, IsTrue, Vec, reverse, slice_index_or}
 use Rattle.std.specs.List.{AllByRecursion, Contains}
-use Rattle.std.proofs.lemmas.List.{get_or_default, reverse-append}
-use Rattle.std.proofs.lemmas.Bool.{cases_eq, cases_lt}
-use Rattle.std.proofs.lemmas.Int.{ints}
+use Rattle.std.proofs.{lemmas.List.get_or_default, lemmas.List.reverse-append, lemmas.Bool.cases_eq, lemmas.Bool.cases_lt, lemmas.Int.ints}
 use Rattle.stn_time.specs.Time.{IsWithinHorizon}
 use Rattle.stn_net.specs.Difference.{Difference}
 use Rattle.stn_matrix.specs.Tightest.{IsTightest}
-use Rattle.stn_conflict.specs.declared.links.Link.{Link}
-use Rattle.stn_conflict.specs.declared.links.Side.{Side}
-use Rattle.stn_conflict.specs.declared.links.Side.TheVariants.{Upper, Lower}
-use Rattle.stn_conflict.specs.Arcs.{arc, arc_of, bound_at, rank, side_rank, IsChain}
-use Rattle.stn_conflict.specs.Named.{IsTight, IsLevel, IsStep, IsFirstStep}
-use Rattle.stn_conflict.specs.Relaxation.{AreRows, row_of}
-use Rattle.stn_conflict.specs.Search.{other_side, across, HasLevels, HasNoStep, IsFirstStepTo}
-use Rattle.stn_conflict.proofs.Tightness.{tight_from_sum, sum_from_tight}
-use Rattle.stn_conflict.proofs.OneCycle.{link_same, level_unique}
+use Rattle.stn_conflict.specs.{declared.links.Link.Link, declared.links.Side.Side, declared.links.Side.TheVariants.Upper, declared.links.Side.TheVariants.Lower, Arcs.arc, Arcs.arc_of, Arcs.bound_at, Arcs.rank, Arcs.side_rank, Arcs.IsChain, Named.IsTight, Named.IsLevel, Named.IsStep, Named.IsFirstStep, Relaxation.AreRows, Relaxation.row_of, Search.other_side, Search.across, Search.HasLevels, Search.HasNoStep, Search.IsFirstStepTo}
+use Rattle.stn_conflict.proofs.{Tightness.tight_from_sum, Tightness.sum_from_tight, OneCycle.link_same, OneCycle.level_unique}
 
 -- what a test of a sum of two times says
 pub sum_test : (m w n : ℤ) → IsWithinHorizon m → IsWithinHorizon w → IsWithinHorizon n

@@ -1,19 +1,11 @@
 use Rattle.std.proofs.Common.{◌≡◌, ℕ, ◌<◌, List, length, take, sym, subst, ap, ◌∙◌, arith}
 use Rattle.std.specs.Prelude.{ℤ, pos, ◌+ℤ◌, ◌-ℤ◌, ◌≤ℤ◌}
 use Rattle.std.specs.List.{All}
-use Rattle.std.proofs.lemmas.Int.{ints}
-use Rattle.std.proofs.lemmas.List.{get_or-take}
-use Rattle.std.proofs.lemmas.List.Elements.{All-take}
-use Rattle.stn_net.specs.Difference.{Difference}
-use Rattle.stn_net.specs.Schedule.{Meets, IsSchedule}
+use Rattle.std.proofs.{lemmas.Int.ints, lemmas.List.get_or-take, lemmas.List.Elements.All-take}
+use Rattle.stn_net.specs.{Difference.Difference, Schedule.Meets, Schedule.IsSchedule}
 use Rattle.stn_matrix.proofs.Tightest.{tightest_unique}
 use Rattle.stn_matrix.specs.Tightest.{IsTightest}
-use Rattle.stn_conflict.specs.declared.links.Link.{Link}
-use Rattle.stn_conflict.specs.declared.links.Side.{Side}
-use Rattle.stn_conflict.specs.declared.links.Side.TheVariants.{Upper, Lower}
-use Rattle.stn_conflict.specs.Arcs.{arc, arc_of, bound_at}
-use Rattle.stn_conflict.specs.Relaxation.{NamesAmong}
-use Rattle.stn_conflict.specs.Named.{IsTight}
+use Rattle.stn_conflict.specs.{declared.links.Link.Link, declared.links.Side.Side, declared.links.Side.TheVariants.Upper, declared.links.Side.TheVariants.Lower, Arcs.arc, Arcs.arc_of, Arcs.bound_at, Relaxation.NamesAmong, Named.IsTight}
 
 -- an event lies at 0 from itself
 pub tightest_self : (bounds : List Difference) (x : ℕ) (m : ℤ) → IsTightest bounds x x m → m ≡ pos 0

@@ -1,21 +1,11 @@
 use Rattle.std.proofs.Common.{◌≡◌, ℕ, ◌<◌, List, length, map, take, refl, subst, sym, ap, ◌∙◌, arith}
-use Rattle.std.specs.Prelude.{ℤ, neg_ℤ, Vec}
-use Rattle.std.specs.List.{Contains}
-use Rattle.std.proofs.lemmas.Int.{ints}
+use Rattle.std.specs.{Prelude.ℤ, Prelude.neg_ℤ, Prelude.Vec, List.Contains}
+use Rattle.std.proofs.{lemmas.Int.ints, lemmas.List.Elements.All-map}
 use Rattle.std.proofs.lemmas.List.{get_or-map, get_or-take, take-map, length-map, length-take}
-use Rattle.std.proofs.lemmas.List.Elements.{All-map}
-use Rattle.stn_net.specs.Difference.{Difference, NamesEvents}
-use Rattle.stn_net.specs.Schedule.{Meets, IsSchedule, HasSchedule}
+use Rattle.stn_net.specs.{Difference.Difference, Difference.NamesEvents, Schedule.Meets, Schedule.IsSchedule, Schedule.HasSchedule}
 use Rattle.stn_matrix.specs.Tightest.{IsTightest}
-use Rattle.stn_conflict.specs.declared.listed.Direction.{Direction}
+use Rattle.stn_conflict.specs.{declared.listed.Direction.Direction, declared.links.Link.Link, declared.links.Side.Side, declared.links.Side.TheVariants.Upper, declared.links.Side.TheVariants.Lower, Arcs.arc, Arcs.arc_of, Arcs.bound_at, Directions.turned, Directions.faced, Directions.facing, Distances.AreDistancesFrom, Distances.AreDistancesTo, Relaxation.AreRows, Relaxation.IsNetwork, Relaxation.row_of}
 use Rattle.stn_conflict.specs.declared.listed.Direction.TheVariants.{Forward, Backward}
-use Rattle.stn_conflict.specs.declared.links.Link.{Link}
-use Rattle.stn_conflict.specs.declared.links.Side.{Side}
-use Rattle.stn_conflict.specs.declared.links.Side.TheVariants.{Upper, Lower}
-use Rattle.stn_conflict.specs.Arcs.{arc, arc_of, bound_at}
-use Rattle.stn_conflict.specs.Directions.{turned, faced, facing}
-use Rattle.stn_conflict.specs.Distances.{AreDistancesFrom, AreDistancesTo}
-use Rattle.stn_conflict.specs.Relaxation.{AreRows, IsNetwork, row_of}
 
 -- the times with their signs changed
 abbrev opposite : (ℕ → ℤ) → ℕ → ℤ

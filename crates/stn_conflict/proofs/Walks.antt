@@ -1,16 +1,10 @@
 use Rattle.std.proofs.Common.{◌≡◌, ◌≢◌, inl, inr, ℕ, suc, ◌+◌, ◌<◌, ◌≤◌, cond, Option, Some, None, List, [], ◌∷◌, ◌++◌, length, set, replicate, refl, sym, subst, ap, ◌∙◌, arith}
 use Rattle.std.specs.Prelude.{ℤ, Vec, is_some, count_by, slice_index_or}
 use Rattle.std.specs.List.{Contains}
-use Rattle.std.proofs.lemmas.Bool.{cases_eq, cases_lt}
+use Rattle.std.proofs.{lemmas.Bool.cases_eq, lemmas.Bool.cases_lt, lemmas.List.Elements.Contains-push_cases, lemmas.List.Sums.sum_by-set, lemmas.List.Sums.count_by-le-length}
 use Rattle.std.proofs.lemmas.List.{get_or-set_same, get_or-set_other, get_or-replicate, get_or_past, get_or_append_left, get_or_push, length-set, length-replicate, length_push}
-use Rattle.std.proofs.lemmas.List.Elements.{Contains-push_cases}
-use Rattle.std.proofs.lemmas.List.Sums.{sum_by-set, count_by-le-length}
 use Rattle.stn_net.specs.Difference.{Difference}
-use Rattle.stn_conflict.specs.declared.levels.Walk.{Walk}
-use Rattle.stn_conflict.specs.declared.links.Link.{Link}
-use Rattle.stn_conflict.specs.Arcs.{arc_of}
-use Rattle.stn_conflict.specs.Relaxation.{AreDistances, AreRows, row_of}
-use Rattle.stn_conflict.specs.Named.{IsTight}
+use Rattle.stn_conflict.specs.{declared.levels.Walk.Walk, declared.links.Link.Link, Arcs.arc_of, Relaxation.AreDistances, Relaxation.AreRows, Relaxation.row_of, Named.IsTight}
 use Rattle.stn_conflict.specs.Search.{level_at, event_at, IsFollowed, IsWalk, IsWalkOf, AreLevels, LeadsOn}
 use Rattle.stn_conflict.proofs.LevelTable.{IsClosed, some_or_none, some_same, level_of_entry, entry_of_level, level_of_event}
 

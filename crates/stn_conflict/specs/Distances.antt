@@ -1,6 +1,5 @@
 use Rattle.std.specs.Prelude.{◌≡◌, ℕ, ℤ, ◌+◌, ◌≤◌, List, length}
-use Rattle.stn_net.specs.Difference.{Difference}
-use Rattle.stn_net.specs.Schedule.{times_of}
+use Rattle.stn_net.specs.{Difference.Difference, Schedule.times_of}
 use Rattle.stn_matrix.specs.Tightest.{IsTightest}
 
 -- for the origin and each of so many events, how long after `event` it can come at the most

@@ -2,13 +2,9 @@
 use Rattle.std.specs.Prelude.{◌≡◌, ℕ, ℤ, pos, neg_ℤ, ◌+ℤ◌, ◌-ℤ◌, ◌≤ℤ◌, ◌<◌, ◌≤◌, ◌+◌, Bool, true, false, List, [], length, map, All, Contains, Vec, slice_index_or, sum_by, unsigned_abs}
 use Rattle.std.specs.List.Sorted.{IsNonDecreasingBy}
 use Rattle.stn_time.specs.Time.{horizon}
-use Rattle.stn_net.specs.Event.{most_events}
-use Rattle.stn_net.specs.Difference.{Difference, NamesEvents}
-use Rattle.stn_net.specs.Schedule.{IsSchedule, times_of}
+use Rattle.stn_net.specs.{Event.most_events, Difference.Difference, Difference.NamesEvents, Schedule.IsSchedule, Schedule.times_of}
 use Rattle.stn_matrix.specs.Tightest.{IsTightest}
-use Rattle.stn_conflict.specs.declared.links.Link.{Link}
-use Rattle.stn_conflict.specs.declared.relaxation.Search.{Search}
-use Rattle.stn_conflict.specs.Arcs.{arc_of}
+use Rattle.stn_conflict.specs.{declared.links.Link.Link, declared.relaxation.Search.Search, Arcs.arc_of}
 
 -- both events of the bound are among the first so many
 abbrev pub NamesAmong : ℕ → Difference → Type 0

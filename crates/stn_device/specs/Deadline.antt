@@ -1,8 +1,7 @@
 -- A deadline, and how time passes at a stream: in nanoseconds of the stream's clock, where that is known.
 use Rattle.std.specs.Prelude.{◌≡◌, ◌⊎◌, ℕ, ◌+◌, ◌<◌, ◌≤◌, min, Option, Some, None, Result, IsErr, ⊤}
 use Rattle.std.specs.Duration.{as_nanos, max_nanos}
-use Rattle.stn_device.specs.declared.deadline.Deadline.{Deadline}
-use Rattle.stn_device.specs.declared.deadline.UntilDeadline.{UntilDeadline}
+use Rattle.stn_device.specs.{declared.deadline.Deadline.Deadline, declared.deadline.UntilDeadline.UntilDeadline}
 
 -- the moment from which it counts
 abbrev pub start_of : Deadline → ℕ

@@ -1,8 +1,6 @@
 -- What is printed where an input can't be read.
-use Rattle.stn_refusal.specs.declared.failure.Failure.{Failure}
-use Rattle.stn_refusal.specs.declared.failure.Failure.TheVariants.{Failed}
+use Rattle.stn_refusal.specs.{declared.failure.Failure.Failure, declared.failure.Failure.TheVariants.Failed, Refusals.out_of_memory}
 use Rattle.stn_refusal.specs.declared.failure.Fault.TheVariants as device
-use Rattle.stn_refusal.specs.Refusals.{out_of_memory}
 use Rattle.stn_device.specs.declared.whole.ReadFault.{ReadFault}
 use Rattle.stn_device.specs.declared.whole.ReadFault.TheVariants as read
 

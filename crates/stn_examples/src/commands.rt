@@ -6,7 +6,7 @@ use std::process::Abort;
 use std::rc::Rc;
 use stn_command::{Query, say};
 use stn_lift::{Base, Source};
-use stn_loosen::{LoosenFault, Tolerance, loosened_replica};
+use stn_loosen::{LoosenFault, Tolerance, loosened_site_plan};
 use stn_net::Event;
 use stn_questions::Question;
 use stn_records::Site;
@@ -156,12 +156,12 @@ fn loose_base(heap: &Refusing<Global>) -> Option<Base<&Refusing<Global>>> {
     base.ok()
 }
 
-// Whether a replica holds the durations of both steps, or memory was lacking.
-fn is_loosened(loosened: Result<Replica<&Refusing<Global>>, LoosenFault>) -> (bool, bool) {
+// Whether a site's copy holds the durations of both steps, or memory was lacking.
+fn is_loosened(loosened: Result<SitePlan<&Refusing<Global>>, LoosenFault>) -> (bool, bool) {
     match loosened {
-        Ok(replica) => {
-            let right = replica.records().known() == 2;
-            drop(replica);
+        Ok(copy) => {
+            let right = copy.records().known() == 2;
+            drop(copy);
             (right, false)
         }
         Err(fault) => (false, fault == LoosenFault::Memory),
@@ -176,7 +176,7 @@ pub fn loosen_refused(heap: &Refusing<Global>, number: u64) -> Answer {
     let second = Ms::new(1_000).unwrap();
     let tolerance = Tolerance::new(second, second).unwrap();
     heap.refuse(number);
-    let loosened = loosened_replica(heap, Site::new(1).unwrap(), &base, tolerance);
+    let loosened = loosened_site_plan(heap, Site::new(1).unwrap(), &base, tolerance);
     drop(base);
     let (right, memory) = is_loosened(loosened);
     judged(heap, right, memory)

@@ -3,8 +3,7 @@ use Rattle.std.proofs.Common.{◌≡◌, ℕ, ◌+◌, ◌<◌, true, false, con
 use Rattle.std.specs.Option.{option_map}
 use Rattle.std.proofs.Math.Seq.{take-append_seam}
 use Rattle.stn_text.specs.Lines.{IsCutBehindLine, lines_of, words_of}
-use Rattle.stn_refusal.specs.declared.code.Code.TheVariants.{Line}
-use Rattle.stn_refusal.specs.Refusals.{refused_at}
+use Rattle.stn_refusal.specs.{declared.code.Code.TheVariants.Line, Refusals.refused_at}
 use Rattle.stn_exec.specs.Blocks.{Block, is_alone, with_text, line_text, block_from}
 use Rattle.stn_exec.specs.Script.{Found, next_line, bare_part, files_part, first_part, based}
 

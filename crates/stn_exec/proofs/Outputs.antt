@@ -1,9 +1,7 @@
 -- Replies have one output, and one number of refusals.
 use Rattle.std.proofs.Common.{◌≡◌, inl, inr, ℕ, ◌+◌, ◌≤◌, Bool, true, false, cond, List, [], ◌∷◌, ◌++◌, Option, Some, None, refl, sym, ap, subst, ◌∙◌, arith}
-use Rattle.std.specs.Bool.{Decides}
-use Rattle.std.specs.Prelude.{unwrap_or}
-use Rattle.std.proofs.lemmas.Bool.Decides.{same_from_decides}
-use Rattle.std.proofs.lemmas.Option.{none-some}
+use Rattle.std.specs.{Bool.Decides, Prelude.unwrap_or}
+use Rattle.std.proofs.{lemmas.Bool.Decides.same_from_decides, lemmas.Option.none-some}
 use Rattle.stn_refusal.specs.declared.failure.Failure.{Failure}
 use Rattle.stn_refusal.specs.declared.failure.Failure.TheVariants.{Refused, Failed}
 use Rattle.stn_site.specs.Held.{Held, holding_state}

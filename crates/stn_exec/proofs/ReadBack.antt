@@ -1,44 +1,21 @@
 -- The printed line of a bound is read by an addition as the bound.
 use Rattle.std.proofs.Common.{◌≡◌, ◌≢◌, ℕ, suc, ◌+◌, ◌-◌, ◌*◌, ◌/◌, ◌%◌, ◌<◌, ◌≤◌, ◌^◌, Bool, true, false, ◌==◌, ◌&&◌, cond, not, List, [], ◌∷◌, ◌++◌, length, ℤ, pos, negsuc, neg_ℤ, Option, Some, None, Result, Ok, Err, codes, decimal, refl, sym, ap, ◌∙◌, subst, arith, append_assoc, bytes_eq}
-use Rattle.std.specs.Prelude.{unsigned_abs, filter, option_map}
-use Rattle.std.specs.Char.{is_ascii_digit}
+use Rattle.std.specs.{Prelude.unsigned_abs, Prelude.filter, Prelude.option_map, Char.is_ascii_digit, Fmt.sign_text, Int.is_negative, List.list_all, List.slice_split, List.onto_first, Ordering.int_eq, Str.all_ascii_digits, Str.Parse.digits_value}
 use Rattle.std.specs.FinMap as map
-use Rattle.std.specs.Fmt.{sign_text}
-use Rattle.std.specs.Int.{is_negative}
-use Rattle.std.specs.List.{list_all, slice_split, onto_first}
-use Rattle.std.specs.Ordering.{int_eq}
-use Rattle.std.specs.Str.{all_ascii_digits}
-use Rattle.std.specs.Str.Parse.{digits_value}
 use Rattle.std.proofs.lemmas.Bool.{eqb-true, eqb-false, and_parts, and_from}
-use Rattle.std.proofs.lemmas.Bool.Decides.{nat_tests, Decides-int_eq}
-use Rattle.std.proofs.lemmas.Fmt.{digits_decimal, digits_value-decimal, decimal_nonempty}
-use Rattle.std.proofs.lemmas.Int.{ints}
-use Rattle.std.proofs.lemmas.List.Splits.{slice_split-cons_no}
-use Rattle.std.proofs.lemmas.Slice.Eq.{bytes_eq-Decides}
+use Rattle.std.proofs.{lemmas.Bool.Decides.nat_tests, lemmas.Bool.Decides.Decides-int_eq, lemmas.Fmt.digits_decimal, lemmas.Fmt.digits_value-decimal, lemmas.Fmt.decimal_nonempty, lemmas.Int.ints, lemmas.List.Splits.slice_split-cons_no, lemmas.Slice.Eq.bytes_eq-Decides}
 use Rattle.stn_text.specs.Lines.{is_gap, is_word, words_of}
 use Rattle.stn_text.proofs.Digits.{own}
-use Rattle.stn_time.specs.Time.{horizon, IsWithinHorizon}
-use Rattle.stn_time.specs.Text.{printed, whole_text, three_digits}
-use Rattle.stn_time.specs.TimeOf.{time_of}
-use Rattle.stn_time.specs.declared.reading.TimeFault.TheVariants.{Malformed}
+use Rattle.stn_time.specs.{Time.horizon, Time.IsWithinHorizon, Text.printed, Text.whole_text, Text.three_digits, TimeOf.time_of, declared.reading.TimeFault.TheVariants.Malformed}
 use Rattle.stn_time.proofs.Prints.{time_of-printed, decimal-whole_text}
-use Rattle.stn_net.specs.Difference.{Difference}
-use Rattle.stn_net.specs.Event.{event_text}
-use Rattle.stn_records.specs.Id.{SiteCounter, IsId, id_text}
-use Rattle.stn_records.specs.Record.{is_done}
-use Rattle.stn_records.specs.declared.record.Record.{Record}
-use Rattle.stn_records.specs.Content.{Content}
-use Rattle.stn_site.specs.declared.names.BoundName.{BoundName}
+use Rattle.stn_net.specs.{Difference.Difference, Event.event_text}
+use Rattle.stn_records.specs.{Id.SiteCounter, Id.IsId, Id.id_text, Record.is_done, declared.record.Record.Record, Content.Content}
+use Rattle.stn_site.specs.{declared.names.BoundName.BoundName, Lines.line, Lines.done_text, Names.name_text}
 use Rattle.stn_site.specs.declared.names.BoundName.TheVariants as kind
-use Rattle.stn_site.specs.Lines.{line, done_text}
-use Rattle.stn_site.specs.Names.{name_text}
-use Rattle.stn_questions.specs.Bounds.{lower_text, upper_text, bound_text, named_line}
-use Rattle.stn_questions.specs.Records.{held_text, amends_text, word_where, is_amended, record_line}
+use Rattle.stn_questions.specs.{Bounds.lower_text, Bounds.upper_text, Bounds.bound_text, Bounds.named_line, Records.held_text, Records.amends_text, Records.word_where, Records.is_amended, Records.record_line}
 use Rattle.stn_command.specs.Words.{event_of, and_then, spelled, time_read}
 use Rattle.stn_command.proofs.Events.{event_below-some}
-use Rattle.stn_exec.specs.Command.{bound_words}
-use Rattle.stn_exec.specs.Effect.{side_of, bound_read}
-use Rattle.stn_exec.specs.ReadBack.{IsReadable, IsName, ReadsBack}
+use Rattle.stn_exec.specs.{Command.bound_words, Effect.side_of, Effect.bound_read, ReadBack.IsReadable, ReadBack.IsName, ReadBack.ReadsBack}
 
 -- no byte parts words
 abbrev no_gap : List ℕ → Bool
@@ -274,9 +251,11 @@ name_word (kind.Record id) is = id_word id is
 -- a line of `bounds`
 pub named_back : (name : BoundName) (bound : Difference) → IsName name → IsReadable bound
     → (text : List ℕ) × (named_line name bound ≡ line text) × ReadsBack text bound
-named_back name bound is readable =
-    ((name_text name ++ codes " ") ++ bound_text bound, refl,
-    reads_back _ (name_text name) [] bound readable (name_word name is) refl (sym (append_none _)))
+named_back name bound is readable = (
+  (name_text name ++ codes " ") ++ bound_text bound,
+  refl,
+  reads_back _ (name_text name) [] bound readable (name_word name is) refl (sym (append_none _)),
+)
 
 done_apart : (done : Bool) → is_apart (done_text done) ≡ true
 done_apart true = refl
@@ -312,6 +291,9 @@ pub record_back : (state : Content) (id : SiteCounter) (one : Record) → map.ge
     → (text : List ℕ) × (record_line state id ≡ line text) × ReadsBack text one.bound
 record_back state id one held is readable =
     let text = id_text id ++ held_text (map.get state.additions id) ++ amends_text (map.get state.replacements id)
-    ++ word_where (map.contains_key state.tombstones id) (codes " withdrawn") ++ word_where (is_amended state id) (codes " replaced") in
-    (text, refl, reads_back text (id_text id) (behind state id one) one.bound readable (id_word id is) (behind_apart state id one)
-    (record_shape state id one (map.get state.additions id) held))
+    ++ word_where (map.contains_key state.tombstones id) (codes " withdrawn") ++ word_where (is_amended state id) (codes " replaced") in (
+      text,
+      refl,
+      reads_back text (id_text id) (behind state id one) one.bound readable (id_word id is) (behind_apart state id one)
+          (record_shape state id one (map.get state.additions id) held),
+    )

@@ -1,38 +1,20 @@
 -- The commands of a script are a run of the world's steps.
 use Rattle.std.proofs.Common.{◌≡◌, ◌↔◌, ℕ, ℤ, ◌+◌, Bool, true, false, cond, is_some, List, [], ◌∷◌, ◌++◌, length, Option, Some, None, Result, Ok, Err, inl, inr, option_map, option_to_list, refl, sym, ap, subst, ◌∙◌, arith, append_assoc, append-nil}
-use Rattle.std.specs.Prelude.{option_and_then}
-use Rattle.std.specs.Result.{result_ok}
-use Rattle.std.proofs.lemmas.Bool.{false≢true}
-use Rattle.std.proofs.lemmas.Option.{none-some}
-use Rattle.std.proofs.lemmas.List.Sums.{fold-append}
+use Rattle.std.specs.{Prelude.option_and_then, Result.result_ok}
+use Rattle.std.proofs.{lemmas.Bool.false≢true, lemmas.Option.none-some, lemmas.List.Sums.fold-append}
 use Rattle.stn_time.specs.declared.reading.TimeFault.{TimeFault}
 use Rattle.stn_lift.specs.PlanSource.{PlanSource, events_of}
 use Rattle.stn_text.specs.Lines.{lines_of, words_of}
-use Rattle.stn_site.specs.Report.{IsReport}
-use Rattle.stn_site.specs.Held.{holding_state}
-use Rattle.stn_site.specs.Refusals.{withdraw_refusal}
-use Rattle.stn_world.specs.declared.faults.WorldFault.{WorldFault}
-use Rattle.stn_world.specs.declared.faults.WorldFault.TheVariants.{NoSite}
-use Rattle.stn_world.specs.Faults.{of_replica_fault}
-use Rattle.stn_world.specs.World.{World, HasSite, has_site, opening_world, held_at, content_at}
+use Rattle.stn_site.specs.{Report.IsReport, Held.holding_state, Refusals.withdraw_refusal}
+use Rattle.stn_world.specs.{declared.faults.WorldFault.WorldFault, declared.faults.WorldFault.TheVariants.NoSite, Faults.of_replica_fault, World.World, World.HasSite, World.has_site, World.opening_world, World.held_at, World.content_at, Parts.holds_all, Whole.IsCoherent}
 use Rattle.stn_records.specs.Content.{Content, CountsSame, Item, HasItem, part_of}
 use Rattle.stn_world.specs.Steps.{Step, merged, sent, delivered, step_refusal, send_refusal, after, IsAccepted, stepped, run, TookAt, TookSameAt, TookSameItemsAt}
-use Rattle.stn_world.proofs.Accepted.{site_decides, no_site}
-use Rattle.stn_world.specs.Parts.{holds_all}
-use Rattle.stn_world.proofs.Sendings.{part_free, all_free}
-use Rattle.stn_world.specs.Whole.{IsCoherent}
-use Rattle.stn_world.proofs.Whole.{coherent_at_first}
-use Rattle.stn_world.proofs.Runs.{run_stays, run_keeps, coherent_run}
+use Rattle.stn_world.proofs.{Accepted.site_decides, Accepted.no_site, Sendings.part_free, Sendings.all_free, Whole.coherent_at_first, Runs.run_stays, Runs.run_keeps, Runs.coherent_run}
 use Rattle.stn_refusal.specs.declared.code.Code.TheVariants as code
-use Rattle.stn_refusal.specs.declared.failure.Failure.{Failure}
-use Rattle.stn_refusal.specs.Refusals.{refused}
-use Rattle.stn_questions.specs.declared.asked.Question.{Question}
-use Rattle.stn_questions.specs.Answer.{IsAnswer}
-use Rattle.stn_questions.specs.Ready.{IsReadyText}
-use Rattle.stn_command.specs.declared.changes.Change.{Change}
+use Rattle.stn_refusal.specs.{declared.failure.Failure.Failure, Refusals.refused}
+use Rattle.stn_questions.specs.{declared.asked.Question.Question, Answer.IsAnswer, Ready.IsReadyText}
+use Rattle.stn_command.specs.{declared.changes.Change.Change, Words.and_then, Words.spelled, Query.Query, Query.IsSaid, Query.IsQueryRefusal}
 use Rattle.stn_command.specs.declared.changes.Change.TheVariants.{Add, Amend, Withdraw, Done}
-use Rattle.stn_command.specs.Words.{and_then, spelled}
-use Rattle.stn_command.specs.Query.{Query, IsSaid, IsQueryRefusal}
 use Rattle.stn_command.specs.Query as asked
 use Rattle.stn_command.proofs.OneSaid.{one_refusal}
 use Rattle.stn_exec.specs.Command.{QueryWords, report, ready, ask, Action, change, merge, send_all, send, deliver, query, Command, sites_command, command_of}
@@ -40,8 +22,7 @@ use Rattle.stn_exec.specs.Effect.{Effect, Reply, told, refusing, sending, sent_s
 use Rattle.stn_exec.specs.Script.{Outcome, Start, is_skipped, form_effect, line_outcome, lines_outcome, heading_of, last_line, script_outcome}
 use Rattle.stn_exec.specs.Output.{IsReplyText, IsOutput}
 use Rattle.stn_exec.specs.Reports.{line_steps, steps_of_lines, LineOf, first_world, steps_before, world_at, ReportsSite, AsksSite, AsksReady, PrintsAt}
-use Rattle.stn_exec.proofs.Effects.{there_effect}
-use Rattle.stn_exec.proofs.Scripts.{line_outcome-skipped, line_outcome-run, line_effect-is, script_outcome-is}
+use Rattle.stn_exec.proofs.{Effects.there_effect, Scripts.line_outcome-skipped, Scripts.line_outcome-run, Scripts.line_effect-is, Scripts.script_outcome-is}
 
 -- ---- what a command leaves is what its step leaves
 changing_run : (world : World) (site : ℕ) (read : Result Change Failure)

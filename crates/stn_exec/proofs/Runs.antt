@@ -1,16 +1,10 @@
 -- A run of a script that was read whole.
 use Rattle.std.proofs.Common.{◌≡◌, ◌≢◌, ◌≤◌, ◌<◌, ◌+◌, ◌-◌, ◌^◌, ◌++◌, arith, min, ℕ, List, Option, Some, None, Result, Ok, Err, IfOk, IfSome, OnOk, length, refl, sym, ap, ◌∙◌, subst, append-nil}
-use Rattle.std.specs.Prelude.{OnErr}
-use Rattle.std.specs.Io.KnownBytes.{Consumes, IsAtEnd}
-use Rattle.stn_device.specs.Bytes.{most_bytes}
-use Rattle.stn_device.specs.declared.whole.ReadFault.{ReadFault}
+use Rattle.std.specs.{Prelude.OnErr, Io.KnownBytes.Consumes, Io.KnownBytes.IsAtEnd}
+use Rattle.stn_device.specs.{Bytes.most_bytes, declared.whole.ReadFault.ReadFault}
 use Rattle.stn_device.specs.declared.whole.ReadFault.TheVariants as read_fault
-use Rattle.stn_exec.specs.declared.script.Ran.{Ran}
-use Rattle.stn_exec.specs.declared.script.RunFault.{RunFault}
+use Rattle.stn_exec.specs.{declared.script.Ran.Ran, declared.script.RunFault.RunFault, Output.CountsRefusals, Output.WritesOutput, Output.WritesOutputPart, Running.IsRun, Script.script_outcome}
 use Rattle.stn_exec.specs.declared.script.RunFault.TheVariants.{Read, Write, Bound, Memory}
-use Rattle.stn_exec.specs.Output.{CountsRefusals, WritesOutput, WritesOutputPart}
-use Rattle.stn_exec.specs.Running.{IsRun}
-use Rattle.stn_exec.specs.Script.{script_outcome}
 
 -- the script is the whole input
 whole : (input rest : Option (List ℕ)) (script : List ℕ) → Consumes input rest script → IsAtEnd rest → IfSome input (λ bytes. bytes ≡ script)

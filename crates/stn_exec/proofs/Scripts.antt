@@ -1,30 +1,15 @@
 -- The heading and the lines of a script, one after the other.
 use Rattle.std.proofs.Common.{◌≡◌, ℕ, ⊎_elim, ◌+◌, ◌<◌, ◌≤◌, true, false, cond, List, [], ◌∷◌, ◌++◌, length, Option, Some, None, Result, Ok, Err, Bool, IfSome, inl, inr, refl, sym, ap, ◌∙◌, arith, codes, append_assoc, subst}
-use Rattle.std.proofs.KnownBytes.{Appends-nil, Appends-trans}
-use Rattle.std.proofs.lemmas.Bool.{cases_lt, false≢true}
-use Rattle.std.proofs.lemmas.Bool.Decides.{nat_tests}
+use Rattle.std.proofs.{KnownBytes.Appends-nil, KnownBytes.Appends-trans, lemmas.Bool.cases_lt, lemmas.Bool.false≢true, lemmas.Bool.Decides.nat_tests}
 use Rattle.stn_device.specs.Bytes.{AppendsPart}
 use Rattle.stn_text.specs.Lines.{lines_of, words_of}
-use Rattle.stn_refusal.specs.declared.code.Code.TheVariants.{NoSite}
-use Rattle.stn_refusal.specs.declared.refusal.Refusal.{Refusal}
-use Rattle.stn_refusal.specs.declared.failure.Failure.{Failure}
-use Rattle.stn_refusal.specs.declared.failure.Failure.TheVariants.{Refused}
-use Rattle.stn_refusal.specs.Printed.{refusal_text}
-use Rattle.stn_refusal.specs.Refusals.{refused}
-use Rattle.stn_exec.specs.Heading.{IsHeadingFailure}
+use Rattle.stn_refusal.specs.{declared.code.Code.TheVariants.NoSite, declared.refusal.Refusal.Refusal, declared.failure.Failure.Failure, declared.failure.Failure.TheVariants.Refused, Printed.refusal_text, Refusals.refused}
+use Rattle.stn_exec.specs.{Heading.IsHeadingFailure, Effect.Reply, Effect.Effect, Command.Command, Command.command_of, Output.IsReplyText, Output.IsOutput, Output.CountsRefusals, Output.WritesOutput, Output.WritesOutputPart, Running.IsReplied, Saying.IsDone}
 use Rattle.stn_command.specs.Words.{and_then}
-use Rattle.stn_exec.specs.Effect.{Reply, Effect}
-use Rattle.stn_exec.specs.Command.{Command, command_of}
 use Rattle.stn_lift.specs.PlanSource.{events_of}
 use Rattle.stn_records.specs.Id.{IsSite}
-use Rattle.stn_world.specs.declared.faults.SitesFault.{SitesFault}
+use Rattle.stn_world.specs.{declared.faults.SitesFault.SitesFault, Failures.sites_failure, Faults.IsSitesFault, World.World, World.opening_world}
 use Rattle.stn_world.specs.declared.faults.SitesFault.TheVariants as sites_fault
-use Rattle.stn_world.specs.Failures.{sites_failure}
-use Rattle.stn_world.specs.Faults.{IsSitesFault}
-use Rattle.stn_world.specs.World.{World, opening_world}
-use Rattle.stn_exec.specs.Output.{IsReplyText, IsOutput, CountsRefusals, WritesOutput, WritesOutputPart}
-use Rattle.stn_exec.specs.Running.{IsReplied}
-use Rattle.stn_exec.specs.Saying.{IsDone}
 use Rattle.stn_exec.proofs.Outputs.{not_both, counts_join, one_refusal}
 use Rattle.stn_exec.specs.Script.{Outcome, nothing_run, followed_by, form_effect, is_skipped, line_effect, effect_outcome, line_outcome, lines_outcome, next_line, Part, part_of, sites_of, Based, Start, based, with_sites, heading_of, started, last_line, script_outcome}
 

@@ -1,17 +1,11 @@
 -- For proofs alone: no public clause cites these words.
 -- What the code has read of a heading.
 use Rattle.std.specs.Prelude.{◌≡◌, ◌⊎◌, ◌∷◌, Result, Ok, Err}
-use Rattle.stn_refusal.specs.declared.failure.Failure.{Failure}
-use Rattle.stn_refusal.specs.Refusals.{out_of_memory}
+use Rattle.stn_refusal.specs.{declared.failure.Failure.Failure, Refusals.out_of_memory}
 use Rattle.stn_lift.specs.PlanSource.{PlanSource}
 use Rattle.stn_text.specs.Lines.{lines_of, words_of}
 use Rattle.stn_world.specs.World.{World, opening_world}
-use Rattle.stn_exec.specs.declared.heading.FoundLine.{FoundLine}
-use Rattle.stn_exec.specs.declared.heading.HeadingPart.{HeadingPart}
-use Rattle.stn_exec.specs.declared.heading.Rest.{Rest}
-use Rattle.stn_exec.specs.declared.heading.HeadingBlock.{HeadingBlock}
-use Rattle.stn_exec.specs.Blocks.{Block}
-use Rattle.stn_exec.specs.Script.{Found, Part, Based, Start}
+use Rattle.stn_exec.specs.{declared.heading.FoundLine.FoundLine, declared.heading.HeadingPart.HeadingPart, declared.heading.Rest.Rest, declared.heading.HeadingBlock.HeadingBlock, Blocks.Block, Script.Found, Script.Part, Script.Based, Script.Start}
 
 -- the value that was read, or the same fault
 abbrev pub result_seen : {A B E : Type 0} → (A → B) → Result A E → Result B E

@@ -1,12 +1,9 @@
 -- For proofs alone: no public clause cites these words.
 -- What a call answered or why it was declined, and how that was appended.
 use Rattle.std.specs.Prelude.{◌≡◌, ◌⊎◌, ℕ, List, ◌++◌, Result, Ok, Err}
-use Rattle.stn_refusal.specs.declared.failure.Failure.{Failure}
-use Rattle.stn_refusal.specs.Refusals.{out_of_memory}
+use Rattle.stn_refusal.specs.{declared.failure.Failure.Failure, Refusals.out_of_memory}
 use Rattle.stn_world.specs.World.{World}
-use Rattle.stn_exec.specs.declared.answer.Answer.{Answer}
-use Rattle.stn_exec.specs.Effect.{Effect, said, declined}
-use Rattle.stn_exec.specs.Output.{IsAnswerText, Declines}
+use Rattle.stn_exec.specs.{declared.answer.Answer.Answer, Effect.Effect, Effect.said, Effect.declined, Output.IsAnswerText, Output.Declines}
 
 -- a call left the world, and its answer, or why there is none, is the effect's reply; or memory ran out
 abbrev pub IsEffect : Result Answer Failure → World → Effect → Type 0

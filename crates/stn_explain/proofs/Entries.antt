@@ -5,12 +5,8 @@ use Rattle.std.proofs.lemmas.List.{append_assoc, append-nil, map_more, take_all}
 use Rattle.std.proofs.lemmas.List.Elements.{All-nil, All-cons, All-map}
 use Rattle.stn_refusal.specs.declared.code.Code.TheVariants as code
 use Rattle.stn_refusal.specs.declared.failure.Fault.TheVariants as fault
-use Rattle.stn_explain.specs.Explained.{IsMeaning, AreMeanings, IsExplained, NamesNothing}
-use Rattle.stn_explain.specs.Subjects.{subjects, word_of}
-use Rattle.stn_explain.specs.Table.{IsEntry, IsTable, is_some, says}
-use Rattle.stn_explain.specs.declared.subject.Subject.{Subject}
+use Rattle.stn_explain.specs.{Explained.IsMeaning, Explained.AreMeanings, Explained.IsExplained, Explained.NamesNothing, Subjects.subjects, Subjects.word_of, Table.IsEntry, Table.IsTable, Table.is_some, Table.says, declared.subject.Subject.Subject, declared.table.Entry.Entry}
 use Rattle.stn_explain.specs.declared.subject.Subject.TheVariants as subject
-use Rattle.stn_explain.specs.declared.table.Entry.{Entry}
 
 -- what holds of all subjects of the list holds of each
 at_each : (P : Subject → Type 0) → All P subjects → (s : Subject) → P s

@@ -1,7 +1,6 @@
 -- What is printed to explain something.
 use Rattle.std.specs.Prelude.{◌≡◌, ◌≢◌, ℕ, List, [], ◌∷◌, ◌++◌, codes, Option, Some, None}
-use Rattle.stn_explain.specs.Subjects.{word_of, name_of, subjects}
-use Rattle.stn_explain.specs.declared.subject.Subject.{Subject}
+use Rattle.stn_explain.specs.{Subjects.word_of, Subjects.name_of, Subjects.subjects, declared.subject.Subject.Subject}
 
 -- a line that begins with the subject's name and goes on with a few words on what it means
 pub record IsMeaning (subject : Subject) (text : List ℕ) : Type 0 where

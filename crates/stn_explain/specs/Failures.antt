@@ -1,7 +1,6 @@
 -- What is printed where nothing is explained.
 use Rattle.stn_refusal.specs.declared.code.Code.TheVariants as code
-use Rattle.stn_refusal.specs.declared.failure.Failure.{Failure}
-use Rattle.stn_refusal.specs.Refusals.{refused_at, out_of_memory}
+use Rattle.stn_refusal.specs.{declared.failure.Failure.Failure, Refusals.refused_at, Refusals.out_of_memory}
 use Rattle.stn_explain.specs.declared.printing.ExplainFault.{ExplainFault}
 use Rattle.stn_explain.specs.declared.printing.ExplainFault.TheVariants as fault
 

@@ -1,8 +1,7 @@
 -- What can be explained, and its name.
 use Rattle.std.specs.Prelude.{ℕ, List, [], ◌∷◌, ◌++◌, codes, decimal, map}
-use Rattle.stn_refusal.specs.Codes.{number_of}
+use Rattle.stn_refusal.specs.{Codes.number_of, declared.failure.Fault.Fault}
 use Rattle.stn_refusal.specs.declared.code.Code.TheVariants as code
-use Rattle.stn_refusal.specs.declared.failure.Fault.{Fault}
 use Rattle.stn_refusal.specs.declared.failure.Fault.TheVariants as fault
 use Rattle.stn_explain.specs.declared.subject.Subject.{Subject}
 use Rattle.stn_explain.specs.declared.subject.Subject.TheVariants as subject

@@ -2,8 +2,7 @@
 -- What is said of all subjects.
 use Rattle.std.specs.Prelude.{◌≡◌, ◌≢◌, ◌&&◌, ℕ, Bool, true, false, List, [], ◌∷◌, map}
 use Rattle.std.specs.List.{list_all}
-use Rattle.stn_explain.specs.Subjects.{subjects}
-use Rattle.stn_explain.specs.declared.table.Entry.{Entry}
+use Rattle.stn_explain.specs.{Subjects.subjects, declared.table.Entry.Entry}
 
 -- neither text of the entry is empty
 pub record IsEntry (entry : Entry) : Type 0 where

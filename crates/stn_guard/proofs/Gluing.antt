@@ -1,13 +1,10 @@
 use Rattle.std.proofs.Common.{◌≡◌, ℕ, ℤ, pos, true, cond, eqb, List, ◌++◌, inl, inr, refl, sym, ap, subst, ◌∙◌}
 use Rattle.std.specs.Prelude.{◌↔◌, All, flat_map}
-use Rattle.std.proofs.lemmas.Bool.{and_parts}
-use Rattle.std.proofs.lemmas.Bool.Decides.{eqb_tells}
+use Rattle.std.proofs.{lemmas.Bool.and_parts, lemmas.Bool.Decides.eqb_tells}
 use Rattle.std.proofs.lemmas.List.Elements.{All-append, All-weaker, All-filter}
-use Rattle.stn_net.specs.Difference.{Difference}
-use Rattle.stn_net.specs.Schedule.{Meets, IsSchedule, HasSchedule}
+use Rattle.stn_net.specs.{Difference.Difference, Schedule.Meets, Schedule.IsSchedule, Schedule.HasSchedule}
 use Rattle.stn_windows.specs.Window.{IsInWindow}
-use Rattle.stn_guard.specs.Owners.{is_at, is_own, own_bounds}
-use Rattle.stn_guard.specs.Guard.{Guards}
+use Rattle.stn_guard.specs.{Owners.is_at, Owners.is_own, Owners.own_bounds, Guard.Guards}
 use Rattle.stn_guard.proofs.Owned.{all_front, all_behind, all_passing, all_filtered, all_pieces, at_cases, at_owner}
 
 -- each event takes the time that its owner gives it

@@ -1,13 +1,8 @@
 -- Events that are noted, and windows that are kept, one by one.
 use Rattle.std.proofs.Common.{◌≡◌, ℕ, ◌+◌, ◌-◌, ◌<◌, ℤ, Bool, true, false, ◌&&◌, ◌||◌, eqb, List, ◌++◌, length, get_or, set, take, inl, inr, refl, sym, ap, subst, ◌∙◌, arith, get_or-set_same, get_or-set_other}
-use Rattle.std.proofs.lemmas.Bool.Decides.{eqb_tells}
-use Rattle.std.proofs.lemmas.List.{length-set}
-use Rattle.std.proofs.lemmas.List.Folds.{list_any_more}
-use Rattle.std.proofs.lemmas.List.FromFn.{filter_of_map_range_with_len_more}
+use Rattle.std.proofs.{lemmas.Bool.Decides.eqb_tells, lemmas.List.length-set, lemmas.List.Folds.list_any_more, lemmas.List.FromFn.filter_of_map_range_with_len_more}
 use Rattle.stn_net.specs.Difference.{Difference}
-use Rattle.stn_guard.specs.Owners.{is_shared}
-use Rattle.stn_guard.specs.Making.{window_bound, is_named}
-use Rattle.stn_guard.specs.Splitting.{ends_of, is_kept, kept, windows_of}
+use Rattle.stn_guard.specs.{Owners.is_shared, Making.window_bound, Making.is_named, Splitting.ends_of, Splitting.is_kept, Splitting.kept, Splitting.windows_of}
 use Rattle.stn_guard.proofs.Made.{or_right}
 
 or_none : (test : Bool) → (test || false) ≡ test

@@ -1,8 +1,6 @@
 use Rattle.std.proofs.Common.{◌≡◌, ℕ, ◌+◌, Bool, true, false, cond, not, ◌&&◌, ◌||◌, eqb, List, [], ◌∷◌, ◌++◌, length, inl, inr, refl, sym, ap, subst, ◌∙◌, arith, get_or-append-add, length-append}
-use Rattle.std.proofs.lemmas.List.{get_or_append_left}
+use Rattle.std.proofs.{lemmas.List.get_or_append_left, lemmas.Bool.false≢true, lemmas.Bool.and_parts, lemmas.Bool.Decides.eqb_tells}
 use Rattle.std.specs.Prelude.{◌⊎◌, ◌≢◌, All, filter, flat_map}
-use Rattle.std.proofs.lemmas.Bool.{false≢true, and_parts}
-use Rattle.std.proofs.lemmas.Bool.Decides.{eqb_tells}
 use Rattle.std.proofs.lemmas.List.Elements.{All-nil, All-cons, All-head, All-tail, All-append}
 use Rattle.stn_net.specs.Difference.{Difference}
 use Rattle.stn_guard.specs.Owners.{is_at, is_own, is_shared}

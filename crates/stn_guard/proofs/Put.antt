@@ -2,24 +2,15 @@
 use Rattle.std.proofs.Common.{◌≡◌, inl, inr, ⊎_elim, ℕ, true, false, not, List, [], ◌∷◌, ◌++◌, map, Some, refl, sym, ap, subst, ◌∙◌}
 use Rattle.std.specs.Prelude.{All}
 use Rattle.std.proofs.lemmas.List.Elements.{All-nil, All-cons, All-head, All-tail, All-append}
-use Rattle.stn_net.specs.Difference.{Difference}
-use Rattle.stn_net.specs.Schedule.{Meets}
+use Rattle.stn_net.specs.{Difference.Difference, Schedule.Meets}
 use Rattle.stn_lift.specs.PlanSource.{PlanSource, base_bounds}
-use Rattle.stn_records.specs.Id.{SiteCounter}
-use Rattle.stn_records.specs.declared.record.Record.{Record}
+use Rattle.stn_records.specs.{Id.SiteCounter, declared.record.Record.Record, ContentLaws.contents_join}
 use Rattle.stn_records.specs.Content.{Content, HasItem, IsPart, join_contents, is_known, is_live, next_counter, with_record, plain}
-use Rattle.stn_records.specs.ContentLaws.{contents_join}
 use Rattle.stn_records.proofs.Counters.{next_is_new}
-use Rattle.stn_site.specs.Bounds.{live_bounds, all_bounds}
-use Rattle.stn_site.specs.Held.{Held}
-use Rattle.stn_site.specs.Calls.{added, took, Leaves, AllLeave}
+use Rattle.stn_site.specs.{Bounds.live_bounds, Bounds.all_bounds, Held.Held, Calls.added, Calls.took, Calls.Leaves, Calls.AllLeave}
 use Rattle.stn_site.proofs.Items.{addition_items}
-use Rattle.stn_replica.proofs.Changes.{IsGrown, grown_with_record}
-use Rattle.stn_replica.proofs.Live.{LiveHold, live_from_bounds, bounds_from_live, left_true, new_hold, old_hold}
-use Rattle.stn_guard.specs.Owners.{is_own}
-use Rattle.stn_guard.specs.Guard.{Guards}
-use Rattle.stn_guard.specs.Adding.{AddsEach}
-use Rattle.stn_guard.specs.Putting.{AllPut, PutsEach}
+use Rattle.stn_replica.proofs.{Changes.IsGrown, Changes.grown_with_record, Live.LiveHold, Live.live_from_bounds, Live.bounds_from_live, Live.left_true, Live.new_hold, Live.old_hold}
+use Rattle.stn_guard.specs.{Owners.is_own, Guard.Guards, Adding.AddsEach, Putting.AllPut, Putting.PutsEach}
 use Rattle.stn_guard.proofs.Owned.{all_front, all_behind, all_passing, all_filtered}
 
 abbrev pub Numbered : Type 0

@@ -1,17 +1,12 @@
 -- Owners that agree on the events that bounds name have the same guard.
 use Rattle.std.proofs.Common.{◌≡◌, ◌≢◌, ℕ, zero, suc, ◌+◌, ◌<◌, ◌≤◌, Bool, not, ◌&&◌, ◌||◌, eqb, List, [], ◌∷◌, ◌++◌, get_or, map, inl, inr, refl, sym, ap, subst, ◌∙◌, arith}
-use Rattle.std.specs.Prelude.{All, flat_map}
-use Rattle.std.specs.List.{list_any, range_with_len}
-use Rattle.std.proofs.lemmas.Bool.Decides.{eqb_tells}
+use Rattle.std.specs.{Prelude.All, Prelude.flat_map, List.list_any, List.range_with_len}
+use Rattle.std.proofs.{lemmas.Bool.Decides.eqb_tells, lemmas.List.FromFn.length-map-range_with_len, lemmas.List.FromFn.get_or-map-range_with_len}
 use Rattle.std.proofs.lemmas.List.Elements.{All-head, All-tail, All-append}
-use Rattle.std.proofs.lemmas.List.FromFn.{length-map-range_with_len, get_or-map-range_with_len}
-use Rattle.stn_net.specs.Difference.{Difference, NamesEvents}
-use Rattle.stn_net.specs.Schedule.{IsSchedule}
-use Rattle.stn_guard.specs.Owners.{is_at, is_own, own_bounds, is_shared}
-use Rattle.stn_guard.specs.Guard.{Guards}
+use Rattle.stn_net.specs.{Difference.Difference, Difference.NamesEvents, Schedule.IsSchedule}
+use Rattle.stn_guard.specs.{Owners.is_at, Owners.is_own, Owners.own_bounds, Owners.is_shared, Guard.Guards}
 use Rattle.stn_guard.specs.Making.{arcs_of, shared_arcs, window_bound, is_named, says_more, AreSplit, AreWindows, IsGuardOf}
-use Rattle.stn_guard.proofs.Owned.{all_filtered}
-use Rattle.stn_guard.proofs.Whole.{filter_same}
+use Rattle.stn_guard.proofs.{Owned.all_filtered, Whole.filter_same}
 
 beside_zero : (n : ℕ) → n ≢ 0 → 0 < n
 beside_zero zero beside = absurd (beside refl)

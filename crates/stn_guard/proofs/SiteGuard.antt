@@ -1,21 +1,11 @@
 -- The guard of what a site holds, from the owners of its steps.
 use Rattle.std.proofs.Common.{◌≡◌, ◌⊎◌, inl, inr, ℕ, ◌+◌, ◌<◌, ◌≤◌, List, ◌++◌, map, Option, Some, None, unwrap_or, ap, subst, ◌∙◌, arith}
-use Rattle.std.specs.Prelude.{All}
-use Rattle.std.specs.List.{range_with_len}
+use Rattle.std.specs.{Prelude.All, List.range_with_len}
 use Rattle.std.proofs.lemmas.List.FromFn.{get_or-map-range_with_len}
-use Rattle.stn_net.specs.Difference.{Difference, NamesEvents}
-use Rattle.stn_net.specs.Schedule.{HasSchedule}
+use Rattle.stn_net.specs.{Difference.Difference, Difference.NamesEvents, Schedule.HasSchedule}
 use Rattle.stn_lift.specs.PlanSource.{events_of, base_bounds}
-use Rattle.stn_site.specs.declared.faults.ReplicaFault.{ReplicaFault}
-use Rattle.stn_site.specs.declared.faults.ReplicaFault.TheVariants.{Memory}
-use Rattle.stn_site.specs.Bounds.{live_bounds, all_bounds}
-use Rattle.stn_site.specs.Held.{Held}
-use Rattle.stn_guard.specs.declared.owners.OwnedSteps.{OwnedSteps}
-use Rattle.stn_guard.specs.Owners.{owner_of}
-use Rattle.stn_guard.specs.Guard.{Guards}
-use Rattle.stn_guard.specs.Making.{AreWindows, IsGuardOf}
-use Rattle.stn_guard.specs.Adding.{owner_by}
-use Rattle.stn_guard.specs.Putting.{MakesGuard}
+use Rattle.stn_site.specs.{declared.faults.ReplicaFault.ReplicaFault, declared.faults.ReplicaFault.TheVariants.Memory, Bounds.live_bounds, Bounds.all_bounds, Held.Held}
+use Rattle.stn_guard.specs.{declared.owners.OwnedSteps.OwnedSteps, Owners.owner_of, Guard.Guards, Making.AreWindows, Making.IsGuardOf, Adding.owner_by, Putting.MakesGuard}
 use Rattle.stn_guard.proofs.SameOwners.{guard_named, same_guard, same_guards}
 
 -- what was made of these bounds, with the owners as a list

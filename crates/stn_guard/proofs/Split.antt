@@ -1,16 +1,12 @@
 -- What splitting an arc leaves.
 use Rattle.std.proofs.Common.{◌≡◌, ℕ, ℤ, pos, negsuc, ◌+ℤ◌, ◌-ℤ◌, ◌≤ℤ◌, ◌<ℤ◌, Bool, true, false, cond, List, [], ◌∷◌, ◌++◌, refl, sym, subst, arith, append-nil}
-use Rattle.std.specs.Prelude.{All}
-use Rattle.std.specs.Int.{int_min, int_max, int_div_euclid}
+use Rattle.std.specs.{Prelude.All, Int.int_min, Int.int_max, Int.int_div_euclid}
 use Rattle.std.proofs.lemmas.Int.{ints, clamps}
 use Rattle.std.proofs.lemmas.List.Elements.{All-nil, All-cons, All-head, All-tail, All-append, All-weaker}
-use Rattle.stn_net.specs.Difference.{Difference}
-use Rattle.stn_net.specs.Schedule.{Meets, IsSchedule, HasSchedule}
+use Rattle.stn_net.specs.{Difference.Difference, Schedule.Meets, Schedule.IsSchedule, Schedule.HasSchedule}
 use Rattle.stn_windows.specs.Window.{IsInWindow, IsWindow}
 use Rattle.stn_windows.proofs.Windows.{lesser_schedule}
-use Rattle.stn_guard.specs.declared.splitting.Arc.{Arc}
-use Rattle.stn_guard.specs.Making.{window_bound, is_implied, split_time, IsSplit, AreSplit}
-use Rattle.stn_guard.specs.Splitting.{LeavesTime, MeetsArc}
+use Rattle.stn_guard.specs.{declared.splitting.Arc.Arc, Making.window_bound, Making.is_implied, Making.split_time, Making.IsSplit, Making.AreSplit, Splitting.LeavesTime, Splitting.MeetsArc}
 use Rattle.stn_guard.proofs.Owned.{all_front, all_behind}
 
 -- half of a number, rounded down

@@ -1,20 +1,12 @@
 -- The matrix as it comes on, arc by arc.
 use Rattle.std.proofs.Common.{◌≡◌, ◌≢◌, ℕ, ◌+◌, ◌<◌, ℤ, neg_ℤ, Bool, true, false, cond, List, [], ◌∷◌, ◌++◌, length, get_or, take, drop, refl, sym, ap, subst, ◌∙◌, append-nil}
 use Rattle.std.specs.Prelude.{All, filter, flat_map}
-use Rattle.std.proofs.lemmas.List.{take-append-drop, take_more}
-use Rattle.std.proofs.lemmas.List.Concat.{flat_map-append}
+use Rattle.std.proofs.{lemmas.List.take-append-drop, lemmas.List.take_more, lemmas.List.Concat.flat_map-append}
 use Rattle.std.proofs.lemmas.List.Elements.{All-nil, All-cons, All-weaker, filter-append}
-use Rattle.stn_net.specs.Difference.{Difference, NamesEvents}
-use Rattle.stn_net.specs.Schedule.{IsSchedule}
-use Rattle.stn_matrix.specs.Table.{Table}
-use Rattle.stn_matrix.specs.Tightest.{IsExact}
-use Rattle.stn_guard.specs.declared.splitting.Arc.{Arc}
-use Rattle.stn_guard.specs.Owners.{is_shared}
-use Rattle.stn_guard.specs.Making.{arcs_of, shared_arcs, AreSplit}
-use Rattle.stn_guard.specs.Splitting.{NamesEnds, MeetsArc, CanSplit, Splits}
-use Rattle.stn_guard.proofs.Owned.{all_front, all_behind, all_pieces, all_filtered, shared_parts}
-use Rattle.stn_guard.proofs.Split.{Implies, are_left}
-use Rattle.stn_guard.proofs.Made.{arcs_implied}
+use Rattle.stn_net.specs.{Difference.Difference, Difference.NamesEvents, Schedule.IsSchedule}
+use Rattle.stn_matrix.specs.{Table.Table, Tightest.IsExact}
+use Rattle.stn_guard.specs.{declared.splitting.Arc.Arc, Owners.is_shared, Making.arcs_of, Making.shared_arcs, Making.AreSplit, Splitting.NamesEnds, Splitting.MeetsArc, Splitting.CanSplit, Splitting.Splits}
+use Rattle.stn_guard.proofs.{Owned.all_front, Owned.all_behind, Owned.all_pieces, Owned.all_filtered, Owned.shared_parts, Split.Implies, Split.are_left, Made.arcs_implied}
 
 -- each of the arcs is implied
 pub each_implied : (bounds : List Difference) (arcs : List Arc) → ((time : ℕ → ℤ) → IsSchedule bounds time → All (MeetsArc time) arcs) → All (Implies bounds) arcs

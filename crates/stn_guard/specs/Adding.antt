@@ -1,22 +1,13 @@
 -- Adding the guard of what a site holds to what it holds.
 use Rattle.std.specs.Prelude.{◌≡◌, ℕ, zero, suc, ◌+◌, nat_lt, Bool, true, false, if◌then◌else◌, List, [], ◌∷◌, length, map, Option, Some, None}
-use Rattle.std.specs.Bool.{then_some}
-use Rattle.std.specs.Option.{option_or}
-use Rattle.std.specs.List.{list_all}
-use Rattle.stn_net.specs.Difference.{Difference}
-use Rattle.stn_net.specs.declared.bound.BoundFault.TheVariants.{NoEvent}
-use Rattle.stn_net.specs.Schedule.{HasSchedule}
+use Rattle.std.specs.{Bool.then_some, Option.option_or, List.list_all}
+use Rattle.stn_net.specs.{Difference.Difference, declared.bound.BoundFault.TheVariants.NoEvent, Schedule.HasSchedule}
 use Rattle.stn_lift.specs.PlanSource.{steps_of, events_of}
-use Rattle.stn_records.specs.Id.{SiteCounter, most_counter}
-use Rattle.stn_records.specs.Content.{most_known, known_count, next_counter}
-use Rattle.stn_site.specs.declared.faults.ReplicaFault.{ReplicaFault}
+use Rattle.stn_records.specs.{Id.SiteCounter, Id.most_counter, Content.most_known, Content.known_count, Content.next_counter}
+use Rattle.stn_site.specs.{declared.faults.ReplicaFault.ReplicaFault, Bounds.all_bounds, Held.Held, Held.plain, Calls.added, Calls.AllLeave}
 use Rattle.stn_site.specs.declared.faults.ReplicaFault.TheVariants.{Bound, CounterSpent, Full}
-use Rattle.stn_site.specs.Bounds.{all_bounds}
-use Rattle.stn_site.specs.Held.{Held, plain}
-use Rattle.stn_site.specs.Calls.{added, AllLeave}
 use Rattle.stn_replica.specs.Own.{has, is_within}
-use Rattle.stn_guard.specs.declared.owners.OwnedSteps.{OwnedSteps}
-use Rattle.stn_guard.specs.Making.{IsGuardOf}
+use Rattle.stn_guard.specs.{declared.owners.OwnedSteps.OwnedSteps, Making.IsGuardOf}
 
 -- the owner of an event: the site of the first of the lists that has the event's step, or else this site
 abbrev pub owner_by : ℕ → List OwnedSteps → ℕ → ℕ

@@ -1,12 +1,9 @@
 -- For proofs alone: no public clause cites these words.
 use Rattle.std.specs.Prelude.{◌≢◌, ℕ, ◌<◌, ◌≤◌, ℤ, neg_ℤ, ◌+ℤ◌, ◌-ℤ◌, ◌≤ℤ◌, Bool, false, ◌&&◌, if◌then◌else◌, List, [], ◌∷◌, length, map, filter, slice_index_or, All}
 use Rattle.std.specs.List.{range_with_len}
-use Rattle.stn_net.specs.Difference.{Difference}
-use Rattle.stn_net.specs.Schedule.{IsSchedule}
-use Rattle.stn_matrix.specs.Table.{Table}
-use Rattle.stn_matrix.specs.Tightest.{IsExact}
-use Rattle.stn_guard.specs.declared.splitting.Arc.{Arc}
-use Rattle.stn_guard.specs.Making.{AreSplit, says_more, window_bound}
+use Rattle.stn_net.specs.{Difference.Difference, Schedule.IsSchedule}
+use Rattle.stn_matrix.specs.{Table.Table, Tightest.IsExact}
+use Rattle.stn_guard.specs.{declared.splitting.Arc.Arc, Making.AreSplit, Making.says_more, Making.window_bound}
 
 -- both events of the bound have an owner
 pub record HasOwners (owners : List ℕ) (bound : Difference) : Type 0 where

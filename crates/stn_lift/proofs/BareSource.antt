@@ -1,12 +1,6 @@
 use Rattle.std.proofs.Common.{ℕ, pos, zero, suc, ◌*◌, ◌≤◌, All, refl, arith}
-use Rattle.std.proofs.lemmas.List.Elements.{All-nil, All-push}
-use Rattle.std.proofs.lemmas.Int.{ints}
-use Rattle.std.proofs.lemmas.Bool.{false≢true}
-use Rattle.std.proofs.lemmas.Bool.Decides.{nat_tests}
-use Rattle.std.proofs.lemmas.List.{take_all}
-use Rattle.stn_net.specs.Difference.{NamesEvents}
-use Rattle.stn_net.specs.Schedule.{Meets}
-use Rattle.stn_net.specs.Horizon.{horizon_bound, horizon_bounds}
+use Rattle.std.proofs.{lemmas.List.Elements.All-nil, lemmas.List.Elements.All-push, lemmas.Int.ints, lemmas.Bool.false≢true, lemmas.Bool.Decides.nat_tests, lemmas.List.take_all}
+use Rattle.stn_net.specs.{Difference.NamesEvents, Schedule.Meets, Horizon.horizon_bound, Horizon.horizon_bounds}
 use Rattle.stn_net.proofs.Horizons.{length-horizon_bounds}
 use Rattle.stn_lift.specs.PlanSource.{bare, IsSoundSource}
 

@@ -1,11 +1,8 @@
 -- How many bounds a plan has.
 use Rattle.std.proofs.Common.{◌≡◌, ℕ, ◌+◌, ◌-◌, ◌*◌, ◌<◌, ◌≤◌, ℤ, zero, suc, Bool, true, false, not, ◌&&◌, eqb, nat_lt, cond, [], ◌∷◌, ◌++◌, length, refl, arith, length-append}
-use Rattle.std.proofs.Math.Nat.{mul-le-mul_left}
-use Rattle.std.proofs.lemmas.Bool.Decides.{nat_tests}
+use Rattle.std.proofs.{Math.Nat.mul-le-mul_left, lemmas.Bool.Decides.nat_tests}
 use Rattle.std.specs.Ordering.{int_cmp}
-use Rattle.stn_net.specs.Event.{most_steps}
-use Rattle.stn_net.specs.Difference.{Difference}
-use Rattle.stn_net.specs.Horizon.{horizon_bounds}
+use Rattle.stn_net.specs.{Event.most_steps, Difference.Difference, Horizon.horizon_bounds}
 use Rattle.stn_net.proofs.Horizons.{length-horizon_bounds}
 use Rattle.stn_lift.specs.BaseBounds.{step_of, order_bound, pair_order, event_orders, orders, duration_bound, duration_bounds}
 use Rattle.stn_lift.specs.PlanSource.{most_base_bounds}

@@ -1,27 +1,18 @@
 -- The base of a plan in a domain.
-use Rattle.std.specs.Prelude.{slice_index_or}
+use Rattle.std.specs.{Prelude.slice_index_or, List.All, List.AllByRecursion}
 use Rattle.std.proofs.Common.{◌≡◌, ℕ, ◌+◌, ◌*◌, ◌<◌, ◌≤◌, ℤ, pos, ◌+ℤ◌, ◌≤ℤ◌, zero, suc, List, [], ◌∷◌, length, take, Ok, refl, sym, ap, subst, ◌∙◌, arith}
-use Rattle.std.specs.List.{All, AllByRecursion}
-use Rattle.std.proofs.lemmas.Int.{ints}
-use Rattle.std.proofs.lemmas.List.{length-map}
+use Rattle.std.proofs.{lemmas.Int.ints, lemmas.List.length-map}
 use Rattle.stn_time.specs.Time.{horizon}
-use Rattle.stn_net.specs.Event.{most_steps}
-use Rattle.stn_net.specs.Difference.{NamesEvents}
-use Rattle.stn_net.specs.Horizon.{horizon_bounds}
-use Rattle.stn_net.specs.Schedule.{times_of, IsSchedule}
+use Rattle.stn_net.specs.{Event.most_steps, Difference.NamesEvents, Horizon.horizon_bounds, Schedule.times_of, Schedule.IsSchedule}
 use Rattle.stn_tree.specs.Scan.{most_text}
-use Rattle.stn_pddl.specs.Schemas.{ActionSchema}
-use Rattle.stn_pddl.specs.Domains.{domain_of}
+use Rattle.stn_pddl.specs.{Schemas.ActionSchema, Domains.domain_of}
 use Rattle.stn_plan.specs.Steps.{PlannedStep, plan_of}
-use Rattle.stn_lift.specs.Footprints.{Footprint}
-use Rattle.stn_lift.specs.Activities.{Activity, activities}
+use Rattle.stn_lift.specs.{Footprints.Footprint, Activities.Activity, Activities.activities}
 use Rattle.stn_lift.specs.BaseBounds.{times_behind, event_times, events_interfere, duration_of, lifted_bounds, KeepsOrder}
 use Rattle.stn_lift.specs.Timelines.{IsTimed, IsLifted, IsWhole, numbered_bounds}
 use Rattle.stn_lift.specs.PlanSource.{files, of_lift, base_of, source_with, activities_of, most_base_bounds, IsSoundSource, IsBase}
 use Rattle.stn_lift.proofs.SoundBounds.{bounds, first_horizons, all_named, planned_possible, order_keeps}
-use Rattle.stn_lift.proofs.FewBounds.{few_bounds}
-use Rattle.stn_lift.proofs.Steps.{length-activities}
-use Rattle.stn_lift.proofs.Texts.{lifted-Ok, texts_lifted}
+use Rattle.stn_lift.proofs.{FewBounds.few_bounds, Steps.length-activities, Texts.lifted-Ok, Texts.texts_lifted}
 
 -- a time lies from 0 to the horizon
 abbrev IsWithin : ℤ → Type 0

@@ -1,11 +1,7 @@
 -- Numbers in two lists in order.
 use Rattle.std.proofs.Common.{◌≡◌, ◌≢◌, ℕ, ◌+◌, ◌<◌, ◌≤◌, true, false, eqb, List, [], ◌∷◌, length, get_or, drop, refl, sym, arith, suc, length-drop, add-one}
-use Rattle.std.proofs.Math.Seq.{drop-cons}
-use Rattle.std.proofs.lemmas.Bool.Decides.{nat_tests}
-use Rattle.std.proofs.lemmas.List.{get_or-drop}
-use Rattle.std.proofs.lemmas.List.Elements.{All-from_get_or, recursion_from_All}
-use Rattle.std.specs.List.{AllByRecursion, list_any}
-use Rattle.std.specs.List.Sorted.{IsNonDecreasing}
+use Rattle.std.proofs.{Math.Seq.drop-cons, lemmas.Bool.Decides.nat_tests, lemmas.List.get_or-drop, lemmas.List.Elements.All-from_get_or, lemmas.List.Elements.recursion_from_All}
+use Rattle.std.specs.{List.AllByRecursion, List.list_any, List.Sorted.IsNonDecreasing}
 use Rattle.stn_lift.specs.Footprints.{share}
 
 unequal : (a b : ℕ) → a ≢ b → eqb a b ≡ false

@@ -1,11 +1,7 @@
 -- What is in two lists at once, by atoms and by their numbers.
-use Rattle.std.specs.Prelude.{slice_index_or}
+use Rattle.std.specs.{Prelude.slice_index_or, List.AllZip, List.list_any}
 use Rattle.std.proofs.Common.{◌≡◌, ℕ, Bool, true, nat_eq, List, [], ◌∷◌, Some, zero, suc, Contains, Decides, refl, sym, ap, subst, ◌∙◌}
-use Rattle.std.specs.List.{AllZip, list_any}
-use Rattle.std.proofs.lemmas.Bool.Decides.{Decides-eqb, same_from_decides}
-use Rattle.std.proofs.lemmas.List.Folds.{Any-from_list_any, list_any-from_Any}
-use Rattle.std.proofs.lemmas.Option.{same_Some}
-use Rattle.std.proofs.lemmas.Slice.Eq.{bytes_eq-Decides, slice_eq-Decides}
+use Rattle.std.proofs.{lemmas.Bool.Decides.Decides-eqb, lemmas.Bool.Decides.same_from_decides, lemmas.List.Folds.Any-from_list_any, lemmas.List.Folds.list_any-from_Any, lemmas.Option.same_Some, lemmas.Slice.Eq.bytes_eq-Decides, lemmas.Slice.Eq.slice_eq-Decides}
 use Rattle.stn_lift.specs.Footprints.{GroundAtom, Footprint, no_footprint, is_same_atom, IsInBoth, share, touches, interfere}
 use Rattle.stn_lift.specs.Numbering.{Numbering, AreDifferent, IsUnambiguous, IsNameAt, IsNumberOf, AreNumbersOf, IsNumbered}
 use Rattle.stn_lift.specs.Timelines.{numbers_at}

@@ -3,11 +3,8 @@ use Rattle.std.proofs.Common.{◌≡◌, ℕ, ◌+◌, ◌≤◌, List, [], ◌�
 use Rattle.std.specs.Result.{result_unwrap_or}
 use Rattle.stn_text.specs.Faults.{◌>>=◌, Fails}
 use Rattle.stn_net.specs.Event.{most_steps}
-use Rattle.stn_pddl.specs.declared.fault.DomainFault.{DomainFault}
-use Rattle.stn_pddl.specs.Schemas.{ActionSchema}
-use Rattle.stn_pddl.specs.Domains.{domain_of}
-use Rattle.stn_plan.specs.declared.fault.PlanFault.{PlanFault}
-use Rattle.stn_plan.specs.Steps.{PlannedStep, plan_of}
+use Rattle.stn_pddl.specs.{declared.fault.DomainFault.DomainFault, Schemas.ActionSchema, Domains.domain_of}
+use Rattle.stn_plan.specs.{declared.fault.PlanFault.PlanFault, Steps.PlannedStep, Steps.plan_of}
 use Rattle.stn_plan.proofs.StepFacts.{plan_of-few}
 use Rattle.stn_lift.specs.declared.fault.LiftFault.{LiftFault}
 use Rattle.stn_lift.specs.declared.fault.LiftFault.TheVariants.{UnknownAction, Arity, DurationDiffers, PastHorizon, Memory}

@@ -2,21 +2,16 @@
 use Rattle.std.proofs.Common.{◌≡◌, ℕ, List, [], Result, Ok, Err, ap, ◌∙◌}
 use Rattle.std.specs.Result.{result_unwrap_or}
 use Rattle.stn_text.specs.Faults.{Fails}
-use Rattle.stn_pddl.specs.declared.fault.DomainFault.{DomainFault}
+use Rattle.stn_pddl.specs.{declared.fault.DomainFault.DomainFault, Schemas.ActionSchema, Domains.domain_of}
 use Rattle.stn_pddl.specs.declared.fault.DomainFault.TheVariants as domain_fault
 use Rattle.stn_pddl.specs.Faults as pddl
-use Rattle.stn_pddl.specs.Schemas.{ActionSchema}
-use Rattle.stn_pddl.specs.Domains.{domain_of}
-use Rattle.stn_plan.specs.declared.fault.PlanFault.{PlanFault}
+use Rattle.stn_plan.specs.{declared.fault.PlanFault.PlanFault, Steps.PlannedStep, Steps.plan_of}
 use Rattle.stn_plan.specs.declared.fault.PlanFault.TheVariants as plan_fault
 use Rattle.stn_plan.specs.Steps as timed
-use Rattle.stn_plan.specs.Steps.{PlannedStep, plan_of}
 use Rattle.stn_lift.specs.declared.fault.BaseFault.TheVariants.{Domain, Plan, Lift, TooManySteps}
-use Rattle.stn_lift.specs.declared.fault.LiftFault.{LiftFault}
+use Rattle.stn_lift.specs.{declared.fault.LiftFault.LiftFault, Faults.of_domain, Faults.of_plan, Faults.of_lifting, Activities.Activity, Activities.activities}
 use Rattle.stn_lift.specs.declared.fault.LiftFault.TheVariants.{UnknownAction, Arity, DurationDiffers, PastHorizon, Memory}
-use Rattle.stn_lift.specs.Faults.{of_domain, of_plan, of_lifting}
 use Rattle.stn_lift.specs.Activities as lifting
-use Rattle.stn_lift.specs.Activities.{Activity, activities}
 use Rattle.stn_lift.specs.PlanSource.{PlanSource, files, of_lift, steps_in, lifted, activities_of, source_with, source_with_lifted, base_of, is_memory}
 
 -- a fault of a text or of a step is not that a bare plan has too many steps

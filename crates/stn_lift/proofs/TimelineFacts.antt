@@ -1,23 +1,17 @@
 -- The steps of a plan, one after another.
 use Rattle.std.proofs.Common.{◌≡◌, ℕ, ℤ, pos, ◌+ℤ◌, ◌≤ℤ◌, suc, ◌+◌, ◌*◌, ◌<◌, List, [], ◌∷◌, ◌++◌, map, length, get_or, drop, add-one, Result, Ok, Err, refl, sym, ap, subst, ◌∙◌, append_assoc, arith}
 use Rattle.std.specs.List.{AllZip}
-use Rattle.std.proofs.lemmas.Int.{ints}
-use Rattle.std.proofs.Math.Seq.{drop-cons}
-use Rattle.std.proofs.lemmas.List.{map-append, append-nil, length-map}
+use Rattle.std.proofs.{lemmas.Int.ints, Math.Seq.drop-cons, lemmas.List.map-append, lemmas.List.append-nil, lemmas.List.length-map}
 use Rattle.stn_time.specs.Time.{horizon, IsWithinHorizon}
 use Rattle.stn_pddl.specs.Schemas.{ActionSchema}
 use Rattle.stn_time.proofs.Each.{each_pushed}
 use Rattle.stn_plan.specs.Steps.{PlannedStep}
 use Rattle.stn_text.specs.Faults.{◌>>=◌, Fails}
-use Rattle.stn_lift.specs.declared.fault.LiftFault.{LiftFault}
+use Rattle.stn_lift.specs.{declared.fault.LiftFault.LiftFault, Footprints.GroundAtom, Footprints.Footprint, Footprints.no_footprint, BaseBounds.times_behind, BaseBounds.footprints_behind, BaseBounds.event_footprints, Timelines.IsTimed, Timelines.IsTimeline, Timelines.IsLifted}
 use Rattle.stn_lift.specs.declared.fault.LiftFault.TheVariants.{UnknownAction, Arity, DurationDiffers, PastHorizon, Memory}
-use Rattle.stn_lift.specs.Footprints.{GroundAtom, Footprint, no_footprint}
 use Rattle.stn_lift.specs.Numbering.{Numbering, IsUnambiguous, Extends, IsNumbered}
 use Rattle.stn_lift.specs.Activities.{Activity, activity_of, activities, is_memory}
-use Rattle.stn_lift.specs.BaseBounds.{times_behind, footprints_behind, event_footprints}
-use Rattle.stn_lift.specs.Timelines.{IsTimed, IsTimeline, IsLifted}
-use Rattle.stn_lift.proofs.NumberLists.{numbered_kept, zip_push}
-use Rattle.stn_lift.proofs.Sharing.{none_numbered, numbered_at, same_interfere}
+use Rattle.stn_lift.proofs.{NumberLists.numbered_kept, NumberLists.zip_push, Sharing.none_numbered, Sharing.numbered_at, Sharing.same_interfere}
 
 -- a sum of two times that are not negative
 pub within_sum : (time duration : ℤ) → pos 0 ≤ℤ time → pos 0 ≤ℤ duration → (time +ℤ duration) ≤ℤ horizon → IsWithinHorizon (time +ℤ duration)

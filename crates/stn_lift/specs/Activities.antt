@@ -3,8 +3,7 @@ use Rattle.std.specs.Prelude.{◌≡◌, ℕ, ◌+◌, ℤ, ◌+ℤ◌, int_lt, 
 use Rattle.std.specs.Ordering.{int_eq}
 use Rattle.stn_time.specs.Time.{horizon}
 use Rattle.stn_text.specs.Faults.{◌>>=◌}
-use Rattle.stn_pddl.specs.Schemas.{ActionSchema}
-use Rattle.stn_pddl.specs.Domains.{action_named}
+use Rattle.stn_pddl.specs.{Schemas.ActionSchema, Domains.action_named}
 use Rattle.stn_plan.specs.Steps.{PlannedStep}
 use Rattle.stn_lift.specs.declared.fault.LiftFault.{LiftFault}
 use Rattle.stn_lift.specs.declared.fault.LiftFault.TheVariants.{UnknownAction, Arity, DurationDiffers, PastHorizon, Memory}

@@ -3,9 +3,8 @@ use Rattle.stn_pddl.specs.declared.fault.DomainFault.{DomainFault}
 use Rattle.stn_pddl.specs.declared.fault.DomainFault.TheVariants as domain
 use Rattle.stn_plan.specs.declared.fault.PlanFault.{PlanFault}
 use Rattle.stn_plan.specs.declared.fault.PlanFault.TheVariants as plan
-use Rattle.stn_lift.specs.declared.fault.LiftFault.{LiftFault}
+use Rattle.stn_lift.specs.{declared.fault.LiftFault.LiftFault, declared.fault.BaseFault.BaseFault}
 use Rattle.stn_lift.specs.declared.fault.LiftFault.TheVariants as lifting
-use Rattle.stn_lift.specs.declared.fault.BaseFault.{BaseFault}
 use Rattle.stn_lift.specs.declared.fault.BaseFault.TheVariants.{Domain, Plan, Lift, Memory}
 
 abbrev pub of_domain : DomainFault → BaseFault

@@ -1,8 +1,6 @@
 -- Ground atoms, and which of them an event needs, adds and deletes.
 use Rattle.std.specs.Prelude.{ℕ, Bool, ◌||◌, ◌⊎◌, List, [], ◌∷◌, ◌++◌, map, slice_index_or, Contains}
-use Rattle.std.specs.Cmp.Lexicographic.{pointwise}
-use Rattle.std.specs.List.{list_any}
-use Rattle.std.specs.Str.{bytes_eq}
+use Rattle.std.specs.{Cmp.Lexicographic.pointwise, List.list_any, Str.bytes_eq}
 use Rattle.stn_tree.specs.Names.{folded}
 use Rattle.stn_pddl.specs.Schemas.{TermSchema, Parameter, Constant, AtomSchema, ActionSchema}
 

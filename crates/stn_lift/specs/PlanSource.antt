@@ -2,22 +2,13 @@ use Rattle.std.specs.Prelude.{◌≡◌, ◌⊎◌, ℕ, ℤ, pos, ◌*◌, ◌�
 use Rattle.std.proofs.Common.{inl, inr}
 use Rattle.std.specs.Coded.{Coded, code_by, coded_ℕ, coded_list, coded×, coded⊎}
 use Rattle.std.specs.Result.{result_unwrap_or}
-use Rattle.stn_net.specs.Event.{most_steps}
-use Rattle.stn_net.specs.Difference.{Difference, NamesEvents}
-use Rattle.stn_net.specs.Horizon.{horizon_bounds}
-use Rattle.stn_net.specs.Schedule.{IsSchedule, times_of}
+use Rattle.stn_net.specs.{Event.most_steps, Difference.Difference, Difference.NamesEvents, Horizon.horizon_bounds, Schedule.IsSchedule, Schedule.times_of}
 use Rattle.stn_tree.specs.Scan.{most_text}
-use Rattle.stn_pddl.specs.declared.fault.DomainFault.{DomainFault}
-use Rattle.stn_pddl.specs.Schemas.{ActionSchema}
-use Rattle.stn_pddl.specs.Domains.{domain_of}
-use Rattle.stn_plan.specs.declared.fault.PlanFault.{PlanFault}
-use Rattle.stn_plan.specs.Steps.{PlannedStep, plan_of}
-use Rattle.stn_lift.specs.declared.fault.LiftFault.{LiftFault}
-use Rattle.stn_lift.specs.declared.fault.BaseFault.{BaseFault}
+use Rattle.stn_pddl.specs.{declared.fault.DomainFault.DomainFault, Schemas.ActionSchema, Domains.domain_of}
+use Rattle.stn_plan.specs.{declared.fault.PlanFault.PlanFault, Steps.PlannedStep, Steps.plan_of}
+use Rattle.stn_lift.specs.{declared.fault.LiftFault.LiftFault, declared.fault.BaseFault.BaseFault, declared.source.Source.Source, Activities.Activity, Activities.activities}
 use Rattle.stn_lift.specs.declared.fault.BaseFault.TheVariants.{Domain, Plan, Lift, TooManySteps, Memory}
-use Rattle.stn_lift.specs.declared.source.Source.{Source}
 use Rattle.stn_lift.specs.declared.source.Source.TheVariants.{Bare, Files}
-use Rattle.stn_lift.specs.Activities.{Activity, activities}
 use Rattle.stn_lift.specs.BaseBounds.{lifted_bounds, event_times, events_interfere, KeepsOrder}
 
 -- what a plan is made from, as a value: a number of steps alone, or the texts of a domain and of a plan

@@ -3,13 +3,8 @@
 use Rattle.std.specs.Prelude.{◌≡◌, ℕ, ◌+◌, ◌*◌, ◌++◌, ℤ, pos, ◌+ℤ◌, ◌≤ℤ◌, ◌≤◌, nat_eq, Bool, List, map, length, slice_index_or}
 use Rattle.std.specs.List.{AllZip, AllByRecursion}
 use Rattle.stn_time.specs.Time.{horizon}
-use Rattle.stn_net.specs.Event.{most_steps}
-use Rattle.stn_net.specs.Difference.{Difference}
-use Rattle.stn_net.specs.Horizon.{horizon_bounds}
-use Rattle.stn_net.specs.Schedule.{times_of}
-use Rattle.stn_lift.specs.Footprints.{Footprint, no_footprint, interfere}
-use Rattle.stn_lift.specs.Numbering.{Numbering, IsUnambiguous, IsNumbered}
-use Rattle.stn_lift.specs.Activities.{Activity}
+use Rattle.stn_net.specs.{Event.most_steps, Difference.Difference, Horizon.horizon_bounds, Schedule.times_of}
+use Rattle.stn_lift.specs.{Footprints.Footprint, Footprints.no_footprint, Footprints.interfere, Numbering.Numbering, Numbering.IsUnambiguous, Numbering.IsNumbered, Activities.Activity}
 use Rattle.stn_lift.specs.BaseBounds.{event_times, event_footprints, events_interfere, duration_bounds, orders}
 
 -- a step lies within the horizon

@@ -2,29 +2,17 @@
 -- flag.
 use Rattle.std.proofs.Common.{◌≡◌, ◌≢◌, ◌⊎◌, ◌∙◌, ℕ, Bool, codes, true, false, not, cond, List, [], ◌∷◌, ◌++◌, Option, Some, None, refl, sym, ap, subst, inl, inr, arith, length, zero, suc, is_some, ◌&&◌, ◌==◌, option_map}
 use Rattle.std.specs.Prelude.{IsSomeAnd, IfSome, find, fold, slice_get, option_and_then}
-use Rattle.std.specs.List.{list_any}
-use Rattle.std.specs.Option.{option_map_or}
-use Rattle.std.specs.Str.{bytes_eq, chars}
-use Rattle.std.proofs.lemmas.Bool.{ne_eqb, or_parts}
-use Rattle.std.proofs.lemmas.Option.{same_Some}
-use Rattle.std.proofs.lemmas.Slice.Eq.{bytes_eq-Decides}
-use Rattle.clap.specs.Lexer.{long_of, short_of}
-use Rattle.clap.specs.Facts.{explicit_source, parser_of_value, unwrap_or_range}
-use Rattle.clap.specs.Values.{Accepts, is_request, refused_kind}
-use Rattle.clap.specs.ValueTests.{accepts}
-use Rattle.clap.proofs.ValueTestLemmas.{accepts-Accepts}
+use Rattle.std.specs.{List.list_any, Option.option_map_or, Str.bytes_eq, Str.chars}
+use Rattle.std.proofs.{lemmas.Bool.ne_eqb, lemmas.Bool.or_parts, lemmas.Option.same_Some, lemmas.Slice.Eq.bytes_eq-Decides}
+use Rattle.clap.specs.{Lexer.long_of, Lexer.short_of, Facts.explicit_source, Facts.parser_of_value, Facts.unwrap_or_range, Values.Accepts, Values.is_request, Values.refused_kind, ValueTests.accepts, Takes.is_given, declared.builder.action.ArgAction.ArgAction, declared.builder.value_parser.ValueParser.ValueParser, declared.builder.value_parser.ValueParser.TheVariants.String}
+use Rattle.clap.proofs.{ValueTestLemmas.accepts-Accepts, FaultLemmas.request_fault}
 use Rattle.clap.specs.Walk.{Row, Rule, Text, Held, Names, Outcome, Step, Waiting, Walk, action_of, arg_by_id, arg_by_index, arg_by_long, arg_by_short, at_row, attached_value, after_flag, bundle_met, finished, first_of, has_row, long_met, most_values, nothing_held, option_met, option_word, plain_word, positional_held, reacted, reading_by, rows_after, settled, settled_rows, short_met, subcommand_met, takes_several, takes_values, to_positional, used, values_or_missing, walk, walk_from, walked, stronger, with_default, without, word_met}
 use Rattle.clap.specs.Walk as walk
 use Rattle.stn_line.specs.Given.{Each, HasWordsAmong, IsGiven}
 use Rattle.clap.specs.Simple.{App, Shape, argument_words, built, entered, label_of, names_of, rows_at, subcommand_of}
-use Rattle.clap.specs.Takes.{is_given}
 use Rattle.clap.specs.Kinds.{Kinds, check_kinds, or_else, range_kinds, request_kinds, value_kinds}
 use Rattle.clap.specs.Faults.{stray_fault, other_fault, action_fault, bundle_fault, bundle_step_fault, check_fault, defaults_fault, entered_fault, fault_of, flags_fault, flag_word_fault, level_fault, long_fault, option_fault, positional_fault, react_fault, repeat_fault, settle_fault, short_fault, step_fault, turn_fault, use_fault, values_fault, walk_fault, word_fault}
-use Rattle.clap.proofs.FaultLemmas.{request_fault}
-use Rattle.clap.specs.declared.builder.action.ArgAction.{ArgAction}
 use Rattle.clap.specs.declared.builder.action.ArgAction.TheVariants as action
-use Rattle.clap.specs.declared.builder.value_parser.ValueParser.{ValueParser}
-use Rattle.clap.specs.declared.builder.value_parser.ValueParser.TheVariants.{String}
 use Rattle.clap.specs.declared.builder.value_parser.ValueParser.TheVariants as parser
 use Rattle.clap.specs.declared.parser.matches.ValueSource.TheVariants.{CommandLine, DefaultValue}
 use Rattle.clap.specs.declared.error.kind.ErrorKind.TheVariants as kind

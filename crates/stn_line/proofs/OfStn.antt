@@ -1,24 +1,15 @@
 -- The general law at the program's own commands.
 use Rattle.std.proofs.Common.{map, Option, Bor, option_map, subst, false, Bool, codes, cond, sym, ◌∷◌, ◌++◌, ◌≡◌, ◌≢◌, ◌⊎◌, true, [], refl, inl, inr, Some, None, List}
-use Rattle.std.specs.Prelude.{IsSomeAnd, find}
-use Rattle.std.specs.Str.{bytes_eq}
+use Rattle.std.specs.{Prelude.IsSomeAnd, Prelude.find, Str.bytes_eq}
 use Rattle.std.proofs.lemmas.Slice.Eq.{bytes_eq-Decides}
-use Rattle.clap.specs.Facts.{parser_of_value}
-use Rattle.clap.specs.Values.{is_request}
-use Rattle.clap.specs.Matches.{found_of, subcommand_name_of}
-use Rattle.clap.specs.Simple.{subcommand_rows, subcommand_rows_of}
-use Rattle.clap.specs.declared.parser.matches.ArgMatches.{ArgMatches}
-use Rattle.clap.specs.declared.parser.matches.ArgMatches.TheViews.{out-ArgMatches}
-use Rattle.clap.specs.Walk.{action_of, arg_by_id, rows_of}
+use Rattle.clap.specs.{Facts.parser_of_value, Values.is_request, Matches.found_of, Matches.subcommand_name_of, Simple.subcommand_rows, Simple.subcommand_rows_of, declared.parser.matches.ArgMatches.ArgMatches, declared.parser.matches.ArgMatches.TheViews.out-ArgMatches, Walk.action_of, Walk.arg_by_id, Walk.rows_of, declared.builder.value_parser.ValueParser.ValueParser}
 use Rattle.clap.specs.Words.{Row, Rule, Shape, Text, built, fault_of, is_simple, is_simple_and_free, subcommand_of}
 use Rattle.clap.specs.declared.builder.action.ArgAction.TheVariants.{Append, Set, SetTrue}
-use Rattle.clap.specs.declared.builder.value_parser.ValueParser.{ValueParser}
 use Rattle.clap.specs.declared.builder.value_parser.ValueParser.TheVariants.{String, Unsigned}
 use Rattle.clap.specs.declared.builder.value_parser.ValueParser.TheVariants as parser
 use Rattle.stn_line.specs.Commands.{commands, program, stn}
 use Rattle.stn_line.specs.Given.{Each, HasWords, HasWordsAmong, HoldsWord, HoldsWords, IsGiven}
-use Rattle.stn_line.proofs.Values.{at_value, entered_is}
-use Rattle.stn_line.proofs.Fits.{IsPlainIn, ReadsPlainly, command_given}
+use Rattle.stn_line.proofs.{Values.at_value, Values.entered_is, Fits.IsPlainIn, Fits.ReadsPlainly, Fits.command_given}
 
 pub stn_simple : is_simple stn ≡ true
 unfolding stn

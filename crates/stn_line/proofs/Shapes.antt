@@ -1,15 +1,9 @@
 -- How a command grows, word by word, and the program, command by command.
 use Rattle.std.proofs.Common.{◌≡◌, ◌∙◌, ℕ, ◌+◌, ◌<◌, ap, ap₂, sym, subst, false, List, [], ◌∷◌, ◌++◌, ◌||◌, length, map, take, fold, get_or}
-use Rattle.std.proofs.lemmas.List.{map_more}
-use Rattle.std.proofs.lemmas.List.Sums.{fold-append}
-use Rattle.clap.specs.Built.{AddsArg, AddsSubcommand}
+use Rattle.std.proofs.{lemmas.List.map_more, lemmas.List.Sums.fold-append}
+use Rattle.clap.specs.{Built.AddsArg, Built.AddsSubcommand, declared.builder.arg.Arg.Arg, declared.builder.command.Command.Command}
 use Rattle.clap.specs.Words.{Rule, Shape, Text, app_of, rule_of, with_subcommand}
-use Rattle.clap.specs.declared.builder.arg.Arg.{Arg}
-use Rattle.clap.specs.declared.builder.command.Command.{Command}
-use Rattle.stn_line.specs.Commands.{command, top}
-use Rattle.stn_line.specs.Table.{Reads, read_rule, read_shape}
-use Rattle.stn_line.specs.declared.commands.Row.{Row}
-use Rattle.stn_line.specs.declared.commands.Word.{Word}
+use Rattle.stn_line.specs.{Commands.command, Commands.top, Table.Reads, Table.read_rule, Table.read_shape, declared.commands.Row.Row, declared.commands.Word.Word}
 
 -- the shape with one rule more, the last
 abbrev with_rule : Shape → Rule → Shape

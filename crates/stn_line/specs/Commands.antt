@@ -1,9 +1,7 @@
 -- The commands of `stn` and their words, as clap reads them.
 use Rattle.std.specs.Prelude.{ℕ, List, [], ◌∷◌, Some, true, false, codes}
 use Rattle.stn_records.specs.Id.{most_sites}
-use Rattle.clap.specs.Lexer.{usize_max}
-use Rattle.clap.specs.Simple.{new_shape}
-use Rattle.clap.specs.Words.{App, Rule, Shape, Text, new_rule}
+use Rattle.clap.specs.{Lexer.usize_max, Simple.new_shape, Words.App, Words.Rule, Words.Shape, Words.Text, Words.new_rule}
 use Rattle.clap.specs.declared.builder.action.ArgAction.TheVariants as action
 use Rattle.clap.specs.declared.builder.value_parser.ValueParser.TheVariants as parser
 

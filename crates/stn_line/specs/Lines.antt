@@ -1,15 +1,10 @@
 -- What the words of a command line ask for, by what clap finds in them: a command, and the value of each of its words.
 use Rattle.std.specs.Prelude.{◌≡◌, ◌≢◌, ◌↔◌, ◌≤◌, ℕ, Bool, IsTrue, List, [], Option, Some, codes, map, option_map, unwrap_or, ⊤}
-use Rattle.std.specs.Borrow.{Bor}
-use Rattle.std.specs.Str.Parse.{digits_value, without_leading_plus}
+use Rattle.std.specs.{Borrow.Bor, Str.Parse.digits_value, Str.Parse.without_leading_plus}
 use Rattle.clap.specs.Words.{IsAmong, Row, Text, all_of, fault_of, first_of, kind_of}
 use Rattle.clap.specs.declared.error.kind.ErrorKind.TheVariants.{OutOfMemory}
-use Rattle.stn_line.specs.Commands.{most_connections, most_seconds, usual_seconds, stn}
-use Rattle.stn_line.specs.declared.words.SiteLog.{SiteLog}
-use Rattle.stn_line.specs.declared.words.EventChoice.{EventChoice}
-use Rattle.stn_line.specs.declared.words.Line.{Line}
+use Rattle.stn_line.specs.{Commands.most_connections, Commands.most_seconds, Commands.usual_seconds, Commands.stn, declared.words.SiteLog.SiteLog, declared.words.EventChoice.EventChoice, declared.words.Line.Line, declared.words.LineFault.LineFault}
 use Rattle.stn_line.specs.declared.words.Line.TheVariants as line
-use Rattle.stn_line.specs.declared.words.LineFault.{LineFault}
 use Rattle.stn_line.specs.declared.words.LineFault.TheVariants as fault
 
 -- the value of the word with this name

@@ -1,13 +1,10 @@
 -- For proofs alone: no public clause cites these words.
 -- How clap reads what the table of the commands says.
 use Rattle.std.specs.Prelude.{◌≡◌, false, map}
-use Rattle.clap.specs.Words.{Rule, Shape, shape_of}
-use Rattle.clap.specs.declared.builder.command.Command.{Command}
-use Rattle.clap.specs.declared.builder.command.Command.TheViews.{out-Command as fields_of}
+use Rattle.clap.specs.{Words.Rule, Words.Shape, Words.shape_of, declared.builder.command.Command.Command, declared.builder.command.Command.TheViews.out-Command as fields_of}
 use Rattle.stn_line.specs.Commands.{command, word_rule, number_rule, maybe_rule, many_rule, option_rule, number_option_rule, flag_rule, options_rule, most_seconds}
-use Rattle.stn_line.specs.declared.commands.Word.{Word}
+use Rattle.stn_line.specs.{declared.commands.Word.Word, declared.commands.Row.Row}
 use Rattle.stn_line.specs.declared.commands.Word.TheVariants as word
-use Rattle.stn_line.specs.declared.commands.Row.{Row}
 
 abbrev pub read_rule : Word → Rule
 read_rule (word.Text name help) = word_rule name.now

@@ -5,8 +5,7 @@ use Rattle.stn_lift.specs.declared.fault.BaseFault.{BaseFault}
 use Rattle.stn_lift.specs.declared.fault.BaseFault.TheVariants as base
 use Rattle.stn_site.specs.declared.faults.ReplicaFault.{ReplicaFault}
 use Rattle.stn_site.specs.declared.faults.ReplicaFault.TheVariants as replica
-use Rattle.stn_log.specs.Faults.{of_base, of_replica}
-use Rattle.stn_log.specs.declared.fault.LoadFault.{LoadFault}
+use Rattle.stn_log.specs.{Faults.of_base, Faults.of_replica, declared.fault.LoadFault.LoadFault}
 use Rattle.stn_log.specs.declared.fault.LoadFault.TheVariants.{Read, Bound}
 
 -- the fault of an answer

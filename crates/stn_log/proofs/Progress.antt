@@ -1,29 +1,15 @@
 -- A log that is read frame by frame.
 use Rattle.std.proofs.Common.{◌≡◌, ℕ, ◌+◌, ◌-◌, ◌<◌, ◌≤◌, Bool, true, false, ltb, List, [], ◌∷◌, ◌++◌, length, take, Option, Some, None, Result, Ok, Err, IfSome, inl, inr, refl, sym, ap, subst, ◌∙◌, arith, append_assoc, append-nil, length-append}
-use Rattle.std.specs.Prelude.{nat_lt, is_some, option_map}
-use Rattle.std.specs.Io.KnownBytes.{Consumes, IsAtEnd}
-use Rattle.std.specs.List.{flat_map, AllByRecursion}
-use Rattle.std.proofs.KnownBytes.{Consumes-nil, Consumes-trans}
-use Rattle.std.proofs.Math.Seq.{take-append-add}
-use Rattle.std.proofs.lemmas.List.{take_all, take_at}
-use Rattle.std.proofs.lemmas.Bool.{false≢true}
-use Rattle.std.proofs.lemmas.Bool.Decides.{nat_tests}
-use Rattle.std.proofs.lemmas.Grind.{flat_map-append}
+use Rattle.std.specs.{Prelude.nat_lt, Prelude.is_some, Prelude.option_map, Io.KnownBytes.Consumes, Io.KnownBytes.IsAtEnd, List.flat_map, List.AllByRecursion}
+use Rattle.std.proofs.{KnownBytes.Consumes-nil, KnownBytes.Consumes-trans, Math.Seq.take-append-add, lemmas.List.take_all, lemmas.List.take_at, lemmas.Bool.false≢true, lemmas.Bool.Decides.nat_tests, lemmas.Grind.flat_map-append}
 use Rattle.stn_device.specs.Bytes.{most_bytes, ConsumesAtMost}
 use Rattle.stn_time.proofs.Each.{each_pushed}
-use Rattle.stn_wire.specs.Frame.{FrameContent, spelling, IsFrame}
-use Rattle.stn_wire.specs.Front.{IsFront, faulty, unfinished}
-use Rattle.stn_wire.specs.declared.fault.WireFault.{WireFault}
+use Rattle.stn_wire.specs.{Frame.FrameContent, Frame.spelling, Frame.IsFrame, Front.IsFront, Front.faulty, Front.unfinished, declared.fault.WireFault.WireFault}
 use Rattle.stn_wire.proofs.Fronts.{fault_more}
-use Rattle.stn_stream.specs.Stream.{IsNext, IsCounted}
-use Rattle.stn_stream.specs.Held.{Stream}
-use Rattle.stn_stream.specs.declared.fault.StreamFault.{StreamFault}
+use Rattle.stn_stream.specs.{Stream.IsNext, Stream.IsCounted, Held.Stream, declared.fault.StreamFault.StreamFault}
 use Rattle.stn_stream.specs.declared.fault.StreamFault.TheVariants as stream
-use Rattle.stn_log.specs.Faults.{of_stream}
-use Rattle.stn_log.specs.Opening.{opened_so_far, closed_log, IsRefused}
-use Rattle.stn_log.specs.declared.reading.Opened.{Opened}
+use Rattle.stn_log.specs.{Faults.of_stream, Opening.opened_so_far, Opening.closed_log, Opening.IsRefused, declared.reading.Opened.Opened, declared.fault.LoadFault.LoadFault}
 use Rattle.stn_log.specs.Log.{Log, LogSoFar, log_held, taken, all_taken, all_taken_by, meaning_of, IsEnding, IsAnswer, IsRest, IsDecided, IsOpen}
-use Rattle.stn_log.specs.declared.fault.LoadFault.{LoadFault}
 use Rattle.stn_log.specs.declared.fault.LoadFault.TheVariants.{Read, Bound, Frame, LogForm, Base, Take, Memory}
 
 is_more : (most n : ℕ) → most < n → ltb most n ≡ true

@@ -1,31 +1,19 @@
 -- What is saved says what a site holds.
 use Rattle.std.proofs.Common.{◌≡◌, ℕ, ◌+◌, ◌≤◌, Bool, false, ltb, List, [], ◌∷◌, ◌++◌, length, Option, Some, None, Result, Ok, refl, sym, ap, subst, ◌∙◌, arith, append-nil, length-append}
-use Rattle.std.specs.Prelude.{map, nat_lt, find}
-use Rattle.stn_records.specs.Record.{same_records}
-use Rattle.std.specs.Bool.{then_some}
-use Rattle.std.specs.Set.{distinct_count}
+use Rattle.std.specs.{Prelude.map, Prelude.nat_lt, Prelude.find, Bool.then_some, Set.distinct_count, FinMap.FinMap, FinMap.entries-from_sorted}
+use Rattle.stn_records.specs.{Record.same_records, Id.SiteCounter, Id.id_cmp, Id.lesser_of, declared.record.Record.Record, Maps.differ, Maps.dispute, Maps.with_entries}
 use Rattle.std.specs.FinMap as fin
-use Rattle.std.specs.FinMap.{FinMap, entries-from_sorted}
-use Rattle.std.proofs.lemmas.List.{take_all}
-use Rattle.std.proofs.lemmas.Bool.Decides.{nat_tests}
+use Rattle.std.proofs.{lemmas.List.take_all, lemmas.Bool.Decides.nat_tests}
 use Rattle.stn_device.specs.Bytes.{most_bytes}
 use Rattle.stn_lift.specs.PlanSource.{PlanSource, events_of, base_of}
-use Rattle.stn_records.specs.Id.{SiteCounter, id_cmp, lesser_of}
-use Rattle.stn_records.specs.declared.record.Record.{Record}
-use Rattle.stn_records.specs.Maps.{differ, dispute, with_entries}
 use Rattle.stn_records.specs.Content.{most_known, Content, same_ids, with_ids, replaced_ids, known_ids, known_count, known_in_either, no_content, dispute_contents, joined_contents, IsSound}
 use Rattle.stn_records.proofs.Places.{nothing_sorted}
-use Rattle.stn_site.specs.Bounds.{RecordsName}
-use Rattle.stn_site.specs.Held.{Held, holding_state}
-use Rattle.stn_site.specs.Refusals.{take_refusal}
-use Rattle.stn_site.specs.declared.faults.ReplicaFault.{ReplicaFault}
-use Rattle.stn_site.specs.declared.faults.ReplicaFault.TheVariants.{Full}
+use Rattle.stn_site.specs.{Bounds.RecordsName, Held.Held, Held.holding_state, Refusals.take_refusal, declared.faults.ReplicaFault.ReplicaFault, declared.faults.ReplicaFault.TheVariants.Full}
 use Rattle.stn_site.proofs.Refused.{agreed_take}
 use Rattle.stn_wire.specs.Spelling.{four}
 use Rattle.stn_wire.specs.Frame.{FrameContent, hello, records, body_of, spelling, IsFrame}
 use Rattle.stn_log.specs.Log.{Log, LogSoFar, log_held, so_far, log_text, opened, joined, taken, all_taken, all_taken_by, IsAnswer, IsLog}
-use Rattle.stn_log.specs.declared.version.Version.TheVariants.{New}
-use Rattle.stn_log.specs.declared.fault.LoadFault.{LoadFault}
+use Rattle.stn_log.specs.{declared.version.Version.TheVariants.New, declared.fault.LoadFault.LoadFault}
 
 -- a log doesn't say by how much work it came
 pub same_log : (one other : Held) → other.source ≡ one.source → other.state ≡ one.state → log_held other ≡ log_held one

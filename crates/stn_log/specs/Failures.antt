@@ -1,15 +1,12 @@
 -- What is printed where a log is not loaded or not saved.
 use Rattle.stn_refusal.specs.declared.code.Code.TheVariants as code
-use Rattle.stn_refusal.specs.declared.failure.Failure.{Failure}
-use Rattle.stn_refusal.specs.declared.failure.Failure.TheVariants.{Failed}
+use Rattle.stn_refusal.specs.{declared.failure.Failure.Failure, declared.failure.Failure.TheVariants.Failed, Refusals.refused, Refusals.out_of_memory}
 use Rattle.stn_refusal.specs.declared.failure.Fault.TheVariants as device
-use Rattle.stn_refusal.specs.Refusals.{refused, out_of_memory}
 use Rattle.stn_wire.specs.Failures.{wire_failure}
 use Rattle.stn_lift.specs.Failures.{base_failure}
 use Rattle.stn_site.specs.Failures.{replica_failure}
-use Rattle.stn_log.specs.declared.fault.SaveFault.{SaveFault}
+use Rattle.stn_log.specs.{declared.fault.SaveFault.SaveFault, declared.fault.LoadFault.LoadFault}
 use Rattle.stn_log.specs.declared.fault.SaveFault.TheVariants as save
-use Rattle.stn_log.specs.declared.fault.LoadFault.{LoadFault}
 use Rattle.stn_log.specs.declared.fault.LoadFault.TheVariants as load
 
 abbrev pub save_failure : SaveFault → Failure

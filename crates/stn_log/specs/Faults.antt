@@ -1,8 +1,6 @@
 -- Why a log is not loaded, from why its stream ends or one of its frames is refused: lack of memory is always Memory.
-use Rattle.stn_stream.specs.declared.fault.FrameFault.{FrameFault}
-use Rattle.stn_stream.specs.declared.fault.StreamFault.{StreamFault}
+use Rattle.stn_stream.specs.{declared.fault.FrameFault.FrameFault, declared.fault.StreamFault.StreamFault, Stream.wire_fault}
 use Rattle.stn_stream.specs.declared.fault.StreamFault.TheVariants as stream
-use Rattle.stn_stream.specs.Stream.{wire_fault}
 use Rattle.stn_lift.specs.declared.fault.BaseFault.{BaseFault}
 use Rattle.stn_lift.specs.declared.fault.BaseFault.TheVariants as base
 use Rattle.stn_site.specs.declared.faults.ReplicaFault.{ReplicaFault}

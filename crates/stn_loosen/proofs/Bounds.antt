@@ -1,13 +1,11 @@
 -- When a bound is one.
 use Rattle.std.proofs.Common.{◌≡◌, ◌↔◌, ℤ, Option, is_some, IsSome, IfOk, sym, ap, subst, ◌∙◌, ℕ, Result, Ok, Err, IsOk, IfErr, refl, ⊎_elim, arith}
-use Rattle.std.proofs.lemmas.Int.{ints}
-use Rattle.stn_net.specs.declared.bound.BoundFault.{BoundFault}
+use Rattle.std.proofs.{lemmas.Int.ints, lemmas.Bool.false≢true}
+use Rattle.stn_net.specs.{declared.bound.BoundFault.BoundFault, Difference.Difference, Difference.IsBoundWithin, Difference.IsFaultOf}
 use Rattle.stn_net.specs.declared.bound.BoundFault.TheVariants.{NoEvent, SameEvent, Crossed}
 use Rattle.std.specs.Result.{result_ok}
-use Rattle.std.proofs.lemmas.Bool.{false≢true}
 use Rattle.stn_time.specs.Time.{IsWithinHorizon}
 use Rattle.stn_loosen.specs.Stepped.{IsBoundOf}
-use Rattle.stn_net.specs.Difference.{Difference, IsBoundWithin, IsFaultOf}
 
 -- nothing stands against a bound
 pub bound_is_ok : {B : Type 0} (events : ℕ) (bound : Difference) (result : Result B BoundFault) → IfErr result (IsFaultOf events bound) → IsBoundWithin events bound → IsOk result

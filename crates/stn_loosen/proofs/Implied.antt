@@ -1,18 +1,12 @@
 -- Which bounds a matrix shows to be implied, and the matrix with one bound more.
 use Rattle.std.proofs.Common.{◌≡◌, ℕ, ℤ, ◌≤ℤ◌, neg_ℤ, ◌↔◌, Bool, true, false, IsTrue, List, [], ◌∷◌, ◌++◌, refl, sym, ap, subst, ◌∙◌, append_assoc}
-use Rattle.std.proofs.lemmas.Int.{ints}
+use Rattle.std.proofs.{lemmas.Int.ints, lemmas.Bool.false≢true}
 use Rattle.std.proofs.Common.{arith, ◌<ℤ◌, is_le, Ordering, Less, Equal, Greater}
 use lib.Signed.{le_z}
-use Rattle.std.specs.Ordering.{int_cmp, MatchOrdering}
-use Rattle.std.specs.Cmp.{int_ranks}
-use Rattle.std.proofs.lemmas.Bool.{false≢true}
-use Rattle.stn_net.specs.Difference.{Difference}
-use Rattle.stn_net.specs.Horizon.{horizon_bounds}
-use Rattle.stn_net.specs.Schedule.{HasSchedule}
-use Rattle.stn_matrix.specs.Table.{Table}
-use Rattle.stn_matrix.specs.Tightest.{IsTightest, IsExact}
-use Rattle.stn_loosen.specs.Loosened.{Imply}
-use Rattle.stn_loosen.specs.Making.{all_bounds, AreTaken}
+use Rattle.std.specs.{Ordering.int_cmp, Ordering.MatchOrdering, Cmp.int_ranks}
+use Rattle.stn_net.specs.{Difference.Difference, Horizon.horizon_bounds, Schedule.HasSchedule}
+use Rattle.stn_matrix.specs.{Table.Table, Tightest.IsTightest, Tightest.IsExact}
+use Rattle.stn_loosen.specs.{Loosened.Imply, Making.all_bounds, Making.AreTaken}
 
 -- both tightest differences are within the bound exactly where it is implied
 pub implied_from : (bounds : List Difference) (bound : Difference) (there back : ℤ) → IsTightest bounds bound.from bound.to there → IsTightest bounds bound.to bound.from back
@@ -71,17 +65,6 @@ module _ (bounds : List Difference) (bound : Difference) (from to : ℕ) (there 
     λ is. absurd (false≢true (sym refused ∙ is)),
     λ implied. tells ∙ le_tells there hi (subst (λ n. there ≤ℤ n) (sym hi_is) (upper_from bounds bound there forth_of implied)),
   )
-
-  -- the upper side is implied, so the lower side tells
-  pub tells_lower : (other same : ℕ) (back lo opposite : ℤ) (upper lower : Bool) → other ≡ bound.to → same ≡ bound.from → lo ≡ bound.lo → opposite ≡ neg_ℤ lo
-      → IsTightest bounds other same back → upper ≡ is_le (int_cmp there hi) → upper ≡ true → lower ≡ is_le (int_cmp back opposite) → IsTrue lower ↔ Imply bounds bound
-  tells_lower other same back lo opposite upper lower other_is same_is lo_is opposite_is home tells_above holds tells =
-      let home_of : IsTightest bounds bound.to bound.from back = subst (λ n. IsTightest bounds bound.to n back) same_is (subst (λ n. IsTightest bounds n same back) other_is home) in
-      let side : opposite ≡ neg_ℤ bound.lo = opposite_is ∙ ap neg_ℤ lo_is in
-      let above : there ≤ℤ bound.hi = subst (λ n. there ≤ℤ n) hi_is (le_from there hi (sym tells_above ∙ holds)) in (
-        λ is. implied_from bounds bound there back forth_of home_of above (subst (λ n. back ≤ℤ n) side (le_from back opposite (sym tells ∙ is))),
-        λ implied. tells ∙ le_tells back opposite (subst (λ n. back ≤ℤ n) (sym side) (lower_from bounds bound back home_of implied)),
-      )
 
 pub le_z_tells : (a b : ℤ) → a ≤ℤ b → le_z a b ≡ true
 le_z_tells a b less = grind (arith, ints, less)

@@ -1,15 +1,11 @@
 -- Parts of lists, and schedules of bounds and of more.
 use Rattle.std.proofs.Common.{◌≡◌, ℕ, ◌+◌, ◌<◌, ◌≤◌, zero, suc, Bool, true, false, eqb, List, [], ◌∷◌, ◌++◌, length, take, drop, refl, sym, ap, subst, ◌∙◌, arith, append_assoc, length-append}
-use Rattle.std.specs.List.{AllByRecursion}
-use Rattle.std.proofs.lemmas.Bool.Decides.{nat_tests}
-use Rattle.std.proofs.lemmas.List.{take_at, drop_at}
-use Rattle.std.specs.Fn.{Called, ComputesKey}
-use Rattle.std.proofs.lemmas.Fn.{always_returns_same}
+use Rattle.std.specs.{List.AllByRecursion, Fn.Called, Fn.ComputesKey}
+use Rattle.std.proofs.{lemmas.Bool.Decides.nat_tests, lemmas.List.take_at, lemmas.List.drop_at, lemmas.Fn.always_returns_same}
 use denote.Param.Members.{Mut}
 use denote.Ref.{Bor}
 use Rattle.stn_time.proofs.Each.{each_parted}
-use Rattle.stn_net.specs.Difference.{Difference}
-use Rattle.stn_net.specs.Horizon.{horizon_bound, horizon_bounds}
+use Rattle.stn_net.specs.{Difference.Difference, Horizon.horizon_bound, Horizon.horizon_bounds}
 
 module _ {X : Type 0} (xs ys zs : List X) where
   -- the middle one of three lists

@@ -1,18 +1,13 @@
 -- Records that are made one after the other.
-use Rattle.std.proofs.Common.{◌≡◌, ℕ, ℤ, ◌+◌, ◌<◌, ◌≤◌, List, [], ◌∷◌, ◌++◌, map, length, take, drop, get_or, refl, sym, ap, subst, ◌∙◌, arith, append_assoc, append-nil, length-append, ⊎_elim, All}
+use Rattle.std.proofs.Common.{◌≡◌, ℕ, ℤ, ◌+◌, ◌<◌, ◌≤◌, List, [], ◌∷◌, ◌++◌, map, length, take, drop, get_or, sym, ap, subst, ◌∙◌, arith, append_assoc, length-append, ⊎_elim, All}
 use Rattle.std.specs.List.{AllByRecursion}
 use Rattle.std.proofs.lemmas.List.{map_more, map-append, take_more, take-append-drop}
 use Rattle.std.proofs.lemmas.List.Elements.{All-take, All-from_recursion, recursion_from_All}
-use Rattle.stn_net.specs.Difference.{Difference}
-use Rattle.stn_net.specs.Horizon.{horizon_bounds}
-use Rattle.stn_net.specs.Schedule.{Meets, IsSchedule, HasSchedule}
+use Rattle.stn_net.specs.{Difference.Difference, Horizon.horizon_bounds, Schedule.Meets, Schedule.IsSchedule, Schedule.HasSchedule}
 use Rattle.stn_matrix.specs.Table.{Table}
 use Rattle.stn_records.specs.Content.{most_known}
 use Rattle.stn_replica.proofs.Schedules.{schedule_before, met_behind, schedule_with}
-use Rattle.stn_loosen.specs.Slack.{Slack, loose}
-use Rattle.stn_loosen.specs.Loosened.{Imply, AreKept}
-use Rattle.stn_loosen.specs.Making.{all_bounds, AreTaken, IsNext, IsCauseOf, IsCauseWith}
-use Rattle.stn_loosen.specs.declared.fault.LoosenFault.{LoosenFault}
+use Rattle.stn_loosen.specs.{Slack.Slack, Slack.loose, Loosened.Imply, Loosened.AreKept, Making.all_bounds, Making.AreTaken, Making.IsNext, Making.IsCauseOf, Making.IsCauseWith, declared.fault.LoosenFault.LoosenFault}
 use Rattle.stn_loosen.specs.declared.fault.LoosenFault.TheVariants.{Full, Memory}
 use Rattle.stn_loosen.proofs.Kept.{AreKept-push, kept_hold}
 
@@ -52,16 +47,6 @@ pub record IsMadeTo (old orders : List Difference) (first : Table) (place : ℕ)
   pub taken : AreTaken records table
   pub events : table.events ≡ first.events
   pub few : length records ≤ most_known
-
-pub made_to_none : (old orders : List Difference) (table : Table) → AreTaken old table → length old ≤ most_known → IsMadeTo old orders table 0 old table
-made_to_none old orders table taken few = record {
-  kept = [];
-  made = sym (append-nil old);
-  chosen = refl;
-  taken = taken;
-  events = refl;
-  few = few;
-}
 
 module _ (old orders : List Difference) (first : Table) (place : ℕ) (records : List Difference) (table : Table) (sofar : IsMadeTo old orders first place records table)
     (order : Difference) (within : place < length orders) (here : order ≡ get_or orders place order) where

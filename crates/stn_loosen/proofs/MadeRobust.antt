@@ -1,25 +1,14 @@
 -- The records of the robust plan, made behind those of the loosened plan.
 use Rattle.std.specs.Prelude.{All, OnOk, Result, Ok, Err}
 use Rattle.std.proofs.Common.{◌≡◌, ℕ, ◌≤◌, List, ◌++◌, length, take, drop, refl, sym, ap, subst, ◌∙◌, arith, append_assoc, length-append}
-use Rattle.std.proofs.lemmas.List.{take_at, drop_at, length-map}
-use Rattle.std.proofs.lemmas.List.Elements.{All-from_recursion}
-use Rattle.stn_net.specs.Difference.{Difference, NamesEvents}
-use Rattle.stn_net.specs.Horizon.{horizon_bounds}
-use Rattle.stn_net.specs.Schedule.{HasSchedule}
+use Rattle.std.proofs.{lemmas.List.take_at, lemmas.List.drop_at, lemmas.List.length-map, lemmas.List.Elements.All-from_recursion}
+use Rattle.stn_net.specs.{Difference.Difference, Difference.NamesEvents, Horizon.horizon_bounds, Schedule.HasSchedule}
 use Rattle.stn_lift.specs.PlanSource.{PlanSource, events_of, IsSoundSource}
 use Rattle.stn_matrix.specs.Table.{Table}
-use Rattle.stn_loosen.specs.declared.fault.RobustFault.{RobustFault}
+use Rattle.stn_loosen.specs.{declared.fault.RobustFault.RobustFault, Slack.Slack, Slack.IsSlack, Slack.loose, Moved.moved_bounds, Robust.loose_bounds, Robust.HasPromise, Making.all_bounds, Making.AreTaken, Stepped.AreSteps, Stepped.AreMadeBehind, Stepped.IsCauseBehind, Whole.IsMadeRobust, Whole.IsCauseAfter}
 use Rattle.stn_loosen.specs.declared.fault.RobustFault.TheVariants.{Full, NotRobust, Memory}
-use Rattle.stn_loosen.specs.Slack.{Slack, IsSlack, loose}
 use Rattle.stn_loosen.specs.Loosened.{durations_of, AreKept, AreLoosened, bounds_with, loose_durations}
-use Rattle.stn_loosen.specs.Moved.{moved_bounds}
-use Rattle.stn_loosen.specs.Robust.{loose_bounds, HasPromise}
-use Rattle.stn_loosen.specs.Making.{all_bounds, AreTaken}
-use Rattle.stn_loosen.specs.Stepped.{AreSteps, AreMadeBehind, IsCauseBehind}
-use Rattle.stn_loosen.specs.Whole.{IsMadeRobust, IsCauseAfter}
-use Rattle.stn_loosen.proofs.Steps.{source_steps}
-use Rattle.stn_loosen.proofs.Robustness.{sources_moved, moved_possible, records_promise}
-use Rattle.stn_loosen.proofs.Settings.{IsMetIn, each_weaker}
+use Rattle.stn_loosen.proofs.{Steps.source_steps, Robustness.sources_moved, Robustness.moved_possible, Robustness.records_promise, Settings.IsMetIn, Settings.each_weaker}
 
 module _ (source : PlanSource) (sound : IsSoundSource source) (slack : Slack) (is : IsSlack slack) (loosened : List Difference) (are : AreLoosened source slack loosened)
     (events steps : ℕ) (same : events ≡ events_of source) (count : steps ≡ length (durations_of source)) where

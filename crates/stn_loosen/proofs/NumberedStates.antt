@@ -1,20 +1,14 @@
 -- A state whose records are numbered from 1 on.
 use Rattle.std.proofs.Common.{◌≡◌, ℕ, ◌+◌, ◌<◌, ◌≤◌, max, Bool, true, eqb, not, filter, Ordering, Equal, Greater, List, [], ◌∷◌, ◌++◌, map, length, is_some, refl, sym, ap, subst, ◌∙◌, arith, append-nil}
-use Rattle.std.specs.Ordering.{nat_cmp, ordering_then}
-use Rattle.std.specs.List.{AllByRecursion}
+use Rattle.std.specs.{Ordering.nat_cmp, Ordering.ordering_then, List.AllByRecursion, FinMap.Entries.put}
 use Rattle.std.specs.FinMap.{empty, keys, entries, entries-insert, len-entries, len-empty, get-empty, contains_key}
-use Rattle.std.specs.FinMap.Entries.{put}
 use Rattle.std.proofs.lemmas.Bool.Decides.{nat_tests}
 use Rattle.stn_net.specs.Difference.{Difference}
 use Rattle.stn_lift.specs.PlanSource.{PlanSource, bare, base_bounds, steps_of}
-use Rattle.stn_records.specs.Id.{SiteCounter, id_cmp}
-use Rattle.stn_records.specs.declared.record.Record.{Record}
+use Rattle.stn_records.specs.{Id.SiteCounter, Id.id_cmp, declared.record.Record.Record, ContentLaws.ids_total}
 use Rattle.stn_records.specs.Content.{Content, no_content, RecordMap, IdSet, with_record, with_ids, replaced_set, is_replaced, known_ids, next_counter, greatest_counter}
-use Rattle.stn_records.specs.ContentLaws.{ids_total}
-use Rattle.stn_site.specs.Held.{plain}
-use Rattle.stn_site.specs.Bounds.{bounds_of, live_bounds, all_bounds}
-use Rattle.stn_loosen.specs.Loosened.{bounds_with}
-use Rattle.stn_loosen.specs.Numbered.{numbered, Holds}
+use Rattle.stn_site.specs.{Held.plain, Bounds.bounds_of, Bounds.live_bounds, Bounds.all_bounds}
+use Rattle.stn_loosen.specs.{Loosened.bounds_with, Numbered.numbered, Numbered.Holds}
 
 -- a key that comes after all others is put last
 put_last : {K X : Type 0} (R : K → K → Ordering) (key : K) (value : X) (es : List (K × X)) → AllByRecursion (λ e. R key e.0 ≡ Greater) es → put R key value es ≡ es ++ (key, value) ∷ []

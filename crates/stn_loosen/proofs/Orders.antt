@@ -1,15 +1,9 @@
 -- The loosened plan keeps the plan's order.
 use Rattle.std.proofs.Common.{◌≡◌, ℕ, ℤ, ◌+◌, ◌*◌, ◌-ℤ◌, zero, suc, List, ◌++◌, length, sym, ap, subst, ◌∙◌, arith, append_assoc, All}
-use Rattle.std.specs.List.{AllByRecursion}
-use Rattle.std.specs.List.Sorted.{IsPermutation}
-use Rattle.std.proofs.lemmas.Bool.{false≢true}
-use Rattle.std.proofs.lemmas.Int.{ints}
-use Rattle.std.proofs.lemmas.List.Elements.{All-append, All-from_recursion}
-use Rattle.std.proofs.lemmas.List.Sorted.{All-permutation, IsPermutation-sym}
+use Rattle.std.specs.{List.AllByRecursion, List.Sorted.IsPermutation}
+use Rattle.std.proofs.{lemmas.Bool.false≢true, lemmas.Int.ints, lemmas.List.Elements.All-append, lemmas.List.Elements.All-from_recursion, lemmas.List.Sorted.All-permutation, lemmas.List.Sorted.IsPermutation-sym}
 use Rattle.stn_time.proofs.Each.{All-left, each_pushed}
-use Rattle.stn_net.specs.Difference.{Difference}
-use Rattle.stn_net.specs.Horizon.{horizon_bounds}
-use Rattle.stn_net.specs.Schedule.{Meets, IsSchedule, times_of}
+use Rattle.stn_net.specs.{Difference.Difference, Horizon.horizon_bounds, Schedule.Meets, Schedule.IsSchedule, Schedule.times_of}
 use Rattle.stn_lift.specs.BaseBounds.{duration_bound, duration_bounds, events_interfere, event_times, KeepsOrder}
 use Rattle.stn_lift.specs.PlanSource.{PlanSource, bare, files, events_of, interfere_in_plan, planned_of, activities_of}
 use Rattle.stn_lift.proofs.SoundBounds.{bounds, order_keeps}

@@ -1,10 +1,8 @@
 -- The planned times of all events as a list.
 use Rattle.std.proofs.Common.{◌≡◌, ℕ, ℤ, pos, ◌+◌, ◌*◌, ◌<◌, Bool, true, false, nat_lt, List, [], ◌∷◌, length, refl, sym, ◌∙◌, arith}
-use Rattle.std.proofs.lemmas.Bool.Decides.{nat_tests}
-use Rattle.std.proofs.lemmas.List.{get_or_past}
+use Rattle.std.proofs.{lemmas.Bool.Decides.nat_tests, lemmas.List.get_or_past}
 use Rattle.stn_net.specs.Schedule.{times_of}
-use Rattle.stn_lift.specs.Activities.{Activity}
-use Rattle.stn_lift.specs.BaseBounds.{times_behind, event_times}
+use Rattle.stn_lift.specs.{Activities.Activity, BaseBounds.times_behind, BaseBounds.event_times}
 use Rattle.stn_lift.specs.PlanSource.{PlanSource, bare, files, events_of, planned_of, activities_of}
 
 length-times_behind : (steps : List Activity) → length (times_behind steps) ≡ 2 * length steps

@@ -1,16 +1,12 @@
 -- Runs of bounds each of whose schedules is a promise.
 use Rattle.std.proofs.Common.{◌≡◌, ◌≢◌, ℕ, ℤ, pos, ◌-ℤ◌, ◌≤ℤ◌, Bool, true, false, cond, eqb, find, List, [], ◌∷◌, ◌++◌, Option, Some, None, refl, sym, ap, subst, ◌∙◌, arith, All}
-use Rattle.std.specs.Prelude.{◌↔◌, unwrap_or, Contains}
-use Rattle.std.specs.List.{AllByRecursion}
-use Rattle.std.proofs.lemmas.Bool.Decides.{nat_tests}
-use Rattle.std.proofs.lemmas.Int.{ints}
+use Rattle.std.specs.{Prelude.◌↔◌, Prelude.unwrap_or, Prelude.Contains, List.AllByRecursion}
+use Rattle.std.proofs.{lemmas.Bool.Decides.nat_tests, lemmas.Int.ints}
 use Rattle.std.proofs.lemmas.List.Elements.{All-from_recursion, recursion_from_All, All-append, All-contains}
 use Rattle.stn_time.proofs.Each.{All-left, All-right}
-use Rattle.stn_net.specs.Difference.{Difference}
-use Rattle.stn_net.specs.Schedule.{Meets, IsSchedule, HasSchedule}
+use Rattle.stn_net.specs.{Difference.Difference, Schedule.Meets, Schedule.IsSchedule, Schedule.HasSchedule}
 use Rattle.stn_windows.specs.Window.{IsInWindow}
-use Rattle.stn_loosen.specs.Promise.{still, setting_of, Keeps, Promises}
-use Rattle.stn_loosen.specs.Run.{Execution, executed_bounds, MayCome, IsRun}
+use Rattle.stn_loosen.specs.{Promise.still, Promise.setting_of, Promise.Keeps, Promise.Promises, Run.Execution, Run.executed_bounds, Run.MayCome, Run.IsRun}
 use Rattle.stn_loosen.proofs.Settings.{keeps_itself, each_weaker}
 
 -- each schedule of the bounds meets the durations, and is a promise

@@ -1,33 +1,17 @@
 -- Sides of moved bounds that are made one after the other.
 use Rattle.std.proofs.Common.{◌≡◌, ◌≢◌, inl, inr, ⊎_elim, ℕ, ◌+◌, ◌<◌, ℤ, pos, neg_ℤ, ◌+ℤ◌, ◌-ℤ◌, ◌≤ℤ◌, ◌<ℤ◌, Ordering, Less, Equal, Greater, ◌↔◌, Bool, true, false, IsTrue, List, [], ◌∷◌, ◌++◌, length, take, drop, get_or, refl, sym, ap, subst, ◌∙◌, arith, append_assoc, append-nil, All}
-use Rattle.std.specs.List.{AllByRecursion}
-use Rattle.std.specs.Ordering.{int_cmp, MatchOrdering}
-use Rattle.std.specs.Cmp.{int_ranks}
-use Rattle.std.proofs.lemmas.Int.{ints}
-use Rattle.std.proofs.lemmas.List.{take_more, take-append-drop}
-use Rattle.std.proofs.lemmas.Grind.{flat_map-append}
+use Rattle.std.specs.{List.AllByRecursion, Ordering.int_cmp, Ordering.MatchOrdering, Cmp.int_ranks}
+use Rattle.std.proofs.{lemmas.Int.ints, lemmas.List.take_more, lemmas.List.take-append-drop, lemmas.Grind.flat_map-append, lemmas.Bool.false≢true}
 use Rattle.std.proofs.lemmas.List.Elements.{All-head, All-from_recursion, recursion_from_All}
 use Rattle.stn_time.specs.Time.{horizon, IsWithinHorizon}
 use Rattle.stn_time.proofs.Each.{All-left, each_parted}
-use Rattle.stn_net.specs.Difference.{Difference, NamesEvents}
-use Rattle.stn_net.specs.Horizon.{horizon_bounds}
-use Rattle.stn_net.specs.Schedule.{Meets, IsSchedule, HasSchedule}
-use Rattle.stn_matrix.specs.Table.{Table}
-use Rattle.stn_matrix.specs.Tightest.{IsExact}
+use Rattle.stn_net.specs.{Difference.Difference, Difference.NamesEvents, Horizon.horizon_bounds, Schedule.Meets, Schedule.IsSchedule, Schedule.HasSchedule}
+use Rattle.stn_matrix.specs.{Table.Table, Tightest.IsExact}
 use Rattle.stn_replica.proofs.Schedules.{schedule_before, met_behind, schedule_with}
-use Rattle.stn_loosen.specs.Loosened.{Imply, AreKept}
-use Rattle.stn_loosen.specs.Making.{all_bounds, AreTaken}
-use Rattle.stn_loosen.specs.declared.fault.RobustFault.{RobustFault}
+use Rattle.stn_loosen.specs.{Loosened.Imply, Loosened.AreKept, Making.all_bounds, Making.AreTaken, declared.fault.RobustFault.RobustFault, Moved.moved_upper, Moved.moved_lower, Moved.moved_bounds, declared.span.Span.Span, Promise.setting_of}
 use Rattle.stn_loosen.specs.declared.fault.RobustFault.TheVariants.{Full, NotRobust, Memory}
-use Rattle.stn_loosen.specs.Moved.{moved_upper, moved_lower, moved_bounds}
-use Rattle.stn_loosen.specs.declared.span.Span.{Span}
-use Rattle.stn_loosen.specs.Promise.{setting_of}
 use Rattle.stn_loosen.specs.Stepped.{as_bound, AreSteps, IsOpen, IsBoundOf, AreMadeBehind, IsCauseBehind}
-use Rattle.stn_loosen.proofs.Steps.{earlier_start}
-use Rattle.stn_loosen.proofs.Kept.{kept_hold}
-use Rattle.stn_loosen.proofs.Looser.{within}
-use Rattle.stn_loosen.proofs.Implied.{taken_more}
-use Rattle.std.proofs.lemmas.Bool.{false≢true}
+use Rattle.stn_loosen.proofs.{Steps.earlier_start, Kept.kept_hold, Looser.within, Implied.taken_more}
 
 -- what is kept of more
 pub AreKept-join : (bounds first second one other : List Difference) → AreKept bounds first one → AreKept (bounds ++ one) second other → AreKept bounds (first ++ second) (one ++ other)
@@ -81,9 +65,6 @@ module _ (events : ℕ) (old : List Difference) where
   module _ (side : Difference) where
     pub side_implied : Imply (all_bounds events old) side → AreMadeBehind events old (side ∷ []) old
     side_implied implied = ([], sym (append-nil old), inl (implied, refl))
-
-    pub side_made : (new : List Difference) → ¬ Imply (all_bounds events old) side → new ≡ old ++ side ∷ [] → AreMadeBehind events old (side ∷ []) new
-    side_made new needed is = (side ∷ [], is, inr (needed, ([], refl, refl)))
 
     -- with a side that is open, needed, and no bound there is no schedule
     module _ (named : NamesEvents events side) (side_open : IsOpen side) (needed : ¬ Imply (all_bounds events old) side) (time : ℕ → ℤ) (schedule : IsSchedule (all_bounds events (old ++ side ∷ [])) time) where

@@ -1,8 +1,7 @@
 -- A plan's own bounds as three parts: the horizon, the durations, the orders.
 use Rattle.std.proofs.Common.{◌≡◌, ℕ, ℤ, ◌+◌, ◌-◌, ◌*◌, ◌≤◌, zero, suc, min, List, [], ◌∷◌, ◌++◌, length, take, drop, refl, sym, ap, ◌∙◌, arith, append-nil, length-append}
 use Rattle.std.proofs.lemmas.List.{take_rest}
-use Rattle.stn_net.specs.Difference.{Difference}
-use Rattle.stn_net.specs.Horizon.{horizon_bounds}
+use Rattle.stn_net.specs.{Difference.Difference, Horizon.horizon_bounds}
 use Rattle.stn_net.proofs.Horizons.{length-horizon_bounds}
 use Rattle.stn_lift.specs.BaseBounds.{duration_bound, duration_bounds, duration_of}
 use Rattle.stn_lift.specs.PlanSource.{PlanSource, bare, files, steps_of, events_of, base_bounds, activities_of}

@@ -1,10 +1,8 @@
 -- What is printed where a plan can't be loosened, or can't be made robust.
 use Rattle.stn_refusal.specs.declared.code.Code.TheVariants as code
-use Rattle.stn_refusal.specs.declared.failure.Failure.{Failure}
-use Rattle.stn_refusal.specs.Refusals.{refused, out_of_memory}
-use Rattle.stn_loosen.specs.declared.fault.LoosenFault.{LoosenFault}
+use Rattle.stn_refusal.specs.{declared.failure.Failure.Failure, Refusals.refused, Refusals.out_of_memory}
+use Rattle.stn_loosen.specs.{declared.fault.LoosenFault.LoosenFault, declared.fault.RobustFault.RobustFault}
 use Rattle.stn_loosen.specs.declared.fault.LoosenFault.TheVariants as loosen
-use Rattle.stn_loosen.specs.declared.fault.RobustFault.{RobustFault}
 use Rattle.stn_loosen.specs.declared.fault.RobustFault.TheVariants as robust
 
 abbrev pub loosen_failure : LoosenFault → Failure

@@ -1,13 +1,9 @@
 use Rattle.std.specs.Prelude.{◌⊎◌, List}
 use Rattle.stn_net.specs.Difference.{Difference}
 use Rattle.stn_lift.specs.PlanSource.{PlanSource}
-use Rattle.stn_loosen.specs.declared.fault.LoosenFault.{LoosenFault}
+use Rattle.stn_loosen.specs.{declared.fault.LoosenFault.LoosenFault, declared.fault.RobustFault.RobustFault, Slack.Slack, Loosened.AreFewLoosened, Loosened.AreTooMany, Robust.HasPromise, Robust.AreTooManyRobust}
 use Rattle.stn_loosen.specs.declared.fault.LoosenFault.TheVariants.{Full, Memory}
-use Rattle.stn_loosen.specs.declared.fault.RobustFault.{RobustFault}
 use Rattle.stn_loosen.specs.declared.fault.RobustFault.TheVariants as robust
-use Rattle.stn_loosen.specs.Slack.{Slack}
-use Rattle.stn_loosen.specs.Loosened.{AreFewLoosened, AreTooMany}
-use Rattle.stn_loosen.specs.Robust.{HasPromise, AreTooManyRobust}
 
 -- why a plan is not loosened
 abbrev pub IsCause : PlanSource → Slack → LoosenFault → Type 0

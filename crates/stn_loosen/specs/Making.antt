@@ -1,13 +1,10 @@
 -- For proofs alone: no public clause cites these words.
 use Rattle.std.specs.Prelude.{◌≡◌, ℕ, ◌<◌, ◌⊎◌, List, [], ◌∷◌, ◌++◌, length}
-use Rattle.stn_net.specs.Difference.{Difference}
-use Rattle.stn_net.specs.Horizon.{horizon_bounds}
-use Rattle.stn_matrix.specs.Table.{Table}
-use Rattle.stn_matrix.specs.Tightest.{IsExact}
+use Rattle.stn_net.specs.{Difference.Difference, Horizon.horizon_bounds}
+use Rattle.stn_matrix.specs.{Table.Table, Tightest.IsExact}
 use Rattle.stn_records.specs.Content.{most_known}
-use Rattle.stn_loosen.specs.declared.fault.LoosenFault.{LoosenFault}
+use Rattle.stn_loosen.specs.{declared.fault.LoosenFault.LoosenFault, Loosened.Imply, Loosened.AreKept}
 use Rattle.stn_loosen.specs.declared.fault.LoosenFault.TheVariants.{Full, Memory}
-use Rattle.stn_loosen.specs.Loosened.{Imply, AreKept}
 
 -- the horizon bounds of so many events, and then the bounds of records
 abbrev pub all_bounds : ℕ → List Difference → List Difference

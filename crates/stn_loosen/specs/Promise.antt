@@ -1,7 +1,6 @@
 -- Times at which steps may start, however long they take then (Vidal and Fargier, 1999: strong controllability).
 use Rattle.std.specs.Prelude.{ℕ, ℤ, pos, ◌-ℤ◌, ◌≤ℤ◌, ◌==◌, List, find, unwrap_or}
-use Rattle.stn_net.specs.Difference.{Difference}
-use Rattle.stn_net.specs.Schedule.{IsSchedule}
+use Rattle.stn_net.specs.{Difference.Difference, Schedule.IsSchedule}
 
 -- an event stands where it stands
 abbrev pub still : ℕ → Difference

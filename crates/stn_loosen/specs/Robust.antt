@@ -1,13 +1,10 @@
 -- The robust plan: the loosened plan, and bounds on starts under which it completes however long its steps take.
 use Rattle.std.specs.Prelude.{◌≡◌, ◌++◌, ◌<◌, ◌≤◌, ℕ, ℤ, List, length}
-use Rattle.stn_net.specs.Difference.{Difference}
-use Rattle.stn_net.specs.Horizon.{horizon_bounds}
+use Rattle.stn_net.specs.{Difference.Difference, Horizon.horizon_bounds}
 use Rattle.stn_lift.specs.PlanSource.{PlanSource, events_of}
 use Rattle.stn_records.specs.Content.{most_known}
-use Rattle.stn_loosen.specs.Slack.{Slack}
+use Rattle.stn_loosen.specs.{Slack.Slack, Promise.Promises, Moved.moved_bounds}
 use Rattle.stn_loosen.specs.Loosened.{orders_of, bounds_with, loose_durations, AreKept, AreLoosened}
-use Rattle.stn_loosen.specs.Promise.{Promises}
-use Rattle.stn_loosen.specs.Moved.{moved_bounds}
 
 -- all bounds of the loosened plan, also the orders that others imply
 abbrev pub loose_bounds : PlanSource → Slack → List Difference

@@ -1,13 +1,9 @@
 -- For proofs alone: no public clause cites these words.
 use Rattle.std.specs.Prelude.{◌≡◌, ◌⊎◌, ℕ, ◌+◌, ◌*◌, pos, neg_ℤ, ◌≤ℤ◌, ◌++◌, List, [], ◌∷◌}
 use Rattle.stn_time.specs.Time.{horizon, IsWithinHorizon}
-use Rattle.stn_net.specs.Difference.{Difference, IsBoundWithin}
-use Rattle.stn_net.specs.Schedule.{HasSchedule}
-use Rattle.stn_loosen.specs.declared.span.Span.{Span}
-use Rattle.stn_loosen.specs.declared.fault.RobustFault.{RobustFault}
+use Rattle.stn_net.specs.{Difference.Difference, Difference.IsBoundWithin, Schedule.HasSchedule}
+use Rattle.stn_loosen.specs.{declared.span.Span.Span, declared.fault.RobustFault.RobustFault, Loosened.AreKept, Making.all_bounds}
 use Rattle.stn_loosen.specs.declared.fault.RobustFault.TheVariants.{Full, NotRobust, Memory}
-use Rattle.stn_loosen.specs.Loosened.{AreKept}
-use Rattle.stn_loosen.specs.Making.{all_bounds}
 
 -- the durations of steps one behind the other, after so many others
 abbrev pub AreSteps : ℕ → List Difference → Type 0

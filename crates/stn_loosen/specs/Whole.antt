@@ -2,10 +2,8 @@
 use Rattle.std.specs.Prelude.{◌≡◌, List}
 use Rattle.stn_net.specs.Difference.{Difference}
 use Rattle.stn_lift.specs.PlanSource.{PlanSource}
-use Rattle.stn_loosen.specs.declared.fault.RobustFault.{RobustFault}
+use Rattle.stn_loosen.specs.{declared.fault.RobustFault.RobustFault, Slack.Slack, Robust.HasPromise, Robust.AreRobust}
 use Rattle.stn_loosen.specs.declared.fault.RobustFault.TheVariants.{Full, NotRobust, Memory}
-use Rattle.stn_loosen.specs.Slack.{Slack}
-use Rattle.stn_loosen.specs.Robust.{HasPromise, AreRobust}
 
 -- these are the records of the robust plan behind those of the loosened one
 pub record IsMadeRobust (source : PlanSource) (slack : Slack) (loosened records : List Difference) : Type 0 where

@@ -1,15 +1,10 @@
 use Rattle.std.proofs.Common.{◌≡◌, ℕ, ℤ, pos, ◌≤◌, ◌+ℤ◌, ◌-ℤ◌, ◌≤ℤ◌, neg_ℤ, List, [], ◌∷◌, ◌++◌, length, get_or, Some, sym, refl, subst, ◌∙◌, arith}
 use Rattle.std.specs.Prelude.{All}
-use Rattle.std.proofs.lemmas.Int.{ints, clamps}
-use Rattle.std.proofs.lemmas.List.Elements.{All-push, All-pop}
+use Rattle.std.proofs.{lemmas.Int.ints, lemmas.Int.clamps, lemmas.List.Elements.All-push, lemmas.List.Elements.All-pop}
 use Rattle.stn_time.specs.Time.{horizon}
-use Rattle.stn_net.specs.Difference.{Difference, NamesEvents}
-use Rattle.stn_net.specs.Schedule.{IsSchedule, HasSchedule, Meets}
-use Rattle.stn_matrix.specs.Table.{Table, far_of}
-use Rattle.stn_matrix.specs.Tightest.{IsExact}
-use Rattle.stn_matrix.specs.Closed.{IsClosed, IsClosedTable}
+use Rattle.stn_net.specs.{Difference.Difference, Difference.NamesEvents, Schedule.IsSchedule, Schedule.HasSchedule, Schedule.Meets}
+use Rattle.stn_matrix.specs.{Table.Table, Table.far_of, Tightest.IsExact, Closed.IsClosed, Closed.IsClosedTable, Way.shorter, Way.narrower, Way.IsImplied, Way.HasRoom}
 use Rattle.stn_matrix.proofs.Tightest.{IsTight, tight_from_exact, exact_from_tight}
-use Rattle.stn_matrix.specs.Way.{shorter, narrower, IsImplied, HasRoom}
 
 -- a closed square stays closed by way of a link that closes no negative cycle
 pub shorter-closed : (events : ℕ) (far : ℕ → ℕ → ℤ) (u v : ℕ) (w : ℤ) → IsClosed events far → u ≤ events → v ≤ events → pos 0 ≤ℤ (far v u +ℤ w)

@@ -1,15 +1,9 @@
 use Rattle.std.proofs.Common.{◌≡◌, ◌≢◌, ℕ, ℤ, pos, ◌+◌, ◌*◌, ◌<◌, ◌≤◌, ◌+ℤ◌, ◌≤ℤ◌, ◌<ℤ◌, ◌⊎◌, neg_ℤ, inl, inr, List, [], ◌∷◌, ◌++◌, length, set, refl, ap, sym, ◌∙◌, arith, get_or-set_same, get_or-set_other}
-use Rattle.std.specs.Prelude.{All, Contains, slice_index_or}
-use Rattle.std.specs.Int.{int_min}
-use Rattle.std.proofs.lemmas.Int.{ints, clamps}
+use Rattle.std.specs.{Prelude.All, Prelude.Contains, Prelude.slice_index_or, Int.int_min}
+use Rattle.std.proofs.{lemmas.Int.ints, lemmas.Int.clamps, lemmas.Bool.cases_eq, lemmas.Bool.cases_lt, lemmas.Nat.mul-add-lt, lemmas.Nat.same_from_place, lemmas.List.get_or_default}
 use Rattle.std.proofs.lemmas.List.Elements.{All-push, Contains-push, Contains-append_left}
-use Rattle.std.proofs.lemmas.Bool.{cases_eq, cases_lt}
-use Rattle.std.proofs.lemmas.Nat.{mul-add-lt, same_from_place}
-use Rattle.std.proofs.lemmas.List.{get_or_default}
 use Rattle.stn_time.specs.Time.{horizon}
-use Rattle.stn_matrix.specs.Closed.{IsClosed}
-use Rattle.stn_matrix.specs.Table.{entry}
-use Rattle.stn_matrix.specs.Way.{IsWhole, shorter, IsInReach, AreNearer, AreRunsOf, IsWritten, IsRowShortened}
+use Rattle.stn_matrix.specs.{Closed.IsClosed, Table.entry, Way.IsWhole, Way.shorter, Way.IsInReach, Way.AreNearer, Way.AreRunsOf, Way.IsWritten, Way.IsRowShortened}
 use Rattle.stn_matrix.proofs.Closure.{shorter-own_row, shorter-kept_row}
 
 -- the place of an entry lies in the square

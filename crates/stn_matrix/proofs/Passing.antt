@@ -1,12 +1,7 @@
 use Rattle.std.proofs.Common.{◌≡◌, ◌≢◌, ℕ, ℤ, ◌+◌, ◌<◌, ◌≤◌, ◌+ℤ◌, ◌≤ℤ◌, pos, inl, inr, List, length, set, arith, get_or-set_same, get_or-set_other}
-use Rattle.std.specs.Prelude.{All, slice_index_or}
-use Rattle.std.specs.List.Sorted.{IsPermutation}
-use Rattle.std.proofs.lemmas.Int.{ints}
-use Rattle.std.proofs.lemmas.Bool.{cases_eq, cases_lt}
-use Rattle.std.proofs.lemmas.List.{length-set}
-use Rattle.std.proofs.lemmas.List.Sorted.{All-permutation, Contains-permutation}
-use Rattle.stn_matrix.specs.Closed.{IsClosed}
-use Rattle.stn_matrix.specs.Way.{AreNearer, IsOnWay, AreRuns, AreRunsOf}
+use Rattle.std.specs.{Prelude.All, Prelude.slice_index_or, List.Sorted.IsPermutation}
+use Rattle.std.proofs.{lemmas.Int.ints, lemmas.Bool.cases_eq, lemmas.Bool.cases_lt, lemmas.List.length-set, lemmas.List.Sorted.All-permutation, lemmas.List.Sorted.Contains-permutation}
+use Rattle.stn_matrix.specs.{Closed.IsClosed, Way.AreNearer, Way.IsOnWay, Way.AreRuns, Way.AreRunsOf}
 use Rattle.stn_matrix.proofs.Entries.{IsShortenedTo, shortened-own_row}
 
 -- the columns in another order

@@ -1,17 +1,10 @@
 use Rattle.std.proofs.Common.{◌≡◌, ◌≢◌, ℕ, zero, suc, ℤ, pos, ◌≤◌, ◌+ℤ◌, ◌≤ℤ◌, neg_ℤ, ◌⊎◌, inl, inr, refl, ap, arith}
 use Rattle.std.specs.Prelude.{All}
-use Rattle.std.proofs.lemmas.Int.{ints}
-use Rattle.std.proofs.lemmas.Bool.{cases_eq}
-use Rattle.std.proofs.lemmas.List.Elements.{All-push, All-nil}
+use Rattle.std.proofs.{lemmas.Int.ints, lemmas.Bool.cases_eq, lemmas.List.Elements.All-push, lemmas.List.Elements.All-nil}
 use Rattle.stn_time.specs.Time.{horizon}
-use Rattle.stn_net.specs.Difference.{Difference, NamesEvents}
-use Rattle.stn_net.specs.Horizon.{horizon_bound, horizon_bounds}
-use Rattle.stn_net.specs.Schedule.{IsSchedule}
-use Rattle.stn_matrix.specs.Table.{Table, far_of}
-use Rattle.stn_matrix.specs.Tightest.{IsExact}
-use Rattle.stn_matrix.specs.Closed.{IsClosed, IsWidest}
-use Rattle.stn_matrix.proofs.Tightest.{IsTight, exact_from_tight}
-use Rattle.stn_matrix.proofs.Closure.{schedule_before, schedule_last}
+use Rattle.stn_net.specs.{Difference.Difference, Difference.NamesEvents, Horizon.horizon_bound, Horizon.horizon_bounds, Schedule.IsSchedule}
+use Rattle.stn_matrix.specs.{Table.Table, Table.far_of, Tightest.IsExact, Closed.IsClosed, Closed.IsWidest}
+use Rattle.stn_matrix.proofs.{Tightest.IsTight, Tightest.exact_from_tight, Closure.schedule_before, Closure.schedule_last}
 
 -- the widest difference of two events is 0 or the horizon
 widest_cases : (events : ℕ) (far : ℕ → ℕ → ℤ) → IsWidest events far → (x y : ℕ) → x ≤ events → y ≤ events → (far x y ≡ pos 0) ⊎ (far x y ≡ horizon)

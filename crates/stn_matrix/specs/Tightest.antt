@@ -1,6 +1,5 @@
 use Rattle.std.specs.Prelude.{◌≡◌, ℕ, ℤ, ◌≤◌, ◌-ℤ◌, ◌≤ℤ◌, List, All}
-use Rattle.stn_net.specs.Difference.{Difference, NamesEvents}
-use Rattle.stn_net.specs.Schedule.{IsSchedule, HasSchedule}
+use Rattle.stn_net.specs.{Difference.Difference, Difference.NamesEvents, Schedule.IsSchedule, Schedule.HasSchedule}
 use Rattle.stn_matrix.specs.Table.{Table, far_of}
 
 -- the time of y lies at most `most` after that of x in every schedule, and just so in some schedule

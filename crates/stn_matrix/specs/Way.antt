@@ -2,8 +2,7 @@
 use Rattle.std.specs.Prelude.{◌≡◌, ◌≢◌, ◌⊎◌, ℕ, ℤ, ◌+◌, ◌*◌, ◌≤◌, ◌<◌, ◌+ℤ◌, ◌≤ℤ◌, neg_ℤ, List, length, slice_index_or, All, Contains}
 use Rattle.std.specs.Int.{int_min}
 use Rattle.stn_time.specs.Time.{horizon}
-use Rattle.stn_net.specs.Difference.{Difference}
-use Rattle.stn_net.specs.Event.{most_events}
+use Rattle.stn_net.specs.{Difference.Difference, Event.most_events}
 
 -- the entries are a square of one row for the origin and each of so many other events, row after row
 pub record IsWhole (events : ℕ) (entries : List ℤ) : Type 0 where

@@ -1,15 +1,8 @@
 -- A map of actions, and the list of what it says.
 use Rattle.std.proofs.Common.{◌≡◌, ℕ, Bool, true, false, ◌||◌, cond, List, [], ◌∷◌, ◌++◌, Option, Some, None, is_some, MatchOption, Result, Ok, Err, OnOk, OnErr, refl, sym, ◌∙◌, ap}
-use Rattle.std.specs.Option.{option_map, option_copied}
-use Rattle.std.specs.Borrow.{Bor}
-use Rattle.std.specs.Map.{lookup}
-use Rattle.stn_tree.specs.declared.name.Name.{Name}
-use Rattle.stn_tree.specs.Names.{is_same_word}
-use Rattle.stn_pddl.specs.declared.action.Action.{Action}
-use Rattle.stn_pddl.specs.Schemas.{ActionSchema}
-use Rattle.stn_pddl.specs.Actions.{is_taken}
-use Rattle.stn_pddl.specs.Domains.{action_named}
-use Rattle.stn_pddl.specs.Views.{word_of, action_schema, entries_schema, AreNamed}
+use Rattle.std.specs.{Option.option_map, Option.option_copied, Borrow.Bor, Map.lookup}
+use Rattle.stn_tree.specs.{declared.name.Name.Name, Names.is_same_word}
+use Rattle.stn_pddl.specs.{declared.action.Action.Action, Schemas.ActionSchema, Actions.is_taken, Domains.action_named, Views.word_of, Views.action_schema, Views.entries_schema, Views.AreNamed}
 
 module _ {A : Type 0} where
   -- one action more

@@ -1,33 +1,21 @@
 -- The faults that the forms of a domain have.
 use Rattle.std.proofs.Common.{ℕ, Bool, true, false, cond, ◌==◌, ◌&&◌, List, [], ◌∷◌, ◌++◌, is_some, Option, Some, None, Result, Ok, Err, ℤ, pos, int_lt, position, codes}
 use Rattle.std.specs.List.{list_any}
-use Rattle.stn_time.specs.declared.reading.TimeFault.{TimeFault}
-use Rattle.stn_time.specs.TimeOf.{time_of}
-use Rattle.stn_tree.specs.Names.{is_same_word}
-use Rattle.stn_tree.specs.Trees.{Trees, End, Word, Group, how_many}
-use Rattle.stn_pddl.specs.declared.fault.DomainFault.{DomainFault}
+use Rattle.stn_time.specs.{declared.reading.TimeFault.TimeFault, TimeOf.time_of}
+use Rattle.stn_tree.specs.{Names.is_same_word, Trees.Trees, Trees.End, Trees.Word, Trees.Group, Trees.how_many}
+use Rattle.stn_pddl.specs.{declared.fault.DomainFault.DomainFault, declared.action.Label.Label, declared.action.Label.TheVariants.OverAll, declared.action.Side.Side, declared.word.Head.Head, declared.word.Item.Item, declared.word.Field.Field, declared.word.Key.Key, declared.word.Section.Section, Atoms.parameter_at, Atoms.term, Atoms.terms, Atoms.atom, Atoms.equality, Domains.part, Domains.parts}
 use Rattle.stn_pddl.specs.declared.fault.DomainFault.TheVariants.{TooLong, Syntax, TooDeep, Unsupported, Number, Twice, Variable, Memory}
-use Rattle.stn_pddl.specs.declared.action.Label.{Label}
-use Rattle.stn_pddl.specs.declared.action.Label.TheVariants.{OverAll}
-use Rattle.stn_pddl.specs.declared.action.Side.{Side}
 use Rattle.stn_pddl.specs.declared.action.Side.TheVariants.{Condition, Effect}
-use Rattle.stn_pddl.specs.declared.word.Head.{Head}
 use Rattle.stn_pddl.specs.declared.word.Head.TheVariants as head
-use Rattle.stn_pddl.specs.declared.word.Item.{Item}
 use Rattle.stn_pddl.specs.declared.word.Item.TheVariants as item
-use Rattle.stn_pddl.specs.declared.word.Field.{Field}
-use Rattle.stn_pddl.specs.declared.word.Key.{Key}
 use Rattle.stn_pddl.specs.declared.word.Key.TheVariants as key
-use Rattle.stn_pddl.specs.declared.word.Section.{Section}
 use Rattle.stn_pddl.specs.declared.word.Section.TheVariants as section
 use Rattle.stn_text.specs.Faults.{◌>>=◌}
 use Rattle.stn_pddl.specs.Words.{is_name, is_variable, is_key, head_of, item_of, key_of, section_of}
 use Rattle.stn_pddl.specs.Schemas.{TermSchema, ActionSchema, Constant, bare_action, with_literal}
-use Rattle.stn_pddl.specs.Atoms.{parameter_at, term, terms, atom, equality}
 use Rattle.stn_pddl.specs.Conditions.{is_effect, equal_tree, negated_tree, negated_first, negation, plain_row, plain_tree, labelled, start_of, end_of, at_tree, over_tree, timed_row, timed_tree, equal_at}
 use Rattle.stn_pddl.specs.Fields.{Listing, Values, no_values, parameters, parameters_behind_type, not_negative, constant, duration, value_of, with_value, fields, field_value}
 use Rattle.stn_pddl.specs.Actions.{timed_value, action_of_lists, action_of_values, named_action, is_taken, action}
-use Rattle.stn_pddl.specs.Domains.{part, parts}
 
 -- a fault of the forms: the text is not too long, its brackets are not too deep, and there is memory
 abbrev pub IsFormFault : DomainFault → Type 0

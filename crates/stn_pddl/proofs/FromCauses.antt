@@ -2,19 +2,13 @@
 use Rattle.std.proofs.Common.{◌≡◌, ◌<◌, ℕ, ◌⊎◌, inl, inr, Bool, true, false, cond, nat_lt, ◌&&◌, List, [], length, Ok, Err, refl, sym, ap, ◌∙◌, arith, codes}
 use Rattle.std.proofs.lemmas.Bool.Decides.{nat_tests}
 use Rattle.stn_text.specs.Faults.{◌>>=◌}
-use Rattle.stn_tree.specs.declared.scan.TreeFault.{TreeFault}
+use Rattle.stn_tree.specs.{declared.scan.TreeFault.TreeFault, Names.is_same_word, Trees.Trees, Trees.End, Trees.Word, Trees.Group, Scan.most_text, Scan.tree_of}
 use Rattle.stn_tree.specs.declared.scan.TreeFault.TheVariants as tree
-use Rattle.stn_tree.specs.Names.{is_same_word}
-use Rattle.stn_tree.specs.Trees.{Trees, End, Word, Group}
-use Rattle.stn_tree.specs.Scan.{most_text, tree_of}
-use Rattle.stn_pddl.specs.declared.fault.DomainFault.{DomainFault}
+use Rattle.stn_pddl.specs.{declared.fault.DomainFault.DomainFault, Faults.of_tree, Faults.is_memory, Schemas.ActionSchema}
 use Rattle.stn_pddl.specs.declared.fault.DomainFault.TheVariants.{TooLong, Syntax, TooDeep, Unsupported, Number, Twice, Variable, Memory}
-use Rattle.stn_pddl.specs.Faults.{of_tree, is_memory}
-use Rattle.stn_pddl.specs.Schemas.{ActionSchema}
 use Rattle.stn_pddl.specs.Domains.{part, parts, is_title, root, domain_of_tree, domain_of_bytes, domain_of}
 use Rattle.stn_pddl.specs.Causes.{row_then, HasParts, IsListAt, IsOtherList, IsRefused, IsFirstRefused, IsCause}
-use Rattle.stn_pddl.proofs.Kept.{bind_ok}
-use Rattle.stn_pddl.proofs.Causes.{cause_of}
+use Rattle.stn_pddl.proofs.{Kept.bind_ok, Causes.cause_of}
 
 refused_row : (row : Trees) (before : List ActionSchema) (fault : DomainFault) → IsRefused row before fault → parts row before ≡ Err fault
 unfolding parts

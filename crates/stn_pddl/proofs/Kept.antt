@@ -3,22 +3,15 @@ use Rattle.std.proofs.Common.{◌≡◌, ℕ, ◌<◌, Bool, true, false, cond, 
 use Rattle.std.specs.List.{AllByRecursion, position_or_len}
 use Rattle.std.proofs.lemmas.Bool.{ltb-true}
 use Rattle.stn_time.proofs.Each.{each_pushed}
-use Rattle.stn_tree.specs.Names.{is_same_word}
-use Rattle.stn_tree.specs.Trees.{Trees, End, Word, Group}
-use Rattle.stn_pddl.specs.declared.fault.DomainFault.{DomainFault}
+use Rattle.stn_tree.specs.{Names.is_same_word, Trees.Trees, Trees.End, Trees.Word, Trees.Group}
+use Rattle.stn_pddl.specs.{declared.fault.DomainFault.DomainFault, declared.action.Label.Label, declared.action.Side.Side, declared.word.Head.Head, Words.is_variable, Words.is_key, Words.head_of, Atoms.parameter_at, Atoms.term, Atoms.terms, Atoms.atom, Atoms.equality, Sound.IsSoundTerm, Sound.IsSoundAtom, Sound.HasSoundAtoms}
 use Rattle.stn_pddl.specs.declared.fault.DomainFault.TheVariants.{Syntax, Unsupported}
-use Rattle.stn_pddl.specs.declared.action.Label.{Label}
 use Rattle.stn_pddl.specs.declared.action.Label.TheVariants.{StartCondition, OverAll, EndCondition, StartEffect, EndEffect}
-use Rattle.stn_pddl.specs.declared.action.Side.{Side}
 use Rattle.stn_pddl.specs.declared.action.Side.TheVariants.{Condition, Effect}
-use Rattle.stn_pddl.specs.declared.word.Head.{Head}
 use Rattle.stn_pddl.specs.declared.word.Head.TheVariants as head
 use Rattle.stn_text.specs.Faults.{◌>>=◌}
-use Rattle.stn_pddl.specs.Words.{is_variable, is_key, head_of}
 use Rattle.stn_pddl.specs.Schemas.{TermSchema, AtomSchema, ActionSchema, Constant, with_literal}
-use Rattle.stn_pddl.specs.Atoms.{parameter_at, term, terms, atom, equality}
 use Rattle.stn_pddl.specs.Conditions.{equal_tree, negated_tree, negated_first, negation, plain_row, plain_tree, labelled, start_of, end_of, at_tree, over_tree, timed_row, timed_tree, equal_at}
-use Rattle.stn_pddl.specs.Sound.{IsSoundTerm, IsSoundAtom, HasSoundAtoms}
 
 -- the action after has the name, the parameters and the duration of the one before, and sound atoms where that has them
 pub record Keeps (before after : ActionSchema) : Type 0 where

@@ -2,22 +2,14 @@
 use Rattle.std.proofs.Common.{◌≡◌, ℕ, Bool, true, false, cond, eqb, List, [], ◌∷◌, ◌++◌, map, Option, Some, None, Result, Ok, Err, refl, sym, ap, ◌∙◌, position, codes}
 use Rattle.std.proofs.lemmas.List.{map-append}
 use Rattle.stn_text.specs.Faults.{◌>>=◌}
-use Rattle.stn_tree.specs.Names.{folded, is_same_word}
-use Rattle.stn_tree.specs.Trees.{Trees, End, Word, Group, how_many}
-use Rattle.stn_tree.specs.Case.{in_small}
-use Rattle.stn_pddl.specs.declared.fault.DomainFault.{DomainFault}
+use Rattle.stn_tree.specs.{Names.folded, Names.is_same_word, Trees.Trees, Trees.End, Trees.Word, Trees.Group, Trees.how_many, Case.in_small}
+use Rattle.stn_pddl.specs.{declared.fault.DomainFault.DomainFault, declared.action.Label.Label, declared.action.Side.Side, declared.word.Head.Head, Words.is_variable, Words.is_key, Words.head_of, Atoms.parameter_at, Atoms.term, Atoms.terms, Atoms.atom, Atoms.equality, Case.term_in_small, Case.atom_in_small, Case.action_in_small}
 use Rattle.stn_pddl.specs.declared.fault.DomainFault.TheVariants.{Syntax, Unsupported}
-use Rattle.stn_pddl.specs.declared.action.Label.{Label}
 use Rattle.stn_pddl.specs.declared.action.Label.TheVariants.{StartCondition, OverAll, EndCondition, StartEffect, EndEffect}
-use Rattle.stn_pddl.specs.declared.action.Side.{Side}
 use Rattle.stn_pddl.specs.declared.action.Side.TheVariants.{Condition, Effect}
-use Rattle.stn_pddl.specs.declared.word.Head.{Head}
 use Rattle.stn_pddl.specs.declared.word.Head.TheVariants as head
-use Rattle.stn_pddl.specs.Words.{is_variable, is_key, head_of}
 use Rattle.stn_pddl.specs.Schemas.{TermSchema, AtomSchema, ActionSchema, Constant, with_literal}
-use Rattle.stn_pddl.specs.Atoms.{parameter_at, term, terms, atom, equality}
 use Rattle.stn_pddl.specs.Conditions.{is_effect, equal_tree, negated_tree, negated_first, negation, plain_row, plain_tree, labelled, start_of, end_of, at_tree, over_tree, timed_row, timed_tree, equal_at}
-use Rattle.stn_pddl.specs.Case.{term_in_small, atom_in_small, action_in_small}
 use Rattle.stn_pddl.proofs.SmallWords.{same_first, same_variable, same_key, same_position, same_head}
 
 -- the same fault, or what a function makes of the value

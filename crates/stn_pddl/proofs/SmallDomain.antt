@@ -1,34 +1,21 @@
 -- A domain in small letters has the actions of the domain in small letters.
 use Rattle.std.proofs.Common.{◌≡◌, ℕ, cond, ◌||◌, ◌&&◌, List, [], ◌∷◌, ◌++◌, map, is_some, Option, Some, None, Result, Ok, Err, ℤ, refl, sym, ap, ◌∙◌, codes}
-use Rattle.std.specs.List.{list_any}
-use Rattle.std.specs.Option.{option_map}
+use Rattle.std.specs.{List.list_any, Option.option_map}
 use Rattle.std.proofs.lemmas.List.{map-append}
 use Rattle.stn_time.specs.TimeOf.{time_of}
 use Rattle.stn_text.specs.Faults.{◌>>=◌}
-use Rattle.stn_tree.specs.declared.scan.TreeFault.{TreeFault}
-use Rattle.stn_tree.specs.Names.{folded, is_same_word}
-use Rattle.stn_tree.specs.Trees.{Trees, End, Word, Group}
-use Rattle.stn_tree.specs.Scan.{tree_of}
-use Rattle.stn_tree.specs.Case.{in_small, tree_in_small}
+use Rattle.stn_tree.specs.{declared.scan.TreeFault.TreeFault, Names.folded, Names.is_same_word, Trees.Trees, Trees.End, Trees.Word, Trees.Group, Scan.tree_of, Case.in_small, Case.tree_in_small}
 use Rattle.stn_tree.proofs.Case.{tree_of-folded}
-use Rattle.stn_pddl.specs.declared.fault.DomainFault.{DomainFault}
+use Rattle.stn_pddl.specs.{declared.fault.DomainFault.DomainFault, declared.action.Side.Side, declared.word.Item.Item, declared.word.Field.Field, declared.word.Key.Key, declared.word.Section.Section, Words.is_name, Words.item_of, Words.key_of, Words.section_of, Schemas.ActionSchema, Schemas.bare_action, Case.action_in_small, Case.domain_in_small}
 use Rattle.stn_pddl.specs.declared.fault.DomainFault.TheVariants.{Syntax, Unsupported, Twice}
-use Rattle.stn_pddl.specs.declared.action.Side.{Side}
 use Rattle.stn_pddl.specs.declared.action.Side.TheVariants.{Condition, Effect}
-use Rattle.stn_pddl.specs.declared.word.Item.{Item}
 use Rattle.stn_pddl.specs.declared.word.Item.TheVariants as item
-use Rattle.stn_pddl.specs.declared.word.Field.{Field}
 use Rattle.stn_pddl.specs.declared.word.Field.TheVariants as field
-use Rattle.stn_pddl.specs.declared.word.Key.{Key}
 use Rattle.stn_pddl.specs.declared.word.Key.TheVariants as key
-use Rattle.stn_pddl.specs.declared.word.Section.{Section}
 use Rattle.stn_pddl.specs.declared.word.Section.TheVariants as section
-use Rattle.stn_pddl.specs.Words.{is_name, item_of, key_of, section_of}
-use Rattle.stn_pddl.specs.Schemas.{ActionSchema, bare_action}
 use Rattle.stn_pddl.specs.Fields.{Listing, Values, no_values, parameters, parameters_behind_type, not_negative, constant, duration, value_of, with_value, fields, field_value}
 use Rattle.stn_pddl.specs.Actions.{timed_value, action_of_lists, action_of_values, named_action, is_taken, action}
 use Rattle.stn_pddl.specs.Domains.{part, parts, is_title, root, domain_of_tree, domain_of_bytes, domain_of}
-use Rattle.stn_pddl.specs.Case.{action_in_small, domain_in_small}
 use Rattle.stn_pddl.proofs.SmallWords.{same_first, same_both, same_listed, same_name, same_item, same_key_of, same_section, same_time}
 use Rattle.stn_pddl.proofs.SmallActions.{mapped, mapped-then, mapped-either, small_timed_tree}
 

@@ -1,13 +1,7 @@
 -- Words in small letters stand for what the words stand for.
 use Rattle.std.proofs.Common.{◌≡◌, ℕ, zero, suc, ◌+◌, ◌<◌, ◌≤◌, Bool, true, false, cond, not, ◌||◌, ◌&&◌, eqb, nat_lt, nat_le, List, [], ◌∷◌, length, map, take, drop, Some, None, refl, ap, ◌∙◌, arith, position, codes}
-use Rattle.std.specs.Char.{to_ascii_lowercase, is_ascii_digit}
-use Rattle.std.specs.List.{list_any, prefix_len, position_or_len}
-use Rattle.std.specs.Option.{option_map}
-use Rattle.std.specs.Str.{bytes_eq, all_ascii_digits}
-use Rattle.std.specs.Str.Parse.{starts_with_minus}
-use Rattle.std.proofs.lemmas.Bool.Decides.{nat_tests}
-use Rattle.std.proofs.lemmas.List.{length-map}
-use Rattle.std.proofs.lemmas.Str.Ascii.{lowercase-lowercase}
+use Rattle.std.specs.{Char.to_ascii_lowercase, Char.is_ascii_digit, List.list_any, List.prefix_len, List.position_or_len, Option.option_map, Str.bytes_eq, Str.all_ascii_digits, Str.Parse.starts_with_minus}
+use Rattle.std.proofs.{lemmas.Bool.Decides.nat_tests, lemmas.List.length-map, lemmas.Str.Ascii.lowercase-lowercase}
 use Rattle.stn_time.specs.Text.{these_parts}
 use Rattle.stn_time.specs.TimeOf.{without_minus, is_numeral, fraction_of, parts_with, time_of_found, time_of}
 use Rattle.stn_tree.specs.Names.{folded, is_same_word}

@@ -1,34 +1,18 @@
 -- The actions of a domain are sound.
 use Rattle.std.proofs.Common.{◌≡◌, ℕ, ◌≤◌, Bool, true, false, cond, nat_lt, List, [], ◌∷◌, ◌++◌, length, Option, Some, None, Result, Ok, Err, IfOk, refl, sym, ◌∙◌, ap, subst, arith, ℤ, pos, negsuc, ◌≤ℤ◌, int_lt, find, MatchOption, IfSome}
-use Rattle.std.specs.List.{AllByRecursion}
-use Rattle.std.specs.Borrow.{Bor}
-use Rattle.std.proofs.lemmas.Bool.Decides.{nat_tests}
-use Rattle.std.proofs.lemmas.Int.{ints}
+use Rattle.std.specs.{List.AllByRecursion, Borrow.Bor}
+use Rattle.std.proofs.{lemmas.Bool.Decides.nat_tests, lemmas.Int.ints}
 use Rattle.stn_time.proofs.Each.{each_pushed}
-use Rattle.stn_time.specs.declared.reading.TimeFault.{TimeFault}
-use Rattle.stn_time.specs.TimeOf.{time_of}
-use Rattle.stn_tree.specs.declared.scan.Place.TheVariants.{Before}
-use Rattle.stn_tree.specs.declared.scan.TreeFault.{TreeFault}
-use Rattle.stn_tree.specs.declared.scan.TreeFault.TheVariants.{TooLong}
-use Rattle.stn_tree.specs.Names.{is_same_word}
-use Rattle.stn_tree.specs.Trees.{Trees, End, Word, Group, rows_from}
-use Rattle.stn_tree.specs.Scan.{most_text, tree_of, scanned}
-use Rattle.stn_pddl.specs.declared.fault.DomainFault.{DomainFault}
+use Rattle.stn_time.specs.{declared.reading.TimeFault.TimeFault, TimeOf.time_of}
+use Rattle.stn_tree.specs.{declared.scan.Place.TheVariants.Before, declared.scan.TreeFault.TreeFault, declared.scan.TreeFault.TheVariants.TooLong, Names.is_same_word, Trees.Trees, Trees.End, Trees.Word, Trees.Group, Trees.rows_from, Scan.most_text, Scan.tree_of, Scan.scanned}
+use Rattle.stn_pddl.specs.{declared.fault.DomainFault.DomainFault, declared.action.Side.Side, declared.action.Action.Action, declared.word.Section.Section, Faults.of_tree, Faults.is_memory, Words.section_of, Schemas.ActionSchema, Schemas.bare_action, Views.action_schema, Sound.IsSound}
 use Rattle.stn_pddl.specs.declared.fault.DomainFault.TheVariants.{Syntax, Unsupported, Number, Twice}
-use Rattle.stn_pddl.specs.declared.action.Side.{Side}
 use Rattle.stn_pddl.specs.declared.action.Side.TheVariants.{Condition, Effect}
-use Rattle.stn_pddl.specs.declared.action.Action.{Action}
-use Rattle.stn_pddl.specs.declared.word.Section.{Section}
 use Rattle.stn_pddl.specs.declared.word.Section.TheVariants as section
 use Rattle.stn_text.specs.Faults.{◌>>=◌, Gives}
-use Rattle.stn_pddl.specs.Faults.{of_tree, is_memory}
-use Rattle.stn_pddl.specs.Words.{section_of}
-use Rattle.stn_pddl.specs.Schemas.{ActionSchema, bare_action}
 use Rattle.stn_pddl.specs.Fields.{Listing, Values, no_values, parameters, duration, constant, not_negative, fields}
 use Rattle.stn_pddl.specs.Actions.{timed_value, action_of_lists, action_of_values, named_action, is_taken, action}
 use Rattle.stn_pddl.specs.Domains.{part, parts, root, domain_of_tree, domain_of_bytes, domain_of, action_named}
-use Rattle.stn_pddl.specs.Views.{action_schema}
-use Rattle.stn_pddl.specs.Sound.{IsSound}
 use Rattle.stn_pddl.proofs.Kept.{Keeps, bind_ok, guard_ok, unless_ok, ok_same, timed_tree-keeps}
 
 refused : {A B : Type 0} (e : DomainFault) (y : A) → Err e ≡ Ok y → B

@@ -2,22 +2,10 @@
 use Rattle.std.proofs.Common.{◌≡◌, ℕ, ◌<◌, ◌≤◌, Bool, true, false, List, Result, Ok, Err, IfOk, [], refl, sym, ◌∙◌, ap, codes, arith}
 use Rattle.std.proofs.lemmas.Bool.{eq-eqb, ne_eqb}
 use Rattle.stn_text.specs.Faults.{◌>>=◌, Fails, Unless}
-use Rattle.stn_tree.specs.declared.cursor.Cursor.{Cursor}
-use Rattle.stn_tree.specs.Names.{is_same_word}
-use Rattle.stn_tree.specs.Trees.{Trees, End, Word, Group, how_many}
-use Rattle.stn_tree.specs.Cursors.{rows_at, behind_at, left_at}
-use Rattle.stn_pddl.specs.declared.action.Label.{Label}
-use Rattle.stn_pddl.specs.declared.action.Label.TheVariants.{OverAll}
-use Rattle.stn_pddl.specs.declared.action.Side.{Side}
-use Rattle.stn_pddl.specs.declared.action.Side.TheVariants.{Condition}
-use Rattle.stn_pddl.specs.declared.fault.DomainFault.{DomainFault}
+use Rattle.stn_tree.specs.{declared.cursor.Cursor.Cursor, Names.is_same_word, Trees.Trees, Trees.End, Trees.Word, Trees.Group, Trees.how_many, Cursors.rows_at, Cursors.behind_at, Cursors.left_at}
+use Rattle.stn_pddl.specs.{declared.action.Label.Label, declared.action.Label.TheVariants.OverAll, declared.action.Side.Side, declared.action.Side.TheVariants.Condition, declared.fault.DomainFault.DomainFault, declared.word.Head.Head, Faults.is_memory, Words.head_of, Schemas.ActionSchema, Atoms.atom, Atoms.equality, Atoms.terms}
 use Rattle.stn_pddl.specs.declared.fault.DomainFault.TheVariants.{Syntax, Unsupported}
-use Rattle.stn_pddl.specs.declared.word.Head.{Head}
 use Rattle.stn_pddl.specs.declared.word.Head.TheVariants as head
-use Rattle.stn_pddl.specs.Faults.{is_memory}
-use Rattle.stn_pddl.specs.Words.{head_of}
-use Rattle.stn_pddl.specs.Schemas.{ActionSchema}
-use Rattle.stn_pddl.specs.Atoms.{atom, equality, terms}
 use Rattle.stn_pddl.specs.Conditions.{equal_tree, negated_tree, negated_first, negation, plain_row, plain_tree, labelled, start_of, end_of, at_tree, over_tree, equal_at, timed_row, timed_tree}
 use Rattle.stn_pddl.proofs.Steps.{fails_first}
 

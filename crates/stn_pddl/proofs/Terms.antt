@@ -2,17 +2,10 @@
 use Rattle.std.proofs.Common.{◌≡◌, ℕ, Bool, true, false, cond, List, [], ◌∷◌, ◌++◌, Option, Result, Err, refl, sym, ◌∙◌, ap, position}
 use Rattle.std.proofs.lemmas.List.{length-map}
 use Rattle.std.specs.List.{position_or_len, list_any}
-use Rattle.stn_tree.specs.Trees.{Trees, Word}
+use Rattle.stn_tree.specs.{Trees.Trees, Trees.Word, declared.name.Name.Name, Names.is_same_word}
 use Rattle.stn_pddl.specs.declared.word.Item.TheVariants as item
-use Rattle.stn_pddl.specs.declared.word.Item.{Item}
-use Rattle.stn_pddl.specs.Fields.{parameters, parameters_behind_type}
-use Rattle.stn_tree.specs.declared.name.Name.{Name}
-use Rattle.stn_tree.specs.Names.{is_same_word}
-use Rattle.stn_pddl.specs.declared.fault.DomainFault.{DomainFault}
+use Rattle.stn_pddl.specs.{declared.word.Item.Item, Fields.parameters, Fields.parameters_behind_type, declared.fault.DomainFault.DomainFault, Words.is_variable, Words.item_of, Atoms.term, Atoms.parameter_at, Views.word_of, Views.words_of}
 use Rattle.stn_pddl.specs.declared.fault.DomainFault.TheVariants.{Twice, Syntax}
-use Rattle.stn_pddl.specs.Words.{is_variable, item_of}
-use Rattle.stn_pddl.specs.Atoms.{term, parameter_at}
-use Rattle.stn_pddl.specs.Views.{word_of, words_of}
 
 position_or_len-map : (test : List ℕ → Bool) (names : List Name) → position_or_len test (words_of names) ≡ position_or_len (λ (name : Name). test (word_of name)) names
 position_or_len-map test [] = refl

@@ -1,17 +1,12 @@
 -- A durative action.
 use Rattle.std.specs.Prelude.{ℕ, Bool, List, [], Option, Some, None, Result, Ok, Err, if◌then◌else◌}
 use Rattle.std.specs.List.{list_any}
-use Rattle.stn_tree.specs.Names.{is_same_word}
-use Rattle.stn_tree.specs.Trees.{Trees, End, Word, Group}
-use Rattle.stn_pddl.specs.declared.fault.DomainFault.{DomainFault}
+use Rattle.stn_tree.specs.{Names.is_same_word, Trees.Trees, Trees.End, Trees.Word, Trees.Group}
+use Rattle.stn_pddl.specs.{declared.fault.DomainFault.DomainFault, declared.action.Side.Side, Words.is_name, Schemas.ActionSchema, Schemas.bare_action, Conditions.timed_tree}
 use Rattle.stn_pddl.specs.declared.fault.DomainFault.TheVariants.{Syntax, Twice}
-use Rattle.stn_pddl.specs.declared.action.Side.{Side}
 use Rattle.stn_pddl.specs.declared.action.Side.TheVariants.{Condition, Effect}
 use Rattle.stn_text.specs.Faults.{◌>>=◌}
-use Rattle.stn_pddl.specs.Words.{is_name}
-use Rattle.stn_pddl.specs.Schemas.{ActionSchema, bare_action}
 use Rattle.stn_pddl.specs.Fields.{Listing, Values, no_values, parameters, duration, fields}
-use Rattle.stn_pddl.specs.Conditions.{timed_tree}
 
 -- a value of `:condition` or `:effect`; one that is missing is empty
 unfoldable pub timed_value : Side → Option Listing → ActionSchema → Result ActionSchema DomainFault

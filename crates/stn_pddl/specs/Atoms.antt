@@ -1,12 +1,9 @@
 -- Terms, atoms and equalities.
 use Rattle.std.specs.Prelude.{ℕ, Bool, List, [], ◌∷◌, ◌++◌, Option, Some, None, Result, Ok, Err, ◌==◌, if◌then◌else◌, position}
-use Rattle.stn_tree.specs.Names.{is_same_word}
-use Rattle.stn_tree.specs.Trees.{Trees, End, Word, Group, how_many}
-use Rattle.stn_pddl.specs.declared.fault.DomainFault.{DomainFault}
+use Rattle.stn_tree.specs.{Names.is_same_word, Trees.Trees, Trees.End, Trees.Word, Trees.Group, Trees.how_many}
+use Rattle.stn_pddl.specs.{declared.fault.DomainFault.DomainFault, declared.action.Label.Label, Words.is_variable, Words.is_key}
 use Rattle.stn_pddl.specs.declared.fault.DomainFault.TheVariants.{Syntax, Unsupported, Variable}
-use Rattle.stn_pddl.specs.declared.action.Label.{Label}
 use Rattle.stn_text.specs.Faults.{◌>>=◌}
-use Rattle.stn_pddl.specs.Words.{is_variable, is_key}
 use Rattle.stn_pddl.specs.Schemas.{TermSchema, ActionSchema, Parameter, Constant, with_literal}
 
 -- a word that begins with `?` is a parameter of the action

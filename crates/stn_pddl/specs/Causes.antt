@@ -1,13 +1,9 @@
 -- Why a text is no domain, in the words of its parts.
 use Rattle.std.specs.Prelude.{◌≡◌, ℕ, ◌<◌, ◌⊎◌, true, List, [], length, Ok, Err, codes}
 use Rattle.stn_tree.specs.declared.scan.TreeFault.TheVariants as tree
-use Rattle.stn_tree.specs.Names.{is_same_word}
-use Rattle.stn_tree.specs.Trees.{Trees, End, Word, Group}
-use Rattle.stn_tree.specs.Scan.{most_text, tree_of}
-use Rattle.stn_pddl.specs.declared.fault.DomainFault.{DomainFault}
+use Rattle.stn_tree.specs.{Names.is_same_word, Trees.Trees, Trees.End, Trees.Word, Trees.Group, Scan.most_text, Scan.tree_of}
+use Rattle.stn_pddl.specs.{declared.fault.DomainFault.DomainFault, Schemas.ActionSchema, Domains.part, Domains.parts, Domains.is_title}
 use Rattle.stn_pddl.specs.declared.fault.DomainFault.TheVariants.{TooLong, Syntax, TooDeep, Memory}
-use Rattle.stn_pddl.specs.Schemas.{ActionSchema}
-use Rattle.stn_pddl.specs.Domains.{part, parts, is_title}
 
 -- two rows, one after the other
 unfoldable pub row_then : Trees → Trees → Trees

@@ -1,18 +1,12 @@
 -- Conditions and effects: trees with times, and the plain trees in them.
 use Rattle.std.specs.Prelude.{ℕ, Bool, true, false, Result, Ok, Err, ◌==◌, if◌then◌else◌, codes}
-use Rattle.stn_tree.specs.Names.{is_same_word}
-use Rattle.stn_tree.specs.Trees.{Trees, End, Word, Group, how_many}
-use Rattle.stn_pddl.specs.declared.fault.DomainFault.{DomainFault}
+use Rattle.stn_tree.specs.{Names.is_same_word, Trees.Trees, Trees.End, Trees.Word, Trees.Group, Trees.how_many}
+use Rattle.stn_pddl.specs.{declared.fault.DomainFault.DomainFault, declared.action.Label.Label, declared.action.Side.Side, Words.head_of, Schemas.ActionSchema, Atoms.atom, Atoms.equality}
 use Rattle.stn_pddl.specs.declared.fault.DomainFault.TheVariants.{Syntax, Unsupported}
-use Rattle.stn_pddl.specs.declared.action.Label.{Label}
 use Rattle.stn_pddl.specs.declared.action.Label.TheVariants.{StartCondition, OverAll, EndCondition, StartEffect, EndEffect}
-use Rattle.stn_pddl.specs.declared.action.Side.{Side}
 use Rattle.stn_pddl.specs.declared.action.Side.TheVariants.{Condition, Effect}
 use Rattle.stn_pddl.specs.declared.word.Head.TheVariants as head
 use Rattle.stn_text.specs.Faults.{◌>>=◌}
-use Rattle.stn_pddl.specs.Words.{head_of}
-use Rattle.stn_pddl.specs.Schemas.{ActionSchema}
-use Rattle.stn_pddl.specs.Atoms.{atom, equality}
 
 abbrev pub is_effect : Label → Bool
 is_effect StartCondition = false

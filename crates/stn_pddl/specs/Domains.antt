@@ -1,17 +1,10 @@
 -- A domain: from a text to its actions, or to the first fault.
 use Rattle.std.specs.Prelude.{ℕ, Bool, false, ◌&&◌, List, [], ◌∷◌, ◌++◌, Option, Result, Ok, Err, find, if◌then◌else◌, codes}
-use Rattle.stn_tree.specs.declared.scan.TreeFault.{TreeFault}
-use Rattle.stn_tree.specs.Names.{is_same_word}
-use Rattle.stn_tree.specs.Trees.{Trees, End, Word, Group}
-use Rattle.stn_tree.specs.Scan.{tree_of}
-use Rattle.stn_pddl.specs.declared.fault.DomainFault.{DomainFault}
+use Rattle.stn_tree.specs.{declared.scan.TreeFault.TreeFault, Names.is_same_word, Trees.Trees, Trees.End, Trees.Word, Trees.Group, Scan.tree_of}
+use Rattle.stn_pddl.specs.{declared.fault.DomainFault.DomainFault, Faults.of_tree, Words.is_name, Words.section_of, Schemas.ActionSchema, Actions.action}
 use Rattle.stn_pddl.specs.declared.fault.DomainFault.TheVariants.{Syntax, Unsupported}
 use Rattle.stn_pddl.specs.declared.word.Section.TheVariants as section
 use Rattle.stn_text.specs.Faults.{◌>>=◌}
-use Rattle.stn_pddl.specs.Faults.{of_tree}
-use Rattle.stn_pddl.specs.Words.{is_name, section_of}
-use Rattle.stn_pddl.specs.Schemas.{ActionSchema}
-use Rattle.stn_pddl.specs.Actions.{action}
 
 -- one part of a domain, a list on a line, after the actions that stood before
 unfoldable pub part : ℕ → Trees → List ActionSchema → Result (List ActionSchema) DomainFault

@@ -2,8 +2,7 @@
 -- What the values of an action's keys say.
 use Rattle.std.specs.Option.{option_map}
 use Rattle.stn_tree.specs.Cursors.{row_at}
-use Rattle.stn_pddl.specs.declared.fields.Listing.{Listing}
-use Rattle.stn_pddl.specs.declared.fields.Values.{Values}
+use Rattle.stn_pddl.specs.{declared.fields.Listing.Listing, declared.fields.Values.Values}
 use Rattle.stn_pddl.specs.Fields as spec
 
 abbrev pub listing_of : Listing → spec.Listing

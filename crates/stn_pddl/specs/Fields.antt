@@ -1,17 +1,13 @@
 -- The keys of an action and their values, and the values that are no conditions and effects.
 use Rattle.std.specs.Prelude.{ℕ, ◌&&◌, List, [], ◌∷◌, ◌++◌, Option, Some, None, is_some, Result, Ok, Err, ℤ, pos, int_lt, if◌then◌else◌, codes}
 use Rattle.std.specs.List.{list_any}
-use Rattle.stn_time.specs.declared.reading.TimeFault.{TimeFault}
-use Rattle.stn_time.specs.TimeOf.{time_of}
-use Rattle.stn_tree.specs.Names.{is_same_word}
-use Rattle.stn_tree.specs.Trees.{Trees, End, Word, Group}
-use Rattle.stn_pddl.specs.declared.fault.DomainFault.{DomainFault}
+use Rattle.stn_time.specs.{declared.reading.TimeFault.TimeFault, TimeOf.time_of}
+use Rattle.stn_tree.specs.{Names.is_same_word, Trees.Trees, Trees.End, Trees.Word, Trees.Group}
+use Rattle.stn_pddl.specs.{declared.fault.DomainFault.DomainFault, declared.word.Field.Field, Words.item_of, Words.key_of}
 use Rattle.stn_pddl.specs.declared.fault.DomainFault.TheVariants.{Syntax, Unsupported, Number, Twice}
 use Rattle.stn_pddl.specs.declared.word.Item.TheVariants as item
-use Rattle.stn_pddl.specs.declared.word.Field.{Field}
 use Rattle.stn_pddl.specs.declared.word.Field.TheVariants as field
 use Rattle.stn_pddl.specs.declared.word.Key.TheVariants as key
-use Rattle.stn_pddl.specs.Words.{item_of, key_of}
 
 -- Parameters from left to right, after those that stood before. After `-` one tree, the type, is skipped.
 unfoldable mutual

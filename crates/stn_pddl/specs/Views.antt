@@ -1,10 +1,8 @@
 -- What the values of the code say.
 use Rattle.std.specs.Prelude.{◌≡◌, ℕ, List, [], ◌∷◌, map}
 use Rattle.stn_tree.specs.declared.name.Name.{Name}
-use Rattle.stn_pddl.specs.declared.action.Term.{Term}
+use Rattle.stn_pddl.specs.{declared.action.Term.Term, declared.action.Atom.Atom, declared.action.Action.Action}
 use Rattle.stn_pddl.specs.declared.action.Term.TheVariants as code
-use Rattle.stn_pddl.specs.declared.action.Atom.{Atom}
-use Rattle.stn_pddl.specs.declared.action.Action.{Action}
 use Rattle.stn_pddl.specs.Schemas.{TermSchema, AtomSchema, ActionSchema, Parameter, Constant}
 
 abbrev pub word_of : Name → List ℕ

@@ -2,14 +2,11 @@
 use Rattle.std.specs.Prelude.{ℕ, Bool, false, not, ◌||◌, ◌&&◌, ◌==◌, List, [], ◌∷◌, length, nat_lt, if◌then◌else◌, codes}
 use Rattle.std.specs.List.{list_any}
 use Rattle.stn_tree.specs.Names.{is_same_word}
-use Rattle.stn_pddl.specs.declared.word.Head.{Head}
+use Rattle.stn_pddl.specs.{declared.word.Head.Head, declared.word.Item.Item, declared.word.Key.Key, declared.word.Section.Section}
 use Rattle.stn_pddl.specs.declared.word.Head.TheVariants as head
-use Rattle.stn_pddl.specs.declared.word.Item.{Item}
 use Rattle.stn_pddl.specs.declared.word.Item.TheVariants as item
 use Rattle.stn_pddl.specs.declared.word.Field.TheVariants as field
-use Rattle.stn_pddl.specs.declared.word.Key.{Key}
 use Rattle.stn_pddl.specs.declared.word.Key.TheVariants as key
-use Rattle.stn_pddl.specs.declared.word.Section.{Section}
 use Rattle.stn_pddl.specs.declared.word.Section.TheVariants as section
 
 abbrev pub begins_with : ℕ → List ℕ → Bool

@@ -1,21 +1,14 @@
 -- What is drawn grows by one event.
 use Rattle.std.proofs.Common.{◌≡◌, ℕ, ℤ, suc, ◌+◌, ◌<◌, Bool, List, [], ◌∷◌, ◌++◌, length, take, get_or, refl, sym, ap, subst, ◌∙◌, add-one, append_assoc, arith}
-use Rattle.std.proofs.lemmas.Bool.Decides.{nat_tests}
-use Rattle.std.proofs.lemmas.List.{append-nil, take_more}
-use Rattle.std.proofs.lemmas.List.Concat.{flat_map-append}
+use Rattle.std.proofs.{lemmas.Bool.Decides.nat_tests, lemmas.List.append-nil, lemmas.List.take_more, lemmas.List.Concat.flat_map-append}
 use Rattle.std.specs.List.{flat_map}
-use Rattle.stn_net.specs.Difference.{Difference}
+use Rattle.stn_net.specs.{Difference.Difference, Schedule.HasSchedule}
 use Rattle.stn_windows.specs.Window.{IsWindow}
-use Rattle.stn_picture.specs.declared.span.Span.{Span}
-use Rattle.stn_picture.specs.Axis.{later, furthest, reach, gap_of}
-use Rattle.stn_picture.specs.Spans.{AreSpans}
-use Rattle.stn_net.specs.Schedule.{HasSchedule}
+use Rattle.stn_picture.specs.{declared.span.Span.Span, Axis.later, Axis.furthest, Axis.reach, Axis.gap_of, Spans.AreSpans, Picture.rows_end, Picture.windows_text, Picture.IsWindowsPicture}
 use Rattle.stn_lift.specs.PlanSource.{PlanSource, events_of}
 use Rattle.stn_records.specs.Content.{Content}
-use Rattle.stn_site.specs.Bounds.{all_bounds}
-use Rattle.stn_site.specs.Report.{is_done}
+use Rattle.stn_site.specs.{Bounds.all_bounds, Report.is_done}
 use Rattle.stn_questions.specs.Steps.{steps_text}
-use Rattle.stn_picture.specs.Picture.{rows_end, windows_text, IsWindowsPicture}
 
 -- one span more
 pub one_more_span : (bounds : List Difference) (done : ℕ → Bool) (n event : ℕ) (earliest latest : ℤ) (spans : List Span)

@@ -1,7 +1,6 @@
 -- Texts that grow piece by piece.
 use Rattle.std.proofs.Common.{◌≡◌, ℕ, List, ◌++◌, codes, cond, Result, Ok, Err, OnOk, ap, sym, true≢false, ◌∙◌, append_assoc}
-use Rattle.std.specs.Prelude.{is_ok, MatchResult}
-use Rattle.std.specs.Result.{IsOk, IsErr}
+use Rattle.std.specs.{Prelude.is_ok, Prelude.MatchResult, Result.IsOk, Result.IsErr}
 
 -- one piece more
 pub then : (front seen piece : List ℕ) {middle end : List ℕ} → middle ≡ front ++ seen → end ≡ middle ++ piece → end ≡ front ++ (seen ++ piece)

@@ -1,9 +1,7 @@
 -- The line of time reaches past what it has to show.
 use Rattle.std.proofs.Common.{◌≡◌, ◌↔◌, ℕ, ℤ, zero, suc, ◌*◌, ◌<◌, ◌≤◌, Bool, true, false, List, [], ◌∷◌, get_or, All, unsigned_abs, if◌then◌else◌, refl, arith}
 use Rattle.std.proofs.lemmas.Bool.Decides.{nat_tests}
-use Rattle.stn_picture.specs.declared.span.Span.{Span}
-use Rattle.stn_picture.specs.Axis.{is_open, reach, later, furthest, gap_of, line_end}
-use Rattle.stn_picture.specs.Picture.{is_cut}
+use Rattle.stn_picture.specs.{declared.span.Span.Span, Axis.is_open, Axis.reach, Axis.later, Axis.furthest, Axis.gap_of, Axis.line_end, Picture.is_cut}
 
 later_least : (one other : ℕ) → (one ≤ later one other) × (other ≤ later one other)
 later_least one other = grind (arith, nat_tests)

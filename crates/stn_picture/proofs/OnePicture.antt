@@ -2,23 +2,14 @@
 use Rattle.std.proofs.Common.{◌≡◌, ℕ, zero, suc, Bool, List, [], ◌∷◌, ◌++◌, map, refl, sym, ap, subst, ◌∙◌, ⊎_elim, inl, inr}
 use Rattle.std.proofs.lemmas.List.{append_cancel_left}
 use Rattle.std.specs.List.{flat_map}
-use Rattle.stn_net.specs.Difference.{Difference}
-use Rattle.stn_net.specs.Schedule.{HasSchedule}
+use Rattle.stn_net.specs.{Difference.Difference, Schedule.HasSchedule}
 use Rattle.stn_windows.proofs.Windows.{one_window}
 use Rattle.stn_lift.specs.PlanSource.{PlanSource, base_bounds, events_of}
-use Rattle.stn_records.specs.Id.{SiteCounter}
-use Rattle.stn_records.specs.declared.record.Record.{Record}
-use Rattle.stn_records.specs.Content.{Content, live_of}
-use Rattle.stn_conflict.specs.declared.links.Link.{Link}
-use Rattle.stn_conflict.specs.Arcs.{weight_of, IsNegativeCycle}
-use Rattle.stn_conflict.specs.Named.{IsNamedCycle}
-use Rattle.stn_site.specs.Bounds.{bounds_of, all_bounds}
-use Rattle.stn_site.specs.Lines.{conflict_line, link_line}
-use Rattle.stn_site.specs.Report.{says_done, is_done, IsConflictPart, IsReport, heading}
+use Rattle.stn_records.specs.{Id.SiteCounter, declared.record.Record.Record, Content.Content, Content.live_of}
+use Rattle.stn_conflict.specs.{declared.links.Link.Link, Arcs.weight_of, Arcs.IsNegativeCycle, Named.IsNamedCycle}
+use Rattle.stn_site.specs.{Bounds.bounds_of, Bounds.all_bounds, Lines.conflict_line, Lines.link_line, Report.says_done, Report.is_done, Report.IsConflictPart, Report.IsReport, Report.heading}
 use Rattle.stn_questions.specs.Steps.{steps_text}
-use Rattle.stn_picture.specs.declared.span.Span.{Span}
-use Rattle.stn_picture.specs.Axis.{gap_of}
-use Rattle.stn_picture.specs.Spans.{AreSpans}
+use Rattle.stn_picture.specs.{declared.span.Span.Span, Axis.gap_of, Spans.AreSpans}
 use Rattle.stn_picture.specs.Picture.{rows_end, windows_text, cycle_height, cycle_text, IsWindowsPicture, IsCyclePicture, IsPicture}
 
 abbrev Entries : Type 0

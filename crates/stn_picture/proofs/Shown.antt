@@ -1,8 +1,6 @@
 -- A time as it is printed.
 use Rattle.std.proofs.Common.{◌≡◌, ℕ, ℤ, ◌/◌, ◌%◌, ◌^◌, ◌<◌, List, ◌++◌, codes, decimal, refl, arith}
-use Rattle.std.specs.Prelude.{unsigned_abs}
-use Rattle.std.specs.Int.{is_negative}
-use Rattle.std.specs.Fmt.{sign_text}
+use Rattle.std.specs.{Prelude.unsigned_abs, Int.is_negative, Fmt.sign_text}
 use Rattle.std.proofs.lemmas.Fmt.{decimal_digit}
 use Rattle.stn_time.specs.Text.{printed}
 use Rattle.stn_time.proofs.Prints.{decimal-whole_text}

@@ -5,14 +5,9 @@ use Rattle.stn_time.specs.Text.{printed}
 use Rattle.stn_net.specs.Schedule.{HasSchedule}
 use Rattle.stn_lift.specs.PlanSource.{PlanSource, events_of}
 use Rattle.stn_records.specs.Content.{Content}
-use Rattle.stn_site.specs.Bounds.{all_bounds}
-use Rattle.stn_site.specs.Lines.{window_line}
-use Rattle.stn_site.specs.Report.{is_done, IsConflictPart}
+use Rattle.stn_site.specs.{Bounds.all_bounds, Lines.window_line, Report.is_done, Report.IsConflictPart}
 use Rattle.stn_questions.specs.Steps.{steps_text}
-use Rattle.stn_picture.specs.declared.span.Span.{Span}
-use Rattle.stn_picture.specs.Escape.{escaped}
-use Rattle.stn_picture.specs.Axis.{gap_of, line_end, later}
-use Rattle.stn_picture.specs.Spans.{AreSpans}
+use Rattle.stn_picture.specs.{declared.span.Span.Span, Escape.escaped, Axis.gap_of, Axis.line_end, Axis.later, Spans.AreSpans}
 
 -- each event has a row of 20 pixels, the first below the top row of marks: where the rows of so many events end
 abbrev pub rows_end : ℕ → ℕ

@@ -1,18 +1,13 @@
 -- The first line with a fault gives the fault of the text.
 use Rattle.std.proofs.Common.{◌≡◌, ℕ, ℤ, Bool, true, false, cond, nat_lt, ◌||◌, length, List, [], ◌∷◌, ◌++◌, Option, Some, None, Result, Ok, Err, IsOk, refl, subst, ap, ◌∙◌}
-use Rattle.std.specs.Int.{is_negative}
-use Rattle.std.specs.Option.{option_to_list, option_map_or}
+use Rattle.std.specs.{Int.is_negative, Option.option_to_list, Option.option_map_or}
 use Rattle.std.proofs.lemmas.List.Elements.{All-nil, All-cons}
-use Rattle.stn_time.specs.declared.reading.TimeFault.{TimeFault}
-use Rattle.stn_time.specs.TimeOf.{time_of}
+use Rattle.stn_time.specs.{declared.reading.TimeFault.TimeFault, TimeOf.time_of}
 use Rattle.stn_text.specs.Faults.{◌>>=◌, Fails}
 use Rattle.stn_plan.specs.declared.bytes.Mark.TheVariants.{Colon, Open, Close, OpenSquare, CloseSquare}
-use Rattle.stn_plan.specs.declared.fault.PlanFault.{PlanFault}
+use Rattle.stn_plan.specs.{declared.fault.PlanFault.PlanFault, Tokens.Lexeme, Tokens.Word, Tokens.Sign, Tokens.tokens_of, Lines.lines_of, Faults.IsFaultOf, Faults.IsFirstFault, Faults.IsCause}
 use Rattle.stn_plan.specs.declared.fault.PlanFault.TheVariants.{TooLong, Syntax, Number, Negative, TooManySteps, Memory}
-use Rattle.stn_plan.specs.Tokens.{Lexeme, Word, Sign, tokens_of}
-use Rattle.stn_plan.specs.Lines.{lines_of}
 use Rattle.stn_plan.specs.Steps.{PlannedStep, Form, args_of, duration_form, form_of, or_number, time_at, duration_of, step_at, timed_step, step_of, line_step, most_text, steps_of, plan_of, is_memory}
-use Rattle.stn_plan.specs.Faults.{IsFaultOf, IsFirstFault, IsCause}
 
 -- the fault that is given is the one that is found
 its : {A : Type 0} (line : ℕ) (given fault : PlanFault) → IsFaultOf line given → ◌≡◌ {A = Result A PlanFault} (Err given) (Err fault) → IsFaultOf line fault

@@ -1,9 +1,8 @@
 -- The tokens of what is left of a line.
 use Rattle.std.proofs.Common.{◌≡◌, ℕ, suc, ◌+◌, Bool, true, false, List, [], ◌∷◌, take, drop, refl, ap, arith}
 use Rattle.std.specs.List.{prefix_len}
-use Rattle.stn_plan.specs.declared.bytes.Kind.{Kind}
+use Rattle.stn_plan.specs.{declared.bytes.Kind.Kind, Bytes.kind_of}
 use Rattle.stn_plan.specs.declared.bytes.Kind.TheVariants as kind
-use Rattle.stn_plan.specs.Bytes.{kind_of}
 use Rattle.stn_plan.specs.Tokens.{Word, is_letter, is_word_byte, begins_word, before_letter, before_byte, tokens_of}
 
 -- a byte of a kind before the tokens after it

@@ -1,9 +1,7 @@
 -- Why a text is refused, in the words of its lines.
 use Rattle.std.specs.Prelude.{◌≡◌, ℕ, ◌<◌, List, ◌∷◌, ◌++◌, length, All, Ok, Err, IsOk}
-use Rattle.stn_plan.specs.declared.fault.PlanFault.{PlanFault}
+use Rattle.stn_plan.specs.{declared.fault.PlanFault.PlanFault, Lines.lines_of, Steps.PlannedStep, Steps.most_text, Steps.most_steps, Steps.line_step, Steps.steps_of}
 use Rattle.stn_plan.specs.declared.fault.PlanFault.TheVariants.{TooLong, Syntax, Number, Negative, TooManySteps, Memory}
-use Rattle.stn_plan.specs.Lines.{lines_of}
-use Rattle.stn_plan.specs.Steps.{PlannedStep, most_text, most_steps, line_step, steps_of}
 
 -- a fault that names this line
 abbrev pub IsFaultOf : ℕ → PlanFault → Type 0

@@ -1,17 +1,13 @@
 -- The steps of a plan text, or its first fault.
 use Rattle.std.specs.Prelude.{◌≡◌, ℕ, ℤ, pos, ◌≤ℤ◌, ◌≤◌, Bool, true, false, ◌||◌, nat_lt, if◌then◌else◌, List, [], ◌∷◌, ◌++◌, length, All, Option, Some, None, IfSome, Result, Ok, Err}
-use Rattle.std.specs.Int.{is_negative}
-use Rattle.std.specs.Option.{option_map_or, option_to_list}
-use Rattle.stn_time.specs.declared.reading.TimeFault.{TimeFault}
-use Rattle.stn_time.specs.TimeOf.{time_of}
+use Rattle.std.specs.{Int.is_negative, Option.option_map_or, Option.option_to_list}
+use Rattle.stn_time.specs.{declared.reading.TimeFault.TimeFault, TimeOf.time_of}
 pub use Rattle.stn_text.specs.Bytes.{most_text}
 use Rattle.stn_text.specs.Faults.{◌>>=◌}
 pub use Rattle.stn_net.specs.Event.{most_steps}
 use Rattle.stn_plan.specs.declared.bytes.Mark.TheVariants.{Colon, Open, Close, OpenSquare, CloseSquare}
-use Rattle.stn_plan.specs.declared.fault.PlanFault.{PlanFault}
+use Rattle.stn_plan.specs.{declared.fault.PlanFault.PlanFault, Tokens.Lexeme, Tokens.Word, Tokens.Sign, Tokens.tokens_of, Lines.lines_of}
 use Rattle.stn_plan.specs.declared.fault.PlanFault.TheVariants.{TooLong, Syntax, Number, Negative, TooManySteps, Memory}
-use Rattle.stn_plan.specs.Tokens.{Lexeme, Word, Sign, tokens_of}
-use Rattle.stn_plan.specs.Lines.{lines_of}
 
 -- a step without where it lies in memory
 pub record PlannedStep : Type 0 where

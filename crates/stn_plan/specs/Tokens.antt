@@ -1,11 +1,8 @@
 -- The tokens of a line.
 use Rattle.std.specs.Prelude.{ℕ, Bool, true, false, List, [], ◌∷◌}
-use Rattle.stn_plan.specs.declared.bytes.Mark.{Mark}
-use Rattle.stn_plan.specs.declared.bytes.Kind.{Kind}
+use Rattle.stn_plan.specs.{declared.bytes.Mark.Mark, declared.bytes.Kind.Kind, declared.tokens.Token.Token, Bytes.kind_of}
 use Rattle.stn_plan.specs.declared.bytes.Kind.TheVariants as kind
-use Rattle.stn_plan.specs.declared.tokens.Token.{Token}
 use Rattle.stn_plan.specs.declared.tokens.Token.TheVariants as token
-use Rattle.stn_plan.specs.Bytes.{kind_of}
 
 -- A token without where it lies in memory: a word, a mark of one byte, or a byte that may stand in comments alone.
 pub data Lexeme : Type 0 where

@@ -1,10 +1,6 @@
 -- Steps and their parts as contracts see them, without where they lie in memory.
-use Rattle.std.specs.Prelude.{ℕ, List, map, Vec}
-use Rattle.std.specs.Borrow.{Bor}
-use Rattle.std.specs.Option.{option_map}
-use Rattle.stn_plan.specs.Steps.{Form, PlannedStep}
-use Rattle.stn_plan.specs.declared.step.Step.{Step}
-use Rattle.stn_plan.specs.declared.step.Words.{Words}
+use Rattle.std.specs.{Prelude.ℕ, Prelude.List, Prelude.map, Prelude.Vec, Borrow.Bor, Option.option_map}
+use Rattle.stn_plan.specs.{Steps.Form, Steps.PlannedStep, declared.step.Step.Step, declared.step.Words.Words}
 
 abbrev pub word_of : Bor (List ℕ) → List ℕ
 word_of word = word.now

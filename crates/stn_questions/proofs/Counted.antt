@@ -2,26 +2,15 @@
 use Rattle.std.proofs.Common.{◌≡◌, inl, inr, ⊎_elim, ℕ, ℤ, neg_ℤ, ◌+◌, Bool, List, ◌++◌, codes, length, map, ap, subst, ◌∙◌}
 use Rattle.std.specs.List.{flat_map, range_with_len}
 use Rattle.stn_time.specs.Text.{printed}
-use Rattle.stn_net.specs.Difference.{Difference}
-use Rattle.stn_net.specs.Schedule.{HasSchedule}
+use Rattle.stn_net.specs.{Difference.Difference, Schedule.HasSchedule}
 use Rattle.stn_windows.specs.Window.{IsWindow}
 use Rattle.stn_lift.specs.PlanSource.{PlanSource, base_bounds, events_of}
-use Rattle.stn_records.specs.Id.{SiteCounter}
-use Rattle.stn_records.specs.declared.record.Record.{Record}
-use Rattle.stn_records.specs.Content.{Content, live_of}
-use Rattle.stn_conflict.specs.declared.links.Link.{Link}
-use Rattle.stn_conflict.specs.Arcs.{weight_of, IsNegativeCycle}
-use Rattle.stn_conflict.specs.Named.{IsWay, IsNamedCycle}
-use Rattle.stn_site.specs.Bounds.{bounds_of}
-use Rattle.stn_site.specs.Lines.{line, window_line, conflict_line, link_line}
-use Rattle.stn_site.specs.Report.{says_done, IsConflictPart}
+use Rattle.stn_records.specs.{Id.SiteCounter, declared.record.Record.Record, Content.Content, Content.live_of}
+use Rattle.stn_conflict.specs.{declared.links.Link.Link, Arcs.weight_of, Arcs.IsNegativeCycle, Named.IsWay, Named.IsNamedCycle}
+use Rattle.stn_site.specs.{Bounds.bounds_of, Lines.line, Lines.window_line, Lines.conflict_line, Lines.link_line, Report.says_done, Report.IsConflictPart}
 use Rattle.stn_repair.specs.Ranges.{IsRange}
-use Rattle.stn_questions.specs.declared.asked.Question.{Question}
+use Rattle.stn_questions.specs.{declared.asked.Question.Question, Bounds.listed_line, Ready.IsReadyWith, Ready.IsReadyText, Why.end_text, Why.range_line, Why.IsWhyPart, Why.IsApartPart, Answer.IsAnswer, Answer.AsksOfPlan}
 use Rattle.stn_questions.specs.declared.asked.Question.TheVariants.{Records, Steps, Bounds, Why, WhyApart}
-use Rattle.stn_questions.specs.Bounds.{listed_line}
-use Rattle.stn_questions.specs.Ready.{IsReadyWith, IsReadyText}
-use Rattle.stn_questions.specs.Why.{end_text, range_line, IsWhyPart, IsApartPart}
-use Rattle.stn_questions.specs.Answer.{IsAnswer, AsksOfPlan}
 
 abbrev Entries : Type 0
 Entries = List (SiteCounter × Record)

@@ -1,23 +1,12 @@
 -- The known ids, each once and in order.
 use Rattle.std.proofs.Common.{◌≡◌, Bool, true, false, ◌&&◌, ◌||◌, eqb, List, [], ◌∷◌, ◌++◌, Ordering, Less, Equal, Greater, is_eq, ◌<◌, refl, sym, ap, subst, ◌∙◌, ◌↔◌, IsTrue, map, arith}
-use Rattle.std.proofs.lemmas.Bool.{false≢true}
-use Rattle.std.proofs.lemmas.List.Folds.{Any-from_list_any, list_any-from_Any}
+use Rattle.std.proofs.{lemmas.Bool.false≢true, lemmas.List.Folds.Any-from_list_any, lemmas.List.Folds.list_any-from_Any, lemmas.List.Sorted.Contains-permutation, lemmas.List.Sorted.IsPermutation-sym, lemmas.Map.Keys.sorted_head, lemmas.Map.Keys.sorted_tail, lemmas.Map.Views.Contains-from_any, lemmas.Map.Views.list_any-from_Contains}
 use Rattle.std.proofs.lemmas.List.Kept.{Contains-dedup, Contains-from_dedup, IsStrictlySortedBy-dedup}
-use Rattle.std.proofs.lemmas.List.Sorted.{Contains-permutation, IsPermutation-sym}
-use Rattle.std.proofs.lemmas.Map.Keys.{sorted_head, sorted_tail}
-use Rattle.std.proofs.lemmas.Map.Views.{Contains-from_any, list_any-from_Contains}
-use Rattle.std.specs.Cmp.{IsEquivalence, Equal-is, eq_by_cmp_equiv, ranks}
-use Rattle.std.specs.List.{AllByRecursion, Any, Contains, dedup, list_any}
-use Rattle.std.specs.List.Sorted.{IsPermutation, IsSorted, IsStrictlySortedBy}
+use Rattle.std.specs.{Cmp.IsEquivalence, Cmp.Equal-is, Cmp.eq_by_cmp_equiv, Cmp.ranks, List.AllByRecursion, List.Any, List.Contains, List.dedup, List.list_any, List.Sorted.IsPermutation, List.Sorted.IsSorted, List.Sorted.IsStrictlySortedBy, Set.is_member, FinMap.contains_key-keys}
 use Rattle.std.specs.Ordering.{MatchOrdering, nat_cmp, ordering_then, ordering_reverse}
-use Rattle.std.specs.Set.{is_member}
-use Rattle.stn_records.specs.Id.{SiteCounter, id_cmp}
+use Rattle.stn_records.specs.{Id.SiteCounter, Id.id_cmp, Content.Content, Content.is_known, Content.same_ids, ContentLaws.ids_total, ContentLaws.ids_exact, ContentLaws.ids_decide}
 use Rattle.std.specs.FinMap as fin
-use Rattle.std.specs.FinMap.{contains_key-keys}
-use Rattle.stn_records.specs.Content.{Content, is_known, same_ids}
-use Rattle.stn_records.specs.ContentLaws.{ids_total, ids_exact, ids_decide}
-use Rattle.stn_records.proofs.KnownIds.{member-append}
-use Rattle.stn_records.proofs.Replaced.{with_ids_member}
+use Rattle.stn_records.proofs.{KnownIds.member-append, Replaced.with_ids_member}
 use Rattle.stn_questions.specs.Records.{AreKnown}
 use Rattle.stn_questions.proofs.ReadyLists.{same_number, other_number}
 

@@ -3,23 +3,15 @@ use Rattle.std.proofs.Common.{◌≡◌, ℕ, ℤ, zero, suc, ◌+◌, ◌*◌, 
 use Rattle.std.proofs.lemmas.List.{get_or-drop, get_or_append_left, get_or-append_right, get_or_at}
 use Rattle.std.proofs.lemmas.Bool.{cases_lt}
 use Rattle.std.specs.Result.{result_unwrap_or}
-use Rattle.stn_net.specs.Difference.{Difference}
-use Rattle.stn_net.specs.Horizon.{horizon_bounds}
-use Rattle.stn_net.specs.Schedule.{times_of}
+use Rattle.stn_net.specs.{Difference.Difference, Horizon.horizon_bounds, Schedule.times_of}
 use Rattle.stn_net.proofs.Horizons.{length-horizon_bounds}
-use Rattle.stn_pddl.specs.declared.fault.DomainFault.{DomainFault}
-use Rattle.stn_pddl.specs.Schemas.{ActionSchema}
-use Rattle.stn_pddl.specs.Domains.{domain_of}
-use Rattle.stn_plan.specs.declared.fault.PlanFault.{PlanFault}
-use Rattle.stn_plan.specs.Steps.{PlannedStep, plan_of}
-use Rattle.stn_lift.specs.declared.fault.LiftFault.{LiftFault}
-use Rattle.stn_lift.specs.declared.fault.BaseFault.{BaseFault}
-use Rattle.stn_lift.specs.Activities.{Activity, activities}
+use Rattle.stn_pddl.specs.{declared.fault.DomainFault.DomainFault, Schemas.ActionSchema, Domains.domain_of}
+use Rattle.stn_plan.specs.{declared.fault.PlanFault.PlanFault, Steps.PlannedStep, Steps.plan_of}
+use Rattle.stn_lift.specs.{declared.fault.LiftFault.LiftFault, declared.fault.BaseFault.BaseFault, Activities.Activity, Activities.activities}
 use Rattle.stn_lift.specs.BaseBounds.{duration_bound, duration_bounds, duration_of, events_interfere, event_times, orders, lifted_bounds}
 use Rattle.stn_lift.specs.PlanSource.{files, of_lift, steps_in, lifted, activities_of, source_with, base_of, base_bounds, events_of, IsSoundSource}
 use Rattle.stn_lift.proofs.Steps.{length-activities}
-use Rattle.stn_questions.specs.Steps.{planned_steps}
-use Rattle.stn_questions.specs.Durations.{least_of, AreDurations}
+use Rattle.stn_questions.specs.{Steps.planned_steps, Durations.least_of, Durations.AreDurations}
 
 length-durations : (duration : ℕ → ℤ) (steps : ℕ) → length (duration_bounds duration steps) ≡ steps
 unfolding duration_bounds

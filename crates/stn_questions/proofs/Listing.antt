@@ -6,8 +6,7 @@ use Rattle.std.specs.List.{flat_map, range_with_len}
 use Rattle.stn_net.specs.Difference.{Difference}
 use Rattle.stn_plan.specs.Steps.{PlannedStep}
 use Rattle.stn_site.specs.Lines.{line}
-use Rattle.stn_questions.specs.Durations.{least_of}
-use Rattle.stn_questions.specs.Steps.{step_line, step_lines}
+use Rattle.stn_questions.specs.{Durations.least_of, Steps.step_line, Steps.step_lines}
 
 -- a line of five parts, one after the other
 pub line_in_parts : (front first second third fourth fifth t1 t2 t3 t4 t5 t6 : List ℕ) → t1 ≡ front ++ first → t2 ≡ t1 ++ second → t3 ≡ t2 ++ third → t4 ≡ t3 ++ fourth

@@ -1,15 +1,10 @@
 -- One list says which events are ready.
 use Rattle.std.proofs.Common.{◌≡◌, ℕ, ℤ, zero, suc, ◌+◌, ◌<◌, Bool, true, false, cond, eqb, List, [], ◌∷◌, length, get_or, All, Some, refl, sym, ap, subst, ◌∙◌, arith, ⊎_elim}
-use Rattle.std.proofs.lemmas.Bool.{cases_lt}
-use Rattle.std.proofs.lemmas.Bool.Decides.{nat_tests}
-use Rattle.std.proofs.lemmas.Int.{ints}
-use Rattle.std.proofs.lemmas.List.Elements.{All-tail}
-use Rattle.std.proofs.lemmas.List.Sums.{sum_by-cons}
+use Rattle.std.proofs.{lemmas.Bool.cases_lt, lemmas.Bool.Decides.nat_tests, lemmas.Int.ints, lemmas.List.Elements.All-tail, lemmas.List.Sums.sum_by-cons}
 use Rattle.std.specs.List.{AllPairs}
 use Rattle.stn_net.specs.Difference.{Difference}
 use Rattle.stn_windows.specs.Dispatch.{IsReady, AreReadyTimes}
-use Rattle.stn_questions.specs.declared.ready_event.ReadyEvent.{ReadyEvent}
-use Rattle.stn_questions.specs.Ready.{IsBefore, AreReadyEvents}
+use Rattle.stn_questions.specs.{declared.ready_event.ReadyEvent.ReadyEvent, Ready.IsBefore, Ready.AreReadyEvents}
 use Rattle.stn_questions.proofs.ReadyLists.{counted, same_number, HasTimes}
 
 abbrev one_or_none : Bool → ℕ

@@ -1,19 +1,12 @@
 -- The events that are ready: each once, and in their order.
 use Rattle.std.proofs.Common.{◌≡◌, ◌≢◌, ℕ, ℤ, ◌+◌, ◌<◌, ◌≤◌, ◌≤ℤ◌, ◌<ℤ◌, Bool, true, false, cond, eqb, List, [], ◌∷◌, ◌++◌, get_or, Some, None, Ordering, Less, Equal, Greater, sym, ap, subst, ◌∙◌, arith, ⊎_elim}
-use Rattle.std.proofs.lemmas.Bool.{false≢true, cases_lt}
-use Rattle.std.proofs.lemmas.Bool.Decides.{nat_tests}
+use Rattle.std.proofs.{lemmas.Bool.false≢true, lemmas.Bool.cases_lt, lemmas.Bool.Decides.nat_tests, lemmas.Int.ints, lemmas.List.Sorted.sorted_far, lemmas.List.Sorted.ranks_by, lemmas.List.Sums.sum_by_push}
 use Rattle.std.proofs.lemmas.Cmp.{nat_cmp_total, int_cmp_total, on_total, then_total}
-use Rattle.std.proofs.lemmas.Int.{ints}
-use Rattle.std.proofs.lemmas.List.Sorted.{sorted_far, ranks_by}
-use Rattle.std.proofs.lemmas.List.Sums.{sum_by_push}
-use Rattle.std.specs.Cmp.{IsTotalOrder, ranks, int_ranks}
-use Rattle.std.specs.List.{AllPairs, count_by}
-use Rattle.std.specs.List.Sorted.{IsSorted}
+use Rattle.std.specs.{Cmp.IsTotalOrder, Cmp.ranks, Cmp.int_ranks, List.AllPairs, List.count_by, List.Sorted.IsSorted}
 use Rattle.std.specs.Ordering.{MatchOrdering, nat_cmp, int_cmp, is_lt, ordering_then}
 use Rattle.stn_net.specs.Difference.{Difference}
 use Rattle.stn_windows.specs.Dispatch.{IsReady, AreReadyTimes}
-use Rattle.stn_questions.specs.declared.ready_event.ReadyEvent.{ReadyEvent}
-use Rattle.stn_questions.specs.Ready.{IsBefore}
+use Rattle.stn_questions.specs.{declared.ready_event.ReadyEvent.ReadyEvent, Ready.IsBefore}
 
 -- by first time, by number, by last time
 abbrev pub by_turn : ReadyEvent → ReadyEvent → Ordering

@@ -1,24 +1,15 @@
 -- The first of the events that are ready is the one that comes next, and all may run until the same time.
 use Rattle.std.proofs.Common.{◌≡◌, ◌⊎◌, ℕ, ℤ, ◌+ℤ◌, ◌-ℤ◌, ◌≤ℤ◌, ◌<ℤ◌, suc, Bool, List, [], ◌∷◌, get_or, All, Ordering, Less, Equal, Greater, sym, ap, subst, ◌∙◌, arith, ⊎_elim, inl, inr}
 use Rattle.std.proofs.lemmas.Int.{ints, clamps}
-use Rattle.std.specs.Cmp.{int_ranks}
-use Rattle.std.specs.Int.{int_min}
-use Rattle.std.specs.List.{flat_map}
-use Rattle.std.specs.Ordering.{MatchOrdering, int_cmp}
-use Rattle.stn_net.specs.Difference.{Difference}
-use Rattle.stn_net.specs.Schedule.{IsSchedule}
-use Rattle.stn_windows.specs.declared.answers.Next.TheVariants.{Run}
-use Rattle.stn_windows.specs.Dispatch.{LeavesNoneBefore, IsReady, IsFirstReady}
+use Rattle.std.specs.{Cmp.int_ranks, Int.int_min, List.flat_map, Ordering.MatchOrdering, Ordering.int_cmp}
+use Rattle.stn_net.specs.{Difference.Difference, Schedule.IsSchedule}
+use Rattle.stn_windows.specs.{declared.answers.Next.TheVariants.Run, Dispatch.LeavesNoneBefore, Dispatch.IsReady, Dispatch.IsFirstReady}
 use Rattle.stn_windows.proofs.Windows.{lesser_schedule}
 use Rattle.stn_lift.specs.PlanSource.{PlanSource}
 use Rattle.stn_records.specs.Content.{Content}
-use Rattle.stn_site.specs.Bounds.{all_bounds}
-use Rattle.stn_site.specs.Report.{done_events}
-use Rattle.stn_questions.specs.declared.ready_event.ReadyEvent.{ReadyEvent}
-use Rattle.stn_questions.specs.Ready.{AreReadyEvents, AreReadyLines, IsReadyAnswer, IsReadyText, ready_line, BeginsWithNext}
-use Rattle.stn_questions.proofs.OneAnswer.{OneNext}
-use Rattle.stn_questions.proofs.OneReady.{stands, first_before}
-use Rattle.stn_questions.proofs.ReadyLists.{HasTimes}
+use Rattle.stn_site.specs.{Bounds.all_bounds, Report.done_events}
+use Rattle.stn_questions.specs.{declared.ready_event.ReadyEvent.ReadyEvent, Ready.AreReadyEvents, Ready.AreReadyLines, Ready.IsReadyAnswer, Ready.IsReadyText, Ready.ready_line, Ready.BeginsWithNext}
+use Rattle.stn_questions.proofs.{OneAnswer.OneNext, OneReady.stands, OneReady.first_before, ReadyLists.HasTimes}
 
 at_or_after : (a b : ℤ) → (a ≤ℤ b) ⊎ (b <ℤ a)
 at_or_after a b = by (int_cmp a b) (int_ranks a b)

@@ -2,8 +2,7 @@
 use Rattle.std.specs.Prelude.{◌≡◌, ℕ, ℤ, ◌<◌, ◌≤◌, List, length}
 use Rattle.stn_net.specs.Difference.{Difference}
 use Rattle.stn_conflict.specs.Arcs.{bound_at}
-use Rattle.stn_lift.specs.BaseBounds.{duration_of}
-use Rattle.stn_lift.specs.PlanSource.{activities_of}
+use Rattle.stn_lift.specs.{BaseBounds.duration_of, PlanSource.activities_of}
 use Rattle.stn_questions.specs.Steps.{planned_steps}
 
 -- the least difference that the bound at a place allows

@@ -1,17 +1,12 @@
 -- What `ready` prints.
 use Rattle.std.specs.Prelude.{◌≡◌, ◌⊎◌, ℕ, ℤ, ◌==◌, ◌≤ℤ◌, Bool, List, ◌∷◌, ◌++◌, codes, All, Some, count_by}
 use Rattle.std.specs.List.{flat_map, AllPairs}
-use Rattle.stn_net.specs.Difference.{Difference}
-use Rattle.stn_net.specs.Event.{event_text}
-use Rattle.stn_net.specs.Schedule.{HasSchedule}
-use Rattle.stn_windows.specs.Dispatch.{IsReady, AreReadyTimes, ComesFirst, IsNext}
-use Rattle.stn_windows.specs.declared.answers.Next.{Next}
+use Rattle.stn_net.specs.{Difference.Difference, Event.event_text, Schedule.HasSchedule}
+use Rattle.stn_windows.specs.{Dispatch.IsReady, Dispatch.AreReadyTimes, Dispatch.ComesFirst, Dispatch.IsNext, declared.answers.Next.Next}
 use Rattle.stn_windows.specs.declared.answers.Next.TheVariants.{Run, AllDone, Overdue}
 use Rattle.stn_lift.specs.PlanSource.{PlanSource}
 use Rattle.stn_records.specs.Content.{Content}
-use Rattle.stn_site.specs.Bounds.{all_bounds}
-use Rattle.stn_site.specs.Report.{done_events}
-use Rattle.stn_site.specs.Lines.{line, times_text}
+use Rattle.stn_site.specs.{Bounds.all_bounds, Report.done_events, Lines.line, Lines.times_text}
 use Rattle.stn_questions.specs.declared.ready_event.ReadyEvent.{ReadyEvent}
 
 -- the first event has the earlier first time; where the first times are equal, it has no greater number

@@ -1,7 +1,6 @@
 -- What `steps` prints.
 use Rattle.std.specs.Prelude.{ℕ, ℤ, ◌+◌, List, [], ◌∷◌, ◌++◌, codes, decimal}
-use Rattle.std.specs.List.{flat_map, range_with_len}
-use Rattle.std.specs.Result.{result_unwrap_or}
+use Rattle.std.specs.{List.flat_map, List.range_with_len, Result.result_unwrap_or}
 use Rattle.stn_time.specs.Text.{printed}
 use Rattle.stn_plan.specs.Steps.{PlannedStep, plan_of}
 use Rattle.stn_lift.specs.BaseBounds.{duration_of}

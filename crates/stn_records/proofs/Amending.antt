@@ -1,20 +1,12 @@
 -- When an amendment is refused, and what it leaves where it is not.
 use Rattle.std.proofs.Common.{◌≡◌, ◌≢◌, ℕ, ◌+◌, ◌≤◌, Bool, true, false, cond, not, ◌||◌, nat_le, Option, Some, None, is_some, sym, refl, ap, subst, ◌∙◌, arith, ltb}
-use Rattle.std.proofs.lemmas.Bool.{false≢true, le-leb}
-use Rattle.std.proofs.lemmas.Bool.Decides.{nat_tests}
+use Rattle.std.proofs.{lemmas.Bool.false≢true, lemmas.Bool.le-leb, lemmas.Bool.Decides.nat_tests}
 use Rattle.std.specs.Bool.{Decides}
 use Rattle.std.specs.FinMap as fin
 use Rattle.stn_net.specs.Difference.{Difference}
-use Rattle.stn_records.specs.Id.{SiteCounter, same_ids}
-use Rattle.stn_records.specs.Record.{same_records}
-use Rattle.stn_records.specs.Maps.{differ, AgreesAt}
+use Rattle.stn_records.specs.{Id.SiteCounter, Id.same_ids, Record.same_records, Maps.differ, Maps.AgreesAt, ContentLaws.records_decide, ContentLaws.ids_decide, Refusals.clashes, Refusals.is_too_much, Refusals.amend_refusal, Refusals.replace_refusal}
 use Rattle.stn_records.specs.Content.{most_known, Content, IsSound, plain, is_known, known_count, with_amendment}
-use Rattle.stn_records.specs.ContentLaws.{records_decide, ids_decide}
-use Rattle.stn_records.specs.Refusals.{clashes, is_too_much, amend_refusal, replace_refusal}
-use Rattle.stn_records.proofs.OneItem.{amendment_again}
-use Rattle.stn_records.proofs.Replaced.{replaced_by_entry}
-use Rattle.stn_records.proofs.Limits.{amended_count}
-use Rattle.stn_records.proofs.Outcomes.{known_by_replaced, amendment_sound}
+use Rattle.stn_records.proofs.{OneItem.amendment_again, Replaced.replaced_by_entry, Limits.amended_count, Outcomes.known_by_replaced, Outcomes.amendment_sound}
 
 agreed : {X : Type 0} (same : X → X → Bool) → ((x y : X) → Decides (same x y) (x ≡ y)) → (o : Option X) (x : X) → differ same o (Some x) ≡ false → (there : X) → o ≡ Some there → there ≡ x
 agreed same decides None x e there is = absurd (false≢true (ap is_some is))

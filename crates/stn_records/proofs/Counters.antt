@@ -1,22 +1,12 @@
 -- The greatest counter of a site, in a list in order and in a content, and the next one.
 use Rattle.std.proofs.Common.{◌≡◌, ℕ, zero, suc, ◌<◌, ◌≤◌, ◌-◌, ◌⊎◌, true, false, cond, max, List, [], ◌∷◌, length, get_or, take, Less, sym, refl, ap, ◌∙◌, arith, eqb, nat_le, ◌+◌, ◌↔◌, ◌++◌, Option, Some, None, subst, ⊎_elim, Result, Ok, Err, IfOk, IsErr}
-use Rattle.std.proofs.lemmas.List.{length-take, length-take-le, get_or-take}
+use Rattle.std.proofs.{lemmas.List.length-take, lemmas.List.length-take-le, lemmas.List.get_or-take, lemmas.Bool.Decides.nat_tests}
 use Rattle.std.proofs.lemmas.Bool.{leb-true, leb-false, false≢true, cases_lt, eq-eqb, and_parts, or_cases}
-use Rattle.std.proofs.lemmas.Bool.Decides.{nat_tests}
-use Rattle.std.specs.List.Sorted.{IsNonDecreasingBy, IsPartitionPoint}
-use Rattle.std.specs.FinMap.{is_sorted}
-use Rattle.stn_records.specs.Id.{SiteCounter, id_cmp}
-use Rattle.std.specs.Map.{keys_of}
-use Rattle.stn_records.specs.Sorted.{IsEndOf}
+use Rattle.std.specs.{List.Sorted.IsNonDecreasingBy, List.Sorted.IsPartitionPoint, FinMap.is_sorted, Map.keys_of, Option.SomeIff, Option.ok_or, Cmp.Equal-is, Set.is_member}
+use Rattle.stn_records.specs.{Id.SiteCounter, Id.id_cmp, Sorted.IsEndOf, ContentLaws.ids_total, ContentLaws.ids_exact, declared.record.Record.Record}
 use Rattle.stn_records.specs.Content.{greatest_counter, next_counter, Content, same_ids, known_ids, is_known, replaced_set, replaced_ids}
-use Rattle.stn_records.specs.ContentLaws.{ids_total, ids_exact}
-use Rattle.stn_records.proofs.Entries.{above_at}
-use Rattle.stn_records.proofs.KnownIds.{known_member}
-use Rattle.std.specs.Option.{SomeIff, ok_or}
-use Rattle.std.specs.Cmp.{Equal-is}
-use Rattle.std.specs.Set.{is_member}
+use Rattle.stn_records.proofs.{Entries.above_at, KnownIds.known_member}
 use Rattle.std.specs.FinMap as fin
-use Rattle.stn_records.specs.declared.record.Record.{Record}
 
 -- a lesser id is of a lesser site, or has a lesser counter
 lesser_id : (a b : SiteCounter) → id_cmp a b ≡ Less → (a.site < b.site) ⊎ ((a.site ≡ b.site) × (a.counter < b.counter))

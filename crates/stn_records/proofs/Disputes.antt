@@ -1,16 +1,9 @@
 -- The first id in dispute of two lists, by their first entries.
 use Rattle.std.proofs.Common.{◌≡◌, Bool, true, false, cond, not, List, [], ◌∷◌, Option, Some, None, find, Less, Equal, Greater, is_lt, is_eq, length, ◌⊎◌, ⊎_elim, arith, sym, refl, ap, ◌∙◌}
 use Rattle.std.proofs.lemmas.Bool.{and_parts, and_from}
-use Rattle.std.specs.Cmp.{tied_back, tied_itself}
+use Rattle.std.specs.{Cmp.tied_back, Cmp.tied_itself, FinMap.FinMap, FinMap.is_sorted, FinMap.get-entries, FinMap.Entries.below_all, Map.keys_of}
 use Rattle.std.specs.FinMap as fin
-use Rattle.std.specs.FinMap.{FinMap, is_sorted, get-entries}
-use Rattle.std.specs.FinMap.Entries.{below_all}
-use Rattle.stn_records.specs.Id.{SiteCounter, id_cmp}
-use Rattle.stn_records.specs.Maps.{differ, dispute}
-use Rattle.stn_records.specs.Sorted.{dispute_of}
-use Rattle.std.specs.Map.{keys_of}
-use Rattle.stn_records.specs.ContentLaws.{ids_total}
-use Rattle.stn_records.specs.MapLaws.{none_found}
+use Rattle.stn_records.specs.{Id.SiteCounter, Id.id_cmp, Maps.differ, Maps.dispute, Sorted.dispute_of, ContentLaws.ids_total, MapLaws.none_found}
 use Rattle.stn_records.proofs.Entries.{less_is, greater_back, tied_less, below_less, find_below, passed_over}
 
 module _ {X : Type 0} (equal : X → X → Bool) where
@@ -56,9 +49,6 @@ module _ {X : Type 0} (equal : X → X → Bool) where
       found_above x.0 (in_dispute xs ys) (in_dispute (x ∷ xs) (y ∷ ys)) (λ k a i.
       differ equal (sym (passed_over ids_total k x xs a) i) (sym (passed_over ids_total k y ys (tied_less ids_total y.0 x.0 k (tied_back ids_total x.0 y.0 t) a)) i)) xs (and_parts _ _ g).0
       ∙ sym (ap (λ b. cond b (Some x.0) (find (in_dispute (x ∷ xs) (y ∷ ys)) (keys_of xs))) (at_both x xs y ys t ∙ ap not s))
-
-  pub both_differ : (x : SiteCounter × X) (xs : List (SiteCounter × X)) (y : SiteCounter × X) (ys : List (SiteCounter × X)) → id_cmp x.0 y.0 ≡ Equal → equal x.1 y.1 ≡ false → dispute_of equal (x ∷ xs) (y ∷ ys) ≡ Some x.0
-  both_differ x xs y ys t s = ap (λ b. cond b (Some x.0) (find (in_dispute (x ∷ xs) (y ∷ ys)) (keys_of xs))) (at_both x xs y ys t ∙ ap not s)
 
   -- where one list is at its end, nothing is in dispute
   no_more : (xs : List (SiteCounter × X)) → dispute_of equal xs [] ≡ None

@@ -1,17 +1,9 @@
 -- Lists of entries whose keys rise: what is found in them, and in their merge.
 use Rattle.std.proofs.Common.{◌≡◌, ℕ, zero, suc, ◌+◌, ◌<◌, ◌≤◌, Bool, true, false, cond, T, List, [], ◌∷◌, ◌++◌, length, get_or, drop, Option, Some, None, Ordering, Less, Equal, Greater, is_lt, is_eq, sym, refl, ap, subst, ◌∙◌, ⊎_elim, arith, add-one, ◌⊎◌, append_assoc, append-nil, drop-cons}
 use Rattle.std.proofs.lemmas.Bool.{false≢true, and_parts, and_from}
-use Rattle.std.specs.Option.{option_or}
-use Rattle.std.specs.List.{insert, IsAllAdjacentAnswer}
-use Rattle.std.specs.Prelude.{IsTrue, ◌↔◌}
-use Rattle.std.specs.List.Sorted.{IsSortedBy}
-use Rattle.std.specs.Ordering.{eq_by_cmp, ordering_reverse}
-use Rattle.std.specs.Cmp.{IsTotalOrder, alike_right, tied_back, Equal-is}
+use Rattle.std.specs.{Option.option_or, List.insert, List.IsAllAdjacentAnswer, Prelude.IsTrue, Prelude.◌↔◌, List.Sorted.IsSortedBy, Ordering.eq_by_cmp, Ordering.ordering_reverse, Cmp.IsTotalOrder, Cmp.alike_right, Cmp.tied_back, Cmp.Equal-is, FinMap.FinMap, FinMap.is_sorted, FinMap.put, FinMap.Entries.below_all, FinMap.Entries.by_order}
 use Rattle.std.specs.FinMap as fin
-use Rattle.std.specs.FinMap.{FinMap, is_sorted, put}
-use Rattle.std.specs.FinMap.Entries.{below_all, by_order}
-use Rattle.stn_records.specs.MapLaws.{or_after}
-use Rattle.stn_records.specs.Sorted.{merge, merge_from}
+use Rattle.stn_records.specs.{MapLaws.or_after, Sorted.merge, Sorted.merge_from}
 
 -- a test that holds, as the logic's fact
 pub holds : (b : Bool) → b ≡ true → T b

@@ -1,23 +1,13 @@
 -- Whether all that one site holds is held by another.
 use Rattle.std.proofs.Common.{◌≡◌, ◌↔◌, Bool, true, false, cond, ◌&&◌, ◌≤◌, List, [], ◌∷◌, Option, Some, None, is_some, option_and_then, Less, Equal, Greater, is_lt, is_eq, sym, refl, ap, subst, ◌∙◌, inl, inr, ⊎_elim}
 use Rattle.std.proofs.lemmas.Bool.{false≢true, and_from, and_parts, not-true, le-leb}
-use Rattle.std.proofs.lemmas.List.Sums.{AllPass-from_list_all, list_all-from_AllPass}
-use Rattle.std.proofs.lemmas.Option.{same_Some}
-use Rattle.std.specs.Bool.{Decides}
-use Rattle.std.specs.Prelude.{IsTrue}
-use Rattle.std.specs.Cmp.{tied_back}
+use Rattle.std.proofs.{lemmas.List.Sums.AllPass-from_list_all, lemmas.List.Sums.list_all-from_AllPass, lemmas.Option.same_Some}
+use Rattle.std.specs.{Bool.Decides, Prelude.IsTrue, Cmp.tied_back, FinMap.FinMap, FinMap.is_sorted, FinMap.get-entries, FinMap.Entries.below_all}
 use Rattle.std.specs.FinMap as fin
-use Rattle.std.specs.FinMap.{FinMap, is_sorted, get-entries}
-use Rattle.std.specs.FinMap.Entries.{below_all}
-use Rattle.stn_records.specs.Id.{SiteCounter, id_cmp}
-use Rattle.stn_records.specs.Maps.{HasEntries}
-use Rattle.stn_records.specs.Sorted.{is_there, has_entries}
-use Rattle.stn_records.specs.Join.{passing}
-use Rattle.stn_records.specs.JoinLaws.{first_step, join_is}
+use Rattle.stn_records.specs.{Id.SiteCounter, Id.id_cmp, Maps.HasEntries, Sorted.is_there, Sorted.has_entries, Join.passing, JoinLaws.first_step, JoinLaws.join_is}
 use Rattle.stn_records.specs.Content.{Content, addition, withdrawal, replacement, IsPart, most_known, is_within, known_count, dispute_contents, join_contents, taken}
 use Rattle.stn_records.specs.ContentLaws.{ids_total, ids_exact, contents_join, contents_dispute}
-use Rattle.stn_records.proofs.Entries.{less_is, greater_back, below_less, find_below, passed_over}
-use Rattle.stn_records.proofs.Gets.{entries_from_get, get_from_entries}
+use Rattle.stn_records.proofs.{Entries.less_is, Entries.greater_back, Entries.below_less, Entries.find_below, Entries.passed_over, Gets.entries_from_get, Gets.get_from_entries}
 
 module _ {X : Type 0} (same : X → X → Bool) where
   -- an entry of ours before all of theirs is none of theirs

@@ -1,16 +1,11 @@
 -- A content and one item more.
 use Rattle.std.proofs.Common.{◌≡◌, ◌⊎◌, ◌↔◌, true, false, cond, Option, Some, None, is_some, is_eq, sym, refl, ap, ◌∙◌, inl, inr, ⊎_elim}
 use Rattle.std.proofs.lemmas.Bool.{false≢true}
-use Rattle.std.specs.FinMap.{FinMap, get-empty, get-insert}
+use Rattle.std.specs.{FinMap.FinMap, FinMap.get-empty, FinMap.get-insert, Cmp.Equal-is, Cmp.tied_itself}
 use Rattle.stn_records.specs.Content.{Content, Item, addition, withdrawal, replacement, HasItem, join_contents, plain, with_record, with_tombstone, with_amendment, one_record, one_tombstone, one_amendment}
-use Rattle.stn_records.specs.ContentLaws.{ids_total, ids_exact, contents_join}
-use Rattle.std.specs.Cmp.{Equal-is, tied_itself}
+use Rattle.stn_records.specs.{ContentLaws.ids_total, ContentLaws.ids_exact, ContentLaws.contents_join, Id.SiteCounter, Id.id_cmp, declared.record.Record.Record, Maps.AgreesAt, JoinLaws.join_is}
 use Rattle.std.specs.FinMap as fin
 use Rattle.stn_net.specs.Difference.{Difference}
-use Rattle.stn_records.specs.Id.{SiteCounter, id_cmp}
-use Rattle.stn_records.specs.declared.record.Record.{Record}
-use Rattle.stn_records.specs.Maps.{AgreesAt}
-use Rattle.stn_records.specs.JoinLaws.{join_is}
 
 -- what an insertion leaves of an id is the value put in, or what was there
 pub inserted_value : {X : Type 0} (m : FinMap id_cmp X) (id : SiteCounter) (x : X) (q : SiteCounter) (y : X) → fin.get (fin.insert m id x) q ≡ Some y → ((q ≡ id) × (x ≡ y)) ⊎ (fin.get m q ≡ Some y)

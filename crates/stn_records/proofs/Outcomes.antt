@@ -2,19 +2,11 @@
 use Rattle.std.proofs.Common.{◌≡◌, ◌≢◌, ℕ, ◌+◌, ◌<◌, ◌≤◌, ◌↔◌, Bool, true, false, cond, List, length, Some, None, is_some, option_and_then, Equal, sym, refl, ap, subst, ◌∙◌, inl, inr, ⊎_elim, arith, Result, Ok, Err, OnOk, OnErr, IsTrue, le_trans, nat_le}
 use Rattle.std.proofs.lemmas.Bool.{false≢true, cases_lt, leb-true, le-leb, or_right}
 use Rattle.std.specs.FinMap as fin
-use Rattle.std.specs.FinMap.{get-empty, get-retain_keys}
-use Rattle.std.specs.Set.{is_member}
+use Rattle.std.specs.{FinMap.get-empty, FinMap.get-retain_keys, Set.is_member}
 use Rattle.stn_net.specs.Difference.{Difference}
-use Rattle.stn_records.specs.Id.{SiteCounter, id_cmp, same_ids}
-use Rattle.stn_records.specs.Record.{IsProper, IsProperRecord}
-use Rattle.stn_records.specs.declared.record.Record.{Record}
-use Rattle.stn_records.specs.MapLaws.{get-union, either_value}
-use Rattle.stn_records.specs.Join.{passing}
+use Rattle.stn_records.specs.{Id.SiteCounter, Id.id_cmp, Id.same_ids, Record.IsProper, Record.IsProperRecord, declared.record.Record.Record, MapLaws.get-union, MapLaws.either_value, Join.passing, ContentLaws.ids_total, ContentLaws.ids_exact, ContentLaws.contents_undisputed}
 use Rattle.stn_records.specs.Content.{most_known, dispute_contents, taken, is_within, IsSound, IsAmendment, AllAmend, part_of, RecordMap, Content, addition, known_count, known_in_either, is_known, is_replaced, replaced_set, joined_contents, no_content, plain, with_record, with_tombstone, with_amendment}
-use Rattle.stn_records.specs.ContentLaws.{ids_total, ids_exact, contents_undisputed}
-use Rattle.stn_records.proofs.OneItem.{gone, inserted_value, inserted_here, kept_value}
-use Rattle.stn_records.proofs.Replaced.{items_back, replaced_by_withdrawal}
-use Rattle.stn_records.proofs.Proper.{empty_fits, insert_fits, union_fits, retain_fits, retained_value}
+use Rattle.stn_records.proofs.{OneItem.gone, OneItem.inserted_value, OneItem.inserted_here, OneItem.kept_value, Replaced.items_back, Replaced.replaced_by_withdrawal, Proper.empty_fits, Proper.insert_fits, Proper.union_fits, Proper.retain_fits, Proper.retained_value}
 use Rattle.stn_records.proofs.Limits.{known_within, together, record_limited, tombstone_limited, part_limited, empty_limited}
 
 -- what a call leaves that changes all or nothing

@@ -3,10 +3,7 @@ use Rattle.std.proofs.Common.{◌≡◌, Bool, true, false, cond, Option, Some, 
 use Rattle.std.proofs.lemmas.Bool.{false≢true}
 use Rattle.std.specs.FinMap.{FinMap, get-empty, get-retain_keys}
 use Rattle.std.specs.FinMap as fin
-use Rattle.stn_records.specs.Id.{SiteCounter, id_cmp}
-use Rattle.stn_records.specs.Maps.{union, AllFit}
-use Rattle.stn_records.specs.MapLaws.{get-union, either_value}
-use Rattle.stn_records.specs.ContentLaws.{ids_total, ids_exact}
+use Rattle.stn_records.specs.{Id.SiteCounter, Id.id_cmp, Maps.union, Maps.AllFit, MapLaws.get-union, MapLaws.either_value, ContentLaws.ids_total, ContentLaws.ids_exact}
 use Rattle.stn_records.proofs.OneItem.{inserted_value}
 
 retained : {X : Type 0} (b : Bool) (o : Option X) (x : X) → cond b o None ≡ Some x → o ≡ Some x

@@ -1,19 +1,12 @@
 -- What a state holds, as three finite maps.
 use Rattle.std.specs.Prelude.{◌≡◌, ◌≢◌, ℕ, ◌+◌, ◌≤◌, Bool, not, ◌&&◌, ◌||◌, ◌==◌, nat_le, max, length, List, [], ◌∷◌, ◌++◌, filter, All, Option, Some, None, is_some, IsTrue, if◌then◌else◌, refl}
-use Rattle.std.specs.Coded.{Coded, code_by, coded×}
+use Rattle.std.specs.{Coded.Coded, Coded.code_by, Coded.coded×, Set.distinct_count, Set.is_member, FinMap.FinMap}
 use base.Stored.{coded_unit}
-use Rattle.std.specs.Set.{distinct_count, is_member}
 use Rattle.std.specs.FinMap as map
-use Rattle.std.specs.FinMap.{FinMap}
 use Rattle.stn_net.specs.Difference.{Difference}
-use Rattle.stn_records.specs.Id.{SiteCounter, id_cmp, coded_id, lesser_of}
+use Rattle.stn_records.specs.{Id.SiteCounter, Id.id_cmp, Id.coded_id, Id.lesser_of, Record.IsProperRecord, Record.same_records, Record.coded_record, Join.join_within, declared.record.Mark.Mark, declared.record.Mark.TheVariants.Plain, declared.record.Record.Record}
 pub use Rattle.stn_records.specs.Id.{same_ids}
-use Rattle.stn_records.specs.Record.{IsProperRecord, same_records, coded_record}
 use Rattle.stn_records.specs.Maps as maps
-use Rattle.stn_records.specs.Join.{join_within}
-use Rattle.stn_records.specs.declared.record.Mark.{Mark}
-use Rattle.stn_records.specs.declared.record.Mark.TheVariants.{Plain}
-use Rattle.stn_records.specs.declared.record.Record.{Record}
 
 -- a replica knows at most so many ids
 abbrev pub most_known : ℕ

@@ -1,14 +1,10 @@
 -- What is printed where records refuse a change.
 use Rattle.stn_refusal.specs.declared.code.Code.TheVariants as code
-use Rattle.stn_refusal.specs.declared.failure.Failure.{Failure}
-use Rattle.stn_refusal.specs.Refusals.{refused, refused_for, out_of_memory}
-use Rattle.stn_records.specs.declared.faults.RecordsFault.{RecordsFault}
+use Rattle.stn_refusal.specs.{declared.failure.Failure.Failure, Refusals.refused, Refusals.refused_for, Refusals.out_of_memory}
+use Rattle.stn_records.specs.{declared.faults.RecordsFault.RecordsFault, declared.faults.WithdrawFault.WithdrawFault, declared.faults.AmendFault.AmendFault, declared.faults.ReplaceFault.ReplaceFault}
 use Rattle.stn_records.specs.declared.faults.RecordsFault.TheVariants as records
-use Rattle.stn_records.specs.declared.faults.WithdrawFault.{WithdrawFault}
 use Rattle.stn_records.specs.declared.faults.WithdrawFault.TheVariants as withdraw
-use Rattle.stn_records.specs.declared.faults.AmendFault.{AmendFault}
 use Rattle.stn_records.specs.declared.faults.AmendFault.TheVariants as amend
-use Rattle.stn_records.specs.declared.faults.ReplaceFault.{ReplaceFault}
 use Rattle.stn_records.specs.declared.faults.ReplaceFault.TheVariants as replace
 
 abbrev pub records_failure : RecordsFault → Failure

@@ -1,8 +1,7 @@
 -- The union of two finite maps, and their join, which is there where the maps agree.
 use Rattle.std.specs.Prelude.{◌≡◌, Bool, true, false, not, List, [], ◌∷◌, Option, Some, None, is_some, find, if◌then◌else◌}
-use Rattle.std.specs.declared.cmp.Ordering.{Ordering}
+use Rattle.std.specs.{declared.cmp.Ordering.Ordering, FinMap.FinMap}
 use Rattle.std.specs.FinMap as map
-use Rattle.std.specs.FinMap.{FinMap}
 
 -- both values are there, and they differ
 abbrev pub differ : {X : Type 0} → (X → X → Bool) → Option X → Option X → Bool

@@ -2,13 +2,8 @@
 use Rattle.std.specs.Prelude.{Bool, not, ◌||◌, Option, Some, None, if◌then◌else◌}
 use Rattle.std.specs.FinMap as map
 use Rattle.stn_net.specs.Difference.{Difference}
-use Rattle.stn_records.specs.Id.{SiteCounter, same_ids}
-use Rattle.stn_records.specs.Record.{same_records}
-use Rattle.stn_records.specs.Maps.{differ}
-use Rattle.stn_records.specs.Content.{Content, is_known, is_within, plain, with_amendment}
-use Rattle.stn_records.specs.declared.faults.AmendFault.{AmendFault}
+use Rattle.stn_records.specs.{Id.SiteCounter, Id.same_ids, Record.same_records, Maps.differ, Content.Content, Content.is_known, Content.is_within, Content.plain, Content.with_amendment, declared.faults.AmendFault.AmendFault, declared.faults.ReplaceFault.ReplaceFault}
 use Rattle.stn_records.specs.declared.faults.AmendFault.TheVariants as amend
-use Rattle.stn_records.specs.declared.faults.ReplaceFault.{ReplaceFault}
 use Rattle.stn_records.specs.declared.faults.ReplaceFault.TheVariants as replace
 
 -- the id has another record, or replaces another id

@@ -1,14 +1,8 @@
 -- For proofs alone: no public clause cites these words.
 -- Lists of entries in the order of their ids.
 use Rattle.std.specs.Prelude.{◌≡◌, ℕ, ◌<◌, ◌≤◌, Bool, false, List, [], ◌∷◌, length, insert, slice_index_or, Option, Some, None, slice_get, find as first_such, if◌then◌else◌}
-use Rattle.std.specs.List.{list_all}
-use Rattle.std.specs.declared.cmp.Ordering.{Ordering}
-use Rattle.std.specs.Ordering.{eq_by_cmp}
-use Rattle.std.specs.FinMap.{find, put}
-use Rattle.std.specs.FinMap.Entries.{by_order}
-use Rattle.std.specs.Map.{keys_of}
-use Rattle.stn_records.specs.Id.{SiteCounter, id_cmp}
-use Rattle.stn_records.specs.Maps.{differ}
+use Rattle.std.specs.{List.list_all, declared.cmp.Ordering.Ordering, Ordering.eq_by_cmp, FinMap.find, FinMap.put, FinMap.Entries.by_order, Map.keys_of}
+use Rattle.stn_records.specs.{Id.SiteCounter, Id.id_cmp, Maps.differ}
 
 -- the first id at which the two have different values
 abbrev pub dispute_of : {X : Type 0} → (X → X → Bool) → List (SiteCounter × X) → List (SiteCounter × X) → Option SiteCounter

@@ -1,12 +1,9 @@
 -- The repairs among one record more.
 use Rattle.std.proofs.Common.{◌≡◌, ℕ, ◌+◌, ◌<◌, List, [], ◌∷◌, ◌++◌, length, take, get_or, refl, sym, ap, subst, ◌∙◌, inl, inr, ⊎_elim}
 use Rattle.std.proofs.lemmas.List.{take_more}
-use Rattle.stn_net.specs.Difference.{Difference}
-use Rattle.stn_net.specs.Schedule.{HasSchedule}
-use Rattle.stn_records.specs.Id.{SiteCounter}
-use Rattle.stn_records.specs.declared.record.Record.{Record}
-use Rattle.stn_repair.specs.declared.repair.Repair.{Repair}
-use Rattle.stn_repair.specs.Repairs.{others, IsRepair, AreRepairs}
+use Rattle.stn_net.specs.{Difference.Difference, Schedule.HasSchedule}
+use Rattle.stn_records.specs.{Id.SiteCounter, declared.record.Record.Record}
+use Rattle.stn_repair.specs.{declared.repair.Repair.Repair, Repairs.others, Repairs.IsRepair, Repairs.AreRepairs}
 
 module _ (base : List Difference) (live : List (SiteCounter × Record)) where
   none_more : (front : List (SiteCounter × Record)) (repairs : List Repair) (entry : SiteCounter × Record) → AreRepairs base live front repairs

@@ -1,19 +1,11 @@
 -- What is kept has a schedule, and has none with any one record that is dropped.
 use Rattle.std.proofs.Common.{◌≡◌, true, false, not, List, [], ◌∷◌, ◌++◌, map, filter, refl, sym, ap, subst, ◌∙◌, inl, inr, ⊎_elim, ◌⊎◌, append_assoc}
-use Rattle.std.specs.List.{Contains}
-use Rattle.std.specs.Set.{is_member}
-use Rattle.std.proofs.lemmas.Bool.{false≢true}
+use Rattle.std.specs.{List.Contains, Set.is_member}
+use Rattle.std.proofs.{lemmas.Bool.false≢true, lemmas.List.append-nil, lemmas.Map.Made.is_member-Decides}
 use Rattle.std.proofs.lemmas.List.Elements.{Contains-append_left, Contains-append_right, Contains-append_cases}
-use Rattle.std.proofs.lemmas.List.{append-nil}
-use Rattle.std.proofs.lemmas.Map.Made.{is_member-Decides}
-use Rattle.stn_net.specs.Difference.{Difference}
-use Rattle.stn_net.specs.Schedule.{HasSchedule}
-use Rattle.stn_records.specs.Id.{SiteCounter, same_ids}
-use Rattle.stn_records.specs.Record.{same_marks}
-use Rattle.stn_records.specs.declared.record.Mark.{Mark}
+use Rattle.stn_net.specs.{Difference.Difference, Schedule.HasSchedule}
+use Rattle.stn_records.specs.{Id.SiteCounter, Id.same_ids, Record.same_marks, declared.record.Mark.Mark, declared.record.Record.Record, ContentLaws.ids_decide}
 use Rattle.stn_records.specs.declared.record.Mark.TheVariants.{Plain, Done}
-use Rattle.stn_records.specs.declared.record.Record.{Record}
-use Rattle.stn_records.specs.ContentLaws.{ids_decide}
 use Rattle.stn_site.specs.Bounds.{bounds_of}
 use Rattle.stn_repair.specs.Dropped.{marked, facts_first, AreRefused, AreDropped, kept_bounds}
 use Rattle.stn_repair.proofs.Elements.{first_of, later_of, first_or_later, none_of_nothing, kept_by, from_filter, mapped, from_map, fewer_have}

@@ -1,11 +1,7 @@
 -- Each id is that of one live record.
 use Rattle.std.proofs.Common.{◌≡◌, not, Some, sym, ◌∙◌}
-use Rattle.std.specs.List.{Contains}
-use Rattle.std.specs.FinMap.{entries, get}
-use Rattle.stn_records.specs.Id.{SiteCounter}
-use Rattle.stn_records.specs.declared.record.Record.{Record}
-use Rattle.stn_records.specs.Content.{Content, is_replaced, live_of}
-use Rattle.stn_records.specs.ContentLaws.{ids_total, ids_exact}
+use Rattle.std.specs.{List.Contains, FinMap.entries, FinMap.get}
+use Rattle.stn_records.specs.{Id.SiteCounter, declared.record.Record.Record, Content.Content, Content.is_replaced, Content.live_of, ContentLaws.ids_total, ContentLaws.ids_exact}
 use Rattle.stn_records.proofs.Gets.{entries_from_get}
 use Rattle.std.proofs.lemmas.List.Elements.{All-contains}
 use Rattle.stn_repair.proofs.Elements.{from_filter}

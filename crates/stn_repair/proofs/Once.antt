@@ -1,14 +1,9 @@
 -- A plan and a state have one text of what mends a conflict.
 use Rattle.std.proofs.Common.{◌≡◌, ℕ, List, [], ◌∷◌, ◌++◌, sym, ap, ◌∙◌, ⊎_elim, map, filter}
-use Rattle.std.specs.List.{flat_map}
-use Rattle.std.specs.Set.{is_member}
+use Rattle.std.specs.{List.flat_map, Set.is_member}
 use Rattle.stn_net.specs.Difference.{Difference}
-use Rattle.stn_records.specs.Id.{SiteCounter, same_ids}
-use Rattle.stn_records.specs.declared.record.Record.{Record}
-use Rattle.stn_repair.specs.declared.repair.Repair.{Repair}
-use Rattle.stn_repair.specs.Repairs.{others, IsRepair, AreRepairs}
-use Rattle.stn_repair.specs.Dropped.{facts_first, AreRefused, AreDropped}
-use Rattle.stn_repair.specs.Text.{repair_line, drop_line, SaysRepairs, SaysWhatMends}
+use Rattle.stn_records.specs.{Id.SiteCounter, Id.same_ids, declared.record.Record.Record}
+use Rattle.stn_repair.specs.{declared.repair.Repair.Repair, Repairs.others, Repairs.IsRepair, Repairs.AreRepairs, Dropped.facts_first, Dropped.AreRefused, Dropped.AreDropped, Text.repair_line, Text.drop_line, Text.SaysRepairs, Text.SaysWhatMends}
 use Rattle.stn_repair.proofs.Ranges.{one_range}
 
 one_repair : (bounds : List Difference) (id : SiteCounter) (bound : Difference) (one other : Repair) → IsRepair bounds id bound one → IsRepair bounds id bound other → one ≡ other

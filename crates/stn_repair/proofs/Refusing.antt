@@ -1,18 +1,11 @@
 -- Which records are refused, one after another.
 use Rattle.std.proofs.Common.{◌≡◌, ◌↔◌, IsTrue, Bool, false, ℕ, ℤ, length-drop, ◌+◌, ◌-◌, ◌<◌, ◌≤◌, List, [], ◌∷◌, ◌++◌, length, take, drop, get_or, refl, sym, ap, subst, ◌∙◌, inl, inr, arith, add-one, append_assoc}
-use Rattle.std.proofs.lemmas.Bool.{false≢true}
-use Rattle.std.proofs.Math.Seq.{drop-cons}
-use Rattle.std.proofs.Math.ListN.{drop_of_length-le}
+use Rattle.std.proofs.{lemmas.Bool.false≢true, Math.Seq.drop-cons, Math.ListN.drop_of_length-le, lemmas.List.Elements.All-take}
 use Rattle.std.proofs.lemmas.List.{append-nil, take_more, take_all, take_rest, get_or-drop}
-use Rattle.std.proofs.lemmas.List.Elements.{All-take}
-use Rattle.stn_net.specs.Difference.{Difference}
-use Rattle.stn_net.specs.Schedule.{Meets, IsSchedule, HasSchedule}
-use Rattle.stn_net.specs.Horizon.{horizon_bounds}
+use Rattle.stn_net.specs.{Difference.Difference, Schedule.Meets, Schedule.IsSchedule, Schedule.HasSchedule, Horizon.horizon_bounds}
 use Rattle.stn_lift.specs.PlanSource.{PlanSource, base_bounds, events_of, planned_of, IsSoundSource}
-use Rattle.stn_matrix.specs.Table.{Table}
-use Rattle.stn_matrix.specs.Tightest.{IsExact}
-use Rattle.stn_records.specs.Id.{SiteCounter}
-use Rattle.stn_records.specs.declared.record.Record.{Record}
+use Rattle.stn_matrix.specs.{Table.Table, Tightest.IsExact}
+use Rattle.stn_records.specs.{Id.SiteCounter, declared.record.Record.Record}
 use Rattle.stn_repair.specs.Dropped.{AreRefused}
 
 -- the table is that of the bounds that are kept among the first so many records, and these ids are refused among them: whatever is

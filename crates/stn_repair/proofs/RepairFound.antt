@@ -1,23 +1,15 @@
 -- The repair by a record, by the tightest differences of its events over the others.
 use Rattle.std.proofs.Common.{◌≡◌, ℕ, ℤ, pos, neg_ℤ, ◌+◌, ◌<◌, ◌≤◌, List, ◌++◌, length, get_or, refl, sym, ap, subst, ◌∙◌, arith, All}
 use Rattle.std.specs.List.{AllByRecursion, Any}
-use Rattle.std.proofs.lemmas.List.{get_or_read, length-map}
+use Rattle.std.proofs.{lemmas.List.get_or_read, lemmas.List.length-map, lemmas.List.Elements.All-from_recursion, lemmas.List.Elements.All-weaker}
 use Rattle.std.proofs.Common.{length-append, [], ◌∷◌}
-use Rattle.std.proofs.lemmas.List.Elements.{All-from_recursion, All-weaker}
-use Rattle.stn_net.specs.Difference.{Difference, NamesEvents}
-use Rattle.stn_net.specs.Schedule.{HasSchedule, times_of}
+use Rattle.stn_net.specs.{Difference.Difference, Difference.NamesEvents, Schedule.HasSchedule, Schedule.times_of}
 use Rattle.stn_matrix.specs.Tightest.{IsTightest}
-use Rattle.stn_conflict.specs.declared.links.Link.{Link}
-use Rattle.stn_conflict.specs.Arcs.{IsChain, IsNegativeCycle}
-use Rattle.stn_conflict.specs.Distances.{AreDistancesFrom, AreDistancesTo}
-use Rattle.stn_records.specs.Id.{SiteCounter}
-use Rattle.stn_records.specs.declared.record.Record.{Record}
+use Rattle.stn_conflict.specs.{declared.links.Link.Link, Arcs.IsChain, Arcs.IsNegativeCycle, Distances.AreDistancesFrom, Distances.AreDistancesTo}
+use Rattle.stn_records.specs.{Id.SiteCounter, declared.record.Record.Record}
 use Rattle.stn_site.specs.Bounds.{bounds_of}
-use Rattle.stn_repair.specs.Ranges.{IsRange}
-use Rattle.stn_repair.specs.Repairs.{others, IsRepair}
-use Rattle.stn_repair.specs.Links.{IsLinkOf}
-use Rattle.stn_repair.proofs.Ranges.{range_of_ends}
-use Rattle.stn_repair.proofs.Cycles.{lies_on}
+use Rattle.stn_repair.specs.{Ranges.IsRange, Repairs.others, Repairs.IsRepair, Links.IsLinkOf}
+use Rattle.stn_repair.proofs.{Ranges.range_of_ends, Cycles.lies_on}
 
 pub repair_found : (base own rest : List Difference) (events n : ℕ) (id : SiteCounter) (bound : Difference) (from to place : ℕ) (back least far : ℤ) (there here : List ℤ)
     → own ≡ base → n ≡ events → NamesEvents events bound → from ≡ bound.from → to ≡ bound.to → place ≡ to

@@ -1,7 +1,6 @@
 -- How far two events can be apart.
 use Rattle.std.specs.Prelude.{◌≡◌, ◌↔◌, ℕ, ℤ, ◌-ℤ◌, ◌≤ℤ◌, List}
-use Rattle.stn_net.specs.Difference.{Difference}
-use Rattle.stn_net.specs.Schedule.{IsSchedule}
+use Rattle.stn_net.specs.{Difference.Difference, Schedule.IsSchedule}
 
 -- in some schedule of the bounds `to` comes just so long after `from`
 abbrev pub CanBeApart : List Difference → ℕ → ℕ → ℤ → Type 0

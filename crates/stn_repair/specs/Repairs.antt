@@ -1,12 +1,9 @@
 -- The records without which the others have a schedule.
 use Rattle.std.specs.Prelude.{◌≡◌, ◌⊎◌, List, [], ◌∷◌, ◌++◌, not, filter}
-use Rattle.stn_net.specs.Difference.{Difference}
-use Rattle.stn_net.specs.Schedule.{HasSchedule}
-use Rattle.stn_records.specs.Id.{SiteCounter, same_ids}
-use Rattle.stn_records.specs.declared.record.Record.{Record}
+use Rattle.stn_net.specs.{Difference.Difference, Schedule.HasSchedule}
+use Rattle.stn_records.specs.{Id.SiteCounter, Id.same_ids, declared.record.Record.Record}
 use Rattle.stn_site.specs.Bounds.{bounds_of}
-use Rattle.stn_repair.specs.declared.repair.Repair.{Repair}
-use Rattle.stn_repair.specs.Ranges.{IsRange}
+use Rattle.stn_repair.specs.{declared.repair.Repair.Repair, Ranges.IsRange}
 
 -- the records but that of the id
 abbrev pub without : List (SiteCounter × Record) → SiteCounter → List (SiteCounter × Record)

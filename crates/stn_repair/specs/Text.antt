@@ -1,18 +1,11 @@
 -- What `repairs` prints.
 use Rattle.std.specs.Prelude.{◌≡◌, ◌⊎◌, ℕ, List, ◌++◌, codes}
 use Rattle.std.specs.List.{flat_map}
-use Rattle.stn_net.specs.Difference.{Difference}
-use Rattle.stn_net.specs.Event.{event_text}
-use Rattle.stn_net.specs.Schedule.{HasSchedule}
+use Rattle.stn_net.specs.{Difference.Difference, Event.event_text, Schedule.HasSchedule}
 use Rattle.stn_lift.specs.PlanSource.{PlanSource, base_bounds}
-use Rattle.stn_records.specs.Id.{SiteCounter, id_text}
-use Rattle.stn_records.specs.declared.record.Record.{Record}
-use Rattle.stn_records.specs.Content.{Content, live_of}
-use Rattle.stn_site.specs.Bounds.{bounds_of}
-use Rattle.stn_site.specs.Lines.{line, times_text}
-use Rattle.stn_repair.specs.declared.repair.Repair.{Repair}
-use Rattle.stn_repair.specs.Repairs.{AreRepairs}
-use Rattle.stn_repair.specs.Dropped.{AreDropped}
+use Rattle.stn_records.specs.{Id.SiteCounter, Id.id_text, declared.record.Record.Record, Content.Content, Content.live_of}
+use Rattle.stn_site.specs.{Bounds.bounds_of, Lines.line, Lines.times_text}
+use Rattle.stn_repair.specs.{declared.repair.Repair.Repair, Repairs.AreRepairs, Dropped.AreDropped}
 
 -- `<id> <from> <to> <least> <greatest>`
 abbrev pub repair_line : Repair → List ℕ

@@ -1,16 +1,11 @@
 -- A walk over the entries of one map, and what walks beside it have left of the entries of others.
 use Rattle.std.proofs.Common.{◌≡◌, ℕ, ◌+◌, ◌<◌, Bool, true, false, cond, not, ◌&&◌, List, [], ◌∷◌, length, get_or, drop, Some, is_some, Less, Equal, Greater, is_lt, is_eq, sym, refl, ap, subst, ◌∙◌}
 use Rattle.std.proofs.lemmas.Bool.{and_parts}
-use Rattle.std.specs.List.{AllByRecursion}
-use Rattle.std.specs.Cmp.{tied_back}
+use Rattle.std.specs.{List.AllByRecursion, Cmp.tied_back, FinMap.Entries.below_all}
 use Rattle.std.specs.FinMap.{FinMap, entries, get, get-entries, contains_key, find, is_sorted}
-use Rattle.std.specs.FinMap.Entries.{below_all}
-use Rattle.stn_records.specs.Id.{SiteCounter, id_cmp}
-use Rattle.stn_records.specs.Content.{Content, is_live, is_replaced}
-use Rattle.stn_records.specs.ContentLaws.{ids_total}
+use Rattle.stn_records.specs.{Id.SiteCounter, Id.id_cmp, Content.Content, Content.is_live, Content.is_replaced, ContentLaws.ids_total}
 use Rattle.stn_records.proofs.Entries.{less_is, greater_back, below_less, find_below, passed_over, sorted_drop, in_order, front}
-use Rattle.stn_replica.specs.Work.{is_risen}
-use Rattle.stn_replica.specs.Walk.{from_id, begins_with}
+use Rattle.stn_replica.specs.{Work.is_risen, Walk.from_id, Walk.begins_with}
 
 module _ {X : Type 0} where
   -- what is left from an id on is in order

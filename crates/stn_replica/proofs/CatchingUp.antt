@@ -2,23 +2,15 @@
 use Rattle.std.proofs.Common.{◌≡◌, ◌≤◌, Bool, true, false, List, [], ◌∷◌, ◌++◌, Some, inl, refl, sym, ap, subst, ◌∙◌}
 use Rattle.std.specs.FinMap.{get}
 use Rattle.stn_net.specs.Difference.{Difference}
-use Rattle.stn_matrix.specs.Table.{Table}
-use Rattle.stn_matrix.specs.Tightest.{IsExact}
+use Rattle.stn_matrix.specs.{Table.Table, Tightest.IsExact}
 use Rattle.stn_lift.specs.PlanSource.{events_of}
-use Rattle.stn_records.specs.Id.{SiteCounter}
-use Rattle.stn_records.specs.declared.record.Record.{Record}
+use Rattle.stn_records.specs.{Id.SiteCounter, declared.record.Record.Record, ContentLaws.contents_join}
 use Rattle.stn_records.specs.Content.{Content, is_known, is_live, replacement, plain, one_amendment, next_counter}
-use Rattle.stn_records.specs.ContentLaws.{contents_join}
-use Rattle.stn_records.proofs.Counters.{next_is_new}
-use Rattle.stn_records.proofs.OneItem.{inserted_here}
-use Rattle.stn_site.specs.Bounds.{live_bounds, RecordsName}
-use Rattle.stn_site.specs.Held.{Held, next_id}
-use Rattle.stn_site.specs.Calls.{added, amended, Leaves}
+use Rattle.stn_records.proofs.{Counters.next_is_new, OneItem.inserted_here}
+use Rattle.stn_site.specs.{Bounds.live_bounds, Bounds.RecordsName, Held.Held, Held.next_id, Calls.added, Calls.amended, Calls.Leaves}
 use Rattle.stn_site.proofs.Named.{value_of}
-use Rattle.stn_replica.specs.Invariant.{IsSettled, IsSoundReplica}
-use Rattle.stn_replica.specs.Work.{KeepsLive}
-use Rattle.stn_replica.proofs.Changes.{IsGrown, grown_with_record, grown_with_amendment, falls_with_amendment}
-use Rattle.stn_replica.proofs.Sound.{sound_added, sound_rebuilt}
+use Rattle.stn_replica.specs.{Invariant.IsSettled, Invariant.IsSoundReplica, Work.KeepsLive}
+use Rattle.stn_replica.proofs.{Changes.IsGrown, Changes.grown_with_record, Changes.grown_with_amendment, Changes.falls_with_amendment, Sound.sound_added, Sound.sound_rebuilt}
 
 -- the site's next id is not known
 next_unknown : (held : Held) (id : SiteCounter) → id ≡ next_id held → is_known held.state id ≡ false

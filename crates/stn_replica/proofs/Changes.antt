@@ -2,23 +2,15 @@
 use Rattle.std.proofs.Common.{◌≡◌, ◌≢◌, ◌<◌, ◌≤◌, Bool, true, false, not, ◌&&◌, ◌||◌, List, [], ◌∷◌, ◌++◌, length, Option, Some, None, is_some, inl, ⊎_elim, refl, sym, ap, subst, ◌∙◌, arith, All}
 use Rattle.std.proofs.lemmas.Bool.{false≢true, false_from_ne_true, cases_lt, or_cases}
 use Rattle.std.proofs.lemmas.List.Elements.{All-append, All-nil, All-push}
-use Rattle.std.specs.Ordering.{eq_by_cmp}
-use Rattle.std.specs.FinMap.{get, insert, contains_key}
-use Rattle.stn_net.specs.Difference.{Difference, NamesEvents}
-use Rattle.stn_net.specs.Schedule.{Meets}
-use Rattle.stn_matrix.specs.Table.{Table}
-use Rattle.stn_matrix.specs.Tightest.{IsExact}
-use Rattle.stn_records.specs.Id.{SiteCounter, id_cmp}
-use Rattle.stn_records.specs.declared.record.Record.{Record}
+use Rattle.std.specs.{Ordering.eq_by_cmp, FinMap.get, FinMap.insert, FinMap.contains_key}
+use Rattle.stn_net.specs.{Difference.Difference, Difference.NamesEvents, Schedule.Meets}
+use Rattle.stn_matrix.specs.{Table.Table, Tightest.IsExact}
+use Rattle.stn_records.specs.{Id.SiteCounter, Id.id_cmp, declared.record.Record.Record, ContentLaws.contents_join}
 use Rattle.stn_records.specs.Content.{Content, addition, is_live, is_replaced, is_known, no_content, plain, replaced_set, with_amendment, with_record, with_tombstone, join_contents}
-use Rattle.stn_records.specs.ContentLaws.{contents_join}
 use Rattle.stn_records.proofs.Replaced.{replaced_by_withdrawal, inserted_key, replaced_withdrawn, replaced_amended}
 use Rattle.stn_site.specs.Bounds.{bounds_of, live_bounds}
-use Rattle.stn_replica.specs.Invariant.{IsSettled}
-use Rattle.stn_replica.specs.Work.{is_risen, risen, KeepsLive}
-use Rattle.stn_replica.specs.Walk.{Extends}
-use Rattle.stn_site.proofs.Counts.{unknown_absent, unknown_unreplaced}
-use Rattle.stn_site.proofs.Named.{same_id, itself, value_of, get_added, live_named, none_named}
+use Rattle.stn_replica.specs.{Invariant.IsSettled, Work.is_risen, Work.risen, Work.KeepsLive, Walk.Extends}
+use Rattle.stn_site.proofs.{Counts.unknown_absent, Counts.unknown_unreplaced, Named.same_id, Named.itself, Named.value_of, Named.get_added, Named.live_named, Named.none_named}
 use Rattle.stn_replica.proofs.Live.{RisenHold, keeps_unless_replaced, falls_where_replaced, left_true, live_from_bounds, bounds_from_live, risen_from_bounds, old_hold, risen_hold, new_hold, nothing_live}
 use Rattle.stn_replica.proofs.Schedules.{schedule_before, met_behind, schedule_with, settled_same_schedules}
 

@@ -1,21 +1,14 @@
 -- The live records of a state, and those that become live from one state to the next.
 use Rattle.std.proofs.Common.{◌≡◌, Bool, true, false, cond, not, ◌&&◌, List, [], ◌∷◌, ◌++◌, filter, Option, Some, None, is_some, refl, sym, ap, subst, ◌∙◌, All}
-use Rattle.std.specs.List.{AllByRecursion}
-use Rattle.std.proofs.lemmas.Bool.{false≢true}
-use Rattle.std.proofs.lemmas.List.Elements.{All-from_recursion, recursion_from_All}
-use Rattle.std.specs.FinMap.{entries, get, contains_key, get-empty}
-use Rattle.stn_net.specs.Difference.{Difference, NamesEvents}
-use Rattle.stn_net.specs.Schedule.{HasSchedule, Meets}
+use Rattle.std.specs.{List.AllByRecursion, FinMap.entries, FinMap.get, FinMap.contains_key, FinMap.get-empty}
+use Rattle.std.proofs.{lemmas.Bool.false≢true, lemmas.List.Elements.All-from_recursion, lemmas.List.Elements.recursion_from_All}
+use Rattle.stn_net.specs.{Difference.Difference, Difference.NamesEvents, Schedule.HasSchedule, Schedule.Meets}
 use Rattle.stn_matrix.specs.Table.{Table}
-use Rattle.stn_records.specs.Id.{SiteCounter, id_cmp}
-use Rattle.stn_records.specs.declared.record.Record.{Record}
+use Rattle.stn_records.specs.{Id.SiteCounter, Id.id_cmp, declared.record.Record.Record, ContentLaws.ids_total, ContentLaws.ids_exact}
 use Rattle.stn_records.specs.Content.{Content, is_live, is_replaced, live_of, no_content, replaced_set}
-use Rattle.stn_records.specs.ContentLaws.{ids_total, ids_exact}
 use Rattle.stn_site.proofs.Named.{records_from_bounds, bounds_from_records}
 use Rattle.stn_site.specs.Bounds.{bounds_of, live_bounds}
-use Rattle.stn_replica.specs.Invariant.{IsSettled}
-use Rattle.stn_replica.specs.Work.{is_risen, risen, KeepsLive}
-use Rattle.stn_replica.specs.Walk.{Extends}
+use Rattle.stn_replica.specs.{Invariant.IsSettled, Work.is_risen, Work.risen, Work.KeepsLive, Walk.Extends}
 use Rattle.stn_records.proofs.Gets.{entries_from_get, get_from_entries}
 use Rattle.stn_replica.proofs.Schedules.{schedule_before, met_behind, schedule_with, settled_same_schedules}
 

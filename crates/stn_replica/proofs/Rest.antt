@@ -1,24 +1,13 @@
 -- What a rehearsal of all bounds says of a replica's plan.
 use Rattle.std.proofs.Common.{◌≡◌, ℕ, ℤ, true, false, ◌+◌, ◌≤◌, Bool, List, length, get_or, take, map, not, ap, ◌∙◌, arith, get_or-take}
-use Rattle.std.proofs.lemmas.Bool.{false≢true}
-use Rattle.std.proofs.lemmas.Int.{ints}
-use Rattle.std.proofs.lemmas.List.Elements.{All-filter}
-use Rattle.std.proofs.lemmas.List.FromFn.{fill_by_all}
-use Rattle.std.specs.List.{range_with_len}
-use Rattle.std.specs.FinMap.{entries}
-use Rattle.stn_net.specs.Difference.{Difference}
-use Rattle.stn_net.specs.Schedule.{IsSchedule, Meets}
+use Rattle.std.proofs.{lemmas.Bool.false≢true, lemmas.Int.ints, lemmas.List.Elements.All-filter, lemmas.List.FromFn.fill_by_all}
+use Rattle.std.specs.{List.range_with_len, FinMap.entries}
+use Rattle.stn_net.specs.{Difference.Difference, Schedule.IsSchedule, Schedule.Meets}
 use Rattle.stn_lift.specs.PlanSource.{PlanSource, base_bounds, events_of}
-use Rattle.stn_records.specs.Id.{SiteCounter}
-use Rattle.stn_records.specs.Record.{IsProper, is_done as marks_done}
-use Rattle.stn_records.specs.declared.record.Mark.{Mark}
+use Rattle.stn_records.specs.{Id.SiteCounter, Record.IsProper, Record.is_done as marks_done, declared.record.Mark.Mark, declared.record.Record.Record, Content.Content, Content.AllProper, Content.live_of, Content.is_replaced, ContentLaws.ids_total, ContentLaws.ids_exact}
 use Rattle.stn_records.specs.declared.record.Mark.TheVariants.{Plain, Done}
-use Rattle.stn_records.specs.declared.record.Record.{Record}
-use Rattle.stn_records.specs.Content.{Content, AllProper, live_of, is_replaced}
-use Rattle.stn_records.specs.ContentLaws.{ids_total, ids_exact}
 use Rattle.stn_site.specs.Bounds.{all_bounds, live_bounds}
-use Rattle.stn_windows.specs.Dispatch.{CanWaitUntil}
-use Rattle.stn_windows.specs.Rehearsal.{IsRehearsal, NeverFalls, RunsEachOnce, HasScheduleThrough}
+use Rattle.stn_windows.specs.{Dispatch.CanWaitUntil, Rehearsal.IsRehearsal, Rehearsal.NeverFalls, Rehearsal.RunsEachOnce, Rehearsal.HasScheduleThrough}
 use Rattle.stn_replica.specs.Dispatch.{KeepsRecorded, IsRestWith}
 use Rattle.stn_records.proofs.Gets.{entries_from_get}
 use Rattle.stn_site.proofs.Named.{records_from_bounds}

@@ -1,14 +1,10 @@
 -- What is settled of bounds depends on their schedules alone.
 use Rattle.std.proofs.Common.{ℕ, ℤ, Bool, true, false, ◌↔◌, List, [], ◌∷◌, ◌++◌, All, IsTrue, refl}
-use Rattle.std.proofs.lemmas.Bool.{false≢true}
-use Rattle.std.proofs.lemmas.List.Elements.{All-append}
-use Rattle.std.proofs.lemmas.List.Sorted.{All-permutation, IsPermutation-sym}
+use Rattle.std.proofs.{lemmas.Bool.false≢true, lemmas.List.Elements.All-append, lemmas.List.Sorted.All-permutation, lemmas.List.Sorted.IsPermutation-sym}
 use Rattle.std.specs.List.Sorted.{IsPermutation}
 use Rattle.stn_time.proofs.Each.{All-left, All-right}
-use Rattle.stn_net.specs.Difference.{Difference, NamesEvents}
-use Rattle.stn_net.specs.Schedule.{IsSchedule, HasSchedule, Meets}
-use Rattle.stn_matrix.specs.Table.{Table}
-use Rattle.stn_matrix.specs.Tightest.{IsExact}
+use Rattle.stn_net.specs.{Difference.Difference, Difference.NamesEvents, Schedule.IsSchedule, Schedule.HasSchedule, Schedule.Meets}
+use Rattle.stn_matrix.specs.{Table.Table, Tightest.IsExact}
 use Rattle.stn_matrix.proofs.Tightest.{exact_same_schedules}
 use Rattle.stn_replica.specs.Invariant.{IsSettled}
 

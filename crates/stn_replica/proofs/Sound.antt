@@ -1,20 +1,12 @@
 -- That a replica stays sound, and what its work is.
 use Rattle.std.proofs.Common.{◌≡◌, ◌+◌, ◌≤◌, Bool, true, false, List, [], ◌∷◌, ◌++◌, Some, refl, sym, ap, subst, ◌∙◌, arith, All}
-use Rattle.std.proofs.lemmas.Bool.{false≢true}
-use Rattle.std.proofs.lemmas.List.Elements.{All-append}
-use Rattle.stn_net.specs.Difference.{Difference, NamesEvents}
-use Rattle.stn_net.specs.Schedule.{HasSchedule}
-use Rattle.stn_matrix.specs.Table.{Table}
-use Rattle.stn_matrix.specs.Tightest.{IsExact}
+use Rattle.std.proofs.{lemmas.Bool.false≢true, lemmas.List.Elements.All-append}
+use Rattle.stn_net.specs.{Difference.Difference, Difference.NamesEvents, Schedule.HasSchedule}
+use Rattle.stn_matrix.specs.{Table.Table, Tightest.IsExact}
 use Rattle.stn_lift.specs.PlanSource.{PlanSource, base_bounds, events_of}
-use Rattle.stn_records.specs.Id.{SiteCounter}
-use Rattle.stn_records.specs.declared.record.Record.{Record}
-use Rattle.stn_records.specs.Content.{Content, is_live, no_content, with_tombstone, join_contents}
-use Rattle.stn_site.specs.Bounds.{all_bounds, live_bounds, bounds_of, RecordsName}
-use Rattle.stn_site.specs.Held.{Held}
-use Rattle.stn_replica.specs.Invariant.{IsSettled, IsSoundReplica}
-use Rattle.stn_replica.specs.Walk.{Extends}
-use Rattle.stn_replica.specs.Work.{risen, KeepsLive, SparesWork}
+use Rattle.stn_records.specs.{Id.SiteCounter, declared.record.Record.Record, Content.Content, Content.is_live, Content.no_content, Content.with_tombstone, Content.join_contents}
+use Rattle.stn_site.specs.{Bounds.all_bounds, Bounds.live_bounds, Bounds.bounds_of, Bounds.RecordsName, Held.Held}
+use Rattle.stn_replica.specs.{Invariant.IsSettled, Invariant.IsSoundReplica, Walk.Extends, Work.risen, Work.KeepsLive, Work.SparesWork}
 use Rattle.stn_site.proofs.Named.{named_joined, none_named, live_named}
 use Rattle.stn_replica.proofs.Changes.{IsGrown, one_risen, settled_added, withdrawn_dead, same_live, settled_at_first}
 use Rattle.stn_replica.proofs.Live.{settled_alike, settled_grown, conflict_stays}

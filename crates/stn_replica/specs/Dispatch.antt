@@ -1,13 +1,10 @@
 -- The rest of a replica's plan: the runs of the events that are left.
 use Rattle.std.specs.Prelude.{◌≡◌, ℕ, ℤ, true, Bool, List, All}
 use Rattle.stn_net.specs.Schedule.{IsSchedule}
-use Rattle.stn_windows.specs.Dispatch.{CanWaitUntil}
-use Rattle.stn_windows.specs.Rehearsal.{IsRehearsal, NeverFalls, RunsEachOnce}
+use Rattle.stn_windows.specs.{Dispatch.CanWaitUntil, Rehearsal.IsRehearsal, Rehearsal.NeverFalls, Rehearsal.RunsEachOnce}
 use Rattle.stn_lift.specs.PlanSource.{PlanSource}
-use Rattle.stn_records.specs.Record.{is_done as marks_done}
-use Rattle.stn_records.specs.Content.{Content, live_of}
-use Rattle.stn_site.specs.Bounds.{all_bounds}
-use Rattle.stn_site.specs.Report.{done_events}
+use Rattle.stn_records.specs.{Record.is_done as marks_done, Content.Content, Content.live_of}
+use Rattle.stn_site.specs.{Bounds.all_bounds, Report.done_events}
 
 -- the times have each event that a live record says is done at its recorded time
 abbrev pub KeepsRecorded : Content → (ℕ → ℤ) → Type 0

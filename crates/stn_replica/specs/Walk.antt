@@ -1,11 +1,8 @@
 -- For proofs alone: no public clause cites these words.
 -- What walks over the entries of a state, in order of id, leave.
 use Rattle.std.specs.Prelude.{◌≡◌, Bool, false, List, [], ◌∷◌, Some, if◌then◌else◌}
-use Rattle.std.specs.FinMap.{get}
-use Rattle.std.specs.Ordering.{eq_by_cmp, is_lt}
-use Rattle.stn_records.specs.Content.{Content}
-use Rattle.stn_records.specs.Id.{SiteCounter, id_cmp}
-use Rattle.stn_records.specs.declared.record.Record.{Record}
+use Rattle.std.specs.{FinMap.get, Ordering.eq_by_cmp, Ordering.is_lt}
+use Rattle.stn_records.specs.{Content.Content, Id.SiteCounter, Id.id_cmp, declared.record.Record.Record}
 
 -- the entries from the first one on whose id is not below
 abbrev pub from_id : {X : Type 0} → SiteCounter → List (SiteCounter × X) → List (SiteCounter × X)

@@ -1,11 +1,8 @@
 use Rattle.std.specs.Prelude.{◌≡◌, ◌+◌, ◌≤◌, Bool, true, not, ◌&&◌, List, length, filter}
 use Rattle.std.specs.FinMap.{entries}
 use Rattle.stn_net.specs.Schedule.{HasSchedule}
-use Rattle.stn_records.specs.Id.{SiteCounter}
-use Rattle.stn_records.specs.declared.record.Record.{Record}
-use Rattle.stn_records.specs.Content.{Content, is_live}
-use Rattle.stn_site.specs.Bounds.{all_bounds}
-use Rattle.stn_site.specs.Held.{Held}
+use Rattle.stn_records.specs.{Id.SiteCounter, declared.record.Record.Record, Content.Content, Content.is_live}
+use Rattle.stn_site.specs.{Bounds.all_bounds, Held.Held}
 
 -- the record of the id is live in the new state, and was not in the old
 abbrev pub is_risen : Content → Content → SiteCounter → Bool

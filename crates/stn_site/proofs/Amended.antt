@@ -1,25 +1,14 @@
 -- What an amendment under a new id leaves, and why it is refused.
 use Rattle.std.proofs.Common.{◌≡◌, ◌≢◌, ℕ, suc, ◌+◌, ◌<◌, ◌≤◌, ◌↔◌, Bool, true, false, cond, not, ◌||◌, Some, None, is_some, Result, Ok, Err, refl, sym, ap, ◌∙◌, arith, leb}
-use Rattle.std.specs.Prelude.{unwrap_or}
-use Rattle.std.proofs.lemmas.Bool.{false≢true, false_from_ne_true}
-use Rattle.std.proofs.lemmas.Bool.Decides.{nat_tests}
-use Rattle.std.specs.FinMap.{get}
+use Rattle.std.specs.{Prelude.unwrap_or, FinMap.get}
+use Rattle.std.proofs.{lemmas.Bool.false≢true, lemmas.Bool.false_from_ne_true, lemmas.Bool.Decides.nat_tests}
 use Rattle.stn_net.specs.Difference.{Difference}
-use Rattle.stn_records.specs.Id.{SiteCounter, most_counter, same_ids}
-use Rattle.stn_records.specs.Record.{same_records}
-use Rattle.stn_records.specs.Maps.{differ}
+use Rattle.stn_records.specs.{Id.SiteCounter, Id.most_counter, Id.same_ids, Record.same_records, Maps.differ, ContentLaws.ids_decide, Refusals.amend_refusal, Refusals.clashes, Refusals.is_too_much, declared.faults.AmendFault.AmendFault}
 use Rattle.stn_records.specs.Content.{most_known, Content, IsSound, is_known, known_count, next_counter, plain, with_amendment}
-use Rattle.stn_records.specs.ContentLaws.{ids_decide}
-use Rattle.stn_records.specs.Refusals.{amend_refusal, clashes, is_too_much}
-use Rattle.stn_records.specs.declared.faults.AmendFault.{AmendFault}
 use Rattle.stn_records.specs.declared.faults.AmendFault.TheVariants as amend
 use Rattle.stn_records.proofs.Limits.{amended_count}
-use Rattle.stn_site.specs.declared.faults.ReplicaFault.TheVariants.{Memory}
-use Rattle.stn_site.specs.FaultsOf.{of_amend_fault}
-use Rattle.stn_site.specs.Held.{Held}
-use Rattle.stn_site.specs.Refusals.{next_refusal}
-use Rattle.stn_site.proofs.Counts.{unknown_absent, replaces_nothing}
-use Rattle.stn_site.proofs.Refused.{next_free, next_full}
+use Rattle.stn_site.specs.{declared.faults.ReplicaFault.TheVariants.Memory, FaultsOf.of_amend_fault, Held.Held, Refusals.next_refusal}
+use Rattle.stn_site.proofs.{Counts.unknown_absent, Counts.replaces_nothing, Refused.next_free, Refused.next_full}
 
 module _ (s : Content) (id old : SiteCounter) (bound : Difference) (unknown : is_known s id ≡ false) (known : is_known s old ≡ true) (nothing : get s.replacements id ≡ None) where
   abbrev amended : Content

@@ -2,8 +2,7 @@
 use Rattle.std.proofs.Common.{◌≡◌, sym, suc, ◌≤◌, Bool, true, false, cond, not, List, [], ◌∷◌, length, map, filter, arith}
 use Rattle.std.proofs.lemmas.List.{length-map}
 use Rattle.std.specs.FinMap.{entries}
-use Rattle.stn_records.specs.Id.{SiteCounter}
-use Rattle.stn_records.specs.declared.record.Record.{Record}
+use Rattle.stn_records.specs.{Id.SiteCounter, declared.record.Record.Record}
 use Rattle.stn_records.specs.Content.{Content, known_count, is_replaced, live_of, listed, replaced_count, replaced_set}
 use Rattle.stn_records.proofs.Limits.{additions_within, replaced_within}
 

@@ -2,9 +2,8 @@
 use Rattle.std.proofs.Common.{◌≡◌, ◌↔◌, Bool, true, false, ◌||◌, Option, Some, None, is_some, inl, inr, ⊎_elim, refl, sym, ap, ◌∙◌}
 use Rattle.std.proofs.lemmas.Bool.{false≢true}
 use Rattle.std.specs.FinMap.{get}
-use Rattle.stn_records.specs.Id.{SiteCounter}
+use Rattle.stn_records.specs.{Id.SiteCounter, ContentLaws.records_join, ContentLaws.ids_join}
 use Rattle.stn_records.specs.Content.{Content, AllAmend, Item, addition, withdrawal, replacement, HasItem, CountsSame, is_known, is_replaced, replaced_set}
-use Rattle.stn_records.specs.ContentLaws.{records_join, ids_join}
 use Rattle.stn_records.proofs.Replaced.{replaced_cases, replaced_by_withdrawal, replaced_by_entry}
 use Rattle.stn_site.specs.Calls.{Replaces, CountAlike}
 

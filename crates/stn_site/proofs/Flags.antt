@@ -1,15 +1,8 @@
 -- The flags of the events that are done, as the records so far say.
 use Rattle.std.proofs.Common.{◌≡◌, ℕ, zero, suc, ◌<◌, replicate, Bool, true, false, ◌&&◌, ◌||◌, eqb, List, [], ◌∷◌, ◌++◌, length, get_or, take, ◌+◌, refl, sym, ap, ◌∙◌, arith}
-use Rattle.std.proofs.Math.ListN.{set}
-use Rattle.std.proofs.lemmas.Bool.{and_left, and_right}
-use Rattle.std.proofs.lemmas.Bool.Decides.{nat_tests}
-use Rattle.std.proofs.lemmas.List.{get_or-set_same, get_or-set_other}
-use Rattle.std.proofs.lemmas.List.Folds.{list_any-append}
-use Rattle.stn_records.specs.Id.{SiteCounter}
-use Rattle.stn_records.specs.declared.record.Record.{Record}
-use Rattle.stn_records.specs.Record.{is_done as marks_done}
+use Rattle.std.proofs.{Math.ListN.set, lemmas.Bool.and_left, lemmas.Bool.and_right, lemmas.Bool.Decides.nat_tests, lemmas.List.get_or-set_same, lemmas.List.get_or-set_other, lemmas.List.Folds.list_any-append}
+use Rattle.stn_records.specs.{Id.SiteCounter, declared.record.Record.Record, Record.is_done as marks_done, Content.Content, Content.is_live}
 use Rattle.std.specs.FinMap.{entries}
-use Rattle.stn_records.specs.Content.{Content, is_live}
 use Rattle.stn_site.specs.Report.{says_done}
 use Rattle.stn_site.proofs.Walk.{live_seen, one_more_live, one_more_dead, live_at}
 

@@ -2,17 +2,12 @@
 use Rattle.std.proofs.Common.{◌≡◌, ℕ, Bool, true, false, cond, not, List, [], ◌∷◌, Some, is_some, ⊎_elim, inr, refl, sym, ap, subst, ◌∙◌, All}
 use Rattle.std.proofs.lemmas.Bool.{false≢true}
 use Rattle.std.proofs.lemmas.List.Elements.{All-from_recursion, recursion_from_All, All-map, All-filter}
-use Rattle.std.specs.List.{AllByRecursion}
-use Rattle.std.specs.Ordering.{eq_by_cmp}
-use Rattle.std.specs.Cmp.{Equal-is, tied_itself}
+use Rattle.std.specs.{List.AllByRecursion, Ordering.eq_by_cmp, Cmp.Equal-is, Cmp.tied_itself}
 use Rattle.std.specs.FinMap.{entries, get, insert, get-insert, get-empty}
 use Rattle.stn_net.specs.Difference.{Difference, NamesEvents}
-use Rattle.stn_records.specs.Id.{SiteCounter, id_cmp}
-use Rattle.stn_records.specs.declared.record.Record.{Record}
+use Rattle.stn_records.specs.{Id.SiteCounter, Id.id_cmp, declared.record.Record.Record, ContentLaws.ids_total, ContentLaws.ids_exact, ContentLaws.contents_join}
 use Rattle.stn_records.specs.Content.{Content, RecordMap, addition, is_known, is_replaced, live_of, no_content, join_contents, taken}
-use Rattle.stn_records.specs.ContentLaws.{ids_total, ids_exact, contents_join}
-use Rattle.stn_records.proofs.Gets.{entries_from_get, get_from_entries}
-use Rattle.stn_records.proofs.Holding.{joined_is}
+use Rattle.stn_records.proofs.{Gets.entries_from_get, Gets.get_from_entries, Holding.joined_is}
 use Rattle.stn_site.specs.Bounds.{bounds_of, live_bounds, RecordsName}
 
 -- what holds of the bound of each record holds of each of the bounds

@@ -2,18 +2,12 @@
 use Rattle.std.proofs.Common.{◌≡◌, ℕ, zero, suc, ◌+◌, ◌⊎◌, List, [], ◌∷◌, ◌++◌, codes, Bool, Some, length, map, inl, inr, sym, ap, subst, ◌∙◌, ⊎_elim}
 use Rattle.std.proofs.lemmas.List.Elements.{All-take}
 use Rattle.std.specs.List.{flat_map}
-use Rattle.stn_net.specs.Difference.{Difference}
-use Rattle.stn_net.specs.Schedule.{HasSchedule, Meets}
+use Rattle.stn_net.specs.{Difference.Difference, Schedule.HasSchedule, Schedule.Meets}
 use Rattle.stn_windows.proofs.Windows.{one_window}
 use Rattle.stn_lift.specs.PlanSource.{PlanSource, base_bounds, events_of, steps_of}
-use Rattle.stn_records.specs.Id.{SiteCounter}
-use Rattle.stn_records.specs.declared.record.Record.{Record}
-use Rattle.stn_records.specs.Content.{Content, live_of, replaced_count}
-use Rattle.stn_conflict.specs.declared.links.Link.{Link}
-use Rattle.stn_conflict.specs.Arcs.{weight_of, IsNegativeCycle}
-use Rattle.stn_conflict.specs.Named.{IsNamedCycle}
-use Rattle.stn_site.specs.Bounds.{all_bounds, bounds_of, live_bounds}
-use Rattle.stn_site.specs.Names.{live_ids}
+use Rattle.stn_records.specs.{Id.SiteCounter, declared.record.Record.Record, Content.Content, Content.live_of, Content.replaced_count}
+use Rattle.stn_conflict.specs.{declared.links.Link.Link, Arcs.weight_of, Arcs.IsNegativeCycle, Named.IsNamedCycle}
+use Rattle.stn_site.specs.{Bounds.all_bounds, Bounds.bounds_of, Bounds.live_bounds, Names.live_ids}
 use Rattle.stn_site.specs.Lines.{line, plan_line, records_line, window_line, conflict_line, link_line}
 use Rattle.stn_site.specs.Report.{is_done, says_done, IsWindowLines, IsWindowsPart, IsConflictPart, IsReport, heading}
 

@@ -6,17 +6,9 @@ use Rattle.std.specs.List.{flat_map}
 use Rattle.stn_net.specs.Difference.{Difference, NamesEvents}
 use Rattle.stn_windows.specs.Window.{IsWindow}
 use Rattle.stn_lift.specs.PlanSource.{PlanSource, base_bounds}
-use Rattle.stn_records.specs.Id.{SiteCounter}
-use Rattle.stn_records.specs.declared.record.Mark.{Mark}
-use Rattle.stn_records.specs.declared.record.Record.{Record}
-use Rattle.stn_records.specs.Content.{Content, live_of, listed}
-use Rattle.stn_conflict.specs.declared.links.Link.{Link}
-use Rattle.stn_conflict.specs.Arcs.{weight_of, IsNegativeCycle}
-use Rattle.stn_conflict.specs.Named.{IsNamedCycle}
-use Rattle.stn_site.specs.Bounds.{all_bounds, live_bounds, RecordsName}
-use Rattle.stn_site.specs.Names.{live_ids}
-use Rattle.stn_site.specs.Lines.{window_line, conflict_line, link_line}
-use Rattle.stn_site.specs.Report.{IsWindowLines, IsConflictPart}
+use Rattle.stn_records.specs.{Id.SiteCounter, declared.record.Mark.Mark, declared.record.Record.Record, Content.Content, Content.live_of, Content.listed}
+use Rattle.stn_conflict.specs.{declared.links.Link.Link, Arcs.weight_of, Arcs.IsNegativeCycle, Named.IsNamedCycle}
+use Rattle.stn_site.specs.{Bounds.all_bounds, Bounds.live_bounds, Bounds.RecordsName, Names.live_ids, Lines.window_line, Lines.conflict_line, Lines.link_line, Report.IsWindowLines, Report.IsConflictPart}
 use Rattle.stn_site.proofs.Named.{live_named}
 
 abbrev pub Listed : Type 0

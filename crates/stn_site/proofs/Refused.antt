@@ -1,32 +1,20 @@
 -- The first cause that refuses each call, from what its parts answer.
 use Rattle.std.proofs.Common.{◌≡◌, ◌≢◌, ℕ, ℤ, subst, ◌<◌, ◌≤◌, ◌<ℤ◌, ◌≤ℤ◌, int_lt, ⊎_elim, Bool, true, false, not, ◌&&◌, ◌↔◌, leb, ltb, Option, Some, None, is_some, Result, Ok, Err, refl, sym, ap, ◌∙◌, arith}
-use Rattle.std.specs.Prelude.{unwrap_or, ◌==◌, option_map}
-use Rattle.std.specs.Bool.{Decides, then_some}
-use Rattle.std.specs.Option.{option_or}
-use Rattle.std.specs.List.{list_all}
-use Rattle.std.specs.FinMap.{get, entries}
-use Rattle.std.proofs.lemmas.Bool.{false≢true, false_from_ne_true, true_from_ne_false}
-use Rattle.std.proofs.lemmas.Bool.Decides.{nat_tests, Decides-by_and}
-use Rattle.std.proofs.lemmas.Int.{ints}
+use Rattle.std.specs.{Prelude.unwrap_or, Prelude.◌==◌, Prelude.option_map, Bool.Decides, Bool.then_some, Option.option_or, List.list_all, FinMap.get, FinMap.entries}
+use Rattle.std.proofs.{lemmas.Bool.false≢true, lemmas.Bool.false_from_ne_true, lemmas.Bool.true_from_ne_false, lemmas.Bool.Decides.nat_tests, lemmas.Bool.Decides.Decides-by_and, lemmas.Int.ints}
 use Rattle.stn_net.specs.Difference.{Difference, NamesEvents, IsBoundWithin, IsFaultOf}
 use Rattle.stn_net.specs.declared.bound.BoundFault.{BoundFault}
 use Rattle.stn_net.specs.declared.bound.BoundFault.TheVariants.{NoEvent, SameEvent, Crossed}
 use Rattle.stn_windows.specs.Rehearsal.{fixed_at}
 use Rattle.stn_lift.specs.PlanSource.{events_of}
-use Rattle.stn_records.specs.Id.{most_counter, SiteCounter}
-use Rattle.stn_records.specs.declared.record.Record.{Record}
-use Rattle.stn_records.specs.declared.faults.RecordsFault.{RecordsFault}
+use Rattle.stn_records.specs.{Id.most_counter, Id.SiteCounter, declared.record.Record.Record, declared.faults.RecordsFault.RecordsFault, declared.faults.WithdrawFault.WithdrawFault}
 use Rattle.stn_records.specs.declared.faults.RecordsFault.TheVariants as records
-use Rattle.stn_records.specs.declared.faults.WithdrawFault.{WithdrawFault}
 use Rattle.stn_records.specs.declared.faults.WithdrawFault.TheVariants as withdraw
 use Rattle.stn_records.specs.Content.{most_known, Content, HasAnother, is_known, known_count, known_in_either, next_counter, dispute_contents, taken}
 use Rattle.stn_site.specs.declared.faults.ReplicaFault.TheVariants.{Bound, CounterSpent, Full, Unknown, Clash, Memory}
-use Rattle.stn_site.specs.Bounds.{RecordsName}
-use Rattle.stn_site.specs.FaultsOf.{of_records_fault, of_withdraw_fault}
-use Rattle.stn_site.specs.Held.{Held, difference}
+use Rattle.stn_site.specs.{Bounds.RecordsName, FaultsOf.of_records_fault, FaultsOf.of_withdraw_fault, Held.Held, Held.difference}
 use Rattle.stn_site.specs.Refusals.{names_events, bound_refusal, next_refusal, add_refusal, amend_refusal, done_refusal, withdraw_refusal, records_name, take_refusal}
-use Rattle.stn_records.proofs.Outcomes.{too_many}
-use Rattle.stn_records.proofs.Holding.{held_agrees}
+use Rattle.stn_records.proofs.{Outcomes.too_many, Holding.held_agrees}
 use Rattle.stn_site.proofs.Counts.{unknown_absent}
 
 -- the first of several causes stands, or another is asked for

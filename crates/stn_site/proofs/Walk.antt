@@ -5,16 +5,10 @@ use Rattle.std.proofs.lemmas.Bool.{false≢true}
 use Rattle.std.proofs.lemmas.List.Elements.{filter-append, All-same, All-push, All-head, All-take}
 use Rattle.std.specs.FinMap.{entries, get}
 use Rattle.stn_time.proofs.Each.{All-right}
-use Rattle.stn_net.specs.Difference.{Difference}
-use Rattle.stn_records.specs.Id.{SiteCounter}
-use Rattle.stn_records.specs.declared.record.Record.{Record}
-use Rattle.stn_records.specs.Content.{Content, live_of, is_live, is_replaced}
-use Rattle.stn_records.specs.ContentLaws.{ids_total, ids_exact}
-use Rattle.stn_net.specs.Schedule.{Meets}
-use Rattle.stn_site.specs.Names.{live_ids}
-use Rattle.stn_site.specs.Walk.{IsFirstBrokenRecord}
+use Rattle.stn_net.specs.{Difference.Difference, Schedule.Meets}
+use Rattle.stn_records.specs.{Id.SiteCounter, declared.record.Record.Record, Content.Content, Content.live_of, Content.is_live, Content.is_replaced, ContentLaws.ids_total, ContentLaws.ids_exact}
+use Rattle.stn_site.specs.{Names.live_ids, Walk.IsFirstBrokenRecord, Bounds.bounds_of, Bounds.live_bounds}
 use Rattle.stn_records.proofs.Gets.{entries_from_get}
-use Rattle.stn_site.specs.Bounds.{bounds_of, live_bounds}
 
 get_or-append_here : {X : Type 0} (xs : List X) (y : X) (ys : List X) (d : X) → get_or (xs ++ (y ∷ ys)) (length xs) d ≡ y
 get_or-append_here [] y ys d = refl

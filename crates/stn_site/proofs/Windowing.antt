@@ -1,9 +1,7 @@
 -- The windows of the first events, the origin first, one after another.
 use Rattle.std.proofs.Common.{◌≡◌, ℕ, ℤ, pos, ◌+◌, ◌<◌, ◌≤◌, List, [], ◌∷◌, ◌++◌, length, length-append, ⊎_elim, refl, sym, ap, subst, ◌∙◌, arith}
-use Rattle.std.proofs.lemmas.Bool.{cases_lt}
-use Rattle.std.proofs.lemmas.List.{get_or_append_left, get_or-append-add}
-use Rattle.stn_net.specs.Difference.{Difference}
-use Rattle.stn_net.specs.Schedule.{HasSchedule}
+use Rattle.std.proofs.{lemmas.Bool.cases_lt, lemmas.List.get_or_append_left, lemmas.List.get_or-append-add}
+use Rattle.stn_net.specs.{Difference.Difference, Schedule.HasSchedule}
 use Rattle.stn_windows.specs.Window.{IsWindow}
 use Rattle.stn_site.specs.Windows.{window_at, AreWindows}
 

@@ -1,8 +1,6 @@
-use Rattle.stn_records.specs.declared.faults.AmendFault.{AmendFault}
+use Rattle.stn_records.specs.{declared.faults.AmendFault.AmendFault, declared.faults.RecordsFault.RecordsFault, declared.faults.WithdrawFault.WithdrawFault}
 use Rattle.stn_records.specs.declared.faults.AmendFault.TheVariants as amend
-use Rattle.stn_records.specs.declared.faults.RecordsFault.{RecordsFault}
 use Rattle.stn_records.specs.declared.faults.RecordsFault.TheVariants as records
-use Rattle.stn_records.specs.declared.faults.WithdrawFault.{WithdrawFault}
 use Rattle.stn_records.specs.declared.faults.WithdrawFault.TheVariants as withdraw
 use Rattle.stn_site.specs.declared.faults.ReplicaFault.{ReplicaFault}
 use Rattle.stn_site.specs.declared.faults.ReplicaFault.TheVariants as replica

@@ -1,12 +1,8 @@
 use Rattle.std.specs.Prelude.{ℕ, ℤ, Bool, List, [], ◌∷◌, ◌++◌, codes, decimal, if◌then◌else◌}
 use Rattle.stn_time.specs.Text.{printed}
-use Rattle.stn_net.specs.Difference.{Difference}
-use Rattle.stn_net.specs.Event.{event_text}
+use Rattle.stn_net.specs.{Difference.Difference, Event.event_text}
 use Rattle.stn_records.specs.Id.{SiteCounter}
-use Rattle.stn_conflict.specs.declared.links.Link.{Link}
-use Rattle.stn_conflict.specs.declared.links.Side.{Side}
-use Rattle.stn_conflict.specs.declared.links.Side.TheVariants.{Upper, Lower}
-use Rattle.stn_conflict.specs.Arcs.{bound_at}
+use Rattle.stn_conflict.specs.{declared.links.Link.Link, declared.links.Side.Side, declared.links.Side.TheVariants.Upper, declared.links.Side.TheVariants.Lower, Arcs.bound_at}
 use Rattle.stn_site.specs.Names.{name_in, name_text}
 
 -- the text and a line feed

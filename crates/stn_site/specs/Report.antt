@@ -1,18 +1,11 @@
 use Rattle.std.specs.Prelude.{◌≡◌, ℕ, ℤ, zero, suc, ◌+◌, Bool, ◌==◌, ◌&&◌, ◌⊎◌, List, [], ◌++◌, length, map, codes}
 use Rattle.std.specs.List.{list_any, flat_map, range_with_len}
-use Rattle.stn_net.specs.Difference.{Difference}
-use Rattle.stn_net.specs.Schedule.{HasSchedule}
+use Rattle.stn_net.specs.{Difference.Difference, Schedule.HasSchedule}
 use Rattle.stn_windows.specs.Window.{IsWindow}
 use Rattle.stn_lift.specs.PlanSource.{PlanSource, steps_of, events_of, base_bounds}
-use Rattle.stn_records.specs.declared.record.Record.{Record}
-use Rattle.stn_records.specs.Record.{is_done as marks_done}
-use Rattle.stn_records.specs.Content.{Content, live_of, replaced_count}
-use Rattle.stn_records.specs.Id.{SiteCounter}
-use Rattle.stn_conflict.specs.declared.links.Link.{Link}
-use Rattle.stn_conflict.specs.Arcs.{weight_of, IsNegativeCycle}
-use Rattle.stn_conflict.specs.Named.{IsNamedCycle}
-use Rattle.stn_site.specs.Bounds.{all_bounds, live_bounds}
-use Rattle.stn_site.specs.Names.{live_ids}
+use Rattle.stn_records.specs.{declared.record.Record.Record, Record.is_done as marks_done, Content.Content, Content.live_of, Content.replaced_count, Id.SiteCounter}
+use Rattle.stn_conflict.specs.{declared.links.Link.Link, Arcs.weight_of, Arcs.IsNegativeCycle, Named.IsNamedCycle}
+use Rattle.stn_site.specs.{Bounds.all_bounds, Bounds.live_bounds, Names.live_ids}
 use Rattle.stn_site.specs.Lines.{line, plan_line, records_line, window_line, conflict_line, link_line}
 
 -- a report has at most so many bytes

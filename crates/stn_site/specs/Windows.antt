@@ -1,6 +1,5 @@
 use Rattle.std.specs.Prelude.{◌≡◌, ℕ, ℤ, pos, ◌+◌, ◌≤◌, List, length, slice_index_or}
-use Rattle.stn_net.specs.Difference.{Difference}
-use Rattle.stn_net.specs.Schedule.{HasSchedule}
+use Rattle.stn_net.specs.{Difference.Difference, Schedule.HasSchedule}
 use Rattle.stn_windows.specs.Window.{IsWindow}
 
 -- the earliest and the latest time at an event's place

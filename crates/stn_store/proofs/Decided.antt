@@ -1,17 +1,13 @@
 -- What a log and a text are that were read.
 use Rattle.std.proofs.Common.{◌≡◌, ℕ, ◌+◌, ◌<◌, ◌≤◌, List, [], ◌++◌, length, take, Option, Some, None, Result, Err, refl, sym, ap, subst, ◌∙◌, inl, inr, append-nil, arith}
 use Rattle.std.proofs.lemmas.List.{take_all, length-take}
-use Rattle.std.specs.Prelude.{IfSome, ◌⊎◌, option_map}
-use Rattle.std.specs.Io.KnownBytes.{Consumes, IsAtEnd}
-use Rattle.stn_device.specs.declared.whole.ReadFault.{ReadFault}
+use Rattle.std.specs.{Prelude.IfSome, Prelude.◌⊎◌, Prelude.option_map, Io.KnownBytes.Consumes, Io.KnownBytes.IsAtEnd}
+use Rattle.stn_device.specs.{declared.whole.ReadFault.ReadFault, Failures.read_failure}
 use Rattle.stn_device.specs.declared.whole.ReadFault.TheVariants as read
 use Rattle.stn_text.specs.Bytes.{most_text}
-use Rattle.stn_log.specs.Log.{Log, IsLog, IsDecided, meaning_of}
-use Rattle.stn_log.specs.declared.fault.LoadFault.{LoadFault}
+use Rattle.stn_log.specs.{Log.Log, Log.IsLog, Log.IsDecided, Log.meaning_of, declared.fault.LoadFault.LoadFault, Failures.load_failure}
 use Rattle.stn_log.specs.declared.fault.LoadFault.TheVariants as load
 use Rattle.stn_store.specs.Bytes.{IsLogIn, IsTextIn}
-use Rattle.stn_device.specs.Failures.{read_failure}
-use Rattle.stn_log.specs.Failures.{load_failure}
 use Rattle.stn_refusal.specs.declared.failure.Failure.TheVariants.{Failed}
 use Rattle.stn_refusal.specs.declared.failure.Fault.TheVariants.{Memory, Read, Bound}
 

@@ -1,12 +1,8 @@
 -- What stands under a name, entry by entry.
 use Rattle.std.proofs.Common.{◌≡◌, ℕ, ◌+◌, ◌<◌, Bool, true, false, List, [], ◌∷◌, ◌++◌, length, map, take, get_or, Option, Some, None, refl, sym, ap, ◌∙◌}
-use Rattle.std.specs.Bool.{then_some}
-use Rattle.std.specs.Option.{option_or}
-use Rattle.std.specs.Str.{bytes_eq}
+use Rattle.std.specs.{Bool.then_some, Option.option_or, Str.bytes_eq}
 use Rattle.std.proofs.lemmas.List.{take_more}
-use Rattle.stn_store.specs.Memory.{entry_of}
-use Rattle.stn_store.specs.Store.{Entry, bytes_under}
-use Rattle.stn_store.specs.declared.memory.NamedBytes.{NamedBytes}
+use Rattle.stn_store.specs.{Memory.entry_of, Store.Entry, Store.bytes_under, declared.memory.NamedBytes.NamedBytes}
 
 or_none : {X : Type 0} (o : Option X) → option_or o None ≡ o
 or_none None = refl

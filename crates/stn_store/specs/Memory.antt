@@ -1,9 +1,6 @@
 -- What stands in a store in memory.
-use Rattle.std.specs.Prelude.{List, map}
-use Rattle.std.specs.String.{string_bytes}
-use Rattle.stn_store.specs.Store.{Entry}
-use Rattle.stn_store.specs.declared.memory.NamedBytes.{NamedBytes}
-use Rattle.stn_store.specs.declared.memory.MemoryStore.{MemoryStore}
+use Rattle.std.specs.{Prelude.List, Prelude.map, String.string_bytes}
+use Rattle.stn_store.specs.{Store.Entry, declared.memory.NamedBytes.NamedBytes, declared.memory.MemoryStore.MemoryStore}
 
 abbrev pub entry_of : NamedBytes → Entry
 entry_of one = record { name = string_bytes one.name; bytes = one.bytes.items }

@@ -1,20 +1,12 @@
 -- What commands find in a store of logs and texts, and what they leave there.
 use Rattle.std.specs.Prelude.{◌≡◌, ◌⊎◌, ℕ, ◌+◌, Bool, true, List, [], ◌∷◌, ◌++◌, take, Option, Some, None, is_some, option_map, Result, Ok, Err, ⊤}
-use Rattle.std.specs.Bool.{then_some}
-use Rattle.std.specs.Option.{option_or}
-use Rattle.std.specs.Str.{bytes_eq}
+use Rattle.std.specs.{Bool.then_some, Option.option_or, Str.bytes_eq}
 use Rattle.stn_text.specs.Bytes.{most_text}
-use Rattle.stn_site.specs.Calls.{Accepted, Leaves}
-use Rattle.stn_site.specs.Held.{Held}
-use Rattle.stn_log.specs.Log.{Log, log_held, log_text, IsLog}
-use Rattle.stn_log.specs.declared.fault.LoadFault.{LoadFault}
-use Rattle.stn_log.specs.Failures.{load_failure}
-use Rattle.stn_refusal.specs.declared.code.Code.TheVariants.{LogThere}
-use Rattle.stn_refusal.specs.declared.failure.Failure.{Failure}
+use Rattle.stn_site.specs.{Calls.Accepted, Calls.Leaves, Held.Held}
+use Rattle.stn_log.specs.{Log.Log, Log.log_held, Log.log_text, Log.IsLog, declared.fault.LoadFault.LoadFault, Failures.load_failure}
+use Rattle.stn_refusal.specs.{declared.code.Code.TheVariants.LogThere, declared.failure.Failure.Failure, declared.failure.Fault.Fault, Refusals.refused}
 use Rattle.stn_refusal.specs.declared.failure.Failure.TheVariants.{Refused, Failed}
-use Rattle.stn_refusal.specs.declared.failure.Fault.{Fault}
 use Rattle.stn_refusal.specs.declared.failure.Fault.TheVariants.{Memory, File}
-use Rattle.stn_refusal.specs.Refusals.{refused}
 
 -- bytes that were put under a name
 pub record Entry : Type 0 where

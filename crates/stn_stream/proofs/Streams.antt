@@ -1,23 +1,11 @@
 -- Frames that are cut off the bytes of a reader, piece by piece.
 use Rattle.std.proofs.Common.{◌≡◌, ℕ, ◌+◌, ◌-◌, ◌<◌, ◌≤◌, ◌⊎◌, inl, inr, Bool, true, false, List, [], ◌∷◌, ◌++◌, length, take, drop, Option, Some, None, Result, Ok, Err, IfOk, IfErr, OnOk, is_err, refl, sym, ap, subst, ◌∙◌, arith, append_assoc, append-nil, length-append, take-append-drop, drop-drop}
-use Rattle.std.proofs.Math.Seq.{drop-append-add}
-use Rattle.std.proofs.KnownBytes.{Consumes-trans}
-use Rattle.std.proofs.lemmas.Bool.{false≢true}
-use Rattle.std.proofs.lemmas.List.{drop_all}
+use Rattle.std.proofs.{Math.Seq.drop-append-add, KnownBytes.Consumes-trans, lemmas.Bool.false≢true, lemmas.List.drop_all}
 use Rattle.std.specs.Io.KnownBytes.{Consumes, IsAtEnd}
-use Rattle.stn_wire.specs.Feeder.{FeederState, IsTaken, IsFed as IsFedTo}
-use Rattle.stn_wire.specs.Frame.{FrameContent, content, spelling}
-use Rattle.stn_wire.specs.Front.{IsFront, faulty, whole, unfinished}
-use Rattle.stn_wire.specs.declared.fault.WireFault.{WireFault}
+use Rattle.stn_wire.specs.{Feeder.FeederState, Feeder.IsTaken, Feeder.IsFed as IsFedTo, Frame.FrameContent, Frame.content, Frame.spelling, Front.IsFront, Front.faulty, Front.whole, Front.unfinished, declared.fault.WireFault.WireFault, declared.frame.Frame.Frame}
 use Rattle.stn_wire.specs.declared.fault.WireFault.TheVariants as wire
-use Rattle.stn_wire.specs.declared.frame.Frame.{Frame}
-use Rattle.stn_stream.specs.Held.{Stream}
-use Rattle.stn_stream.specs.Stream.{pending, wire_fault, IsNext, Gives}
-use Rattle.stn_stream.specs.Pieces.{IsFed, IsFilled, IsBeyond}
-use Rattle.stn_stream.specs.declared.fault.FrameFault.{FrameFault}
-use Rattle.stn_stream.specs.declared.reader.Next.{Next}
+use Rattle.stn_stream.specs.{Held.Stream, Stream.pending, Stream.wire_fault, Stream.IsNext, Stream.Gives, Pieces.IsFed, Pieces.IsFilled, Pieces.IsBeyond, declared.fault.FrameFault.FrameFault, declared.reader.Next.Next, declared.fault.StreamFault.StreamFault}
 use Rattle.stn_stream.specs.declared.reader.Next.TheVariants.{Frame as next_frame, Faulty, Closed, Cut}
-use Rattle.stn_stream.specs.declared.fault.StreamFault.{StreamFault}
 use Rattle.stn_stream.specs.declared.fault.StreamFault.TheVariants.{Read, Bound, Memory}
 
 -- the fault of an answer

@@ -1,12 +1,8 @@
 -- What is printed where bytes begin no frame, or a stream ends with a fault.
-use Rattle.stn_refusal.specs.declared.failure.Failure.{Failure}
-use Rattle.stn_refusal.specs.declared.failure.Failure.TheVariants.{Failed}
+use Rattle.stn_refusal.specs.{declared.failure.Failure.Failure, declared.failure.Failure.TheVariants.Failed, Refusals.out_of_memory}
 use Rattle.stn_refusal.specs.declared.failure.Fault.TheVariants as device
-use Rattle.stn_refusal.specs.Refusals.{out_of_memory}
 use Rattle.stn_wire.specs.Failures.{wire_failure}
-use Rattle.stn_stream.specs.Stream.{wire_fault}
-use Rattle.stn_stream.specs.declared.fault.FrameFault.{FrameFault}
-use Rattle.stn_stream.specs.declared.fault.StreamFault.{StreamFault}
+use Rattle.stn_stream.specs.{Stream.wire_fault, declared.fault.FrameFault.FrameFault, declared.fault.StreamFault.StreamFault}
 use Rattle.stn_stream.specs.declared.fault.StreamFault.TheVariants as stream
 
 abbrev pub frame_failure : FrameFault → Failure

@@ -3,14 +3,9 @@
 use Rattle.std.specs.Prelude.{◌≡◌, ℕ, ◌+◌, ◌<◌, ◌≤◌, List, [], ◌∷◌, ◌++◌, length, Bool, true, false, Option, Some, None, Result, Ok, Err, ⊤}
 use Rattle.std.specs.Io.KnownBytes.{Consumes, IsAtEnd}
 use Rattle.stn_device.specs.Bytes.{most_bytes}
-use Rattle.stn_wire.specs.Frame.{content, spelling, IsFrame}
-use Rattle.stn_wire.specs.Front.{IsFront, faulty, unfinished}
-use Rattle.stn_wire.specs.declared.fault.WireFault.{WireFault}
+use Rattle.stn_wire.specs.{Frame.content, Frame.spelling, Frame.IsFrame, Front.IsFront, Front.faulty, Front.unfinished, declared.fault.WireFault.WireFault, declared.frame.Frame.Frame}
 use Rattle.stn_wire.specs.declared.fault.WireFault.TheVariants as wire
-use Rattle.stn_wire.specs.declared.frame.Frame.{Frame}
-use Rattle.stn_stream.specs.Held.{Stream}
-use Rattle.stn_stream.specs.Stream.{pending}
-use Rattle.stn_stream.specs.declared.fault.StreamFault.{StreamFault}
+use Rattle.stn_stream.specs.{Held.Stream, Stream.pending, declared.fault.StreamFault.StreamFault}
 use Rattle.stn_stream.specs.declared.fault.StreamFault.TheVariants.{Read, Bound, Memory}
 
 -- what taking what was read answers: the first frame that it completes, and the bytes after it are pending; or none, and all of it is held

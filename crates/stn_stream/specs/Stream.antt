@@ -4,17 +4,12 @@ use Rattle.std.specs.Io.KnownBytes.{Consumes}
 use Rattle.stn_refusal.specs.Codes.{number_of}
 use Rattle.stn_refusal.specs.declared.code.Code.TheVariants as code
 use Rattle.stn_device.specs.Bytes.{most_bytes}
-use Rattle.stn_wire.specs.Frame.{content, spelling, IsFrame}
-use Rattle.stn_wire.specs.Front.{IsFront, faulty, unfinished}
-use Rattle.stn_wire.specs.declared.fault.WireFault.{WireFault}
+use Rattle.stn_wire.specs.{Frame.content, Frame.spelling, Frame.IsFrame, Front.IsFront, Front.faulty, Front.unfinished, declared.fault.WireFault.WireFault}
 use Rattle.stn_wire.specs.declared.fault.WireFault.TheVariants as wire
-use Rattle.stn_stream.specs.declared.fault.FrameFault.{FrameFault}
+use Rattle.stn_stream.specs.{declared.fault.FrameFault.FrameFault, declared.reader.Next.Next, declared.fault.StreamFault.StreamFault, Held.Stream}
 use Rattle.stn_stream.specs.declared.fault.FrameFault.TheVariants.{Length, Kind, Body}
-use Rattle.stn_stream.specs.declared.reader.Next.{Next}
 use Rattle.stn_stream.specs.declared.reader.Next.TheVariants.{Frame as frame, Faulty, Closed, Cut}
-use Rattle.stn_stream.specs.declared.fault.StreamFault.{StreamFault}
 use Rattle.stn_stream.specs.declared.fault.StreamFault.TheVariants.{Read, Bound, Memory}
-use Rattle.stn_stream.specs.Held.{Stream}
 
 -- the fault of a stream of frames, as that of bytes
 abbrev pub wire_fault : FrameFault → WireFault

@@ -1,12 +1,7 @@
 -- The first line of a text and the first word of a line.
 use Rattle.std.proofs.Common.{◌≡◌, ℕ, suc, ◌+◌, ◌<◌, ◌≤◌, Bool, true, false, cond, not, ltb, List, [], ◌∷◌, ◌++◌, length, take, drop, take-append-drop, Some, None, refl, sym, ap, ◌∙◌, subst, arith, position}
-use Rattle.std.specs.List.{slice_split, onto_first, position_or_len}
-use Rattle.std.specs.Prelude.{filter}
-use Rattle.std.proofs.lemmas.Bool.{eqb-true}
-use Rattle.std.proofs.lemmas.Bool.Decides.{nat_tests}
-use Rattle.std.proofs.lemmas.List.{drop_more}
-use Rattle.std.proofs.lemmas.List.Quantifiers.{position-Some}
-use Rattle.std.proofs.lemmas.List.Splits.{slice_split-cons_yes, slice_split_first}
+use Rattle.std.specs.{List.slice_split, List.onto_first, List.position_or_len, Prelude.filter}
+use Rattle.std.proofs.{lemmas.Bool.eqb-true, lemmas.Bool.Decides.nat_tests, lemmas.List.drop_more, lemmas.List.Quantifiers.position-Some, lemmas.List.Splits.slice_split-cons_yes, lemmas.List.Splits.slice_split_first}
 use Rattle.stn_text.specs.Lines.{is_line_end, is_gap, without_empty_last, is_word, lines_of, words_of, begins_with_gap}
 
 found_at : (passes : Bool) (place count end : ℕ) → ltb place count ≡ passes → cond passes (Some place) None ≡ Some end → (place < count) × (end ≡ place)

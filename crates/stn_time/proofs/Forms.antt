@@ -1,25 +1,13 @@
 -- The parts of a text: that they are found, and that there is one set of them at most.
 use Rattle.std.proofs.Common.{◌≡◌, ℕ, ◌<◌, ◌≤◌, Bool, true, false, cond, ◌&&◌, List, [], ◌∷◌, ◌++◌, length, take, drop, ℤ, Option, Some, None, Result, Ok, Err, refl, sym, ap, ◌∙◌, subst, ◌↔◌, arith, eqb}
-use Rattle.std.specs.Char.{is_ascii_digit, digit_value}
-use Rattle.std.specs.Int.{IsInRange}
-use Rattle.std.specs.Fmt.{sign_text}
-use Rattle.std.specs.List.{prefix_len}
-use Rattle.std.specs.Str.{all_ascii_digits}
+use Rattle.std.specs.{Char.is_ascii_digit, Char.digit_value, Int.IsInRange, Fmt.sign_text, List.prefix_len, Str.all_ascii_digits, Option.option_map}
 use Rattle.std.specs.Str.Parse.{AllDigits, IsNumeral, digits_value, starts_with_minus}
-use Rattle.std.proofs.lemmas.Str.Parse.{digit_from_value}
-use Rattle.std.proofs.lemmas.Bool.{false≢true, eqb-true}
-use Rattle.std.proofs.lemmas.Bool.Decides.{nat_tests}
-use Rattle.std.proofs.lemmas.Int.{ints}
-use Rattle.std.proofs.lemmas.List.{take-append-drop, length-take}
-use Rattle.std.proofs.lemmas.List.Sums.{take_while-cons, prefix_len-le-length}
-use Rattle.std.proofs.Math.Seq.{take-append_seam, drop-append_seam}
+use Rattle.std.proofs.{lemmas.Str.Parse.digit_from_value, lemmas.Bool.false≢true, lemmas.Bool.eqb-true, lemmas.Bool.Decides.nat_tests, lemmas.Int.ints, lemmas.List.take-append-drop, lemmas.List.length-take, lemmas.List.Sums.take_while-cons, lemmas.List.Sums.prefix_len-le-length, Math.Seq.take-append_seam, Math.Seq.drop-append_seam}
 use Rattle.std.proofs.lemmas.Option.{cond_some, none-some, same_Some}
-use Rattle.std.specs.Option.{option_map}
 use Rattle.stn_text.proofs.Digits.{own}
 use Rattle.stn_time.specs.Text.{Parts, these_parts, point_text, HasParts, IsTimeForm, is_fine, millis_of, Spells, IsTooFine, IsOutOfRange}
 use Rattle.stn_time.specs.TimeOf.{is_numeral, fraction_of, parts_with, parts_of, time_of_found, time_of, is_within_horizon}
-use Rattle.stn_time.specs.Time.{IsWithinHorizon}
-use Rattle.stn_time.specs.declared.reading.TimeFault.{TimeFault}
+use Rattle.stn_time.specs.{Time.IsWithinHorizon, declared.reading.TimeFault.TimeFault}
 use Rattle.stn_time.specs.declared.reading.TimeFault.TheVariants.{Malformed, TooFine, OutOfRange}
 
 -- a byte with a decimal digit's value is a digit, and the other way round

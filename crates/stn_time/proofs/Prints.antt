@@ -1,19 +1,9 @@
 -- The printed form of a number of milliseconds spells that number.
 use Rattle.std.proofs.Common.{◌≡◌, ℕ, ◌+◌, ◌*◌, ◌/◌, ◌%◌, ◌^◌, ◌<◌, Bool, true, false, cond, List, [], ◌∷◌, ◌++◌, map, length, ℤ, pos, negsuc, neg_ℤ, Ok, refl, sym, ap, ◌∙◌, arith, eqb, ltb, Result, Err, is_ok, OnOk, codes}
-use Rattle.std.specs.Prelude.{unsigned_abs}
-use Rattle.std.specs.Char.{digit_value}
-use Rattle.std.specs.Int.{is_negative}
-use Rattle.std.specs.Int.Digits.{AllBelowBase, digits_of, number_from_digits}
-use Rattle.std.specs.Fmt.{decimal, sign_text}
-use Rattle.std.proofs.lemmas.List.{length-map, append_assoc}
-use Rattle.std.specs.Str.Parse.{AllDigits, IsNumeral, digits_value}
-use Rattle.std.proofs.lemmas.Bool.{eqb-true}
-use Rattle.std.proofs.lemmas.Bool.Decides.{nat_tests}
-use Rattle.std.proofs.lemmas.Fmt.{decimal_digit, decimal-digits_of}
+use Rattle.std.specs.{Prelude.unsigned_abs, Char.digit_value, Int.is_negative, Int.Digits.AllBelowBase, Int.Digits.digits_of, Int.Digits.number_from_digits, Fmt.decimal, Fmt.sign_text, Str.Parse.AllDigits, Str.Parse.IsNumeral, Str.Parse.digits_value}
+use Rattle.std.proofs.{lemmas.List.length-map, lemmas.List.append_assoc, lemmas.Bool.eqb-true, lemmas.Bool.Decides.nat_tests, lemmas.Fmt.decimal_digit, lemmas.Fmt.decimal-digits_of}
 use Rattle.std.proofs.lemmas.Int.Digits.{digits_value_is, all_below_base_digits_of, length-digits_of_step, number_digits_of}
-use Rattle.stn_time.specs.Text.{whole_text, three_digits, printed, these_parts, Spells, thousandths_of}
-use Rattle.stn_time.specs.TimeOf.{time_of}
-use Rattle.stn_time.specs.Time.{IsWithinHorizon}
+use Rattle.stn_time.specs.{Text.whole_text, Text.three_digits, Text.printed, Text.these_parts, Text.Spells, Text.thousandths_of, TimeOf.time_of, Time.IsWithinHorizon}
 use Rattle.stn_time.proofs.Forms.{time_of-spells}
 
 -- the value of a digit's byte

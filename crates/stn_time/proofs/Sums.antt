@@ -1,17 +1,8 @@
 -- The numbers that digits write, as the code adds them up.
 use Rattle.std.proofs.Common.{◌≡◌, ℕ, suc, ◌+◌, ◌-◌, ◌*◌, ◌<◌, min, Bool, true, false, cond, ◌&&◌, List, [], ◌∷◌, length, get_or, take, ℤ, pos, neg_ℤ, refl, arith, eqb}
-use Rattle.std.specs.Char.{is_ascii_digit, digit_value}
-use Rattle.std.specs.Int.{IsInRange}
-use Rattle.std.specs.List.{prefix_len}
-use Rattle.std.specs.Str.{all_ascii_digits}
-use Rattle.std.specs.Str.Parse.{AllDigits, digits_value}
-use Rattle.std.proofs.lemmas.Str.Parse.{digit_at}
-use Rattle.std.proofs.lemmas.Int.{ints}
-use Rattle.std.proofs.lemmas.Int.Digits.{digits_value_more}
-use Rattle.std.proofs.lemmas.Bool.Decides.{nat_tests}
-use Rattle.stn_time.specs.Near.{IsNear}
-use Rattle.stn_time.specs.TimeOf.{is_numeral}
-use Rattle.stn_time.specs.declared.reading.TheConstants.{BEYOND}
+use Rattle.std.specs.{Char.is_ascii_digit, Char.digit_value, Int.IsInRange, List.prefix_len, Str.all_ascii_digits, Str.Parse.AllDigits, Str.Parse.digits_value}
+use Rattle.std.proofs.{lemmas.Str.Parse.digit_at, lemmas.Int.ints, lemmas.Int.Digits.digits_value_more, lemmas.Bool.Decides.nat_tests}
+use Rattle.stn_time.specs.{Near.IsNear, TimeOf.is_numeral, declared.reading.TheConstants.BEYOND}
 
 pub digit_value-range : (c : ℕ) → IsInRange 48 57 c → digit_value c ≡ c - 48
 digit_value-range c h = grind (arith, nat_tests)

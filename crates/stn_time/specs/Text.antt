@@ -3,11 +3,7 @@
 -- Of std: `IsNumeral 10` is one decimal digit or more and nothing else, `AllDigits 10` allows none, and
 -- `digits_value 10` is the number that decimal digits write.
 use Rattle.std.specs.Prelude.{◌≡◌, ℕ, ◌+◌, ◌*◌, ◌/◌, ◌%◌, Bool, ◌==◌, if◌then◌else◌, List, [], ◌∷◌, ◌++◌, map, take, drop, ℤ, pos, neg_ℤ, unsigned_abs, IsTrue, IsFalse, codes}
-use Rattle.std.specs.Fmt.{sign_text}
-use Rattle.std.specs.Int.{is_negative}
-use Rattle.std.specs.Int.Digits.{digits_of}
-use Rattle.std.specs.List.{list_all}
-use Rattle.std.specs.Str.Parse.{AllDigits, IsNumeral, digits_value}
+use Rattle.std.specs.{Fmt.sign_text, Int.is_negative, Int.Digits.digits_of, List.list_all, Str.Parse.AllDigits, Str.Parse.IsNumeral, Str.Parse.digits_value}
 use Rattle.stn_time.specs.Time.{IsWithinHorizon}
 
 -- the parts of a time text: whether a `-` stands first, the digits of the whole seconds, and the digits after the

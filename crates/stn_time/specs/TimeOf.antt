@@ -1,14 +1,8 @@
 -- The time of a text as a function, for definitions that compute with it. What each of its answers means is said by
 -- `Spells` and its kin, in the contract of `Ms::read`.
 use Rattle.std.specs.Prelude.{ℕ, Bool, false, ◌&&◌, ◌==◌, if◌then◌else◌, List, [], ◌∷◌, take, drop, ℤ, neg_ℤ, int_le, Option, Some, None, Result, Ok, Err}
-use Rattle.std.specs.Char.{is_ascii_digit}
-use Rattle.std.specs.List.{prefix_len}
-use Rattle.std.specs.Option.{option_map}
-use Rattle.std.specs.Str.{all_ascii_digits}
-use Rattle.std.specs.Str.Parse.{starts_with_minus}
-use Rattle.stn_time.specs.Text.{Parts, these_parts, is_fine, millis_of}
-use Rattle.stn_time.specs.Time.{horizon}
-use Rattle.stn_time.specs.declared.reading.TimeFault.{TimeFault}
+use Rattle.std.specs.{Char.is_ascii_digit, List.prefix_len, Option.option_map, Str.all_ascii_digits, Str.Parse.starts_with_minus}
+use Rattle.stn_time.specs.{Text.Parts, Text.these_parts, Text.is_fine, Text.millis_of, Time.horizon, declared.reading.TimeFault.TimeFault}
 use Rattle.stn_time.specs.declared.reading.TimeFault.TheVariants.{Malformed, TooFine, OutOfRange}
 
 -- the text without a leading `-`

@@ -1,21 +1,11 @@
 -- A text in small letters has the tree of the text, with its words in small letters.
 use Rattle.std.proofs.Common.{◌≡◌, ℕ, ◌+◌, ◌<◌, ◌≤◌, Bool, true, false, cond, eqb, leb, nat_lt, List, [], ◌∷◌, length, map, Result, Ok, Err, refl, sym, ap, ◌∙◌, arith}
 use Rattle.std.specs.Char.{to_ascii_lowercase}
-use Rattle.std.proofs.lemmas.Bool.{ltb-true, ltb-false}
-use Rattle.std.proofs.lemmas.Bool.Decides.{nat_tests}
-use Rattle.std.proofs.lemmas.List.{length-map}
+use Rattle.std.proofs.{lemmas.Bool.ltb-true, lemmas.Bool.ltb-false, lemmas.Bool.Decides.nat_tests, lemmas.List.length-map}
 use Rattle.stn_text.specs.Faults.{◌>>=◌}
-use Rattle.stn_tree.specs.declared.bytes.Kind.{Kind}
+use Rattle.stn_tree.specs.{declared.bytes.Kind.Kind, declared.scan.TreeFault.TreeFault, declared.scan.TreeFault.TheVariants.TooLong, declared.scan.Place.Place, declared.scan.Place.TheVariants.Before, Bytes.kind_of, Bytes.kind_in, Bytes.comment_after, Bytes.line_after, Names.folded, Scan.most_text, Scan.place_after, Scan.scanned, Scan.tree_of, Case.in_small, Case.tree_in_small}
 use Rattle.stn_tree.specs.declared.bytes.Kind.TheVariants.{Blank, Open, Close, Letter, Stray}
-use Rattle.stn_tree.specs.declared.scan.TreeFault.{TreeFault}
-use Rattle.stn_tree.specs.declared.scan.TreeFault.TheVariants.{TooLong}
-use Rattle.stn_tree.specs.declared.scan.Place.{Place}
-use Rattle.stn_tree.specs.declared.scan.Place.TheVariants.{Before}
-use Rattle.stn_tree.specs.Bytes.{kind_of, kind_in, comment_after, line_after}
-use Rattle.stn_tree.specs.Names.{folded}
 use Rattle.stn_tree.specs.Trees.{Trees, End, Word, Group, Rows, before_byte, is_letter, begins_word, rows_from}
-use Rattle.stn_tree.specs.Scan.{most_text, place_after, scanned, tree_of}
-use Rattle.stn_tree.specs.Case.{in_small, tree_in_small}
 
 -- the small letter for a byte, and what a byte is: no capital letter, or one
 pub small_by : (P : ℕ → Type 0) (b : ℕ) → P b → (65 ≤ b → b ≤ 90 → P (b + 32)) → P (to_ascii_lowercase b)

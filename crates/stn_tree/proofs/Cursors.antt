@@ -1,9 +1,8 @@
 -- Bytes left at a cursor.
 use Rattle.std.proofs.Common.{◌≡◌, ◌≢◌, ℕ, zero, suc, List, ◌+◌, ◌-◌, ◌≤◌, arith, ap, ◌∙◌, refl, add-one, sub-one}
 use Rattle.stn_tree.specs.Trees.{Trees, End, Word, Group, Rows, behind, how_many}
-use Rattle.stn_tree.specs.declared.cursor.Child.{Child}
+use Rattle.stn_tree.specs.{declared.cursor.Child.Child, Cursors.IsShorter}
 use Rattle.stn_tree.specs.declared.cursor.Child.TheVariants as child
-use Rattle.stn_tree.specs.Cursors.{IsShorter}
 
 -- shorter than fewer bytes is shorter than more
 pub IsShorter-more : (c : Child) (fewer more : ℕ) → fewer ≤ more → IsShorter c fewer → IsShorter c more

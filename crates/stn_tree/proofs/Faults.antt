@@ -1,17 +1,11 @@
 -- The faults of a text, and what a text without one is.
 use Rattle.std.proofs.Common.{◌≡◌, ℕ, ◌+◌, ◌-◌, ◌<◌, ◌≤◌, Bool, true, false, cond, nat_lt, List, [], ◌∷◌, length, Result, Ok, Err, refl, ap, subst, arith}
-use Rattle.std.proofs.lemmas.Bool.{ltb-true}
-use Rattle.std.proofs.lemmas.Bool.Decides.{nat_tests}
-use Rattle.stn_tree.specs.declared.bytes.Kind.{Kind}
+use Rattle.std.proofs.{lemmas.Bool.ltb-true, lemmas.Bool.Decides.nat_tests}
+use Rattle.stn_tree.specs.{declared.bytes.Kind.Kind, declared.scan.TreeFault.TreeFault, declared.scan.Place.Place, Bytes.kind_in, Bytes.comment_after, Bytes.line_after, Trees.Trees, Trees.rows_from, Scan.most_text, Scan.place_after, Scan.scanned, Scan.tree_of, Scan.IsOneList}
 use Rattle.stn_tree.specs.declared.bytes.Kind.TheVariants.{Blank, Open, Close, Letter, Stray}
-use Rattle.stn_tree.specs.declared.scan.TreeFault.{TreeFault}
 use Rattle.stn_tree.specs.declared.scan.TreeFault.TheVariants.{TooLong, Syntax, TooDeep}
-use Rattle.stn_tree.specs.declared.scan.Place.{Place}
 use Rattle.stn_tree.specs.declared.scan.Place.TheVariants.{Before, Inside, After}
-use Rattle.stn_tree.specs.Bytes.{kind_in, comment_after, line_after}
-use Rattle.stn_tree.specs.Trees.{Trees, rows_from}
 use Rattle.stn_text.specs.Faults.{◌>>=◌}
-use Rattle.stn_tree.specs.Scan.{most_text, place_after, scanned, tree_of, IsOneList}
 use Rattle.stn_tree.proofs.Scanned.{one-list}
 
 -- a fault of a byte, or of an end that comes too early

@@ -1,18 +1,13 @@
 -- The first fault of a text lies at the first byte after which no text can go on, or at its end.
 use Rattle.std.proofs.Common.{◌≡◌, ℕ, zero, suc, ◌+◌, ◌-◌, ◌≤◌, Bool, true, false, cond, nat_lt, List, [], ◌∷◌, ◌++◌, length, fold, Result, Ok, Err, IsOk, refl, sym, ap, subst, ◌∙◌, arith}
 use Rattle.std.proofs.lemmas.Bool.Decides.{nat_tests}
-use Rattle.stn_tree.specs.declared.bytes.Kind.{Kind}
+use Rattle.stn_tree.specs.{declared.bytes.Kind.Kind, declared.scan.TreeFault.TreeFault, declared.scan.Place.Place, Bytes.kind_of, Bytes.kind_in, Bytes.comment_after, Bytes.line_after, Scan.most_text, Scan.place_after, Scan.ends_at, Scan.scanned, Scan.tree_of}
 use Rattle.stn_tree.specs.declared.bytes.Kind.TheVariants.{Blank, Open, Close, Letter, Stray}
-use Rattle.stn_tree.specs.declared.scan.TreeFault.{TreeFault}
 use Rattle.stn_tree.specs.declared.scan.TreeFault.TheVariants.{Syntax, TooDeep}
-use Rattle.stn_tree.specs.declared.scan.Place.{Place}
 use Rattle.stn_tree.specs.declared.scan.Place.TheVariants.{Before, Inside, After}
-use Rattle.stn_tree.specs.Bytes.{kind_of, kind_in, comment_after, line_after}
 use Rattle.stn_text.specs.Faults.{◌>>=◌}
-use Rattle.stn_tree.specs.Scan.{most_text, place_after, ends_at, scanned, tree_of}
 use Rattle.stn_tree.specs.FirstFault.{IsOnLine, IsFirstFault, at_byte, at_end}
-use Rattle.stn_tree.proofs.Scanned.{scanned-next, scanned-fault}
-use Rattle.stn_tree.proofs.Faults.{tree_of-refused, tree_of-scanned}
+use Rattle.stn_tree.proofs.{Scanned.scanned-next, Scanned.scanned-fault, Faults.tree_of-refused, Faults.tree_of-scanned}
 
 -- the brackets that close so many lists
 closing : ℕ → List ℕ

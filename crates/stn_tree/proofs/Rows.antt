@@ -1,10 +1,8 @@
 -- The rows before a byte of each kind.
 use Rattle.std.proofs.Common.{◌≡◌, ◌≢◌, ℕ, suc, ◌+◌, ◌<◌, ◌≤◌, Bool, true, false, cond, eqb, List, [], ◌∷◌, length, get_or, take, drop, refl, sym, ◌∙◌, ap, arith, add-one, drop-cons, ◌⊎◌, inl, inr}
-use Rattle.std.proofs.lemmas.List.{drop_all}
-use Rattle.std.proofs.lemmas.Bool.Decides.{nat_tests}
-use Rattle.stn_tree.specs.declared.bytes.Kind.{Kind}
+use Rattle.std.proofs.{lemmas.List.drop_all, lemmas.Bool.Decides.nat_tests}
+use Rattle.stn_tree.specs.{declared.bytes.Kind.Kind, Bytes.kind_of, Bytes.kind_in, Bytes.comment_after, Bytes.line_after}
 use Rattle.stn_tree.specs.declared.bytes.Kind.TheVariants.{Blank, Open, Close, Letter, Stray}
-use Rattle.stn_tree.specs.Bytes.{kind_of, kind_in, comment_after, line_after}
 use Rattle.stn_tree.specs.Trees.{Word, Group, End, Rows, behind, before_open, before_close, before_letter, is_letter, begins_word, word_len, rows_from}
 
 -- no line feed and no semicolon is a token

@@ -1,16 +1,12 @@
 -- The scan of a text, byte by byte, and that a text without a fault is one list.
 use Rattle.std.proofs.Common.{◌≡◌, ℕ, ◌+◌, ◌-◌, ◌<◌, ◌≤◌, Bool, true, false, cond, nat_lt, List, [], ◌∷◌, ◌++◌, length, get_or, drop, Result, Ok, Err, refl, ◌∙◌, ap, arith, add-one, drop-cons}
 use Rattle.std.proofs.lemmas.Bool.{ltb-true, ltb-false}
-use Rattle.stn_tree.specs.declared.bytes.Kind.{Kind}
+use Rattle.stn_tree.specs.{declared.bytes.Kind.Kind, declared.scan.TreeFault.TreeFault, declared.scan.Place.Place, Bytes.kind_in, Bytes.comment_after, Bytes.line_after, Scan.place_after, Scan.ends_at, Scan.scanned, Scan.IsOneList}
 use Rattle.stn_tree.specs.declared.bytes.Kind.TheVariants.{Blank, Open, Close, Letter, Stray}
-use Rattle.stn_tree.specs.declared.scan.TreeFault.{TreeFault}
 use Rattle.stn_tree.specs.declared.scan.TreeFault.TheVariants.{Syntax, TooDeep}
-use Rattle.stn_tree.specs.declared.scan.Place.{Place}
 use Rattle.stn_tree.specs.declared.scan.Place.TheVariants.{Before, Inside, After}
-use Rattle.stn_tree.specs.Bytes.{kind_in, comment_after, line_after}
 use Rattle.stn_tree.specs.Trees.{Trees, Group, End, Rows, outer, before_byte, begins_word, rows_from}
 use Rattle.stn_text.specs.Faults.{◌>>=◌}
-use Rattle.stn_tree.specs.Scan.{place_after, ends_at, scanned, IsOneList}
 
 -- one byte more
 pub scanned-at : (comment : Bool) (line : ℕ) (place next : Place) (i : ℕ) (text : List ℕ) → i < length text → place_after (kind_in comment (get_or text i 0)) line place ≡ Ok next

@@ -2,18 +2,12 @@
 use Rattle.std.proofs.Common.{◌≡◌, ℕ, suc, ◌+◌, ◌-◌, ◌<◌, ◌≤◌, Bool, true, false, cond, ◌==◌, nat_lt, List, [], ◌∷◌, Result, Ok, Err, refl, ap, subst, ◌∙◌, arith}
 use Rattle.std.proofs.lemmas.Bool.{ltb-true, ltb-false}
 use Rattle.stn_text.specs.Faults.{◌>>=◌}
-use Rattle.stn_tree.specs.declared.bytes.Kind.{Kind}
+use Rattle.stn_tree.specs.{declared.bytes.Kind.Kind, declared.scan.TreeFault.TreeFault, declared.scan.Place.Place, Bytes.kind_of, Bytes.kind_in, Bytes.comment_after, Bytes.line_after, Scan.place_after, Scan.scanned, Scan.tree_of, Written.end_line, Written.IsWord, Written.IsWritable}
 use Rattle.stn_tree.specs.declared.bytes.Kind.TheVariants.{Blank, Open, Close, Letter, Stray}
-use Rattle.stn_tree.specs.declared.scan.TreeFault.{TreeFault}
 use Rattle.stn_tree.specs.declared.scan.TreeFault.TheVariants.{Syntax, TooDeep}
-use Rattle.stn_tree.specs.declared.scan.Place.{Place}
 use Rattle.stn_tree.specs.declared.scan.Place.TheVariants.{Before, Inside, After}
-use Rattle.stn_tree.specs.Bytes.{kind_of, kind_in, comment_after, line_after}
 use Rattle.stn_tree.specs.Trees.{Trees, End, Word, Group, Rows, before_byte, begins_word, word_len, rows_from}
-use Rattle.stn_tree.specs.Scan.{place_after, scanned, tree_of}
-use Rattle.stn_tree.specs.Written.{end_line, IsWord, IsWritable}
-use Rattle.stn_tree.proofs.Rows.{letter-outside, letter-begins, word_len-letter}
-use Rattle.stn_tree.proofs.Faults.{tree_of-rows}
+use Rattle.stn_tree.proofs.{Rows.letter-outside, Rows.letter-begins, Rows.word_len-letter, Faults.tree_of-rows}
 
 -- rows that lie in one another can be written, the innermost from a line on and each other one from where that ends
 unfoldable AreWritable : ℕ → ℕ → List Trees → Type 0

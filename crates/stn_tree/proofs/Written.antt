@@ -1,21 +1,12 @@
 -- A row of trees that is written reads as that row.
 use Rattle.std.proofs.Common.{◌≡◌, ◌≢◌, ℕ, zero, suc, ◌+◌, ◌-◌, ◌<◌, ◌≤◌, Bool, true, false, cond, nat_lt, List, [], ◌∷◌, ◌++◌, length, take, drop, replicate, Result, Ok, Err, refl, ap, ◌∙◌, append_assoc, arith}
-use Rattle.std.proofs.Math.Seq.{take-append_seam, drop-append_seam}
-use Rattle.std.proofs.lemmas.Bool.Decides.{nat_tests}
+use Rattle.std.proofs.{Math.Seq.take-append_seam, Math.Seq.drop-append_seam, lemmas.Bool.Decides.nat_tests}
 use Rattle.stn_text.specs.Bytes.{line_feed}
-use Rattle.stn_tree.specs.declared.bytes.Kind.{Kind}
+use Rattle.stn_tree.specs.{declared.bytes.Kind.Kind, declared.scan.TreeFault.TreeFault, declared.scan.TreeFault.TheVariants.TooDeep, declared.scan.Place.Place, Bytes.kind_of, Bytes.comment_after, Bytes.line_after, Scan.most_text, Scan.place_after, Scan.scanned, Scan.tree_of, Written.end_line, Written.written, Written.IsWord, Written.IsWritable}
 use Rattle.stn_tree.specs.declared.bytes.Kind.TheVariants.{Blank, Open, Close, Letter, Stray}
-use Rattle.stn_tree.specs.declared.scan.TreeFault.{TreeFault}
-use Rattle.stn_tree.specs.declared.scan.TreeFault.TheVariants.{TooDeep}
-use Rattle.stn_tree.specs.declared.scan.Place.{Place}
 use Rattle.stn_tree.specs.declared.scan.Place.TheVariants.{Before, Inside, After}
-use Rattle.stn_tree.specs.Bytes.{kind_of, comment_after, line_after}
 use Rattle.stn_tree.specs.Trees.{Trees, End, Word, Group, Rows, before_open, is_letter, begins_word, word_len, rows_from}
-use Rattle.stn_tree.specs.Scan.{most_text, place_after, scanned, tree_of}
-use Rattle.stn_tree.specs.Written.{end_line, written, IsWord, IsWritable}
-use Rattle.stn_tree.proofs.Rows.{comment_after-token, line_after-token, rows-open, rows-close, rows-blank, before_word, rows-word}
-use Rattle.stn_tree.proofs.Scanned.{scanned-next}
-use Rattle.stn_tree.proofs.Faults.{tree_of-Ok}
+use Rattle.stn_tree.proofs.{Rows.comment_after-token, Rows.line_after-token, Rows.rows-open, Rows.rows-close, Rows.rows-blank, Rows.before_word, Rows.rows-word, Scanned.scanned-next, Faults.tree_of-Ok}
 
 -- a row, and one around
 abbrev with_row : Trees → Rows → Rows

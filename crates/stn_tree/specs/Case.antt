@@ -1,8 +1,6 @@
 -- A row of trees in small letters.
 use Rattle.std.specs.Prelude.{Result, Ok, Err}
-use Rattle.stn_tree.specs.declared.scan.TreeFault.{TreeFault}
-use Rattle.stn_tree.specs.Names.{folded}
-use Rattle.stn_tree.specs.Trees.{Trees, End, Word, Group}
+use Rattle.stn_tree.specs.{declared.scan.TreeFault.TreeFault, Names.folded, Trees.Trees, Trees.End, Trees.Word, Trees.Group}
 
 -- the same row, with small letters for the capital ones of ASCII in each word
 unfoldable pub in_small : Trees → Trees

@@ -1,7 +1,6 @@
 -- What a cursor stands before.
 use Rattle.std.specs.Prelude.{◌≡◌, ℕ, false, ◌<◌, ◌≤◌, length}
-use Rattle.stn_tree.specs.declared.cursor.Cursor.{Cursor}
-use Rattle.stn_tree.specs.declared.cursor.Child.{Child}
+use Rattle.stn_tree.specs.{declared.cursor.Cursor.Cursor, declared.cursor.Child.Child}
 use Rattle.stn_tree.specs.declared.cursor.Child.TheVariants as child
 use Rattle.stn_tree.specs.Trees.{Trees, Word, Group, End, Rows, behind, rows_from}
 

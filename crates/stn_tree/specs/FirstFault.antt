@@ -1,10 +1,7 @@
 -- Where the first fault of a text lies.
 use Rattle.std.specs.Prelude.{◌≡◌, ℕ, ◌≤◌, false, List, ◌∷◌, ◌++◌, length, fold, Err, IsOk}
-use Rattle.stn_tree.specs.declared.scan.TreeFault.{TreeFault}
+use Rattle.stn_tree.specs.{declared.scan.TreeFault.TreeFault, declared.scan.Place.TheVariants.Before, Bytes.line_after, Scan.most_text, Scan.scanned, Scan.tree_of}
 use Rattle.stn_tree.specs.declared.scan.TreeFault.TheVariants.{TooLong, Syntax, TooDeep}
-use Rattle.stn_tree.specs.declared.scan.Place.TheVariants.{Before}
-use Rattle.stn_tree.specs.Bytes.{line_after}
-use Rattle.stn_tree.specs.Scan.{most_text, scanned, tree_of}
 
 -- some text that begins with these bytes has no fault, however long it is
 abbrev pub CanGoOn : List ℕ → Type 0

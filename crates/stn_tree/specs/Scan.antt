@@ -2,14 +2,10 @@
 use Rattle.std.specs.Prelude.{◌≡◌, ℕ, ◌+◌, ◌-◌, Bool, false, List, [], ◌∷◌, length, Result, Ok, Err, nat_lt, if◌then◌else◌}
 pub use Rattle.stn_text.specs.Bytes.{most_text}
 use Rattle.stn_text.specs.Faults.{◌>>=◌}
-use Rattle.stn_tree.specs.declared.bytes.Kind.{Kind}
+use Rattle.stn_tree.specs.{declared.bytes.Kind.Kind, declared.scan.TreeFault.TreeFault, declared.scan.Place.Place, Bytes.kind_in, Bytes.comment_after, Bytes.line_after, Trees.Trees, Trees.End, Trees.Group, Trees.rows_from}
 use Rattle.stn_tree.specs.declared.bytes.Kind.TheVariants.{Blank, Open, Close, Letter, Stray}
-use Rattle.stn_tree.specs.declared.scan.TreeFault.{TreeFault}
 use Rattle.stn_tree.specs.declared.scan.TreeFault.TheVariants.{TooLong, Syntax, TooDeep}
-use Rattle.stn_tree.specs.declared.scan.Place.{Place}
 use Rattle.stn_tree.specs.declared.scan.Place.TheVariants.{Before, Inside, After}
-use Rattle.stn_tree.specs.Bytes.{kind_in, comment_after, line_after}
-use Rattle.stn_tree.specs.Trees.{Trees, End, Group, rows_from}
 
 -- a text has at most so many open brackets
 abbrev pub most_depth : ℕ

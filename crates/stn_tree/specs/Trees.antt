@@ -1,8 +1,7 @@
 -- The trees of a text.
 use Rattle.std.specs.Prelude.{ℕ, ◌+◌, Bool, true, false, List, [], ◌∷◌, if◌then◌else◌}
-use Rattle.stn_tree.specs.declared.bytes.Kind.{Kind}
+use Rattle.stn_tree.specs.{declared.bytes.Kind.Kind, Bytes.kind_of, Bytes.kind_in, Bytes.comment_after, Bytes.line_after}
 use Rattle.stn_tree.specs.declared.bytes.Kind.TheVariants.{Blank, Open, Close, Letter, Stray}
-use Rattle.stn_tree.specs.Bytes.{kind_of, kind_in, comment_after, line_after}
 
 -- A row of trees: the first one and the row after it. A tree is a word or a list of trees, and stands on a line.
 pub data Trees : Type 0 where

@@ -1,10 +1,8 @@
 use Rattle.std.proofs.Common.{◌≡◌, ℕ, ℤ, ◌+◌, ◌<◌, ◌≤◌, ◌≤ℤ◌, ◌<ℤ◌, Bool, true, false, List, length, Option, Some, None, refl, sym, inl, inr, arith}
 use Rattle.std.specs.Prelude.{int_le, is_none, IfSome, IfNone}
-use Rattle.std.proofs.lemmas.Bool.{cases_lt, false≢true}
-use Rattle.std.proofs.lemmas.Int.{ints, by_lt_z}
+use Rattle.std.proofs.{lemmas.Bool.cases_lt, lemmas.Bool.false≢true, lemmas.Int.ints, lemmas.Int.by_lt_z}
 use Rattle.stn_net.specs.Difference.{Difference}
-use Rattle.stn_matrix.specs.Table.{Table, far_of}
-use Rattle.stn_matrix.specs.Tightest.{IsExact}
+use Rattle.stn_matrix.specs.{Table.Table, Table.far_of, Tightest.IsExact}
 use Rattle.stn_windows.specs.Dispatch.{IsLeft, IsReady, IsFirstReady, HasTimeFrom, IsOverdue}
 use Rattle.stn_windows.specs.Leading.{earliest, Leads, NonePast, CanLead, IsFirstPast, IsLeastLeader, IsEarliestBelow, IsEarliestSoFar, earlier_of}
 use Rattle.stn_windows.proofs.Readiness.{left_within, exact_triangle, exact_itself, ready_now, ready_can_lead, ready_none_past}

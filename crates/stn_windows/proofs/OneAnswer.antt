@@ -2,10 +2,8 @@ use Rattle.std.proofs.Common.{◌≡◌, ℕ, ℤ, true, Bool, List, [], ◌∷�
 use Rattle.std.specs.Prelude.{slice_set}
 use Rattle.std.proofs.lemmas.Int.{ints}
 use Rattle.stn_net.specs.Difference.{Difference}
-use Rattle.stn_windows.specs.declared.answers.Next.{Next}
+use Rattle.stn_windows.specs.{declared.answers.Next.Next, Dispatch.IsFirstReady, Dispatch.IsOverdue, Dispatch.IsNext, Rehearsal.fixed_at, Rehearsal.IsRehearsal}
 use Rattle.stn_windows.specs.declared.answers.Next.TheVariants.{Run, AllDone, Overdue}
-use Rattle.stn_windows.specs.Dispatch.{IsFirstReady, IsOverdue, IsNext}
-use Rattle.stn_windows.specs.Rehearsal.{fixed_at, IsRehearsal}
 
 -- two runs that both come first are one
 one_first : (bounds : List Difference) (done : List Bool) (now time other_time : ℤ) (event other : ℕ) → IsFirstReady bounds done now time event

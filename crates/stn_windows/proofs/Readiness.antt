@@ -1,14 +1,9 @@
 use Rattle.std.proofs.Common.{◌≡◌, ℕ, ℤ, pos, ◌+◌, ◌<◌, ◌≤◌, ◌+ℤ◌, ◌-ℤ◌, ◌≤ℤ◌, Bool, true, List, length, get_or, sym, ◌∙◌, inl, inr, arith}
 use Rattle.std.specs.Int.{int_min}
-use Rattle.std.proofs.lemmas.Int.{ints, clamps}
-use Rattle.std.proofs.lemmas.Bool.{false≢true, cases_lt}
-use Rattle.std.proofs.lemmas.List.{get_or_past}
-use Rattle.stn_net.specs.Difference.{Difference}
-use Rattle.stn_net.specs.Schedule.{IsSchedule}
-use Rattle.stn_matrix.specs.Table.{Table, far_of}
-use Rattle.stn_matrix.specs.Tightest.{IsExact}
-use Rattle.stn_windows.specs.Dispatch.{IsLeft, IsReady}
-use Rattle.stn_windows.specs.Leading.{NonePast, CanLead}
+use Rattle.std.proofs.{lemmas.Int.ints, lemmas.Int.clamps, lemmas.Bool.false≢true, lemmas.Bool.cases_lt, lemmas.List.get_or_past}
+use Rattle.stn_net.specs.{Difference.Difference, Schedule.IsSchedule}
+use Rattle.stn_matrix.specs.{Table.Table, Table.far_of, Tightest.IsExact}
+use Rattle.stn_windows.specs.{Dispatch.IsLeft, Dispatch.IsReady, Leading.NonePast, Leading.CanLead}
 use Rattle.stn_windows.proofs.Windows.{lesser_schedule}
 
 -- an event that is left has a test in the list

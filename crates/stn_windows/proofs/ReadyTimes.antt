@@ -3,10 +3,8 @@ use Rattle.std.proofs.Common.{◌≡◌, ℕ, ℤ, ◌+◌, ◌≤ℤ◌, ◌<�
 use Rattle.std.specs.Ordering.{ord_max, int_cmp, is_lt}
 use Rattle.std.proofs.lemmas.Int.{ints}
 use Rattle.stn_net.specs.Difference.{Difference}
-use Rattle.stn_matrix.specs.Table.{Table, far_of}
-use Rattle.stn_matrix.specs.Tightest.{IsExact}
-use Rattle.stn_windows.specs.Dispatch.{IsLeft, IsReady}
-use Rattle.stn_windows.specs.Leading.{earliest, Leads, IsLeastLatest}
+use Rattle.stn_matrix.specs.{Table.Table, Table.far_of, Tightest.IsExact}
+use Rattle.stn_windows.specs.{Dispatch.IsLeft, Dispatch.IsReady, Leading.earliest, Leading.Leads, Leading.IsLeastLatest}
 use Rattle.stn_windows.proofs.Readiness.{ready_now, ready_can_lead, ready_none_past}
 
 -- the later of two times comes before whatever both come before

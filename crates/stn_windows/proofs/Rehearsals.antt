@@ -1,21 +1,14 @@
 use Rattle.std.proofs.Common.{◌≡◌, ◌≢◌, ℕ, ℤ, true, Bool, List, [], ◌∷◌, ◌++◌, get_or, set, cond, eqb, inl, inr, refl, sym, ap, subst, ◌∙◌, arith, get_or-set_same, get_or-set_other}
 use Rattle.std.specs.Prelude.{slice_set, Result, Err, IfErr}
-use Rattle.std.proofs.lemmas.Int.{ints}
-use Rattle.std.proofs.lemmas.Bool.{false≢true}
-use Rattle.std.proofs.lemmas.Bool.Decides.{eqb_tells}
+use Rattle.std.proofs.{lemmas.Int.ints, lemmas.Bool.false≢true, lemmas.Bool.Decides.eqb_tells, lemmas.List.Sums.sum_by-cons}
 use Rattle.std.proofs.lemmas.List.Elements.{All-nil, All-cons, All-push}
-use Rattle.std.proofs.lemmas.List.Sums.{sum_by-cons}
-use Rattle.stn_net.specs.Difference.{Difference}
-use Rattle.stn_net.specs.Schedule.{IsSchedule, HasSchedule, Meets}
+use Rattle.stn_net.specs.{Difference.Difference, Schedule.IsSchedule, Schedule.HasSchedule, Schedule.Meets}
 use Rattle.stn_matrix.proofs.Closure.{schedule_before, schedule_last}
 use Rattle.stn_windows.proofs.Readiness.{left_within}
 use Rattle.stn_windows.specs.Dispatch.{IsLeft, IsReady, IsOverdue, IsNext, CanWaitUntil}
-use Rattle.stn_matrix.specs.Table.{Table}
-use Rattle.stn_matrix.specs.Tightest.{IsExact}
-use Rattle.stn_windows.specs.declared.answers.Next.{Next}
+use Rattle.stn_matrix.specs.{Table.Table, Tightest.IsExact}
+use Rattle.stn_windows.specs.{declared.answers.Next.Next, declared.answers.RehearseFault.RehearseFault, declared.answers.RehearseFault.TheVariants.Memory}
 use Rattle.stn_windows.specs.declared.answers.Next.TheVariants.{Run, AllDone, Overdue}
-use Rattle.stn_windows.specs.declared.answers.RehearseFault.{RehearseFault}
-use Rattle.stn_windows.specs.declared.answers.RehearseFault.TheVariants.{Memory}
 use Rattle.stn_windows.specs.Rehearsal.{fixed_at, IsRehearsal, NeverFalls, RunsEachOnce, HasScheduleThrough, IsRehearseFault}
 
 -- a schedule that has the event at the time is one of the bounds and the fixed event

@@ -1,13 +1,9 @@
 use Rattle.std.proofs.Common.{◌≢◌, ℕ, ℤ, true, Bool, List, [], ◌∷◌, ◌++◌, refl, subst, append_assoc, append-nil}
 use Rattle.std.specs.Prelude.{slice_set}
-use Rattle.stn_net.specs.Difference.{Difference}
-use Rattle.stn_net.specs.Schedule.{HasSchedule}
-use Rattle.stn_matrix.specs.Table.{Table}
-use Rattle.stn_matrix.specs.Tightest.{IsExact}
-use Rattle.stn_windows.specs.declared.answers.Next.{Next}
+use Rattle.stn_net.specs.{Difference.Difference, Schedule.HasSchedule}
+use Rattle.stn_matrix.specs.{Table.Table, Tightest.IsExact}
+use Rattle.stn_windows.specs.{declared.answers.Next.Next, Dispatch.IsFirstReady, Dispatch.IsNext, Rehearsal.fixed_at, Rehearsal.IsRehearsal}
 use Rattle.stn_windows.specs.declared.answers.Next.TheVariants.{Run, AllDone, Overdue}
-use Rattle.stn_windows.specs.Dispatch.{IsFirstReady, IsNext}
-use Rattle.stn_windows.specs.Rehearsal.{fixed_at, IsRehearsal}
 use Rattle.stn_windows.proofs.Rehearsals.{ready_can_be_fixed, none_overdue_after}
 
 -- a rehearsal has come so far: the table is exact for the bounds and those fixed since, the answer comes next there and is no overdue

@@ -1,10 +1,8 @@
 use Rattle.std.proofs.Common.{◌≡◌, ℕ, ℤ, pos, ◌≤◌, ◌+ℤ◌, ◌-ℤ◌, ◌≤ℤ◌, neg_ℤ, List, refl, arith}
 use Rattle.std.specs.Int.{int_min}
 use Rattle.std.proofs.lemmas.Int.{ints, clamps}
-use Rattle.stn_net.specs.Difference.{Difference}
-use Rattle.stn_net.specs.Schedule.{IsSchedule, HasSchedule}
-use Rattle.stn_matrix.specs.Table.{Table, far_of}
-use Rattle.stn_matrix.specs.Tightest.{IsExact, IsTightest}
+use Rattle.stn_net.specs.{Difference.Difference, Schedule.IsSchedule, Schedule.HasSchedule}
+use Rattle.stn_matrix.specs.{Table.Table, Table.far_of, Tightest.IsExact, Tightest.IsTightest}
 use Rattle.stn_windows.specs.Window.{IsInWindow, IsWindow}
 
 -- a window has one pair of ends, where there is a schedule

@@ -1,9 +1,7 @@
 -- Which event of a plan may run next, and when. A list of tests says which events are done, the origin's first.
 use Rattle.std.specs.Prelude.{◌≡◌, ℕ, ℤ, ◌<◌, ◌≤◌, ◌≤ℤ◌, ◌↔◌, Bool, true, false, List, Option, Some, None, slice_index_or}
-use Rattle.stn_net.specs.Difference.{Difference}
-use Rattle.stn_net.specs.Schedule.{IsSchedule}
-use Rattle.stn_windows.specs.Window.{IsInWindow}
-use Rattle.stn_windows.specs.declared.answers.Next.{Next}
+use Rattle.stn_net.specs.{Difference.Difference, Schedule.IsSchedule}
+use Rattle.stn_windows.specs.{Window.IsInWindow, declared.answers.Next.Next}
 use Rattle.stn_windows.specs.declared.answers.Next.TheVariants.{Run, AllDone, Overdue}
 
 -- the event is left: it is one of the list beside the origin, and is not done

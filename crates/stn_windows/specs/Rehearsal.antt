@@ -1,10 +1,8 @@
 -- The whole rest of a plan, run event by event. A run is the time and the number of an event.
 use Rattle.std.specs.Prelude.{◌≡◌, ℕ, ℤ, true, ◌==◌, ◌≤ℤ◌, Bool, List, [], ◌∷◌, ◌++◌, All, count_by, slice_set}
-use Rattle.stn_net.specs.Difference.{Difference}
-use Rattle.stn_net.specs.Schedule.{IsSchedule}
-use Rattle.stn_windows.specs.Dispatch.{IsLeft, IsNext, IsOverdue, CanWaitUntil}
+use Rattle.stn_net.specs.{Difference.Difference, Schedule.IsSchedule}
+use Rattle.stn_windows.specs.{Dispatch.IsLeft, Dispatch.IsNext, Dispatch.IsOverdue, Dispatch.CanWaitUntil, declared.answers.RehearseFault.RehearseFault}
 use Rattle.stn_windows.specs.declared.answers.Next.TheVariants.{Run, AllDone}
-use Rattle.stn_windows.specs.declared.answers.RehearseFault.{RehearseFault}
 use Rattle.stn_windows.specs.declared.answers.RehearseFault.TheVariants.{Overdue, Memory}
 
 -- the bound that says that the event takes the time

@@ -1,6 +1,5 @@
 use Rattle.std.specs.Prelude.{◌≡◌, ℕ, ℤ, ◌≤ℤ◌, ◌↔◌, List}
-use Rattle.stn_net.specs.Difference.{Difference}
-use Rattle.stn_net.specs.Schedule.{IsSchedule}
+use Rattle.stn_net.specs.{Difference.Difference, Schedule.IsSchedule}
 
 -- the event takes this time in some schedule
 abbrev pub IsInWindow : List Difference → ℕ → ℤ → Type 0

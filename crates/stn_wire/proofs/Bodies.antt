@@ -2,12 +2,10 @@
 use Rattle.std.proofs.Common.{◌≡◌, ℕ, List, [], ◌∷◌, ◌++◌, ◌≤◌, drop, get_or, refl, sym, ap, ◌∙◌, append-nil, arith}
 use Rattle.std.specs.FinMap.{entries, same_entries_map}
 use Rattle.stn_lift.specs.PlanSource.{PlanSource, bare, files}
-use Rattle.stn_records.specs.Id.{SiteCounter}
-use Rattle.stn_records.specs.Content.{Content}
+use Rattle.stn_records.specs.{Id.SiteCounter, Content.Content}
 use Rattle.stn_wire.specs.Spelling.{entry_bytes, IsEntry, entry_width, tomb_bytes, IsTomb, amendment_bytes, amendments_bytes, AreIds, counted, AreCounted, measured}
-use Rattle.stn_wire.specs.Apart.{two_apart, entry_apart, entry_sized, tomb_apart, amendment_apart}
-use Rattle.stn_wire.specs.Frame.{FrameContent, old_hello, old_records, hello, records, ask, text, refused, same, source_bytes, IsSaidSource, state_bytes, IsState, IsOldState, IsSaid, records_kind, kind_of, body_of}
-use Rattle.stn_wire.specs.declared.layout.Layout.{Layout}
+use Rattle.stn_wire.specs.{Apart.two_apart, Apart.entry_apart, Apart.entry_sized, Apart.tomb_apart, Apart.amendment_apart, declared.layout.Layout.Layout}
+use Rattle.stn_wire.specs.Frame.{FrameContent, old_hello, old_records, hello, records, ask, text, refused, same, source_bytes, IsSaidSource, state_bytes, IsState, IsSaid, records_kind, kind_of, body_of}
 use Rattle.stn_wire.specs.declared.layout.Layout.TheVariants.{Old, New}
 use Rattle.stn_wire.proofs.Chunks.{counted_cut, measured_cut}
 

@@ -2,8 +2,7 @@
 use Rattle.std.proofs.Common.{◌≡◌, ℕ, ◌*◌, ◌<◌, ◌≤◌, ◌^◌, List, [], ◌∷◌, ◌++◌, length, take, drop, refl, sym, ap, ◌∙◌, append_assoc, arith, length-append}
 use Rattle.std.proofs.lemmas.List.{take_at}
 use Rattle.std.specs.List.{flat_map, AllByRecursion}
-use Rattle.stn_wire.specs.Spelling.{measured, counted, AreCounted}
-use Rattle.stn_wire.specs.Apart.{two_apart, four_apart, cut}
+use Rattle.stn_wire.specs.{Spelling.measured, Spelling.counted, Spelling.AreCounted, Apart.two_apart, Apart.four_apart, Apart.cut}
 
 -- texts after their lengths with the same bytes are the same
 pub measured_cut : (s t x y : List ℕ) → length s < 2 ^ 32 → length t < 2 ^ 32 → measured s ++ x ≡ measured t ++ y → (s ≡ t) × (x ≡ y)

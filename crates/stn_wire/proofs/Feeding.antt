@@ -2,10 +2,8 @@
 use Rattle.std.proofs.Common.{◌≡◌, ℕ, ◌+◌, ◌-◌, ◌<◌, ◌≤◌, min, List, ◌++◌, length, take, drop, Err, IfSome, refl, sym, ap, subst, ◌∙◌, ⊎_elim, arith, append_assoc, length-append, length-take, length-drop, take-append-drop}
 use Rattle.std.proofs.lemmas.Bool.{cases_lt}
 use Rattle.std.proofs.lemmas.List.{take_at, take_rest, drop_all, append-nil}
-use Rattle.stn_wire.specs.Frame.{FrameContent}
+use Rattle.stn_wire.specs.{Frame.FrameContent, Reading.IsWanted, Reading.IsJudged, Reading.IsFrameTaken, declared.fault.WireFault.WireFault}
 use Rattle.stn_wire.specs.Front.{whole, faulty, unfinished, announced, IsFront, answered}
-use Rattle.stn_wire.specs.Reading.{IsWanted, IsJudged, IsFrameTaken}
-use Rattle.stn_wire.specs.declared.fault.WireFault.{WireFault}
 use Rattle.stn_wire.specs.declared.fault.WireFault.TheVariants.{Length, Kind, Body, OldFrame, Memory}
 use Rattle.stn_wire.proofs.Fronts.{shown, fault_more, whole_more, announced_more}
 

@@ -1,17 +1,13 @@
 -- Bytes have one front, and more bytes don't change a whole frame or a fault.
 use Rattle.std.proofs.Common.{◌≡◌, ℕ, zero, suc, ◌+◌, ◌-◌, ◌<◌, ◌≤◌, List, [], ◌∷◌, ◌++◌, length, take, drop, get_or, ◌^◌, ◌⊎◌, inl, inr, refl, sym, ap, subst, ◌∙◌, ⊎_elim, arith, length-append, length-take, length-drop, take-append-drop}
 use Rattle.std.proofs.lemmas.List.{take_at, drop_at, take-append-le, drop-append-le, get_or_append_left, get_or-take, get_or_past, take-take, drop-take}
-use Rattle.std.proofs.lemmas.Nat.{from_be_bytes-to_be_bytes_4, be_bytes_4}
-use Rattle.std.specs.FinMap.{entries}
-use Rattle.std.specs.List.{AllByRecursion}
+use Rattle.std.proofs.{lemmas.Nat.from_be_bytes-to_be_bytes_4, lemmas.Nat.be_bytes_4, lemmas.Bool.cases_lt, lemmas.Bool.cases_eq}
+use Rattle.std.specs.{FinMap.entries, List.AllByRecursion}
 use Rattle.stn_records.specs.Id.{SiteCounter}
-use Rattle.stn_wire.specs.Spelling.{four}
+use Rattle.stn_wire.specs.{Spelling.four, declared.fault.WireFault.WireFault, Reading.IsWanted}
 use Rattle.stn_wire.specs.Frame.{FrameContent, old_hello, old_records, hello, records, ask, text, refused, same, records_kind, kind_of, body_of, spelling, IsFrame, IsSaid, most_body}
 use Rattle.stn_wire.specs.Front.{Front, whole, faulty, unfinished, announced, IsLength, IsKind, IsFront, BeginsFrame}
-use Rattle.stn_wire.specs.declared.fault.WireFault.{WireFault}
 use Rattle.stn_wire.specs.declared.fault.WireFault.TheVariants.{Length, Kind, Body, OldFrame, Memory}
-use Rattle.std.proofs.lemmas.Bool.{cases_lt, cases_eq}
-use Rattle.stn_wire.specs.Reading.{IsWanted}
 use Rattle.stn_wire.proofs.Bodies.{body_apart}
 
 -- the first four bytes alone say what is announced

@@ -3,12 +3,10 @@ use Rattle.std.proofs.Common.{◌≡◌, ◌⊎◌, ℤ, ◌≤ℤ◌, ◌++◌,
 use Rattle.std.specs.Prelude.{neg_ℤ, int_le}
 use Rattle.std.proofs.lemmas.Int.{ints}
 use Rattle.stn_time.specs.Time.{horizon}
-use Rattle.stn_records.specs.declared.record.Mark.{Mark}
+use Rattle.stn_records.specs.{declared.record.Mark.Mark, declared.record.Record.Record}
 use Rattle.stn_records.specs.declared.record.Mark.TheVariants.{Plain, Done}
-use Rattle.stn_records.specs.declared.record.Record.{Record}
-use Rattle.stn_wire.specs.declared.layout.Layout.TheVariants.{Old}
+use Rattle.stn_wire.specs.{declared.layout.Layout.TheVariants.Old, Apart.gap_within}
 use Rattle.stn_wire.specs.Spelling.{two, four, old_horizon, side_bytes, IsLow, IsHigh, IsRecord, record_bytes, mark_byte}
-use Rattle.stn_wire.specs.Apart.{gap_within}
 use Rattle.stn_wire.specs.OldSides.{IsWritten, written_side, written_bytes, low_read, high_read, as_read}
 
 -- the side lies within the old horizon

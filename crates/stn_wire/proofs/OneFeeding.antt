@@ -1,17 +1,10 @@
 -- What a feeder gives for some bytes, however they are cut.
 use Rattle.std.proofs.Common.{◌≡◌, ℕ, List, [], ◌∷◌, ◌++◌, length, take, Option, Some, None, Result, Ok, Err, ◌⊎◌, inl, inr, refl, sym, ap, subst, ◌∙◌, ⊎_elim, arith, append_assoc, append-nil}
-use Rattle.std.specs.Prelude.{flat_map}
-use Rattle.std.specs.List.{AllByRecursion}
-use Rattle.std.proofs.lemmas.List.{take_all}
-use Rattle.std.proofs.Math.Seq.{take-append-add}
-use Rattle.stn_wire.specs.Frame.{FrameContent, content, spelling, IsFrame}
-use Rattle.stn_wire.specs.Front.{whole, faulty, unfinished, IsFront}
-use Rattle.stn_wire.specs.Feeder.{FeederState, holding, broken_by, IsTaken, IsFed}
+use Rattle.std.specs.{Prelude.flat_map, List.AllByRecursion}
+use Rattle.std.proofs.{lemmas.List.take_all, Math.Seq.take-append-add}
+use Rattle.stn_wire.specs.{Frame.FrameContent, Frame.content, Frame.spelling, Frame.IsFrame, Front.whole, Front.faulty, Front.unfinished, Front.IsFront, Feeder.FeederState, Feeder.holding, Feeder.broken_by, Feeder.IsTaken, Feeder.IsFed, declared.fault.WireFault.WireFault, declared.feeder.Fed.Fed, declared.frame.Frame.Frame}
 use Rattle.stn_wire.specs.Feeding.{Call, Feeds, bytes_by, frame_by, frames_by, stream_of, frames_of}
-use Rattle.stn_wire.specs.declared.fault.WireFault.{WireFault}
 use Rattle.stn_wire.specs.declared.fault.WireFault.TheVariants.{Length, Kind, Body, OldFrame, Memory}
-use Rattle.stn_wire.specs.declared.feeder.Fed.{Fed}
-use Rattle.stn_wire.specs.declared.frame.Frame.{Frame}
 use Rattle.stn_wire.proofs.Fronts.{one_front_lem, one_spelling_lem, whole_spelled, fault_more}
 
 -- a feeder that was given these bytes after its last whole frame

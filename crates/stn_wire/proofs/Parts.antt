@@ -1,28 +1,17 @@
 -- Fields that are read and written one after the other.
-use Rattle.std.proofs.Common.{◌≡◌, ℕ, ℤ, ◌+◌, ◌≤◌, List, ◌++◌, length, take, drop, Option, Some, None, Result, Ok, Err, OnOk, IfOk, IfErr, sym, ap, subst, ◌∙◌, ⊎_elim, append_assoc, arith, length-drop, take-append-drop}
-use Rattle.std.proofs.lemmas.List.{take_all}
-use Rattle.std.proofs.lemmas.Int.{ints}
+use Rattle.std.proofs.Common.{◌≡◌, ℕ, ℤ, ◌+◌, ◌≤◌, List, ◌++◌, take, drop, Option, Some, None, Result, Ok, Err, OnOk, IfOk, IfErr, sym, ap, subst, ◌∙◌, ⊎_elim, append_assoc, arith, take-append-drop}
+use Rattle.std.proofs.{lemmas.Int.ints}
 use Rattle.std.specs.Result.{result_ok}
-use Rattle.stn_net.specs.Event.{most_events}
-use Rattle.stn_net.specs.Difference.{Difference, IsBoundWithin, IsFaultOf}
-use Rattle.stn_net.specs.declared.bound.BoundFault.{BoundFault}
+use Rattle.stn_net.specs.{Event.most_events, Difference.Difference, Difference.IsBoundWithin, Difference.IsFaultOf, declared.bound.BoundFault.BoundFault}
 use Rattle.stn_net.specs.declared.bound.BoundFault.TheVariants.{NoEvent, SameEvent, Crossed}
 use Rattle.stn_records.specs.declared.record.Mark.{Mark}
-use Rattle.stn_wire.specs.declared.layout.Layout.{Layout}
+use Rattle.stn_wire.specs.{declared.layout.Layout.Layout, Apart.IsSpelledBound, Apart.spelled_bound, Apart.fields_apart, Reading.IsReading}
 use Rattle.stn_wire.specs.Spelling.{two, side_bytes, IsLow, IsHigh, bound_bytes, IsBound}
-use Rattle.stn_wire.specs.Apart.{IsSpelledBound, spelled_bound, fields_apart}
-use Rattle.stn_wire.specs.Reading.{IsReading}
 
 -- what is appended after a first part
 pub append_then : {T E : Type 0} (r : Result T E) (old mid new a b : List ℕ) → mid ≡ old ++ a → OnOk r (new ≡ mid ++ b) → OnOk r (new ≡ old ++ (a ++ b))
 append_then (Ok x) old mid new a b first second = second ∙ ap (λ l. l ++ b) first ∙ append_assoc old a b
 append_then (Err e) old mid new a b first second = tt
-
--- a text in two parts
-pub in_two : (n m : ℕ) (bytes : List ℕ) → length bytes ≡ n + m → bytes ≡ take n bytes ++ take m (drop n bytes)
-in_two n m bytes long =
-    let last : take m (drop n bytes) ≡ drop n bytes = take_all m (drop n bytes) (omega (arith, length-drop n bytes)) in
-    sym (take-append-drop n bytes) ∙ ap (λ l. take n bytes ++ l) (sym last)
 
 -- a text that is split
 pub split : (n : ℕ) (bytes front back : List ℕ) → front ≡ take n bytes → back ≡ drop n bytes → bytes ≡ front ++ back

@@ -1,9 +1,7 @@
 -- Reading the two texts of a source.
 use Rattle.std.proofs.Common.{◌≡◌, ◌≢◌, ℕ, ◌<◌, ◌^◌, List, [], ◌∷◌, length, drop, get_or, Option, None, Some, sym, ap, ◌∙◌, arith, append-nil}
 use Rattle.stn_lift.specs.PlanSource.{PlanSource, bare, files}
-use Rattle.stn_wire.specs.Spelling.{measured}
-use Rattle.stn_wire.specs.Frame.{source_bytes, IsSaidSource}
-use Rattle.stn_wire.specs.Reading.{IsReading, measured_then}
+use Rattle.stn_wire.specs.{Spelling.measured, Frame.source_bytes, Frame.IsSaidSource, Reading.IsReading, Reading.measured_then}
 use Rattle.stn_wire.proofs.Chunks.{measured_cut}
 
 -- what is read as a text after its length

@@ -1,18 +1,12 @@
 -- The bytes of a state.
-use Rattle.std.proofs.Common.{◌≡◌, ◌≢◌, ◌==◌, ℕ, ◌+◌, ◌*◌, ◌≤◌, Bool, true, false, List, [], ◌∷◌, ◌++◌, length, Option, Some, None, Result, Ok, Err, IfSome, IfOk, drop, get_or, refl, sym, ap, subst, ◌∙◌, arith, append-nil, length-append}
-use Rattle.std.specs.Prelude.{if◌then◌else◌}
-use Rattle.std.specs.FinMap.{entries}
-use Rattle.std.specs.List.{flat_map}
-use Rattle.stn_records.specs.Id.{SiteCounter}
-use Rattle.stn_records.specs.declared.record.Record.{Record}
-use Rattle.stn_records.specs.Content.{Content, IsSound}
+use Rattle.std.proofs.Common.{◌≡◌, ◌≢◌, ◌==◌, ℕ, ◌+◌, ◌*◌, ◌≤◌, Bool, true, false, List, [], ◌∷◌, ◌++◌, length, Option, Some, None, Result, Ok, Err, IfSome, IfOk, refl, sym, ap, subst, ◌∙◌, arith, append-nil, length-append}
+use Rattle.std.specs.{FinMap.entries, List.flat_map}
+use Rattle.stn_records.specs.{Id.SiteCounter, declared.record.Record.Record, Content.Content, Content.IsSound}
 use Rattle.stn_records.proofs.Limits.{additions_within, tombstones_within, replacements_within}
 use Rattle.stn_wire.specs.Spelling.{entry_bytes, IsEntry, entry_width, tomb_bytes, IsTomb, amendment_bytes, amendments_bytes, AreIds, counted, AreCounted}
-use Rattle.stn_wire.specs.Apart.{entry_apart, entry_sized, tomb_apart, amendment_apart}
-use Rattle.stn_wire.specs.Frame.{FrameContent, old_hello, old_records, hello, records, ask, text, refused, same, records_kind, body_of, state_bytes, most_body, IsState, IsSaid}
+use Rattle.stn_wire.specs.{Apart.entry_apart, Apart.entry_sized, Apart.tomb_apart, Apart.amendment_apart, declared.layout.Layout.Layout, declared.layout.Layout.TheVariants.New}
+use Rattle.stn_wire.specs.Frame.{records, body_of, state_bytes, most_body}
 use Rattle.stn_wire.specs.Reading.{IsReading, AreEntries, IsStateWith, counted_then, entries_then}
-use Rattle.stn_wire.specs.declared.layout.Layout.{Layout}
-use Rattle.stn_wire.specs.declared.layout.Layout.TheVariants.{New}
 use Rattle.stn_wire.proofs.Chunks.{length-flat_map, counted_cut}
 
 -- an entry of an amendment
@@ -70,33 +64,6 @@ entries_cut false (l ∷ ls) m x y p q e = absurd cc
 entries_cut true [] m x y p q e = absurd (p.0 refl)
 entries_cut true (l ∷ ls) [] x y p q e = absurd (q.0 refl)
 entries_cut true (l ∷ ls) (m ∷ ms) x y p q e = counted_cut AreIds amendment_bytes 8 (λ _. refl) amendment_apart (l ∷ ls) (m ∷ ms) x y p.1 q.1 e
-
--- ---- the kind of records
-
-pub kind_of_entries : (amended : Bool) (l : List Entry) → AreEntries amended l → (if amended then 16 else 8) ≡ records_kind l
-kind_of_entries true [] are = absurd (are.0 refl)
-kind_of_entries true (l ∷ ls) are = refl
-kind_of_entries false [] are = refl
-kind_of_entries false (l ∷ ls) are = absurd cc
-
-entries_of_kind : (amended : Bool) (l : List Entry) → AreCounted AreIds l → (if amended then 16 else 8) ≡ records_kind l → AreEntries amended l
-entries_of_kind true [] are e = absurd (omega (arith, e))
-entries_of_kind true (l ∷ ls) are e = (λ none. absurd cc, are)
-entries_of_kind false [] are e = refl
-entries_of_kind false (l ∷ ls) are e = absurd (omega (arith, e))
-
-kind_small : (amended : Bool) → 8 ≤ (if amended then 16 else 8)
-kind_small true = omega arith
-kind_small false = omega arith
-
-pub records_read : (amended : Bool) (rest : List ℕ) (s : Content) → IsStateWith New amended s → rest ≡ state_bytes New s → ((if amended then 16 else 8) ∷ rest) ≡ body_of (records s)
-records_read amended rest s said is = λ i. kind_of_entries amended (entries s.replacements) said.entries i ∷ is i
-
-pub records_unread : (amended : Bool) (rest : List ℕ) → ((s : Content) → IsStateWith New amended s → rest ≢ state_bytes New s) → (f : FrameContent) → IsSaid f
-    → ((if amended then 16 else 8) ∷ rest) ≢ body_of f
-records_unread amended rest none (records s) said e =
-    none s (record { said = said; entries = entries_of_kind amended (entries s.replacements) said.replacements (ap (λ l. get_or l 0 0) e) }) (ap (drop 1) e)
-records_unread amended rest none f said e = let kind = ap (λ l. get_or l 0 0) e in absurd (omega (arith, kind, kind_small amended))
 
 -- ---- reading a state: its additions, its tombstones, its entries, and nothing after them
 

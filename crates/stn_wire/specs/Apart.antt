@@ -3,14 +3,11 @@
 use Rattle.std.specs.Prelude.{◌≡◌, ◌≤◌, ℕ, ℤ, pos, neg_ℤ, ◌<ℤ◌, ◌≤ℤ◌, ◌<◌, ◌^◌, min, List, [], ◌∷◌, ◌++◌, length}
 use Rattle.std.proofs.Common.{negsuc, refl, ap, sym, subst, ◌∙◌, ⊎_elim, take, drop, get_or, arith}
 use Rattle.std.specs.Int.{w16, w32, w64, to_be_bytes, from_be_bytes}
-use Rattle.std.proofs.lemmas.Int.{ints}
-use Rattle.std.proofs.lemmas.Nat.{from_be_bytes-to_be_bytes_2, from_be_bytes-to_be_bytes_4, from_be_bytes-to_be_bytes_8}
+use Rattle.std.proofs.{lemmas.Int.ints, lemmas.Nat.from_be_bytes-to_be_bytes_2, lemmas.Nat.from_be_bytes-to_be_bytes_4, lemmas.Nat.from_be_bytes-to_be_bytes_8}
 use Rattle.stn_time.specs.Time.{horizon}
 use Rattle.stn_net.specs.Difference.{Difference}
-use Rattle.stn_records.specs.Id.{SiteCounter, IsId}
-use Rattle.stn_records.specs.declared.record.Mark.{Mark}
+use Rattle.stn_records.specs.{Id.SiteCounter, Id.IsId, declared.record.Mark.Mark, declared.record.Record.Record}
 use Rattle.stn_records.specs.declared.record.Mark.TheVariants.{Plain, Done}
-use Rattle.stn_records.specs.declared.record.Record.{Record}
 use Rattle.stn_wire.specs.declared.layout.Layout.{Layout}
 use Rattle.stn_wire.specs.declared.layout.Layout.TheVariants.{Old, New}
 use Rattle.stn_wire.specs.Spelling.{two, four, id_bytes, furthest, width_of, side_width, gap_of, most_gap, side_bytes, IsLow, IsHigh, bound_bytes, IsBound, mark_byte, record_bytes, IsRecord, entry_bytes, IsEntry, entry_width, tomb_bytes, IsTomb, amendment_bytes, AreIds}

@@ -1,11 +1,7 @@
 -- A stream of frames that comes in pieces.
 use Rattle.std.specs.Prelude.{◌≡◌, ◌≢◌, ℕ, ◌+◌, ◌≤◌, List, [], ◌++◌, length, Option, Some, None, Result, Ok, Err}
-use Rattle.stn_wire.specs.Frame.{content}
-use Rattle.stn_wire.specs.Front.{whole, faulty, unfinished, announced, IsFront}
-use Rattle.stn_wire.specs.declared.fault.WireFault.{WireFault}
+use Rattle.stn_wire.specs.{Frame.content, Front.whole, Front.faulty, Front.unfinished, Front.announced, Front.IsFront, declared.fault.WireFault.WireFault, declared.feeder.Fed.Fed, declared.frame.Frame.Frame}
 use Rattle.stn_wire.specs.declared.fault.WireFault.TheVariants.{Length, Kind, Body, OldFrame, Memory}
-use Rattle.stn_wire.specs.declared.feeder.Fed.{Fed}
-use Rattle.stn_wire.specs.declared.frame.Frame.{Frame}
 
 -- the bytes of an unfinished frame, or the fault that was met
 pub record FeederState : Type 0 where

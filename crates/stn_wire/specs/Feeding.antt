@@ -1,11 +1,6 @@
 -- Calls of a feeder, one after the other.
 use Rattle.std.specs.Prelude.{◌≡◌, ℕ, List, [], ◌∷◌, take, flat_map, Option, Some, None, Result, Ok, Err}
-use Rattle.stn_wire.specs.Frame.{FrameContent, content}
-use Rattle.stn_wire.specs.Feeder.{FeederState, IsFed}
-use Rattle.stn_wire.specs.declared.fault.WireFault.{WireFault}
-use Rattle.stn_wire.specs.declared.fault.WireFault.TheVariants.{Memory}
-use Rattle.stn_wire.specs.declared.feeder.Fed.{Fed}
-use Rattle.stn_wire.specs.declared.frame.Frame.{Frame}
+use Rattle.stn_wire.specs.{Frame.FrameContent, Frame.content, Feeder.FeederState, Feeder.IsFed, declared.fault.WireFault.WireFault, declared.fault.WireFault.TheVariants.Memory, declared.feeder.Fed.Fed, declared.frame.Frame.Frame}
 
 -- a call: the piece that was fed, and the answer
 pub record Call (A : Type 0) : Type 0 where

@@ -2,14 +2,11 @@
 use Rattle.std.specs.Prelude.{◌≡◌, ℕ, ◌<◌, ◌≤◌, ◌^◌, List, [], ◌∷◌, ◌++◌, length, ⊤}
 use Rattle.std.specs.FinMap.{entries}
 use Rattle.stn_lift.specs.PlanSource.{PlanSource, bare, files, plan_source}
-use Rattle.stn_records.specs.Id.{SiteCounter}
-use Rattle.stn_records.specs.Content.{Content, IsSound}
+use Rattle.stn_records.specs.{Id.SiteCounter, Content.Content, Content.IsSound}
 use Rattle.stn_wire.specs.Spelling.{two, measured, counted, AreCounted, entry_bytes, IsEntry, tomb_bytes, IsTomb, amendments_bytes, AreIds}
-use Rattle.stn_wire.specs.declared.layout.Layout.{Layout}
+use Rattle.stn_wire.specs.{declared.layout.Layout.Layout, declared.frame.Frame.Frame, declared.frame.Said.Said}
 use Rattle.stn_wire.specs.declared.layout.Layout.TheVariants.{Old, New}
-use Rattle.stn_wire.specs.declared.frame.Frame.{Frame}
 use Rattle.stn_wire.specs.declared.frame.Frame.TheVariants.{OldHello, OldRecords, Hello, Records, Ask, Text, Refused, Same}
-use Rattle.stn_wire.specs.declared.frame.Said.{Said}
 use Rattle.stn_wire.specs.declared.frame.Said.TheVariants as said
 
 -- the most bytes that a body has

@@ -2,9 +2,8 @@
 use Rattle.std.specs.Prelude.{◌≡◌, ◌≢◌, ℕ, ◌+◌, ◌<◌, ◌≤◌, ◌⊎◌, List, length, take, drop, slice_index, Option, Some, None, Result, Ok, Err}
 use Rattle.std.specs.Int.{w32, from_be_bytes}
 use Rattle.stn_wire.specs.Frame.{FrameContent, content, body_of, spelling, IsFrame, most_body}
-use Rattle.stn_wire.specs.declared.fault.WireFault.{WireFault}
+use Rattle.stn_wire.specs.{declared.fault.WireFault.WireFault, declared.frame.Frame.Frame}
 use Rattle.stn_wire.specs.declared.fault.WireFault.TheVariants.{Length, Kind, Body, OldFrame, Memory}
-use Rattle.stn_wire.specs.declared.frame.Frame.{Frame}
 
 -- the number that the first four bytes spell
 abbrev pub announced : List ℕ → ℕ

@@ -1,17 +1,10 @@
 -- For proofs alone: no public clause cites these words.
 -- What a reader answers: the value that the bytes spell, or that they spell none.
 use Rattle.std.specs.Prelude.{◌≡◌, ◌≢◌, ℕ, ◌+◌, ◌<◌, ◌≤◌, Bool, true, false, List, [], ◌++◌, take, length, slice_index, Option, Some, None, Result, Ok, Err}
-use Rattle.std.specs.List.{flat_map, AllByRecursion}
-use Rattle.std.specs.FinMap.{entries}
-use Rattle.stn_records.specs.Id.{SiteCounter}
-use Rattle.stn_records.specs.Content.{Content}
-use Rattle.stn_wire.specs.declared.layout.Layout.{Layout}
+use Rattle.std.specs.{List.flat_map, List.AllByRecursion, FinMap.entries}
+use Rattle.stn_records.specs.{Id.SiteCounter, Content.Content}
+use Rattle.stn_wire.specs.{declared.layout.Layout.Layout, Frame.FrameContent, Frame.IsState, Frame.IsSaid, Frame.body_of, Front.announced, Front.IsLength, Front.IsKind, Front.IsFront, Front.faulty, Feeder.holding, Feeder.IsTaken, declared.fault.WireFault.WireFault, declared.feeder.Fed.Fed}
 use Rattle.stn_wire.specs.Spelling.{measured, counted, AreCounted, AreIds, amendments_bytes}
-use Rattle.stn_wire.specs.Frame.{FrameContent, IsState, IsSaid, body_of}
-use Rattle.stn_wire.specs.Front.{announced, IsLength, IsKind, IsFront, faulty}
-use Rattle.stn_wire.specs.Feeder.{holding, IsTaken}
-use Rattle.stn_wire.specs.declared.fault.WireFault.{WireFault}
-use Rattle.stn_wire.specs.declared.feeder.Fed.{Fed}
 use Rattle.stn_wire.specs.declared.fault.WireFault.TheVariants.{Length, Kind, Body, OldFrame, Memory}
 
 -- the bytes spell the value that was read; where none was read, they spell none

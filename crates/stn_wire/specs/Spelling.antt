@@ -1,14 +1,10 @@
 -- How a value is spelled in bytes. All numbers are unsigned, and their highest byte comes first.
 use Rattle.std.specs.Prelude.{◌≡◌, ◌⊎◌, ℕ, ℤ, pos, neg_ℤ, ◌<ℤ◌, ◌≤ℤ◌, ◌+◌, ◌*◌, ◌<◌, ◌^◌, min, List, [], ◌∷◌, ◌++◌, length}
-use Rattle.std.specs.Int.{Width, w16, w32, w64, to_be_bytes, int_gap}
-use Rattle.std.specs.List.{flat_map, AllByRecursion}
+use Rattle.std.specs.{Int.Width, Int.w16, Int.w32, Int.w64, Int.to_be_bytes, Int.int_gap, List.flat_map, List.AllByRecursion}
 use Rattle.stn_time.specs.Time.{horizon}
-use Rattle.stn_net.specs.Event.{most_events}
-use Rattle.stn_net.specs.Difference.{Difference, IsBoundWithin}
-use Rattle.stn_records.specs.Id.{SiteCounter, IsId}
-use Rattle.stn_records.specs.declared.record.Mark.{Mark}
+use Rattle.stn_net.specs.{Event.most_events, Difference.Difference, Difference.IsBoundWithin}
+use Rattle.stn_records.specs.{Id.SiteCounter, Id.IsId, declared.record.Mark.Mark, declared.record.Record.Record}
 use Rattle.stn_records.specs.declared.record.Mark.TheVariants.{Plain, Done}
-use Rattle.stn_records.specs.declared.record.Record.{Record}
 use Rattle.stn_wire.specs.declared.layout.Layout.{Layout}
 use Rattle.stn_wire.specs.declared.layout.Layout.TheVariants.{Old, New}
 

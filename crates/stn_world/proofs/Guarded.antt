@@ -1,37 +1,23 @@
 -- Sites that keep to what is their own keep a schedule of all that they hold.
 use Rattle.std.proofs.Common.{◌≡◌, inl, inr, ⊎_elim, ℕ, ℤ, ◌+◌, ◌-◌, ◌<◌, ◌≤◌, Bool, true, false, cond, not, ◌&&◌, ◌||◌, eqb, is_some, List, [], ◌∷◌, ◌++◌, length, get_or, refl, sym, subst, ◌∙◌, arith}
-use Rattle.std.specs.Prelude.{All, filter, flat_map}
-use Rattle.std.specs.List.{range_with_len}
-use Rattle.std.proofs.lemmas.Bool.{false≢true, and_parts}
-use Rattle.std.proofs.lemmas.Bool.Decides.{nat_tests}
-use Rattle.std.proofs.lemmas.List.{length-set}
+use Rattle.std.specs.{Prelude.All, Prelude.filter, Prelude.flat_map, List.range_with_len}
+use Rattle.std.proofs.{lemmas.Bool.false≢true, lemmas.Bool.and_parts, lemmas.Bool.Decides.nat_tests, lemmas.List.length-set, lemmas.List.FromFn.length-range_with_len, lemmas.List.FromFn.get_or-range_with_len}
 use Rattle.std.proofs.lemmas.List.Elements.{All-nil, All-append, All-filter, All-head, All-tail}
-use Rattle.std.proofs.lemmas.List.FromFn.{length-range_with_len, get_or-range_with_len}
-use Rattle.stn_net.specs.Difference.{Difference}
-use Rattle.stn_net.specs.Schedule.{HasSchedule, Meets}
+use Rattle.stn_net.specs.{Difference.Difference, Schedule.HasSchedule, Schedule.Meets}
 use Rattle.stn_windows.specs.Rehearsal.{fixed_at}
 use Rattle.stn_lift.specs.PlanSource.{base_bounds}
-use Rattle.stn_records.specs.Id.{SiteCounter}
-use Rattle.stn_records.specs.declared.record.Record.{Record}
+use Rattle.stn_records.specs.{Id.SiteCounter, declared.record.Record.Record, ContentLaws.contents_join}
 use Rattle.stn_records.specs.Content.{Content, Item, addition, withdrawal, replacement, HasItem, IsPart, is_replaced, is_live, plain, with_record, joined_contents}
-use Rattle.stn_records.specs.ContentLaws.{contents_join}
-use Rattle.stn_records.proofs.Counters.{next_is_new}
-use Rattle.stn_records.proofs.Replaced.{replaced_cases, replaced_by_withdrawal, replaced_by_entry, replaced_fewer}
-use Rattle.stn_site.specs.Bounds.{live_bounds, all_bounds}
-use Rattle.stn_site.specs.Held.{executed}
+use Rattle.stn_records.proofs.{Counters.next_is_new, Replaced.replaced_cases, Replaced.replaced_by_withdrawal, Replaced.replaced_by_entry, Replaced.replaced_fewer}
+use Rattle.stn_site.specs.{Bounds.live_bounds, Bounds.all_bounds, Held.executed}
 use Rattle.stn_site.proofs.Items.{addition_items}
 use Rattle.stn_replica.proofs.Live.{live_from_bounds, bounds_from_live}
 use Rattle.stn_guard.specs.Owners.{is_own, own_bounds}
-use Rattle.stn_guard.proofs.Owned.{all_front, all_behind, all_passing, all_filtered, all_of_pieces}
-use Rattle.stn_guard.proofs.Gluing.{glue}
+use Rattle.stn_guard.proofs.{Owned.all_front, Owned.all_behind, Owned.all_passing, Owned.all_filtered, Owned.all_of_pieces, Gluing.glue}
 use Rattle.stn_world.specs.World.{World, HasSite, has_site, content_at, packet_at, next_id_at, with_content, make, send}
 use Rattle.stn_world.specs.Steps.{Step, added, finished, amended, withdrew, merged, sent, delivered, IsAccepted, after, stepped, run}
-use Rattle.stn_world.specs.Whole.{IsCoherent}
-use Rattle.stn_world.specs.Guarded.{IsOwnItem, IsBesideOwn, HoldsGuarded, KeepsToOwn}
-use Rattle.stn_world.proofs.Accepted.{site_decides, accepted_addition, accepted_execution, accepted_sending}
-use Rattle.stn_world.proofs.Parts.{sent_inside}
-use Rattle.stn_world.proofs.Runs.{for_step, coherent_stepped}
-use Rattle.stn_world.proofs.Whole.{each_site, each_packet, kept, sites_join, packet_joins}
+use Rattle.stn_world.specs.{Whole.IsCoherent, Guarded.IsOwnItem, Guarded.IsBesideOwn, Guarded.HoldsGuarded, Guarded.KeepsToOwn}
+use Rattle.stn_world.proofs.{Accepted.site_decides, Accepted.accepted_addition, Accepted.accepted_execution, Accepted.accepted_sending, Parts.sent_inside, Runs.for_step, Runs.coherent_stepped, Whole.each_site, Whole.each_packet, Whole.kept, Whole.sites_join, Whole.packet_joins}
 
 or_right : (a b : Bool) → b ≡ true → (a || b) ≡ true
 or_right true b e = refl

@@ -1,16 +1,11 @@
 -- What a merge and a delivery can be refused for.
 use Rattle.std.proofs.Common.{◌≡◌, ℕ, Bool, true, false, ltb, ap, sym, subst, ◌∙◌}
-use Rattle.std.specs.Prelude.{unwrap_or}
-use Rattle.std.specs.Bool.{then_some}
+use Rattle.std.specs.{Prelude.unwrap_or, Bool.then_some}
 use Rattle.stn_records.specs.Content.{most_known, known_in_either}
-use Rattle.stn_site.specs.declared.faults.ReplicaFault.{ReplicaFault}
+use Rattle.stn_site.specs.{declared.faults.ReplicaFault.ReplicaFault, Refusals.take_refusal}
 use Rattle.stn_site.specs.declared.faults.ReplicaFault.TheVariants as replica_fault
-use Rattle.stn_site.specs.Refusals.{take_refusal}
 use Rattle.stn_site.proofs.Refused.{agreed_take}
-use Rattle.stn_world.specs.Faults.{of_replica_fault}
-use Rattle.stn_world.specs.World.{World, held_at, content_at, packet_at}
-use Rattle.stn_world.specs.Steps.{IsMergeFault, IsDeliveryFault}
-use Rattle.stn_world.specs.Whole.{IsCoherent}
+use Rattle.stn_world.specs.{Faults.of_replica_fault, World.World, World.held_at, World.content_at, World.packet_at, Steps.IsMergeFault, Steps.IsDeliveryFault, Whole.IsCoherent}
 use Rattle.stn_world.proofs.Whole.{sites_agree, site_named, packet_agrees, packet_named}
 
 full_or_memory : (full : Bool) → IsMergeFault (of_replica_fault (unwrap_or (then_some full replica_fault.Full) replica_fault.Memory))

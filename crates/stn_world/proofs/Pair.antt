@@ -3,12 +3,8 @@ use Rattle.std.proofs.Common.{◌≡◌, ◌≢◌, ℕ, zero, suc, ◌-◌, ◌
 use Rattle.std.proofs.lemmas.List.{length-set, set-get_or, get_or-set_same, get_or_append_left, get_or_default}
 use Rattle.stn_lift.specs.PlanSource.{PlanSource}
 use Rattle.stn_records.specs.Content.{Content, IsPart, no_content, joined_contents}
-use Rattle.stn_site.specs.Held.{Held}
-use Rattle.stn_site.specs.Calls.{took, Leaves}
-use Rattle.stn_site.specs.Refusals.{take_refusal}
-use Rattle.stn_world.specs.World.{World, HasSite, content_at, with_content, merge}
-use Rattle.stn_world.specs.Sites.{world_of}
-use Rattle.stn_world.specs.Whole.{IsSites, held_in, IsCoherent, IsSoundWorld}
+use Rattle.stn_site.specs.{Held.Held, Calls.took, Calls.Leaves, Refusals.take_refusal}
+use Rattle.stn_world.specs.{World.World, World.HasSite, World.content_at, World.with_content, World.merge, Sites.world_of, Whole.IsSites, Whole.held_in, Whole.IsCoherent, Whole.IsSoundWorld}
 use Rattle.stn_world.proofs.Sites.{IsHeldAt, held_at_place, world_set, sites_set, join_is_joined, joined_itself}
 
 set_front : {X : Type 0} (front back : List X) (i : ℕ) (x : X) → i < length front → set front i x ++ back ≡ set (front ++ back) i x

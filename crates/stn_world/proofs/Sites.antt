@@ -1,24 +1,18 @@
 -- The replicas of a world, as they are made and as one of them changes.
 use Rattle.std.proofs.Common.{◌≡◌, true, false, ltb, not, is_some, Some, None, Option, ℕ, zero, suc, ◌+◌, ◌-◌, ◌<◌, ◌≤◌, List, [], ◌∷◌, ◌++◌, length, map, replicate, set, get_or, refl, ap, sym, ◌∙◌, arith, subst}
-use Rattle.std.proofs.lemmas.Bool.{false≢true}
+use Rattle.std.proofs.{lemmas.Bool.false≢true, lemmas.List.FromFn.get_or-range_with_len, Math.Seq.map-set_same}
 use Rattle.std.proofs.lemmas.List.{get_or_default, map-append, map-set, set-get_or, length-set, length-append, get_or-map, length-map}
-use Rattle.std.proofs.lemmas.List.FromFn.{get_or-range_with_len}
-use Rattle.std.proofs.Math.Seq.{map-set_same}
 use Rattle.std.specs.List.{range_with_len}
 use Rattle.stn_lift.specs.PlanSource.{PlanSource}
 use Rattle.stn_records.specs.Content.{Content, IsPart, no_content, with_record, with_amendment, with_tombstone, dispute_contents, join_contents, joined_contents}
-use Rattle.stn_records.specs.ContentLaws.{contents_dispute, contents_undisputed, contents_repeat}
+use Rattle.stn_records.specs.{ContentLaws.contents_dispute, ContentLaws.contents_undisputed, ContentLaws.contents_repeat, Id.SiteCounter, declared.record.Record.Record, Id.most_sites}
 use Rattle.stn_site.specs.Held.{Held, next_id}
 use Rattle.stn_net.specs.Difference.{Difference}
-use Rattle.stn_records.specs.Id.{SiteCounter}
-use Rattle.stn_records.specs.declared.record.Record.{Record}
 use Rattle.stn_site.specs.Refusals.{add_refusal, done_refusal, amend_refusal, withdraw_refusal, take_refusal}
 use Rattle.stn_world.specs.World.{World, most_packets, HasSite, HasPacket, content_at, packet_at, held_at, next_id_at, with_content, make, amend, withdraw, send, deliver}
 use Rattle.stn_site.specs.Calls.{Accepted, added, amended, withdrew, took, Leaves}
-use Rattle.stn_world.specs.Whole.{IsSites, IsCoherent, IsSoundWorld}
-use Rattle.stn_records.specs.Id.{most_sites}
+use Rattle.stn_world.specs.{Whole.IsSites, Whole.IsCoherent, Whole.IsSoundWorld, Sites.contents_of, Sites.world_of}
 use Rattle.stn_world.proofs.Whole.{coherent_at_first}
-use Rattle.stn_world.specs.Sites.{contents_of, world_of}
 
 -- one number more
 pub range_more : (a n : ℕ) → range_with_len a (suc n) ≡ range_with_len a n ++ (a + n) ∷ []

@@ -1,19 +1,14 @@
 -- The sites of a world stay parts of a whole.
 use Rattle.std.proofs.Common.{◌≡◌, ◌≢◌, ◌↔◌, ◌⊎◌, inl, inr, ⊎_elim, ℕ, zero, suc, ◌-◌, Bool, true, false, not, ◌||◌, is_some, Option, Some, None, List, [], ◌∷◌, ◌++◌, set, get_or, replicate, refl, ap, sym, subst, ◌∙◌, arith}
-use Rattle.std.proofs.lemmas.Bool.{false≢true, or_cases}
-use Rattle.std.proofs.lemmas.List.{get_or-set_same}
+use Rattle.std.proofs.{lemmas.Bool.false≢true, lemmas.Bool.or_cases, lemmas.List.get_or-set_same}
 use Rattle.std.specs.FinMap as fin
 use Rattle.stn_net.specs.Difference.{Difference, NamesEvents}
 use Rattle.stn_lift.specs.PlanSource.{PlanSource, events_of}
-use Rattle.stn_records.specs.Id.{SiteCounter}
-use Rattle.stn_records.specs.declared.record.Record.{Record}
+use Rattle.stn_records.specs.{Id.SiteCounter, declared.record.Record.Record}
 use Rattle.stn_records.specs.Content.{Content, Item, addition, withdrawal, replacement, HasItem, is_known, is_replaced, no_content, plain, with_record, with_amendment, with_tombstone, dispute_contents, join_contents, joined_contents, IsPart, IsAmendment, AllAmend}
 use Rattle.stn_records.specs.ContentLaws.{ids_total, ids_exact, contents_join, contents_dispute, contents_undisputed}
-use Rattle.stn_records.proofs.Replaced.{replaced_cases}
-use Rattle.stn_records.proofs.Counters.{next_is_new}
-use Rattle.stn_site.specs.Bounds.{RecordsName}
-use Rattle.stn_site.specs.Held.{executed}
-use Rattle.stn_records.proofs.Gets.{entries_from_get}
+use Rattle.stn_records.proofs.{Replaced.replaced_cases, Counters.next_is_new, Gets.entries_from_get}
+use Rattle.stn_site.specs.{Bounds.RecordsName, Held.executed}
 use Rattle.stn_site.proofs.Items.{nothing_there, addition_items, amendment_items, withdrawal_brought}
 use Rattle.stn_site.proofs.Refused.{accepted_named, accepted_known, executed_named, amended_named, amended_known}
 use Rattle.stn_world.specs.World.{World, HasSite, opening_world, content_at, packet_at, held_at, next_id_at, with_content, make, amend, withdraw, send}

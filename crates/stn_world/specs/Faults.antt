@@ -1,13 +1,11 @@
 -- Why there is no world, and a replica's fault as one of a world.
 use Rattle.std.specs.Prelude.{ℕ}
-use Rattle.stn_records.specs.Id.{IsSite}
-use Rattle.stn_records.specs.declared.faults.PartFault.{PartFault}
+use Rattle.stn_records.specs.{Id.IsSite, declared.faults.PartFault.PartFault}
 use Rattle.stn_records.specs.declared.faults.PartFault.TheVariants as part_fault
 use Rattle.stn_site.specs.declared.faults.ReplicaFault.{ReplicaFault}
 use Rattle.stn_site.specs.declared.faults.ReplicaFault.TheVariants as replica_fault
-use Rattle.stn_world.specs.declared.faults.SitesFault.{SitesFault}
+use Rattle.stn_world.specs.{declared.faults.SitesFault.SitesFault, declared.faults.WorldFault.WorldFault}
 use Rattle.stn_world.specs.declared.faults.SitesFault.TheVariants as sites_fault
-use Rattle.stn_world.specs.declared.faults.WorldFault.{WorldFault}
 use Rattle.stn_world.specs.declared.faults.WorldFault.TheVariants as world_fault
 
 -- the fault is the first that stands against a world of so many sites

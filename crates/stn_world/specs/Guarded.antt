@@ -3,8 +3,7 @@ use Rattle.std.specs.Prelude.{◌≡◌, ℕ, true, ◌⊎◌, [], ⊤}
 use Rattle.stn_net.specs.Schedule.{HasSchedule}
 use Rattle.stn_records.specs.Content.{Content, Item, addition, withdrawal, replacement, HasItem, IsPart}
 use Rattle.stn_site.specs.Bounds.{all_bounds}
-use Rattle.stn_guard.specs.Owners.{is_own, own_bounds}
-use Rattle.stn_guard.specs.Guard.{Guards}
+use Rattle.stn_guard.specs.{Owners.is_own, Owners.own_bounds, Guard.Guards}
 use Rattle.stn_world.specs.World.{World, HasSite, content_at, packet_at}
 use Rattle.stn_world.specs.Steps.{Step, added, finished, amended, withdrew, merged, sent, delivered}
 

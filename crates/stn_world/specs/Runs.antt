@@ -2,8 +2,7 @@
 use Rattle.std.specs.Prelude.{ℕ, List, [], ◌∷◌, ◌++◌, length, filter, Bool, true, false, is_some, if◌then◌else◌}
 use Rattle.std.specs.List.{Contains}
 use Rattle.stn_lift.specs.PlanSource.{PlanSource}
-use Rattle.stn_records.specs.Id.{SiteCounter}
-use Rattle.stn_records.specs.declared.record.Record.{Record}
+use Rattle.stn_records.specs.{Id.SiteCounter, declared.record.Record.Record}
 use Rattle.stn_records.specs.Content.{Content, Item, addition, withdrawal, replacement, HasItem}
 use Rattle.stn_site.specs.Held.{plain, executed}
 use Rattle.stn_world.specs.World.{World, opening_world, next_id_at, content_at}

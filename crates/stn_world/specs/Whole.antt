@@ -4,12 +4,10 @@ use Rattle.std.specs.Prelude.{◌≡◌, ℕ, ◌≤◌, List, length, map, repl
 use Rattle.std.specs.List.{range_with_len}
 use Rattle.stn_net.specs.Difference.{NamesEvents}
 use Rattle.stn_lift.specs.PlanSource.{PlanSource, bare, events_of}
-use Rattle.stn_records.specs.declared.record.Record.{Record}
-use Rattle.stn_records.specs.Id.{most_sites, SiteCounter}
+use Rattle.stn_records.specs.{declared.record.Record.Record, Id.most_sites, Id.SiteCounter}
 use Rattle.stn_records.specs.Content.{Content, no_content, addition, withdrawal, replacement, HasItem, IsPart, AllAmend}
 use Rattle.stn_site.specs.Held.{Held}
-use Rattle.stn_world.specs.World.{World, most_packets, content_at, packet_at}
-use Rattle.stn_world.specs.Sites.{world_of}
+use Rattle.stn_world.specs.{World.World, World.most_packets, World.content_at, World.packet_at, Sites.world_of}
 
 -- from 1 to 64 replicas of one plan, in order of site from 1 on
 pub record IsSites (source : PlanSource) (replicas : List Held) : Type 0 where

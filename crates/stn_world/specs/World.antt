@@ -3,8 +3,7 @@ use Rattle.std.specs.Prelude.{ℕ, ◌-◌, ◌≤◌, Bool, ◌&&◌, nat_le, L
 use Rattle.std.specs.Coded.{Coded, code_by, coded×, coded_list}
 use Rattle.stn_net.specs.Difference.{Difference}
 use Rattle.stn_lift.specs.PlanSource.{PlanSource, coded_source}
-use Rattle.stn_records.specs.declared.record.Record.{Record}
-use Rattle.stn_records.specs.Id.{SiteCounter}
+use Rattle.stn_records.specs.{declared.record.Record.Record, Id.SiteCounter}
 use Rattle.stn_records.specs.Content.{Content, coded_content, no_content, with_record, with_tombstone, with_amendment, joined_contents}
 use Rattle.stn_site.specs.Held.{Held, next_id}
 

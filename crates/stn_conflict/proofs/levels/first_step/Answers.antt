@@ -1,19 +1,9 @@
 use Rattle.std.proofs.Common.{◌≡◌, ◌<◌, ◌≤◌, length, sym, subst, ap, ◌∙◌, arith}
-use Rattle.std.proofs.lemmas.Bool.{false≢true}
-use Rattle.std.proofs.lemmas.List.{get_or_default}
+use Rattle.std.proofs.{lemmas.Bool.false≢true, lemmas.List.get_or_default}
 use Rattle.std.specs.Prelude.{slice_index_or}
-use Rattle.stn_conflict.specs.declared.links.Link.{Link}
-use Rattle.stn_conflict.specs.declared.links.Side.TheVariants.{Upper}
-use Rattle.stn_conflict.specs.Relaxation.{row_of}
-use Rattle.stn_conflict.specs.Named.{IsStep}
-use Rattle.stn_conflict.specs.Search.{across, IsFirstStepTo}
-use Rattle.stn_conflict.proofs.Rows.{row_is}
-use Rattle.stn_conflict.proofs.Steps.{passed_more, first_in_row, none_in_row}
+use Rattle.stn_conflict.specs.{declared.links.Link.Link, declared.links.Side.TheVariants.Upper, Relaxation.row_of, Named.IsStep, Search.across, Search.IsFirstStepTo}
+use Rattle.stn_conflict.proofs.{Rows.row_is, Steps.passed_more, Steps.first_in_row, Steps.none_in_row, levels.first_step.Goals.else-into-len-via-then-into-len+else-is_step, levels.first_step.Goals.else-into-len-via-else-into-len}
 use Rattle.stn_conflict.proofs.levels.first_step.Goals as goal
-use Rattle.stn_conflict.proofs.levels.first_step.Goals.{else-into-len-via-then-into-len+else-is_step, else-into-len-via-else-into-len}
-
-pub loop-link-init : goal.loop-link-init
-loop-link-init g c = λ k link below. absurd (omega arith)
 
 pub returns-then-is_step : goal.returns-then-is_step
 returns-then-is_step g c =

@@ -1,18 +1,10 @@
 use Rattle.std.proofs.Common.{◌≡◌, ◌+◌, ◌<◌, ◌≤◌, ◌∷◌, ◌++◌, [], None, length, take, refl, sym, ap, ◌∙◌, arith}
-use Rattle.std.proofs.lemmas.Bool.{false≢true}
-use Rattle.std.proofs.lemmas.List.{get_or_read, take_more, take_all}
+use Rattle.std.proofs.{lemmas.Bool.false≢true, lemmas.List.get_or_read, lemmas.List.take_more, lemmas.List.take_all}
 use Rattle.std.specs.Prelude.{slice_index_or}
-use Rattle.stn_conflict.specs.declared.levels.Walk.{Walk}
-use Rattle.stn_conflict.specs.declared.links.Link.{Link}
-use Rattle.stn_conflict.specs.declared.links.Side.TheVariants.{Upper}
-use Rattle.stn_conflict.specs.Arcs.{arc_of}
-use Rattle.stn_conflict.specs.Relaxation.{row_of}
-use Rattle.stn_conflict.specs.Search.{level_at, LeadsOn}
-use Rattle.stn_conflict.proofs.Tightness.{link_among}
-use Rattle.stn_conflict.proofs.Rows.{row_is, in_row}
+use Rattle.stn_conflict.specs.{declared.levels.Walk.Walk, declared.links.Link.Link, declared.links.Side.TheVariants.Upper, Arcs.arc_of, Relaxation.row_of, Search.level_at, Search.LeadsOn}
+use Rattle.stn_conflict.proofs.{Tightness.link_among, Rows.row_is, Rows.in_row, levels.follow.Goals.then-leads_on+in_ok-push, levels.follow.Goals.else-leads_on}
 use Rattle.stn_conflict.proofs.Walks.{reached_at, level_there, level_low, following_begins, following_reaches, following_passes, following_ends}
 use Rattle.stn_conflict.proofs.levels.follow.Goals as goal
-use Rattle.stn_conflict.proofs.levels.follow.Goals.{then-leads_on+in_ok-push, else-leads_on}
 
 pub index-requires-2 : goal.index-requires-2
 index-requires-2 g c =

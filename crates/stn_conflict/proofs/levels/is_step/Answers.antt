@@ -1,9 +1,6 @@
 use Rattle.std.proofs.Common.{◌≡◌, ◌∙◌, suc, Some, length, eqb-true, refl, ap, arith}
-use Rattle.stn_conflict.specs.Arcs.{arc_of}
-use Rattle.stn_conflict.specs.Search.{level_at}
-use Rattle.stn_conflict.proofs.Tightness.{link_among}
-use Rattle.stn_conflict.proofs.LevelTable.{some_same}
-use Rattle.stn_conflict.proofs.Steps.{step_from_entries, entries_from_step}
+use Rattle.stn_conflict.specs.{Arcs.arc_of, Search.level_at}
+use Rattle.stn_conflict.proofs.{Tightness.link_among, LevelTable.some_same, Steps.step_from_entries, Steps.entries_from_step}
 use Rattle.stn_conflict.proofs.levels.is_step.Goals as goal
 
 pub unwrap-begin-requires : goal.unwrap-begin-requires

@@ -1,11 +1,9 @@
 use Rattle.std.proofs.Common.{◌≡◌, ◌<◌, ◌∙◌, length, arith}
 use Rattle.std.specs.Prelude.{pos}
-use Rattle.std.proofs.lemmas.Int.{ints}
-use Rattle.std.proofs.lemmas.List.{get_or_read}
+use Rattle.std.proofs.{lemmas.Int.ints, lemmas.List.get_or_read}
 use Rattle.stn_net.specs.Schedule.{times_of}
 use Rattle.stn_conflict.specs.Arcs.{arc_of}
-use Rattle.stn_conflict.proofs.Tightness.{link_among}
-use Rattle.stn_conflict.proofs.Steps.{sum_test, tight_decided}
+use Rattle.stn_conflict.proofs.{Tightness.link_among, Steps.sum_test, Steps.tight_decided}
 use Rattle.stn_conflict.proofs.levels.is_tight.Goals as goal
 
 pub bounds-far-from : goal.bounds-far-from

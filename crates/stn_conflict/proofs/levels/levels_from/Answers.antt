@@ -1,6 +1,4 @@
 use Rattle.std.proofs.Common.{◌≡◌, ◌∙◌, length, refl, rules, arith}
-use Rattle.std.specs.Prelude.{is_some}
-use Rattle.std.proofs.lemmas.List.Sums.{count_by-le-length}
 use Rattle.stn_conflict.proofs.Walks.{walk_of_start, levels_of_walk}
 use Rattle.stn_conflict.proofs.levels.levels_from.Goals as goal
 
@@ -9,16 +7,6 @@ loop-place-init g c =
     let items = c.in_ok-vec.ensures.items_if_clones_equal (search rules) in
     let place : c.from.result ≡ c.args.start = c.from.ensures ∙ c.number.ensures.value in
     walk_of_start c.args.bounds.now c.args.start (length c.args.far.now) _ c.requires.far.start_named (rw (items, place) refl) (search rules)
-
-pub loop-place-smaller : goal.loop-place-smaller
-loop-place-smaller g c =
-    let h = c.loop-place.invariant in
-    omega (arith, c.loop-place-test.true, h.counted, h.whole, count_by-le-length is_some c.loop-place.walk.levels.items)
-
-pub overflow_add-place : goal.overflow_add-place
-overflow_add-place g c =
-    let h = c.loop-place.invariant in
-    omega (arith, c.loop-place-test.true, h.counted, h.whole, count_by-le-length is_some c.loop-place.walk.levels.items, c.requires.few)
 
 pub returns : goal.returns
 returns g c =

@@ -3,8 +3,7 @@ use Rattle.std.proofs.lemmas.Bool.{false≢true}
 use Rattle.std.specs.Prelude.{◌+◌, ◌++◌}
 use Rattle.stn_net.specs.Schedule.{HasSchedule}
 use Rattle.stn_conflict.specs.Distances.{AreDistancesFrom}
-use Rattle.stn_conflict.proofs.Relaxing.{network_of}
-use Rattle.stn_conflict.proofs.Turned.{network_turned, has_turned, distances_of_turned, rows_turned}
+use Rattle.stn_conflict.proofs.{Relaxing.network_of, Turned.network_turned, Turned.has_turned, Turned.distances_of_turned, Turned.rows_turned}
 use Rattle.stn_conflict.proofs.reach.distances.Goals as goal
 
 pub distances_from-requires-clause-network : goal.distances_from-requires-clause-network

@@ -1,14 +1,8 @@
 use Rattle.std.proofs.Common.{◌≡◌, ◌+◌, ◌<◌, ◌∷◌, ◌++◌, [], ◌*◌, length, rules, sym, subst, ap, ◌∙◌, arith}
 use Rattle.std.proofs.lemmas.List.{length_push}
-use Rattle.stn_conflict.specs.Arcs.{arc_of}
-use Rattle.stn_conflict.specs.Relaxation.{row_of}
-use Rattle.stn_conflict.proofs.Tightness.{link_among}
-use Rattle.stn_conflict.proofs.Relaxing.{among_events}
-use Rattle.stn_conflict.proofs.Rows.{rows_empty, rows_of_none, rows_push, rows_of_all, row_is, AreRowsTo}
+use Rattle.stn_conflict.specs.{Arcs.arc_of, Relaxation.row_of}
+use Rattle.stn_conflict.proofs.{Tightness.link_among, Relaxing.among_events, Rows.rows_empty, Rows.rows_of_none, Rows.rows_push, Rows.rows_of_all, Rows.row_is, Rows.AreRowsTo}
 use Rattle.stn_conflict.proofs.relaxation.outgoing_links.Goals as goal
-
-pub loop-init : goal.loop-init
-loop-init g c = record { long = search rules; empty = λ x. search rules }
 
 pub loop-preserved : goal.loop-preserved
 loop-preserved g c =

@@ -1,11 +1,8 @@
 use Rattle.std.specs.Prelude.{◌++◌}
 use Rattle.std.proofs.lemmas.List.Elements.{All-append}
-use Rattle.stn_net.specs.Difference.{NamesEvents}
-use Rattle.stn_net.specs.Schedule.{HasSchedule}
+use Rattle.stn_net.specs.{Difference.NamesEvents, Schedule.HasSchedule}
 use Rattle.stn_conflict.specs.Search.{IsCycleOf}
-use Rattle.stn_conflict.proofs.CycleSums.{negative_no_schedule}
-use Rattle.stn_conflict.proofs.Found.{found_none, told_of_cycle}
-use Rattle.stn_conflict.proofs.Known.{known_first}
+use Rattle.stn_conflict.proofs.{CycleSums.negative_no_schedule, Found.found_none, Found.told_of_cycle, Known.known_first}
 use Rattle.stn_conflict.proofs.search.cycle.Goals as goal
 
 pub cycle_of-requires : goal.cycle_of-requires

@@ -1,9 +1,7 @@
 use Rattle.std.proofs.Common.{◌≡◌, ◌+◌, ◌∙◌, length, take, refl, sym, subst, arith}
 use Rattle.std.proofs.lemmas.Bool.{false≢true}
-use Rattle.std.proofs.lemmas.Result.{err_from_is_err_and}
 use Rattle.stn_conflict.specs.Relaxation.{HasTables}
-use Rattle.stn_conflict.proofs.Relaxing.{network_known, network_before}
-use Rattle.stn_conflict.proofs.Searches.{tables_of}
+use Rattle.stn_conflict.proofs.{Relaxing.network_known, Relaxing.network_before, Searches.tables_of}
 use Rattle.stn_conflict.proofs.search.first_refused.Goals as goal
 
 pub begin-requires : goal.begin-requires
@@ -40,16 +38,3 @@ first_between-requires g c =
       long = long;
       none = λ has. false≢true (sym c.if-settle.false ∙ c.settle.ensures.possible.1 has);
     })
-
-pub returns-in_err-known : goal.returns-in_err-known
-returns-in_err-known g c =
-    let p = err_from_is_err_and c.from_residual.result c.from_residual.ensures.1 in
-    record { found = rw p.1 tt; tables = subst (λ n. HasTables n c.begin.new.self) c.requires.tables.far c.begin.ensures.tables }
-
-pub returns-then-settle : goal.returns-then-settle
-returns-then-settle g c =
-    let long : length c.begin.new.self.far.items ≡ c.args.events + 1 = c.begin.ensures.tables.far ∙ c.requires.tables.far in
-    record { found = c.settle.ensures.possible.0 c.if-settle.true; tables = subst (λ n. HasTables n c.settle.new.self) long c.settle.ensures.search.tables }
-
-pub returns : goal.returns
-returns g c = record { found = c.first_between.ensures.first; tables = c.first_between.ensures.tables }

@@ -1,15 +1,9 @@
 use Rattle.std.proofs.Common.{◌≡◌, ◌+◌, ◌∷◌, [], arith, ap, length, ◌∙◌}
 use Rattle.std.specs.Prelude.{pos, reverse}
-use Rattle.std.proofs.lemmas.Int.{ints}
-use Rattle.std.proofs.lemmas.List.{reverse-append, length-reverse, get_or_read}
+use Rattle.std.proofs.{lemmas.Int.ints, lemmas.List.reverse-append, lemmas.List.length-reverse, lemmas.List.get_or_read}
 use Rattle.stn_net.specs.Schedule.{times_of}
-use Rattle.stn_conflict.specs.declared.links.Link.{Link}
-use Rattle.stn_conflict.specs.Arcs.{arc_of}
-use Rattle.stn_conflict.specs.Culprit.{IsCulprit}
-use Rattle.stn_conflict.proofs.CycleSums.{cycle_of_way}
-use Rattle.stn_conflict.proofs.Tightness.{link_among}
-use Rattle.stn_conflict.proofs.Relaxing.{among_events, network_before}
-use Rattle.stn_conflict.proofs.Rows.{rows_before}
+use Rattle.stn_conflict.specs.{declared.links.Link.Link, Arcs.arc_of, Culprit.IsCulprit}
+use Rattle.stn_conflict.proofs.{CycleSums.cycle_of_way, Tightness.link_among, Relaxing.among_events, Relaxing.network_before, Rows.rows_before}
 use Rattle.stn_conflict.proofs.search.named.Goals as goal
 
 pub refused_side-side-requires : goal.refused_side-side-requires

@@ -1,10 +1,8 @@
 use Rattle.std.proofs.Common.{◌≡◌, ◌+◌, ◌<◌, ◌∙◌, ap, length, take, arith}
 use Rattle.std.specs.Prelude.{pos, ◌+ℤ◌, ◌≤ℤ◌, ◌<ℤ◌}
-use Rattle.std.proofs.lemmas.Int.{ints}
-use Rattle.std.proofs.lemmas.List.{get_or_read}
+use Rattle.std.proofs.{lemmas.Int.ints, lemmas.List.get_or_read}
 use Rattle.stn_net.specs.Schedule.{times_of}
-use Rattle.stn_conflict.specs.Arcs.{bound_at}
-use Rattle.stn_conflict.specs.Relaxation.{AreDistances}
+use Rattle.stn_conflict.specs.{Arcs.bound_at, Relaxation.AreDistances}
 use Rattle.stn_conflict.proofs.Rows.{rows_before}
 use Rattle.stn_conflict.proofs.search.refused_side.Goals as goal
 
@@ -16,13 +14,6 @@ distances-requires g c = record {
   start = rw c.arc-upper.ensures.to c.requires.named.to;
   possible = rw c.before-before.ensures c.requires.possible;
 }
-
-pub index-requires : goal.index-requires
-index-requires g c =
-    let bound = bound_at c.args.bounds.now c.args.place in
-    let place : c.from.result ≡ bound.from = c.from.ensures ∙ c.number.ensures.value ∙ c.arc-upper.ensures.from in
-    let below : bound.from < length c.distances.new.self.far.items = omega (arith, c.distances.ensures.tables.far, c.requires.named.from) in
-    rw (place, c.distances.new.self.far.ok.0) below
 
 pub distances-requires-2 : goal.distances-requires-2
 distances-requires-2 g c = record {

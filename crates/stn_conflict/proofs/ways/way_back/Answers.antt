@@ -1,14 +1,8 @@
 use Rattle.std.proofs.Common.{◌≡◌, ℕ, suc, Some, length, sym, subst, arith, ap, ◌∙◌}
 use Rattle.std.specs.Prelude.{reverse, unwrap_or}
-use Rattle.std.proofs.lemmas.List.{length_push}
-use Rattle.std.proofs.lemmas.Option.{MatchOption-at_some, MatchOption-at_none}
-use Rattle.stn_conflict.specs.Arcs.{arc_of, IsChain}
-use Rattle.stn_conflict.specs.Search.{level_at, HasNoStep, IsFirstStepTo}
-use Rattle.stn_conflict.proofs.Tightness.{link_among}
-use Rattle.stn_conflict.proofs.OneCycle.{level_of_start}
-use Rattle.stn_conflict.proofs.LevelTable.{some_same}
-use Rattle.stn_conflict.proofs.Steps.{lower_by_one, at_start, chain_before_way}
-use Rattle.stn_conflict.proofs.ways.way_back.Given.{Over}
+use Rattle.std.proofs.{lemmas.List.length_push, lemmas.Option.MatchOption-at_some, lemmas.Option.MatchOption-at_none}
+use Rattle.stn_conflict.specs.{Arcs.arc_of, Arcs.IsChain, Search.level_at, Search.HasNoStep, Search.IsFirstStepTo}
+use Rattle.stn_conflict.proofs.{Tightness.link_among, OneCycle.level_of_start, LevelTable.some_same, Steps.lower_by_one, Steps.at_start, Steps.chain_before_way, ways.way_back.Given.Over}
 use Rattle.stn_conflict.proofs.ways.way_back.Goals as goal
 
 -- the link that is taken is the first step to the event

@@ -1,9 +1,6 @@
 use Rattle.std.proofs.Common.{◌≡◌, ◌+◌, ◌<◌, ℕ, Some, length}
-use Rattle.std.specs.Prelude.{reverse, unwrap_or}
-use Rattle.std.specs.List.{AllByRecursion}
-use Rattle.stn_conflict.specs.Arcs.{IsChain}
-use Rattle.stn_conflict.specs.Named.{IsFirstStep}
-use Rattle.stn_conflict.specs.Search.{level_at}
+use Rattle.std.specs.{Prelude.reverse, Prelude.unwrap_or, List.AllByRecursion}
+use Rattle.stn_conflict.specs.{Arcs.IsChain, Named.IsFirstStep, Search.level_at}
 use Rattle.stn_conflict.proofs.ways.way_back.Given as goal
 
 abbrev pub invariant-loop-link : goal.invariant-loop-link

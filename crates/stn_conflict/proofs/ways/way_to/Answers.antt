@@ -1,7 +1,6 @@
 use Rattle.std.proofs.Common.{◌≡◌, ◌<◌, ◌∙◌, length, ap, arith}
 use Rattle.std.specs.Prelude.{pos, reverse}
-use Rattle.std.proofs.lemmas.Int.{ints}
-use Rattle.std.proofs.lemmas.List.{length-reverse, get_or_read}
+use Rattle.std.proofs.{lemmas.Int.ints, lemmas.List.length-reverse, lemmas.List.get_or_read}
 use Rattle.stn_net.specs.Schedule.{times_of}
 use Rattle.stn_conflict.proofs.CycleSums.{told_of_way}
 use Rattle.stn_conflict.proofs.ways.way_to.Goals as goal

@@ -1,6 +1,5 @@
 use Rattle.std.proofs.Common.{◌++◌, take, arith, ◌∙◌}
-use Rattle.std.proofs.lemmas.Grind.{common_steps}
-use Rattle.std.proofs.KnownBytes.{Consumes-trans}
+use Rattle.std.proofs.{lemmas.Grind.common_steps, KnownBytes.Consumes-trans}
 use Rattle.stn_device.proofs.whole.drain.Goals as goal
 
 pub loop-left-preserved : goal.loop-left-preserved

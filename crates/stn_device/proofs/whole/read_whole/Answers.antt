@@ -1,7 +1,5 @@
 use Rattle.std.proofs.Common.{◌≡◌, ◌+◌, ◌-◌, ◌^◌, ◌≤◌, length, min, refl, ap, ◌∙◌, arith}
-use Rattle.std.proofs.KnownBytes.{Consumes-kept}
-use Rattle.std.proofs.lemmas.Grind.{common_steps}
-use Rattle.std.proofs.lemmas.Result.{err_from_is_err_and}
+use Rattle.std.proofs.{KnownBytes.Consumes-kept, lemmas.Grind.common_steps, lemmas.Result.err_from_is_err_and}
 use Rattle.stn_device.specs.declared.whole.ReadFault.TheVariants.{Read, Bound, Memory}
 use Rattle.stn_device.proofs.Known.{fault_or, not_err, ConsumesAtMost-trans, Consumes-then_none, Consumes-longer}
 use Rattle.stn_device.proofs.whole.read_whole.Goals as goal

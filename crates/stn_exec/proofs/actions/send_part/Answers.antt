@@ -1,7 +1,6 @@
 use Rattle.std.proofs.lemmas.Result.{err_from_is_err_and}
 use Rattle.stn_records.specs.Content.{part_of}
-use Rattle.stn_world.specs.Parts.{holds_all}
-use Rattle.stn_world.specs.World.{content_at}
+use Rattle.stn_world.specs.{Parts.holds_all, World.content_at}
 use Rattle.stn_exec.proofs.Effects.{accepted_sending, refused_sending}
 use Rattle.stn_exec.proofs.actions.send_part.Goals as goal
 

@@ -3,8 +3,7 @@ use Rattle.std.proofs.lemmas.Result.{err_from_is_err_and}
 use Rattle.stn_lift.specs.PlanSource.{PlanSource}
 use Rattle.stn_text.specs.Lines.{lines_of}
 use Rattle.stn_world.specs.World.{opening_world}
-use Rattle.stn_exec.specs.Heading.{seen_part, seen_base}
-use Rattle.stn_exec.specs.Script.{based, with_sites}
+use Rattle.stn_exec.specs.{Heading.seen_part, Heading.seen_base, Script.based, Script.with_sites}
 use Rattle.stn_exec.proofs.Scripts.{fails_first, heading-fault, heading-unopened, heading-made, sites_of-some}
 use Rattle.stn_exec.proofs.heading.open.Goals as goal
 

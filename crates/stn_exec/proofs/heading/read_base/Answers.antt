@@ -1,8 +1,7 @@
 use Rattle.std.proofs.Common.{◌≡◌, Ok, Err, Result, IfOk, IfErr, inr, subst, sym, ap, ◌∙◌}
 use Rattle.stn_text.specs.Lines.{lines_of}
 use Rattle.stn_refusal.specs.declared.failure.Failure.{Failure}
-use Rattle.stn_exec.specs.Heading.{seen_found, seen_base, IsHeadingFailure}
-use Rattle.stn_exec.specs.Script.{Based}
+use Rattle.stn_exec.specs.{Heading.seen_found, Heading.seen_base, Heading.IsHeadingFailure, Script.Based}
 use Rattle.stn_exec.proofs.Blocks.{based-none, based-files, based-bare}
 use Rattle.stn_exec.proofs.heading.read_base.Goals as goal
 

@@ -1,10 +1,7 @@
 use Rattle.std.proofs.Common.{◌≡◌, inr, refl, subst, arith}
-use Rattle.std.proofs.lemmas.Grind.{common_steps}
-use Rattle.std.proofs.lemmas.Result.{err_from_is_err_and}
-use Rattle.stn_device.specs.Bytes.{AppendsPart}
-use Rattle.stn_device.specs.Counted.{counted_device}
-use Rattle.stn_refusal.specs.declared.failure.Failure.TheVariants.{Refused}
-use Rattle.stn_refusal.specs.Printed.{refusal_text}
+use Rattle.std.proofs.{lemmas.Grind.common_steps, lemmas.Result.err_from_is_err_and}
+use Rattle.stn_device.specs.{Bytes.AppendsPart, Counted.counted_device}
+use Rattle.stn_refusal.specs.{declared.failure.Failure.TheVariants.Refused, Printed.refusal_text}
 use Rattle.stn_exec.specs.Effect.{declined}
 use Rattle.stn_exec.proofs.Scripts.{part-one}
 use Rattle.stn_exec.proofs.script.refuse.Goals as goal

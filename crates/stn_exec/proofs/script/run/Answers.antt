@@ -1,8 +1,7 @@
 use Rattle.std.proofs.Common.{Err, ap, refl, subst}
 use Rattle.std.proofs.KnownBytes.{Keeps-refl}
 use Rattle.stn_device.specs.Counted.{counted_device, failure_count}
-use Rattle.stn_exec.specs.Running.{IsRun}
-use Rattle.stn_exec.specs.Script.{script_outcome}
+use Rattle.stn_exec.specs.{Running.IsRun, Script.script_outcome}
 use Rattle.stn_exec.proofs.Scripts.{part-nil, IfSome-all}
 use Rattle.stn_exec.proofs.Runs.{counts_more, read_not_write, read_not_bound, bound_not_read, bound_not_write, memory_not_read, memory_not_write, memory_not_bound, bound_kept, memory_kept, ok_not_err, on_ok, ran_whole, part_written, count_kept}
 use Rattle.stn_exec.proofs.script.run.Goals as goal

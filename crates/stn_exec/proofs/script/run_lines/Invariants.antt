@@ -1,9 +1,7 @@
 use Rattle.std.proofs.Common.{◌≡◌, ◌+◌, ◌≤◌, ◌++◌, List, length}
-use Rattle.stn_exec.specs.Effect.{Reply}
-use Rattle.stn_exec.specs.Output.{CountsRefusals, WritesOutput}
+use Rattle.stn_exec.specs.{Effect.Reply, Output.CountsRefusals, Output.WritesOutput, Script.lines_outcome}
 use Rattle.stn_device.specs.Counted.{counted_device, failure_count}
 use Rattle.stn_text.specs.Lines.{lines_of}
-use Rattle.stn_exec.specs.Script.{lines_outcome}
 use Rattle.stn_exec.proofs.script.run_lines.Given as goal
 
 abbrev pub invariant-loop-rest : goal.invariant-loop-rest

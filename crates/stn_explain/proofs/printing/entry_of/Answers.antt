@@ -1,6 +1,5 @@
 use Rattle.std.proofs.Common.{◌≢◌, All, subst}
-use Rattle.std.proofs.lemmas.List.{take_all}
-use Rattle.std.proofs.lemmas.List.Elements.{All-nil, All-more}
+use Rattle.std.proofs.{lemmas.List.take_all, lemmas.List.Elements.All-nil, lemmas.List.Elements.All-more}
 use Rattle.stn_explain.specs.Subjects.{word_of}
 use Rattle.stn_explain.proofs.Entries.{unnamed}
 use Rattle.stn_explain.proofs.printing.entry_of.Goals as goal

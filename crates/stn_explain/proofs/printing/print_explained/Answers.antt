@@ -1,8 +1,7 @@
 use Rattle.std.proofs.Common.{◌≡◌, ◌∙◌, ◌++◌, Some, None, List, ℕ, sym, refl, ap, option_map, subst}
 use Rattle.stn_explain.specs.Explained.{IsExplained, NamesNothing, AreMeanings}
-use Rattle.stn_explain.proofs.Entries.{all_entries, names_nothing, appended}
+use Rattle.stn_explain.proofs.{Entries.all_entries, Entries.names_nothing, Entries.appended, printing.print_explained.Goals.in-None+in_ok-append_meanings-in-None, printing.print_explained.Goals.in-Some+in-Some-entry_of+in_ok-append_explanation-in-Some-entry_of}
 use Rattle.stn_explain.proofs.printing.print_explained.Goals as goal
-use Rattle.stn_explain.proofs.printing.print_explained.Goals.{in-None+in_ok-append_meanings-in-None, in-Some+in-Some-entry_of+in_ok-append_explanation-in-Some-entry_of}
 
 pub append_meanings-requires : goal.append_meanings-requires
 append_meanings-requires g c = all_entries c.table-entries.result.now c.table-entries.ensures

@@ -3,10 +3,7 @@ use Rattle.std.specs.Vec.{with_items}
 use Rattle.std.proofs.lemmas.List.{with_items_is}
 use Rattle.stn_net.specs.Difference.{Difference}
 use Rattle.stn_matrix.specs.Table.{far_of}
-use Rattle.stn_guard.specs.Owners.{owner_of}
-use Rattle.stn_guard.specs.Guard.{Guards}
-use Rattle.stn_guard.specs.Making.{shared_arcs, AreWindows, IsGuardOf}
-use Rattle.stn_guard.specs.Splitting.{windows_of}
+use Rattle.stn_guard.specs.{Owners.owner_of, Guard.Guards, Making.shared_arcs, Making.AreWindows, Making.IsGuardOf, Splitting.windows_of}
 use Rattle.stn_guard.proofs.Made.{made_guard, made_windows}
 use Rattle.stn_guard.proofs.Whole.{can_first, can_second, exact_after, owned_front, owned_behind, AreNamed, noted, whole_guard, if_ok, begins_both}
 use Rattle.stn_guard.proofs.guarding.guard.Goals as goal

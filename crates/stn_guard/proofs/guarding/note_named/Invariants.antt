@@ -1,6 +1,5 @@
 use Rattle.std.proofs.Common.{◌≡◌, ◌<◌, ◌||◌, ℕ, false, length, take, get_or}
-use Rattle.stn_guard.specs.Owners.{owner_of}
-use Rattle.stn_guard.specs.Making.{is_named}
+use Rattle.stn_guard.specs.{Owners.owner_of, Making.is_named}
 use Rattle.stn_guard.proofs.guarding.note_named.Given as goal
 
 abbrev pub invariant-loop-bound : goal.invariant-loop-bound

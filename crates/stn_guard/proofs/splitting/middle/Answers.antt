@@ -1,8 +1,7 @@
 use Rattle.std.proofs.Common.{◌≡◌, ℤ, ◌-ℤ◌, to_z, of_z, w64, ap, ◌∙◌, arith, rules}
 use Rattle.std.proofs.lemmas.Int.{ints}
 use Rattle.stn_time.specs.Time.{IsWithinHorizon}
-use Rattle.stn_guard.specs.declared.splitting.Arc.{Arc}
-use Rattle.stn_guard.specs.Splitting.{LeavesTime}
+use Rattle.stn_guard.specs.{declared.splitting.Arc.Arc, Splitting.LeavesTime}
 use Rattle.stn_guard.proofs.splitting.middle.Goals as goal
 
 -- the time lies within the horizon, and so does the time `weight` before it

@@ -1,8 +1,6 @@
 use Rattle.std.proofs.Common.{[], subst, arith}
-use Rattle.std.proofs.lemmas.Int.{ints}
-use Rattle.std.proofs.lemmas.List.Elements.{All-head}
-use Rattle.stn_guard.specs.Making.{window_bound}
-use Rattle.stn_guard.specs.Splitting.{NamesEnds}
+use Rattle.std.proofs.{lemmas.Int.ints, lemmas.List.Elements.All-head}
+use Rattle.stn_guard.specs.{Making.window_bound, Splitting.NamesEnds}
 use Rattle.stn_guard.proofs.Restricting.{Takes, leaves_known, nothing_to_split, two_to_split}
 use Rattle.stn_guard.proofs.splitting.split.Goals as goal
 

@@ -1,7 +1,5 @@
 use Rattle.std.proofs.Common.{◌≡◌, take}
-use Rattle.stn_guard.specs.Owners.{owner_of}
-use Rattle.stn_guard.specs.Making.{shared_arcs}
-use Rattle.stn_guard.specs.Splitting.{Splits}
+use Rattle.stn_guard.specs.{Owners.owner_of, Making.shared_arcs, Splitting.Splits}
 use Rattle.stn_guard.proofs.splitting.split_shared.Given as goal
 
 abbrev pub invariant-loop-bound : goal.invariant-loop-bound

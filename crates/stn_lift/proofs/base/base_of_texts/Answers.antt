@@ -11,13 +11,3 @@ returns-in_err-domain g c =
       given = rw (returned.1, returned.2) (domain_refused c.args.domain.now c.args.plan.now c.in_err-domain.field-0.0 c.in_err-domain.ensures.given);
       sound = rw returned.1 tt;
     }
-
-pub returns : goal.returns
-returns g c =
-    let text = c.in_ok-domain.ensures.text in
-    record {
-      made = rw text at c.base_of_plan.ensures.made;
-      limit = c.base_of_plan.ensures.limit;
-      given = rw text at c.base_of_plan.ensures.given;
-      sound = c.base_of_plan.ensures.sound;
-    }

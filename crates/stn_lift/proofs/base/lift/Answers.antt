@@ -1,16 +1,12 @@
 use Rattle.std.proofs.Common.{◌≡◌, ◌≤◌, ◌∙◌, length, map, Ok, sym, ap, arith, rules}
-use Rattle.std.proofs.lemmas.List.{length-map}
-use Rattle.std.proofs.lemmas.Result.{err_from_is_err_and}
+use Rattle.std.proofs.{lemmas.List.length-map, lemmas.Result.err_from_is_err_and}
 use Rattle.stn_text.specs.Faults.{Fails}
 use Rattle.stn_net.specs.Event.{most_steps}
 use Rattle.stn_tree.specs.Scan.{most_text}
 use Rattle.stn_pddl.specs.Domains.{domain_of}
 use Rattle.stn_plan.specs.Steps.{plan_of}
-use Rattle.stn_lift.specs.Activities.{activities, is_memory}
-use Rattle.stn_lift.specs.Views.{numbers_of}
-use Rattle.stn_lift.proofs.LiftedBase.{few_found, is_whole, base_lifted}
-use Rattle.stn_lift.proofs.Steps.{cause_of}
-use Rattle.stn_lift.proofs.Texts.{texts_lifted}
+use Rattle.stn_lift.specs.{Activities.activities, Activities.is_memory, Views.numbers_of}
+use Rattle.stn_lift.proofs.{LiftedBase.few_found, LiftedBase.is_whole, LiftedBase.base_lifted, Steps.cause_of, Texts.texts_lifted}
 use Rattle.stn_lift.proofs.base.lift.Goals as goal
 
 pub returns-in_err-timeline-clause-cause : goal.returns-in_err-timeline-clause-cause
@@ -18,31 +14,6 @@ returns-in_err-timeline-clause-cause g c =
     let returned = err_from_is_err_and c.from_residual.result c.from_residual.ensures.1 in
     let fails : Fails is_memory c.in_err-timeline.field-0.0 (activities c.args.domain.now.actions 0 c.args.plan.now.steps) = rw (← c.steps.ensures.steps) c.in_err-timeline.ensures.fault in
     rw (returned.1, returned.2) (cause_of c.args.domain.now.actions c.args.plan.now.steps c.in_err-timeline.field-0.0 fails)
-
-pub returns-in_err-timeline-clause-made : goal.returns-in_err-timeline-clause-made
-returns-in_err-timeline-clause-made g c =
-    let returned = err_from_is_err_and c.from_residual.result c.from_residual.ensures.1 in
-    rw returned.1 tt
-
-pub returns-in_err-timeline-clause-steps : goal.returns-in_err-timeline-clause-steps
-returns-in_err-timeline-clause-steps g c =
-    let returned = err_from_is_err_and c.from_residual.result c.from_residual.ensures.1 in
-    rw returned.1 tt
-
-pub returns-in_err-timeline-clause-possible : goal.returns-in_err-timeline-clause-possible
-returns-in_err-timeline-clause-possible g c =
-    let returned = err_from_is_err_and c.from_residual.result c.from_residual.ensures.1 in
-    rw returned.1 tt
-
-pub returns-in_err-timeline-clause-ordered : goal.returns-in_err-timeline-clause-ordered
-returns-in_err-timeline-clause-ordered g c =
-    let returned = err_from_is_err_and c.from_residual.result c.from_residual.ensures.1 in
-    rw returned.1 tt
-
-pub returns-in_err-timeline-clause-sound : goal.returns-in_err-timeline-clause-sound
-returns-in_err-timeline-clause-sound g c =
-    let returned = err_from_is_err_and c.from_residual.result c.from_residual.ensures.1 in
-    rw returned.1 tt
 
 pub bounds-requires : goal.bounds-requires
 bounds-requires g c =
@@ -84,45 +55,6 @@ invariant_of-result g c =
     let durations = c.in_ok-timeline.timeline.durations in
     let counted : c.len.result ≡ length durations.items = omega (arith, c.len.ensures, durations.ok.0) in
     rw (counted, c.in_ok-bounds.ensures) base
-
-pub returns-in_err-bounds : goal.returns-in_err-bounds
-returns-in_err-bounds g c =
-    let returned = err_from_is_err_and c.from_residual-in_err-bounds.result c.from_residual-in_err-bounds.ensures.1 in
-    record {
-      made = rw returned.1 tt;
-      given = rw (returned.1, returned.2) tt;
-      cause = rw (returned.1, returned.2) tt;
-      steps = rw returned.1 tt;
-      possible = rw returned.1 tt;
-      ordered = rw returned.1 tt;
-      sound = rw returned.1 tt;
-    }
-
-pub returns-in_err-from_slice : goal.returns-in_err-from_slice
-returns-in_err-from_slice g c =
-    let returned = err_from_is_err_and c.from_residual-in_err-from_slice.result c.from_residual-in_err-from_slice.ensures.1 in
-    record {
-      made = rw returned.1 tt;
-      given = rw (returned.1, returned.2) tt;
-      cause = rw (returned.1, returned.2) tt;
-      steps = rw returned.1 tt;
-      possible = rw returned.1 tt;
-      ordered = rw returned.1 tt;
-      sound = rw returned.1 tt;
-    }
-
-pub returns-in_err-from_slice-2 : goal.returns-in_err-from_slice-2
-returns-in_err-from_slice-2 g c =
-    let returned = err_from_is_err_and c.from_residual-in_err-from_slice-2.result c.from_residual-in_err-from_slice-2.ensures.1 in
-    record {
-      made = rw returned.1 tt;
-      given = rw (returned.1, returned.2) tt;
-      cause = rw (returned.1, returned.2) tt;
-      steps = rw returned.1 tt;
-      possible = rw returned.1 tt;
-      ordered = rw returned.1 tt;
-      sound = rw returned.1 tt;
-    }
 
 pub returns : goal.returns
 returns g c =

@@ -1,12 +1,6 @@
-use Rattle.std.proofs.Common.{◌∙◌, ◌++◌, ◌∷◌, [], ap}
-use Rattle.std.proofs.lemmas.Result.{err_from_is_err_and}
+use Rattle.std.proofs.Common.{◌∙◌, ◌++◌, ◌∷◌, ap, []}
 use Rattle.stn_lift.proofs.SoundBounds.{more_durations}
 use Rattle.stn_lift.proofs.bounds.append_durations.Goals as goal
-
-pub returns-in_err-push : goal.returns-in_err-push
-returns-in_err-push g c =
-    let returned = err_from_is_err_and c.from_residual.result c.from_residual.ensures.1 in
-    rw returned.1 tt
 
 pub loop-before-preserved : goal.loop-before-preserved
 loop-before-preserved g c =

@@ -1,6 +1,5 @@
 use Rattle.std.proofs.Common.{◌≡◌, ℕ, ◌<◌, Less, Greater, nat_cmp, ◌∙◌, sym, ap, nat_eq, drop, [], arith}
-use Rattle.std.proofs.lemmas.Bool.Decides.{nat_tests}
-use Rattle.std.proofs.lemmas.List.{drop_all}
+use Rattle.std.proofs.{lemmas.Bool.Decides.nat_tests, lemmas.List.drop_all}
 use Rattle.stn_lift.specs.Footprints.{share}
 use Rattle.stn_lift.proofs.Shared.{share_after_less, share_after_greater, share_nothing}
 use Rattle.stn_lift.proofs.numbers.shares.Goals as goal

@@ -1,39 +1,10 @@
 use Rattle.std.proofs.Common.{map, subst}
 use Rattle.std.proofs.lemmas.List.{append-nil}
-use Rattle.std.proofs.lemmas.Result.{err_from_is_err_and}
 use Rattle.stn_pddl.specs.Views.{atoms_schema}
 use Rattle.stn_plan.specs.Views.{word_of}
-use Rattle.stn_lift.specs.Footprints.{ground}
-use Rattle.stn_lift.specs.Numbering.{AreNumbersOf}
+use Rattle.stn_lift.specs.{Footprints.ground, Numbering.AreNumbersOf}
 use Rattle.stn_lift.proofs.NumberLists.{kept_along, numbers_kept}
 use Rattle.stn_lift.proofs.timeline.footprint.Goals as goal
-
-pub returns-in_err-needs : goal.returns-in_err-needs
-returns-in_err-needs g c =
-    let returned = err_from_is_err_and c.from_residual.result c.from_residual.ensures.1 in
-    record {
-      numbered = rw returned.1 tt;
-      kept = rw returned.1 tt;
-      unambiguous = rw returned.1 tt;
-    }
-
-pub returns-in_err-adds : goal.returns-in_err-adds
-returns-in_err-adds g c =
-    let returned = err_from_is_err_and c.from_residual-in_err-adds.result c.from_residual-in_err-adds.ensures.1 in
-    record {
-      numbered = rw returned.1 tt;
-      kept = rw returned.1 tt;
-      unambiguous = rw returned.1 tt;
-    }
-
-pub returns-in_err-deletes : goal.returns-in_err-deletes
-returns-in_err-deletes g c =
-    let returned = err_from_is_err_and c.from_residual-in_err-deletes.result c.from_residual-in_err-deletes.ensures.1 in
-    record {
-      numbered = rw returned.1 tt;
-      kept = rw returned.1 tt;
-      unambiguous = rw returned.1 tt;
-    }
 
 pub returns : goal.returns
 returns g c =

@@ -1,6 +1,5 @@
 use Rattle.std.proofs.Common.{map, take}
-use Rattle.stn_line.specs.Commands.{command}
-use Rattle.stn_line.specs.Table.{Reads, read_rule}
+use Rattle.stn_line.specs.{Commands.command, Table.Reads, Table.read_rule}
 use Rattle.stn_line.proofs.commands.command.Given as goal
 
 abbrev pub invariant-words : goal.invariant-words

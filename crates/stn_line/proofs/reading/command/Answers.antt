@@ -1,8 +1,6 @@
 use Rattle.std.proofs.Common.{sym, subst}
-use Rattle.clap.specs.Matches.{found_of}
-use Rattle.clap.specs.Walk.{rows_of}
-use Rattle.stn_line.specs.Given.{HasWords}
-use Rattle.stn_line.specs.Lines.{IsLineOf}
+use Rattle.clap.specs.{Matches.found_of, Walk.rows_of}
+use Rattle.stn_line.specs.{Given.HasWords, Lines.IsLineOf}
 use Rattle.stn_line.proofs.OfStn.{is_send}
 use Rattle.stn_line.proofs.reading.command.Goals as goal
 

@@ -1,6 +1,5 @@
 use Rattle.std.proofs.Common.{refl}
-use Rattle.stn_line.proofs.OfStn.{entered_has}
-use Rattle.stn_line.proofs.Values.{entered_is}
+use Rattle.stn_line.proofs.{OfStn.entered_has, Values.entered_is}
 use Rattle.stn_line.proofs.reading.read.Goals as goal
 
 pub command-requires : goal.command-requires

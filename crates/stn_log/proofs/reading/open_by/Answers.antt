@@ -1,8 +1,7 @@
 use Rattle.std.proofs.Common.{refl, ◌∙◌}
 use Rattle.std.proofs.lemmas.Result.{err_from_is_err_and}
 use Rattle.stn_lift.specs.PlanSource.{plan_source}
-use Rattle.stn_log.proofs.Answered.{not_err, not_read, not_bound, base_not_cut}
-use Rattle.stn_log.proofs.Takes.{base_refused, base_opens}
+use Rattle.stn_log.proofs.{Answered.not_err, Answered.not_read, Answered.not_bound, Answered.base_not_cut, Takes.base_refused, Takes.base_opens}
 use Rattle.stn_log.proofs.reading.open_by.Goals as goal
 
 pub returns-in_err-base : goal.returns-in_err-base

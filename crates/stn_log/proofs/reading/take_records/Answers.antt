@@ -1,8 +1,7 @@
 use Rattle.std.proofs.Common.{refl, ◌∙◌}
 use Rattle.std.proofs.lemmas.Result.{err_from_is_err_and}
 use Rattle.stn_log.specs.Log.{log_held}
-use Rattle.stn_log.proofs.Answered.{not_read, not_bound, replica_not_cut}
-use Rattle.stn_log.proofs.Takes.{take_refused, state_taken}
+use Rattle.stn_log.proofs.{Answered.not_read, Answered.not_bound, Answered.replica_not_cut, Takes.take_refused, Takes.state_taken}
 use Rattle.stn_log.proofs.reading.take_records.Goals as goal
 
 pub returns-in_err-take-in-Some : goal.returns-in_err-take-in-Some

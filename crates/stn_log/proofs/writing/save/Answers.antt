@@ -1,7 +1,6 @@
 use Rattle.std.proofs.Common.{Ok, OnOk, OnErr, subst}
 use Rattle.std.specs.Io.KnownBytes.{Appends}
-use Rattle.stn_device.specs.Bytes.{AppendsPart}
-use Rattle.stn_device.specs.Counted.{counted_device}
+use Rattle.stn_device.specs.{Bytes.AppendsPart, Counted.counted_device}
 use Rattle.stn_log.specs.Log.{Log, log_text, IsLog}
 use Rattle.stn_log.proofs.Saved.{same_log}
 use Rattle.stn_log.proofs.writing.save.Goals as goal

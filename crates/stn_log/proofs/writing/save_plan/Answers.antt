@@ -1,9 +1,7 @@
 use Rattle.std.proofs.Common.{◌≡◌, [], refl, sym, ap, subst, ◌∙◌}
-use Rattle.std.proofs.KnownBytes.{Appends-nil, Keeps-refl}
-use Rattle.std.proofs.lemmas.Result.{err_from_is_err_and}
+use Rattle.std.proofs.{KnownBytes.Appends-nil, KnownBytes.Keeps-refl, lemmas.Result.err_from_is_err_and}
 use Rattle.std.specs.Io.KnownBytes.{Appends}
-use Rattle.stn_device.specs.Bytes.{AppendsPart}
-use Rattle.stn_device.specs.Counted.{counted_device}
+use Rattle.stn_device.specs.{Bytes.AppendsPart, Counted.counted_device}
 use Rattle.stn_log.specs.Log.{log_held, log_text}
 use Rattle.stn_log.specs.declared.fault.SaveFault.TheVariants.{Write, Memory}
 use Rattle.stn_log.proofs.Answered.{fault_or, not_err, fails_more}

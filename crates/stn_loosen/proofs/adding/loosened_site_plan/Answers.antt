@@ -1,7 +1,6 @@
 use Rattle.std.proofs.Common.{◌≡◌, List, All, sym, ap, subst, ◌∙◌}
 use Rattle.std.proofs.lemmas.Result.{err_from_is_err_and}
-use Rattle.stn_net.specs.Difference.{Difference}
-use Rattle.stn_net.specs.Schedule.{IsSchedule}
+use Rattle.stn_net.specs.{Difference.Difference, Schedule.IsSchedule}
 use Rattle.stn_lift.specs.BaseBounds.{KeepsOrder}
 use Rattle.stn_lift.specs.PlanSource.{bare, steps_of, events_of, interfere_in_plan, planned_of}
 use Rattle.stn_site.specs.Bounds.{all_bounds}

@@ -1,12 +1,9 @@
 use Rattle.std.proofs.Common.{◌≡◌, ℕ, ℤ, List, sym, ap, subst, ◌∙◌}
 use Rattle.std.proofs.lemmas.Result.{err_from_is_err_and}
-use Rattle.stn_net.specs.Difference.{Difference}
-use Rattle.stn_net.specs.Schedule.{IsSchedule}
+use Rattle.stn_net.specs.{Difference.Difference, Schedule.IsSchedule}
 use Rattle.stn_lift.specs.PlanSource.{bare, steps_of}
 use Rattle.stn_site.specs.Bounds.{all_bounds}
-use Rattle.stn_loosen.specs.Loosened.{bounds_with, loose_durations}
-use Rattle.stn_loosen.specs.Promise.{Promises}
-use Rattle.stn_loosen.specs.Robust.{loose_bounds}
+use Rattle.stn_loosen.specs.{Loosened.bounds_with, Loosened.loose_durations, Promise.Promises, Robust.loose_bounds}
 use Rattle.stn_loosen.proofs.NumberedStates.{all_are}
 use Rattle.stn_loosen.proofs.adding.robust_site_plan.Goals as goal
 

@@ -1,6 +1,5 @@
 use Rattle.std.proofs.Common.{rules}
-use Rattle.std.specs.Ordering.{int_cmp}
-use Rattle.std.specs.List.Sorted.{IsSortedByKey, IsStableByKey}
+use Rattle.std.specs.{Ordering.int_cmp, List.Sorted.IsSortedByKey, List.Sorted.IsStableByKey}
 use Rattle.stn_net.specs.Schedule.{times_of}
 use Rattle.stn_loosen.specs.Loosened.{gap}
 use Rattle.stn_loosen.proofs.Lists.{key_given}

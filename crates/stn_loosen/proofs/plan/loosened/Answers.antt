@@ -1,7 +1,6 @@
 use Rattle.std.proofs.Common.{rules}
 use Rattle.stn_loosen.specs.Slack.{IsSlack}
-use Rattle.stn_loosen.proofs.Looser.{looser}
-use Rattle.stn_loosen.proofs.Orders.{orders_implied, order_kept}
+use Rattle.stn_loosen.proofs.{Looser.looser, Orders.orders_implied, Orders.order_kept}
 use Rattle.stn_loosen.proofs.plan.loosened.Goals as goal
 
 pub returns-clause-looser : goal.returns-clause-looser

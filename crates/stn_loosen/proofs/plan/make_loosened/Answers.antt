@@ -1,11 +1,7 @@
 use Rattle.std.proofs.Common.{◌≡◌, ◌∙◌, arith, rules}
-use Rattle.std.proofs.lemmas.List.{length-map}
-use Rattle.std.proofs.lemmas.Result.{err_from_is_err_and}
-use Rattle.stn_loosen.specs.Slack.{IsSlack}
-use Rattle.stn_loosen.specs.Loosened.{loose_durations}
-use Rattle.stn_loosen.proofs.Lasting.{durations_last}
-use Rattle.stn_loosen.proofs.Looser.{durations_named}
-use Rattle.stn_loosen.proofs.Whole.{durations_fit, durations_possible, orders_possible, all_named, made_of, cause_of}
+use Rattle.std.proofs.{lemmas.List.length-map, lemmas.Result.err_from_is_err_and}
+use Rattle.stn_loosen.specs.{Slack.IsSlack, Loosened.loose_durations}
+use Rattle.stn_loosen.proofs.{Lasting.durations_last, Looser.durations_named, Whole.durations_fit, Whole.durations_possible, Whole.orders_possible, Whole.all_named, Whole.made_of, Whole.cause_of}
 use Rattle.stn_loosen.proofs.plan.make_loosened.Goals as goal
 
 pub make_durations-requires-clause-named : goal.make_durations-requires-clause-named
@@ -49,42 +45,6 @@ make_orders-requires-clause-few g c =
     rw (c.in_ok-making.ensures.none, c.durations_of.ensures.value) at c.in_ok-make_durations.ensures.made in
     let fit = durations_fit c.args.base.now c.durations_of.ensures.sound c.args.tolerance slack in
     rw (durations, length-map) fit
-
-pub returns-in_err-making : goal.returns-in_err-making
-returns-in_err-making g c =
-    let returned = err_from_is_err_and c.from_residual.result c.from_residual.ensures.1 in
-    record {
-      sound = rw returned.1 tt;
-      records = rw returned.1 tt;
-      few = rw returned.1 tt;
-      taken = rw returned.1 tt;
-      events = rw returned.1 tt;
-      fault = rw (returned.1, returned.2) tt;
-    }
-
-pub returns-in_err-make_durations : goal.returns-in_err-make_durations
-returns-in_err-make_durations g c =
-    let returned = err_from_is_err_and c.from_residual-in_err-make_durations.result c.from_residual-in_err-make_durations.ensures.1 in
-    record {
-      sound = rw returned.1 tt;
-      records = rw returned.1 tt;
-      few = rw returned.1 tt;
-      taken = rw returned.1 tt;
-      events = rw returned.1 tt;
-      fault = rw (returned.1, returned.2, c.in_err-make_durations.ensures.fault) tt;
-    }
-
-pub returns-in_err-orders : goal.returns-in_err-orders
-returns-in_err-orders g c =
-    let returned = err_from_is_err_and c.from_residual-in_err-orders.result c.from_residual-in_err-orders.ensures.1 in
-    record {
-      sound = rw returned.1 tt;
-      records = rw returned.1 tt;
-      few = rw returned.1 tt;
-      taken = rw returned.1 tt;
-      events = rw returned.1 tt;
-      fault = rw (returned.1, returned.2) tt;
-    }
 
 pub returns-in_err-make_orders : goal.returns-in_err-make_orders
 returns-in_err-make_orders g c =

@@ -1,13 +1,8 @@
 use Rattle.std.proofs.Common.{◌≡◌, ◌++◌, length, take, drop, ap, ◌∙◌, rules}
-use Rattle.std.proofs.lemmas.List.{take_rest}
-use Rattle.std.proofs.lemmas.Result.{on_ok_weaker, IfErr-weaker}
+use Rattle.std.proofs.{lemmas.List.take_rest, lemmas.Result.on_ok_weaker, lemmas.Result.IfErr-weaker}
 use Rattle.stn_net.specs.Horizon.{horizon_bounds}
 use Rattle.stn_lift.specs.PlanSource.{events_of}
-use Rattle.stn_loosen.specs.Slack.{IsSlack}
-use Rattle.stn_loosen.specs.Loosened.{durations_of}
-use Rattle.stn_loosen.specs.Moved.{moved_bounds}
-use Rattle.stn_loosen.specs.Stepped.{IsCauseBehind}
-use Rattle.stn_loosen.specs.Whole.{IsCauseAfter}
+use Rattle.stn_loosen.specs.{Slack.IsSlack, Loosened.durations_of, Moved.moved_bounds, Stepped.IsCauseBehind, Whole.IsCauseAfter}
 use Rattle.stn_loosen.proofs.MadeRobust.{are_steps, bounds_named, made_robust, made_promise, cause_after, on_both}
 use Rattle.stn_loosen.proofs.promise.make_robust.Goals as goal
 

@@ -7,11 +7,3 @@ pub returns-clause-value : goal.returns-clause-value
 returns-clause-value c =
     is_upper c.args.durations.now c.args.bound.now c.from.result c.to.result c.setting_of-from.result c.setting_of-to.result _ c.from.ensures.value c.to.ensures.value c.setting_of-from.ensures.value c.setting_of-to.ensures.value
     (omega (arith, ints, c.get.ensures.value, c.hi.ensures.value, c.get.ensures.within.0, c.get.ensures.within.1, c.setting_of-to.ensures.hi.0, c.setting_of-to.ensures.hi.1, c.setting_of-from.ensures.lo.0, c.setting_of-from.ensures.lo.1))
-
-pub returns-clause-reach : goal.returns-clause-reach
-returns-clause-reach c = record {
-  lo_least = omega (arith, ints);
-  lo_most = omega (arith, ints);
-  hi_least = omega (arith, ints, c.get.ensures.within.0, c.get.ensures.within.1, c.setting_of-to.ensures.hi.0, c.setting_of-to.ensures.hi.1, c.setting_of-from.ensures.lo.0, c.setting_of-from.ensures.lo.1);
-  hi_most = omega (arith, ints, c.get.ensures.within.0, c.get.ensures.within.1, c.setting_of-to.ensures.hi.0, c.setting_of-to.ensures.hi.1, c.setting_of-from.ensures.lo.0, c.setting_of-from.ensures.lo.1);
-}

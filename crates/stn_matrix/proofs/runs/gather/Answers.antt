@@ -1,12 +1,9 @@
 use Rattle.std.proofs.Common.{◌≡◌, ℕ, ◌<◌, ◌≤◌, ◌+ℤ◌, ◌≤ℤ◌, sym, ◌∙◌, arith, inl, inr}
 use Rattle.std.specs.Prelude.{slice_index_or}
-use Rattle.std.proofs.lemmas.Int.{ints}
-use Rattle.std.proofs.lemmas.Bool.{cases_eq}
-use Rattle.std.proofs.lemmas.List.Sorted.{All-permutation, IsPermutation-trans}
+use Rattle.std.proofs.{lemmas.Int.ints, lemmas.Bool.cases_eq, lemmas.List.Sorted.All-permutation, lemmas.List.Sorted.IsPermutation-trans}
 use Rattle.stn_matrix.specs.Table.{entry}
-use Rattle.stn_matrix.proofs.Closure.{closed_within}
+use Rattle.stn_matrix.proofs.{Closure.closed_within, runs.gather.Goals.then-far-entry_of, runs.gather.Goals.else-far-entry_of}
 use Rattle.stn_matrix.proofs.runs.gather.Goals as goal
-use Rattle.stn_matrix.proofs.runs.gather.Goals.{then-far-entry_of, else-far-entry_of}
 
 pub entry_of-requires-clause-column : goal.entry_of-requires-clause-column
 entry_of-requires-clause-column c =

@@ -1,8 +1,6 @@
 use Rattle.std.proofs.Common.{◌≡◌, ◌<◌, ◌≤◌, ℕ}
-use Rattle.std.specs.Prelude.{slice_index_or}
-use Rattle.std.specs.List.Sorted.{IsPermutation}
-use Rattle.stn_matrix.specs.Table.{entry}
-use Rattle.stn_matrix.specs.Way.{IsOnWay}
+use Rattle.std.specs.{Prelude.slice_index_or, List.Sorted.IsPermutation}
+use Rattle.stn_matrix.specs.{Table.entry, Way.IsOnWay}
 use Rattle.stn_matrix.proofs.runs.gather.Given as goal
 
 abbrev pub invariant-loop-place : goal.invariant-loop-place

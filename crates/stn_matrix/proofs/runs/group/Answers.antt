@@ -1,8 +1,7 @@
 use Rattle.std.proofs.Common.{◌≡◌, length, arith}
 use Rattle.stn_matrix.specs.Table.{entry}
-use Rattle.stn_matrix.proofs.Passing.{nearer_moved, runs_more, runs_all}
+use Rattle.stn_matrix.proofs.{Passing.nearer_moved, Passing.runs_more, Passing.runs_all, runs.group.Goals.then-begin-columns, runs.group.Goals.else-begin-columns}
 use Rattle.stn_matrix.proofs.runs.group.Goals as goal
-use Rattle.stn_matrix.proofs.runs.group.Goals.{then-begin-columns, else-begin-columns}
 
 pub loop-hub-preserved : goal.loop-hub-preserved
 loop-hub-preserved c =

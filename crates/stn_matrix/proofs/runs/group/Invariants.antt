@@ -1,6 +1,5 @@
 use Rattle.std.proofs.Common.{◌+◌}
-use Rattle.stn_matrix.specs.Table.{entry}
-use Rattle.stn_matrix.specs.Way.{AreNearer}
+use Rattle.stn_matrix.specs.{Table.entry, Way.AreNearer}
 use Rattle.stn_matrix.proofs.Passing.{AreRunsTo}
 use Rattle.stn_matrix.proofs.runs.group.Given as goal
 

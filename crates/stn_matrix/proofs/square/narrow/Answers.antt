@@ -1,7 +1,6 @@
 use Rattle.std.proofs.Common.{◌≡◌, ◌∙◌, ℕ, ◌≤◌, ◌≤ℤ◌, neg_ℤ, refl, arith}
 use Rattle.std.proofs.lemmas.Int.{ints}
-use Rattle.stn_matrix.specs.Table.{entry}
-use Rattle.stn_matrix.specs.Way.{shorter, narrower}
+use Rattle.stn_matrix.specs.{Table.entry, Way.shorter, Way.narrower}
 use Rattle.stn_matrix.proofs.Closure.{shorter-closed, closed_same, lower_round, narrower-closed}
 use Rattle.stn_matrix.proofs.square.narrow.Goals as goal
 

@@ -1,11 +1,8 @@
 use Rattle.std.proofs.Common.{◌≡◌, ◌≤◌, ◌<◌, ◌∙◌, ◌+ℤ◌, ◌≤ℤ◌, length, take, arith}
-use Rattle.std.proofs.lemmas.Int.{ints}
-use Rattle.std.proofs.lemmas.List.{take_more_set}
+use Rattle.std.proofs.{lemmas.Int.ints, lemmas.List.take_more_set}
 use Rattle.stn_matrix.specs.Table.{entry}
-use Rattle.stn_matrix.proofs.Closure.{closed_within}
-use Rattle.stn_matrix.proofs.Entries.{nearer_skip, nearer_more}
+use Rattle.stn_matrix.proofs.{Closure.closed_within, Entries.nearer_skip, Entries.nearer_more, square.nearer_columns.Goals.then-through-entry_of, square.nearer_columns.Goals.else-through-entry_of}
 use Rattle.stn_matrix.proofs.square.nearer_columns.Goals as goal
-use Rattle.stn_matrix.proofs.square.nearer_columns.Goals.{then-through-entry_of, else-through-entry_of}
 
 pub overflow_add-through : goal.overflow_add-through
 overflow_add-through c =

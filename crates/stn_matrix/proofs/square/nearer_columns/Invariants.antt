@@ -1,6 +1,5 @@
 use Rattle.std.proofs.Common.{◌≤◌, take}
-use Rattle.stn_matrix.specs.Table.{entry}
-use Rattle.stn_matrix.specs.Way.{AreNearer}
+use Rattle.stn_matrix.specs.{Table.entry, Way.AreNearer}
 use Rattle.stn_matrix.proofs.square.nearer_columns.Given as goal
 
 abbrev pub invariant-loop-column : goal.invariant-loop-column

@@ -1,11 +1,9 @@
 use Rattle.std.proofs.Common.{◌≡◌, ◌∙◌, arith, sym, to_z, of_z, w64, ◌+ℤ◌, ◌≤ℤ◌, ◌<ℤ◌, ◌+◌, ◌≤◌}
 use Rattle.std.proofs.lemmas.Int.{ints}
 use Rattle.stn_matrix.specs.Table.{entry}
-use Rattle.stn_matrix.proofs.Closure.{closed_within, shorter-kept_row}
+use Rattle.stn_matrix.proofs.{Closure.closed_within, Closure.shorter-kept_row, Passing.runs_of_row, square.shorten.Goals.then-through-entry_of, square.shorten.Goals.else-through-entry_of}
 use Rattle.stn_matrix.proofs.Entries.{IsShortenedTo, IsNearerRow, nearer_row, row_left_out, shortened_skip, shortened_turn}
-use Rattle.stn_matrix.proofs.Passing.{runs_of_row}
 use Rattle.stn_matrix.proofs.square.shorten.Goals as goal
-use Rattle.stn_matrix.proofs.square.shorten.Goals.{then-through-entry_of, else-through-entry_of}
 
 pub overflow_add-through : goal.overflow_add-through
 overflow_add-through c =

@@ -1,6 +1,5 @@
 use Rattle.std.proofs.Common.{◌≤◌, length, refl}
-use Rattle.std.proofs.lemmas.List.{take_all}
-use Rattle.std.proofs.lemmas.List.Elements.{All-more}
+use Rattle.std.proofs.{lemmas.List.take_all, lemmas.List.Elements.All-more}
 use Rattle.stn_net.specs.Schedule.{times_of, Meets}
 use Rattle.stn_net.proofs.schedule.first_broken.Goals as goal
 

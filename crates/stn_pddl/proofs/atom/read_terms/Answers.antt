@@ -1,14 +1,8 @@
 use Rattle.std.proofs.Common.{◌≡◌, ℕ, List, [], ◌∷◌, ◌++◌, Result, Ok, Err, refl, sym, ◌∙◌, ap, subst, arith}
-use Rattle.std.proofs.lemmas.List.{map-append}
-use Rattle.std.proofs.lemmas.Result.{err_from_is_err_and}
+use Rattle.std.proofs.{lemmas.List.map-append, lemmas.Result.err_from_is_err_and}
 use Rattle.stn_text.specs.Faults.{◌>>=◌, Fails}
 use Rattle.stn_tree.specs.Trees.{Trees, End, Word, Group}
-use Rattle.stn_pddl.specs.declared.fault.DomainFault.{DomainFault}
-use Rattle.stn_pddl.specs.declared.fault.DomainFault.TheVariants.{Unsupported}
-use Rattle.stn_pddl.specs.Faults.{is_memory}
-use Rattle.stn_pddl.specs.Schemas.{TermSchema}
-use Rattle.stn_pddl.specs.Atoms.{term, terms}
-use Rattle.stn_pddl.specs.Views.{term_schema, terms_schema}
+use Rattle.stn_pddl.specs.{declared.fault.DomainFault.DomainFault, declared.fault.DomainFault.TheVariants.Unsupported, Faults.is_memory, Schemas.TermSchema, Atoms.term, Atoms.terms, Views.term_schema, Views.terms_schema}
 use Rattle.stn_pddl.proofs.Steps.{fails_first}
 use Rattle.stn_pddl.proofs.atom.read_terms.Goals as goal
 
@@ -48,11 +42,6 @@ returns-in_err-read_term-in-Word g c =
       given = rw (returned.1, returned.2) (subst (Fails is_memory _) c.terms.invariant.given (fails _ _ _ _ _ _ c.in-Word.ensures.first.0 _ c.in_err-read_term-in-Word.ensures));
       passed = rw returned.1 tt;
     }
-
-pub returns-in_err-push-in-Word : goal.returns-in_err-push-in-Word
-returns-in_err-push-in-Word g c =
-    let returned = err_from_is_err_and c.from_residual-in_err-push-in-Word.result c.from_residual-in_err-push-in-Word.ensures.1 in
-    record { given = rw (returned.1, returned.2) tt; passed = rw returned.1 tt }
 
 pub terms-preserved : goal.terms-preserved
 terms-preserved g c = record {

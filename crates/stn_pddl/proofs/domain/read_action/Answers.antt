@@ -1,14 +1,9 @@
-use Rattle.std.proofs.Common.{◌≡◌, ◌∙◌, [], pos, ap, sym}
+use Rattle.std.proofs.Common.{ap}
 use Rattle.std.proofs.lemmas.Result.{err_from_is_err_and}
 use Rattle.stn_text.specs.Faults.{Gives}
 use Rattle.stn_tree.specs.Cursors.{row_at}
-use Rattle.stn_pddl.specs.Faults.{is_memory}
-use Rattle.stn_pddl.specs.Schemas.{ActionSchema, bare_action}
-use Rattle.stn_pddl.specs.Actions.{named_action}
-use Rattle.stn_pddl.specs.Views.{action_schema, word_of}
-use Rattle.stn_pddl.proofs.SoundActions.{new-name}
-use Rattle.stn_pddl.proofs.Steps.{filled}
-use Rattle.stn_pddl.proofs.Taken.{fails_as_meant}
+use Rattle.stn_pddl.specs.{Faults.is_memory, Schemas.ActionSchema, Actions.named_action, Views.action_schema, Views.word_of}
+use Rattle.stn_pddl.proofs.{SoundActions.new-name, Steps.filled, Taken.fails_as_meant}
 use Rattle.stn_pddl.proofs.domain.read_action.Goals as goal
 
 pub returns-in_err-name : goal.returns-in_err-name
@@ -18,9 +13,6 @@ returns-in_err-name g c =
       given = rw (returned.1, returned.2) (fails_as_meant c.in_err-name.field-0.0 _ c.in_err-name.ensures.fault);
       new = rw returned.1 tt;
     }
-
-pub read_fields-requires : goal.read_fields-requires
-read_fields-requires g c = c.bare-action.ensures ∙ ap (λ name. bare_action name [] (pos 0)) (sym (ap (λ (schema : ActionSchema). schema.name) c.bare-action.ensures))
 
 pub returns : goal.returns
 returns g c =

@@ -1,16 +1,10 @@
-use Rattle.std.proofs.Common.{◌≡◌, ℕ, List, [], ◌∷◌, ◌++◌, Result, Ok, Err, refl, sym, ◌∙◌, ap}
+use Rattle.std.proofs.Common.{◌≡◌, ℕ, List, [], ◌∷◌, ◌++◌, Result, Ok, Err, sym, ◌∙◌, ap}
 use Rattle.std.proofs.lemmas.Result.{err_from_is_err_and}
 use Rattle.stn_text.specs.Faults.{◌>>=◌}
 use Rattle.stn_tree.specs.Trees.{Trees, Word}
-use Rattle.stn_pddl.specs.declared.fault.DomainFault.{DomainFault}
+use Rattle.stn_pddl.specs.{declared.fault.DomainFault.DomainFault, declared.word.Section.Section, Faults.is_memory, Words.section_of, Schemas.ActionSchema, Actions.action, Domains.part}
 use Rattle.stn_pddl.specs.declared.fault.DomainFault.TheVariants.{Syntax, Unsupported}
-use Rattle.stn_pddl.specs.declared.word.Section.{Section}
 use Rattle.stn_pddl.specs.declared.word.Section.TheVariants as section
-use Rattle.stn_pddl.specs.Faults.{is_memory}
-use Rattle.stn_pddl.specs.Words.{section_of}
-use Rattle.stn_pddl.specs.Schemas.{ActionSchema}
-use Rattle.stn_pddl.specs.Actions.{action}
-use Rattle.stn_pddl.specs.Domains.{part}
 use Rattle.stn_pddl.proofs.Steps.{fails_first}
 use Rattle.stn_pddl.proofs.domain.read_part.Goals as goal
 
@@ -28,14 +22,6 @@ part_at : (line at : ℕ) (word : List ℕ) (rest row : Trees) (before : List Ac
 unfolding part
 part_at line at word rest row before k here is = ap (λ r. part line r before) here ∙ ap (by_section line rest before) is
 
-pub returns-in-End : goal.returns-in-End
-unfolding part
-returns-in-End g c = rw c.in-End.ensures.first.0 refl
-
-pub returns-in-Group : goal.returns-in-Group
-unfolding part
-returns-in-Group g c = rw c.in-Group.ensures.first.0 refl
-
 pub returns-in-Skipped : goal.returns-in-Skipped
 returns-in-Skipped g c = part_at _ _ _ _ _ _ _ c.in-Word.ensures.first.0 (sym c.section_of.ensures ∙ c.in-Skipped.is)
 
@@ -50,11 +36,6 @@ returns-in_err-action-in-Action g c =
     let returned = err_from_is_err_and c.from_residual.result c.from_residual.ensures.1 in
     rw (returned.1, returned.2, part_at _ _ _ _ _ _ _ c.in-Word.ensures.first.0 (sym c.section_of.ensures ∙ c.in-Action.is))
     (fails_first is_memory _ _ _ c.in_err-action-in-Action.ensures.given)
-
-pub returns-in_err-push-in-Action : goal.returns-in_err-push-in-Action
-returns-in_err-push-in-Action g c =
-    let returned = err_from_is_err_and c.from_residual-in_err-push-in-Action.result c.from_residual-in_err-push-in-Action.ensures.1 in
-    rw (returned.1, returned.2) tt
 
 pub returns-in_ok-push-in-Action : goal.returns-in_ok-push-in-Action
 returns-in_ok-push-in-Action g c =

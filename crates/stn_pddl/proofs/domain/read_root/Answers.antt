@@ -1,6 +1,5 @@
 use Rattle.std.proofs.Common.{◌≡◌, ℕ, true, List, [], codes, refl, sym, ap}
-use Rattle.stn_tree.specs.Names.{is_same_word}
-use Rattle.stn_tree.specs.Trees.{Trees, Rows, Word, Group}
+use Rattle.stn_tree.specs.{Names.is_same_word, Trees.Trees, Trees.Rows, Trees.Word, Trees.Group}
 use Rattle.stn_pddl.specs.Domains.{parts, is_title, root}
 use Rattle.stn_pddl.proofs.domain.read_root.Goals as goal
 

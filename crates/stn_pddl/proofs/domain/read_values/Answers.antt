@@ -1,14 +1,8 @@
-use Rattle.std.proofs.Common.{◌≡◌, ℕ, ℤ, List, [], pos, Result, Ok, Err, ap, subst}
+use Rattle.std.proofs.Common.{◌≡◌, ℕ, ℤ, List, [], Result, Ok, ap, subst}
 use Rattle.std.proofs.lemmas.Result.{err_from_is_err_and}
 use Rattle.stn_text.specs.Faults.{◌>>=◌, Fails, Gives}
 use Rattle.stn_pddl.specs.declared.action.Side.TheVariants.{Condition, Effect}
-use Rattle.stn_pddl.specs.declared.fault.DomainFault.{DomainFault}
-use Rattle.stn_pddl.specs.Faults.{is_memory}
-use Rattle.stn_pddl.specs.Schemas.{ActionSchema, bare_action}
-use Rattle.stn_pddl.specs.Fields.{Listing, Values, parameters, duration}
-use Rattle.stn_pddl.specs.FieldViews.{listing_of, values_of}
-use Rattle.stn_pddl.specs.Actions.{timed_value, action_of_lists}
-use Rattle.stn_pddl.specs.Views.{words_of, action_schema}
+use Rattle.stn_pddl.specs.{declared.fault.DomainFault.DomainFault, Faults.is_memory, Schemas.ActionSchema, Schemas.bare_action, Fields.Listing, Fields.Values, Fields.parameters, Fields.duration, FieldViews.listing_of, FieldViews.values_of, Actions.timed_value, Actions.action_of_lists, Views.words_of, Views.action_schema}
 use Rattle.stn_pddl.proofs.Steps.{fails_first}
 use Rattle.stn_pddl.proofs.domain.read_values.Goals as goal
 

@@ -1,9 +1,8 @@
-use Rattle.std.proofs.Common.{◌≡◌, ℕ, Bool, true, false, List, codes, refl, sym}
+use Rattle.std.proofs.Common.{◌≡◌, ℕ, true, false, List, codes, refl}
 use Rattle.stn_tree.specs.Names.{is_same_word}
 use Rattle.stn_pddl.specs.declared.word.Field.TheVariants as field
 use Rattle.stn_pddl.specs.declared.word.Key.TheVariants as key
 use Rattle.stn_pddl.specs.Words.{is_key, key_of}
-use Rattle.stn_pddl.proofs.word.key_of.Goals as goal
 
 module _ (word : List ℕ) where
   parameters : is_same_word word (codes ":parameters") ≡ true → key.Known field.Parameters ≡ key_of word
@@ -33,23 +32,3 @@ module _ (word : List ℕ) where
           none : is_key word ≡ false → key.NoKey ≡ key_of word
           unfolding key_of
           none is = rw (a, b, c, d, is) refl
-
-pub returns-then-is_same_word : goal.returns-then-is_same_word
-returns-then-is_same_word c = parameters _ (sym c.if-is_same_word.ensures)
-
-pub returns-then-is_same_word-2 : goal.returns-then-is_same_word-2
-returns-then-is_same_word-2 c = duration _ (sym c.if-is_same_word.ensures) (sym c.if-is_same_word-2.ensures)
-
-pub returns-then-is_same_word-3 : goal.returns-then-is_same_word-3
-returns-then-is_same_word-3 c = condition _ (sym c.if-is_same_word.ensures) (sym c.if-is_same_word-2.ensures) (sym c.if-is_same_word-3.ensures)
-
-pub returns-then-is_same_word-4 : goal.returns-then-is_same_word-4
-returns-then-is_same_word-4 c = effect _ (sym c.if-is_same_word.ensures) (sym c.if-is_same_word-2.ensures) (sym c.if-is_same_word-3.ensures) (sym c.if-is_same_word-4.ensures)
-
-pub returns-then-is_key : goal.returns-then-is_key
-returns-then-is_key c =
-    unknown _ (sym c.if-is_same_word.ensures) (sym c.if-is_same_word-2.ensures) (sym c.if-is_same_word-3.ensures) (sym c.if-is_same_word-4.ensures) (sym c.if-is_key.ensures)
-
-pub returns-else-is_key : goal.returns-else-is_key
-returns-else-is_key c =
-    none _ (sym c.if-is_same_word.ensures) (sym c.if-is_same_word-2.ensures) (sym c.if-is_same_word-3.ensures) (sym c.if-is_same_word-4.ensures) (sym c.if-is_key.ensures)

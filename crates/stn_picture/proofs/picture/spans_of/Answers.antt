@@ -2,9 +2,7 @@ use Rattle.std.proofs.Common.{◌≡◌, ℤ, pos, ◌+◌, ◌≤◌, ◌++◌,
 use Rattle.std.proofs.lemmas.List.{get_or_default}
 use Rattle.stn_net.specs.Event.{most_events}
 use Rattle.stn_lift.specs.PlanSource.{events_of}
-use Rattle.stn_site.specs.Bounds.{all_bounds}
-use Rattle.stn_site.specs.Report.{is_done}
-use Rattle.stn_site.specs.Windows.{window_at}
+use Rattle.stn_site.specs.{Bounds.all_bounds, Report.is_done, Windows.window_at}
 use Rattle.stn_site.proofs.Values.{held_is}
 use Rattle.stn_picture.specs.Spans.{AreSpans}
 use Rattle.stn_picture.proofs.Drawing.{one_more_span}

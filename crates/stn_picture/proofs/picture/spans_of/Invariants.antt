@@ -1,5 +1,4 @@
-use Rattle.stn_site.specs.Bounds.{all_bounds}
-use Rattle.stn_site.specs.Report.{is_done}
+use Rattle.stn_site.specs.{Bounds.all_bounds, Report.is_done}
 use Rattle.stn_picture.specs.Spans.{AreSpans}
 use Rattle.stn_picture.proofs.picture.spans_of.Given as goal
 

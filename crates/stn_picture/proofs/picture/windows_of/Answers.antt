@@ -1,8 +1,7 @@
 use Rattle.std.proofs.Common.{◌++◌, ap, ◌∙◌}
 use Rattle.stn_lift.specs.PlanSource.{events_of}
 use Rattle.stn_questions.specs.Steps.{steps_text}
-use Rattle.stn_picture.specs.Axis.{gap_of}
-use Rattle.stn_picture.specs.Picture.{rows_end, windows_text}
+use Rattle.stn_picture.specs.{Axis.gap_of, Picture.rows_end, Picture.windows_text}
 use Rattle.stn_picture.proofs.picture.windows_of.Goals as goal
 
 pub returns : goal.returns

@@ -1,7 +1,6 @@
 use Rattle.std.proofs.Common.{◌++◌, codes}
 use Rattle.std.specs.List.{flat_map}
-use Rattle.stn_picture.specs.Escape.{escaped}
-use Rattle.stn_picture.specs.Picture.{head_text, labels_text}
+use Rattle.stn_picture.specs.{Escape.escaped, Picture.head_text, Picture.labels_text}
 use Rattle.stn_picture.proofs.Grown.{then, last}
 use Rattle.stn_picture.proofs.windows.append_cycle.Goals as goal
 

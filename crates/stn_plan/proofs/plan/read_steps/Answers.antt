@@ -1,7 +1,6 @@
 use Rattle.std.proofs.Common.{◌∙◌, ap, sym, map, Some, None, Ok}
 use Rattle.std.specs.Option.{option_map}
-use Rattle.std.proofs.lemmas.List.{append-nil, map-append}
-use Rattle.std.proofs.lemmas.Result.{err_from_is_err_and}
+use Rattle.std.proofs.{lemmas.List.append-nil, lemmas.List.map-append, lemmas.Result.err_from_is_err_and}
 use Rattle.stn_plan.specs.Views.{planned_step}
 use Rattle.stn_plan.proofs.StepFacts.{steps_more, steps_fail, steps_end}
 use Rattle.stn_plan.proofs.plan.read_steps.Goals as goal

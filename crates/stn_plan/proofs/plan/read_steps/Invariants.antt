@@ -1,7 +1,6 @@
 -- The steps so far, and then those of the lines that are left, are the steps of all lines.
 use Rattle.std.proofs.Common.{◌≡◌, length, map}
-use Rattle.stn_plan.specs.Steps.{steps_of}
-use Rattle.stn_plan.specs.Views.{planned_step}
+use Rattle.stn_plan.specs.{Steps.steps_of, Views.planned_step}
 use Rattle.stn_plan.proofs.StepFacts.{behind_steps}
 use Rattle.stn_plan.proofs.plan.read_steps.Given as goal
 

@@ -1,7 +1,6 @@
 -- The names so far, and then those that are left, are the names of all tokens.
 use Rattle.std.proofs.Common.{◌≡◌, length}
-use Rattle.stn_plan.specs.Steps.{args_of}
-use Rattle.stn_plan.specs.Views.{names_of}
+use Rattle.stn_plan.specs.{Steps.args_of, Views.names_of}
 use Rattle.stn_plan.proofs.StepFacts.{behind_names}
 use Rattle.stn_plan.proofs.step.read_args.Given as goal
 

@@ -1,13 +1,11 @@
 use Rattle.std.proofs.Common.{◌≡◌, ◌||◌, not, ◌++◌, refl, ap, subst, ◌∙◌, arith}
-use Rattle.std.proofs.lemmas.Option.{MatchOption-at_some}
-use Rattle.std.proofs.lemmas.Result.{IfOk-weaker}
+use Rattle.std.proofs.{lemmas.Option.MatchOption-at_some, lemmas.Result.IfOk-weaker}
 use Rattle.std.specs.List.{flat_map}
 use Rattle.stn_net.specs.Schedule.{HasSchedule}
 use Rattle.stn_matrix.specs.Tightest.{IsExact}
 use Rattle.stn_lift.specs.PlanSource.{events_of}
 use Rattle.stn_records.specs.Content.{Content}
-use Rattle.stn_site.specs.Bounds.{all_bounds}
-use Rattle.stn_site.specs.Report.{is_done}
+use Rattle.stn_site.specs.{Bounds.all_bounds, Report.is_done}
 use Rattle.stn_site.proofs.Printing.{if_some}
 use Rattle.stn_replica.specs.Own.{is_own, done_or_others}
 use Rattle.stn_replica.proofs.Rest.{flags_are}

@@ -4,9 +4,8 @@ use Rattle.stn_windows.specs.Dispatch.{AreReadyTimes}
 use Rattle.stn_site.proofs.Printing.{if_some}
 use Rattle.stn_windows.proofs.Readiness.{left_within}
 use Rattle.stn_questions.specs.declared.ready_event.ReadyEvent.{ReadyEvent}
-use Rattle.stn_questions.proofs.ReadyLists.{HasTimes, pushed_other, each_pushed, each_kept}
+use Rattle.stn_questions.proofs.{ReadyLists.HasTimes, ReadyLists.pushed_other, ReadyLists.each_pushed, ReadyLists.each_kept, ready.ready_by_number.Goals.in-Some+in_ok-push, ready.ready_by_number.Goals.in_default}
 use Rattle.stn_questions.proofs.ready.ready_by_number.Goals as goal
-use Rattle.stn_questions.proofs.ready.ready_by_number.Goals.{in-Some+in_ok-push, in_default}
 
 pub loop-before-preserved : goal.loop-before-preserved
 loop-before-preserved g c =

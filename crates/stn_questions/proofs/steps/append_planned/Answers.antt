@@ -1,7 +1,6 @@
 use Rattle.std.proofs.Common.{◌++◌, ◌∙◌, ap}
 use Rattle.std.proofs.lemmas.Result.{IfOk-equal}
-use Rattle.stn_questions.specs.Durations.{least_of}
-use Rattle.stn_questions.specs.Steps.{step_lines}
+use Rattle.stn_questions.specs.{Durations.least_of, Steps.step_lines}
 use Rattle.stn_questions.proofs.steps.append_planned.Goals as goal
 
 pub returns : goal.returns

@@ -2,8 +2,7 @@ use Rattle.std.proofs.Common.{◌≡◌, ◌≤◌, ◌++◌, length, sym, ap, s
 use Rattle.std.proofs.lemmas.Result.{IfOk-equal}
 use Rattle.stn_lift.specs.BaseBounds.{duration_of}
 use Rattle.stn_lift.specs.PlanSource.{bare, files, plan_source, activities_of}
-use Rattle.stn_questions.specs.Durations.{least_of}
-use Rattle.stn_questions.specs.Steps.{planned_steps, step_lines, steps_text}
+use Rattle.stn_questions.specs.{Durations.least_of, Steps.planned_steps, Steps.step_lines, Steps.steps_text}
 use Rattle.stn_questions.proofs.Listing.{step_lines-same}
 use Rattle.stn_questions.proofs.steps.append_steps.Goals as goal
 

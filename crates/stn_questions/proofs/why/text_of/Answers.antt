@@ -1,8 +1,7 @@
 use Rattle.std.proofs.Common.{◌≡◌, ◌≤◌, ◌++◌, neg_ℤ, false, slice_index_or, ap, ◌∙◌, arith}
 use Rattle.std.proofs.lemmas.Int.{ints}
 use Rattle.stn_net.specs.Event.{most_events}
-use Rattle.stn_site.specs.Lines.{window_line}
-use Rattle.stn_site.specs.Report.{is_done}
+use Rattle.stn_site.specs.{Lines.window_line, Report.is_done}
 use Rattle.stn_questions.proofs.Reasons.{why_part}
 use Rattle.stn_questions.proofs.why.text_of.Goals as goal
 

@@ -1,5 +1,4 @@
-use Rattle.stn_records.specs.JoinLaws.{by_items_alone}
-use Rattle.stn_records.specs.ContentLaws.{maps_join}
+use Rattle.stn_records.specs.{JoinLaws.by_items_alone, ContentLaws.maps_join}
 use Rattle.stn_records.proofs.laws.maps_by_items_alone.Goals as goal
 
 pub returns : goal.returns

@@ -1,8 +1,6 @@
 use Rattle.std.proofs.Common.{◌≤◌, arith}
 use Rattle.std.proofs.lemmas.Bool.{leb-true, le-leb}
-use Rattle.stn_records.specs.JoinLaws.{takes_agree}
-use Rattle.stn_records.specs.Content.{most_known, is_within, known_count}
-use Rattle.stn_records.specs.ContentLaws.{contents_join}
+use Rattle.stn_records.specs.{JoinLaws.takes_agree, Content.most_known, Content.is_within, Content.known_count, ContentLaws.contents_join}
 use Rattle.stn_records.proofs.KnownIds.{known_fewer}
 use Rattle.stn_records.proofs.laws.takes_agree.Goals as goal
 

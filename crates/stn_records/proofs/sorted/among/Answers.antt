@@ -1,10 +1,8 @@
 use Rattle.std.proofs.Common.{◌≡◌, ◌<◌, ◌+◌, ℕ, Bool, true, false, cond, List, [], ◌∷◌, ◌++◌, Vec, length, get_or, ◌≤◌, drop, filter, append_assoc, append-nil, drop_of_length-le, sym, ap, ◌∙◌}
-use Rattle.std.proofs.lemmas.Result.{err_from_is_err_and}
 use Rattle.std.specs.Set.{is_member}
 use Rattle.stn_records.specs.Content.{same_ids}
-use Rattle.stn_records.proofs.Entries.{front}
+use Rattle.stn_records.proofs.{Entries.front, sorted.among.Goals.then-has_id+in_ok-push, sorted.among.Goals.else-has_id}
 use Rattle.stn_records.proofs.sorted.among.Goals as goal
-use Rattle.stn_records.proofs.sorted.among.Goals.{then-has_id+in_ok-push, else-has_id}
 
 next_left : {A : Type 0} (f : A → Bool) (es : List A) (k : ℕ) (d : A) → k < length es → d ≡ get_or es k d → cond (f d) (d ∷ filter f (drop (k + 1) es)) (filter f (drop (k + 1) es)) ≡ filter f (drop k es)
 next_left f es k d within is = sym (ap (filter f) (front es k d within ∙ ap (λ e. e ∷ drop (k + 1) es) (sym is)))
@@ -29,9 +27,6 @@ at_end f all es whole k past is = sym (append-nil all) ∙ ap (λ l. all ++ filt
 
 pub loop-entry-init : goal.loop-entry-init
 loop-entry-init g c = at_first (λ entry. is_member same_ids c.args.ids.now entry.0) c.new-all.result.items c.args.entries.now c.new-all.ensures.items
-
-pub returns-in_err-push : goal.returns-in_err-push
-returns-in_err-push g c = let returned = err_from_is_err_and c.from_residual.result c.from_residual.ensures.1 in rw returned.1 tt
 
 pub loop-entry-preserved : goal.loop-entry-preserved
 loop-entry-preserved g c = elim c.if-has_id.branch [

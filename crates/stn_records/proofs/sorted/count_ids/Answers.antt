@@ -1,10 +1,7 @@
 use Rattle.std.proofs.Common.{◌≡◌, length, ap, sym, ◌∙◌, arith}
 use Rattle.std.proofs.lemmas.Map.Made.{distinct_count-le}
-use Rattle.std.specs.Set.{distinct_count}
-use Rattle.std.specs.FinMap.{is_sorted}
-use Rattle.stn_records.specs.Id.{id_cmp}
-use Rattle.stn_records.specs.Sorted.{past_id}
-use Rattle.stn_records.specs.Content.{same_ids}
+use Rattle.std.specs.{Set.distinct_count, FinMap.is_sorted}
+use Rattle.stn_records.specs.{Id.id_cmp, Sorted.past_id, Content.same_ids}
 use Rattle.stn_records.proofs.Counts.{all_keys, one_counted, fewer_left, none_left, keys_length, past_sorted}
 use Rattle.stn_records.proofs.sorted.count_ids.Goals as goal
 

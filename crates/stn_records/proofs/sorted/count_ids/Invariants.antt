@@ -1,8 +1,6 @@
 use Rattle.std.proofs.Common.{◌≡◌, true, ◌+◌, length}
-use Rattle.std.specs.Set.{distinct_count}
-use Rattle.std.specs.FinMap.{is_sorted}
-use Rattle.stn_records.specs.Id.{id_cmp}
-use Rattle.stn_records.specs.Content.{same_ids}
+use Rattle.std.specs.{Set.distinct_count, FinMap.is_sorted}
+use Rattle.stn_records.specs.{Id.id_cmp, Content.same_ids}
 use Rattle.stn_records.proofs.Counts.{all_keys}
 use Rattle.stn_records.proofs.sorted.count_ids.Given as goal
 

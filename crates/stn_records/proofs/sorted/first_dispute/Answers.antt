@@ -1,11 +1,9 @@
 use Rattle.std.proofs.Common.{sym, ap, ◌∙◌, inl, inr}
 use Rattle.std.proofs.lemmas.Bool.{and_parts}
 use Rattle.std.specs.FinMap.{is_sorted}
-use Rattle.stn_records.specs.Id.{id_cmp}
-use Rattle.stn_records.specs.Sorted.{dispute_of}
-use Rattle.stn_records.proofs.Disputes.{ours_first, theirs_first, both_agree, ended}
+use Rattle.stn_records.specs.{Id.id_cmp, Sorted.dispute_of}
+use Rattle.stn_records.proofs.{Disputes.ours_first, Disputes.theirs_first, Disputes.both_agree, Disputes.ended, sorted.first_dispute.Goals.in_default, sorted.first_dispute.Goals.in_default-2}
 use Rattle.stn_records.proofs.sorted.first_dispute.Goals as goal
-use Rattle.stn_records.proofs.sorted.first_dispute.Goals.{in_default, in_default-2}
 
 pub loop-our-preserved-in-Less : goal.loop-our-preserved-in-Less
 loop-our-preserved-in-Less g c =

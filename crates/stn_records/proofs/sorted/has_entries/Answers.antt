@@ -1,8 +1,7 @@
 use Rattle.std.proofs.Common.{◌&&◌, sym, ap, ◌∙◌}
 use Rattle.std.proofs.lemmas.Bool.{and_parts}
 use Rattle.std.specs.FinMap.{is_sorted}
-use Rattle.stn_records.specs.Id.{id_cmp}
-use Rattle.stn_records.specs.Sorted.{has_entries}
+use Rattle.stn_records.specs.{Id.id_cmp, Sorted.has_entries}
 use Rattle.stn_records.proofs.Holding.{ours_first, both_first, theirs_first}
 use Rattle.stn_records.proofs.sorted.has_entries.Goals as goal
 

@@ -1,7 +1,6 @@
 use Rattle.std.proofs.Common.{◌≡◌, true, ◌+◌, length}
 use Rattle.std.specs.FinMap.{is_sorted}
-use Rattle.stn_records.specs.Id.{id_cmp}
-use Rattle.stn_records.specs.Sorted.{has_entries}
+use Rattle.stn_records.specs.{Id.id_cmp, Sorted.has_entries}
 use Rattle.stn_records.proofs.sorted.has_entries.Given as goal
 
 abbrev pub invariant-loop-our : goal.invariant-loop-our

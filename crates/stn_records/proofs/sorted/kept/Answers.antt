@@ -1,10 +1,7 @@
 use Rattle.std.proofs.Common.{◌∙◌}
-use Rattle.std.proofs.lemmas.Result.{IfOk-weaker, err_from_is_err_and}
+use Rattle.std.proofs.lemmas.Result.{IfOk-weaker}
 use Rattle.stn_records.proofs.Places.{same_wanted}
 use Rattle.stn_records.proofs.sorted.kept.Goals as goal
-
-pub returns-in_err-ids : goal.returns-in_err-ids
-returns-in_err-ids g c = let returned = err_from_is_err_and c.from_residual.result c.from_residual.ensures.1 in rw returned.1 tt
 
 -- the sort keeps the ids
 pub returns : goal.returns

@@ -1,9 +1,7 @@
 use Rattle.std.proofs.Common.{inl, inr}
-use Rattle.stn_records.specs.Id.{id_cmp}
-use Rattle.stn_records.specs.Sorted.{merge}
-use Rattle.stn_records.proofs.Entries.{merge_ends}
+use Rattle.stn_records.specs.{Id.id_cmp, Sorted.merge}
+use Rattle.stn_records.proofs.{Entries.merge_ends, sorted.merged.Goals.in_default, sorted.merged.Goals.in_default-2}
 use Rattle.stn_records.proofs.sorted.merged.Goals as goal
-use Rattle.stn_records.proofs.sorted.merged.Goals.{in_default, in_default-2}
 
 -- one of the lists is at its end
 pub returns : goal.returns

@@ -1,6 +1,5 @@
 use Rattle.std.proofs.Common.{◌≡◌, ◌+◌, ◌++◌, length}
-use Rattle.stn_records.specs.Id.{id_cmp}
-use Rattle.stn_records.specs.Sorted.{merge}
+use Rattle.stn_records.specs.{Id.id_cmp, Sorted.merge}
 use Rattle.stn_records.proofs.sorted.merged.Given as goal
 
 abbrev pub invariant-loop-our : goal.invariant-loop-our

@@ -1,20 +1,11 @@
-use Rattle.std.proofs.Common.{map, ap, sym, ◌∙◌, drop_of_length-le}
+use Rattle.std.proofs.Common.{ap, ◌∙◌}
 use Rattle.std.specs.FinMap as fin
 use Rattle.stn_records.specs.Id.{SiteCounter}
-use Rattle.stn_records.specs.Content.{with_ids}
 use Rattle.stn_records.proofs.Replaced.{put_next}
 use Rattle.stn_records.proofs.state.replaced_of.Goals as goal
-
-pub loop-entry-init : goal.loop-entry-init
-loop-entry-init g c = λ i. with_ids (c.in_ok-all.ensures i) (map (λ (e : SiteCounter × SiteCounter). e.1) (c.entries-entry-items.ensures.value i))
 
 pub loop-entry-preserved : goal.loop-entry-preserved
 loop-entry-preserved g c =
     put_next c.loop-entry.all c.insert.new.self c.entries-entry-items.result.now c.loop-entry.entry-index c.entry-item.result c.loop-entry-test.true
     (c.in_ok-insert.ensures.inserted ∙ ap (λ (e : SiteCounter × SiteCounter). fin.insert c.loop-entry.all e.1 tt) c.entry-item.is)
-    ∙ c.loop-entry.invariant
-
-pub returns : goal.returns
-returns g c =
-    ap (λ es. with_ids c.loop-entry.all (map (λ (e : SiteCounter × SiteCounter). e.1) es)) (sym (drop_of_length-le c.entries-entry-items.result.now c.loop-entry-test.false))
     ∙ c.loop-entry.invariant

@@ -1,12 +1,10 @@
 use Rattle.std.proofs.Common.{List, All, sym, subst, ◌∙◌}
 use Rattle.stn_net.specs.Difference.{NamesEvents}
 use Rattle.stn_lift.specs.PlanSource.{events_of}
-use Rattle.stn_records.specs.Id.{SiteCounter}
-use Rattle.stn_records.specs.declared.record.Record.{Record}
+use Rattle.stn_records.specs.{Id.SiteCounter, declared.record.Record.Record}
 use Rattle.stn_site.specs.Bounds.{bounds_of}
-use Rattle.stn_repair.proofs.Listing.{member_is, ids_grow, ids_stay, turns_named}
+use Rattle.stn_repair.proofs.{Listing.member_is, Listing.ids_grow, Listing.ids_stay, Listing.turns_named, dropped.dropped_ids.Goals.then-is_among+in_ok-push, dropped.dropped_ids.Goals.else-is_among}
 use Rattle.stn_repair.proofs.dropped.dropped_ids.Goals as goal
-use Rattle.stn_repair.proofs.dropped.dropped_ids.Goals.{then-is_among+in_ok-push, else-is_among}
 
 pub refused_ids-requires : goal.refused_ids-requires
 refused_ids-requires g c =

@@ -1,9 +1,7 @@
 use Rattle.std.proofs.Common.{◌∙◌}
 use Rattle.stn_lift.specs.PlanSource.{base_bounds, events_of}
-use Rattle.stn_repair.proofs.Listing.{named_at}
-use Rattle.stn_repair.proofs.Refusing.{keeps_one, refuses_one, all_refused, refuted}
+use Rattle.stn_repair.proofs.{Listing.named_at, Refusing.keeps_one, Refusing.refuses_one, Refusing.all_refused, Refusing.refuted, dropped.refused_ids.Goals.then-not-tighten+in_ok-push, dropped.refused_ids.Goals.else-not-tighten}
 use Rattle.stn_repair.proofs.dropped.refused_ids.Goals as goal
-use Rattle.stn_repair.proofs.dropped.refused_ids.Goals.{then-not-tighten+in_ok-push, else-not-tighten}
 
 pub tighten-requires : goal.tighten-requires
 tighten-requires g c =

@@ -1,7 +1,6 @@
 use Rattle.stn_lift.specs.PlanSource.{base_bounds}
 use Rattle.stn_records.specs.Content.{live_of}
-use Rattle.stn_repair.proofs.Largest.{kept_possible, kept_largest}
-use Rattle.stn_repair.proofs.LiveOnce.{live_once}
+use Rattle.stn_repair.proofs.{Largest.kept_possible, Largest.kept_largest, LiveOnce.live_once}
 use Rattle.stn_repair.proofs.laws.kept_is_largest.Goals as goal
 
 pub returns-clause-possible : goal.returns-clause-possible

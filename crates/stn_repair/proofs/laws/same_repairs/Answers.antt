@@ -1,8 +1,7 @@
 use Rattle.std.proofs.Common.{subst}
 use Rattle.stn_lift.specs.PlanSource.{PlanSource, base_bounds}
-use Rattle.stn_records.specs.Id.{SiteCounter}
+use Rattle.stn_records.specs.{Id.SiteCounter, declared.record.Record.Record}
 use Rattle.std.specs.Prelude.{List}
-use Rattle.stn_records.specs.declared.record.Record.{Record}
 use Rattle.stn_site.proofs.Items.{same_counts}
 use Rattle.stn_repair.specs.Text.{SaysWhatMends, IsRepairsText}
 use Rattle.stn_repair.proofs.laws.same_repairs.Goals as goal

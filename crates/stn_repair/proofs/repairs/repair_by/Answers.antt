@@ -1,12 +1,9 @@
 use Rattle.std.proofs.Common.{◌≡◌, List, All, sym, ap, subst, ◌++◌, ◌∙◌, IfOk, MatchOption}
-use Rattle.stn_net.specs.Difference.{Difference, NamesEvents}
-use Rattle.stn_net.specs.Schedule.{HasSchedule}
+use Rattle.stn_net.specs.{Difference.Difference, Difference.NamesEvents, Schedule.HasSchedule}
 use Rattle.stn_lift.specs.PlanSource.{base_bounds, events_of}
 use Rattle.stn_site.specs.Bounds.{bounds_of}
 use Rattle.stn_repair.specs.Repairs.{without, IsRepair}
-use Rattle.stn_repair.proofs.Listing.{others_named}
-use Rattle.stn_repair.proofs.Refusing.{refuted}
-use Rattle.stn_repair.proofs.RepairFound.{cycle_places, not_on_cycle}
+use Rattle.stn_repair.proofs.{Listing.others_named, Refusing.refuted, RepairFound.cycle_places, RepairFound.not_on_cycle}
 use Rattle.stn_repair.proofs.repairs.repair_by.Goals as goal
 
 pub has_link_of-requires : goal.has_link_of-requires

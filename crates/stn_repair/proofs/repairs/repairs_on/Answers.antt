@@ -3,10 +3,8 @@ use Rattle.std.proofs.lemmas.Option.{MatchOption-at_some, MatchOption-at_none}
 use Rattle.stn_net.specs.Schedule.{HasSchedule}
 use Rattle.stn_lift.specs.PlanSource.{base_bounds, events_of}
 use Rattle.stn_repair.specs.Repairs.{others, IsRepair}
-use Rattle.stn_repair.proofs.Listing.{named_at}
-use Rattle.stn_repair.proofs.Found.{repairs_pass, repairs_grow}
+use Rattle.stn_repair.proofs.{Listing.named_at, Found.repairs_pass, Found.repairs_grow, repairs.repairs_on.Goals.in-Some+in_ok-push, repairs.repairs_on.Goals.in_default}
 use Rattle.stn_repair.proofs.repairs.repairs_on.Goals as goal
-use Rattle.stn_repair.proofs.repairs.repairs_on.Goals.{in-Some+in_ok-push, in_default}
 
 pub repair_by-requires-clause-bound_named : goal.repair_by-requires-clause-bound_named
 repair_by-requires-clause-bound_named g c =

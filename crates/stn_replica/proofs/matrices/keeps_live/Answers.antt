@@ -1,11 +1,9 @@
 use Rattle.std.proofs.Common.{◌≡◌, true, false, not, ◌&&◌, refl, sym, subst, ◌∙◌, All}
-use Rattle.std.proofs.lemmas.Bool.{false≢true}
-use Rattle.std.proofs.lemmas.List.Elements.{All-nil}
+use Rattle.std.proofs.{lemmas.Bool.false≢true, lemmas.List.Elements.All-nil}
 use Rattle.std.specs.FinMap.{entries}
 use Rattle.stn_records.specs.Content.{is_live, is_replaced, replaced_set}
 use Rattle.stn_records.proofs.Entries.{in_order}
-use Rattle.stn_replica.proofs.Ahead.{all_ahead, seen_there, seen_ahead}
-use Rattle.stn_replica.proofs.Live.{replaced_there, keeps_where_dead, falls_where_replaced}
+use Rattle.stn_replica.proofs.{Ahead.all_ahead, Ahead.seen_there, Ahead.seen_ahead, Live.replaced_there, Live.keeps_where_dead, Live.falls_where_replaced}
 use Rattle.stn_site.proofs.Places.{walked_are, seen_with, all_seen, next_of}
 use Rattle.stn_replica.proofs.matrices.keeps_live.Goals as goal
 

@@ -1,14 +1,11 @@
 use Rattle.std.proofs.Common.{◌≡◌, ◌++◌, [], ◌∷◌, is_some, sym, ap, subst, ◌∙◌}
 use Rattle.std.specs.FinMap.{get}
-use Rattle.stn_records.specs.declared.record.Record.{Record}
-use Rattle.stn_records.specs.Content.{Content}
+use Rattle.stn_records.specs.{declared.record.Record.Record, Content.Content, ContentLaws.ids_total, ContentLaws.ids_exact}
 use Rattle.stn_net.specs.Difference.{NamesEvents}
-use Rattle.stn_records.specs.ContentLaws.{ids_total, ids_exact}
 use Rattle.stn_records.proofs.Gets.{get_from_entries}
 use Rattle.stn_site.proofs.Named.{value_of}
 use Rattle.stn_replica.specs.Invariant.{IsSettled}
-use Rattle.stn_replica.proofs.Schedules.{schedule_before, settled_tightened}
-use Rattle.stn_replica.proofs.Sound.{settled_exact, settled_conflict}
+use Rattle.stn_replica.proofs.{Schedules.schedule_before, Schedules.settled_tightened, Sound.settled_exact, Sound.settled_conflict}
 use Rattle.stn_replica.proofs.matrices.tighten_by.Goals as goal
 
 pub unwrap-one-requires : goal.unwrap-one-requires

@@ -3,17 +3,12 @@ use Rattle.std.proofs.lemmas.Bool.{false≢true}
 use Rattle.std.specs.FinMap.{entries}
 use Rattle.stn_net.specs.Difference.{Difference}
 use Rattle.stn_matrix.specs.Tightest.{IsExact}
-use Rattle.stn_records.specs.Id.{SiteCounter}
-use Rattle.stn_records.specs.declared.record.Record.{Record}
-use Rattle.stn_records.specs.Content.{is_replaced, replaced_set}
+use Rattle.stn_records.specs.{Id.SiteCounter, declared.record.Record.Record, Content.is_replaced, Content.replaced_set}
 use Rattle.stn_records.proofs.Entries.{in_order}
 use Rattle.stn_site.specs.Bounds.{bounds_of}
-use Rattle.stn_replica.proofs.Ahead.{all_ahead, seen_there, seen_ahead}
-use Rattle.stn_site.proofs.Places.{walked_are, one_more_seen, all_seen}
-use Rattle.stn_site.proofs.Walk.{bounds_seen, one_more_dead}
-use Rattle.stn_replica.proofs.Tightening.{conflict_live, live_taken}
+use Rattle.stn_replica.proofs.{Ahead.all_ahead, Ahead.seen_there, Ahead.seen_ahead, Tightening.conflict_live, Tightening.live_taken, matrices.tighten_live.Goals.else-not-begins_with-via-then-not-begins_with+else-not-tighten, matrices.tighten_live.Goals.else-not-begins_with-via-else-not-begins_with}
+use Rattle.stn_site.proofs.{Places.walked_are, Places.one_more_seen, Places.all_seen, Walk.bounds_seen, Walk.one_more_dead}
 use Rattle.stn_replica.proofs.matrices.tighten_live.Goals as goal
-use Rattle.stn_replica.proofs.matrices.tighten_live.Goals.{else-not-begins_with-via-then-not-begins_with+else-not-tighten, else-not-begins_with-via-else-not-begins_with}
 
 pub returns-then-not-tighten-clause-settled : goal.returns-then-not-tighten-clause-settled
 returns-then-not-tighten-clause-settled g c =

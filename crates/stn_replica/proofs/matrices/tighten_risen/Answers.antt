@@ -4,12 +4,10 @@ use Rattle.std.specs.FinMap.{entries, contains_key}
 use Rattle.stn_records.specs.Content.{replaced_set}
 use Rattle.stn_records.proofs.Entries.{in_order}
 use Rattle.stn_replica.specs.Work.{is_risen}
-use Rattle.stn_replica.proofs.Ahead.{all_ahead, seen_there, seen_ahead, rises}
+use Rattle.stn_replica.proofs.{Ahead.all_ahead, Ahead.seen_there, Ahead.seen_ahead, Ahead.rises, Live.added_there, matrices.tighten_risen.Goals.else-has_risen-via-then-has_risen+else-not-tighten, matrices.tighten_risen.Goals.else-has_risen-via-else-has_risen}
 use Rattle.stn_site.proofs.Places.{walked_are, one_more_seen, all_seen, next_of}
-use Rattle.stn_replica.proofs.Live.{added_there}
 use Rattle.stn_replica.proofs.Tightening.{IsTightenedBy, none_taken, one_taken, none_more, taken_same, conflict_ahead, fewer_risen}
 use Rattle.stn_replica.proofs.matrices.tighten_risen.Goals as goal
-use Rattle.stn_replica.proofs.matrices.tighten_risen.Goals.{else-has_risen-via-then-has_risen+else-not-tighten, else-has_risen-via-else-has_risen}
 
 pub returns-then-not-tighten-clause-settled : goal.returns-then-not-tighten-clause-settled
 returns-then-not-tighten-clause-settled g c =

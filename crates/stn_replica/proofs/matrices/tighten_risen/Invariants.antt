@@ -1,8 +1,7 @@
 use Rattle.std.proofs.Common.{take}
 use Rattle.std.specs.FinMap.{entries}
 use Rattle.stn_records.specs.Content.{replaced_set}
-use Rattle.stn_replica.proofs.Ahead.{IsAhead}
-use Rattle.stn_replica.proofs.Tightening.{IsTightenedBy}
+use Rattle.stn_replica.proofs.{Ahead.IsAhead, Tightening.IsTightenedBy}
 use Rattle.stn_replica.proofs.matrices.tighten_risen.Given as goal
 
 abbrev pub invariant-loop-id : goal.invariant-loop-id

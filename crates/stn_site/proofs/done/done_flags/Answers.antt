@@ -1,12 +1,9 @@
 use Rattle.std.proofs.Common.{◌≡◌, ◌+◌, List, [], ◌∷◌, ◌++◌, filter, not, take, true, refl, sym, ap, ◌∙◌, arith}
 use Rattle.std.proofs.lemmas.List.{length-set}
 use Rattle.std.specs.FinMap.{entries}
-use Rattle.stn_records.specs.Content.{is_replaced}
-use Rattle.stn_records.specs.Id.{SiteCounter}
-use Rattle.stn_records.specs.declared.record.Record.{Record}
+use Rattle.stn_records.specs.{Content.is_replaced, Id.SiteCounter, declared.record.Record.Record}
 use Rattle.stn_site.specs.Report.{says_done}
-use Rattle.stn_site.proofs.Places.{walked_are, one_more_seen, all_seen}
-use Rattle.stn_site.proofs.Flags.{flag_first, seen_done, seen_withdrawn, seen_plain}
+use Rattle.stn_site.proofs.{Places.walked_are, Places.one_more_seen, Places.all_seen, Flags.flag_first, Flags.seen_done, Flags.seen_withdrawn, Flags.seen_plain}
 use Rattle.stn_site.proofs.done.done_flags.Goals as goal
 use Rattle.stn_site.proofs.done.done_flags.Goals.{then-is_done_mark+then-is_live, else-is_done_mark, else-is_done_mark-via-then-is_done_mark+else-is_live, else-is_done_mark-via-else-is_done_mark}
 

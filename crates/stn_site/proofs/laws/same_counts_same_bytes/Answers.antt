@@ -1,5 +1,4 @@
-use Rattle.stn_site.proofs.Counts.{counts_alike}
-use Rattle.stn_site.proofs.OneReport.{counted_reports}
+use Rattle.stn_site.proofs.{Counts.counts_alike, OneReport.counted_reports}
 use Rattle.stn_site.proofs.laws.same_counts_same_bytes.Goals as goal
 
 pub returns-clause-items : goal.returns-clause-items

@@ -1,6 +1,5 @@
 use Rattle.std.proofs.Common.{ℤ, ◌++◌, ap, ◌∙◌, arith, append_assoc}
-use Rattle.std.proofs.lemmas.Int.{to_z-of_z}
-use Rattle.std.proofs.lemmas.Result.{err_from_is_err_and}
+use Rattle.std.proofs.{lemmas.Int.to_z-of_z, lemmas.Result.err_from_is_err_and}
 use Rattle.stn_time.specs.Text.{printed}
 use Rattle.stn_site.proofs.Lengths.{sum_length, length_appended}
 use Rattle.stn_site.proofs.lines.append_conflict_line.Goals as goal

@@ -1,7 +1,6 @@
 use Rattle.std.proofs.Common.{◌≡◌, ◌++◌, sym, subst, arith, append-nil}
 use Rattle.std.specs.List.{flat_map}
-use Rattle.std.proofs.lemmas.List.{take_all}
-use Rattle.std.proofs.lemmas.Result.{err_from_is_err_and}
+use Rattle.std.proofs.{lemmas.List.take_all, lemmas.Result.err_from_is_err_and}
 use Rattle.stn_site.specs.Lines.{link_line}
 use Rattle.stn_site.proofs.report.append_link_lines.Goals as goal
 

@@ -1,7 +1,6 @@
 use Rattle.std.proofs.Common.{◌≡◌, ◌+◌, ◌*◌, ◌≤◌, ◌++◌, take, length}
 use Rattle.std.specs.List.{flat_map}
-use Rattle.stn_site.specs.Lines.{link_line}
-use Rattle.stn_site.specs.declared.lines.TheConstants.{MOST_LINE}
+use Rattle.stn_site.specs.{Lines.link_line, declared.lines.TheConstants.MOST_LINE}
 use Rattle.stn_site.proofs.report.append_link_lines.Given as goal
 
 abbrev pub invariant-loop-link : goal.invariant-loop-link

@@ -1,6 +1,5 @@
 use Rattle.std.proofs.Common.{refl, subst, All}
-use Rattle.std.proofs.lemmas.Bool.{false≢true}
-use Rattle.std.proofs.lemmas.List.Elements.{All-nil}
+use Rattle.std.proofs.{lemmas.Bool.false≢true, lemmas.List.Elements.All-nil}
 use Rattle.std.specs.FinMap.{entries}
 use Rattle.stn_net.specs.Difference.{NamesEvents}
 use Rattle.stn_site.proofs.Places.{walked_are, seen_with, all_seen, next_of}

@@ -3,8 +3,7 @@ use Rattle.std.specs.FinMap.{entries}
 use Rattle.stn_records.specs.Content.{is_replaced}
 use Rattle.stn_net.specs.Schedule.{Meets, times_of}
 use Rattle.stn_site.specs.Bounds.{bounds_of}
-use Rattle.stn_site.proofs.Places.{walked_are, one_more_seen, all_seen}
-use Rattle.stn_site.proofs.Walk.{seen_live, seen_dead, found_record}
+use Rattle.stn_site.proofs.{Places.walked_are, Places.one_more_seen, Places.all_seen, Walk.seen_live, Walk.seen_dead, Walk.found_record}
 use Rattle.stn_site.proofs.site_plan.first_broken_record.Goals as goal
 use Rattle.stn_site.proofs.site_plan.first_broken_record.Goals.{else-live-via-then-live+else-is_broken, else-live-via-else-live}
 

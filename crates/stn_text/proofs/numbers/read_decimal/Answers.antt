@@ -1,10 +1,6 @@
 use Rattle.std.proofs.Common.{◌≡◌, ℕ, ◌^◌, ◌<◌, List, Option, Some, Result, decimal, true, sym, ap, ◌∙◌, subst}
 use Rattle.std.specs.Result.{OkIff, result_ok}
-use Rattle.std.proofs.lemmas.Bool.{true≢false}
-use Rattle.std.proofs.lemmas.Slice.Eq.{slice_eq-Decides}
-use Rattle.std.proofs.lemmas.Bool.Decides.{Decides-eqb}
-use Rattle.std.proofs.lemmas.Result.{Ok-from_Ok_iff}
-use Rattle.std.proofs.lemmas.Option.{none-some, same_Some}
+use Rattle.std.proofs.{lemmas.Bool.true≢false, lemmas.Slice.Eq.slice_eq-Decides, lemmas.Bool.Decides.Decides-eqb, lemmas.Result.Ok-from_Ok_iff, lemmas.Option.none-some, lemmas.Option.same_Some}
 use Rattle.stn_text.specs.Numbers.{number_of}
 use Rattle.stn_text.proofs.Digits.{number_of-decimal}
 use Rattle.stn_text.proofs.numbers.read_decimal.Goals as goal

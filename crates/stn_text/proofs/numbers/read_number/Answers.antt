@@ -1,14 +1,8 @@
 use Rattle.std.proofs.Common.{◌≡◌, ◌<◌, ◌≤◌, ◌&&◌, true, false, length, get_or, Some, refl, sym, ap, ◌∙◌, arith}
-use Rattle.std.specs.Prelude.{nat_le, nat_lt}
-use Rattle.std.specs.Char.{is_ascii_digit}
-use Rattle.std.specs.Str.{all_ascii_digits}
-use Rattle.std.specs.Str.Parse.{digits_value_after}
-use Rattle.std.proofs.lemmas.Bool.Decides.{nat_tests}
-use Rattle.std.proofs.lemmas.Grind.{common_steps}
-use Rattle.std.proofs.lemmas.List.{at_drop_all}
-use Rattle.stn_text.proofs.Digits.{number_of-length, number_of-other, number_of-digits, digits-stop}
+use Rattle.std.specs.{Prelude.nat_le, Prelude.nat_lt, Char.is_ascii_digit, Str.all_ascii_digits, Str.Parse.digits_value_after}
+use Rattle.std.proofs.{lemmas.Bool.Decides.nat_tests, lemmas.Grind.common_steps, lemmas.List.at_drop_all}
+use Rattle.stn_text.proofs.{Digits.number_of-length, Digits.number_of-other, Digits.number_of-digits, Digits.digits-stop, numbers.read_number.Goals.then-is_empty-via-then-is_empty, numbers.read_number.Goals.then-is_empty-via-else-is_empty+then-word-gt-MOST_DIGITS}
 use Rattle.stn_text.proofs.numbers.read_number.Goals as goal
-use Rattle.stn_text.proofs.numbers.read_number.Goals.{then-is_empty-via-then-is_empty, then-is_empty-via-else-is_empty+then-word-gt-MOST_DIGITS}
 
 pub returns-then-is_empty : goal.returns-then-is_empty
 returns-then-is_empty c = record {

@@ -1,6 +1,5 @@
 use Rattle.std.proofs.Common.{◌≡◌, ◌^◌, ◌<◌, drop}
-use Rattle.std.specs.Str.{all_ascii_digits}
-use Rattle.std.specs.Str.Parse.{digits_value, digits_value_after}
+use Rattle.std.specs.{Str.all_ascii_digits, Str.Parse.digits_value, Str.Parse.digits_value_after}
 use Rattle.stn_text.proofs.numbers.read_number.Given as goal
 
 abbrev pub invariant-loop-digit : goal.invariant-loop-digit

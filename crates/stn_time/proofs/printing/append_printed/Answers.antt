@@ -1,7 +1,5 @@
 use Rattle.std.proofs.Common.{◌≡◌, ℕ, ℤ, ◌/◌, ◌%◌, ◌<◌, ◌≤◌, ◌++◌, ◌^◌, ap, ◌∙◌, subst, codes, w64, to_z, of_z, arith}
-use Rattle.std.specs.Fmt.{decimal, sign_text}
-use Rattle.std.specs.Int.{is_negative}
-use Rattle.std.specs.Prelude.{unsigned_abs}
+use Rattle.std.specs.{Fmt.decimal, Fmt.sign_text, Int.is_negative, Prelude.unsigned_abs}
 use Rattle.std.proofs.lemmas.Int.{to_z-of_z}
 use Rattle.stn_time.specs.Text.{three_digits}
 use Rattle.stn_time.proofs.Prints.{appends-printed}

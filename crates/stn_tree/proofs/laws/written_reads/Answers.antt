@@ -1,5 +1,4 @@
-use Rattle.stn_tree.proofs.Written.{written-reads}
-use Rattle.stn_tree.proofs.Writable.{tree_of-writable}
+use Rattle.stn_tree.proofs.{Written.written-reads, Writable.tree_of-writable}
 use Rattle.stn_tree.proofs.laws.written_reads.Goals as goal
 
 pub returns : goal.returns

@@ -1,6 +1,5 @@
 use Rattle.std.proofs.Common.{◌∙◌, get_or, arith, sym}
-use Rattle.stn_tree.proofs.Rows.{line_after-most}
-use Rattle.stn_tree.proofs.Scanned.{scanned-at}
+use Rattle.stn_tree.proofs.{Rows.line_after-most, Scanned.scanned-at}
 use Rattle.stn_tree.proofs.scan.scan.Goals as goal
 
 pub loop-byte-preserved : goal.loop-byte-preserved

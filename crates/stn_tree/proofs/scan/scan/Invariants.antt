@@ -1,6 +1,5 @@
 use Rattle.std.proofs.Common.{◌≡◌, ◌+◌, ◌≤◌, false, drop}
-use Rattle.stn_tree.specs.declared.scan.Place.TheVariants.{Before}
-use Rattle.stn_tree.specs.Scan.{scanned}
+use Rattle.stn_tree.specs.{declared.scan.Place.TheVariants.Before, Scan.scanned}
 use Rattle.stn_tree.proofs.scan.scan.Given as goal
 
 abbrev pub invariant-loop-byte : goal.invariant-loop-byte

@@ -1,6 +1,5 @@
 use Rattle.std.proofs.Common.{sym}
-use Rattle.stn_tree.specs.Trees.{rows_from}
-use Rattle.stn_tree.specs.Cursors.{rows_at}
+use Rattle.stn_tree.specs.{Trees.rows_from, Cursors.rows_at}
 use Rattle.stn_tree.proofs.Scanned.{one-list}
 use Rattle.stn_tree.proofs.scan.start.Goals as goal
 

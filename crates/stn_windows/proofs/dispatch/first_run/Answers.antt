@@ -1,9 +1,7 @@
 use Rattle.std.proofs.Common.{◌≡◌, ◌≤ℤ◌, ◌<ℤ◌, refl, sym, ◌∙◌, inl, inr, arith, rules}
-use Rattle.std.proofs.lemmas.Int.{ints}
-use Rattle.std.proofs.lemmas.Bool.{cases_lt, false≢true}
+use Rattle.std.proofs.{lemmas.Int.ints, lemmas.Bool.cases_lt, lemmas.Bool.false≢true}
 use Rattle.stn_matrix.specs.Table.{far_of}
-use Rattle.stn_windows.specs.Dispatch.{IsLeft}
-use Rattle.stn_windows.specs.Leading.{earliest, CanLead}
+use Rattle.stn_windows.specs.{Dispatch.IsLeft, Leading.earliest, Leading.CanLead}
 use Rattle.stn_windows.proofs.Coming.{one_more_run, same_first, one_more_behind}
 use Rattle.stn_windows.proofs.dispatch.first_run.Goals as goal
 use Rattle.stn_windows.proofs.dispatch.first_run.Goals.{then-is_left+else-le, else-le-via-then-le+else-leads, else-le-via-else-le, else-is_left}

@@ -1,7 +1,6 @@
 use Rattle.std.proofs.Common.{rules}
 use Rattle.std.proofs.lemmas.Bool.{false≢true}
-use Rattle.stn_windows.proofs.Readiness.{ready_now, ready_can_lead}
-use Rattle.stn_windows.proofs.Coming.{none_is_past, past_none_ready}
+use Rattle.stn_windows.proofs.{Readiness.ready_now, Readiness.ready_can_lead, Coming.none_is_past, Coming.past_none_ready}
 use Rattle.stn_matrix.specs.Table.{far_of}
 use Rattle.stn_windows.proofs.dispatch.ready.Goals as goal
 

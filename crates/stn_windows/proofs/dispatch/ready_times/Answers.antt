@@ -1,10 +1,7 @@
 use Rattle.std.proofs.Common.{◌≤ℤ◌, ◌<ℤ◌, sym, ◌∙◌, arith}
-use Rattle.std.proofs.lemmas.Int.{ints}
-use Rattle.std.proofs.lemmas.Bool.{false≢true}
-use Rattle.stn_windows.proofs.Readiness.{ready_can_lead}
-use Rattle.stn_windows.proofs.ReadyTimes.{ready_from_now}
+use Rattle.std.proofs.{lemmas.Int.ints, lemmas.Bool.false≢true}
+use Rattle.stn_windows.proofs.{Readiness.ready_can_lead, ReadyTimes.ready_from_now, dispatch.ready_times.Goals.then-not-is_left-via-then-not-is_left, dispatch.ready_times.Goals.then-not-is_left-via-else-not-is_left+then-not-leads}
 use Rattle.stn_windows.proofs.dispatch.ready_times.Goals as goal
-use Rattle.stn_windows.proofs.dispatch.ready_times.Goals.{then-not-is_left-via-then-not-is_left, then-not-is_left-via-else-not-is_left+then-not-leads}
 
 pub returns-then-not-is_left : goal.returns-then-not-is_left
 returns-then-not-is_left g c = λ bounds exact time from ready.

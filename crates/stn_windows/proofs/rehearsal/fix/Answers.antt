@@ -1,6 +1,5 @@
 use Rattle.std.proofs.Common.{◌≡◌, [], ◌∷◌, ◌++◌, subst, sym, rules}
-use Rattle.stn_net.specs.Difference.{Difference}
-use Rattle.stn_net.specs.Schedule.{HasSchedule}
+use Rattle.stn_net.specs.{Difference.Difference, Schedule.HasSchedule}
 use Rattle.stn_matrix.specs.Tightest.{IsExact}
 use Rattle.stn_windows.specs.Rehearsal.{fixed_at}
 use Rattle.stn_windows.proofs.rehearsal.fix.Goals as goal

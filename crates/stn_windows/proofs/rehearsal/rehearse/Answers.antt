@@ -1,7 +1,6 @@
 use Rattle.std.proofs.Common.{◌≡◌, true, List, [], drop, length, subst, ◌∙◌, arith, rules}
 use Rattle.std.specs.Prelude.{slice_set}
-use Rattle.std.proofs.lemmas.List.{take_at}
-use Rattle.std.proofs.lemmas.Result.{err_from_is_err_and}
+use Rattle.std.proofs.{lemmas.List.take_at, lemmas.Result.err_from_is_err_and}
 use Rattle.stn_net.specs.Difference.{Difference}
 use Rattle.stn_matrix.specs.Tightest.{IsExact}
 use Rattle.stn_windows.specs.Rehearsal.{IsRehearsal}

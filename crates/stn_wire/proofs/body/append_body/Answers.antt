@@ -1,13 +1,7 @@
 use Rattle.std.proofs.Common.{[], ◌∷◌, ◌++◌, ap, ◌∙◌}
-use Rattle.std.proofs.lemmas.Result.{err_from_is_err_and}
 use Rattle.stn_wire.specs.Frame.{said_content, kind_of, rest_of}
 use Rattle.stn_wire.proofs.Parts.{append_then}
 use Rattle.stn_wire.proofs.body.append_body.Goals as goal
-
-pub returns-in_err-push : goal.returns-in_err-push
-returns-in_err-push g c =
-    let p = err_from_is_err_and c.from_residual.result c.from_residual.ensures.1 in
-    rw p.1 (record { appended = tt; said = tt })
 
 pub returns : goal.returns
 returns g c =

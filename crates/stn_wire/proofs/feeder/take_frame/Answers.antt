@@ -1,9 +1,6 @@
 use Rattle.std.proofs.Common.{Err, IfSome, ap, subst}
 use Rattle.std.proofs.lemmas.Result.{err_from_is_err_and}
-use Rattle.stn_wire.specs.Feeder.{holding}
-use Rattle.stn_wire.specs.Frame.{content}
-use Rattle.stn_wire.specs.Front.{IsFront, whole, unfinished, answered}
-use Rattle.stn_wire.specs.Reading.{IsWanted, IsJudged}
+use Rattle.stn_wire.specs.{Feeder.holding, Frame.content, Front.IsFront, Front.whole, Front.unfinished, Front.answered, Reading.IsWanted, Reading.IsJudged}
 use Rattle.stn_wire.proofs.Feeding.{opening_err, filled_err, filled_whole, all_used, filled_is_all, filled_unfinished}
 use Rattle.stn_wire.proofs.feeder.take_frame.Goals as goal
 

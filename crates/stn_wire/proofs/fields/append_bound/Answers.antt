@@ -1,7 +1,5 @@
 use Rattle.std.proofs.Common.{◌++◌, ap, ◌∙◌, rules}
-use Rattle.std.proofs.lemmas.Result.{err_from_is_err_and}
-use Rattle.stn_wire.specs.Spelling.{two, side_bytes}
-use Rattle.stn_wire.specs.declared.layout.Layout.TheVariants.{New}
+use Rattle.stn_wire.specs.{Spelling.two, Spelling.side_bytes, declared.layout.Layout.TheVariants.New}
 use Rattle.stn_wire.proofs.Parts.{append_then}
 use Rattle.stn_wire.proofs.fields.append_bound.Goals as goal
 
@@ -17,18 +15,3 @@ returns-clause-appended g c =
     append_then r old first all (two bound.from) (two bound.to ++ (side_bytes New bound.lo ++ side_bytes New bound.hi)) (c.in_ok-append_two.ensures ∙ ap (λ n. old ++ two n) (c.number.ensures.value ∙ c.from.ensures.value))
     (append_then r first second all (two bound.to) (side_bytes New bound.lo ++ side_bytes New bound.hi) (c.in_ok-append_two-2.ensures ∙ ap (λ n. first ++ two n) (c.number-2.ensures.value ∙ c.to.ensures.value))
     (append_then r second third all (side_bytes New bound.lo) (side_bytes New bound.hi) (c.in_ok-append_side.ensures.appended ∙ ap (λ n. second ++ side_bytes New n) c.lo.ensures.value) (search rules)))
-
-pub returns-in_err-append_two : goal.returns-in_err-append_two
-returns-in_err-append_two g c =
-    let p = err_from_is_err_and c.from_residual.result c.from_residual.ensures.1 in
-    rw p.1 (record { appended = tt; said = tt })
-
-pub returns-in_err-append_two-2 : goal.returns-in_err-append_two-2
-returns-in_err-append_two-2 g c =
-    let p = err_from_is_err_and c.from_residual-in_err-append_two-2.result c.from_residual-in_err-append_two-2.ensures.1 in
-    rw p.1 (record { appended = tt; said = tt })
-
-pub returns-in_err-append_side : goal.returns-in_err-append_side
-returns-in_err-append_side g c =
-    let p = err_from_is_err_and c.from_residual-in_err-append_side.result c.from_residual-in_err-append_side.ensures.1 in
-    rw p.1 (record { appended = tt; said = tt })

@@ -1,7 +1,5 @@
 use Rattle.std.proofs.Common.{[], ◌∷◌, ◌++◌, ap, ◌∙◌}
-use Rattle.std.proofs.lemmas.Result.{err_from_is_err_and}
-use Rattle.stn_wire.specs.Spelling.{mark_byte, bound_bytes}
-use Rattle.stn_wire.specs.declared.layout.Layout.TheVariants.{New}
+use Rattle.stn_wire.specs.{Spelling.mark_byte, Spelling.bound_bytes, declared.layout.Layout.TheVariants.New}
 use Rattle.stn_wire.proofs.Parts.{append_then}
 use Rattle.stn_wire.proofs.fields.append_record.Goals as goal
 
@@ -11,8 +9,3 @@ returns-clause-appended g c =
     let old = c.args.out.now.items in
     append_then c.append_bound.result old c.push.new.self.items c.append_bound.new.out.items (mark_byte added.mark ∷ []) (bound_bytes New added.bound)
     (c.in_ok-push.ensures.items ∙ ap (λ n. old ++ (n ∷ [])) c.mark_byte.ensures) c.append_bound.ensures.appended
-
-pub returns-in_err-push : goal.returns-in_err-push
-returns-in_err-push g c =
-    let p = err_from_is_err_and c.from_residual.result c.from_residual.ensures.1 in
-    rw p.1 (record { appended = tt; said = tt })

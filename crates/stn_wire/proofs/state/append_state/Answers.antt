@@ -1,7 +1,6 @@
 use Rattle.std.proofs.Common.{length, ap, ◌∙◌, arith}
 use Rattle.std.specs.FinMap.{entries}
 use Rattle.stn_records.specs.Content.{Content}
-use Rattle.std.proofs.lemmas.Result.{err_from_is_err_and}
 use Rattle.stn_wire.proofs.States.{few_additions, few_tombstones, few_replacements}
 use Rattle.stn_wire.proofs.state.append_state.Goals as goal
 
@@ -19,13 +18,3 @@ pub append_entries-requires : goal.append_entries-requires
 append_entries-requires g c =
     let read = c.entries-3.ensures.value ∙ ap entries (c.replacements.ensures ∙ ap (λ (s : Content). s.replacements) c.state-state.ensures.value) in
     omega (arith, ap length read, few_replacements c.args.state.now c.state-state.ensures.sound)
-
-pub returns-in_err-append_counted : goal.returns-in_err-append_counted
-returns-in_err-append_counted g c =
-    let p = err_from_is_err_and c.from_residual.result c.from_residual.ensures.1 in
-    rw p.1 (record { appended = tt; said = tt })
-
-pub returns-in_err-append_counted-2 : goal.returns-in_err-append_counted-2
-returns-in_err-append_counted-2 g c =
-    let p = err_from_is_err_and c.from_residual-in_err-append_counted-2.result c.from_residual-in_err-append_counted-2.ensures.1 in
-    rw p.1 (record { appended = tt; said = tt })

@@ -1,6 +1,5 @@
 use Rattle.std.proofs.Common.{◌≡◌, [], length, sym, ap, ◌∙◌, eqb-true}
-use Rattle.std.proofs.lemmas.Bool.{false≢true, eq-eqb}
-use Rattle.std.proofs.lemmas.List.{nil_from_length}
+use Rattle.std.proofs.{lemmas.Bool.false≢true, lemmas.Bool.eq-eqb, lemmas.List.nil_from_length}
 use Rattle.stn_wire.proofs.States.{no_additions, no_tombstones, no_entries, something_left, lists_read}
 use Rattle.stn_wire.proofs.state.read_state.Goals as goal
 

@@ -1,8 +1,7 @@
-use Rattle.std.proofs.Common.{◌≡◌, ◌+◌, ◌*◌, length, sym, ap, ◌∙◌, arith}
+use Rattle.std.proofs.Common.{◌+◌, ◌*◌, length, sym, ap, ◌∙◌, arith}
 use Rattle.std.specs.FinMap.{entries}
 use Rattle.stn_records.specs.Content.{Content}
-use Rattle.stn_wire.specs.Spelling.{amendments_bytes}
-use Rattle.stn_wire.specs.declared.layout.Layout.TheVariants.{New}
+use Rattle.stn_wire.specs.{Spelling.amendments_bytes, declared.layout.Layout.TheVariants.New}
 use Rattle.stn_wire.proofs.States.{few_additions, few_tombstones, few_replacements, amendments_short, length-state_bytes}
 use Rattle.stn_wire.proofs.state.state_length.Goals as goal
 

@@ -1,8 +1,5 @@
-use Rattle.stn_world.specs.World.{opening_world}
-use Rattle.stn_world.specs.Steps.{run}
-use Rattle.stn_world.proofs.Runs.{coherent_run}
-use Rattle.stn_world.proofs.Whole.{coherent_at_first}
-use Rattle.stn_world.proofs.Guarded.{run_guarded, guarded_schedules}
+use Rattle.stn_world.specs.{World.opening_world, Steps.run}
+use Rattle.stn_world.proofs.{Runs.coherent_run, Whole.coherent_at_first, Guarded.run_guarded, Guarded.guarded_schedules}
 use Rattle.stn_world.proofs.laws.guarded_sites_keep_schedules.Goals as goal
 
 pub returns : goal.returns

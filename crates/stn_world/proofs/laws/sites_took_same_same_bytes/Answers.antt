@@ -1,7 +1,5 @@
-use Rattle.stn_world.specs.World.{opening_world, content_at}
-use Rattle.stn_world.specs.Steps.{run}
-use Rattle.stn_world.proofs.Runs.{sites_are_unions, same_unions}
-use Rattle.stn_world.proofs.Alike.{alike_unions}
+use Rattle.stn_world.specs.{World.opening_world, World.content_at, Steps.run}
+use Rattle.stn_world.proofs.{Runs.sites_are_unions, Runs.same_unions, Alike.alike_unions}
 use Rattle.stn_world.proofs.laws.sites_took_same_same_bytes.Goals as goal
 
 pub returns-clause-bytes : goal.returns-clause-bytes

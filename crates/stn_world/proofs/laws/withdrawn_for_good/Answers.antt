@@ -1,5 +1,4 @@
-use Rattle.stn_world.proofs.EachRun.{withdrawn_stays}
-use Rattle.stn_world.proofs.Lawful.{lawful_run}
+use Rattle.stn_world.proofs.{EachRun.withdrawn_stays, Lawful.lawful_run}
 use Rattle.stn_world.proofs.laws.withdrawn_for_good.Goals as goal
 
 pub returns : goal.returns

@@ -1,22 +1,9 @@
 use Rattle.std.proofs.Common.{◌<◌, ◌≡◌, ap, sym, ◌∙◌, get_or, length, arith}
 use Rattle.std.specs.Prelude.{unwrap_or}
 use Rattle.std.proofs.lemmas.Result.{on_ok_weaker, on_err_weaker, IfErr-weaker}
-use Rattle.stn_site.specs.Held.{Held}
-use Rattle.stn_site.specs.declared.faults.ReplicaFault.TheVariants.{Memory}
+use Rattle.stn_site.specs.{Held.Held, declared.faults.ReplicaFault.TheVariants.Memory}
 use Rattle.stn_world.proofs.Pair.{one_front, one_back, changed_front, changed_back, kept_front, kept_back, left_front, left_back, moved_refusal, moved_part}
 use Rattle.stn_world.proofs.world.take_from.Goals as goal
-
-pub bounds-front-ours : goal.bounds-front-ours
-bounds-front-ours g c = omega (arith, c.split_at_mut-front.ensures.front_len, c.if-ours-theirs.true)
-
-pub bounds-back-0 : goal.bounds-back-0
-bounds-back-0 g c = omega (arith, c.split_at_mut-front.ensures.back_len, c.requires.theirs)
-
-pub bounds-back-0-else-ours-theirs : goal.bounds-back-0-else-ours-theirs
-bounds-back-0-else-ours-theirs g c = omega (arith, c.split_at_mut-front-else-ours-theirs.ensures.back_len, c.requires.ours)
-
-pub bounds-front-theirs : goal.bounds-front-theirs
-bounds-front-theirs g c = omega (arith, c.split_at_mut-front-else-ours-theirs.ensures.front_len, c.if-ours-theirs.false, c.requires.apart)
 
 -- the replica that takes stands in the front part, the other at the head of the back part
 pub returns-then-ours-theirs : goal.returns-then-ours-theirs

@@ -1,5 +1,5 @@
 use Rattle.std.proofs.Common.{subst, refl, ◌∙◌}
-use Rattle.stn_conflict.specs.Relaxation.{AreDistances, HasTables}
+use Rattle.stn_conflict.specs.Relaxation.{AreDistances}
 use Rattle.stn_conflict.proofs.Searches.{tables_of}
 use Rattle.stn_conflict.proofs.relaxation.Search.distances.Goals as goal
 
@@ -15,10 +15,6 @@ settle-requires g c = record {
   };
   rows = rw (c.begin.ensures.tables.far ∙ c.requires.tables.far) c.requires.rows;
 }
-
-pub returns-clause-tables : goal.returns-clause-tables
-returns-clause-tables g c =
-    subst (λ n. HasTables n c.settle.new.self) (c.begin.ensures.tables.far ∙ c.requires.tables.far) c.settle.ensures.search.tables
 
 pub returns-clause-distances : goal.returns-clause-distances
 returns-clause-distances g c =

@@ -1,17 +1,11 @@
 use Rattle.std.proofs.Common.{◌≡◌, ℕ, List, ◌<◌, ◌∙◌, set, sym, ap, length, eqb-true, refl, arith}
 use Rattle.std.specs.Prelude.{ℤ, is_some, pos, neg_ℤ, ◌+ℤ◌, ◌≤ℤ◌, ◌<ℤ◌}
-use Rattle.std.proofs.lemmas.Int.{ints}
-use Rattle.std.proofs.lemmas.Bool.{eqb-false, false≢true}
-use Rattle.std.proofs.lemmas.List.{get_or_read, length-set}
+use Rattle.std.proofs.{lemmas.Int.ints, lemmas.Bool.eqb-false, lemmas.Bool.false≢true, lemmas.List.get_or_read, lemmas.List.length-set}
 use Rattle.stn_time.specs.Time.{horizon, IsWithinHorizon}
-use Rattle.stn_net.specs.Schedule.{times_of}
-use Rattle.stn_net.specs.Difference.{Difference}
-use Rattle.stn_conflict.specs.declared.links.Link.{Link}
-use Rattle.stn_conflict.specs.Arcs.{arc_of}
-use Rattle.stn_conflict.specs.Relaxation.{AreEstimates, room}
-use Rattle.stn_conflict.proofs.Tightness.{link_among}
+use Rattle.stn_net.specs.{Schedule.times_of, Difference.Difference}
+use Rattle.stn_conflict.specs.{declared.links.Link.Link, Arcs.arc_of, Relaxation.AreEstimates, Relaxation.room}
+use Rattle.stn_conflict.proofs.{Tightness.link_among, relaxation.Search.relax.Given.Over}
 use Rattle.stn_conflict.proofs.Relaxing.{refused_at_start, refused_beyond, relaxed_estimates, relaxed_now, relaxed_still, stale_before}
-use Rattle.stn_conflict.proofs.relaxation.Search.relax.Given.{Over}
 use Rattle.stn_conflict.proofs.relaxation.Search.relax.Goals as goal
 
 pub index-requires : goal.index-requires

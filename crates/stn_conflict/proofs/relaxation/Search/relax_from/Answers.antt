@@ -1,26 +1,10 @@
 use Rattle.std.proofs.Common.{◌≡◌, inl, inr, ℕ, ◌+◌, ◌<◌, length, refl, sym, subst, ◌∙◌, arith}
 use Rattle.std.specs.Prelude.{slice_index_or}
-use Rattle.std.proofs.lemmas.Bool.{cases_lt, false≢true}
-use Rattle.std.proofs.lemmas.List.{get_or_default}
-use Rattle.std.proofs.lemmas.Result.{err_from_is_err_and}
-use Rattle.stn_conflict.specs.declared.links.Link.{Link}
-use Rattle.stn_conflict.specs.declared.links.Side.TheVariants.{Upper}
-use Rattle.stn_conflict.specs.Relaxation.{IsRelaxedOf}
-use Rattle.stn_conflict.proofs.Tightness.{link_among}
-use Rattle.stn_conflict.proofs.Searches.{goes_on, keeps_on, relaxed_on}
+use Rattle.std.proofs.{lemmas.Bool.cases_lt, lemmas.List.get_or_default, lemmas.Result.err_from_is_err_and}
+use Rattle.stn_conflict.specs.{declared.links.Link.Link, declared.links.Side.TheVariants.Upper, Relaxation.IsRelaxedOf}
+use Rattle.stn_conflict.proofs.{Tightness.link_among, Searches.goes_on, Searches.keeps_on, Searches.relaxed_on}
 use Rattle.stn_conflict.proofs.relaxation.Search.relax_from.Goals as goal
 use Rattle.stn_conflict.proofs.relaxation.Search.relax_from.Goals.{then-branch, else-branch}
-
-pub loop-link-init : goal.loop-link-init
-loop-link-init g c = record {
-  search = c.requires;
-  most = omega arith;
-  there = tt;
-  less = tt;
-  same = refl;
-  kept = record { stale = λ x stale. stale; relaxed = λ link h there stale. h };
-  relaxed = λ k below. absurd (omega arith);
-}
 
 pub returns-in_err-relax : goal.returns-in_err-relax
 returns-in_err-relax g c =
@@ -80,20 +64,8 @@ loop-link-preserved g c =
           })
     ]
 
-pub returns : goal.returns
-returns g c =
-    let h = c.loop-link.invariant in
-    let links = c.args.links.now in
+pub returns-clause-relaxed : goal.returns-clause-relaxed
+returns-clause-relaxed g c = λ link (k, below, at).
     let none : Link = record { place = 0; side = Upper } in
-    record {
-      search = h.search;
-      refused = λ e. absurd (false≢true e);
-      there = h.there;
-      most = h.most;
-      less = h.less;
-      same = h.same;
-      kept = h.kept;
-      relaxed = λ link has.
-          let (k, below, at) = has in
-          subst (IsRelaxedOf c.args.bounds.now c.loop-link.self) (get_or_default links k none link below ∙ at) (h.relaxed k (omega (arith, below, c.loop-link-test.false)));
-    }
+    subst (IsRelaxedOf c.args.bounds.now c.loop-link.self) (get_or_default c.args.links.now k none link below ∙ at)
+    (c.loop-link.invariant.relaxed k (omega (arith, below, c.loop-link-test.false)))

@@ -1,7 +1,6 @@
 use Rattle.std.proofs.Common.{◌≡◌, ℕ, ◌<◌, ◌≤◌, length}
 use Rattle.std.specs.Prelude.{IfSome, IfNone, slice_index_or}
-use Rattle.stn_conflict.specs.declared.links.Side.TheVariants.{Upper}
-use Rattle.stn_conflict.specs.Relaxation.{IsRelaxedOf, IsSearch, KeepsRelaxed, room}
+use Rattle.stn_conflict.specs.{declared.links.Side.TheVariants.Upper, Relaxation.IsRelaxedOf, Relaxation.IsSearch, Relaxation.KeepsRelaxed, Relaxation.room}
 use Rattle.stn_conflict.proofs.relaxation.Search.relax_from.Given as goal
 
 abbrev pub invariant-loop-link : goal.invariant-loop-link

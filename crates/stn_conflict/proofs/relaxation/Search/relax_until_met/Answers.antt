@@ -1,13 +1,8 @@
 use Rattle.std.proofs.Common.{refl, subst, arith}
-use Rattle.std.proofs.lemmas.Bool.{false≢true}
-use Rattle.std.proofs.lemmas.Result.{err_from_is_err_and}
+use Rattle.std.proofs.{lemmas.Bool.false≢true, lemmas.Result.err_from_is_err_and}
 use Rattle.stn_conflict.specs.Relaxation.{AreDistances, AreRelaxed}
-use Rattle.stn_conflict.proofs.Relaxing.{settled}
-use Rattle.stn_conflict.proofs.Searches.{goes_on, own, tables_of}
+use Rattle.stn_conflict.proofs.{Relaxing.settled, Searches.goes_on, Searches.own, Searches.tables_of}
 use Rattle.stn_conflict.proofs.relaxation.Search.relax_until_met.Goals as goal
-
-pub loop-event-init : goal.loop-event-init
-loop-event-init g c = record { search = c.requires.search; relaxed = c.requires.relaxed }
 
 pub sweep-requires : goal.sweep-requires
 sweep-requires g c = record {
@@ -44,9 +39,6 @@ loop-event-preserved g c = record {
   search = goes_on _ _ _ _ _ c.loop-event.invariant.search c.sweep.ensures.search;
   relaxed = c.in_ok-event.ensures.relaxed;
 }
-
-pub loop-event-smaller : goal.loop-event-smaller
-loop-event-smaller g c = rw c.in-Some.is at c.in_ok-event.ensures.less
 
 pub returns : goal.returns
 returns g c =

@@ -1,24 +1,11 @@
 use Rattle.std.proofs.Common.{◌≡◌, ℕ, ◌<◌, true, All, length, refl, sym, subst, ◌∙◌, arith}
 use Rattle.std.specs.List.{Contains}
-use Rattle.std.proofs.lemmas.List.{get_or_read}
-use Rattle.std.proofs.lemmas.Bool.{false≢true}
-use Rattle.std.proofs.lemmas.Option.{IfSome_then}
-use Rattle.std.proofs.lemmas.Result.{err_from_is_err_and}
+use Rattle.std.proofs.{lemmas.List.get_or_read, lemmas.Bool.false≢true, lemmas.Option.IfSome_then, lemmas.Result.err_from_is_err_and}
 use Rattle.stn_conflict.specs.Relaxation.{NamesAmong, room, row_of}
 use Rattle.stn_conflict.proofs.Rows.{row_is}
 use Rattle.stn_conflict.proofs.Searches.{AreSwept, all_swept, goes_on, none_or, none_then, row_relaxed, some_or, swept_more, swept_over, turn_of}
 use Rattle.stn_conflict.proofs.relaxation.Search.sweep.Goals as goal
 use Rattle.stn_conflict.proofs.relaxation.Search.sweep.Goals.{then-onward, else-onward, then-index+in_ok-found, else-index}
-
-pub loop-index-init : goal.loop-index-init
-loop-index-init g c = record {
-  search = c.requires.search;
-  most = omega arith;
-  there = tt;
-  less = tt;
-  relaxed = c.requires.relaxed;
-  swept = λ k below. absurd (omega arith);
-}
 
 pub returns-in_err-found : goal.returns-in_err-found
 returns-in_err-found g c =

@@ -1,11 +1,8 @@
-use Rattle.std.proofs.Common.{◌≡◌, ◌<◌, ◌≤◌, ◌++◌, ◌∷◌, [], map, length, take, get_or, sym, ap, subst, ◌∙◌}
-use Rattle.std.proofs.lemmas.List.{append-nil, get_or-map, length-map, take_all}
-use Rattle.std.proofs.lemmas.Result.{err_from_is_err_and}
-use Rattle.stn_pddl.specs.Sound.{IsSoundAtom}
-use Rattle.stn_pddl.specs.Views.{atom_schema, atoms_schema}
+use Rattle.std.proofs.Common.{◌≡◌, ◌<◌, ◌++◌, ◌∷◌, map, length, take, get_or, sym, ap, subst, ◌∙◌, []}
+use Rattle.std.proofs.lemmas.List.{append-nil, get_or-map, length-map}
+use Rattle.stn_pddl.specs.{Sound.IsSoundAtom, Views.atom_schema, Views.atoms_schema}
 use Rattle.stn_plan.specs.Views.{word_of}
-use Rattle.stn_lift.specs.Footprints.{ground}
-use Rattle.stn_lift.specs.Numbering.{AreNumbersOf}
+use Rattle.stn_lift.specs.{Footprints.ground, Numbering.AreNumbersOf}
 use Rattle.stn_lift.proofs.NumberLists.{kept_itself, kept_along, numbers_kept, numbers_push, grounded_more, all_said}
 use Rattle.stn_lift.proofs.atoms.Atoms.append_numbers.Goals as goal
 
@@ -16,22 +13,6 @@ pub number_atom-requires : goal.number_atom-requires
 number_atom-requires g c =
     subst (λ atom. IsSoundAtom (length c.args.args.now) (atom_schema atom)) (sym c.atom-item.is)
     (all_said (IsSoundAtom (length c.args.args.now)) atom_schema c.args.atoms.now c.loop-atom.atom-index c.atom-item.result c.requires c.loop-atom-test.true)
-
-pub returns-in_err-number : goal.returns-in_err-number
-returns-in_err-number g c =
-    let returned = err_from_is_err_and c.from_residual.result c.from_residual.ensures.1 in
-    record {
-      numbers = rw returned.1 tt;
-      kept = rw returned.1 tt;
-    }
-
-pub returns-in_err-push : goal.returns-in_err-push
-returns-in_err-push g c =
-    let returned = err_from_is_err_and c.from_residual-in_err-push.result c.from_residual-in_err-push.ensures.1 in
-    record {
-      numbers = rw returned.1 tt;
-      kept = rw returned.1 tt;
-    }
 
 pub loop-atom-preserved : goal.loop-atom-preserved
 loop-atom-preserved g c =
@@ -50,13 +31,4 @@ loop-atom-preserved g c =
           (subst (AreNumbersOf new (items ++ c.in_ok-number.number ∷ [])) (grounded_more args before atoms place atom mapped here)
           (numbers_push new items (before ++ map (ground args) (take place atoms)) c.in_ok-number.number (ground args atom)
           (numbers_kept old new c.in_ok-number.ensures.kept items (before ++ map (ground args) (take place atoms)) (c.loop-atom.invariant.numbers before are)) c.in_ok-number.ensures.number));
-    }
-
-pub returns : goal.returns
-returns g c =
-    let atoms = atoms_schema c.args.atoms.now in
-    let whole : length atoms ≤ c.loop-atom.atom-index = rw length-map c.loop-atom-test.false in
-    record {
-      numbers = λ before are. rw (take_all c.loop-atom.atom-index atoms whole) at (c.loop-atom.invariant.numbers before are);
-      kept = c.loop-atom.invariant.kept;
     }

@@ -1,8 +1,6 @@
-use Rattle.std.proofs.lemmas.Result.{err_from_is_err_and}
 use Rattle.stn_tree.specs.Names.{is_same_word}
 use Rattle.stn_lift.specs.AtomViews.{folded_name}
-use Rattle.stn_lift.proofs.Numbered.{different, stored_at, kept_at}
-use Rattle.stn_lift.proofs.NumberedAtoms.{names_decide}
+use Rattle.stn_lift.proofs.{Numbered.different, Numbered.stored_at, Numbered.kept_at, NumberedAtoms.names_decide}
 use Rattle.stn_lift.proofs.atoms.Atoms.number_name.Goals as goal
 
 pub invariant_of-self-2 : goal.invariant_of-self-2
@@ -10,14 +8,6 @@ invariant_of-self-2 g c = record {
   names = different (λ a b. is_same_word a.bytes.now b.bytes.now) folded_name names_decide c.insert_full.new.self.keys c.insert_full.ensures.unique;
   spellings = c.self.invariant.spellings;
 }
-
-pub returns-in_err-number : goal.returns-in_err-number
-returns-in_err-number g c =
-    let returned = err_from_is_err_and c.from_residual.result c.from_residual.ensures.1 in
-    record {
-      number = rw returned.1 tt;
-      kept = rw returned.1 tt;
-    }
 
 pub returns : goal.returns
 returns g c = record {

@@ -1,30 +1,10 @@
-use Rattle.std.proofs.Common.{[], map, sym, subst}
+use Rattle.std.proofs.Common.{map, sym, subst, []}
 use Rattle.std.proofs.lemmas.List.{map-append}
-use Rattle.std.proofs.lemmas.Result.{err_from_is_err_and}
 use Rattle.stn_pddl.specs.Views.{atoms_schema}
 use Rattle.stn_plan.specs.Views.{word_of}
-use Rattle.stn_lift.specs.Footprints.{ground}
-use Rattle.stn_lift.specs.Numbering.{AreNumbersOf}
+use Rattle.stn_lift.specs.{Footprints.ground, Numbering.AreNumbersOf}
 use Rattle.stn_lift.proofs.NumberLists.{kept_along, numbers_none, numbers_moved}
 use Rattle.stn_lift.proofs.atoms.Atoms.numbers.Goals as goal
-
-pub returns-in_err-append_numbers : goal.returns-in_err-append_numbers
-returns-in_err-append_numbers g c =
-    let returned = err_from_is_err_and c.from_residual.result c.from_residual.ensures.1 in
-    record {
-      numbers = rw returned.1 tt;
-      kept = rw returned.1 tt;
-      unambiguous = rw returned.1 tt;
-    }
-
-pub returns-in_err-append_numbers-2 : goal.returns-in_err-append_numbers-2
-returns-in_err-append_numbers-2 g c =
-    let returned = err_from_is_err_and c.from_residual-in_err-append_numbers-2.result c.from_residual-in_err-append_numbers-2.ensures.1 in
-    record {
-      numbers = rw returned.1 tt;
-      kept = rw returned.1 tt;
-      unambiguous = rw returned.1 tt;
-    }
 
 pub returns-clause-numbers : goal.returns-clause-numbers
 returns-clause-numbers g c =

@@ -4,16 +4,6 @@ use Rattle.stn_lift.specs.PlanSource.{IsSoundSource}
 use Rattle.stn_lift.proofs.Steps.{few_steps}
 use Rattle.stn_lift.proofs.base.Base.from_source.Goals as goal
 
-pub returns-in-Bare : goal.returns-in-Bare
-returns-in-Bare g c = rw c.in-Bare.is (record {
-  made = c.bare.ensures.made;
-  limit = c.bare.ensures.limit;
-  given = c.bare.ensures.given;
-  possible = IfOk-weaker c.bare.result IsSoundSource _ (λ base sound. sound.possible) c.bare.ensures.sound;
-  ordered = IfOk-weaker c.bare.result IsSoundSource _ (λ base sound. sound.ordered) c.bare.ensures.sound;
-  sound = c.bare.ensures.sound;
-})
-
 pub returns-in-Files : goal.returns-in-Files
 returns-in-Files g c = rw c.in-Files.is (record {
   made = rw (c.deref.ensures.value, c.deref-in-Files.ensures.value) at c.base_of_texts.ensures.made;

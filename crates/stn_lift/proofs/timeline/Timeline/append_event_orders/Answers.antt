@@ -1,15 +1,8 @@
 use Rattle.std.proofs.Common.{map}
-use Rattle.std.proofs.lemmas.Result.{err_from_is_err_and}
 use Rattle.stn_net.specs.Schedule.{times_of}
-use Rattle.stn_lift.specs.Timelines.{interfere_by_number}
-use Rattle.stn_lift.specs.Views.{numbers_of}
+use Rattle.stn_lift.specs.{Timelines.interfere_by_number, Views.numbers_of}
 use Rattle.stn_lift.proofs.SoundBounds.{more_pairs}
 use Rattle.stn_lift.proofs.timeline.Timeline.append_event_orders.Goals as goal
-
-pub returns-in_err-append_pair_order : goal.returns-in_err-append_pair_order
-returns-in_err-append_pair_order g c =
-    let returned = err_from_is_err_and c.from_residual.result c.from_residual.ensures.1 in
-    rw returned.1 tt
 
 pub loop-before-preserved : goal.loop-before-preserved
 loop-before-preserved g c =

@@ -1,15 +1,8 @@
 use Rattle.std.proofs.Common.{◌*◌, map, length}
-use Rattle.std.proofs.lemmas.Result.{err_from_is_err_and}
 use Rattle.stn_net.specs.Schedule.{times_of}
-use Rattle.stn_lift.specs.Timelines.{interfere_by_number}
-use Rattle.stn_lift.specs.Views.{numbers_of}
+use Rattle.stn_lift.specs.{Timelines.interfere_by_number, Views.numbers_of}
 use Rattle.stn_lift.proofs.SoundBounds.{more_orders}
 use Rattle.stn_lift.proofs.timeline.Timeline.append_orders.Goals as goal
-
-pub returns-in_err-append_event_orders : goal.returns-in_err-append_event_orders
-returns-in_err-append_event_orders g c =
-    let returned = err_from_is_err_and c.from_residual.result c.from_residual.ensures.1 in
-    rw returned.1 tt
 
 pub loop-before-preserved : goal.loop-before-preserved
 loop-before-preserved g c =

@@ -1,8 +1,6 @@
 use Rattle.std.proofs.Common.{◌≡◌, ◌++◌, ◌*◌, map, length}
 use Rattle.stn_net.specs.Schedule.{times_of}
-use Rattle.stn_lift.specs.BaseBounds.{orders}
-use Rattle.stn_lift.specs.Timelines.{interfere_by_number}
-use Rattle.stn_lift.specs.Views.{numbers_of}
+use Rattle.stn_lift.specs.{BaseBounds.orders, Timelines.interfere_by_number, Views.numbers_of}
 use Rattle.stn_lift.proofs.timeline.Timeline.append_orders.Given as goal
 
 abbrev pub invariant-loop-before : goal.invariant-loop-before

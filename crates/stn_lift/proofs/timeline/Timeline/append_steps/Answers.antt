@@ -1,8 +1,6 @@
-use Rattle.std.proofs.Common.{◌≡◌, ◌+◌, ◌<◌, ◌≤◌, ◌++◌, ◌∷◌, [], ◌∙◌, map, length, get_or, drop, sym, ap, subst, refl}
-use Rattle.std.proofs.lemmas.List.{get_or-map, length-map, drop_all}
-use Rattle.std.proofs.lemmas.Result.{err_from_is_err_and}
+use Rattle.std.proofs.Common.{◌≡◌, ◌+◌, ◌<◌, ◌≤◌, ◌++◌, ◌∷◌, ◌∙◌, map, length, get_or, drop, sym, ap, refl, []}
+use Rattle.std.proofs.{lemmas.List.get_or-map, lemmas.List.length-map, lemmas.List.drop_all, lemmas.Result.err_from_is_err_and}
 use Rattle.stn_pddl.specs.Views.{action_schema}
-use Rattle.stn_plan.specs.Steps.{IsTimely}
 use Rattle.stn_plan.specs.Views.{planned_step}
 use Rattle.stn_lift.specs.Activities.{activity, activities}
 use Rattle.stn_lift.proofs.TimelineFacts.{behind, behind_none, behind_all, fails_at, found_at, all_lifted}
@@ -29,22 +27,6 @@ returns-in_err-action g c =
       fault = rw (returned.1, returned.2)
           (fails_at c.args.domain.now.actions all place c.loop-step.invariant.found step mapped here c.loop-step.invariant.whole (c.loop-step.number + 1) c.in_err-action.field-0.0
           (ap (λ n. n + 1) c.loop-step.invariant.number) c.in_err-action.ensures.given);
-    }
-
-pub push-requires : goal.push-requires
-push-requires g c = record {
-  arity = c.in_ok-action.ensures.arity;
-  sound = c.in_ok-action.ensures.sound;
-  timely = subst (λ step. IsTimely (planned_step step)) (sym c.step-item.is) (c.requires.timely c.loop-step.step-index c.step-item.result c.loop-step-test.true);
-  last = c.in_ok-action.ensures.last;
-}
-
-pub returns-in_err-push : goal.returns-in_err-push
-returns-in_err-push g c =
-    let returned = err_from_is_err_and c.from_residual-in_err-push.result c.from_residual-in_err-push.ensures.1 in
-    record {
-      made = rw returned.1 tt;
-      fault = rw (returned.1, returned.2) tt;
     }
 
 pub loop-step-preserved : goal.loop-step-preserved

@@ -1,38 +1,9 @@
-use Rattle.std.proofs.Common.{◌∙◌, ◌++◌, ◌∷◌, [], map, subst, ap}
-use Rattle.std.proofs.lemmas.Result.{err_from_is_err_and}
+use Rattle.std.proofs.Common.{◌∙◌, ◌++◌, ◌∷◌, map, subst, ap, []}
 use Rattle.stn_pddl.specs.Views.{action_schema}
 use Rattle.stn_plan.specs.Views.{planned_step, word_of}
-use Rattle.stn_lift.specs.Footprints.{start_of, end_of}
-use Rattle.stn_lift.specs.Numbering.{IsNumbered}
-use Rattle.stn_lift.specs.Activities.{activity}
-use Rattle.stn_lift.specs.Views.{numbers_of}
+use Rattle.stn_lift.specs.{Footprints.start_of, Footprints.end_of, Numbering.IsNumbered, Activities.activity, Views.numbers_of}
 use Rattle.stn_lift.proofs.TimelineFacts.{timeline_pushed}
 use Rattle.stn_lift.proofs.timeline.Timeline.push.Goals as goal
-
-pub returns-in_err-append_times : goal.returns-in_err-append_times
-returns-in_err-append_times g c =
-    let returned = err_from_is_err_and c.from_residual.result c.from_residual.ensures.1 in
-    rw returned.1 tt
-
-pub returns-in_err-start : goal.returns-in_err-start
-returns-in_err-start g c =
-    let returned = err_from_is_err_and c.from_residual-in_err-start.result c.from_residual-in_err-start.ensures.1 in
-    rw returned.1 tt
-
-pub returns-in_err-append_footprint : goal.returns-in_err-append_footprint
-returns-in_err-append_footprint g c =
-    let returned = err_from_is_err_and c.from_residual-in_err-append_footprint.result c.from_residual-in_err-append_footprint.ensures.1 in
-    rw returned.1 tt
-
-pub returns-in_err-end : goal.returns-in_err-end
-returns-in_err-end g c =
-    let returned = err_from_is_err_and c.from_residual-in_err-end.result c.from_residual-in_err-end.ensures.1 in
-    rw returned.1 tt
-
-pub returns-in_err-append_footprint-2 : goal.returns-in_err-append_footprint-2
-returns-in_err-append_footprint-2 g c =
-    let returned = err_from_is_err_and c.from_residual-in_err-append_footprint-2.result c.from_residual-in_err-append_footprint-2.ensures.1 in
-    rw returned.1 tt
 
 pub returns : goal.returns
 unfolding action_schema

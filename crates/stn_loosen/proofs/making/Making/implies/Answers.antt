@@ -1,8 +1,6 @@
 use Rattle.std.proofs.Common.{pos, ◌-ℤ◌, to_z, of_z, w64, sym, ◌∙◌, arith}
-use Rattle.std.proofs.lemmas.Int.{ints}
-use Rattle.std.proofs.lemmas.Bool.{false≢true}
-use Rattle.stn_loosen.specs.Stepped.{as_bound}
-use Rattle.stn_loosen.specs.Making.{all_bounds}
+use Rattle.std.proofs.{lemmas.Int.ints, lemmas.Bool.false≢true}
+use Rattle.stn_loosen.specs.{Stepped.as_bound, Making.all_bounds}
 use Rattle.stn_loosen.proofs.Implied.{implied_from, upper_from, lower_from, le_z_tells}
 use Rattle.stn_loosen.proofs.making.Making.implies.Goals as goal
 

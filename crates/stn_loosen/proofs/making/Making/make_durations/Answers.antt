@@ -1,11 +1,7 @@
-use Rattle.std.proofs.Common.{◌++◌, map, refl, sym, ap, ◌∙◌, append-nil}
-use Rattle.std.proofs.lemmas.List.{take_all}
+use Rattle.std.proofs.Common.{◌∙◌}
 use Rattle.stn_loosen.specs.Slack.{loose}
 use Rattle.stn_loosen.proofs.Made.{made_more, duration_possible}
 use Rattle.stn_loosen.proofs.making.Making.make_durations.Goals as goal
-
-pub loop-duration-init : goal.loop-duration-init
-loop-duration-init g c = record { made = sym (append-nil c.args.self.now.records.items); taken = c.requires.taken; events = refl }
 
 pub make-requires-clause-possible : goal.make-requires-clause-possible
 make-requires-clause-possible g c =
@@ -22,15 +18,4 @@ loop-duration-preserved g c =
           sofar.self.records.items sofar.invariant.made;
       taken = c.in_ok-make.ensures.taken;
       events = c.make.ensures.events ∙ sofar.invariant.events;
-    }
-
-pub returns : goal.returns
-returns g c =
-    let sofar = c.loop-duration in
-    let all = take_all sofar.duration-index c.args.durations.now c.loop-duration-test.false in
-    record {
-      made = sofar.invariant.made ∙ ap (λ durations. c.args.self.now.records.items ++ map (loose c.args.tolerance) durations) all;
-      taken = sofar.invariant.taken;
-      events = sofar.invariant.events;
-      fault = tt;
     }

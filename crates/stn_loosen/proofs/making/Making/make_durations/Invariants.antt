@@ -1,6 +1,5 @@
 use Rattle.std.proofs.Common.{◌≡◌, ◌++◌, map, take}
-use Rattle.stn_loosen.specs.Slack.{loose}
-use Rattle.stn_loosen.specs.Making.{AreTaken}
+use Rattle.stn_loosen.specs.{Slack.loose, Making.AreTaken}
 use Rattle.stn_loosen.proofs.making.Making.make_durations.Given as goal
 
 abbrev pub invariant-loop-duration : goal.invariant-loop-duration

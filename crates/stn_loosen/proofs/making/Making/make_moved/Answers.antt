@@ -1,5 +1,4 @@
 use Rattle.std.proofs.Common.{◌∙◌}
-use Rattle.std.proofs.lemmas.List.{take_all}
 use Rattle.std.proofs.lemmas.Result.{err_from_is_err_and}
 use Rattle.stn_loosen.proofs.Sides.{moved_more, moved_refused}
 use Rattle.stn_loosen.proofs.making.Making.make_moved.Goals as goal
@@ -25,13 +24,3 @@ loop-bound-preserved g c =
     let new = c.make_sides.new.self in
     moved_more c.args.durations.now c.args.bounds.now old.records.items old.matrix sofar.bound-index sofar.self.records.items sofar.self.matrix sofar.invariant c.bound-item.result
     c.loop-bound-test.true c.bound-item.is new.records.items new.matrix c.in_ok-make_sides.ensures.made c.in_ok-make_sides.ensures.taken c.make_sides.ensures.events
-
-pub returns : goal.returns
-returns g c =
-    let all = c.loop-bound.invariant in
-    record {
-      made = rw (take_all c.loop-bound.bound-index c.args.bounds.now c.loop-bound-test.false) at all.made;
-      taken = all.taken;
-      events = all.events;
-      fault = tt;
-    }

@@ -1,26 +1,14 @@
-use Rattle.std.proofs.Common.{ℕ, List, length, inl, inr, refl, sym, ◌∙◌, subst}
-use Rattle.std.proofs.lemmas.Bool.{false≢true}
-use Rattle.std.proofs.lemmas.Result.{on_ok_weaker, IfErr-weaker}
+use Rattle.std.proofs.Common.{ℕ, List, length, inr, sym, ◌∙◌, subst}
+use Rattle.std.proofs.{lemmas.Bool.false≢true, lemmas.Result.on_ok_weaker, lemmas.Result.IfErr-weaker}
 use Rattle.stn_net.specs.Difference.{Difference}
-use Rattle.stn_loosen.specs.declared.fault.LoosenFault.{LoosenFault}
+use Rattle.stn_loosen.specs.{declared.fault.LoosenFault.LoosenFault, Loosened.Imply, Making.all_bounds, Making.IsCauseAt, Making.IsCauseOf}
 use Rattle.stn_loosen.specs.declared.fault.LoosenFault.TheVariants.{Full, Memory}
-use Rattle.stn_loosen.specs.Loosened.{Imply}
-use Rattle.stn_loosen.specs.Making.{all_bounds, IsCauseAt, IsCauseOf}
 use Rattle.stn_loosen.proofs.making.Making.make_order.Goals as goal
 
 -- an order that is needed, and can't be made
 needed : (events : ℕ) (old : List Difference) (order : Difference) → (Imply (all_bounds events old) order → ⊥) → (fault : LoosenFault) → IsCauseAt (length old) fault → IsCauseOf events old order fault
 needed events old order new Full full = (new, full)
 needed events old order new Memory none = tt
-
-pub returns-then-implies : goal.returns-then-implies
-returns-then-implies g c = record {
-  made = inl (subst (Imply (all_bounds c.args.self.now.matrix.events c.args.self.now.records.items)) c.of.ensures.value (c.implies.ensures.0 c.if-implies.true), refl);
-  taken = c.requires.taken;
-  few = c.requires.few;
-  events = refl;
-  fault = tt;
-}
 
 pub returns : goal.returns
 returns g c =

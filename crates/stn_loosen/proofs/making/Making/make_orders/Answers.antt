@@ -1,5 +1,4 @@
 use Rattle.std.proofs.Common.{◌∙◌}
-use Rattle.std.proofs.lemmas.List.{take_all}
 use Rattle.std.proofs.lemmas.Result.{err_from_is_err_and}
 use Rattle.stn_loosen.proofs.Made.{order_possible, order_made, order_refused}
 use Rattle.stn_loosen.proofs.making.Making.make_orders.Goals as goal
@@ -32,14 +31,3 @@ loop-order-preserved g c =
     let new = c.make_order.new.self in
     order_made old.records.items c.args.orders.now old.matrix sofar.order-index sofar.self.records.items sofar.self.matrix sofar.invariant c.order-item.result c.loop-order-test.true c.order-item.is
     new.records.items new.matrix c.in_ok-make_order.ensures.made c.in_ok-make_order.ensures.taken c.in_ok-make_order.ensures.few c.make_order.ensures.events
-
-pub returns : goal.returns
-returns g c =
-    let all = c.loop-order.invariant in
-    record {
-      made = (all.kept, all.made, rw (take_all c.loop-order.order-index c.args.orders.now c.loop-order-test.false) at all.chosen);
-      taken = all.taken;
-      few = all.few;
-      events = all.events;
-      fault = tt;
-    }

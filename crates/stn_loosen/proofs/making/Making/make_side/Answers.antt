@@ -1,10 +1,7 @@
 use Rattle.std.proofs.Common.{◌≡◌, [], ◌∷◌, ◌++◌, sym, subst, ◌∙◌}
 use Rattle.std.proofs.lemmas.Bool.{false≢true}
-use Rattle.stn_net.specs.Difference.{Difference}
-use Rattle.stn_net.specs.Schedule.{HasSchedule}
-use Rattle.stn_loosen.specs.Loosened.{Imply}
-use Rattle.stn_loosen.specs.Stepped.{as_bound, IsBoundOf}
-use Rattle.stn_loosen.specs.Making.{all_bounds}
+use Rattle.stn_net.specs.{Difference.Difference, Schedule.HasSchedule}
+use Rattle.stn_loosen.specs.{Loosened.Imply, Stepped.as_bound, Stepped.IsBoundOf, Making.all_bounds}
 use Rattle.stn_loosen.proofs.Sides.{side_bound, side_refused, side_taken}
 use Rattle.stn_loosen.proofs.making.Making.make_side.Goals as goal
 

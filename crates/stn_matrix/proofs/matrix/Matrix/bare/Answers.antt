@@ -1,8 +1,7 @@
 use Rattle.std.proofs.Common.{◌≡◌, ◌+◌, ◌*◌, List, ℤ, length, sym, subst, arith, rules}
 use Rattle.std.specs.Vec.{with_items}
 use Rattle.std.proofs.lemmas.List.{with_items_is}
-use Rattle.stn_matrix.specs.Table.{Table, far_of, entry}
-use Rattle.stn_matrix.specs.Closed.{IsWidest}
+use Rattle.stn_matrix.specs.{Table.Table, Table.far_of, Table.entry, Closed.IsWidest}
 use Rattle.stn_matrix.proofs.Widest.{exact_widest, widest-closed}
 use Rattle.stn_matrix.proofs.matrix.Matrix.bare.Goals as goal
 

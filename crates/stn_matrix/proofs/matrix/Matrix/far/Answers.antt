@@ -1,7 +1,6 @@
 use Rattle.std.proofs.Common.{◌≡◌, arith, rules}
 use Rattle.std.proofs.lemmas.Int.{ints}
-use Rattle.stn_matrix.specs.Table.{far_of}
-use Rattle.stn_matrix.specs.Closed.{IsClosedTable}
+use Rattle.stn_matrix.specs.{Table.far_of, Closed.IsClosedTable}
 use Rattle.stn_matrix.proofs.Closure.{closed_within}
 use Rattle.stn_matrix.proofs.matrix.Matrix.far.Goals as goal
 

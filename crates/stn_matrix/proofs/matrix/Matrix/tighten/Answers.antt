@@ -2,14 +2,9 @@ use Rattle.std.proofs.Common.{◌≡◌, ℕ, ◌≤◌, List, ℤ, length, refl
 use Rattle.std.specs.Vec.{with_items}
 use Rattle.std.proofs.lemmas.List.{with_items_is}
 use Rattle.stn_net.specs.Difference.{NamesEvents}
-use Rattle.stn_matrix.specs.Table.{Table, far_of, entry}
-use Rattle.stn_matrix.specs.Tightest.{IsExact}
-use Rattle.stn_matrix.specs.Closed.{IsClosed}
-use Rattle.stn_matrix.specs.Way.{narrower, IsImplied, HasRoom}
-use Rattle.stn_matrix.proofs.Closure.{IsTightened, tightened_implied, tightened_narrower, no_room}
-use Rattle.stn_matrix.proofs.matrix.Matrix.tighten.Given.{Over}
+use Rattle.stn_matrix.specs.{Table.Table, Table.far_of, Table.entry, Tightest.IsExact, Closed.IsClosed, Way.narrower, Way.IsImplied, Way.HasRoom}
+use Rattle.stn_matrix.proofs.{Closure.IsTightened, Closure.tightened_implied, Closure.tightened_narrower, Closure.no_room, matrix.Matrix.tighten.Given.Over, matrix.Matrix.tighten.Goals.then-not-is_implied+else-not-has_room, matrix.Matrix.tighten.Goals.else-not-is_implied}
 use Rattle.stn_matrix.proofs.matrix.Matrix.tighten.Goals as goal
-use Rattle.stn_matrix.proofs.matrix.Matrix.tighten.Goals.{then-not-is_implied+else-not-has_room, else-not-is_implied}
 
 pub returns-then-not-has_room-clause-possible : goal.returns-then-not-has_room-clause-possible
 returns-then-not-has_room-clause-possible g c = λ bounds exact.

@@ -1,10 +1,8 @@
-use Rattle.std.proofs.Common.{◌∙◌, refl, sym, ap, subst, arith}
+use Rattle.std.proofs.Common.{◌∙◌, sym, ap, subst, arith}
 use Rattle.std.proofs.lemmas.Result.{err_from_is_err_and}
 use Rattle.stn_text.specs.Faults.{Fails}
 use Rattle.stn_tree.specs.Trees.{Rows, behind}
-use Rattle.stn_pddl.specs.Faults.{is_memory}
-use Rattle.stn_pddl.specs.Conditions.{plain_row, plain_tree}
-use Rattle.stn_pddl.specs.Views.{action_schema}
+use Rattle.stn_pddl.specs.{Faults.is_memory, Conditions.plain_row, Views.action_schema}
 use Rattle.stn_pddl.proofs.Taken.{behind_rest, plain_row_at_end, plain_row_at_word, plain_row_fails, plain_row_goes_on, plain_tree_at}
 use Rattle.stn_pddl.proofs.action.Action.+plain.Goals as goal
 
@@ -35,14 +33,6 @@ read_plain_row-trees-preserved g t c =
       behind = ap behind passed.0 ∙ c.in-Group.ensures.first.1 ∙ c.trees.invariant.behind;
       shorter = omega (arith, passed.1, c.in-Group.ensures.shorter, c.trees.invariant.shorter);
     }
-
-pub read_plain_tree-returns-in-End : goal.read_plain_tree-returns-in-End
-unfolding plain_tree
-read_plain_tree-returns-in-End g t c = record { given = rw c.in-End.ensures.first.0 refl; passed = (c.in-End.ensures.first.1, c.in-End.ensures.shorter) }
-
-pub read_plain_tree-returns-in-Group : goal.read_plain_tree-returns-in-Group
-unfolding plain_tree
-read_plain_tree-returns-in-Group g t c = record { given = rw c.in-Group.ensures.first.0 refl; passed = tt }
 
 pub read_plain_tree-returns-in-And : goal.read_plain_tree-returns-in-And
 read_plain_tree-returns-in-And g t c = record {

@@ -1,7 +1,6 @@
 use Rattle.std.proofs.Common.{◌≡◌, ◌≤◌}
 use Rattle.stn_tree.specs.Cursors.{row_at, behind_at, left_at}
-use Rattle.stn_pddl.specs.Conditions.{timed_row}
-use Rattle.stn_pddl.specs.Views.{action_schema}
+use Rattle.stn_pddl.specs.{Conditions.timed_row, Views.action_schema}
 use Rattle.stn_pddl.proofs.action.Action.+timed.Given as goal
 
 abbrev pub decreases-read_timed_row : goal.decreases-read_timed_row

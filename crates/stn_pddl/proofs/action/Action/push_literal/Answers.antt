@@ -1,9 +1,7 @@
 use Rattle.std.proofs.Common.{◌≡◌, map, cond, List, Result, Ok, Err, IfOk, ap, ◌∙◌}
 use Rattle.std.specs.Result.{is_ok}
-use Rattle.std.proofs.lemmas.List.{map-append}
-use Rattle.std.proofs.lemmas.Result.{IfOk-weaker}
-use Rattle.stn_pddl.specs.Schemas.{with_literal}
-use Rattle.stn_pddl.specs.Views.{action_schema, atom_schema}
+use Rattle.std.proofs.{lemmas.List.map-append, lemmas.Result.IfOk-weaker}
+use Rattle.stn_pddl.specs.{Schemas.with_literal, Views.action_schema, Views.atom_schema}
 use Rattle.stn_pddl.proofs.action.Action.push_literal.Goals as goal
 
 -- the list after an atom that was pushed

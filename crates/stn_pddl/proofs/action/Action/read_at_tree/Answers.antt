@@ -1,15 +1,6 @@
-use Rattle.std.proofs.Common.{refl, sym}
-use Rattle.stn_pddl.specs.Conditions.{at_tree}
+use Rattle.std.proofs.Common.{sym}
 use Rattle.stn_pddl.proofs.Taken.{behind_rest, at_start, at_end, at_neither}
 use Rattle.stn_pddl.proofs.action.Action.read_at_tree.Goals as goal
-
-pub returns-in-End : goal.returns-in-End
-unfolding at_tree
-returns-in-End g c = record { given = rw c.in-End.ensures.first.0 refl; passed = tt }
-
-pub returns-in-Group : goal.returns-in-Group
-unfolding at_tree
-returns-in-Group g c = record { given = rw c.in-Group.ensures.first.0 refl; passed = tt }
 
 pub returns-then-is_same_word : goal.returns-then-is_same_word
 returns-then-is_same_word g c = record {

@@ -1,12 +1,8 @@
 use Rattle.std.proofs.Common.{Result, Ok, ◌∙◌, ap, List}
 use Rattle.std.proofs.lemmas.Result.{err_from_is_err_and}
 use Rattle.stn_text.specs.Faults.{◌>>=◌}
-use Rattle.stn_pddl.specs.declared.fault.DomainFault.{DomainFault}
-use Rattle.stn_pddl.specs.Faults.{is_memory}
-use Rattle.stn_pddl.specs.Schemas.{TermSchema}
-use Rattle.stn_pddl.specs.Views.{action_schema}
-use Rattle.stn_pddl.proofs.Steps.{fails_first}
-use Rattle.stn_pddl.proofs.Taken.{equality_of_others, equality_of_two}
+use Rattle.stn_pddl.specs.{declared.fault.DomainFault.DomainFault, Faults.is_memory, Schemas.TermSchema, Views.action_schema}
+use Rattle.stn_pddl.proofs.{Steps.fails_first, Taken.equality_of_others, Taken.equality_of_two}
 use Rattle.stn_pddl.proofs.action.Action.read_equality.Goals as goal
 
 pub returns-then-count_children-ne2 : goal.returns-then-count_children-ne2

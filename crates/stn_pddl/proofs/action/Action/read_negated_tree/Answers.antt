@@ -1,15 +1,6 @@
-use Rattle.std.proofs.Common.{refl, sym, ◌∙◌}
-use Rattle.stn_pddl.specs.Conditions.{negated_tree}
+use Rattle.std.proofs.Common.{sym, ◌∙◌}
 use Rattle.stn_pddl.proofs.Taken.{behind_rest, negated_tree_at}
 use Rattle.stn_pddl.proofs.action.Action.read_negated_tree.Goals as goal
-
-pub returns-in-End : goal.returns-in-End
-unfolding negated_tree
-returns-in-End g c = record { given = rw c.in-End.ensures.first.0 refl; passed = tt }
-
-pub returns-in-Group : goal.returns-in-Group
-unfolding negated_tree
-returns-in-Group g c = record { given = rw c.in-Group.ensures.first.0 refl; passed = tt }
 
 pub returns-in-Equal : goal.returns-in-Equal
 returns-in-Equal g c = record {

@@ -1,9 +1,7 @@
 use Rattle.std.proofs.Common.{◌≡◌, ◌∙◌, ap, arith}
 use Rattle.std.proofs.lemmas.Result.{err_from_is_err_and}
-use Rattle.stn_tree.specs.Trees.{Trees, behind}
-use Rattle.stn_tree.specs.Cursors.{row_at}
-use Rattle.stn_pddl.specs.Conditions.{negated_tree, negated_first, negation}
-use Rattle.stn_pddl.specs.Views.{action_schema}
+use Rattle.stn_tree.specs.{Trees.Trees, Trees.behind, Cursors.row_at}
+use Rattle.stn_pddl.specs.{Conditions.negated_tree, Conditions.negated_first, Conditions.negation, Views.action_schema}
 use Rattle.stn_pddl.proofs.Taken.{negation_of_others, negation_of_one}
 use Rattle.stn_pddl.proofs.action.Action.read_negation.Goals as goal
 

@@ -1,19 +1,6 @@
-use Rattle.std.proofs.Common.{refl, sym}
-use Rattle.stn_pddl.specs.Conditions.{over_tree}
+use Rattle.std.proofs.Common.{sym}
 use Rattle.stn_pddl.proofs.Taken.{behind_rest, over_all, over_other}
 use Rattle.stn_pddl.proofs.action.Action.read_over_tree.Goals as goal
-
-pub returns-in-Effect : goal.returns-in-Effect
-unfolding over_tree
-returns-in-Effect g c = record { given = rw c.in-Effect.is refl; passed = tt }
-
-pub returns-in-End : goal.returns-in-End
-unfolding over_tree
-returns-in-End g c = record { given = rw (c.in-Condition.is, c.in-End.ensures.first.0) refl; passed = tt }
-
-pub returns-in-Group : goal.returns-in-Group
-unfolding over_tree
-returns-in-Group g c = record { given = rw (c.in-Condition.is, c.in-Group.ensures.first.0) refl; passed = tt }
 
 pub returns-then-is_same_word : goal.returns-then-is_same_word
 returns-then-is_same_word g c = record {

@@ -1,6 +1,5 @@
 use Rattle.std.proofs.lemmas.Result.{err_from_is_err_and}
-use Rattle.stn_pddl.proofs.Causes.{cause_of}
-use Rattle.stn_pddl.proofs.SoundActions.{domain-sound, domain-short}
+use Rattle.stn_pddl.proofs.{Causes.cause_of, SoundActions.domain-sound, SoundActions.domain-short}
 use Rattle.stn_pddl.proofs.domain.Domain.read.Goals as goal
 
 pub returns-in_err-read_actions : goal.returns-in_err-read_actions

@@ -1,14 +1,8 @@
 use Rattle.std.proofs.Common.{◌≡◌, ◌<◌, ◌≤◌, length, map, Ok, refl, sym, arith}
-use Rattle.std.proofs.lemmas.Bool.{ltb-true}
-use Rattle.std.proofs.lemmas.Bool.Decides.{nat_tests}
-use Rattle.std.proofs.lemmas.List.{length-map}
-use Rattle.std.proofs.lemmas.Result.{err_from_is_err_and}
+use Rattle.std.proofs.{lemmas.Bool.ltb-true, lemmas.Bool.Decides.nat_tests, lemmas.List.length-map, lemmas.Result.err_from_is_err_and}
 use Rattle.stn_text.specs.Faults.{Fails}
-use Rattle.stn_plan.specs.Lines.{lines_of}
-use Rattle.stn_plan.specs.Steps.{most_steps, is_memory, steps_of, plan_of}
-use Rattle.stn_plan.specs.Views.{planned_step}
-use Rattle.stn_plan.proofs.StepFacts.{is_plan, plan_of-many}
-use Rattle.stn_plan.proofs.FaultFacts.{lines_fault, plan_fault}
+use Rattle.stn_plan.specs.{Lines.lines_of, Steps.most_steps, Steps.is_memory, Steps.steps_of, Steps.plan_of, Views.planned_step}
+use Rattle.stn_plan.proofs.{StepFacts.is_plan, StepFacts.plan_of-many, FaultFacts.lines_fault, FaultFacts.plan_fault}
 use Rattle.stn_plan.proofs.plan.Plan.read.Goals as goal
 
 pub returns-then-is_too_long : goal.returns-then-is_too_long

@@ -1,7 +1,6 @@
 use Rattle.std.proofs.Common.{◌≤◌, ◌<◌, length, map, refl, subst}
 use Rattle.std.proofs.lemmas.List.{get_or-map, length-map}
-use Rattle.stn_plan.specs.Steps.{most_steps, IsTimely}
-use Rattle.stn_plan.specs.Views.{planned_step}
+use Rattle.stn_plan.specs.{Steps.most_steps, Steps.IsTimely, Views.planned_step}
 use Rattle.stn_plan.proofs.plan.Plan.steps.Goals as goal
 
 pub returns : goal.returns

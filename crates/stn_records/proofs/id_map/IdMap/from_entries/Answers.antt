@@ -1,15 +1,10 @@
 use Rattle.std.proofs.Common.{◌≡◌, true, Some, sym, ap, ◌∙◌}
-use Rattle.std.proofs.lemmas.Bool.{false≢true}
-use Rattle.std.proofs.lemmas.List.Elements.{All-same}
+use Rattle.std.proofs.{lemmas.Bool.false≢true, lemmas.List.Elements.All-same}
 use Rattle.std.specs.FinMap as fin
 use Rattle.std.specs.FinMap.{is_sorted}
-use Rattle.stn_records.specs.Id.{id_cmp}
-use Rattle.stn_records.specs.ContentLaws.{ids_total, ids_exact}
-use Rattle.stn_records.proofs.Entries.{in_order}
-use Rattle.stn_records.proofs.Gets.{entries_from_get}
-use Rattle.stn_records.proofs.Places.{map_of_sorted, made_is, listed_fits}
+use Rattle.stn_records.specs.{Id.id_cmp, ContentLaws.ids_total, ContentLaws.ids_exact}
+use Rattle.stn_records.proofs.{Entries.in_order, Gets.entries_from_get, Places.map_of_sorted, Places.made_is, Places.listed_fits, id_map.IdMap.from_entries.Goals.else-is_rising-via-then-is_rising+else-are_fit, id_map.IdMap.from_entries.Goals.else-is_rising-via-else-is_rising}
 use Rattle.stn_records.proofs.id_map.IdMap.from_entries.Goals as goal
-use Rattle.stn_records.proofs.id_map.IdMap.from_entries.Goals.{else-is_rising-via-then-is_rising+else-are_fit, else-is_rising-via-else-is_rising}
 
 pub invariant_of-result : goal.invariant_of-result
 invariant_of-result g c =

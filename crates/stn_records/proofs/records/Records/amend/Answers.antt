@@ -1,11 +1,7 @@
 use Rattle.std.proofs.Common.{◌≡◌, Some, is_some, Err, refl, sym, ap, subst, ◌∙◌}
 use Rattle.std.proofs.lemmas.Bool.{false≢true}
-use Rattle.std.proofs.lemmas.Result.{err_from_is_err_and}
-use Rattle.stn_records.specs.Content.{IsSound}
-use Rattle.stn_records.specs.Refusals.{amend_refusal}
-use Rattle.stn_records.specs.declared.faults.AmendFault.TheVariants.{Memory}
-use Rattle.stn_records.proofs.OneItem.{amendment_again, amendment_joins}
-use Rattle.stn_records.proofs.Amending.{amend_again, amend_unrefused, no_clash}
+use Rattle.stn_records.specs.{Content.IsSound, Refusals.amend_refusal}
+use Rattle.stn_records.proofs.{OneItem.amendment_again, OneItem.amendment_joins, Amending.amend_again, Amending.amend_unrefused, Amending.no_clash}
 use Rattle.stn_records.proofs.records.Records.amend.Goals as goal
 
 pub returns-in-Some : goal.returns-in-Some
@@ -27,21 +23,6 @@ put_amendment-requires-clause-agrees g c = (amend_unrefused c.args.self.now c.ar
 
 pub put_amendment-requires-clause-room : goal.put_amendment-requires-clause-room
 put_amendment-requires-clause-room g c = (amend_unrefused c.args.self.now c.args.id c.args.old c.args.bound (ap (λ s. amend_refusal s c.args.id c.args.old c.args.bound) (sym c.self.view_is) ∙ sym c.amend_refusal.ensures ∙ c.in_default.is)).1
-
-pub returns-in_err-put_amendment : goal.returns-in_err-put_amendment
-returns-in_err-put_amendment g c =
-    let none = ap (λ s. amend_refusal s c.args.id c.args.old c.args.bound) (sym c.self.view_is) ∙ sym c.amend_refusal.ensures ∙ c.in_default.is in
-    let returned = err_from_is_err_and c.from_residual.result c.from_residual.ensures.1 in
-    record {
-      amended = rw returned.1 tt;
-      joined = rw returned.1 tt;
-      again = λ there entry. absurd (false≢true (c.in_err-put_amendment.ensures.again entry));
-      refused = rw (returned.1, returned.2) (λ fault other. (
-        λ is. let same : fault ≡ Memory = cc in absurd (other same),
-        λ told. absurd (false≢true (ap is_some (sym none ∙ told))),
-      ));
-      kept = rw returned.1 c.in_err-put_amendment.ensures.kept;
-    }
 
 pub returns : goal.returns
 returns g c =

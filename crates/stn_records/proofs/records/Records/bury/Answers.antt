@@ -1,10 +1,7 @@
 use Rattle.std.proofs.Common.{◌≡◌, true, false, Some, refl, sym, ap, ◌∙◌}
-use Rattle.std.proofs.lemmas.Bool.{false≢true}
-use Rattle.std.proofs.lemmas.Result.{err_from_is_err_and}
-use Rattle.stn_records.proofs.OneItem.{tombstone_again, tombstone_joins}
-use Rattle.stn_records.proofs.Outcomes.{known_by_tombstone, no_room_needed, room_left}
+use Rattle.std.proofs.{lemmas.Bool.false≢true, lemmas.Result.err_from_is_err_and}
+use Rattle.stn_records.proofs.{OneItem.tombstone_again, OneItem.tombstone_joins, Outcomes.known_by_tombstone, Outcomes.no_room_needed, Outcomes.room_left, records.Records.bury.Goals.else-not-is_known-via-then-not-is_known+else-is_full, records.Records.bury.Goals.else-not-is_known-via-else-not-is_known}
 use Rattle.stn_records.proofs.records.Records.bury.Goals as goal
-use Rattle.stn_records.proofs.records.Records.bury.Goals.{else-not-is_known-via-then-not-is_known+else-is_full, else-not-is_known-via-else-not-is_known}
 
 pub returns-then-is_full : goal.returns-then-is_full
 returns-then-is_full g c =

@@ -1,26 +1,8 @@
-use Rattle.std.proofs.Common.{◌≡◌, cond, Some, None, Err, is_some, option_and_then, refl, sym, ap, subst, ◌∙◌, arith}
-use Rattle.std.proofs.lemmas.Bool.{false≢true}
-use Rattle.std.proofs.lemmas.Result.{err_from_is_err_and}
-use Rattle.stn_records.specs.Join.{passing}
-use Rattle.stn_records.specs.declared.faults.RecordsFault.TheVariants.{Clash}
-use Rattle.stn_records.specs.Content.{IsSound, dispute_contents, is_within, joined_contents}
-use Rattle.stn_records.specs.ContentLaws.{contents_undisputed}
+use Rattle.std.proofs.Common.{Some, is_some, refl, sym, ap, subst, ◌∙◌, arith}
+use Rattle.std.proofs.{lemmas.Bool.false≢true, lemmas.Result.err_from_is_err_and}
+use Rattle.stn_records.specs.{Content.IsSound, Content.dispute_contents, Content.joined_contents, ContentLaws.contents_undisputed}
 use Rattle.stn_records.proofs.Outcomes.{not_too_much, too_many, taken_is, joined_sound}
 use Rattle.stn_records.proofs.records.Records.joined.Goals as goal
-
-pub returns-in-Some : goal.returns-in-Some
-returns-in-Some g c =
-    let seen = (λ i. dispute_contents (sym c.self.view_is i) (sym c.other.view_is i)) ∙ sym c.dispute.ensures ∙ c.in-Some.is in
-    record {
-      joined = tt;
-      taken = tt;
-      clash = λ id. (
-        λ is. let same : c.in-Some.id ≡ id = cc in seen ∙ ap Some same,
-        λ found. let both = sym seen ∙ found in let same : c.in-Some.id ≡ id = cc in ap (λ i. Err (Clash i)) same,
-      );
-      full = (λ is. cc, λ found. absurd (false≢true (ap is_some (sym found.0 ∙ seen))));
-      refused = λ _. ap (λ d. option_and_then (passing is_within) (cond (is_some d) None (Some (joined_contents c.args.self.now c.args.other.now)))) seen;
-    }
 
 pub returns-then-is_too_much_with : goal.returns-then-is_too_much_with
 returns-then-is_too_much_with g c =

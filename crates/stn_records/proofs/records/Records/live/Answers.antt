@@ -1,10 +1,7 @@
 use Rattle.std.proofs.Common.{◌≡◌, ◌<◌, ◌+◌, ℕ, Bool, true, false, not, cond, List, [], ◌∷◌, ◌++◌, Vec, length, get_or, drop, filter, map, append_assoc, sym, ap, ◌∙◌}
-use Rattle.stn_records.specs.Content.{is_replaced, listed}
-use Rattle.stn_records.specs.Id.{SiteCounter}
-use Rattle.stn_records.specs.declared.record.Record.{Record}
-use Rattle.stn_records.proofs.Entries.{front}
+use Rattle.stn_records.specs.{Content.is_replaced, Content.listed, Id.SiteCounter, declared.record.Record.Record}
+use Rattle.stn_records.proofs.{Entries.front, records.Records.live.Goals.then-not-is_replaced+in_ok-push, records.Records.live.Goals.else-not-is_replaced}
 use Rattle.stn_records.proofs.records.Records.live.Goals as goal
-use Rattle.stn_records.proofs.records.Records.live.Goals.{then-not-is_replaced+in_ok-push, else-not-is_replaced}
 
 -- the next entry is wanted, or is not
 next_left : {A B : Type 0} (f : A → Bool) (h : A → B) (all whole : List B) (es : List A) (k : ℕ) (d : A) → k < length es → d ≡ get_or es k d → (wanted : Bool) → f d ≡ wanted → all ++ map h (filter f (drop k es)) ≡ whole

@@ -1,9 +1,7 @@
 use Rattle.std.proofs.Common.{sym, ap, subst, ◌∙◌}
 use Rattle.std.specs.FinMap as fin
 use Rattle.stn_records.specs.Content.{Content, IsSound, with_amendment}
-use Rattle.stn_records.proofs.KnownIds.{there_is}
-use Rattle.stn_records.proofs.Outcomes.{left_by}
-use Rattle.stn_records.proofs.Amending.{entry_again, amended_sound}
+use Rattle.stn_records.proofs.{KnownIds.there_is, Outcomes.left_by, Amending.entry_again, Amending.amended_sound}
 use Rattle.stn_records.proofs.records.Records.put_amendment.Goals as goal
 
 -- the entry is there, and so its record

@@ -1,8 +1,6 @@
 use Rattle.std.proofs.Common.{Some, refl, sym, ap, ◌∙◌}
 use Rattle.std.proofs.lemmas.Bool.{false≢true}
-use Rattle.std.proofs.lemmas.Result.{err_from_is_err_and}
-use Rattle.stn_records.proofs.OneItem.{tombstone_again, tombstone_joins}
-use Rattle.stn_records.proofs.Outcomes.{known_by_tombstone, no_room_needed}
+use Rattle.stn_records.proofs.{OneItem.tombstone_again, OneItem.tombstone_joins, Outcomes.known_by_tombstone, Outcomes.no_room_needed}
 use Rattle.stn_records.proofs.records.Records.withdraw.Goals as goal
 
 pub returns-then-not-is_known : goal.returns-then-not-is_known
@@ -18,17 +16,6 @@ returns-then-not-is_known g c =
 
 pub put_tombstone-requires : goal.put_tombstone-requires
 put_tombstone-requires g c = record { room = no_room_needed c.args.self.now c.args.id (sym c.is_known.ensures ∙ c.if-not-is_known.false) }
-
-pub returns-in_err-put_tombstone : goal.returns-in_err-put_tombstone
-returns-in_err-put_tombstone g c =
-    let returned = err_from_is_err_and c.from_residual.result c.from_residual.ensures.1 in
-    record {
-      withdrawn = rw returned.1 tt;
-      joined = rw returned.1 tt;
-      again = λ there. absurd (false≢true (c.in_err-put_tombstone.ensures.again there));
-      unknown = rw (returned.1, returned.2) (λ e. cc, λ unknown. absurd (false≢true (sym unknown ∙ sym c.is_known.ensures ∙ c.if-not-is_known.false)));
-      kept = rw returned.1 c.in_err-put_tombstone.ensures.kept;
-    }
 
 pub returns : goal.returns
 returns g c =

@@ -2,17 +2,8 @@ use Rattle.std.proofs.Common.{refl, ap, ◌∙◌}
 use Rattle.std.proofs.lemmas.Result.{err_from_is_err_and}
 use Rattle.std.specs.FinMap as fin
 use Rattle.stn_records.specs.Content.{Content, with_amendment}
-use Rattle.stn_records.proofs.Lists.{same_content}
-use Rattle.stn_records.proofs.Replaced.{kept_by_amendment}
+use Rattle.stn_records.proofs.{Lists.same_content, Replaced.kept_by_amendment}
 use Rattle.stn_records.proofs.state.State.amend.Goals as goal
-
-pub returns-in_err-replacements : goal.returns-in_err-replacements
-returns-in_err-replacements g c =
-    let returned = err_from_is_err_and c.from_residual.result c.from_residual.ensures.1 in record { amended = rw returned.1 tt; kept = rw returned.1 refl }
-
-pub returns-in_err-replaced : goal.returns-in_err-replaced
-returns-in_err-replaced g c =
-    let returned = err_from_is_err_and c.from_residual-in_err-replaced.result c.from_residual-in_err-replaced.ensures.1 in record { amended = rw returned.1 tt; kept = rw returned.1 refl }
 
 pub returns-in_err-insert : goal.returns-in_err-insert
 returns-in_err-insert g c =

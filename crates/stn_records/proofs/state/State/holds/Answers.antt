@@ -1,8 +1,7 @@
 use Rattle.std.proofs.Common.{sym, ◌∙◌}
 use Rattle.std.proofs.lemmas.Bool.{false≢true}
-use Rattle.stn_records.proofs.Holding.{last_told, missed}
+use Rattle.stn_records.proofs.{Holding.last_told, Holding.missed, state.State.holds.Goals.then-holds, state.State.holds.Goals.else-holds}
 use Rattle.stn_records.proofs.state.State.holds.Goals as goal
-use Rattle.stn_records.proofs.state.State.holds.Goals.{then-holds, else-holds}
 
 pub returns-then-holds-2 : goal.returns-then-holds-2
 returns-then-holds-2 g c = elim c.if-holds.branch [

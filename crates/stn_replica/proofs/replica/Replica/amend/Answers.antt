@@ -5,9 +5,8 @@ use Rattle.stn_records.specs.Content.{Content, is_known, is_live, join_contents,
 use Rattle.stn_site.specs.Held.{Held, next_id, difference, plain}
 use Rattle.stn_site.proofs.Refused.{amended_known}
 use Rattle.stn_replica.proofs.CatchingUp.{grown_by_amendment, falls_by_amendment, named_after, sound_with_one, sound_anew}
-use Rattle.stn_replica.proofs.Sound.{spares_added, spares_fallen}
+use Rattle.stn_replica.proofs.{Sound.spares_added, Sound.spares_fallen, replica.Replica.amend.Goals.then-was_live, replica.Replica.amend.Goals.else-was_live}
 use Rattle.stn_replica.proofs.replica.Replica.amend.Goals as goal
-use Rattle.stn_replica.proofs.replica.Replica.amend.Goals.{then-was_live, else-was_live}
 
 pub invariant_of-self : goal.invariant_of-self
 invariant_of-self g c = rw c.in_err-id.ensures.kept c.self.invariant

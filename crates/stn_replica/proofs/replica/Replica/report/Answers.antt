@@ -1,6 +1,5 @@
 use Rattle.std.proofs.Common.{subst}
-use Rattle.stn_site.specs.Bounds.{all_bounds}
-use Rattle.stn_site.specs.Windows.{AreWindows}
+use Rattle.stn_site.specs.{Bounds.all_bounds, Windows.AreWindows}
 use Rattle.stn_replica.proofs.replica.Replica.report.Goals as goal
 
 pub report_with-requires : goal.report_with-requires

@@ -4,9 +4,8 @@ use Rattle.std.specs.Prelude.{MatchOption}
 use Rattle.stn_records.specs.Content.{Content, IsPart}
 use Rattle.stn_site.specs.Held.{Held}
 use Rattle.stn_replica.specs.Walk.{Extends}
-use Rattle.stn_replica.proofs.Changes.{extends_joined}
+use Rattle.stn_replica.proofs.{Changes.extends_joined, replica.Replica.take.Goals.in-Some, replica.Replica.take.Goals.in_default}
 use Rattle.stn_replica.proofs.replica.Replica.take.Goals as goal
-use Rattle.stn_replica.proofs.replica.Replica.take.Goals.{in-Some, in_default}
 
 pub catch_up-self-inside-requires-clause-extends : goal.catch_up-self-inside-requires-clause-extends
 catch_up-self-inside-requires-clause-extends g c =

@@ -3,8 +3,7 @@ use Rattle.std.proofs.lemmas.Result.{err_from_is_err_and}
 use Rattle.std.specs.Prelude.{unwrap_or}
 use Rattle.stn_net.specs.Difference.{IsBoundWithin, IsFaultOf}
 use Rattle.stn_lift.specs.PlanSource.{events_of}
-use Rattle.stn_site.specs.Held.{Held, difference}
-use Rattle.stn_site.specs.declared.faults.ReplicaFault.TheVariants.{Memory}
+use Rattle.stn_site.specs.{Held.Held, Held.difference, declared.faults.ReplicaFault.TheVariants.Memory}
 use Rattle.stn_site.proofs.Refused.{add_passes, add_refused}
 use Rattle.stn_site.proofs.site_plan.SitePlan.add.Goals as goal
 

@@ -4,8 +4,7 @@ use Rattle.std.specs.Prelude.{unwrap_or}
 use Rattle.stn_net.specs.Difference.{IsBoundWithin, IsFaultOf}
 use Rattle.stn_lift.specs.PlanSource.{events_of}
 use Rattle.stn_records.specs.Content.{is_known}
-use Rattle.stn_site.specs.Held.{Held, difference}
-use Rattle.stn_site.specs.declared.faults.ReplicaFault.TheVariants.{Memory}
+use Rattle.stn_site.specs.{Held.Held, Held.difference, declared.faults.ReplicaFault.TheVariants.Memory}
 use Rattle.stn_site.proofs.Refused.{amend_known, amend_refused, amend_unknown}
 use Rattle.stn_site.proofs.site_plan.SitePlan.amend.Goals as goal
 

@@ -1,6 +1,5 @@
 use Rattle.std.proofs.Common.{◌≡◌, ◌++◌, ap, length, ◌∙◌, arith, append_assoc}
-use Rattle.std.proofs.lemmas.List.{length-map}
-use Rattle.std.proofs.lemmas.Result.{err_from_is_err_and}
+use Rattle.std.proofs.{lemmas.List.length-map, lemmas.Result.err_from_is_err_and}
 use Rattle.stn_lift.specs.PlanSource.{steps_of, events_of}
 use Rattle.stn_records.specs.Content.{known_count, live_of, listed, replaced_count}
 use Rattle.stn_site.specs.Lines.{plan_line, records_line}

@@ -1,11 +1,9 @@
 use Rattle.std.proofs.Common.{◌≡◌, ◌+◌, ◌<◌, ◌≤◌, ◌++◌, length, length-append, is_some, ap, subst, ◌∙◌, arith, All}
-use Rattle.std.proofs.lemmas.Bool.{true_from_ne_false}
-use Rattle.std.proofs.lemmas.Result.{err_from_is_err_and, on_ok_weaker}
+use Rattle.std.proofs.{lemmas.Bool.true_from_ne_false, lemmas.Result.err_from_is_err_and, lemmas.Result.on_ok_weaker}
 use Rattle.std.specs.List.{flat_map}
 use Rattle.stn_net.specs.Schedule.{HasSchedule}
 use Rattle.stn_lift.specs.PlanSource.{events_of, base_bounds}
-use Rattle.stn_conflict.specs.Arcs.{weight_of, IsNegativeCycle}
-use Rattle.stn_conflict.specs.Named.{IsNamedCycle}
+use Rattle.stn_conflict.specs.{Arcs.weight_of, Arcs.IsNegativeCycle, Named.IsNamedCycle}
 use Rattle.stn_site.specs.Lines.{conflict_line, link_line}
 use Rattle.stn_site.proofs.Printing.{bounds_named, one_each, conflict_part, if_some}
 use Rattle.stn_site.proofs.site_plan.SitePlan.append_named_cycle.Goals as goal

@@ -1,14 +1,9 @@
 use Rattle.std.proofs.Common.{◌≡◌, ℤ, pos, ◌+◌, ◌≤◌, ◌++◌, codes, slice_index_or, subst, sym, ap, ◌∙◌, refl, false, arith, append_assoc}
-use Rattle.std.proofs.lemmas.List.{get_or_default}
-use Rattle.std.proofs.lemmas.Result.{err_from_is_err_and}
+use Rattle.std.proofs.{lemmas.List.get_or_default, lemmas.Result.err_from_is_err_and}
 use Rattle.stn_net.specs.Event.{most_events}
 use Rattle.stn_lift.specs.PlanSource.{events_of}
-use Rattle.stn_site.specs.Bounds.{all_bounds}
-use Rattle.stn_site.specs.Lines.{line, window_line}
-use Rattle.stn_site.specs.Report.{is_done, IsWindowLines}
-use Rattle.stn_site.specs.Windows.{window_at}
-use Rattle.stn_site.proofs.Printing.{one_more_line}
-use Rattle.stn_site.proofs.Values.{held_is}
+use Rattle.stn_site.specs.{Bounds.all_bounds, Lines.line, Lines.window_line, Report.is_done, Report.IsWindowLines, Windows.window_at}
+use Rattle.stn_site.proofs.{Printing.one_more_line, Values.held_is}
 use Rattle.stn_site.proofs.site_plan.SitePlan.append_windows.Goals as goal
 
 pub loop-before-preserved : goal.loop-before-preserved

@@ -1,11 +1,9 @@
 use Rattle.std.proofs.Common.{sym, ap, subst, ◌∙◌}
-use Rattle.std.proofs.lemmas.Bool.{eqb-true, eqb-false}
-use Rattle.std.proofs.lemmas.Result.{err_from_is_err_and}
+use Rattle.std.proofs.{lemmas.Bool.eqb-true, lemmas.Bool.eqb-false, lemmas.Result.err_from_is_err_and}
 use Rattle.std.specs.Prelude.{unwrap_or}
 use Rattle.stn_net.specs.Difference.{IsFaultOf}
 use Rattle.stn_lift.specs.PlanSource.{events_of}
-use Rattle.stn_site.specs.Held.{Held, difference}
-use Rattle.stn_site.specs.declared.faults.ReplicaFault.TheVariants.{Memory}
+use Rattle.stn_site.specs.{Held.Held, Held.difference, declared.faults.ReplicaFault.TheVariants.Memory}
 use Rattle.stn_site.proofs.Refused.{done_origin, fixed_refused}
 use Rattle.stn_site.proofs.site_plan.SitePlan.done.Goals as goal
 

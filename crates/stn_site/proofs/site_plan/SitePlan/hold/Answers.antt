@@ -1,17 +1,11 @@
 use Rattle.std.proofs.Common.{◌≡◌, false, refl, sym, ap, subst, ◌∙◌}
 use Rattle.std.proofs.lemmas.Result.{err_from_is_err_and}
-use Rattle.std.specs.Rc.{rc_value}
+use Rattle.std.specs.{Rc.rc_value, Prelude.unwrap_or}
 use Rattle.stn_net.specs.Difference.{NamesEvents}
 use Rattle.stn_lift.specs.PlanSource.{events_of}
-use Rattle.stn_records.specs.Id.{SiteCounter}
-use Rattle.stn_records.specs.declared.record.Record.{Record}
-use Rattle.stn_records.specs.Content.{is_known, with_record}
-use Rattle.stn_site.specs.Held.{Held, next_id}
-use Rattle.std.specs.Prelude.{unwrap_or}
-use Rattle.stn_site.specs.declared.faults.ReplicaFault.TheVariants.{Memory}
-use Rattle.stn_site.proofs.Named.{named_added}
-use Rattle.stn_site.proofs.Refused.{next_fault, next_free, next_spent}
-use Rattle.stn_site.proofs.Values.{held_is, not_past, ok_not_err}
+use Rattle.stn_records.specs.{Id.SiteCounter, declared.record.Record.Record, Content.is_known, Content.with_record}
+use Rattle.stn_site.specs.{Held.Held, Held.next_id, declared.faults.ReplicaFault.TheVariants.Memory}
+use Rattle.stn_site.proofs.{Named.named_added, Refused.next_fault, Refused.next_free, Refused.next_spent, Values.held_is, Values.not_past, Values.ok_not_err}
 use Rattle.stn_site.proofs.site_plan.SitePlan.hold.Goals as goal
 
 pub invariant_of-self-2 : goal.invariant_of-self-2

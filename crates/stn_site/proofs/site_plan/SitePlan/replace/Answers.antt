@@ -1,20 +1,12 @@
 use Rattle.std.proofs.Common.{◌≡◌, false, None, is_some, refl, sym, ap, subst, ◌∙◌}
-use Rattle.std.proofs.lemmas.Bool.{false≢true}
-use Rattle.std.proofs.lemmas.Result.{err_from_is_err_and}
-use Rattle.std.specs.Prelude.{unwrap_or}
-use Rattle.std.specs.Rc.{rc_value}
-use Rattle.std.specs.FinMap.{get}
+use Rattle.std.proofs.{lemmas.Bool.false≢true, lemmas.Result.err_from_is_err_and}
+use Rattle.std.specs.{Prelude.unwrap_or, Rc.rc_value, FinMap.get}
 use Rattle.stn_net.specs.Difference.{NamesEvents}
 use Rattle.stn_lift.specs.PlanSource.{events_of}
 use Rattle.stn_records.specs.Id.{SiteCounter}
 use Rattle.stn_records.specs.Content.{Content, is_known, join_contents, one_amendment, plain, with_amendment}
-use Rattle.stn_site.specs.Held.{Held, next_id}
-use Rattle.stn_site.specs.declared.faults.ReplicaFault.TheVariants.{Memory}
-use Rattle.stn_site.proofs.Amended.{amend_fault, can_amend}
-use Rattle.stn_site.proofs.Counts.{replaces_nothing}
-use Rattle.stn_site.proofs.Named.{named_added}
-use Rattle.stn_site.proofs.Refused.{next_spent}
-use Rattle.stn_site.proofs.Values.{held_is, not_past}
+use Rattle.stn_site.specs.{Held.Held, Held.next_id, declared.faults.ReplicaFault.TheVariants.Memory}
+use Rattle.stn_site.proofs.{Amended.amend_fault, Amended.can_amend, Counts.replaces_nothing, Named.named_added, Refused.next_spent, Values.held_is, Values.not_past}
 use Rattle.stn_site.proofs.site_plan.SitePlan.replace.Goals as goal
 
 pub prove-unreachable-requires : goal.prove-unreachable-requires

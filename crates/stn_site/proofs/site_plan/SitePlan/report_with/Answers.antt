@@ -1,8 +1,7 @@
 use Rattle.std.proofs.Common.{◌≡◌, ◌++◌, refl, ap, ◌∙◌, arith}
 use Rattle.std.proofs.lemmas.Result.{err_from_is_err_and, on_ok_weaker}
 use Rattle.std.specs.Prelude.{is_ok, if◌then◌else◌}
-use Rattle.stn_site.proofs.Lengths.{length_appended}
-use Rattle.stn_site.proofs.Printing.{appended_ok, kept_err}
+use Rattle.stn_site.proofs.{Lengths.length_appended, Printing.appended_ok, Printing.kept_err}
 use Rattle.stn_site.proofs.site_plan.SitePlan.report_with.Goals as goal
 
 pub returns-in_err-text : goal.returns-in_err-text

@@ -1,16 +1,11 @@
 use Rattle.std.proofs.Common.{◌≡◌, Some, refl, sym, ap, subst, ◌∙◌}
-use Rattle.std.proofs.lemmas.Bool.{false≢true}
-use Rattle.std.proofs.lemmas.Result.{err_from_is_err_and}
-use Rattle.std.specs.Rc.{rc_value}
+use Rattle.std.proofs.{lemmas.Bool.false≢true, lemmas.Result.err_from_is_err_and}
+use Rattle.std.specs.{Rc.rc_value, Prelude.unwrap_or}
 use Rattle.stn_lift.specs.PlanSource.{events_of}
 use Rattle.stn_records.specs.Content.{IsPart, join_contents}
 use Rattle.stn_records.proofs.Holding.{joined_is}
-use Rattle.stn_site.specs.Bounds.{RecordsName}
-use Rattle.stn_site.specs.Held.{Held}
-use Rattle.stn_site.proofs.Named.{named_held, named_joined}
-use Rattle.stn_site.proofs.Refused.{take_fault, can_take, can_hold, unnamed_take}
-use Rattle.std.specs.Prelude.{unwrap_or}
-use Rattle.stn_site.specs.declared.faults.ReplicaFault.TheVariants.{Memory}
+use Rattle.stn_site.specs.{Bounds.RecordsName, Held.Held, declared.faults.ReplicaFault.TheVariants.Memory}
+use Rattle.stn_site.proofs.{Named.named_held, Named.named_joined, Refused.take_fault, Refused.can_take, Refused.can_hold, Refused.unnamed_take}
 use Rattle.stn_site.proofs.site_plan.SitePlan.take_in.Goals as goal
 
 pub returns-then-holds : goal.returns-then-holds

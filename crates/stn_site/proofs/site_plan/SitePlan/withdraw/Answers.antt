@@ -1,12 +1,9 @@
 use Rattle.std.proofs.Common.{◌≡◌, true, refl, ap, ◌∙◌}
-use Rattle.std.proofs.lemmas.Bool.{false≢true}
-use Rattle.std.proofs.lemmas.Result.{err_from_is_err_and}
-use Rattle.std.specs.FinMap.{contains_key}
-use Rattle.std.specs.Rc.{rc_value}
+use Rattle.std.proofs.{lemmas.Bool.false≢true, lemmas.Result.err_from_is_err_and}
+use Rattle.std.specs.{FinMap.contains_key, Rc.rc_value}
 use Rattle.stn_records.specs.Content.{with_tombstone}
 use Rattle.stn_lift.specs.PlanSource.{events_of}
-use Rattle.stn_site.specs.Bounds.{RecordsName}
-use Rattle.stn_site.specs.Held.{Held}
+use Rattle.stn_site.specs.{Bounds.RecordsName, Held.Held}
 use Rattle.stn_site.proofs.Refused.{withdraw_fault, can_withdraw}
 use Rattle.stn_site.proofs.site_plan.SitePlan.withdraw.Goals as goal
 

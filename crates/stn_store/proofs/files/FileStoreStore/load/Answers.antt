@@ -2,8 +2,7 @@ use Rattle.std.proofs.Common.{◌≡◌, ℕ, List, Option, None, Result, Ok, Er
 use Rattle.std.specs.Prelude.{IfOk}
 use Rattle.stn_log.specs.Log.{log_held}
 use Rattle.stn_site.specs.Held.{Held}
-use Rattle.stn_store.specs.Bytes.{IsLogIn}
-use Rattle.stn_store.specs.Store.{Opens}
+use Rattle.stn_store.specs.{Bytes.IsLogIn, Store.Opens}
 use Rattle.stn_refusal.specs.declared.failure.Failure.{Failure}
 use Rattle.stn_store.proofs.files.FileStoreStore.load.Goals as goal
 

@@ -1,9 +1,7 @@
 use Rattle.std.proofs.Common.{◌≡◌, ℕ, List, [], Some, None, refl, inl, inr}
-use Rattle.std.specs.Prelude.{◌⊎◌, ⊤}
+use Rattle.std.specs.{Prelude.◌⊎◌, Prelude.⊤, String.string_bytes}
 use Rattle.std.proofs.lemmas.Result.{IfErr-weaker}
-use Rattle.std.specs.String.{string_bytes}
-use Rattle.stn_store.specs.Store.{log_there}
-use Rattle.stn_store.specs.Store.{IsTaken, IsLack}
+use Rattle.stn_store.specs.{Store.log_there, Store.IsTaken, Store.IsLack}
 use Rattle.stn_refusal.specs.declared.failure.Failure.{Failure}
 use Rattle.stn_store.proofs.files.FileStoreStore.save_new.Goals as goal
 

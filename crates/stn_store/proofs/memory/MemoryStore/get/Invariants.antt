@@ -1,6 +1,5 @@
 use Rattle.std.proofs.Common.{◌≡◌, option_map, map, take}
-use Rattle.stn_store.specs.Store.{bytes_under}
-use Rattle.stn_store.specs.Memory.{entry_of}
+use Rattle.stn_store.specs.{Store.bytes_under, Memory.entry_of}
 use Rattle.stn_store.proofs.memory.MemoryStore.get.Given as goal
 
 abbrev pub invariant-loop-entry : goal.invariant-loop-entry

@@ -1,15 +1,10 @@
 use Rattle.std.proofs.Common.{◌≡◌, ℕ, List, Some, Result, Ok, Err, refl, sym, ap, inl, inr, ◌∙◌}
 use Rattle.std.specs.Prelude.{◌⊎◌, IfOk}
 use Rattle.std.proofs.lemmas.Result.{IfErr-weaker}
-use Rattle.stn_log.specs.Log.{log_held}
-use Rattle.stn_log.specs.declared.fault.LoadFault.{LoadFault}
+use Rattle.stn_log.specs.{Log.log_held, declared.fault.LoadFault.LoadFault, Failures.load_failure}
 use Rattle.stn_site.specs.Held.{Held}
-use Rattle.stn_store.specs.Bytes.{IsLogIn}
-use Rattle.stn_log.specs.Failures.{load_failure}
-use Rattle.stn_store.specs.Memory.{entries_of}
-use Rattle.stn_store.specs.Store.{Entry, Opens, IsUnopened, IsLack, bytes_under}
-use Rattle.stn_refusal.specs.declared.failure.Failure.{Failure}
-use Rattle.stn_refusal.specs.declared.failure.Failure.TheVariants.{Failed}
+use Rattle.stn_store.specs.{Bytes.IsLogIn, Memory.entries_of, Store.Entry, Store.Opens, Store.IsUnopened, Store.IsLack, Store.bytes_under}
+use Rattle.stn_refusal.specs.{declared.failure.Failure.Failure, declared.failure.Failure.TheVariants.Failed}
 use Rattle.stn_refusal.specs.declared.failure.Fault.TheVariants.{Memory, Read}
 use Rattle.stn_store.proofs.Lacks.{lack_of_memory}
 use Rattle.stn_store.proofs.memory.MemoryStoreStore.load.Goals as goal

@@ -1,6 +1,5 @@
 use Rattle.std.proofs.Common.{◌≡◌, ◌+◌, ◌-◌, None, Err, length, take, drop, refl, sym, ap, subst, ◌∙◌, arith}
-use Rattle.std.proofs.lemmas.List.{take_rest}
-use Rattle.std.proofs.lemmas.Result.{err_from_is_err_and}
+use Rattle.std.proofs.{lemmas.List.take_rest, lemmas.Result.err_from_is_err_and}
 use Rattle.stn_wire.specs.Feeder.{IsTaken, IsFed as IsFedTo}
 use Rattle.stn_stream.specs.Held.{Stream}
 use Rattle.stn_stream.proofs.Streams.{fed_is, taken_whole, fed_fails}

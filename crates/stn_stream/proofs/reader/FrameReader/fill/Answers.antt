@@ -1,9 +1,6 @@
 use Rattle.std.proofs.Common.{◌≡◌, ◌+◌, ◌<◌, [], length, take, refl, ap, ◌∙◌, arith}
-use Rattle.std.proofs.KnownBytes.{Consumes-nil, Consumes-kept}
-use Rattle.std.proofs.lemmas.Grind.{common_steps}
-use Rattle.std.proofs.lemmas.Result.{err_from_is_err_and}
-use Rattle.stn_stream.specs.Held.{Stream}
-use Rattle.stn_stream.specs.declared.fault.StreamFault.TheVariants.{Read}
+use Rattle.std.proofs.{KnownBytes.Consumes-nil, KnownBytes.Consumes-kept, lemmas.Grind.common_steps, lemmas.Result.err_from_is_err_and}
+use Rattle.stn_stream.specs.{Held.Stream, declared.fault.StreamFault.TheVariants.Read}
 use Rattle.stn_stream.proofs.Streams.{fault_or, memory_unread, not_err, always, read_none, beyond_filled, piece_filled}
 use Rattle.stn_stream.proofs.reader.FrameReader.fill.Goals as goal
 

@@ -1,11 +1,8 @@
 use Rattle.std.proofs.Common.{◌+◌, ◌-◌, ◌^◌, min, Err, [], refl, sym, ap, subst, ◌∙◌, append-nil, arith}
-use Rattle.std.proofs.KnownBytes.{Consumes-nil}
-use Rattle.std.proofs.lemmas.Bool.{false≢true}
-use Rattle.std.proofs.lemmas.Result.{err_from_is_err_and}
+use Rattle.std.proofs.{KnownBytes.Consumes-nil, lemmas.Bool.false≢true, lemmas.Result.err_from_is_err_and}
 use Rattle.stn_wire.specs.Front.{IsFront, unfinished}
-use Rattle.stn_stream.specs.Held.{Stream}
+use Rattle.stn_stream.specs.{Held.Stream, declared.fault.StreamFault.TheVariants.Read}
 use Rattle.stn_stream.specs.declared.fault.FrameFault.TheVariants.{Length, Kind, Body}
-use Rattle.stn_stream.specs.declared.fault.StreamFault.TheVariants.{Read}
 use Rattle.stn_stream.proofs.Streams.{fault_or, memory_unread, is_end, not_err, not_ok, gives_frame, gives_fault, gives_memory, filled_more, filled_end, filled_at_end, filled_smaller, fill_fails}
 use Rattle.stn_stream.proofs.reader.FrameReader.next.Goals as goal
 

@@ -1,6 +1,5 @@
 use Rattle.std.proofs.Common.{◌<◌, arith}
-use Rattle.stn_tree.specs.Trees.{word_len}
-use Rattle.stn_tree.specs.Cursors.{rows_at, left_at}
+use Rattle.stn_tree.specs.{Trees.word_len, Cursors.rows_at, Cursors.left_at}
 use Rattle.stn_tree.proofs.Rows.{split-word, word_len-positive}
 use Rattle.stn_tree.proofs.cursor.Child.word_at.Goals as goal
 

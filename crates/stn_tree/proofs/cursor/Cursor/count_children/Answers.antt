@@ -1,6 +1,5 @@
 use Rattle.std.proofs.Common.{ap, arith}
-use Rattle.stn_tree.specs.Trees.{Rows, how_many}
-use Rattle.stn_tree.specs.Cursors.{left_at}
+use Rattle.stn_tree.specs.{Trees.Rows, Trees.how_many, Cursors.left_at}
 use Rattle.stn_tree.proofs.Cursors.{how_many-end, how_many-word, how_many-group}
 use Rattle.stn_tree.proofs.cursor.Cursor.count_children.Goals as goal
 

@@ -1,6 +1,5 @@
 use Rattle.std.proofs.Common.{◌≡◌, ◌+◌, ◌≤◌}
-use Rattle.stn_tree.specs.Trees.{how_many}
-use Rattle.stn_tree.specs.Cursors.{row_at, left_at}
+use Rattle.stn_tree.specs.{Trees.how_many, Cursors.row_at, Cursors.left_at}
 use Rattle.stn_tree.proofs.cursor.Cursor.count_children.Given as goal
 
 abbrev pub invariant-children : goal.invariant-children

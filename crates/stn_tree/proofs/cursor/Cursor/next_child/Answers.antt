@@ -1,8 +1,7 @@
 use Rattle.std.proofs.Common.{◌∙◌, ◌+◌, get_or, arith, refl, sym, length-drop}
 use Rattle.stn_tree.specs.Cursors.{rows_at, left_at}
 use Rattle.std.proofs.lemmas.List.{take_rest}
-use Rattle.stn_tree.proofs.Rows.{opened, closed, passed, begins-at, rows-at-letter, line_after-most, at-end}
-use Rattle.stn_tree.proofs.Cursors.{IsShorter-more}
+use Rattle.stn_tree.proofs.{Rows.opened, Rows.closed, Rows.passed, Rows.begins-at, Rows.rows-at-letter, Rows.line_after-most, Rows.at-end, Cursors.IsShorter-more}
 use Rattle.stn_tree.proofs.cursor.Cursor.next_child.Goals as goal
 
 pub loop-index-init : goal.loop-index-init

@@ -1,6 +1,5 @@
 use Rattle.std.proofs.Common.{◌≡◌, ◌+◌, ◌≤◌, drop}
-use Rattle.stn_tree.specs.Trees.{rows_from}
-use Rattle.stn_tree.specs.Cursors.{rows_at}
+use Rattle.stn_tree.specs.{Trees.rows_from, Cursors.rows_at}
 use Rattle.stn_tree.proofs.cursor.Cursor.next_child.Given as goal
 
 abbrev pub invariant-loop-index : goal.invariant-loop-index

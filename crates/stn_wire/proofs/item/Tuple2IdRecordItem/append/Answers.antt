@@ -1,6 +1,4 @@
-use Rattle.std.proofs.lemmas.Result.{err_from_is_err_and}
-use Rattle.stn_wire.specs.Spelling.{id_bytes, record_bytes}
-use Rattle.stn_wire.specs.declared.layout.Layout.TheVariants.{New}
+use Rattle.stn_wire.specs.{Spelling.id_bytes, Spelling.record_bytes, declared.layout.Layout.TheVariants.New}
 use Rattle.stn_wire.proofs.Parts.{append_then}
 use Rattle.stn_wire.proofs.item.Tuple2IdRecordItem.append.Goals as goal
 
@@ -8,8 +6,3 @@ pub returns-clause-appended : goal.returns-clause-appended
 returns-clause-appended g c =
     append_then c.append_record.result c.args.out.now.items c.append_id.new.out.items c.append_record.new.out.items (id_bytes c.args.self.now.0) (record_bytes New c.args.self.now.1)
     c.in_ok-append_id.ensures.appended c.append_record.ensures.appended
-
-pub returns-in_err-append_id : goal.returns-in_err-append_id
-returns-in_err-append_id g c =
-    let p = err_from_is_err_and c.from_residual.result c.from_residual.ensures.1 in
-    rw p.1 (record { appended = tt; spelled = tt })

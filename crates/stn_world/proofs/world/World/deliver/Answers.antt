@@ -1,25 +1,15 @@
-use Rattle.std.proofs.Common.{◌≡◌, length, refl, sym, ap, subst, ◌∙◌, arith}
+use Rattle.std.proofs.Common.{◌≡◌, refl, sym, ap, subst, ◌∙◌, arith}
 use Rattle.std.specs.Prelude.{option_map, unwrap_or}
-use Rattle.std.proofs.lemmas.Bool.{false≢true}
-use Rattle.std.proofs.lemmas.Result.{err_from_is_err_and}
+use Rattle.std.proofs.{lemmas.Bool.false≢true, lemmas.Result.err_from_is_err_and}
 use Rattle.stn_site.specs.Refusals.{take_refusal}
 use Rattle.stn_site.specs.declared.faults.ReplicaFault.TheVariants as replica_fault
-use Rattle.stn_world.specs.declared.faults.WorldFault.TheVariants.{Memory}
-use Rattle.stn_world.specs.Faults.{of_replica_fault}
-use Rattle.stn_world.specs.Steps.{delivered, IsAccepted, IsDeliveryFault}
-use Rattle.stn_world.specs.World.{World, held_at, packet_at}
-use Rattle.stn_world.specs.Whole.{IsCoherent}
-use Rattle.stn_world.proofs.Accepted.{site_missing, refused_by, delivery_refusal, packet_missing}
-use Rattle.stn_world.proofs.Merges.{delivery_agrees}
+use Rattle.stn_world.specs.{declared.faults.WorldFault.TheVariants.Memory, Faults.of_replica_fault, Steps.delivered, Steps.IsAccepted, Steps.IsDeliveryFault, World.held_at, World.packet_at, Whole.IsCoherent}
+use Rattle.stn_world.proofs.{Accepted.site_missing, Accepted.refused_by, Accepted.delivery_refusal, Accepted.packet_missing, Merges.delivery_agrees, Whole.coherent_after}
 use Rattle.stn_world.proofs.Sites.{place_within, held_there, part_there, packet_there, delivered_there, take_refusal_at, sound_changed, sound_stayed, world_stayed}
-use Rattle.stn_world.proofs.Whole.{coherent_after}
 use Rattle.stn_world.proofs.world.World.deliver.Goals as goal
 
 pub index_mut-requires : goal.index_mut-requires
 index_mut-requires g c = omega (arith, place_within c.args.self.now _ c.self.inside.replicas.items c.in_ok-place.place c.self.view_is c.in_ok-place.ensures.within, c.self.inside.replicas.ok.0)
-
-pub index-requires : goal.index-requires
-index-requires g c = omega (arith, ap (λ (w : World). length w.packets) c.self.view_is, c.in_ok-from.ensures.within, c.self.inside.packets.ok.0)
 
 pub returns-in_err-place : goal.returns-in_err-place
 returns-in_err-place g c =

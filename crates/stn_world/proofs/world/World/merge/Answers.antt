@@ -1,19 +1,13 @@
 use Rattle.std.proofs.Common.{◌≡◌, ◌<◌, length, refl, sym, ap, subst, ◌∙◌}
 use Rattle.std.specs.Prelude.{unwrap_or}
-use Rattle.std.proofs.lemmas.Bool.{false≢true}
-use Rattle.std.proofs.lemmas.Result.{err_from_is_err_and}
+use Rattle.std.proofs.{lemmas.Bool.false≢true, lemmas.Result.err_from_is_err_and}
 use Rattle.stn_site.specs.Refusals.{take_refusal}
 use Rattle.stn_site.specs.declared.faults.ReplicaFault.TheVariants as replica_fault
-use Rattle.stn_world.specs.Steps.{merged, IsAccepted, IsMergeFault}
-use Rattle.stn_world.specs.World.{HasSite, held_at, content_at}
-use Rattle.stn_world.specs.Whole.{IsCoherent}
+use Rattle.stn_world.specs.{Steps.merged, Steps.IsAccepted, Steps.IsMergeFault, World.HasSite, World.held_at, World.content_at, Whole.IsCoherent}
 use Rattle.stn_world.proofs.Accepted.{site_missing, merge_free, merge_itself, merge_fault, other_missing}
-use Rattle.stn_world.proofs.Sites.{place_within, part_there, take_refusal_at}
+use Rattle.stn_world.proofs.{Sites.place_within, Sites.part_there, Sites.take_refusal_at, Whole.coherent_after, Merges.merge_agrees, world.World.merge.Goals.then-ours-theirs+in_ok-take_from, world.World.merge.Goals.else-ours-theirs}
 use Rattle.stn_world.proofs.Pair.{held_at_site, merged_there, sound_merged, merged_itself, one_site, other_site, sound_kept, world_kept}
-use Rattle.stn_world.proofs.Whole.{coherent_after}
-use Rattle.stn_world.proofs.Merges.{merge_agrees}
 use Rattle.stn_world.proofs.world.World.merge.Goals as goal
-use Rattle.stn_world.proofs.world.World.merge.Goals.{then-ours-theirs+in_ok-take_from, else-ours-theirs}
 
 pub take_from-requires : goal.take_from-requires
 take_from-requires g c =

@@ -2,21 +2,12 @@ use Rattle.std.proofs.Common.{◌≡◌, true, List, refl, sym, ap, subst, ◌�
 use Rattle.std.specs.Rc.{rc_value}
 use Rattle.std.proofs.lemmas.Result.{err_from_is_err_and}
 use Rattle.stn_records.specs.Content.{Content}
-use Rattle.stn_world.specs.Steps.{sent}
-use Rattle.stn_world.specs.Sites.{world_of}
-use Rattle.stn_world.specs.World.{content_at}
-use Rattle.stn_world.specs.Whole.{IsCoherent, IsSoundWorld}
-use Rattle.stn_world.proofs.Accepted.{site_missing, too_many_packets}
-use Rattle.stn_world.proofs.Sendings.{send_free, send_memory, all_free}
-use Rattle.stn_world.proofs.Sites.{place_within, held_there, sent_there, sound_sent}
-use Rattle.stn_world.proofs.Whole.{coherent_after}
+use Rattle.stn_world.specs.{Steps.sent, Sites.world_of, World.content_at, Whole.IsCoherent, Whole.IsSoundWorld}
+use Rattle.stn_world.proofs.{Accepted.site_missing, Accepted.too_many_packets, Sendings.send_free, Sendings.send_memory, Sendings.all_free, Sites.place_within, Sites.held_there, Sites.sent_there, Sites.sound_sent, Whole.coherent_after}
 use Rattle.stn_world.proofs.world.World.send_all.Goals as goal
 
 pub index-requires : goal.index-requires
 index-requires g c = omega (arith, place_within c.args.self.now _ c.self.inside.replicas.items c.in_ok-place.place c.self.view_is c.in_ok-place.ensures.within, c.self.inside.replicas.ok.0)
-
-pub invariant_of-self : goal.invariant_of-self
-invariant_of-self g c = subst (λ (l : List Content). IsSoundWorld (rc_value c.self.inside.base) c.self.inside.replicas.items l) (sym c.in_err-push.ensures.items) c.self.invariant
 
 pub returns-in_err-place : goal.returns-in_err-place
 returns-in_err-place g c =

@@ -1,19 +1,12 @@
 use Rattle.std.proofs.Common.{◌≡◌, true, refl, sym, ap, subst, ◌∙◌, arith}
-use Rattle.std.specs.FinMap.{contains_key}
-use Rattle.std.specs.Prelude.{option_map, unwrap_or}
-use Rattle.std.proofs.lemmas.Bool.{false≢true}
-use Rattle.std.proofs.lemmas.Result.{err_from_is_err_and}
+use Rattle.std.specs.{FinMap.contains_key, Prelude.option_map, Prelude.unwrap_or}
+use Rattle.std.proofs.{lemmas.Bool.false≢true, lemmas.Result.err_from_is_err_and}
 use Rattle.stn_records.specs.Content.{Content}
 use Rattle.stn_site.specs.Refusals.{withdraw_refusal}
 use Rattle.stn_site.specs.declared.faults.ReplicaFault.TheVariants as replica_fault
-use Rattle.stn_world.specs.declared.faults.WorldFault.TheVariants.{Memory}
-use Rattle.stn_world.specs.Faults.{of_replica_fault}
-use Rattle.stn_world.specs.Steps.{withdrew, IsAccepted}
-use Rattle.stn_world.specs.World.{held_at}
-use Rattle.stn_world.specs.Whole.{IsCoherent}
-use Rattle.stn_world.proofs.Accepted.{at_site, site_missing, refused_by}
+use Rattle.stn_world.specs.{declared.faults.WorldFault.TheVariants.Memory, Faults.of_replica_fault, Steps.withdrew, Steps.IsAccepted, World.held_at, Whole.IsCoherent}
+use Rattle.stn_world.proofs.{Accepted.at_site, Accepted.site_missing, Accepted.refused_by, Whole.coherent_after}
 use Rattle.stn_world.proofs.Sites.{place_within, held_there, withdrawn_there, withdraw_refusal_at, sound_changed, sound_stayed, world_stayed}
-use Rattle.stn_world.proofs.Whole.{coherent_after}
 use Rattle.stn_world.proofs.world.World.withdraw.Goals as goal
 
 pub index_mut-requires : goal.index_mut-requires

@@ -1,4 +1,0 @@
-use Rattle.stn_lift.proofs.base.Base.bounds.Goals as goal
-
-pub returns-clause-sound : goal.returns-clause-sound
-returns-clause-sound g c = rw (← c.self.view_is) c.self.invariant.sound
