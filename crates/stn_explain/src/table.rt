@@ -18,7 +18,6 @@ const ENTRIES: [Entry; 50] = [
         meaning: "not a time",
         more: "\
 A time is a number of seconds in decimals, as 5, 2.5 or 0.001, with a `-` before it if it is negative.\n\
-The second word, if there is one, is a line of a text, or 0 for the command line.\n\
 Usual causes: a unit (`5s`), a comma (`2,5`), an exponent (`1e3`), a `+`, or a digit missing beside the point (`5.`, `.5`).\n\
 What to do: write the time in seconds. A side of a bound that is to be open is left out, or is `*` in a script.\n",
     },
