@@ -10,10 +10,10 @@ use Rattle.stn_records.proofs.{KnownIds.member-append, Replaced.with_ids_member}
 use Rattle.stn_questions.specs.Records.{AreKnown}
 use Rattle.stn_questions.proofs.ReadyLists.{same_number, other_number}
 
-laws : IsEquivalence same_ids
+pub laws : IsEquivalence same_ids
 laws = eq_by_cmp_equiv ids_total
 
-same_is : (a b : SiteCounter) → same_ids a b ≡ true → a ≡ b
+pub same_is : (a b : SiteCounter) → same_ids a b ≡ true → a ≡ b
 same_is a b e = ids_exact a b ((Equal-is (id_cmp a b)).0 e)
 
 -- the test of two ids by their numbers

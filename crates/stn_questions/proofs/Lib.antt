@@ -7,3 +7,9 @@ pub mod OneReady
 pub mod ReadyLists
 pub mod ReadyNext
 pub mod Reasons
+pub mod Found
+pub mod Chosen
+pub mod Levels
+pub mod Cycles
+pub mod SomeReport
+pub mod SomeAnswer

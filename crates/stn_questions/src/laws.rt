@@ -1,14 +1,15 @@
-ghost use Rattle.std.specs.Prelude.{◌≡◌, ℕ, ℤ, List};
-ghost use Rattle.stn_lift.specs.PlanSource.{PlanSource};
+ghost use Rattle.std.specs.Prelude.{◌≡◌, ℕ, ℤ, List, All};
+ghost use Rattle.stn_net.specs.Difference.{IsBoundWithin};
+ghost use Rattle.stn_lift.specs.PlanSource.{PlanSource, IsSoundSource, events_of};
 ghost use Rattle.stn_records.specs.Content.{Content};
 ghost use Rattle.stn_windows.specs.Dispatch.{IsNext};
 ghost use Rattle.stn_windows.specs.declared.answers.Next.TheVariants.{Run};
-ghost use Rattle.stn_site.specs.Bounds.{all_bounds};
-ghost use Rattle.stn_site.specs.Report.{done_events};
+ghost use Rattle.stn_site.specs.Bounds.{all_bounds, live_bounds};
+ghost use Rattle.stn_site.specs.Report.{IsReport, done_events};
 ghost use Rattle.stn_site.specs.Held.{Held};
 ghost use Rattle.stn_site.specs.Calls.{Accepted, CameBy, TookSame, TookSameItems};
 ghost use Rattle.stn_questions.specs.declared.asked.Question.{Question};
-ghost use Rattle.stn_questions.specs.Answer.{AsksOfPlan, IsAnswer};
+ghost use Rattle.stn_questions.specs.Answer.{AsksOfNoEvent, AsksOfPlan, IsAnswer};
 ghost use Rattle.stn_questions.specs.Ready.{BeginsWithNext, IsReadyText};
 
 use stn_conflict::{negative_cycle_is_conflict, one_way};
@@ -25,6 +26,19 @@ pub fn one_answer()
     one_way();
     negative_cycle_is_conflict();
 }
+
+/// The law that a plan that has a base and a state have a report, if each bound of a live record is one of the plan; it
+/// does nothing.
+pub fn every_state_has_a_report()
+    ensures { (source : PlanSource) → (state : Content) → IsSoundSource source → All (IsBoundWithin (events_of source)) (live_bounds state)
+        → (text : List ℕ) × IsReport source state text }
+{}
+
+/// The law that they also have an answer to each question about events that the plan has; it does nothing.
+pub fn every_question_has_an_answer()
+    ensures { (source : PlanSource) → (state : Content) → IsSoundSource source → All (IsBoundWithin (events_of source)) (live_bounds state)
+        → (question : Question) → (¬ AsksOfNoEvent source question) → (text : List ℕ) × IsAnswer source state question text }
+{}
 
 /// The law that a plan and a state have one text that says which events may run from a time on; it does
 /// nothing.

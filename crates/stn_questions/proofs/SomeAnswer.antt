@@ -1,0 +1,132 @@
+-- Each plan and each state have an answer to each question about events that the plan has.
+use Rattle.std.proofs.Common.{◌≡◌, inl, inr, ℕ, ℤ, ◌≤◌, ◌<◌, true, ◌||◌, List, [], ◌∷◌, ◌++◌, codes, neg_ℤ, map, Ordering, Less, Equal, Greater, refl, sym, ap, ◌∙◌, arith}
+use Rattle.std.specs.{List.AllByRecursion, List.flat_map, List.Sorted.IsStrictlySortedBy, Ordering.is_lt, Set.is_member, FinMap.is_sorted, FinMap.contains_key-keys, FinMap.Entries.below_all}
+use Rattle.std.specs.FinMap as fin
+use Rattle.std.proofs.lemmas.Bool.{cases_lt, and_parts, false≢true}
+use Rattle.std.proofs.lemmas.Map.Views.{Contains-from_any, list_any-from_Contains}
+use Rattle.stn_windows.proofs.Windows.{window_of_ends}
+use Rattle.stn_lift.specs.PlanSource.{PlanSource, events_of}
+use Rattle.stn_records.specs.{Id.SiteCounter, Id.id_cmp, Id.same_ids, Content.Content, Content.IdSet, Content.with_ids, Content.replaced_set, Content.is_known}
+use Rattle.stn_records.proofs.{Entries.in_order, Replaced.with_ids_member}
+use Rattle.stn_conflict.specs.{declared.links.Link.Link, Arcs.weight_of, Named.IsWay}
+use Rattle.stn_conflict.proofs.CycleSums.{weight_of_way}
+use Rattle.stn_site.specs.{Bounds.all_bounds, Lines.window_line, Report.is_done}
+use Rattle.stn_repair.proofs.Ranges.{range_of_ends}
+use Rattle.stn_questions.specs.{declared.asked.Question.Question, Answer.IsAnswer, Answer.AsksOfNoEvent, Records.AreKnown, Records.record_line, Steps.steps_text, Bounds.bounds_text}
+use Rattle.stn_questions.specs.declared.asked.Question.TheVariants.{Records, Steps, Bounds, Why, WhyApart}
+use Rattle.stn_questions.specs.Why.{end_text, range_line, IsWhyText, IsApartText}
+use Rattle.stn_questions.proofs.{Found.AreFound, Found.possible_found, Found.tightest_found, Levels.some_way, SomeReport.IsSoundState, SomeReport.differences, SomeReport.some_conflict, KnownOnce.laws, KnownOnce.same_is}
+
+-- ---- the known ids
+less_of : (order : Ordering) → is_lt order ≡ true → order ≡ Less
+less_of Less e = refl
+less_of Equal e = absurd (false≢true e)
+less_of Greater e = absurd (false≢true e)
+
+module _ {X : Type 0} where
+  all_below : (key : SiteCounter) (entries : List (SiteCounter × X)) → below_all id_cmp key entries ≡ true → AllByRecursion (λ other. id_cmp key other ≡ Less) (map (λ entry. entry.0) entries)
+  all_below key [] e = tt
+  all_below key (entry ∷ entries) e = let both = and_parts _ _ e in (less_of _ both.0, all_below key entries both.1)
+
+  keys_rise : (entries : List (SiteCounter × X)) → is_sorted id_cmp entries ≡ true → IsStrictlySortedBy id_cmp (map (λ entry. entry.0) entries)
+  unfolding IsStrictlySortedBy
+  keys_rise [] e = tt
+  keys_rise (entry ∷ entries) e = let both = and_parts _ _ e in (all_below entry.0 entries both.0, keys_rise entries both.1)
+
+-- the ids that were added or are replaced, as a set
+abbrev known_set : Content → IdSet
+known_set state = with_ids (replaced_set state) (fin.keys state.additions)
+
+known_is : (state : Content) (id : SiteCounter) → is_member same_ids (fin.keys (known_set state)) id ≡ is_known state id
+known_is state id =
+    sym (contains_key-keys (known_set state) id) ∙ with_ids_member (replaced_set state) (fin.keys state.additions) id
+    ∙ ap (λ b. b || fin.contains_key (replaced_set state) id) (sym (contains_key-keys state.additions id))
+
+some_known : (state : Content) → (ids : List SiteCounter) × AreKnown state ids
+some_known state = (
+  fin.keys (known_set state),
+  record {
+    order = keys_rise (fin.entries (known_set state)) (in_order (known_set state));
+    known = λ id. (
+      (λ there. sym (known_is state id) ∙ list_any-from_Contains laws id (fin.keys (known_set state)) there),
+      (λ known. Contains-from_any same_is id (fin.keys (known_set state)) (known_is state id ∙ known)),
+    );
+  },
+)
+
+-- ---- reasons
+module _ (source : PlanSource) (state : Content) (sound : IsSoundState source state) where
+  -- the way from one event to another, and what it weighs
+  way_between : (far : ℕ → ℕ → ℤ) (found : AreFound (all_bounds source state) (events_of source) far) (from to : ℕ) → from ≤ events_of source → to ≤ events_of source
+      → (links : List Link) × IsWay (all_bounds source state) from to links × (weight_of (all_bounds source state) links ≡ far from to)
+  way_between far found from to from_within to_within =
+      let bounds = all_bounds source state in
+      let (links, way) = some_way (all_bounds source state) (events_of source) far found from from_within to to_within in
+      let here = tightest_found (all_bounds source state) (events_of source) far found from from from_within from_within in
+      let there = tightest_found (all_bounds source state) (events_of source) far found from to from_within to_within in
+      (links, way, weight_of_way (all_bounds source state) from to links _ _ here there way)
+
+  some_why : (event : ℕ) → event ≤ events_of source → (text : List ℕ) × IsWhyText source state event text
+  some_why event within =
+      elim (differences source state sound) [
+        | inr (place, far, first) ↦ (let (text, conflict) = some_conflict source state sound place far first in (text, inr conflict))
+        | inl (far, found) ↦
+            let none : 0 ≤ events_of source = omega arith in
+            let (back, way_back, holds_back) = way_between far found event 0 within none in
+            let (forth, way_forth, holds_forth) = way_between far found 0 event none within in
+            let early = tightest_found (all_bounds source state) (events_of source) far found event 0 within none in
+            let late = tightest_found (all_bounds source state) (events_of source) far found 0 event none within in (
+              window_line event (neg_ℤ (far event 0)) (far 0 event) (is_done state event)
+                  ++ (end_text source state (codes "earliest") (neg_ℤ (far event 0)) back ++ end_text source state (codes "latest") (far 0 event) forth),
+              inl (record {
+                possible = possible_found (all_bounds source state) (events_of source) far found;
+                earliest = neg_ℤ (far event 0);
+                latest = far 0 event;
+                window = window_of_ends (all_bounds source state) event (far event 0) (far 0 event) early late;
+                to_origin = back;
+                from_origin = forth;
+                way_to_origin = way_back;
+                way_from_origin = way_forth;
+                holds_earliest = ap neg_ℤ (sym holds_back);
+                holds_latest = sym holds_forth;
+                whole = refl;
+              }),
+            )
+      ]
+
+  some_apart : (from to : ℕ) → from ≤ events_of source → to ≤ events_of source → (text : List ℕ) × IsApartText source state from to text
+  some_apart from to from_within to_within =
+      elim (differences source state sound) [
+        | inr (place, far, first) ↦ (let (text, conflict) = some_conflict source state sound place far first in (text, inr conflict))
+        | inl (far, found) ↦
+            let (back, way_back, holds_back) = way_between far found to from to_within from_within in
+            let (forth, way_forth, holds_forth) = way_between far found from to from_within to_within in
+            let early = tightest_found (all_bounds source state) (events_of source) far found to from to_within from_within in
+            let late = tightest_found (all_bounds source state) (events_of source) far found from to from_within to_within in (
+              range_line from to (neg_ℤ (far to from)) (far from to)
+                  ++ (end_text source state (codes "least") (neg_ℤ (far to from)) back ++ end_text source state (codes "greatest") (far from to) forth),
+              inl (record {
+                possible = possible_found (all_bounds source state) (events_of source) far found;
+                least = neg_ℤ (far to from);
+                greatest = far from to;
+                range = range_of_ends (all_bounds source state) from to (far to from) (far from to) early late;
+                back = back;
+                onward = forth;
+                way_back = way_back;
+                way_onward = way_forth;
+                holds_least = ap neg_ℤ (sym holds_back);
+                holds_greatest = sym holds_forth;
+                whole = refl;
+              }),
+            )
+      ]
+
+  within_plan : (event : ℕ) → (¬ (events_of source < event)) → event ≤ events_of source
+  within_plan event there = elim (cases_lt (events_of source) event) [ inl past ↦ absurd (there past) | inr within ↦ within ]
+
+  pub some_answer : (question : Question) → (¬ AsksOfNoEvent source question) → (text : List ℕ) × IsAnswer source state question text
+  some_answer Records there = (let (ids, known) = some_known state in (flat_map (record_line state) ids, record { ids = ids; known = known; lines = refl }))
+  some_answer Steps there = (steps_text source, refl)
+  some_answer Bounds there = (bounds_text source state, refl)
+  some_answer (Why event) there = some_why event (within_plan event there)
+  some_answer (WhyApart from to) there = some_apart from to (within_plan from (λ past. there (inl past))) (within_plan to (λ past. there (inr past)))

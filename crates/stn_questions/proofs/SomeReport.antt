@@ -1,0 +1,78 @@
+-- Each plan and each state have a report.
+use Rattle.std.proofs.Common.{◌⊎◌, inl, inr, ℕ, zero, suc, ◌≤◌, Bool, List, [], ◌++◌, codes, neg_ℤ, refl, arith}
+use Rattle.std.specs.Prelude.{ℤ, All}
+use Rattle.std.specs.List.{flat_map}
+use Rattle.std.proofs.lemmas.Int.{ints}
+use Rattle.std.proofs.lemmas.List.Elements.{All-append}
+use Rattle.stn_net.specs.{Difference.Difference, Difference.IsBoundWithin}
+use Rattle.stn_windows.proofs.Windows.{window_of_ends}
+use Rattle.stn_lift.specs.PlanSource.{PlanSource, events_of, base_bounds, IsSoundSource}
+use Rattle.stn_records.specs.Content.{Content}
+use Rattle.stn_conflict.specs.Arcs.{weight_of}
+use Rattle.stn_conflict.proofs.Known.{known_within, known_first}
+use Rattle.stn_site.specs.{Bounds.all_bounds, Bounds.live_bounds, Names.live_ids, Lines.line, Lines.window_line, Lines.conflict_line, Lines.link_line, Report.is_done, Report.heading, Report.IsWindowLines, Report.IsConflictPart, Report.IsReport}
+use Rattle.stn_questions.proofs.Found.{AreFound, IsFirstRefused, IsInOrder, possible_found, tightest_found, found_or_refused}
+use Rattle.stn_questions.proofs.Cycles.{some_cycle}
+
+-- a window for each of the first events
+some_windows : (bounds : List Difference) (events : ℕ) (far : ℕ → ℕ → ℤ) (done : ℕ → Bool) → AreFound bounds events far → (n : ℕ) → n ≤ events
+    → (text : List ℕ) × IsWindowLines bounds done n text
+some_windows bounds events far done found zero within = ([], refl)
+some_windows bounds events far done found (suc n) within =
+    let (before, lines) = some_windows bounds events far done found n (omega arith) in
+    let earliest = neg_ℤ (far (suc n) 0) in
+    let latest = far 0 (suc n) in
+    let early = tightest_found bounds events far found (suc n) 0 within (omega arith) in
+    let late = tightest_found bounds events far found 0 (suc n) (omega arith) within in (
+      before ++ window_line (suc n) (neg_ℤ (far (suc n) 0)) (far 0 (suc n)) (done (suc n)),
+      (before, neg_ℤ (far (suc n) 0), far 0 (suc n), lines, window_of_ends bounds (suc n) (far (suc n) 0) (far 0 (suc n)) early late, refl),
+    )
+
+-- the plan has a base, and each bound of a live record is one of the plan
+pub record IsSoundState (source : PlanSource) (state : Content) : Type 0 where
+  pub based : IsSoundSource source
+  pub live : All (IsBoundWithin (events_of source)) (live_bounds state)
+
+module _ (source : PlanSource) (state : Content) (sound : IsSoundState source state) where
+  -- the plan's own bounds have a schedule, so none of them is crossed
+  base_in_order : All (IsInOrder (events_of source)) (base_bounds source)
+  base_in_order = λ k d below.
+      let met = sound.based.possible.met k d below in
+      record { named = sound.based.named k d below; ordered = omega (arith, ints, met.0, met.1) }
+
+  in_order : All (IsInOrder (events_of source)) (all_bounds source state)
+  in_order =
+      All-append (IsInOrder (events_of source)) (base_bounds source) (live_bounds state) base_in_order
+      (λ k d below. let one = sound.live k d below in record { named = one.named; ordered = one.ordered })
+
+  -- there are the tightest differences, or the first bound that is refused
+  pub differences : ((far : ℕ → ℕ → ℤ) × AreFound (all_bounds source state) (events_of source) far)
+      ⊎ ((place : ℕ) × (far : ℕ → ℕ → ℤ) × IsFirstRefused (all_bounds source state) (events_of source) place far)
+  differences =
+      let begins = known_first (events_of source) (base_bounds source) (live_bounds state) sound.based.horizon in
+      found_or_refused (events_of source) (all_bounds source state) begins (known_within (events_of source) (all_bounds source state) begins) in_order
+
+  -- the conflict, where some bound is refused
+  pub some_conflict : (place : ℕ) (far : ℕ → ℕ → ℤ) → IsFirstRefused (all_bounds source state) (events_of source) place far → (text : List ℕ) × IsConflictPart source state text
+  some_conflict place far first =
+      let (links, named, negative) = some_cycle (all_bounds source state) (events_of source) place far first in_order in (
+        conflict_line (weight_of (all_bounds source state) links) ++ flat_map (link_line (base_bounds source) (live_ids state) (live_bounds state)) links,
+        record { links = links; named = named; negative = negative; whole = refl },
+      )
+
+  pub some_report : (text : List ℕ) × IsReport source state text
+  some_report =
+      elim differences [
+        | inl (far, found) ↦
+            let (lines, windows) = some_windows (all_bounds source state) (events_of source) far (is_done state) found (events_of source) (omega arith) in (
+              heading source state ++ (line (codes "ok") ++ lines),
+              record {
+                rest = line (codes "ok") ++ lines;
+                part = inl (record { possible = possible_found (all_bounds source state) (events_of source) far found; lines = lines; windows = windows; whole = refl });
+                whole = refl;
+              },
+            )
+        | inr (place, far, first) ↦
+            let (text, conflict) = some_conflict place far first in
+            (heading source state ++ text, record { rest = text; part = inr conflict; whole = refl })
+      ]
