@@ -582,7 +582,7 @@ def full_device(stn):
 
 
 def full_behind_serve(stn):
-    """A log that can't be saved behind `serve`: the command ends with the fault, and the old log stays."""
+    """A log that can't be saved behind `serve`: the site that sends is not told that its records are in, and the old log stays."""
     os.mkdir("small")
     mounted = subprocess.run(["mount", "-t", "tmpfs", "-o", "size=16k", "none", "small"], capture_output=True)
     if mounted.returncode != 0:
@@ -602,7 +602,8 @@ def full_behind_serve(stn):
         except OSError:
             pass
         before = contents("small/a.log")
-        stn.run("send", "b.log", "2", address)
+        sent = stn.run("send", "b.log", "2", address)
+        check(sent[0] == 1, f"send was told that its records are in: {sent}")
         out, err = server.communicate(timeout=SECONDS)
         check((server.returncode, out) == (1, b"") and err in (b"fault write\n", b"fault file\n"), f"serve: {server.returncode} {out} {err}")
         check(contents("small/a.log") == before, "a log was changed")

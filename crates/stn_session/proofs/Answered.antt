@@ -2,11 +2,20 @@
 use Rattle.std.proofs.Common.{◌≡◌, ℕ, ◌+◌, ◌-◌, ◌^◌, ◌<◌, min, is_err, ◌⊎◌, inl, OnErr, Result, Ok, Err, refl, ap, arith}
 use Rattle.std.proofs.lemmas.Bool.{false≢true}
 use Rattle.stn_records.specs.Content.{Content}
+use Rattle.stn_session.specs.declared.session.KeepingFault.{KeepingFault}
+use Rattle.stn_session.specs.declared.session.KeepingFault.TheVariants.{Serve, Keep}
+use Rattle.stn_session.specs.declared.session.ServeFault.{ServeFault}
 
 -- the fault of an answer
 abbrev pub fault_or : {X E : Type 0} → E → Result X E → E
 fault_or other (Ok given) = other
 fault_or other (Err fault) = fault
+
+-- the fault of a session that broke off
+abbrev pub serve_fault_or : {X : Type 0} → ServeFault → Result X KeepingFault → ServeFault
+serve_fault_or other (Ok given) = other
+serve_fault_or other (Err (Serve fault)) = fault
+serve_fault_or other (Err (Keep failure)) = other
 
 -- an answer that was given is no fault
 pub not_err : {X E : Type 0} (given : X) (fault : E) → (let answer : Result X E = Ok given in answer) ≡ Err fault → ⊥

@@ -1,8 +1,9 @@
--- A session that goes on, frame by frame.
-use Rattle.std.proofs.Common.{◌≡◌, ℕ, ◌+◌, ◌<◌, ◌≤◌, cond, Bool, List, [], ◌∷◌, ◌++◌, length, Option, Some, None, Err, refl, sym, ap, subst, ◌∙◌, inl, inr, ⊎_elim, arith, append_assoc, append-nil, length-append}
+-- A session that goes on, frame by frame, and what it keeps.
+use Rattle.std.proofs.Common.{◌≡◌, ◌≢◌, ℕ, ◌+◌, ◌<◌, ◌≤◌, cond, Bool, true, false, List, [], ◌∷◌, ◌++◌, length, Option, Some, None, Err, refl, sym, ap, subst, ◌∙◌, inl, inr, ⊎_elim, arith, append_assoc, append-nil, length-append}
 use Rattle.std.specs.Prelude.{flat_map, is_some}
 use Rattle.std.specs.Io.KnownBytes.{Consumes, Appends}
 use Rattle.std.proofs.KnownBytes.{Consumes-nil, Consumes-trans, Appends-nil, Appends-trans}
+use Rattle.std.proofs.lemmas.Bool.{false≢true}
 use Rattle.std.proofs.lemmas.Grind.{flat_map-append}
 use Rattle.std.proofs.lemmas.List.Sums.{fold-append}
 use Rattle.stn_device.specs.Bytes.{AppendsPart}
@@ -12,11 +13,15 @@ use Rattle.stn_records.specs.Content.{Content}
 use Rattle.stn_wire.specs.Frame.{FrameContent, spelling, refused, IsFrame}
 use Rattle.stn_wire.specs.Front.{IsFront, faulty, unfinished}
 use Rattle.stn_stream.specs.Stream.{wire_fault, frame_code, IsNext, IsCounted}
-use Rattle.stn_session.specs.Session.{Reply, said, Session, Answer, answer, opening, followed, advanced, broken_off}
-use Rattle.stn_session.specs.Serving.{IsReplyBytes, AreReplies, WritesReplies, Reaches, IsServed, GoesOn, IsBroken, serve_fault}
+use Rattle.stn_refusal.specs.declared.failure.Failure.{Failure}
+use Rattle.stn_session.specs.Keeping.{KeepsChange, KeepsEach, KeepsLast, IsKept, IsKeptBroken, IsUnkept, IsCutShort}
+use Rattle.stn_session.specs.Session.{Reply, said, Session, Answer, answer, opening, followed, advanced, talked, broken_off}
+use Rattle.stn_session.specs.Serving.{IsReplyBytes, AreReplies, WritesReplies, Reaches, GoesOn, serve_fault}
 use Rattle.stn_stream.specs.declared.fault.FrameFault.{FrameFault}
 use Rattle.stn_session.specs.declared.session.End.TheVariants.{Closed, Cut, Refused}
-use Rattle.stn_session.specs.Turns.{Wrote, WroteRefused}
+use Rattle.stn_session.specs.Turns.{IsChange, Wrote, KeepsTurn, WroteKept, WroteRefused}
+use Rattle.stn_session.specs.declared.session.KeepingFault.{KeepingFault}
+use Rattle.stn_session.specs.declared.session.KeepingFault.TheVariants as keeping
 use Rattle.stn_session.specs.declared.session.ServeFault.{ServeFault}
 use Rattle.stn_session.specs.declared.session.ServeFault.TheVariants.{Read, Write, Bound, Memory}
 use Rattle.stn_stream.specs.Held.{Stream}
@@ -37,7 +42,7 @@ writes_same : (a b c : Option (List ℕ)) (replies : List Reply) → WritesRepli
 writes_same a b c replies done none = (done.0, done.1, subst (Appends a c) (append-nil done.0) (Appends-trans a b c done.0 [] done.2 none))
 
 -- ---- frames, one after the other
-pub reaches_frame : (first : Session) (bytes : List ℕ) (session : Session) (rest later : List ℕ) (frame : FrameContent) → Reaches first bytes session rest → IsFrame frame → rest ≡ spelling frame ++ later
+abbrev pub reaches_frame : (first : Session) (bytes : List ℕ) (session : Session) (rest later : List ℕ) (frame : FrameContent) → Reaches first bytes session rest → IsFrame frame → rest ≡ spelling frame ++ later
     → Reaches first bytes (advanced session frame) later
 reaches_frame first bytes session rest later frame r is e = record {
   frames = r.frames ++ frame ∷ [];
@@ -49,7 +54,7 @@ reaches_frame first bytes session rest later frame r is e = record {
   talked = ap (λ s. advanced s frame) r.talked ∙ sym (fold-append advanced first r.frames (frame ∷ []));
 }
 
-pub reaches_more : (first : Session) (bytes : List ℕ) (session : Session) (rest more : List ℕ) → Reaches first bytes session rest → Reaches first (bytes ++ more) session (rest ++ more)
+abbrev pub reaches_more : (first : Session) (bytes : List ℕ) (session : Session) (rest more : List ℕ) → Reaches first bytes session rest → Reaches first (bytes ++ more) session (rest ++ more)
 reaches_more first bytes session rest more r = record {
   frames = r.frames;
   each = r.each;
@@ -57,8 +62,14 @@ reaches_more first bytes session rest more r = record {
   talked = r.talked;
 }
 
+-- ---- the states that are kept
+each_more : {P : Type 0} (Keeps : Content → P → P → Type 0) (first : Session) (frames : List FrameContent) (frame : FrameContent) (old between new : P) → KeepsEach Keeps first frames old between
+    → KeepsChange Keeps (talked first frames).state (advanced (talked first frames) frame).state between new → KeepsEach Keeps first (frames ++ frame ∷ []) old new
+each_more Keeps first [] frame old between new none kept = (new, subst (λ place. KeepsChange Keeps first.state (advanced first frame).state place new) none kept, refl)
+each_more Keeps first (one ∷ frames) frame old between new all kept = (all.0, all.1, each_more Keeps (advanced first one) frames frame all.0 between new all.2 kept)
+
 -- ---- how far a session has come
-pub record Progress (first : Session) (before after old new : Option (List ℕ)) (rest : List ℕ) (taken : ℕ) (source : PlanSource) (state : Content) (greeted : Bool) (count : ℕ) : Type 0 where
+pub record Progress {P : Type 0} (Keeps : Content → P → P → Type 0) (place kept : P) (first : Session) (before after old new : Option (List ℕ)) (rest : List ℕ) (taken : ℕ) (source : PlanSource) (state : Content) (greeted : Bool) (count : ℕ) : Type 0 where
   pub bytes : List ℕ
   pub session : Session
   pub consumed : Consumes before after bytes
@@ -70,10 +81,11 @@ pub record Progress (first : Session) (before after old new : Option (List ℕ))
   pub source_is : source ≡ session.source
   pub state_is : state ≡ session.state
   pub greeted_is : greeted ≡ session.greeted
+  pub each : KeepsEach Keeps first reached.frames place kept
 
-pub begun : (source : PlanSource) (state : Content) (before old : Option (List ℕ)) (rest : List ℕ) (taken : ℕ) → rest ≡ [] → taken ≡ 0
-    → Progress (opening source state) before before old old rest taken source state (opening source state).greeted 0
-begun source state before old rest taken none zero = record {
+pub begun : {P : Type 0} (Keeps : Content → P → P → Type 0) (place : P) (source : PlanSource) (state : Content) (before old : Option (List ℕ)) (rest : List ℕ) (taken : ℕ) → rest ≡ [] → taken ≡ 0
+    → Progress Keeps place place (opening source state) before before old old rest taken source state (opening source state).greeted 0
+begun Keeps place source state before old rest taken none zero = record {
   bytes = [];
   session = opening source state;
   consumed = Consumes-nil before;
@@ -85,10 +97,11 @@ begun source state before old rest taken none zero = record {
   source_is = refl;
   state_is = refl;
   greeted_is = refl;
+  each = refl;
 }
 
-module _ (first : Session) (before after old new : Option (List ℕ)) (rest : List ℕ) (taken : ℕ) (source : PlanSource) (state : Content) (greeted : Bool) (count : ℕ)
-    (p : Progress first before after old new rest taken source state greeted count)
+module _ {P : Type 0} (Keeps : Content → P → P → Type 0) (place kept : P) (first : Session) (before after old new : Option (List ℕ)) (rest : List ℕ) (taken : ℕ) (source : PlanSource) (state : Content) (greeted : Bool) (count : ℕ)
+    (p : Progress Keeps place kept first before after old new rest taken source state greeted count)
     (last : Option (List ℕ)) (more : List ℕ) (read : Consumes after last more) where
   -- more bytes were read
   consumed_all : Consumes before last (p.bytes ++ more)
@@ -97,139 +110,173 @@ module _ (first : Session) (before after old new : Option (List ℕ)) (rest : Li
   many_all : taken + length more ≡ length (p.bytes ++ more)
   many_all = omega (arith, p.many, length-append p.bytes more)
 
-  reached_all : Reaches first (p.bytes ++ more) p.session (rest ++ more)
+  abbrev reached_all : Reaches first (p.bytes ++ more) p.session (rest ++ more)
   reached_all = reaches_more first p.bytes p.session rest more p.reached
 
   -- the input ends after the last frame, or within one
-  pub closes : taken + length more ≤ 16777216 → rest ++ more ≡ [] → IsServed first before last old new state (record { frames = count; end = Closed })
+  pub closes : taken + length more ≤ 16777216 → rest ++ more ≡ [] → IsKept Keeps first before last old new state place kept (record { frames = count; end = Closed })
   closes few none = record {
-    bytes = p.bytes ++ more;
-    session = p.session;
-    rest = rest ++ more;
-    last = p.session;
-    consumed = consumed_all;
-    few = omega (arith, few, many_all);
-    reached = reached_all;
-    ended = (p.on, none, refl);
-    written = p.written;
-    frames = p.counted;
-    left = p.state_is;
+    served = record {
+      bytes = p.bytes ++ more;
+      session = p.session;
+      rest = rest ++ more;
+      last = p.session;
+      consumed = consumed_all;
+      few = omega (arith, few, many_all);
+      reached = reached_all;
+      ended = (p.on, none, refl);
+      written = p.written;
+      frames = p.counted;
+      left = p.state_is;
+    };
+    each = p.each;
   }
 
-  pub cuts : taken + length more ≤ 16777216 → IsFront (rest ++ more) unfinished → 0 < length (rest ++ more) → IsServed first before last old new state (record { frames = count; end = Cut })
+  pub cuts : taken + length more ≤ 16777216 → IsFront (rest ++ more) unfinished → 0 < length (rest ++ more) → IsKept Keeps first before last old new state place kept (record { frames = count; end = Cut })
   cuts few front some = record {
-    bytes = p.bytes ++ more;
-    session = p.session;
-    rest = rest ++ more;
-    last = p.session;
-    consumed = consumed_all;
-    few = omega (arith, few, many_all);
-    reached = reached_all;
-    ended = (p.on, some, front, refl);
-    written = p.written;
-    frames = p.counted;
-    left = p.state_is;
+    served = record {
+      bytes = p.bytes ++ more;
+      session = p.session;
+      rest = rest ++ more;
+      last = p.session;
+      consumed = consumed_all;
+      few = omega (arith, few, many_all);
+      reached = reached_all;
+      ended = (p.on, some, front, refl);
+      written = p.written;
+      frames = p.counted;
+      left = p.state_is;
+    };
+    each = p.each;
   }
 
   -- nothing more comes of the stream
-  pub read_fails : taken + length more ≤ 16777216 → IsFront (rest ++ more) unfinished → IsBroken first before last old new state Read
+  pub read_fails : taken + length more ≤ 16777216 → IsFront (rest ++ more) unfinished → IsKeptBroken Keeps first before last old new state place kept Read
   read_fails few front = record {
-    bytes = p.bytes ++ more;
-    session = p.session;
-    rest = rest ++ more;
-    consumed = consumed_all;
-    reached = reached_all;
-    on = p.on;
-    leaves = (omega (arith, few, many_all), front, p.written, p.state_is);
+    broken = record {
+      bytes = p.bytes ++ more;
+      session = p.session;
+      rest = rest ++ more;
+      consumed = consumed_all;
+      reached = reached_all;
+      on = p.on;
+      leaves = (omega (arith, few, many_all), front, p.written, p.state_is);
+    };
+    between = kept;
+    each = p.each;
+    last = refl;
   }
 
-  pub bound_passed : taken + length more ≡ 16777216 + 1 → (left : List ℕ) (byte : ℕ) → rest ++ more ≡ left ++ byte ∷ [] → IsFront left unfinished → IsBroken first before last old new state Bound
+  pub bound_passed : taken + length more ≡ 16777216 + 1 → (left : List ℕ) (byte : ℕ) → rest ++ more ≡ left ++ byte ∷ [] → IsFront left unfinished → IsKeptBroken Keeps first before last old new state place kept Bound
   bound_passed many left byte e front = record {
-    bytes = p.bytes ++ more;
-    session = p.session;
-    rest = rest ++ more;
-    consumed = consumed_all;
-    reached = reached_all;
-    on = p.on;
-    leaves = (omega (arith, many, many_all), (left, byte, e, front), p.written, p.state_is);
+    broken = record {
+      bytes = p.bytes ++ more;
+      session = p.session;
+      rest = rest ++ more;
+      consumed = consumed_all;
+      reached = reached_all;
+      on = p.on;
+      leaves = (omega (arith, many, many_all), (left, byte, e, front), p.written, p.state_is);
+    };
+    between = kept;
+    each = p.each;
+    last = refl;
   }
 
-  pub stream_refused : taken + length more ≤ 16777216 → IsBroken first before last old new state Memory
+  pub stream_refused : taken + length more ≤ 16777216 → IsKeptBroken Keeps first before last old new state place kept Memory
   stream_refused few = record {
-    bytes = p.bytes ++ more;
-    session = p.session;
-    rest = rest ++ more;
-    consumed = consumed_all;
-    reached = reached_all;
-    on = p.on;
-    leaves = (omega (arith, few, many_all), p.written, inl p.state_is);
+    broken = record {
+      bytes = p.bytes ++ more;
+      session = p.session;
+      rest = rest ++ more;
+      consumed = consumed_all;
+      reached = reached_all;
+      on = p.on;
+      leaves = (omega (arith, few, many_all), p.written, inl p.state_is);
+    };
+    between = kept;
+    each = p.each;
+    last = refl;
   }
 
   pub stream_fails : (A : Type 0) (now : Stream) (fault : StreamFault) → IsNext {A = A} (rest ++ more) now (Err fault) → IsCounted {A = A} (taken + length more) now (Err fault)
-      → IsBroken first before last old new state (serve_fault fault)
+      → IsKeptBroken Keeps first before last old new state place kept (serve_fault fault)
   stream_fails A now stream.Read next counted = read_fails counted next
   stream_fails A now stream.Bound next counted = bound_passed counted next.0 next.1 next.2 next.3
   stream_fails A now stream.Memory next counted = stream_refused counted
 
   -- a fault of the bytes is answered, or not
   module _ (few : taken + length more ≤ 16777216) (fault : FrameFault) (front : IsFront (rest ++ more) (faulty (wire_fault fault))) (then : Option (List ℕ)) where
-    pub fault_answered : Appends new then (spelling (refused (frame_code fault))) → IsServed first before last old then state (record { frames = count; end = Refused (frame_code fault) })
+    pub fault_answered : Appends new then (spelling (refused (frame_code fault))) → IsKept Keeps first before last old then state place kept (record { frames = count; end = Refused (frame_code fault) })
     fault_answered wrote = record {
-      bytes = p.bytes ++ more;
-      session = p.session;
-      rest = rest ++ more;
-      last = broken_off p.session (frame_code fault);
-      consumed = consumed_all;
-      few = omega (arith, few, many_all);
-      reached = reached_all;
-      ended = inr (fault, p.on, front, refl, refl);
-      written = writes_more old new then p.session.replies (said (refused (frame_code fault))) (spelling (refused (frame_code fault))) p.written refl wrote;
-      frames = p.counted;
-      left = p.state_is;
+      served = record {
+        bytes = p.bytes ++ more;
+        session = p.session;
+        rest = rest ++ more;
+        last = broken_off p.session (frame_code fault);
+        consumed = consumed_all;
+        few = omega (arith, few, many_all);
+        reached = reached_all;
+        ended = inr (fault, p.on, front, refl, refl);
+        written = writes_more old new then p.session.replies (said (refused (frame_code fault))) (spelling (refused (frame_code fault))) p.written refl wrote;
+        frames = p.counted;
+        left = p.state_is;
+      };
+      each = p.each;
     }
 
-    pub fault_unanswered : Appends new then [] → IsBroken first before last old then state Memory
+    pub fault_unanswered : Appends new then [] → IsKeptBroken Keeps first before last old then state place kept Memory
     fault_unanswered none = record {
-      bytes = p.bytes ++ more;
-      session = p.session;
-      rest = rest ++ more;
-      consumed = consumed_all;
-      reached = reached_all;
-      on = p.on;
-      leaves = (omega (arith, few, many_all), writes_same old new then p.session.replies p.written none, inl p.state_is);
+      broken = record {
+        bytes = p.bytes ++ more;
+        session = p.session;
+        rest = rest ++ more;
+        consumed = consumed_all;
+        reached = reached_all;
+        on = p.on;
+        leaves = (omega (arith, few, many_all), writes_same old new then p.session.replies p.written none, inl p.state_is);
+      };
+      between = kept;
+      each = p.each;
+      last = refl;
     }
 
-    pub fault_cut_off : AppendsPart new then (spelling (refused (frame_code fault))) → IsBroken first before last old then state Write
+    pub fault_cut_off : AppendsPart new then (spelling (refused (frame_code fault))) → IsKeptBroken Keeps first before last old then state place kept Write
     fault_cut_off part = record {
-      bytes = p.bytes ++ more;
-      session = p.session;
-      rest = rest ++ more;
-      consumed = consumed_all;
-      reached = reached_all;
-      on = p.on;
-      leaves = (
-        omega (arith, few, many_all),
-        (
-          broken_off p.session (frame_code fault),
-          inr (fault, front, refl),
-          record {
-            done = p.written.0;
-            part = part.0;
-            later = part.1;
-            replied = p.written.1;
-            whole = replies_more p.session.replies p.written.0 (said (refused (frame_code fault))) (part.0 ++ part.1) p.written.1 (sym part.2);
-            appended = Appends-trans old new then p.written.0 part.0 p.written.2 part.3;
-          },
-          p.state_is,
-        ),
-      );
+      broken = record {
+        bytes = p.bytes ++ more;
+        session = p.session;
+        rest = rest ++ more;
+        consumed = consumed_all;
+        reached = reached_all;
+        on = p.on;
+        leaves = (
+          omega (arith, few, many_all),
+          (
+            broken_off p.session (frame_code fault),
+            inr (fault, front, refl),
+            record {
+              done = p.written.0;
+              part = part.0;
+              later = part.1;
+              replied = p.written.1;
+              whole = replies_more p.session.replies p.written.0 (said (refused (frame_code fault))) (part.0 ++ part.1) p.written.1 (sym part.2);
+              appended = Appends-trans old new then p.written.0 part.0 p.written.2 part.3;
+            },
+            p.state_is,
+          ),
+        );
+      };
+      between = kept;
+      each = p.each;
+      last = inl (p.state_is, refl);
     }
 
-    pub refuses : (code : ℕ) → code ≡ frame_code fault → Appends new then (spelling (refused code)) → IsServed first before last old then state (record { frames = count; end = Refused code })
+    pub refuses : (code : ℕ) → code ≡ frame_code fault → Appends new then (spelling (refused code)) → IsKept Keeps first before last old then state place kept (record { frames = count; end = Refused code })
     refuses code is wrote =
-        subst (λ k. IsServed first before last old then state (record { frames = count; end = Refused k })) (sym is) (fault_answered (subst (λ k. Appends new then (spelling (refused k))) is wrote))
+        subst (λ k. IsKept Keeps first before last old then state place kept (record { frames = count; end = Refused k })) (sym is) (fault_answered (subst (λ k. Appends new then (spelling (refused k))) is wrote))
 
-    pub refusal_fails : (code : ℕ) → code ≡ frame_code fault → (broken : ServeFault) → WroteRefused code new then (Err broken) → IsBroken first before last old then state broken
+    pub refusal_fails : (code : ℕ) → code ≡ frame_code fault → (broken : ServeFault) → WroteRefused code new then (Err broken) → IsKeptBroken Keeps first before last old then state place kept broken
     refusal_fails code is Write part = fault_cut_off (subst (λ k. AppendsPart new then (spelling (refused k))) is part)
     refusal_fails code is Memory none = fault_unanswered none
     refusal_fails code is Read none = absurd none
@@ -245,32 +292,45 @@ module _ (first : Session) (before after old new : Option (List ℕ)) (rest : Li
     goes_on : GoesOn p.session (rest ++ more) (advanced p.session frame)
     goes_on = inl (frame, later, is, front, refl)
 
-    module _ (bytes : List ℕ) (said_bytes : IsReplyBytes (answer source state greeted frame).reply bytes) (left : now ≡ (answer source state greeted frame).state) where
-      pub frame_cut_off : AppendsPart new then bytes → IsBroken first before last old then now Write
+    module _ (bytes : List ℕ) (said_bytes : IsReplyBytes (answer source state greeted frame).reply bytes) (left : now ≡ (answer source state greeted frame).state) (keeps : P)
+        (keeps_change : KeepsChange Keeps state now kept keeps) where
+      moves : KeepsChange Keeps p.session.state now kept keeps
+      moves = subst (λ (s : Content). KeepsChange Keeps s now kept keeps) p.state_is keeps_change
+
+      moved : KeepsChange Keeps (talked first p.reached.frames).state (advanced (talked first p.reached.frames) frame).state kept keeps
+      moved = subst (λ (s : Session). KeepsChange Keeps s.state (advanced s frame).state kept keeps) p.reached.talked
+          (subst (λ (s : Content). KeepsChange Keeps p.session.state s kept keeps) (left ∙ sym (ap (λ (s : Session). s.state) next_is)) moves)
+
+      pub frame_cut_off : AppendsPart new then bytes → IsKeptBroken Keeps first before last old then now place keeps Write
       frame_cut_off part = record {
-        bytes = p.bytes ++ more;
-        session = p.session;
-        rest = rest ++ more;
-        consumed = consumed_all;
-        reached = reached_all;
-        on = p.on;
-        leaves = (
-          omega (arith, few, many_all),
-          (
-            advanced p.session frame,
-            goes_on,
-            record {
-              done = p.written.0;
-              part = part.0;
-              later = part.1;
-              replied = p.written.1;
-              whole = subst (λ (s : Session). AreReplies s.replies (p.written.0 ++ (part.0 ++ part.1))) (sym next_is)
-                  (replies_more p.session.replies p.written.0 (answer source state greeted frame).reply (part.0 ++ part.1) p.written.1 (subst (IsReplyBytes (answer source state greeted frame).reply) part.2 said_bytes));
-              appended = Appends-trans old new then p.written.0 part.0 p.written.2 part.3;
-            },
-            left ∙ sym (ap (λ (s : Session). s.state) next_is),
-          ),
-        );
+        broken = record {
+          bytes = p.bytes ++ more;
+          session = p.session;
+          rest = rest ++ more;
+          consumed = consumed_all;
+          reached = reached_all;
+          on = p.on;
+          leaves = (
+            omega (arith, few, many_all),
+            (
+              advanced p.session frame,
+              goes_on,
+              record {
+                done = p.written.0;
+                part = part.0;
+                later = part.1;
+                replied = p.written.1;
+                whole = subst (λ (s : Session). AreReplies s.replies (p.written.0 ++ (part.0 ++ part.1))) (sym next_is)
+                    (replies_more p.session.replies p.written.0 (answer source state greeted frame).reply (part.0 ++ part.1) p.written.1 (subst (IsReplyBytes (answer source state greeted frame).reply) part.2 said_bytes));
+                appended = Appends-trans old new then p.written.0 part.0 p.written.2 part.3;
+              },
+              left ∙ sym (ap (λ (s : Session). s.state) next_is),
+            ),
+          );
+        };
+        between = kept;
+        each = p.each;
+        last = moves;
       }
 
       module _ (wrote : Appends new then bytes) (says : Bool) (says_is : says ≡ (answer source state greeted frame).greeted) where
@@ -280,7 +340,7 @@ module _ (first : Session) (before after old new : Option (List ℕ)) (rest : Li
             (writes_more old new then p.session.replies (answer source state greeted frame).reply bytes p.written said_bytes wrote)
 
         pub frame_answered : (answer source state greeted frame).ended ≡ None → (so_far : ℕ) → so_far ≡ taken + length more → (plan : PlanSource) → plan ≡ source
-            → Progress first before last old then later so_far plan now says (count + 1)
+            → Progress Keeps place keeps first before last old then later so_far plan now says (count + 1)
         frame_answered on so_far so_far_is plan plan_is = record {
           bytes = p.bytes ++ more;
           session = advanced p.session frame;
@@ -293,55 +353,108 @@ module _ (first : Session) (before after old new : Option (List ℕ)) (rest : Li
           source_is = plan_is ∙ (p.source_is ∙ sym (ap (λ (s : Session). s.source) next_is));
           state_is = left ∙ sym (ap (λ (s : Session). s.state) next_is);
           greeted_is = says_is ∙ sym (ap (λ (s : Session). s.greeted) next_is);
+          each = each_more Keeps first p.reached.frames frame place kept keeps p.each moved;
         }
 
-        pub frame_ends : (code : ℕ) → (answer source state greeted frame).ended ≡ Some code → IsServed first before last old then now (record { frames = count + 1; end = Refused code })
+        pub frame_ends : (code : ℕ) → (answer source state greeted frame).ended ≡ Some code → IsKept Keeps first before last old then now place keeps (record { frames = count + 1; end = Refused code })
         frame_ends code end = record {
-          bytes = p.bytes ++ more;
-          session = advanced p.session frame;
-          rest = later;
-          last = advanced p.session frame;
-          consumed = consumed_all;
-          few = omega (arith, few, many_all);
-          reached = reaches_frame first (p.bytes ++ more) p.session (rest ++ more) later frame reached_all is front;
-          ended = inl (ap (λ (s : Session). s.ended) next_is ∙ end, refl);
-          written = next_written;
-          frames = ap (λ n. n + 1) p.counted ∙ sym (ap (λ (s : Session). s.frames) next_is);
-          left = left ∙ sym (ap (λ (s : Session). s.state) next_is);
+          served = record {
+            bytes = p.bytes ++ more;
+            session = advanced p.session frame;
+            rest = later;
+            last = advanced p.session frame;
+            consumed = consumed_all;
+            few = omega (arith, few, many_all);
+            reached = reaches_frame first (p.bytes ++ more) p.session (rest ++ more) later frame reached_all is front;
+            ended = inl (ap (λ (s : Session). s.ended) next_is ∙ end, refl);
+            written = next_written;
+            frames = ap (λ n. n + 1) p.counted ∙ sym (ap (λ (s : Session). s.frames) next_is);
+            left = left ∙ sym (ap (λ (s : Session). s.state) next_is);
+          };
+          each = each_more Keeps first p.reached.frames frame place kept keeps p.each moved;
         }
 
     -- lack of memory: the frame was taken or not
-    pub frame_kept : Appends new then [] → now ≡ state → IsBroken first before last old then now Memory
+    pub frame_kept : Appends new then [] → now ≡ state → IsKeptBroken Keeps first before last old then now place kept Memory
     frame_kept none same = record {
-      bytes = p.bytes ++ more;
-      session = p.session;
-      rest = rest ++ more;
-      consumed = consumed_all;
-      reached = reached_all;
-      on = p.on;
-      leaves = (omega (arith, few, many_all), writes_same old new then p.session.replies p.written none, inl (same ∙ p.state_is));
+      broken = record {
+        bytes = p.bytes ++ more;
+        session = p.session;
+        rest = rest ++ more;
+        consumed = consumed_all;
+        reached = reached_all;
+        on = p.on;
+        leaves = (omega (arith, few, many_all), writes_same old new then p.session.replies p.written none, inl (same ∙ p.state_is));
+      };
+      between = kept;
+      each = p.each;
+      last = refl;
     }
 
-    pub frame_taken : Appends new then [] → now ≡ (answer source state greeted frame).state → IsBroken first before last old then now Memory
+    pub frame_taken : Appends new then [] → now ≡ (answer source state greeted frame).state → IsKeptBroken Keeps first before last old then now place kept Memory
     frame_taken none left = record {
+      broken = record {
+        bytes = p.bytes ++ more;
+        session = p.session;
+        rest = rest ++ more;
+        consumed = consumed_all;
+        reached = reached_all;
+        on = p.on;
+        leaves = (
+          omega (arith, few, many_all),
+          writes_same old new then p.session.replies p.written none,
+          inr (advanced p.session frame, goes_on, left ∙ sym (ap (λ (s : Session). s.state) next_is)),
+        );
+      };
+      between = kept;
+      each = p.each;
+      last = refl;
+    }
+
+    -- its state was not kept
+    pub frame_unkept : (Fails : Content → P → P → Failure → Type 0) (keeps : P) (failure : Failure) → Appends new then [] → now ≡ (answer source state greeted frame).state → now ≢ state
+        → Fails now kept keeps failure → IsUnkept Keeps Fails first before last old then now place keeps failure
+    frame_unkept Fails keeps failure none left changed fails = record {
       bytes = p.bytes ++ more;
       session = p.session;
       rest = rest ++ more;
+      next = advanced p.session frame;
+      between = kept;
       consumed = consumed_all;
+      few = omega (arith, few, many_all);
       reached = reached_all;
       on = p.on;
-      leaves = (
-        omega (arith, few, many_all),
-        writes_same old new then p.session.replies p.written none,
-        inr (advanced p.session frame, goes_on, left ∙ sym (ap (λ (s : Session). s.state) next_is)),
-      );
+      goes_on = goes_on;
+      written = writes_same old new then p.session.replies p.written none;
+      left = left ∙ sym (ap (λ (s : Session). s.state) next_is);
+      changed = λ same. changed (same ∙ sym p.state_is);
+      each = p.each;
+      failed = fails;
     }
 
-    pub frame_fails : (broken : ServeFault) → Wrote (answer source state greeted frame) new then state now (Err broken) → IsBroken first before last old then now broken
-    frame_fails Write wrote = frame_cut_off wrote.0 wrote.1 wrote.3 wrote.2
-    frame_fails Memory wrote = ⊎_elim (λ same. frame_kept wrote.0 same) (λ left. frame_taken wrote.0 left) wrote.1
-    frame_fails Read none = absurd none
-    frame_fails Bound none = absurd none
+    frame_broken : (keeps : P) (broken : ServeFault) → Wrote (answer source state greeted frame) new then state now (Err broken) → KeepsLast Keeps state now kept keeps broken
+        → IsKeptBroken Keeps first before last old then now place keeps broken
+    frame_broken keeps Write wrote kept_last = frame_cut_off wrote.0 wrote.1 wrote.3 keeps kept_last wrote.2
+    frame_broken keeps Memory wrote kept_last =
+        subst (λ there. IsKeptBroken Keeps first before last old then now place there Memory) (sym kept_last)
+        (⊎_elim (λ same. frame_kept wrote.0 same) (λ left. frame_taken wrote.0 left) wrote.1)
+    frame_broken keeps Read none kept_last = absurd none
+    frame_broken keeps Bound none kept_last = absurd none
+
+    pub frame_fails : (Fails : Content → P → P → Failure → Type 0) (keeps : P) (broken : KeepingFault) → WroteKept Keeps Fails (answer source state greeted frame) new then state now kept keeps (Err broken)
+        → IsCutShort Keeps Fails first before last old then now place keeps broken
+    frame_fails Fails keeps (keeping.Serve fault) wrote = frame_broken keeps fault wrote.0 wrote.1
+    frame_fails Fails keeps (keeping.Keep failure) wrote = frame_unkept Fails keeps failure wrote.0 wrote.1 wrote.2 wrote.3
+
+-- ---- a turn keeps the state that it changed
+pub turn_changed : (before after : Content) (changed : Bool) → IsChange before after changed → changed ≡ true → after ≢ before
+turn_changed before after true differs is = differs
+turn_changed before after false same is = absurd (false≢true is)
+
+pub turn_kept : {P : Type 0} (Keeps : Content → P → P → Type 0) (before after : Content) (place kept : P) (changed : Bool) → IsChange before after changed
+    → KeepsTurn (Keeps after place kept) place kept changed → KeepsChange Keeps before after place kept
+turn_kept Keeps before after place kept true differs keeps = inr (differs, keeps)
+turn_kept Keeps before after place kept false same stays = inl (same, stays)
 
 -- ---- which faults come from where
 
@@ -355,11 +468,13 @@ stream_unwritten stream.Read is = cc
 stream_unwritten stream.Bound is = cc
 stream_unwritten stream.Memory is = cc
 
-pub answer_unread : (given : Answer) (old new : Option (List ℕ)) (before after : Content) (fault : ServeFault) → Wrote given old new before after (Err fault) → fault ≡ Read → ⊥
-answer_unread given old new before after Read none is = none
-answer_unread given old new before after Bound none is = none
-answer_unread given old new before after Write wrote is = cc
-answer_unread given old new before after Memory wrote is = cc
+pub answer_unread : {P : Type 0} (Keeps : Content → P → P → Type 0) (Fails : Content → P → P → Failure → Type 0) (given : Answer) (old new : Option (List ℕ)) (before after : Content) (place kept : P)
+    (fault : KeepingFault) → WroteKept Keeps Fails given old new before after place kept (Err fault) → fault ≡ keeping.Serve Read → ⊥
+answer_unread Keeps Fails given old new before after place kept (keeping.Serve Read) wrote is = wrote.0
+answer_unread Keeps Fails given old new before after place kept (keeping.Serve Bound) wrote is = wrote.0
+answer_unread Keeps Fails given old new before after place kept (keeping.Serve Write) wrote is = cc
+answer_unread Keeps Fails given old new before after place kept (keeping.Serve Memory) wrote is = cc
+answer_unread Keeps Fails given old new before after place kept (keeping.Keep failure) wrote is = cc
 
 pub refusal_unread : (code : ℕ) (old new : Option (List ℕ)) (fault : ServeFault) → WroteRefused code old new (Err fault) → fault ≡ Read → ⊥
 refusal_unread code old new Read none is = none

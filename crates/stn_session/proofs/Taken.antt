@@ -1,10 +1,10 @@
 -- What is answered to records that are taken in, or refused.
-use Rattle.std.proofs.Common.{◌≡◌, ℕ, true, not, List, ◌++◌, Option, Some, None, refl, sym, ap, subst, ◌∙◌}
-use Rattle.std.specs.Prelude.{unwrap_or, is_some, option_and_then}
+use Rattle.std.proofs.Common.{◌≡◌, ◌↔◌, ℕ, Bool, true, false, inr, not, List, ◌++◌, Option, Some, None, refl, sym, ap, subst, ◌∙◌}
+use Rattle.std.specs.Prelude.{unwrap_or, is_some, option_and_then, IsTrue}
 use Rattle.std.proofs.lemmas.Bool.{false≢true}
 use Rattle.stn_refusal.specs.Refusals.{code_of}
-use Rattle.stn_records.specs.Content.{Content, dispute_contents, join_contents, joined_contents}
-use Rattle.stn_records.specs.ContentLaws.{contents_dispute, contents_undisputed}
+use Rattle.stn_records.specs.Content.{Content, IsPart, dispute_contents, join_contents, joined_contents}
+use Rattle.stn_records.specs.ContentLaws.{contents_dispute, contents_undisputed, contents_join}
 use Rattle.stn_site.specs.Calls.{Leaves, took}
 use Rattle.stn_site.specs.Failures.{replica_failure}
 use Rattle.stn_site.specs.Held.{Held}
@@ -13,7 +13,7 @@ use Rattle.stn_site.specs.declared.faults.ReplicaFault.{ReplicaFault}
 use Rattle.stn_site.specs.declared.faults.ReplicaFault.TheVariants.{Memory}
 use Rattle.stn_wire.specs.Frame.{spelling, records, refused}
 use Rattle.stn_session.specs.Session.{Answer, take_code, taking}
-use Rattle.stn_session.specs.Turns.{IsAnswered}
+use Rattle.stn_session.specs.Turns.{IsAnswered, IsChange}
 use Rattle.stn_session.specs.declared.replies.Turn.{Turn}
 
 none_there : {X : Type 0} (o : Option X) → not (is_some o) ≡ true → o ≡ None
@@ -43,16 +43,24 @@ joining old theirs none = ap (λ (r : Option ReplicaFault). taking old.state the
 pub state_taken : (old new : Held) (theirs : Content) → take_refusal old theirs ≡ None → Leaves old (took theirs) new → new.state ≡ (taking_of old theirs).state
 state_taken old new theirs none leaves = state_joined old new theirs leaves ∙ ap (λ (a : Answer). a.state) (sym (joining old theirs none))
 
-abbrev going_on : Turn
-going_on = record { greeted = true; ended = None }
+-- a state that was taken in is another one exactly where not all of it was held
+pub changed_unless_held : (old new : Held) (theirs : Content) (held : Bool) → IsTrue held ↔ IsPart theirs old.state → (IsPart theirs old.state → new ≡ old) → Leaves old (took theirs) new
+    → IsChange old.state new.state (not held)
+changed_unless_held old new theirs true told again leaves = ap (λ (h : Held). h.state) (again (told.0 refl))
+changed_unless_held old new theirs false told again leaves =
+    λ same. false≢true (told.1 (λ item has. (contents_join.union old.state theirs old.state (leaves.state ∙ ap Some same) item).1 (inr has)))
 
-pub taken_answered : (old new : Held) (theirs : Content) (before after : List ℕ) → take_refusal old theirs ≡ None → Leaves old (took theirs) new
-    → after ≡ before ++ spelling (records new.state) → IsAnswered (taking_of old theirs) new.state before after going_on
-taken_answered old new theirs before after none leaves appended =
+abbrev going_on : Bool → Turn
+going_on changed = record { greeted = true; ended = None; changed = changed }
+
+pub taken_answered : (old new : Held) (theirs : Content) (changed : Bool) (before after : List ℕ) → take_refusal old theirs ≡ None → Leaves old (took theirs) new
+    → IsChange old.state new.state changed → after ≡ before ++ spelling (records new.state) → IsAnswered (taking_of old theirs) old.state new.state before after (going_on changed)
+taken_answered old new theirs changed before after none leaves differs appended =
     let joined = state_joined old new theirs leaves in
-    subst (λ (a : Answer). IsAnswered a new.state before after going_on) (sym (joining old theirs none)) (record {
+    subst (λ (a : Answer). IsAnswered a old.state new.state before after (going_on changed)) (sym (joining old theirs none)) (record {
       bytes = spelling (records new.state);
       left = joined;
+      changed = differs;
       replied = ap (λ (s : Content). spelling (records s)) joined;
       appended = appended;
       greeted = refl;
@@ -64,11 +72,12 @@ coded None fault code is given = sym (ap refused_code is) ∙ given
 coded (Some other) fault code is given = sym (ap refused_code is) ∙ given
 
 pub refusal_answered : (old new : Held) (theirs : Content) (before after : List ℕ) (fault : ReplicaFault) (code : ℕ) → fault ≡ unwrap_or (take_refusal old theirs) Memory → refused_code fault ≡ Some code
-    → new ≡ old → after ≡ before ++ spelling (refused code) → IsAnswered (taking_of old theirs) new.state before after going_on
+    → new ≡ old → after ≡ before ++ spelling (refused code) → IsAnswered (taking_of old theirs) old.state new.state before after (going_on false)
 refusal_answered old new theirs before after fault code is given kept appended =
-    subst (λ (a : Answer). IsAnswered a new.state before after going_on) (sym (ap (taking old.state theirs) (coded (take_refusal old theirs) fault code is given))) (record {
+    subst (λ (a : Answer). IsAnswered a old.state new.state before after (going_on false)) (sym (ap (taking old.state theirs) (coded (take_refusal old theirs) fault code is given))) (record {
       bytes = spelling (refused code);
       left = ap (λ (h : Held). h.state) kept;
+      changed = ap (λ (h : Held). h.state) kept;
       replied = refl;
       appended = appended;
       greeted = refl;

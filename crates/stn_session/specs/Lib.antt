@@ -3,4 +3,5 @@ pub mod Serving
 pub mod Exchange
 pub mod Reception
 pub mod Turns
+pub mod Keeping
 pub mod Failures

@@ -1,6 +1,6 @@
 -- For proofs alone: no public clause cites these words.
 -- What one frame of a session or an exchange brings, as the code has it.
-use Rattle.std.specs.Prelude.{◌≡◌, ◌⊎◌, ℕ, ◌+◌, ◌≤◌, List, [], ◌++◌, length, flat_map, Option, Result, Ok, Err}
+use Rattle.std.specs.Prelude.{◌≡◌, ◌≢◌, ◌⊎◌, ℕ, Bool, true, false, ◌+◌, ◌≤◌, List, [], ◌++◌, length, flat_map, Option, Result, Ok, Err}
 use Rattle.std.specs.List.{AllByRecursion}
 use Rattle.std.specs.Io.KnownBytes.{Consumes, Appends}
 use Rattle.stn_device.specs.Bytes.{most_bytes, AppendsPart}
@@ -13,15 +13,25 @@ use Rattle.stn_stream.specs.Stream.{pending, IsReading}
 use Rattle.stn_session.specs.Session.{Answer}
 use Rattle.stn_session.specs.Serving.{IsReplyBytes}
 use Rattle.stn_session.specs.Exchange.{Stage, at_stage, expecting, replied, IsLost, IsReceived}
+use Rattle.stn_refusal.specs.declared.failure.Failure.{Failure}
+use Rattle.stn_session.specs.Keeping.{KeepsChange, KeepsLast}
+use Rattle.stn_session.specs.declared.session.KeepingFault.{KeepingFault}
+use Rattle.stn_session.specs.declared.session.KeepingFault.TheVariants as keeping
 use Rattle.stn_session.specs.declared.replies.Turn.{Turn}
 use Rattle.stn_session.specs.declared.session.ServeFault.{ServeFault}
 use Rattle.stn_session.specs.declared.session.ServeFault.TheVariants as serve
 use Rattle.stn_session.specs.declared.exchange.ReplyFault.{ReplyFault}
 
+-- whether the state is another one
+abbrev pub IsChange : Content → Content → Bool → Type 0
+IsChange before after true = after ≢ before
+IsChange before after false = after ≡ before
+
 -- the answer's state is left, its reply's bytes were appended, and the turn says the rest
-pub record IsAnswered (answer : Answer) (state : Content) (old new : List ℕ) (turn : Turn) : Type 0 where
+pub record IsAnswered (answer : Answer) (before state : Content) (old new : List ℕ) (turn : Turn) : Type 0 where
   pub bytes : List ℕ
   pub left : state ≡ answer.state
+  pub changed : IsChange before state turn.changed
   pub replied : IsReplyBytes answer.reply bytes
   pub appended : new ≡ old ++ bytes
   pub greeted : turn.greeted ≡ answer.greeted
@@ -34,6 +44,19 @@ Wrote answer old new before after (Ok turn) =
 Wrote answer old new before after (Err serve.Write) = (bytes : List ℕ) × IsReplyBytes answer.reply bytes × AppendsPart old new bytes × (after ≡ answer.state)
 Wrote answer old new before after (Err serve.Memory) = Appends old new [] × ((after ≡ before) ⊎ (after ≡ answer.state))
 Wrote answer old new before after (Err other) = ⊥
+
+-- the state was kept, where it changed
+abbrev pub KeepsTurn : {P : Type 0} → Type 0 → P → P → Bool → Type 0
+KeepsTurn Kept old new true = Kept
+KeepsTurn Kept old new false = new ≡ old
+
+-- the same of an answer before which the state was kept, where it is another one; where it could not be, nothing was written
+abbrev pub WroteKept : {P : Type 0} → (Content → P → P → Type 0) → (Content → P → P → Failure → Type 0) → Answer → Option (List ℕ) → Option (List ℕ) → Content → Content → P → P
+    → Result Turn KeepingFault → Type 0
+WroteKept Keeps Fails answer old new before after place kept (Ok turn) = Wrote answer old new before after (Ok turn) × KeepsChange Keeps before after place kept
+WroteKept Keeps Fails answer old new before after place kept (Err (keeping.Serve fault)) = Wrote answer old new before after (Err fault) × KeepsLast Keeps before after place kept fault
+WroteKept Keeps Fails answer old new before after place kept (Err (keeping.Keep failure)) =
+    Appends old new [] × (after ≡ answer.state) × (after ≢ before) × Fails after place kept failure
 
 -- REFUSED with the code was written, or a front part of it, or nothing
 abbrev pub WroteRefused : ℕ → Option (List ℕ) → Option (List ℕ) → Result (Unit {0}) ServeFault → Type 0

@@ -3,14 +3,16 @@
 #![tactic(auto)]
 
 pub use exchange::{ReplyFault, SendFault, receive_replies, send_requests};
+pub use keeper::{Keeper, Nowhere};
 pub use laws::one_session;
 pub use reception::one_reception;
-pub use session::{End, ServeFault, Served, serve};
+pub use session::{End, KeepingFault, ServeFault, Served, serve, serve_keeping};
 pub use stn_device::{Counted, MOST_BYTES};
 pub use stn_stream::FrameFault;
 
 mod exchange;
 mod failures;
+mod keeper;
 mod laws;
 mod reception;
 mod replies;

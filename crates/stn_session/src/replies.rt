@@ -1,5 +1,5 @@
 // The reply to a frame.
-ghost use Rattle.std.specs.Prelude.{◌≡◌, ◌⊎◌, ◌++◌, true, Some, IfOk, OnOk, OnErr};
+ghost use Rattle.std.specs.Prelude.{◌≡◌, ◌⊎◌, ◌++◌, true, false, Some, IfOk, OnOk, OnErr};
 ghost use Rattle.stn_lift.specs.PlanSource.{plan_source};
 ghost use Rattle.stn_wire.specs.Frame.{content, spelling, hello, records, ask, refused};
 ghost use Rattle.stn_refusal.specs.Codes.{number_of};
@@ -21,6 +21,8 @@ pub(crate) struct Turn {
     pub(crate) greeted: bool,
     /// The code that ends the session.
     pub(crate) ended: Option<u8>,
+    /// Whether the replica's state is another one than before.
+    pub(crate) changed: bool,
 }
 
 /// Does what a frame says, and appends the reply.
@@ -33,7 +35,7 @@ pub(crate) fn reply_to<A: Allocator + Copy>(
 ) -> Result<Turn, Memory>
     ensures source { replica.new.source ≡ replica.old.source }
     ensures site { replica.new.site ≡ replica.old.site }
-    ensures answered { IfOk result (IsAnswered (answer replica.old.source replica.old.state greeted (content frame.now)) replica.new.state out.old.items out.new.items) }
+    ensures answered { IfOk result (IsAnswered (answer replica.old.source replica.old.state greeted (content frame.now)) replica.old.state replica.new.state out.old.items out.new.items) }
     ensures left { OnErr result ((replica.new.state ≡ replica.old.state)
         ⊎ (replica.new.state ≡ (answer replica.old.source replica.old.state greeted (content frame.now)).state)) }
 {
@@ -53,13 +55,14 @@ fn greet<A: Allocator + Copy>(
     replica: &Replica<A>,
     out: &mut Vec<u8, A>,
 ) -> Result<Turn, Memory>
-    ensures { IfOk result (IsAnswered (answer replica.now.source replica.now.state greeted (hello (plan_source source.now))) replica.now.state out.old.items out.new.items) }
+    ensures { IfOk result (IsAnswered (answer replica.now.source replica.now.state greeted (hello (plan_source source.now))) replica.now.state replica.now.state out.old.items out.new.items) }
 {
     if source.same(replica.base().source()) {
         say::<A, A>(&Said::Same, out)?;
         Ok(Turn {
             greeted: true,
             ended: None,
+            changed: false,
         })
     } else {
         end(Code::OtherPlan, greeted, out)
@@ -74,18 +77,29 @@ fn take<A: Allocator + Copy>(
 ) -> Result<Turn, Memory>
     ensures source { replica.new.source ≡ replica.old.source }
     ensures site { replica.new.site ≡ replica.old.site }
-    ensures answered { IfOk result (IsAnswered (answer replica.old.source replica.old.state true (records theirs.now)) replica.new.state out.old.items out.new.items) }
+    ensures answered { IfOk result (IsAnswered (answer replica.old.source replica.old.state true (records theirs.now)) replica.old.state replica.new.state out.old.items out.new.items) }
     ensures left { OnErr result ((replica.new.state ≡ replica.old.state)
         ⊎ (replica.new.state ≡ (answer replica.old.source replica.old.state true (records theirs.now)).state)) }
 {
+    let brings = !replica.records().holds(theirs);
     match replica.take(theirs) {
-        Ok(()) => append_state(replica.records(), out)?,
-        Err(fault) => append_refused(Failure::from(fault).code().ok_or(AllocError)?, out)?,
+        Ok(()) => {
+            append_state(replica.records(), out)?;
+            Ok(Turn {
+                greeted: true,
+                ended: None,
+                changed: brings,
+            })
+        }
+        Err(fault) => {
+            append_refused(Failure::from(fault).code().ok_or(AllocError)?, out)?;
+            Ok(Turn {
+                greeted: true,
+                ended: None,
+                changed: false,
+            })
+        }
     }
-    Ok(Turn {
-        greeted: true,
-        ended: None,
-    })
 }
 
 // ASK: the report.
@@ -94,7 +108,7 @@ fn report<A: Allocator + Copy>(
     replica: &Replica<A>,
     out: &mut Vec<u8, A>,
 ) -> Result<Turn, Memory>
-    ensures { IfOk result (IsAnswered (answer replica.now.source replica.now.state true ask) replica.now.state out.old.items out.new.items) }
+    ensures { IfOk result (IsAnswered (answer replica.now.source replica.now.state true ask) replica.now.state replica.now.state out.old.items out.new.items) }
 {
     let mut text = Vec::new(alloc);
     replica.report(&mut text)?;
@@ -102,18 +116,20 @@ fn report<A: Allocator + Copy>(
     Ok(Turn {
         greeted: true,
         ended: None,
+        changed: false,
     })
 }
 
 // REFUSED with a code, which ends the session.
 fn end<A: Allocator + Copy>(code: Code, greeted: bool, out: &mut Vec<u8, A>) -> Result<Turn, Memory>
-    ensures { IfOk result (λ turn. (turn.greeted ≡ greeted) × (turn.ended ≡ Some (number_of code)) × (out.new.items ≡ out.old.items ++ spelling (refused (number_of code)))) }
+    ensures { IfOk result (λ turn. (turn.greeted ≡ greeted) × (turn.ended ≡ Some (number_of code)) × (turn.changed ≡ false) × (out.new.items ≡ out.old.items ++ spelling (refused (number_of code)))) }
 {
     let code = code.number();
     append_refused(code, out)?;
     Ok(Turn {
         greeted,
         ended: Some(code),
+        changed: false,
     })
 }
 

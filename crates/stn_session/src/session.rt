@@ -1,16 +1,20 @@
-ghost use Rattle.std.specs.Prelude.{◌≡◌, ◌≢◌, ◌-◌, ◌^◌, ◌<◌, Err, IfOk, IfErr, IsErrOf};
+ghost use Rattle.std.specs.Prelude.{◌≡◌, ◌≢◌, ◌-◌, ◌^◌, ◌<◌, true, Err, IfOk, IfErr, OnOk, IsErrOf};
 ghost use Rattle.stn_device.specs.Counted.{counted_device, failure_count, CountsFailure, KeepsCount};
 ghost use Rattle.stn_wire.specs.Frame.{content};
 ghost use Rattle.stn_stream.specs.Stream.{unread};
 ghost use Rattle.stn_session.specs.Session.{opening, answer};
 ghost use Rattle.stn_session.specs.Serving.{IsServed, IsBroken, IsInputEnd, serve_fault};
-ghost use Rattle.stn_session.specs.Turns.{Wrote, WroteRefused};
+ghost use Rattle.stn_session.specs.Keeping.{IsKept, IsCutShort};
+ghost use Rattle.stn_session.specs.Turns.{KeepsTurn, WroteKept, WroteRefused};
+ghost use Rattle.stn_session.specs.declared.session.KeepingFault.TheVariants.{Serve, Keep};
 ghost use Rattle.stn_session.specs.declared.session.ServeFault.TheVariants.{Read, Write, Memory};
 
+use crate::keeper::{Keeper, Nowhere};
 use crate::replies::{Turn, append_refused, reply_to};
 use std::alloc::{AllocError, Allocator};
 use std::io::{Read, Write};
 use stn_device::{Counted, WriteFault, write_whole};
+use stn_refusal::Failure;
 use stn_replica::Replica;
 use stn_stream::{FrameReader, Next, StreamFault};
 use stn_wire::Frame;
@@ -79,25 +83,97 @@ impl From<StreamFault> for ServeFault {
     }
 }
 
-// Answers a frame.
-fn answer_frame<W: Write, A: Allocator + Copy>(
+/// Why a session that keeps what it takes in broke off.
+#[derive(Clone, Copy, Debug, PartialEq, Eq, Error)]
+pub enum KeepingFault {
+    /// A device or memory failed, or the other site sent too much.
+    #[error("the session broke off")]
+    Serve(ServeFault),
+    /// A state could not be kept.
+    #[error("a state could not be kept")]
+    Keep(Failure),
+}
+
+impl From<ServeFault> for KeepingFault {
+    ghost from_gives = { λ fault made. made ≡ Serve fault };
+
+    fn from(fault: ServeFault) -> KeepingFault {
+        KeepingFault::Serve(fault)
+    }
+}
+
+impl From<AllocError> for KeepingFault {
+    ghost from_gives = { λ _ made. made ≡ Serve Memory };
+
+    fn from(_refused: AllocError) -> KeepingFault {
+        KeepingFault::Serve(ServeFault::Memory)
+    }
+}
+
+impl From<WriteFault> for KeepingFault {
+    ghost from_gives = { λ _ made. made ≡ Serve Write };
+
+    fn from(_fault: WriteFault) -> KeepingFault {
+        KeepingFault::Serve(ServeFault::Write)
+    }
+}
+
+impl From<StreamFault> for KeepingFault {
+    ghost from_gives = { λ fault made. made ≡ Serve (serve_fault fault) };
+
+    fn from(fault: StreamFault) -> KeepingFault {
+        KeepingFault::Serve(ServeFault::from(fault))
+    }
+}
+
+impl From<Failure> for KeepingFault {
+    ghost from_gives = { λ failure made. made ≡ Keep failure };
+
+    fn from(failure: Failure) -> KeepingFault {
+        KeepingFault::Keep(failure)
+    }
+}
+
+// Answers a frame: does what it says, keeps the state, where it is another one by then, and writes the reply.
+fn answer_frame<P, K: Keeper<P, A>, W: Write, A: Allocator + Copy>(
     alloc: A,
     frame: &Frame<A>,
     greeted: bool,
+    keeper: &K,
+    place: &mut P,
     replica: &mut Replica<A>,
     writer: &mut Counted<W>,
-) -> Result<Turn, ServeFault>
+) -> Result<Turn, KeepingFault>
     ensures source { replica.new.source ≡ replica.old.source }
     ensures site { replica.new.site ≡ replica.old.site }
-    ensures wrote { Wrote (answer replica.old.source replica.old.state greeted (content frame.now))
-        (W.contents (counted_device writer.old)) (W.contents (counted_device writer.new)) replica.old.state replica.new.state result }
-    ensures write { IsErrOf result Write → CountsFailure writer.old writer.new }
-    ensures kept { result ≢ Err Write → KeepsCount writer.old writer.new }
+    ensures wrote { WroteKept (K.keeps keeper.now replica.old.source) (K.fails keeper.now replica.old.source)
+        (answer replica.old.source replica.old.state greeted (content frame.now))
+        (W.contents (counted_device writer.old)) (W.contents (counted_device writer.new)) replica.old.state replica.new.state place.old place.new result }
+    ensures write { IsErrOf result (Serve Write) → CountsFailure writer.old writer.new }
+    ensures kept { result ≢ Err (Serve Write) → KeepsCount writer.old writer.new }
 {
     let mut out = Vec::new(alloc);
     let turn = reply_to(alloc, frame, greeted, replica, &mut out)?;
+    keep_turn(turn, keeper, place, replica)?;
     write_whole(writer, &out)?;
     Ok(turn)
+}
+
+// Keeps the state of a replica that a frame changed.
+fn keep_turn<P, K: Keeper<P, A>, A: Allocator + Copy>(
+    turn: Turn,
+    keeper: &K,
+    place: &mut P,
+    replica: &Replica<A>,
+) -> Result<(), Failure>
+    ensures kept { OnOk result (KeepsTurn (K.keeps keeper.now replica.now.source replica.now.state place.old place.new) place.old place.new turn.changed) }
+    ensures failed { IfErr result (λ failure. (turn.changed ≡ true) × K.fails keeper.now replica.now.source replica.now.state place.old place.new failure) }
+{
+    if turn.changed {
+        keeper.keep(place, replica)
+    } else {
+        Ok(())
+    }
 }
 
 // Answers bytes that are no frame.
@@ -151,41 +227,80 @@ pub fn serve<R: Read, W: Write, A: Allocator + Copy>(
     ensures reader_kept { result ≢ Err Read → KeepsCount reader.old reader.new }
     ensures writer_kept { result ≢ Err Write → KeepsCount writer.old writer.new }
 {
-    let mut frames = FrameReader::new(alloc);
-    serve_frames(alloc, &mut frames, reader, writer, replica)
+    match serve_keeping(alloc, &Nowhere, &mut (), reader, writer, replica) {
+        Ok(served) => Ok(served),
+        Err(KeepingFault::Serve(fault)) => Err(fault),
+        Err(KeepingFault::Keep(_)) => unreachable!(),
+    }
 }
 
-// Answers frames to the end.
-fn serve_frames<R: Read, W: Write, A: Allocator + Copy>(
+/// Serves one session as `serve` does, and keeps each state that the other site's records made another one, before it is told of
+/// it. Where a state can't be kept, the session ends before that reply.
+pub fn serve_keeping<P, K: Keeper<P, A>, R: Read, W: Write, A: Allocator + Copy>(
     alloc: A,
-    frames: &mut FrameReader<A>,
+    keeper: &K,
+    place: &mut P,
     reader: &mut Counted<R>,
     writer: &mut Counted<W>,
     replica: &mut Replica<A>,
-) -> Result<Served, ServeFault>
+) -> Result<Served, KeepingFault>
+    requires reader_counts { failure_count reader.old < 2 ^ 64 - 1 }
+    requires writer_counts { failure_count writer.old < 2 ^ 64 - 1 }
+
+    // What `serve` says; and after each frame whose records changed the replica's state, that state was kept.
+    ensures served { IfOk result (IsKept (K.keeps keeper.now replica.old.source) (opening replica.old.source replica.old.state)
+        (R.remaining (counted_device reader.old)) (R.remaining (counted_device reader.new))
+        (W.contents (counted_device writer.old)) (W.contents (counted_device writer.new)) replica.new.state place.old place.new) }
+    ensures end { IfOk result (λ served. IsInputEnd served.end (R.remaining (counted_device reader.new))) }
+
+    // What a fault leaves. Where a state was not kept, nothing of the reply to its frame is written.
+    ensures broken { IfErr result (IsCutShort (K.keeps keeper.now replica.old.source) (K.fails keeper.now replica.old.source) (opening replica.old.source replica.old.state)
+        (R.remaining (counted_device reader.old)) (R.remaining (counted_device reader.new))
+        (W.contents (counted_device writer.old)) (W.contents (counted_device writer.new)) replica.new.state place.old place.new) }
+    ensures source { replica.new.source ≡ replica.old.source }
+    ensures site { replica.new.site ≡ replica.old.site }
+    ensures read { IsErrOf result (Serve Read) → failure_count reader.old < failure_count reader.new }
+    ensures write { IsErrOf result (Serve Write) → failure_count writer.old < failure_count writer.new }
+    ensures reader_kept { result ≢ Err (Serve Read) → KeepsCount reader.old reader.new }
+    ensures writer_kept { result ≢ Err (Serve Write) → KeepsCount writer.old writer.new }
+{
+    let mut frames = FrameReader::new(alloc);
+    serve_frames(alloc, &mut frames, keeper, place, reader, writer, replica)
+}
+
+// Answers frames to the end.
+fn serve_frames<P, K: Keeper<P, A>, R: Read, W: Write, A: Allocator + Copy>(
+    alloc: A,
+    frames: &mut FrameReader<A>,
+    keeper: &K,
+    place: &mut P,
+    reader: &mut Counted<R>,
+    writer: &mut Counted<W>,
+    replica: &mut Replica<A>,
+) -> Result<Served, KeepingFault>
     requires fresh { frames.old ≡ unread }
     requires reader_counts { failure_count reader.old < 2 ^ 64 - 1 }
     requires writer_counts { failure_count writer.old < 2 ^ 64 - 1 }
-    ensures served { IfOk result (IsServed (opening replica.old.source replica.old.state)
+    ensures served { IfOk result (IsKept (K.keeps keeper.now replica.old.source) (opening replica.old.source replica.old.state)
         (R.remaining (counted_device reader.old)) (R.remaining (counted_device reader.new))
-        (W.contents (counted_device writer.old)) (W.contents (counted_device writer.new)) replica.new.state) }
+        (W.contents (counted_device writer.old)) (W.contents (counted_device writer.new)) replica.new.state place.old place.new) }
     ensures end { IfOk result (λ served. IsInputEnd served.end (R.remaining (counted_device reader.new))) }
-    ensures broken { IfErr result (IsBroken (opening replica.old.source replica.old.state)
+    ensures broken { IfErr result (IsCutShort (K.keeps keeper.now replica.old.source) (K.fails keeper.now replica.old.source) (opening replica.old.source replica.old.state)
         (R.remaining (counted_device reader.old)) (R.remaining (counted_device reader.new))
-        (W.contents (counted_device writer.old)) (W.contents (counted_device writer.new)) replica.new.state) }
+        (W.contents (counted_device writer.old)) (W.contents (counted_device writer.new)) replica.new.state place.old place.new) }
     ensures source { replica.new.source ≡ replica.old.source }
     ensures site { replica.new.site ≡ replica.old.site }
-    ensures read { IsErrOf result Read → failure_count reader.old < failure_count reader.new }
-    ensures write { IsErrOf result Write → failure_count writer.old < failure_count writer.new }
-    ensures reader_kept { result ≢ Err Read → KeepsCount reader.old reader.new }
-    ensures writer_kept { result ≢ Err Write → KeepsCount writer.old writer.new }
+    ensures read { IsErrOf result (Serve Read) → failure_count reader.old < failure_count reader.new }
+    ensures write { IsErrOf result (Serve Write) → failure_count writer.old < failure_count writer.new }
+    ensures reader_kept { result ≢ Err (Serve Read) → KeepsCount reader.old reader.new }
+    ensures writer_kept { result ≢ Err (Serve Write) → KeepsCount writer.old writer.new }
 {
     let mut greeted = false;
     let mut count = 0;
     'frames: loop {
         match frames.next(reader)? {
             Next::Frame(frame) => {
-                let answered = answer_frame(alloc, &frame, greeted, replica, writer);
+                let answered = answer_frame(alloc, &frame, greeted, keeper, place, replica, writer);
                 drop(frame);
                 let turn = answered?;
                 count += 1;

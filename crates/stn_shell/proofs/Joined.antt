@@ -1,5 +1,5 @@
 -- What a log says, taken in before a session and after it.
-use Rattle.std.proofs.Common.{◌≡◌, ◌∙◌, ℕ, List, Option, Result, Ok, Err, OnOk, OnErr, sym, ap, subst, inr}
+use Rattle.std.proofs.Common.{◌≡◌, ◌∙◌, ℕ, List, Option, Result, Ok, Err, OnOk, OnErr, sym, ap, subst, inl, inr}
 use Rattle.stn_device.specs.Partner.{PartnerState}
 use Rattle.stn_lift.specs.PlanSource.{PlanSource}
 use Rattle.stn_records.specs.Content.{Content}
@@ -10,7 +10,7 @@ use Rattle.stn_session.specs.declared.session.ServeFault.{ServeFault}
 use Rattle.stn_store.specs.Store.{Entry, Opens, saved_too}
 use Rattle.stn_refusal.specs.declared.failure.Failure.{Failure}
 use Rattle.stn_refusal.specs.declared.failure.Fault.{Fault}
-use Rattle.stn_shell.specs.Connections.{IsSessionBetween, IsSavedSession, IsUnservedSession, Exchanges, IsSavedExchange}
+use Rattle.stn_shell.specs.Connections.{IsSessionBetween, IsSessionUnkept, IsSavedSession, IsUnservedSession, Exchanges, IsSavedExchange}
 use Rattle.stn_shell.specs.Joining.{JoinsLog, SavesJoin, IsUnkept}
 use Rattle.stn_line.specs.declared.words.SiteLog.{SiteLog}
 
@@ -41,30 +41,38 @@ join_saved (Ok done) log source here first last old new same joined saved =
 join_saved (Err failure) log source here first last old new same joined saved = tt
 
 -- a session between the two
-pub saved_session : (met gone : PartnerState) (source here there : PlanSource) (log : SiteLog) (first found left last : Content) (old new : Option (List Entry))
+pub saved_session : (met gone : PartnerState) (source here there : PlanSource) (log : SiteLog) (first found left last : Content) (old between new : Option (List Entry))
     (answer : Result Served ServeFault) → here ≡ source → there ≡ here → JoinsLog old log source first found
-    → IsSessionBetween met gone here found answer left → SavesJoin log there left last old new → IsSavedSession met gone source log first old answer last new
-saved_session met gone source here there log first found left last old new answer same still before session saved = record {
+    → IsSessionBetween met gone here log found answer left old between → SavesJoin log there left last between new → IsSavedSession met gone source log first old answer last new
+saved_session met gone source here there log first found left last old between new answer same still before session saved = record {
   found = found;
   left = left;
+  between = between;
   before = before;
-  session = subst (λ (plan : PlanSource). IsSessionBetween met gone plan found answer left) same session;
-  saved = subst (λ (plan : PlanSource). SavesJoin log plan left last old new) (still ∙ same) saved;
+  session = subst (λ (plan : PlanSource). IsSessionBetween met gone plan log found answer left old between) same session;
+  saved = subst (λ (plan : PlanSource). SavesJoin log plan left last between new) (still ∙ same) saved;
 }
+
+-- one that ended before a reply
+pub cut_session : (Fails : Fault → Type 0) (met gone : PartnerState) (source here : PlanSource) (log : SiteLog) (first found last : Content)
+    (old new : Option (List Entry)) (failure : Failure) → here ≡ source → JoinsLog old log source first found
+    → IsSessionUnkept Fails met gone here log found last old new failure → IsUnservedSession Fails met gone source log first last old new failure
+cut_session Fails met gone source here log first found last old new failure same before unkept =
+    inr (inl (found, before, subst (λ (plan : PlanSource). IsSessionUnkept Fails met gone plan log found last old new failure) same unkept))
 
 -- one whose state was not saved
 pub unkept_session : (Fails : Fault → Type 0) (met gone : PartnerState) (source here there : PlanSource) (log : SiteLog) (first found left last : Content)
-    (entries : Option (List Entry)) (answer : Result Served ServeFault) (failure : Failure) → here ≡ source → there ≡ here
-    → JoinsLog entries log source first found → IsSessionBetween met gone here found answer left
-    → IsUnkept Fails entries log there left last failure → IsUnservedSession Fails met gone source log first last entries failure
-unkept_session Fails met gone source here there log first found left last entries answer failure same still before session unkept = inr (
+    (old new : Option (List Entry)) (answer : Result Served ServeFault) (failure : Failure) → here ≡ source → there ≡ here
+    → JoinsLog old log source first found → IsSessionBetween met gone here log found answer left old new
+    → IsUnkept Fails new log there left last failure → IsUnservedSession Fails met gone source log first last old new failure
+unkept_session Fails met gone source here there log first found left last old new answer failure same still before session unkept = inr (inr (
   found,
   left,
   answer,
   before,
-  subst (λ (plan : PlanSource). IsSessionBetween met gone plan found answer left) same session,
-  subst (λ (plan : PlanSource). IsUnkept Fails entries log plan left last failure) (still ∙ same) unkept,
-)
+  subst (λ (plan : PlanSource). IsSessionBetween met gone plan log found answer left old new) same session,
+  subst (λ (plan : PlanSource). IsUnkept Fails new log plan left last failure) (still ∙ same) unkept,
+))
 
 -- an exchange and what was taken in after it
 pub saved_exchange : (met gone : PartnerState) (source here : PlanSource) (log : SiteLog) (first left last : Content) (old new : Option (List Entry)) (text : List ℕ)

@@ -10,3 +10,4 @@ mod OfLogs
 mod OneCause
 mod Guarded
 mod Bytes
+mod Keepings

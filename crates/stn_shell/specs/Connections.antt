@@ -9,14 +9,15 @@ use Rattle.stn_records.specs.Content.{Content}
 use Rattle.stn_session.specs.Failures.{reply_failure}
 use Rattle.stn_shell.specs.Printing.{Device, Prints, IsUnprinted}
 use Rattle.stn_store.specs.Store.{Entry}
-use Rattle.stn_shell.specs.Joining.{JoinsLog, IsUntaken, SavesJoin, IsUnkept}
+use Rattle.stn_shell.specs.Joining.{JoinsLog, IsUntaken, SavesJoin, KeepsIn, FailsIn, IsUnkept}
 use Rattle.stn_line.specs.declared.words.SiteLog.{SiteLog}
 use Rattle.stn_refusal.specs.declared.failure.Failure.{Failure}
 use Rattle.stn_refusal.specs.declared.failure.Failure.TheVariants.{Failed}
 use Rattle.stn_refusal.specs.declared.failure.Fault.{Fault}
 use Rattle.stn_refusal.specs.declared.failure.Fault.TheVariants as fault
 use Rattle.stn_session.specs.Session.{opening}
-use Rattle.stn_session.specs.Serving.{IsServed, IsBroken, IsInputEnd}
+use Rattle.stn_session.specs.Serving.{IsInputEnd}
+use Rattle.stn_session.specs.Keeping.{IsKept, IsKeptBroken, IsUnkept as IsStateUnkept}
 use Rattle.stn_session.specs.Exchange.{request_bytes, IsReceived}
 use Rattle.stn_session.specs.declared.exchange.ReplyFault.{ReplyFault}
 use Rattle.stn_session.specs.declared.exchange.ReplyFault.TheVariants as reply
@@ -44,24 +45,34 @@ abbrev pub session_text : Result Served ServeFault → List ℕ
 session_text (Ok served) = codes "session " ++ (decimal served.frames ++ (codes " " ++ (end_text served.end ++ 10 ∷ [])))
 session_text (Err fault) = codes "session " ++ (fault_word fault ++ 10 ∷ [])
 
--- a session of a plan with another site, by what that one said and was told, that found one state and left another
-pub record IsSessionBetween (met gone : PartnerState) (source : PlanSource) (first : Content) (answer : Result Served ServeFault) (last : Content) : Type 0 where
-  pub served : IfOk answer (IsServed (opening source first) met.unheard gone.unheard met.told gone.told last)
+-- a session of a plan with another site, by what that one said and was told, that found one state and left another; a state that
+-- changed was saved in a log before the site was told of it
+pub record IsSessionBetween (met gone : PartnerState) (source : PlanSource) (log : SiteLog) (first : Content) (answer : Result Served ServeFault) (last : Content)
+    (old new : Option (List Entry)) : Type 0 where
+  pub served : IfOk answer (IsKept (KeepsIn log source) (opening source first) met.unheard gone.unheard met.told gone.told last old new)
   pub heard : IfOk answer (λ served. IsInputEnd served.end gone.unheard)
-  pub broken : IfErr answer (IsBroken (opening source first) met.unheard gone.unheard met.told gone.told last)
+  pub broken : IfErr answer (IsKeptBroken (KeepsIn log source) (opening source first) met.unheard gone.unheard met.told gone.told last old new)
   pub read_failed : IsErrOf answer Read → met.failed_reads < gone.failed_reads
   pub write_failed : IsErrOf answer Write → met.failed_writes < gone.failed_writes
   pub reads_kept : answer ≢ Err Read → gone.failed_reads ≡ met.failed_reads
   pub writes_kept : answer ≢ Err Write → gone.failed_writes ≡ met.failed_writes
+
+-- a session that ended before a reply, since the state that it tells of could not be saved
+pub record IsSessionUnkept (Fails : Fault → Type 0) (met gone : PartnerState) (source : PlanSource) (log : SiteLog) (first last : Content)
+    (old new : Option (List Entry)) (failure : Failure) : Type 0 where
+  pub unkept : IsStateUnkept (KeepsIn log source) (FailsIn Fails log source) (opening source first) met.unheard gone.unheard met.told gone.told last old new failure
+  pub reads_kept : gone.failed_reads ≡ met.failed_reads
+  pub writes_kept : gone.failed_writes ≡ met.failed_writes
 
 -- a session that found what the log said, after which what the log said by then was taken in, and the log saved
 pub record IsSavedSession (met gone : PartnerState) (source : PlanSource) (log : SiteLog) (first : Content) (old : Option (List Entry))
     (answer : Result Served ServeFault) (last : Content) (new : Option (List Entry)) : Type 0 where
   pub found : Content
   pub left : Content
+  pub between : Option (List Entry)
   pub before : JoinsLog old log source first found
-  pub session : IsSessionBetween met gone source found answer left
-  pub saved : SavesJoin log source left last old new
+  pub session : IsSessionBetween met gone source log found answer left old between
+  pub saved : SavesJoin log source left last between new
 
 -- a site that was refused is parted from, and no other one
 abbrev pub PartsAt : End → PartnerState → PartnerState → Type 0
@@ -111,20 +122,22 @@ pub record Serves (count : ℕ) (came went : Option CallersState) (source : Plan
   pub sessions : AreVisits source log first before visits last after
   pub printed : Prints old new (flat_map visit_text visits)
 
--- why a session was not served, or not saved: what the log says is not taken in before it; or its state was not saved
-abbrev pub IsUnservedSession : (Fault → Type 0) → PartnerState → PartnerState → PlanSource → SiteLog → Content → Content → Option (List Entry)
-    → Failure → Type 0
-IsUnservedSession Fails met gone source log first last entries failure =
-    (IsUntaken Fails entries log source first failure × (last ≡ first) × (gone ≡ met))
-    ⊎ ((found : Content) × (left : Content) × (answer : Result Served ServeFault) × JoinsLog entries log source first found
-    × IsSessionBetween met gone source found answer left × IsUnkept Fails entries log source left last failure)
+-- why a session was not served, or not saved, and what was saved by then: what the log says is not taken in before it; it ended before
+-- a reply; or its last state was not saved
+abbrev pub IsUnservedSession : (Fault → Type 0) → PartnerState → PartnerState → PlanSource → SiteLog → Content → Content
+    → Option (List Entry) → Option (List Entry) → Failure → Type 0
+IsUnservedSession Fails met gone source log first last old new failure =
+    (IsUntaken Fails old log source first failure × (last ≡ first) × (gone ≡ met) × (new ≡ old))
+    ⊎ ((found : Content) × JoinsLog old log source first found × IsSessionUnkept Fails met gone source log found last old new failure)
+    ⊎ ((found : Content) × (left : Content) × (answer : Result Served ServeFault) × JoinsLog old log source first found
+    × IsSessionBetween met gone source log found answer left old new × IsUnkept Fails new log source left last failure)
 
 -- why a site was not served, saved and printed: it was not served or not saved, and nothing was printed; or its line could not be
 -- printed, after the log was saved
 abbrev pub StopsAtPartner : (Fault → Type 0) → PartnerState → PartnerState → PlanSource → SiteLog → Content → Content
     → Option (List Entry) → Option (List Entry) → Device → Device → Failure → Type 0
 StopsAtPartner Fails met gone source log first last before after old new failure =
-    (IsUnservedSession Fails met gone source log first last before failure × (after ≡ before) × (new ≡ old))
+    (IsUnservedSession Fails met gone source log first last before after failure × (new ≡ old))
     ⊎ ((answer : Result Served ServeFault) × IsSavedSession met gone source log first before answer last after
     × IsUnprinted old new (session_text answer) failure)
 

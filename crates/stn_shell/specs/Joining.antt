@@ -28,6 +28,16 @@ abbrev pub SavesJoin : SiteLog → PlanSource → Content → Content → Option
 SavesJoin log source first last old new =
     JoinsLog old log source first last × (new ≡ saved_too old log.name.now (record { source = source; state = last }))
 
+-- the join saved, and the site's own state left as it is
+abbrev pub KeepsIn : SiteLog → PlanSource → Content → Option (List Entry) → Option (List Entry) → Type 0
+KeepsIn log source state old new = (last : Content) × SavesJoin log source state last old new
+
+-- why it was not, and the log is as it was: memory ran out or a device of the store failed; the log can't be opened; or it is another
+-- plan's, or can't take in the state
+abbrev pub FailsIn : (Fault → Type 0) → SiteLog → PlanSource → Content → Option (List Entry) → Option (List Entry) → Failure → Type 0
+FailsIn Fails log source state old new failure = (new ≡ old) × (IsLack Fails failure ⊎ IsUnopened old log.name.now failure
+    ⊎ ((said : Held) × Opens old log.name.now log.site said × IsMergeRefusal said (holding_state source state) (Some failure)))
+
 -- why it was not saved, and what state was left: the log was not held, or it was not taken in; or the join was not saved
 abbrev pub IsUnkept : (Fault → Type 0) → Option (List Entry) → SiteLog → PlanSource → Content → Content → Failure → Type 0
 IsUnkept Fails entries log source first last failure =

@@ -1,15 +1,16 @@
 //! What a log says by now, taken in by a replica.
 
 ghost use Rattle.std.specs.Prelude.{◌≡◌, OnOk, OnErr, IfErr};
-ghost use Rattle.stn_shell.specs.Joining.{JoinsLog, IsUntaken, SavesJoin, IsUnkept};
+ghost use Rattle.stn_shell.specs.Joining.{JoinsLog, IsUntaken, SavesJoin, KeepsIn, FailsIn, IsUnkept};
 ghost use Rattle.stn_site.specs.Calls.{Leaves, took};
 ghost use Rattle.stn_shell.specs.Refusals.{IsMergeFailure};
 
-use crate::changes::find_same;
+use crate::changes::{find_same, take_in as take_in_plan};
 use std::alloc::Global;
 use stn_line::SiteLog;
 use stn_refusal::Failure;
 use stn_replica::Replica;
+use stn_session::Keeper;
 use stn_site::SitePlan;
 use stn_store::Store;
 
@@ -87,4 +88,39 @@ fn take_in(replica: &mut Replica<Global>, said: &SitePlan<Global>) -> Result<(),
     find_same(replica.base(), said.base())?;
     replica.take(said.records())?;
     Ok(())
+}
+
+/// Saves what a log says by now, joined with what a replica holds. The replica stays as it is.
+pub fn keep_join<S: Store>(
+    store: &mut S,
+    log: &SiteLog<'_>,
+    replica: &Replica<Global>,
+) -> Result<(), Failure>
+    ensures kept { OnOk result (KeepsIn log.now replica.now.source replica.now.state (S.entries store.old) (S.entries store.new)) }
+    ensures failed { IfErr result (FailsIn S.fails log.now replica.now.source replica.now.state (S.entries store.old) (S.entries store.new)) }
+{
+    let held = store.hold(log.name)?;
+    if store.is_there(log.name)? {
+        let mut said = store.load_held(&held, log.site)?;
+        take_in_plan(&mut said, replica.plan())?;
+        store.save(&held, &said)
+    } else {
+        store.save(&held, replica.plan())
+    }
+}
+
+/// Keeps in a log what a session takes in.
+#[derive(Clone, Copy)]
+pub struct InLog<'a, 'b> {
+    pub log: &'a SiteLog<'b>,
+}
+
+impl<'a, 'b, S: Store> Keeper<S, Global> for InLog<'a, 'b> {
+    ghost keeps = { λ keeper source state old new. KeepsIn keeper.log.now source state (S.entries old) (S.entries new) };
+
+    ghost fails = { λ keeper source state old new. FailsIn S.fails keeper.log.now source state (S.entries old) (S.entries new) };
+
+    fn keep(&self, store: &mut S, replica: &Replica<Global>) -> Result<(), Failure> {
+        keep_join(store, self.log, replica)
+    }
 }

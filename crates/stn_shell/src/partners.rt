@@ -3,10 +3,10 @@
 ghost use Rattle.std.specs.Prelude.{◌≡◌, ◌++◌, ◌-◌, ◌^◌, ◌<◌, Ok, IfOk, IfErr, OnOk, OnErr};
 ghost use Rattle.stn_device.specs.Counted.{failure_count};
 ghost use Rattle.stn_device.specs.Partner.{partner_state};
-ghost use Rattle.stn_shell.specs.Connections.{end_text, fault_word, session_text, IsSessionBetween, IsSavedSession, IsUnservedSession, Visit, visit_text, IsVisit, PartsAfter, StopsAtPartner, Exchanges, StopsAsking, SendsTo, StopsSendingTo};
+ghost use Rattle.stn_shell.specs.Connections.{end_text, fault_word, session_text, IsSessionBetween, IsSessionUnkept, IsSavedSession, IsUnservedSession, Visit, visit_text, IsVisit, PartsAfter, StopsAtPartner, Exchanges, StopsAsking, SendsTo, StopsSendingTo};
 ghost use Rattle.stn_shell.specs.Printing.{device_of, Prints, IsUnprinted};
 
-use crate::joining::{save_join, take_log};
+use crate::joining::{InLog, save_join, take_log};
 use crate::printing::{print, print_now};
 use itoa::Buffer;
 use std::alloc::{Allocator, Global};
@@ -15,12 +15,15 @@ use stn_device::{Counted, Finish, Partner};
 use stn_line::SiteLog;
 use stn_refusal::Failure;
 use stn_replica::Replica;
-use stn_session::{End, ServeFault, Served, receive_replies, send_requests, serve};
+use stn_session::{
+    End, KeepingFault, ServeFault, Served, receive_replies, send_requests, serve_keeping,
+};
 use stn_store::Store;
 use stn_time::Memory;
 
 /// Serves another site: takes in what the log says, serves a session, takes in what the log says by then, saves the log and prints how
-/// the session ended. Where the other site was refused, it is parted from.
+/// the session ended. Where the other site was refused, it is parted from. In the session, a state that the other site's records made
+/// another one is saved before that site is told of it.
 pub fn serve_partner<S: Store, R: Read, W: Finish, O: Write>(
     alloc: Global,
     store: &mut S,
@@ -62,31 +65,46 @@ fn serve_saved<S: Store, R: Read, W: Finish>(
         replica.old.source log.now replica.old.state (S.entries store.old)
         answer replica.new.state (S.entries store.new)) }
     ensures unserved { IfErr result (IsUnservedSession S.fails (partner_state R.remaining W.contents W.ended partner.old) (partner_state R.remaining W.contents W.ended partner.new)
-        replica.old.source log.now replica.old.state replica.new.state (S.entries store.old)) }
-    ensures unsaved { OnErr result (S.entries store.new ≡ S.entries store.old) }
+        replica.old.source log.now replica.old.state replica.new.state (S.entries store.old) (S.entries store.new)) }
     ensures source { replica.new.source ≡ replica.old.source }
     ensures site { replica.new.site ≡ replica.old.site }
 {
     take_log(store, log, replica)?;
-    let session = serve_session(alloc, partner, replica);
+    let session = serve_session(alloc, store, partner, log, replica)?;
     save_join(store, log, replica)?;
     Ok(session)
 }
 
-// Serves a session.
-fn serve_session<R: Read, W: Finish>(
+// Serves a session, and saves in the log each state before the other site is told of it.
+fn serve_session<S: Store, R: Read, W: Finish>(
     alloc: Global,
+    store: &mut S,
     partner: &mut Partner<R, W>,
+    log: &SiteLog<'_>,
     replica: &mut Replica<Global>,
-) -> Result<Served, ServeFault>
+) -> Result<Result<Served, ServeFault>, Failure>
     requires reader_counts { failure_count partner.old.reader < 2 ^ 64 - 1 }
     requires writer_counts { failure_count partner.old.writer < 2 ^ 64 - 1 }
-    ensures session { IsSessionBetween (partner_state R.remaining W.contents W.ended partner.old) (partner_state R.remaining W.contents W.ended partner.new)
-        replica.old.source replica.old.state result replica.new.state }
+    ensures session { IfOk result (λ answer. IsSessionBetween (partner_state R.remaining W.contents W.ended partner.old) (partner_state R.remaining W.contents W.ended partner.new)
+        replica.old.source log.now replica.old.state answer replica.new.state (S.entries store.old) (S.entries store.new)) }
+    ensures unkept { IfErr result (IsSessionUnkept S.fails (partner_state R.remaining W.contents W.ended partner.old) (partner_state R.remaining W.contents W.ended partner.new)
+        replica.old.source log.now replica.old.state replica.new.state (S.entries store.old) (S.entries store.new)) }
     ensures source { replica.new.source ≡ replica.old.source }
     ensures site { replica.new.site ≡ replica.old.site }
 {
-    serve(alloc, &mut partner.reader, &mut partner.writer, replica)
+    let keeper = InLog { log };
+    match serve_keeping(
+        alloc,
+        &keeper,
+        store,
+        &mut partner.reader,
+        &mut partner.writer,
+        replica,
+    ) {
+        Ok(served) => Ok(Ok(served)),
+        Err(KeepingFault::Serve(fault)) => Ok(Err(fault)),
+        Err(KeepingFault::Keep(failure)) => Err(failure),
+    }
 }
 
 // Parts from another site that was told why its session ended.

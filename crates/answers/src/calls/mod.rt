@@ -9,7 +9,8 @@
 //!
 //! What `decode`, `feed` and `load` read is written again as these bytes, or as those after a word `=`, as of old frames.
 //!
-//! It prints the name, of a session how many frames it answered and how it ended, and whether each call was answered as it must be.
+//! It prints the name, of a session how many frames it answered and how it ended, and how many requests, reads and writes were
+//! refused in turn, if each was answered as it must be.
 
 mod exchanges;
 mod frames;
@@ -21,23 +22,27 @@ mod words;
 
 use crate::calls::exchanges::Replies;
 use crate::calls::sessions::{Talk, add_stages, end_of};
-use crate::calls::sweep::Kind;
-use crate::calls::trials::{Call, each_is_answered, encodes, reads, serves, writes};
+use crate::calls::trials::{Call, Refused, asks, encodes, reads, serves, writes};
 use crate::calls::words::{frames_of, joined};
 use crate::words::cut_word;
 use std::alloc::Global;
 use std::io;
 
-// What a session came to, and whether it answers each refused call.
-fn print_session(rt: &HostRuntime, talk: Talk) -> io::Result<bool> {
+// What a session came to, and the refused calls that it answers.
+fn print_session(rt: &HostRuntime, talk: Talk) -> io::Result<Option<Refused>> {
     let Some(served) = end_of(talk) else {
-        return Ok(false);
+        return Ok(None);
     };
     print!(rt; "{} frames, {:?}: ", served.frames, served.end)?;
     Ok(serves(rt.alloc(), talk))
 }
 
-fn is_served(rt: &HostRuntime, log: &[u8], frames: &[Vec<u8>], bytes: &[u8]) -> io::Result<bool> {
+fn sweep_session(
+    rt: &HostRuntime,
+    log: &[u8],
+    frames: &[Vec<u8>],
+    bytes: &[u8],
+) -> io::Result<Option<Refused>> {
     let mut stages = Vec::new(rt.alloc());
     if add_stages(rt.alloc(), log, frames, bytes, &mut stages) {
         print_session(
@@ -50,13 +55,13 @@ fn is_served(rt: &HostRuntime, log: &[u8], frames: &[Vec<u8>], bytes: &[u8]) -> 
             },
         )
     } else {
-        Ok(false)
+        Ok(None)
     }
 }
 
-fn is_received(alloc: Global, log: &[u8], rest: &[Vec<u8>]) -> io::Result<bool> {
+fn sweep_replies(alloc: Global, log: &[u8], rest: &[Vec<u8>]) -> io::Result<Option<Refused>> {
     let Some((after, frames)) = rest.split_first() else {
-        return Ok(false);
+        return Ok(None);
     };
     let bytes = joined(alloc, frames)?;
     let replies = Replies {
@@ -68,66 +73,79 @@ fn is_received(alloc: Global, log: &[u8], rest: &[Vec<u8>]) -> io::Result<bool> 
     Ok(reads(alloc, Call::Receive(replies)))
 }
 
-// Whether a call that works on a log and frames answers each refused call.
-fn is_exchanged(rt: &HostRuntime, call: &str, log: &[u8], frames: &[Vec<u8>]) -> io::Result<bool> {
+// A call that works on a log and frames.
+fn sweep_exchange(
+    rt: &HostRuntime,
+    call: &str,
+    log: &[u8],
+    frames: &[Vec<u8>],
+) -> io::Result<Option<Refused>> {
     let bytes = joined(rt.alloc(), frames)?;
     match call {
-        "serve" => is_served(rt, log, frames, &bytes),
+        "serve" => sweep_session(rt, log, frames, &bytes),
         "ask" => Ok(writes(rt.alloc(), Call::Ask(log, &bytes))),
-        "receive" => is_received(rt.alloc(), log, frames),
-        _ => Ok(false),
+        "receive" => sweep_replies(rt.alloc(), log, frames),
+        _ => Ok(None),
     }
 }
 
-// Whether a call that works on these bytes, and comes to the wanted ones, answers each refused call; or another call.
-fn is_call_answered(
+// A call that works on these bytes, and comes to the wanted ones; or another call.
+fn sweep_bytes(
     rt: &HostRuntime,
     call: &str,
     words: &[Vec<u8>],
     bytes: &[u8],
     wanted: &[u8],
-) -> io::Result<bool> {
+) -> io::Result<Option<Refused>> {
     let alloc = rt.alloc();
     match call {
         "encode" => Ok(encodes(alloc, bytes)),
-        "decode" => Ok(each_is_answered(alloc, Call::Decode(bytes, wanted), Kind::Memory)),
-        "feed" => Ok(each_is_answered(alloc, Call::Feed(bytes, wanted), Kind::Memory)),
+        "decode" => Ok(asks(alloc, Call::Decode(bytes, wanted))),
+        "feed" => Ok(asks(alloc, Call::Feed(bytes, wanted))),
         "save" => Ok(writes(alloc, Call::Save(bytes))),
         "load" => Ok(reads(alloc, Call::Load(bytes, wanted))),
         _ => match words.split_first() {
-            Some((log, frames)) => is_exchanged(rt, call, log, frames),
-            None => Ok(false),
+            Some((log, frames)) => sweep_exchange(rt, call, log, frames),
+            None => Ok(None),
         },
     }
 }
 
-fn is_answered_of(
+fn sweep_words(
     rt: &HostRuntime,
     call: &str,
     words: &[Vec<u8>],
     wanted: &[Vec<u8>],
-) -> io::Result<bool> {
+) -> io::Result<Option<Refused>> {
     let bytes = joined(rt.alloc(), words)?;
     let wanted = joined(rt.alloc(), wanted)?;
-    is_call_answered(rt, call, words, &bytes, &wanted)
+    sweep_bytes(rt, call, words, &bytes, &wanted)
 }
 
-// Whether a call answers each refused call.
-fn is_answered(rt: &HostRuntime, call: &str, words: &str) -> io::Result<bool> {
+// The refused calls that a call answers; none where it does not answer each.
+fn sweep_line(rt: &HostRuntime, call: &str, words: &str) -> io::Result<Option<Refused>> {
     let (words, wanted) = words.split_once(" = ").unwrap_or((words, words));
     let words = frames_of(rt.alloc(), words)?;
     let wanted = frames_of(rt.alloc(), wanted)?;
-    is_answered_of(rt, call, &words, &wanted)
+    sweep_words(rt, call, &words, &wanted)
 }
 
-/// Prints the name that a line gives its call, and whether each call of it that was refused was answered as it must be.
+/// Prints the name that a line gives its call, and how many requests, reads and writes of it were refused in turn, and answered as they
+/// must be.
 pub fn answer(rt: &HostRuntime, line: &str) -> io::Result<()> {
     let (name, rest) = cut_word(line);
     let (call, words) = cut_word(rest);
     print!(rt; "{name}: ")?;
-    if is_answered(rt, call, words)? {
-        println!(rt; "each refused call is answered")
-    } else {
-        println!(rt; "a refused call is not answered")
+    match sweep_line(rt, call, words)? {
+        Some(
+            Refused {
+                requests,
+                reads,
+                writes,
+            },
+        ) => println!(rt;
+            "answers each of {requests} requests, {reads} reads and {writes} writes that were refused"
+        ),
+        None => println!(rt; "a refused call is not answered"),
     }
 }

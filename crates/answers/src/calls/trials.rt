@@ -55,46 +55,84 @@ fn outcome_of_call(alloc: Global, call: Call, failing: Failing) -> Outcome {
     outcome
 }
 
-/// Whether all is as it must be, whichever request, read or write is refused: the first, the second, and so on until none is left.
-pub fn each_is_answered(alloc: Global, call: Call, kind: Kind) -> bool {
-    for number in 1..MOST_CALLS {
-        match outcome_of_call(alloc, call, Failing { kind, number }) {
-            Outcome::Right => return true,
+/// How many requests for memory, reads and writes of a call were refused in turn, each of which was answered as it must be.
+#[derive(Clone, Copy)]
+pub struct Refused {
+    pub requests: u64,
+    pub reads: u64,
+    pub writes: u64,
+}
+
+// How many of one kind were refused: the first, the second, and so on until none is left; none where something is not as it must be.
+fn count_refused(alloc: Global, call: Call, kind: Kind) -> Option<u64> {
+    for refused in 0..MOST_CALLS {
+        match outcome_of_call(
+            alloc,
+            call,
+            Failing {
+                kind,
+                number: refused + 1,
+            },
+        ) {
+            Outcome::Right => return Some(refused),
             Outcome::Answered => {}
-            Outcome::Wrong => return false,
+            Outcome::Wrong => return None,
         }
     }
-    false
+    None
 }
 
-/// Whether a call that reads answers each refused request for memory and each failed read.
-pub fn reads(alloc: Global, call: Call) -> bool {
-    each_is_answered(alloc, call, Kind::Memory) && each_is_answered(alloc, call, Kind::Read)
+/// The refused requests for memory of a call that neither reads nor writes.
+pub fn asks(alloc: Global, call: Call) -> Option<Refused> {
+    Some(Refused {
+        requests: count_refused(alloc, call, Kind::Memory)?,
+        reads: 0,
+        writes: 0,
+    })
 }
 
-/// Whether a call that writes answers each refused request for memory and each failed write, and a writer that takes no byte.
-pub fn writes(alloc: Global, call: Call) -> bool {
-    each_is_answered(alloc, call, Kind::Memory)
-        && each_is_answered(alloc, call, Kind::Write)
-        && outcome_of_call(alloc, call, EACH_BYTE) == Outcome::Answered
+/// The refused requests for memory and the failed reads of a call that reads.
+pub fn reads(alloc: Global, call: Call) -> Option<Refused> {
+    Some(Refused {
+        requests: count_refused(alloc, call, Kind::Memory)?,
+        reads: count_refused(alloc, call, Kind::Read)?,
+        writes: 0,
+    })
 }
 
-/// Whether a session answers each refused call. It may have nothing to write.
-pub fn serves(alloc: Global, talk: Talk) -> bool {
+/// The refused requests for memory and the failed writes of a call that writes, which also answers a writer that takes no byte.
+pub fn writes(alloc: Global, call: Call) -> Option<Refused> {
+    if outcome_of_call(alloc, call, EACH_BYTE) != Outcome::Answered {
+        return None;
+    }
+    Some(Refused {
+        requests: count_refused(alloc, call, Kind::Memory)?,
+        reads: 0,
+        writes: count_refused(alloc, call, Kind::Write)?,
+    })
+}
+
+/// Those of a session. It may have nothing to write.
+pub fn serves(alloc: Global, talk: Talk) -> Option<Refused> {
     let call = Call::Serve(talk);
-    reads(alloc, call)
-        && each_is_answered(alloc, call, Kind::Write)
-        && outcome_of_call(alloc, call, EACH_BYTE) != Outcome::Wrong
+    if outcome_of_call(alloc, call, EACH_BYTE) == Outcome::Wrong {
+        return None;
+    }
+    Some(Refused {
+        requests: count_refused(alloc, call, Kind::Memory)?,
+        reads: count_refused(alloc, call, Kind::Read)?,
+        writes: count_refused(alloc, call, Kind::Write)?,
+    })
 }
 
-/// Whether `encode` of the frame with these bytes answers each refused request.
-pub fn encodes(alloc: Global, bytes: &[u8]) -> bool {
+/// Those of `encode` of the frame with these bytes.
+pub fn encodes(alloc: Global, bytes: &[u8]) -> Option<Refused> {
     match decode(alloc, bytes) {
         Ok(Some((frame, _))) => {
-            let answered = each_is_answered(alloc, Call::Encode(&frame, bytes), Kind::Memory);
+            let refused = asks(alloc, Call::Encode(&frame, bytes));
             drop(frame);
-            answered
+            refused
         }
-        _ => false,
+        _ => None,
     }
 }

@@ -1,11 +1,12 @@
-use Rattle.std.proofs.Common.{◌≡◌, ◌++◌, Some, Ok, inr, ap, sym, ◌∙◌}
+use Rattle.std.proofs.Common.{◌≡◌, ◌↔◌, ◌++◌, Some, Ok, inr, ap, sym, subst, ◌∙◌}
+use Rattle.std.specs.Prelude.{IsTrue}
 use Rattle.std.specs.Result.{result_ok}
 use Rattle.std.proofs.lemmas.Result.{err_from_is_err_and}
 use Rattle.stn_refusal.specs.Refusals.{code_of}
-use Rattle.stn_records.specs.Content.{Content}
+use Rattle.stn_records.specs.Content.{Content, IsPart}
 use Rattle.stn_site.specs.Held.{Held}
 use Rattle.stn_wire.specs.Frame.{spelling, records}
-use Rattle.stn_session.proofs.Taken.{refused_code, state_taken, taken_answered, refusal_answered}
+use Rattle.stn_session.proofs.Taken.{changed_unless_held, refused_code, state_taken, taken_answered, refusal_answered}
 use Rattle.stn_session.proofs.replies.take.Goals as goal
 
 pub returns-in_err-append_state-in-Ok : goal.returns-in_err-append_state-in-Ok
@@ -22,11 +23,13 @@ returns-in_err-append_state-in-Ok g c =
 pub returns-in_ok-append_state-in-Ok : goal.returns-in_ok-append_state-in-Ok
 returns-in_ok-append_state-in-Ok g c =
     let did = c.in-Ok.ensures in
+    let told = subst (λ (s : Content). IsTrue c.holds-brings.result ↔ IsPart c.args.theirs.now s) c.records.ensures.value c.holds-brings.ensures.part in
+    let changed = changed_unless_held c.args.replica.now c.take.new.self c.args.theirs.now c.holds-brings.result told (λ part. (did.again part).1) did.leaves in
     record {
       source = did.leaves.source;
       site = did.leaves.site;
-      answered = taken_answered c.args.replica.now c.take.new.self c.args.theirs.now _ _ did.accepted did.leaves
-          (c.in_ok-append_state-in-Ok.ensures ∙ ap (λ (s : Content). c.args.out.now.items ++ spelling (records s)) c.records.ensures.value);
+      answered = taken_answered c.args.replica.now c.take.new.self c.args.theirs.now _ _ _ did.accepted did.leaves changed
+          (c.in_ok-append_state-in-Ok.ensures ∙ ap (λ (s : Content). c.args.out.now.items ++ spelling (records s)) c.records-in-Ok.ensures.value);
       left = tt;
     }
 

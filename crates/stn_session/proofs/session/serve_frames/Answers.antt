@@ -1,5 +1,7 @@
 use Rattle.std.proofs.Common.{Ok, Err, ◌+◌, ◌≤◌, length, refl, sym, ap, subst, ◌∙◌, arith}
 use Rattle.std.proofs.lemmas.Result.{err_from_is_err_and}
+use Rattle.stn_device.specs.Counted.{counted_device}
+use Rattle.stn_lift.specs.PlanSource.{PlanSource}
 use Rattle.stn_wire.specs.Frame.{content}
 use Rattle.stn_stream.specs.Held.{Stream}
 use Rattle.stn_stream.specs.Stream.{pending}
@@ -7,8 +9,12 @@ use Rattle.stn_stream.specs.declared.fault.StreamFault.{StreamFault}
 use Rattle.stn_stream.specs.declared.fault.StreamFault.TheVariants as stream
 use Rattle.stn_session.specs.Session.{answer}
 use Rattle.stn_session.specs.Serving.{serve_fault}
-use Rattle.stn_session.specs.declared.session.ServeFault.TheVariants.{Read}
-use Rattle.stn_session.proofs.Answered.{fault_or, not_err, fails_more}
+use Rattle.stn_session.specs.Keeping.{KeepsChange}
+use Rattle.stn_session.specs.Turns.{WroteKept}
+use Rattle.stn_session.specs.declared.session.KeepingFault.TheVariants.{Serve}
+use Rattle.stn_session.specs.declared.session.ServeFault.{ServeFault}
+use Rattle.stn_session.specs.declared.session.ServeFault.TheVariants.{Read, Memory}
+use Rattle.stn_session.proofs.Answered.{fault_or, serve_fault_or, not_err, fails_more}
 use Rattle.stn_session.proofs.Sessions.{begun, closes, cuts, stream_fails, stream_read, stream_unwritten, answer_unread, refusal_unread, refuses, refusal_fails, frame_fails, frame_answered, frame_ends}
 use Rattle.stn_stream.proofs.Streams.{count_fits, measure_falls}
 use Rattle.stn_session.proofs.session.serve_frames.Goals as goal
@@ -16,7 +22,7 @@ use Rattle.stn_session.proofs.session.serve_frames.Goals as goal
 pub frames-init : goal.frames-init
 frames-init g c = record {
   reading = ap (λ (s : Stream). s.broken) c.requires.fresh;
-  progress = begun c.args.replica.now.source c.args.replica.now.state _ _ (pending c.args.frames.now) c.args.frames.now.count (ap pending c.requires.fresh) (ap (λ (s : Stream). s.count) c.requires.fresh);
+  progress = begun (g.K.Keeper.keeps c.args.keeper.now c.args.replica.now.source) c.args.place.now c.args.replica.now.source c.args.replica.now.state _ _ (pending c.args.frames.now) c.args.frames.now.count (ap pending c.requires.fresh) (ap (λ (s : Stream). s.count) c.requires.fresh);
   source = refl;
   site = refl;
   few = subst (λ (s : Stream). 0 + length (pending s) ≤ s.count) (sym c.requires.fresh) (omega arith);
@@ -33,12 +39,12 @@ returns-in_err-frame g c =
     rw (p.1, p.2) (record {
       served = tt;
       end = tt;
-      broken = stream_fails _ _ _ _ _ _ _ _ _ _ _ i.progress _ gave.bytes gave.consumed g.row.A.Denot c.next.new.self fault gave.next gave.counted;
+      broken = stream_fails _ _ _ _ _ _ _ _ _ _ _ _ _ _ i.progress _ gave.bytes gave.consumed g.row.A.Denot c.next.new.self fault gave.next gave.counted;
       source = i.source;
       site = i.site;
-      read = λ e. fails_more _ _ _ (c.in_err-frame.ensures.read (ap Err (stream_read fault (ap (fault_or Read) e)))) i.reader_kept c.requires.reader_counts;
-      write = λ e. absurd (stream_unwritten fault (ap (fault_or Read) e));
-      reader_kept = λ other. c.in_err-frame.ensures.kept (λ e. other (ap (λ (s : StreamFault). Err (serve_fault s)) (ap (fault_or stream.Read) e))) ∙ i.reader_kept;
+      read = λ e. fails_more _ _ _ (c.in_err-frame.ensures.read (ap Err (stream_read fault (ap (serve_fault_or Memory) e)))) i.reader_kept c.requires.reader_counts;
+      write = λ e. absurd (stream_unwritten fault (ap (serve_fault_or Memory) e));
+      reader_kept = λ other. c.in_err-frame.ensures.kept (λ e. other (ap (λ (s : StreamFault). Err (Serve (serve_fault s))) (ap (fault_or stream.Read) e))) ∙ i.reader_kept;
       writer_kept = λ _. i.writer_kept;
     })
 
@@ -52,14 +58,18 @@ returns-in_err-turn-in-Frame g c =
     rw (p.1, p.2) (record {
       served = tt;
       end = tt;
-      broken = frame_fails _ _ _ _ _ _ _ _ _ _ _ i.progress _ gave.bytes gave.consumed gave.counted.1 (content c.in-Frame.frame) (pending c.next.new.self) gave.next.0 gave.next.1 _
-          c.answer_frame-answered.new.replica.state fault lost.wrote;
+      broken = frame_fails _ _ _ _ _ _ _ _ _ _ _ _ _ _ i.progress _ gave.bytes gave.consumed gave.counted.1 (content c.in-Frame.frame) (pending c.next.new.self) gave.next.0 gave.next.1 _
+          c.answer_frame-answered.new.replica.state (g.K.Keeper.fails c.args.keeper.now c.args.replica.now.source) c.answer_frame-answered.new.place fault
+          (subst (λ (s : PlanSource). WroteKept (g.K.Keeper.keeps c.args.keeper.now s) (g.K.Keeper.fails c.args.keeper.now s)
+          (answer c.frames.replica.source c.frames.replica.state c.frames.greeted (content c.in-Frame.frame))
+          (g.W.Write.contents (counted_device c.frames.writer)) (g.W.Write.contents (counted_device c.answer_frame-answered.new.writer))
+          c.frames.replica.state c.answer_frame-answered.new.replica.state c.frames.place c.answer_frame-answered.new.place (Err fault)) i.source lost.wrote);
       source = lost.source ∙ i.source;
       site = lost.site ∙ i.site;
-      read = λ e. absurd (answer_unread (answer c.frames.replica.source c.frames.replica.state c.frames.greeted (content c.in-Frame.frame)) _ _ _ _ fault lost.wrote (ap (fault_or Read) e));
-      write = λ e. fails_more _ _ _ (lost.write (ap Err (ap (fault_or Read) e))) i.writer_kept c.requires.writer_counts;
+      read = λ e. absurd (answer_unread (g.K.Keeper.keeps c.args.keeper.now c.frames.replica.source) (g.K.Keeper.fails c.args.keeper.now c.frames.replica.source) (answer c.frames.replica.source c.frames.replica.state c.frames.greeted (content c.in-Frame.frame)) _ _ _ _ _ _ fault lost.wrote (ap (fault_or (Serve Read)) e));
+      write = λ e. fails_more _ _ _ (lost.write (ap Err (ap (fault_or (Serve Read)) e))) i.writer_kept c.requires.writer_counts;
       reader_kept = λ _. c.in_ok-frame.ensures.kept (not_err _ _) ∙ i.reader_kept;
-      writer_kept = λ other. lost.kept (λ e. other (ap Err (ap (fault_or Read) e))) ∙ i.writer_kept;
+      writer_kept = λ other. lost.kept (λ e. other (ap Err (ap (fault_or (Serve Read)) e))) ∙ i.writer_kept;
     })
 
 pub frames-smaller : goal.frames-smaller
@@ -72,10 +82,12 @@ frames-preserved g c =
     let gave = rw c.in-Frame.is at c.in_ok-frame.ensures.gives in
     let wrote = c.in_ok-turn-in-Frame.ensures.wrote in
     let i = c.frames.invariant in
+    let kept = subst (λ (s : PlanSource). KeepsChange (g.K.Keeper.keeps c.args.keeper.now s) c.frames.replica.state c.answer_frame-answered.new.replica.state
+    c.frames.place c.answer_frame-answered.new.place) i.source wrote.1 in
     record {
       reading = gave.next.2;
-      progress = frame_answered _ _ _ _ _ _ _ _ _ _ _ i.progress _ gave.bytes gave.consumed gave.counted.1 (content c.in-Frame.frame) (pending c.next.new.self) gave.next.0 gave.next.1 _
-          c.answer_frame-answered.new.replica.state wrote.0 wrote.1 wrote.3 wrote.2 c.in_ok-turn-in-Frame.turn.greeted wrote.4 (sym wrote.5 ∙ c.in-None.is)
+      progress = frame_answered _ _ _ _ _ _ _ _ _ _ _ _ _ _ i.progress _ gave.bytes gave.consumed gave.counted.1 (content c.in-Frame.frame) (pending c.next.new.self) gave.next.0 gave.next.1 _
+          c.answer_frame-answered.new.replica.state wrote.0.0 wrote.0.1 wrote.0.3 c.answer_frame-answered.new.place kept wrote.0.2 c.in_ok-turn-in-Frame.turn.greeted wrote.0.4 (sym wrote.0.5 ∙ c.in-None.is)
           c.next.new.self.count gave.counted.0 c.answer_frame-answered.new.replica.source c.in_ok-turn-in-Frame.ensures.source;
       source = c.in_ok-turn-in-Frame.ensures.source ∙ i.source;
       site = c.in_ok-turn-in-Frame.ensures.site ∙ i.site;
@@ -89,9 +101,11 @@ returns-in-Some g c =
     let gave = rw c.in-Frame.is at c.in_ok-frame.ensures.gives in
     let wrote = c.in_ok-turn-in-Frame.ensures.wrote in
     let i = c.frames.invariant in
+    let kept = subst (λ (s : PlanSource). KeepsChange (g.K.Keeper.keeps c.args.keeper.now s) c.frames.replica.state c.answer_frame-answered.new.replica.state
+    c.frames.place c.answer_frame-answered.new.place) i.source wrote.1 in
     record {
-      served = frame_ends _ _ _ _ _ _ _ _ _ _ _ i.progress _ gave.bytes gave.consumed gave.counted.1 (content c.in-Frame.frame) (pending c.next.new.self) gave.next.0 gave.next.1 _
-          c.answer_frame-answered.new.replica.state wrote.0 wrote.1 wrote.3 wrote.2 c.in_ok-turn-in-Frame.turn.greeted wrote.4 c.in-Some.code (sym wrote.5 ∙ c.in-Some.is);
+      served = frame_ends _ _ _ _ _ _ _ _ _ _ _ _ _ _ i.progress _ gave.bytes gave.consumed gave.counted.1 (content c.in-Frame.frame) (pending c.next.new.self) gave.next.0 gave.next.1 _
+          c.answer_frame-answered.new.replica.state wrote.0.0 wrote.0.1 wrote.0.3 c.answer_frame-answered.new.place kept wrote.0.2 c.in_ok-turn-in-Frame.turn.greeted wrote.0.4 c.in-Some.code (sym wrote.0.5 ∙ c.in-Some.is);
       end = tt;
       broken = tt;
       source = c.in_ok-turn-in-Frame.ensures.source ∙ i.source;
@@ -112,13 +126,13 @@ returns-in_err-refuse-in-Faulty g c =
     rw (p.1, p.2) (record {
       served = tt;
       end = tt;
-      broken = refusal_fails _ _ _ _ _ _ _ _ _ _ _ i.progress _ gave.bytes gave.consumed gave.counted.1 c.in-Faulty.fault gave.next _ c.code-code.result c.code-code.ensures fault lost.wrote;
+      broken = refusal_fails _ _ _ _ _ _ _ _ _ _ _ _ _ _ i.progress _ gave.bytes gave.consumed gave.counted.1 c.in-Faulty.fault gave.next _ c.code-code.result c.code-code.ensures fault lost.wrote;
       source = i.source;
       site = i.site;
-      read = λ e. absurd (refusal_unread _ _ _ fault lost.wrote (ap (fault_or Read) e));
-      write = λ e. fails_more _ _ _ (lost.write (ap Err (ap (fault_or Read) e))) i.writer_kept c.requires.writer_counts;
+      read = λ e. absurd (refusal_unread _ _ _ fault lost.wrote (ap (serve_fault_or Memory) e));
+      write = λ e. fails_more _ _ _ (lost.write (ap Err (ap (serve_fault_or Memory) e))) i.writer_kept c.requires.writer_counts;
       reader_kept = λ _. c.in_ok-frame.ensures.kept (not_err _ _) ∙ i.reader_kept;
-      writer_kept = λ other. lost.kept (λ e. other (ap Err (ap (fault_or Read) e))) ∙ i.writer_kept;
+      writer_kept = λ other. lost.kept (λ e. other (ap (λ (f : ServeFault). Err (Serve f)) (ap (fault_or Read) e))) ∙ i.writer_kept;
     })
 
 pub returns-in-Faulty : goal.returns-in-Faulty
@@ -126,7 +140,7 @@ returns-in-Faulty g c =
     let gave = rw c.in-Faulty.is at c.in_ok-frame.ensures.gives in
     let i = c.frames.invariant in
     record {
-      served = refuses _ _ _ _ _ _ _ _ _ _ _ i.progress _ gave.bytes gave.consumed gave.counted.1 c.in-Faulty.fault gave.next _ c.code-code.result c.code-code.ensures c.in_ok-refuse-in-Faulty.ensures.wrote;
+      served = refuses _ _ _ _ _ _ _ _ _ _ _ _ _ _ i.progress _ gave.bytes gave.consumed gave.counted.1 c.in-Faulty.fault gave.next _ c.code-code.result c.code-code.ensures c.in_ok-refuse-in-Faulty.ensures.wrote;
       end = tt;
       broken = tt;
       source = i.source;
@@ -142,7 +156,7 @@ returns-in-Closed g c =
     let gave = rw c.in-Closed.is at c.in_ok-frame.ensures.gives in
     let i = c.frames.invariant in
     record {
-      served = closes _ _ _ _ _ _ _ _ _ _ _ i.progress _ gave.bytes gave.consumed gave.counted.1 gave.next;
+      served = closes _ _ _ _ _ _ _ _ _ _ _ _ _ _ i.progress _ gave.bytes gave.consumed gave.counted.1 gave.next;
       end = c.in_ok-frame.ensures.closed (ap Ok c.in-Closed.is);
       broken = tt;
       source = i.source;
@@ -158,7 +172,7 @@ returns-in-Cut g c =
     let gave = rw c.in-Cut.is at c.in_ok-frame.ensures.gives in
     let i = c.frames.invariant in
     record {
-      served = cuts _ _ _ _ _ _ _ _ _ _ _ i.progress _ gave.bytes gave.consumed gave.counted.1 gave.next.0 gave.next.1;
+      served = cuts _ _ _ _ _ _ _ _ _ _ _ _ _ _ i.progress _ gave.bytes gave.consumed gave.counted.1 gave.next.0 gave.next.1;
       end = c.in_ok-frame.ensures.cut (ap Ok c.in-Cut.is);
       broken = tt;
       source = i.source;

@@ -8,7 +8,7 @@ use Rattle.stn_session.proofs.session.serve_frames.Given as goal
 abbrev pub invariant-frames : goal.invariant-frames
 invariant-frames g l = record {
   reading : IsReading l.frames;
-  progress : Progress (opening l.fn.replica.source l.fn.replica.state)
+  progress : Progress (g.K.Keeper.keeps l.fn.keeper l.fn.replica.source) l.fn.place l.place (opening l.fn.replica.source l.fn.replica.state)
       (g.R.Read.remaining (counted_device l.fn.reader)) (g.R.Read.remaining (counted_device l.reader))
       (g.W.Write.contents (counted_device l.fn.writer)) (g.W.Write.contents (counted_device l.writer))
       (pending l.frames) l.frames.count l.replica.source l.replica.state l.greeted l.count;

@@ -6,7 +6,7 @@ pub returns-in_err-session : goal.returns-in_err-session
 returns-in_err-session g c =
     let p = err_from_is_err_and c.from_residual.result c.from_residual.ensures.1 in
     let is = c.in_err-session.ensures in
-    rw (p.1, p.2) (record { served = tt; stopped = inl (is.unserved, is.unsaved, refl); source = is.source; site = is.site })
+    rw (p.1, p.2) (record { served = tt; stopped = inl (is.unserved, refl); source = is.source; site = is.site })
 
 pub returns-in_err-print_session : goal.returns-in_err-print_session
 returns-in_err-print_session g c =

@@ -1,4 +1,4 @@
-use Rattle.stn_session.proofs.session.serve.Goals as goal
+use Rattle.stn_session.proofs.session.serve_keeping.Goals as goal
 
 pub returns : goal.returns
 returns g c = record {

@@ -1,0 +1,113 @@
+-- What a session keeps in a log.
+use Rattle.std.proofs.Common.{◌≡◌, ◌⊎◌, ℕ, false, List, [], ◌∷◌, Option, Some, Result, Ok, Err, OnOk, OnErr, IfErr, refl, sym, ap, subst, ◌∙◌, inl, inr}
+use Rattle.stn_lift.specs.PlanSource.{PlanSource}
+use Rattle.stn_records.specs.Content.{Content, join_contents}
+use Rattle.stn_records.specs.ContentLaws.{contents_join}
+use Rattle.stn_records.specs.JoinLaws.{commutes}
+use Rattle.stn_site.specs.Calls.{Leaves, took}
+use Rattle.stn_site.specs.Held.{Held, holding_state}
+use Rattle.stn_wire.specs.Frame.{FrameContent}
+use Rattle.stn_log.specs.Log.{log_held}
+use Rattle.stn_session.specs.Session.{Session, advanced}
+use Rattle.stn_session.specs.Keeping.{KeepsChange, KeepsEach, KeepsLast, IsKept, IsKeptBroken, IsUnkept}
+use Rattle.stn_session.specs.declared.session.KeepingFault.TheVariants.{Serve, Keep}
+use Rattle.stn_session.specs.declared.session.Served.{Served}
+use Rattle.stn_session.specs.declared.session.ServeFault.{ServeFault}
+use Rattle.stn_session.specs.declared.session.ServeFault.TheVariants.{Read, Write, Bound, Memory}
+use Rattle.stn_store.specs.Store.{Entry, IsThere, Opens, IsLack, saved_too}
+use Rattle.stn_line.specs.declared.words.SiteLog.{SiteLog}
+use Rattle.stn_refusal.specs.declared.failure.Failure.{Failure}
+use Rattle.stn_refusal.specs.declared.failure.Fault.{Fault}
+use Rattle.stn_shell.specs.Joining.{KeepsIn, FailsIn}
+use Rattle.stn_shell.specs.Refusals.{IsMergeRefusal}
+
+-- ---- a place as something else
+module _ {P Q : Type 0} (see : P → Q) (Keeps : Content → Q → Q → Type 0) where
+  abbrev Sees : Content → P → P → Type 0
+  Sees state old new = Keeps state (see old) (see new)
+
+  change_seen : (before after : Content) (old new : P) → KeepsChange Sees before after old new → KeepsChange Keeps before after (see old) (see new)
+  change_seen before after old new (inl same) = inl (same.0, ap see same.1)
+  change_seen before after old new (inr changed) = inr changed
+
+  each_seen : (session : Session) (frames : List FrameContent) (old new : P) → KeepsEach Sees session frames old new → KeepsEach Keeps session frames (see old) (see new)
+  each_seen session [] old new same = ap see same
+  each_seen session (frame ∷ frames) old new all =
+      (see all.0, change_seen session.state (advanced session frame).state old all.0 all.1, each_seen (advanced session frame) frames all.0 new all.2)
+
+  last_seen : (before after : Content) (old new : P) (fault : ServeFault) → KeepsLast Sees before after old new fault → KeepsLast Keeps before after (see old) (see new) fault
+  last_seen before after old new Write kept = change_seen before after old new kept
+  last_seen before after old new Read same = ap see same
+  last_seen before after old new Bound same = ap see same
+  last_seen before after old new Memory same = ap see same
+
+  module _ (first : Session) (before after old new : Option (List ℕ)) (state : Content) (place kept : P) where
+    pub kept_seen : (answer : Served) → IsKept Sees first before after old new state place kept answer
+        → IsKept Keeps first before after old new state (see place) (see kept) answer
+    kept_seen answer is = record { served = is.served; each = each_seen first is.served.reached.frames place kept is.each }
+
+    pub broken_seen : (fault : ServeFault) → IsKeptBroken Sees first before after old new state place kept fault
+        → IsKeptBroken Keeps first before after old new state (see place) (see kept) fault
+    broken_seen fault is = record {
+      broken = is.broken;
+      between = see is.between;
+      each = each_seen first is.broken.reached.frames place is.between is.each;
+      last = last_seen is.broken.session.state state is.between kept fault is.last;
+    }
+
+    pub unkept_seen : (Fails : Content → Q → Q → Failure → Type 0) (failure : Failure)
+        → IsUnkept Sees (λ left there then. Fails left (see there) (see then)) first before after old new state place kept failure
+        → IsUnkept Keeps Fails first before after old new state (see place) (see kept) failure
+    unkept_seen Fails failure is = record {
+      bytes = is.bytes;
+      session = is.session;
+      rest = is.rest;
+      next = is.next;
+      between = see is.between;
+      consumed = is.consumed;
+      few = is.few;
+      reached = is.reached;
+      on = is.on;
+      goes_on = is.goes_on;
+      written = is.written;
+      left = is.left;
+      changed = is.changed;
+      each = each_seen first is.reached.frames place is.between is.each;
+      failed = is.failed;
+    }
+
+-- ---- what a log says, joined with a state
+pub said_kept : {T E : Type 0} (answer : Result T E) (log : SiteLog) (ours said joined : Held) (old new : Option (List Entry))
+    → Opens old log.name.now log.site said → said.source ≡ ours.source → Leaves said (took ours.state) joined
+    → OnOk answer (new ≡ saved_too old log.name.now (log_held joined)) → OnOk answer (KeepsIn log ours.source ours.state old new)
+said_kept (Ok done) log ours said joined old new opened same left saved = (
+  joined.state,
+  (
+    inr (said, opened, same, commutes contents_join ours.state said.state ∙ left.state),
+    subst (λ (plan : PlanSource). new ≡ saved_too old log.name.now (record { source = plan; state = joined.state })) (left.source ∙ same) saved,
+  ),
+)
+said_kept (Err failure) log ours said joined old new opened same left saved = tt
+
+-- what refuses a state of a plan
+pub refused_by : (ours theirs : Held) (source : PlanSource) (state : Content) (cause : Option Failure) → theirs.source ≡ source → theirs.state ≡ state
+    → IsMergeRefusal ours theirs cause → IsMergeRefusal ours (holding_state source state) cause
+refused_by ours theirs source state cause from left refusal =
+    subst (λ (content : Content). IsMergeRefusal ours (holding_state source content) cause) left
+    (subst (λ (plan : PlanSource). IsMergeRefusal ours (holding_state plan theirs.state) cause) from refusal)
+
+-- where nothing is said, the state alone
+pub alone_kept : {T E : Type 0} (answer : Result T E) (log : SiteLog) (ours : Held) (old new : Option (List Entry)) → IsThere old log.name.now false
+    → OnOk answer (new ≡ saved_too old log.name.now (log_held ours)) → OnOk answer (KeepsIn log ours.source ours.state old new)
+alone_kept (Ok done) log ours old new gone saved = (ours.state, (inl (gone, refl), saved))
+alone_kept (Err failure) log ours old new gone saved = tt
+
+-- a save that failed
+pub save_failed : {T : Type 0} (answer : Result T Failure) (Fails : Fault → Type 0) (log : SiteLog) (source : PlanSource) (state : Content) (old new : Option (List Entry))
+    → OnErr answer (new ≡ old) → IfErr answer (λ failure. IsLack Fails failure) → IfErr answer (λ failure. FailsIn Fails log source state old new failure)
+save_failed (Ok done) Fails log source state old new kept lack = tt
+save_failed (Err failure) Fails log source state old new kept lack = (kept, inl lack)
+
+-- a state that was not kept is no fault of the session
+pub apart : (failure : Failure) (fault : ServeFault) → Keep failure ≡ Serve fault → ⊥
+apart failure fault is = cc
