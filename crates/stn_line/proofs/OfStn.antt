@@ -80,7 +80,7 @@ all_plain = (
                               (
                                 reads refl refl refl (one refl refl refl refl, (one refl refl refl refl, (asks refl refl refl, tt))),
                                 (
-                                  reads refl refl refl (one refl refl refl refl, (one refl refl refl refl, (asks refl refl refl, tt))),
+                                  reads refl refl refl (one refl refl refl refl, (one refl refl refl refl, (one refl refl refl refl, (asks refl refl refl, tt)))),
                                   (
                                     reads refl refl refl (one refl refl refl refl, (one refl refl refl refl, (asks refl refl refl, tt))),
                                     (
@@ -88,7 +88,7 @@ all_plain = (
                                       (
                                         reads refl refl refl (one refl refl refl refl, (one refl refl refl refl, (one refl refl refl refl, (one refl refl refl refl, (flag refl refl refl refl refl refl, (asks refl refl refl, tt)))))),
                                         (
-                                          reads refl refl refl (one refl refl refl refl, (one refl refl refl refl, (asks refl refl refl, tt))),
+                                          reads refl refl refl (one refl refl refl refl, (one refl refl refl refl, (one refl refl refl refl, (asks refl refl refl, tt)))),
                                           (
                                             reads refl refl refl (one refl refl refl refl, (asks refl refl refl, tt)),
                                             (

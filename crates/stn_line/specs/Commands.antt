@@ -83,11 +83,11 @@ commands = command (codes "run") []
     ∷ on_log (codes "why") (word_rule (codes "EVENT") ∷ maybe_rule (codes "TO") ∷ [])
     ∷ on_log (codes "repairs") []
     ∷ on_log (codes "records") []
-    ∷ on_log (codes "steps") []
+    ∷ on_log (codes "steps") (option_rule (codes "plan") ∷ [])
     ∷ on_log (codes "bounds") []
     ∷ on_log (codes "check") (many_rule (codes "TIME") ∷ [])
     ∷ on_log (codes "rehearse") (word_rule (codes "NOW") ∷ choice_rules)
-    ∷ on_log (codes "draw") []
+    ∷ on_log (codes "draw") (option_rule (codes "plan") ∷ [])
     ∷ command (codes "explain") (maybe_rule (codes "CODE") ∷ [])
     ∷ on_log (codes "shell") []
     ∷ on_log (codes "serve") (word_rule (codes "ADDR") ∷ number_rule (codes "COUNT") 1 most_connections ∷ number_option_rule (codes "seconds") 1 most_seconds ∷ [])

@@ -71,12 +71,12 @@ IsLineOf (line.Why log event to) name rows =
     (name ≡ codes "why") × IsOnLog log rows × IsWord (codes "EVENT") event rows × IsOption (codes "TO") to rows
 IsLineOf (line.Repairs log) name rows = (name ≡ codes "repairs") × IsOnLog log rows
 IsLineOf (line.Records log) name rows = (name ≡ codes "records") × IsOnLog log rows
-IsLineOf (line.Steps log) name rows = (name ≡ codes "steps") × IsOnLog log rows
+IsLineOf (line.Steps log plan) name rows = (name ≡ codes "steps") × IsOnLog log rows × IsOption (codes "plan") plan rows
 IsLineOf (line.Bounds log) name rows = (name ≡ codes "bounds") × IsOnLog log rows
 IsLineOf (line.Check log times) name rows = (name ≡ codes "check") × IsOnLog log rows × IsWords (codes "TIME") times.items rows
 IsLineOf (line.Rehearse log now choice) name rows =
     (name ≡ codes "rehearse") × IsOnLog log rows × IsWord (codes "NOW") now rows × IsChoice choice rows
-IsLineOf (line.Draw log) name rows = (name ≡ codes "draw") × IsOnLog log rows
+IsLineOf (line.Draw log plan) name rows = (name ≡ codes "draw") × IsOnLog log rows × IsOption (codes "plan") plan rows
 IsLineOf (line.Explain code) name rows = (name ≡ codes "explain") × IsOption (codes "CODE") code rows
 IsLineOf (line.Shell log) name rows = (name ≡ codes "shell") × IsOnLog log rows
 IsLineOf (line.Serve log address count seconds) name rows =

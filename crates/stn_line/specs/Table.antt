@@ -15,6 +15,7 @@ read_rule (word.Time name help) = option_rule name.now
 read_rule (word.Seconds name help) = number_option_rule name.now 1 most_seconds
 read_rule (word.Flag name help) = flag_rule name.now
 read_rule (word.Steps name help) = option_rule name.now
+read_rule (word.Plan name help) = option_rule name.now
 read_rule (word.Owned name help) = options_rule name.now
 
 abbrev pub read_shape : Row → Shape

@@ -36,6 +36,8 @@ enum Word {
     Flag(&'static str, &'static str),
     // An option that names steps, `--name=STEPS`.
     Steps(&'static str, &'static str),
+    // An option that names a plan's file, `--name=PLAN`.
+    Plan(&'static str, &'static str),
     // An option that names steps of a site, `--name=SITE:STEPS`. It may be given any number of times.
     Owned(&'static str, &'static str),
 }
@@ -82,6 +84,11 @@ const NOW: Word = Word::Text("NOW", "The time now, in seconds after the origin")
 const STEPS: Word = Word::Steps(
     "steps",
     "Only events of these steps, as `2,4-6`, count as left; all, if not given",
+);
+
+const NAMES: Word = Word::Plan(
+    "plan",
+    "The file of a plan whose actions name the steps; for a bare or loosened plan",
 );
 
 const STARTS: Word = Word::Flag("starts", "Only starts count as left");
@@ -232,7 +239,7 @@ const COMMANDS: [Row; 25] = [
     Row {
         name: "steps",
         about: "Prints the steps of the plan: the action, the planned start and the duration of each",
-        words: &[LOG, SITE],
+        words: &[LOG, SITE, NAMES],
     },
     Row {
         name: "bounds",
@@ -259,7 +266,7 @@ const COMMANDS: [Row; 25] = [
     Row {
         name: "draw",
         about: "Draws the plan as a picture (SVG): the window of each event, or the conflict",
-        words: &[LOG, SITE],
+        words: &[LOG, SITE, NAMES],
     },
     Row {
         name: "explain",
@@ -371,6 +378,10 @@ fn argument<'a>(alloc: Global, word: &Word) -> Arg<'a>
         Word::Steps(name, help) => Arg::new(alloc, name)
             .long(name)
             .value_name("STEPS")
+            .help(help),
+        Word::Plan(name, help) => Arg::new(alloc, name)
+            .long(name)
+            .value_name("PLAN")
             .help(help),
         Word::Owned(name, help) => Arg::new(alloc, name)
             .long(name)

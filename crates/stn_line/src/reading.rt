@@ -67,17 +67,13 @@ fn command<'a>(alloc: Global, name: &str, words: &ArgMatches<'a>) -> Result<Line
         "records" => Ok(Line::Records {
             log: site_log(words),
         }),
-        "steps" => Ok(Line::Steps {
-            log: site_log(words),
-        }),
+        "steps" => Ok(steps(words)),
         "bounds" => Ok(Line::Bounds {
             log: site_log(words),
         }),
         "check" => check(alloc, words),
         "rehearse" => Ok(rehearse(words)),
-        "draw" => Ok(Line::Draw {
-            log: site_log(words),
-        }),
+        "draw" => Ok(draw(words)),
         "explain" => Ok(explain(words)),
         "shell" => Ok(Line::Shell {
             log: site_log(words),
@@ -224,6 +220,16 @@ fn why<'a>(words: &ArgMatches<'a>) -> Line<'a>
     }
 }
 
+fn steps<'a>(words: &ArgMatches<'a>) -> Line<'a>
+    requires { HasWords (codes "steps") (rows_of (found_of words.now)) }
+    ensures { IsLineOf result (codes "steps") (rows_of (found_of words.now)) }
+{
+    Line::Steps {
+        log: site_log(words),
+        plan: option(words, "plan"),
+    }
+}
+
 fn check<'a>(alloc: Global, words: &ArgMatches<'a>) -> Result<Line<'a>, AllocError>
     requires { HasWords (codes "check") (rows_of (found_of words.now)) }
     ensures { IfOk result (λ line. IsLineOf line (codes "check") (rows_of (found_of words.now))) }
@@ -243,6 +249,16 @@ fn rehearse<'a>(words: &ArgMatches<'a>) -> Line<'a>
         log: site_log(words),
         now: word(words, "NOW"),
         choice: choice(words),
+    }
+}
+
+fn draw<'a>(words: &ArgMatches<'a>) -> Line<'a>
+    requires { HasWords (codes "draw") (rows_of (found_of words.now)) }
+    ensures { IsLineOf result (codes "draw") (rows_of (found_of words.now)) }
+{
+    Line::Draw {
+        log: site_log(words),
+        plan: option(words, "plan"),
     }
 }
 

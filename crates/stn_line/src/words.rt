@@ -117,9 +117,10 @@ pub enum Line<'a> {
     Records {
         log: SiteLog<'a>,
     },
-    /// Tells which steps the plan has.
+    /// Tells which steps the plan has; those of a bare plan by the names of a plan's file, if one is given.
     Steps {
         log: SiteLog<'a>,
+        plan: Option<&'a str>,
     },
     /// Tells which bounds count.
     Bounds {
@@ -136,9 +137,10 @@ pub enum Line<'a> {
         now: &'a str,
         choice: EventChoice<'a>,
     },
-    /// Draws every event's window, or a cycle of bounds that contradict each other.
+    /// Draws every event's window, or a cycle of bounds that contradict each other; beside it the steps, as `Steps` tells them.
     Draw {
         log: SiteLog<'a>,
+        plan: Option<&'a str>,
     },
     /// Explains a refusal or a fault, by the number or the word that is printed for it; where none is given, lists all.
     Explain {

@@ -22,23 +22,11 @@ site_log-requires-in-records-clause-log c = (subst (λ name. HasWords name (rows
 pub site_log-requires-in-records-clause-site : goal.site_log-requires-in-records-clause-site
 site_log-requires-in-records-clause-site c = (subst (λ name. HasWords name (rows_of (found_of c.args.words.now))) c.in-records.is c.requires).1.0
 
-pub site_log-requires-in-steps-clause-log : goal.site_log-requires-in-steps-clause-log
-site_log-requires-in-steps-clause-log c = (subst (λ name. HasWords name (rows_of (found_of c.args.words.now))) c.in-steps.is c.requires).0
-
-pub site_log-requires-in-steps-clause-site : goal.site_log-requires-in-steps-clause-site
-site_log-requires-in-steps-clause-site c = (subst (λ name. HasWords name (rows_of (found_of c.args.words.now))) c.in-steps.is c.requires).1.0
-
 pub site_log-requires-in-bounds-clause-log : goal.site_log-requires-in-bounds-clause-log
 site_log-requires-in-bounds-clause-log c = (subst (λ name. HasWords name (rows_of (found_of c.args.words.now))) c.in-bounds.is c.requires).0
 
 pub site_log-requires-in-bounds-clause-site : goal.site_log-requires-in-bounds-clause-site
 site_log-requires-in-bounds-clause-site c = (subst (λ name. HasWords name (rows_of (found_of c.args.words.now))) c.in-bounds.is c.requires).1.0
-
-pub site_log-requires-in-draw-clause-log : goal.site_log-requires-in-draw-clause-log
-site_log-requires-in-draw-clause-log c = (subst (λ name. HasWords name (rows_of (found_of c.args.words.now))) c.in-draw.is c.requires).0
-
-pub site_log-requires-in-draw-clause-site : goal.site_log-requires-in-draw-clause-site
-site_log-requires-in-draw-clause-site c = (subst (λ name. HasWords name (rows_of (found_of c.args.words.now))) c.in-draw.is c.requires).1.0
 
 pub send-requires : goal.send-requires
 send-requires c =
