@@ -11,10 +11,13 @@ use Rattle.stn_site.specs.Lines.{line}
 abbrev pub words_text : List ℕ → List (List ℕ) → List ℕ
 words_text action arguments = action ++ flat_map (λ argument. codes " " ++ argument) arguments
 
--- `<number> <action> <argument> .. <start> <duration>`, the words as the plan's text spells them
+-- `<number> <action> <argument> ..`, the words as the plan's text spells them
+abbrev pub name_text : ℕ → PlannedStep → List ℕ
+name_text number step = decimal number ++ codes " " ++ words_text step.action step.args
+
+-- the same, and ` <start> <duration>`
 abbrev pub step_line : ℕ → PlannedStep → ℤ → List ℕ
-step_line number step duration =
-    line (decimal number ++ codes " " ++ words_text step.action step.args ++ codes " " ++ printed step.time ++ codes " " ++ printed duration)
+step_line number step duration = line (name_text number step ++ codes " " ++ printed step.time ++ codes " " ++ printed duration)
 
 -- the lines of the steps after so many others; steps are counted from 1, and each lasts as long as it is said of the number of those before it
 abbrev pub step_lines : (ℕ → ℤ) → ℕ → List PlannedStep → List ℕ
@@ -24,6 +27,15 @@ step_lines duration before (step ∷ steps) = step_line (before + 1) step (durat
 -- the steps of a plan text, in the order of its lines
 abbrev pub planned_steps : List ℕ → List PlannedStep
 planned_steps plan = result_unwrap_or (plan_of plan) []
+
+-- the names of the steps after so many others, each in a line
+abbrev pub name_lines : ℕ → List PlannedStep → List ℕ
+name_lines before [] = []
+name_lines before (step ∷ steps) = line (name_text (before + 1) step) ++ name_lines (before + 1) steps
+
+-- the names of the steps of a plan text
+abbrev pub names_text : List ℕ → List ℕ
+names_text plan = name_lines 0 (planned_steps plan)
 
 -- a line for each step from 1 on: its number; in a domain also its action, its planned start and the duration in the domain
 abbrev pub steps_text : PlanSource → List ℕ

@@ -14,7 +14,7 @@ pub use laws::{
 pub use ready::{print_ready, print_ready_among};
 pub use ready_event::ReadyEvent;
 pub use records::print_records;
-pub use steps::print_steps;
+pub use steps::{names_of, print_steps};
 pub use why::{WhyFault, print_why};
 
 mod answer;

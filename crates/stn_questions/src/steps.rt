@@ -5,7 +5,7 @@ ghost use Rattle.stn_plan.specs.Views.{planned_step, word_of};
 ghost use Rattle.stn_lift.specs.PlanSource.{files};
 ghost use Rattle.stn_site.specs.Lines.{line};
 ghost use Rattle.stn_questions.specs.Durations.{least_of, AreDurations};
-ghost use Rattle.stn_questions.specs.Steps.{words_text, step_line, step_lines, planned_steps, steps_text};
+ghost use Rattle.stn_questions.specs.Steps.{words_text, name_text, name_lines, step_line, step_lines, planned_steps, steps_text};
 
 use std::alloc::{AllocError, Allocator};
 use stn_lift::{Base, Source};
@@ -112,14 +112,49 @@ fn append_step_line<'a, A: Allocator, B: Allocator>(
 ) -> Result<(), Memory>
     ensures { OnOk result (out.new.items ≡ out.old.items ++ step_line number (planned_step step.now) duration) }
 {
-    append_decimal(out, b"", number)?;
-    out.extend_from_slice(b" ")?;
-    append_words(step.action, &step.args, out)?;
+    append_name(number, step, out)?;
     out.extend_from_slice(b" ")?;
     step.time.print(out)?;
     out.extend_from_slice(b" ")?;
     duration.print(out)?;
     out.extend_from_slice(b"\n")
+}
+
+/// The names of the steps of a plan: for each, from 1 on, a line with its number, its action and the arguments as the
+/// plan's text spells them.
+pub fn names_of<'a, A: Allocator + Copy>(alloc: A, plan: &Plan<'a, A>) -> Result<Vec<u8, A>, Memory>
+    ensures { IfOk result (λ names. names.items ≡ name_lines 0 plan.now.steps) }
+{
+    let mut names = Vec::new(alloc);
+    append_name_lines(plan.steps(), &mut names)?;
+    Ok(names)
+}
+
+fn append_name_lines<'a, A: Allocator, B: Allocator>(
+    steps: &[Step<'a, A>],
+    out: &mut Vec<u8, B>,
+) -> Result<(), Memory>
+    requires { length steps.now ≤ most_steps }
+    ensures { OnOk result (out.new.items ≡ out.old.items ++ name_lines 0 (map planned_step steps.now)) }
+{
+    for (before, step) in steps.iter().enumerate() {
+        append_name(before as u16 + 1, step, out)?;
+        out.extend_from_slice(b"\n")?;
+    }
+    Ok(())
+}
+
+// Appends the number of a step, its action and its arguments.
+fn append_name<'a, A: Allocator, B: Allocator>(
+    number: u16,
+    step: &Step<'a, A>,
+    out: &mut Vec<u8, B>,
+) -> Result<(), Memory>
+    ensures { OnOk result (out.new.items ≡ out.old.items ++ name_text number (planned_step step.now)) }
+{
+    append_decimal(out, b"", number)?;
+    out.extend_from_slice(b" ")?;
+    append_words(step.action, &step.args, out)
 }
 
 // Appends an action and its arguments, with a space before each of these.
