@@ -8,7 +8,6 @@ use Rattle.stn_picture.specs.{declared.span.Span.Span, Axis.later, Axis.furthest
 use Rattle.stn_lift.specs.PlanSource.{PlanSource, events_of}
 use Rattle.stn_records.specs.Content.{Content}
 use Rattle.stn_site.specs.{Bounds.all_bounds, Report.is_done}
-use Rattle.stn_questions.specs.Steps.{steps_text}
 
 -- one span more
 pub one_more_span : (bounds : List Difference) (done : ℕ → Bool) (n event : ℕ) (earliest latest : ℤ) (spans : List Span)
@@ -40,14 +39,14 @@ text_grown f items place item front old new within is was grown =
     ∙ ap (λ last. flat_map f (take place items) ++ last) (append-nil (f item))))
 
 -- the picture of bounds with a schedule
-pub windows_picture : (source : PlanSource) (state : Content) (spans seen : List Span) (text : List ℕ)
+pub windows_picture : (steps : List ℕ) (source : PlanSource) (state : Content) (spans seen : List Span) (text : List ℕ)
     → HasSchedule (all_bounds source state) → AreSpans (all_bounds source state) (is_done state) (events_of source) spans → seen ≡ spans
-    → text ≡ windows_text (rows_end (events_of source)) (gap_of seen) (steps_text source) seen → IsWindowsPicture source state text
-windows_picture source state spans seen text possible windows is whole = record {
+    → text ≡ windows_text (rows_end (events_of source)) (gap_of seen) steps seen → IsWindowsPicture steps source state text
+windows_picture steps source state spans seen text possible windows is whole = record {
   possible = possible;
   spans = spans;
   windows = windows;
-  whole = whole ∙ ap (λ drawn. windows_text (rows_end (events_of source)) (gap_of drawn) (steps_text source) drawn) is;
+  whole = whole ∙ ap (λ drawn. windows_text (rows_end (events_of source)) (gap_of drawn) steps drawn) is;
 }
 
 pub later_below : (one other most : ℕ) → one < most → other < most → later one other < most

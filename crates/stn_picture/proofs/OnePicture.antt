@@ -8,7 +8,6 @@ use Rattle.stn_lift.specs.PlanSource.{PlanSource, base_bounds, events_of}
 use Rattle.stn_records.specs.{Id.SiteCounter, declared.record.Record.Record, Content.Content, Content.live_of}
 use Rattle.stn_conflict.specs.{declared.links.Link.Link, Arcs.weight_of, Arcs.IsNegativeCycle, Named.IsNamedCycle}
 use Rattle.stn_site.specs.{Bounds.bounds_of, Bounds.all_bounds, Lines.conflict_line, Lines.link_line, Report.says_done, Report.is_done, Report.IsConflictPart, Report.IsReport, Report.heading}
-use Rattle.stn_questions.specs.Steps.{steps_text}
 use Rattle.stn_picture.specs.{declared.span.Span.Span, Axis.gap_of, Spans.AreSpans}
 use Rattle.stn_picture.specs.Picture.{rows_end, windows_text, cycle_height, cycle_text, IsWindowsPicture, IsCyclePicture, IsPicture}
 
@@ -41,21 +40,21 @@ one_conflict unique source state text other p q =
     (unique source state (heading source state ++ text) (heading source state ++ other)
     (record { rest = text; part = inr p; whole = refl }) (record { rest = other; part = inr q; whole = refl }))
 
--- a plan and a state have one picture
-pub one_picture : OneReport → Refutes → (source : PlanSource) (state : Content) (text other : List ℕ) → IsPicture source state text → IsPicture source state other → text ≡ other
-one_picture reports refutes source state text other p q =
+-- a plan and a state have one picture with given lines of the steps
+pub one_picture : OneReport → Refutes → (steps : List ℕ) (source : PlanSource) (state : Content) (text other : List ℕ) → IsPicture steps source state text → IsPicture steps source state other → text ≡ other
+one_picture reports refutes steps source state text other p q =
     ⊎_elim
-    (λ (mine : IsWindowsPicture source state text). ⊎_elim
-    (λ (theirs : IsWindowsPicture source state other).
+    (λ (mine : IsWindowsPicture steps source state text). ⊎_elim
+    (λ (theirs : IsWindowsPicture steps source state other).
     mine.whole
-    ∙ ap (λ spans. windows_text (rows_end (events_of source)) (gap_of spans) (steps_text source) spans)
+    ∙ ap (λ spans. windows_text (rows_end (events_of source)) (gap_of spans) steps spans)
     (one_spans (all_bounds source state) (is_done state) (events_of source) mine.spans theirs.spans mine.possible mine.windows theirs.windows)
     ∙ sym theirs.whole)
-    (λ (theirs : IsCyclePicture source state other). absurd (refutes (all_bounds source state) theirs.part.links theirs.part.negative mine.possible)) q)
-    (λ (mine : IsCyclePicture source state text). ⊎_elim
-    (λ (theirs : IsWindowsPicture source state other). absurd (refutes (all_bounds source state) mine.part.links mine.part.negative theirs.possible))
-    (λ (theirs : IsCyclePicture source state other).
-    mine.whole ∙ ap (λ conflict. cycle_text (cycle_height (events_of source) conflict) (steps_text source) conflict) (one_conflict reports source state mine.conflict theirs.conflict mine.part theirs.part) ∙ sym theirs.whole) q)
+    (λ (theirs : IsCyclePicture steps source state other). absurd (refutes (all_bounds source state) theirs.part.links theirs.part.negative mine.possible)) q)
+    (λ (mine : IsCyclePicture steps source state text). ⊎_elim
+    (λ (theirs : IsWindowsPicture steps source state other). absurd (refutes (all_bounds source state) mine.part.links mine.part.negative theirs.possible))
+    (λ (theirs : IsCyclePicture steps source state other).
+    mine.whole ∙ ap (λ conflict. cycle_text (cycle_height (events_of source) conflict) steps conflict) (one_conflict reports source state mine.conflict theirs.conflict mine.part theirs.part) ∙ sym theirs.whole) q)
     p
 
 module _ (source : PlanSource) (s t : Content) (live : live_of s ≡ live_of t) where
@@ -69,13 +68,13 @@ module _ (source : PlanSource) (s t : Content) (live : live_of s ≡ live_of t) 
   }
 
   -- states with the same live records have the same picture
-  pub counted_picture : (text : List ℕ) → IsPicture source s text → IsPicture source t text
-  counted_picture text p = ⊎_elim
-      (λ (drawn : IsWindowsPicture source s text). inl (record {
+  pub counted_picture : (steps text : List ℕ) → IsPicture steps source s text → IsPicture steps source t text
+  counted_picture steps text p = ⊎_elim
+      (λ (drawn : IsWindowsPicture steps source s text). inl (record {
         possible = subst (λ (records : Entries). HasSchedule (bounds_with source records)) live drawn.possible;
         spans = drawn.spans;
         windows = subst (λ (records : Entries). AreSpans (bounds_with source records) (says_done records) (events_of source) drawn.spans) live drawn.windows;
         whole = drawn.whole;
       }))
-      (λ (drawn : IsCyclePicture source s text). inr (record { conflict = drawn.conflict; part = same_conflict drawn.conflict drawn.part; whole = drawn.whole }))
+      (λ (drawn : IsCyclePicture steps source s text). inr (record { conflict = drawn.conflict; part = same_conflict drawn.conflict drawn.part; whole = drawn.whole }))
       p

@@ -6,7 +6,6 @@ use Rattle.stn_net.specs.Schedule.{HasSchedule}
 use Rattle.stn_lift.specs.PlanSource.{PlanSource, events_of}
 use Rattle.stn_records.specs.Content.{Content}
 use Rattle.stn_site.specs.{Bounds.all_bounds, Lines.window_line, Report.is_done, Report.IsConflictPart}
-use Rattle.stn_questions.specs.Steps.{steps_text}
 use Rattle.stn_picture.specs.{declared.span.Span.Span, Escape.escaped, Axis.gap_of, Axis.line_end, Axis.later, Spans.AreSpans}
 
 -- each event has a row of 20 pixels, the first below the top row of marks: where the rows of so many events end
@@ -97,19 +96,19 @@ cycle_text height steps conflict = head_text height ++ labels_text 30 (codes "</
 abbrev pub cycle_height : ℕ → List ℕ → ℕ
 cycle_height events conflict = later (10 * events) (length conflict) + 100
 
--- the text is the picture of bounds that have a schedule
-pub record IsWindowsPicture (source : PlanSource) (state : Content) (text : List ℕ) : Type 0 where
+-- the text is the picture of bounds that have a schedule, with these lines of the steps
+pub record IsWindowsPicture (steps : List ℕ) (source : PlanSource) (state : Content) (text : List ℕ) : Type 0 where
   pub possible : HasSchedule (all_bounds source state)
   pub spans : List Span
   pub windows : AreSpans (all_bounds source state) (is_done state) (events_of source) spans
-  pub whole : text ≡ windows_text (rows_end (events_of source)) (gap_of spans) (steps_text source) spans
+  pub whole : text ≡ windows_text (rows_end (events_of source)) (gap_of spans) steps spans
 
--- the text is the picture of the conflict that the report has
-pub record IsCyclePicture (source : PlanSource) (state : Content) (text : List ℕ) : Type 0 where
+-- the text is the picture of the conflict that the report has, with these lines
+pub record IsCyclePicture (steps : List ℕ) (source : PlanSource) (state : Content) (text : List ℕ) : Type 0 where
   pub conflict : List ℕ
   pub part : IsConflictPart source state conflict
-  pub whole : text ≡ cycle_text (cycle_height (events_of source) conflict) (steps_text source) conflict
+  pub whole : text ≡ cycle_text (cycle_height (events_of source) conflict) steps conflict
 
--- the text is the picture of a plan and a state
-abbrev pub IsPicture : PlanSource → Content → List ℕ → Type 0
-IsPicture source state text = IsWindowsPicture source state text ⊎ IsCyclePicture source state text
+-- the text is the picture of a plan and a state, with these lines of the steps
+abbrev pub IsPicture : List ℕ → PlanSource → Content → List ℕ → Type 0
+IsPicture steps source state text = IsWindowsPicture steps source state text ⊎ IsCyclePicture steps source state text

@@ -13,21 +13,22 @@ use stn_conflict::negative_cycle_is_conflict;
 use stn_records::counts_same;
 use stn_site::one_report;
 
-/// The law that a plan and a state have one picture; it does nothing.
+/// The law that a plan and a state have one picture with given lines of the steps; it does nothing.
 pub fn one_picture()
-    ensures { (source : PlanSource) → (state : Content) → (text other : List ℕ) → IsPicture source state text → IsPicture source state other → text ≡ other }
+    ensures { (steps : List ℕ) → (source : PlanSource) → (state : Content) → (text other : List ℕ)
+        → IsPicture steps source state text → IsPicture steps source state other → text ≡ other }
 {
     one_report();
     negative_cycle_is_conflict();
 }
 
 /// The law that replicas of one plan that took the same additions and withdrawals, by whatever calls, in
-/// any order, more than once or merged in any grouping, have the same picture. An amendment is the
-/// addition of its record and the withdrawal of the id that it replaces. It does nothing.
+/// any order, more than once or merged in any grouping, have the same picture with given lines of the steps.
+/// An amendment is the addition of its record and the withdrawal of the id that it replaces. It does nothing.
 pub fn same_pictures()
     ensures { (ours theirs : List Accepted) → (one other : Held) → CameBy ours one → CameBy theirs other → TookSame ours theirs
-        → one.source ≡ other.source → (text last : List ℕ)
-        → IsPicture one.source one.state text → IsPicture other.source other.state last → text ≡ last }
+        → one.source ≡ other.source → (steps text last : List ℕ)
+        → IsPicture steps one.source one.state text → IsPicture steps other.source other.state last → text ≡ last }
 {
     counts_same();
     one_picture();

@@ -4,7 +4,6 @@ ghost use Rattle.stn_lift.specs.PlanSource.{events_of};
 ghost use Rattle.stn_site.specs.Bounds.{all_bounds};
 ghost use Rattle.stn_site.specs.Report.{is_done};
 ghost use Rattle.stn_site.specs.Windows.{AreWindows};
-ghost use Rattle.stn_questions.specs.Steps.{steps_text};
 ghost use Rattle.stn_picture.specs.Axis.{gap_of};
 ghost use Rattle.stn_picture.specs.Spans.{AreSpans};
 ghost use Rattle.stn_picture.specs.Picture.{rows_end, windows_text, cycle_text, IsPicture, IsWindowsPicture, IsCyclePicture};
@@ -16,70 +15,72 @@ use crate::windows::{
 };
 use std::alloc::Allocator;
 use stn_net::Event;
-use stn_questions::print_steps;
 use stn_site::SitePlan;
 use stn_time::{Memory, Ms};
 
 /// Appends the picture of a plan as SVG: a row for each step, and the windows of its start and of its
-/// end on one line of time, in seconds; where all bounds have no schedule, the links of the conflict. It
-/// depends on the plan and the state alone. If memory runs out, it appends nothing.
+/// end on one line of time, in seconds; where all bounds have no schedule, the links of the conflict. Beside
+/// them stand the lines that are given for the steps. The picture depends on these, on the plan and on the
+/// state alone. If memory runs out, it appends nothing.
 pub fn print_picture<A: Allocator + Copy, B: Allocator>(
     plan: &SitePlan<A>,
+    steps: &[u8],
     out: &mut Vec<u8, B>,
 ) -> Result<(), Memory>
-    ensures drawn { OnOk result ((text : List ℕ) × IsPicture plan.now.source plan.now.state text × (out.new.items ≡ out.old.items ++ text)) }
+    ensures drawn { OnOk result ((text : List ℕ) × IsPicture steps.now plan.now.source plan.now.state text × (out.new.items ≡ out.old.items ++ text)) }
     ensures kept { OnErr result (out.new.items ≡ out.old.items) }
 {
-    let text = text_of(plan)?;
+    let text = text_of(plan, steps)?;
     out.extend_from_slice(&text)
 }
 
-fn text_of<A: Allocator + Copy>(plan: &SitePlan<A>) -> Result<Vec<u8, A>, Memory>
-    ensures { IfOk result (λ text. IsPicture plan.now.source plan.now.state text.items) }
+fn text_of<A: Allocator + Copy>(plan: &SitePlan<A>, steps: &[u8]) -> Result<Vec<u8, A>, Memory>
+    ensures { IfOk result (λ text. IsPicture steps.now plan.now.source plan.now.state text.items) }
 {
     match plan.windows()? {
-        Some(windows) => drawn_of(plan, &windows),
-        None => cycle_of(plan),
+        Some(windows) => drawn_of(plan, steps, &windows),
+        None => cycle_of(plan, steps),
     }
 }
 
 // The picture of these windows, which are those of all bounds.
 fn drawn_of<A: Allocator + Copy>(
     plan: &SitePlan<A>,
+    steps: &[u8],
     windows: &[(Ms, Ms)],
 ) -> Result<Vec<u8, A>, Memory>
     requires { AreWindows (all_bounds plan.now.source plan.now.state) (events_of plan.now.source) windows.now }
-    ensures { IfOk result (λ text. IsWindowsPicture plan.now.source plan.now.state text.items) }
+    ensures { IfOk result (λ text. IsWindowsPicture steps.now plan.now.source plan.now.state text.items) }
 {
     let spans = spans_of(plan, windows)?;
-    windows_of(plan, &spans)
+    windows_of(plan, steps, &spans)
 }
 
 // The picture of the conflict.
-fn cycle_of<A: Allocator + Copy>(plan: &SitePlan<A>) -> Result<Vec<u8, A>, Memory>
+fn cycle_of<A: Allocator + Copy>(plan: &SitePlan<A>, steps: &[u8]) -> Result<Vec<u8, A>, Memory>
     requires { ¬ HasSchedule (all_bounds plan.now.source plan.now.state) }
-    ensures { IfOk result (λ text. IsCyclePicture plan.now.source plan.now.state text.items) }
+    ensures { IfOk result (λ text. IsCyclePicture steps.now plan.now.source plan.now.state text.items) }
 {
-    let mut steps = Vec::new(plan.alloc());
-    print_steps(plan, &mut steps)?;
     let mut conflict = Vec::new(plan.alloc());
     plan.report_conflict(&mut conflict)?;
     let height = later(10 * u64::from(plan.base().events()), conflict.len() as u64) + 100;
     let mut text = Vec::new(plan.alloc());
-    append_cycle(&mut text, height, &steps, &conflict)?;
+    append_cycle(&mut text, height, steps, &conflict)?;
     Ok(text)
 }
 
 // The picture of the steps and of these windows.
-fn windows_of<A: Allocator + Copy>(plan: &SitePlan<A>, spans: &[Span]) -> Result<Vec<u8, A>, Memory>
+fn windows_of<A: Allocator + Copy>(
+    plan: &SitePlan<A>,
+    steps: &[u8],
+    spans: &[Span],
+) -> Result<Vec<u8, A>, Memory>
     ensures { IfOk result (λ text. text.items
-        ≡ windows_text (rows_end (events_of plan.now.source)) (gap_of spans.now) (steps_text plan.now.source) spans.now) }
+        ≡ windows_text (rows_end (events_of plan.now.source)) (gap_of spans.now) steps.now spans.now) }
 {
-    let mut steps = Vec::new(plan.alloc());
-    print_steps(plan, &mut steps)?;
     let height = 20 * u64::from(plan.base().events()) + 30;
     let mut text = Vec::new(plan.alloc());
-    append_windows(&mut text, height, &steps, spans)?;
+    append_windows(&mut text, height, steps, spans)?;
     Ok(text)
 }
 

@@ -6,7 +6,7 @@ use Rattle.stn_picture.proofs.OnePicture.{counted_picture}
 use Rattle.stn_picture.proofs.laws.same_pictures.Goals as goal
 
 pub returns : goal.returns
-returns c = λ ours theirs one other p q same plan text last first second.
-    c.one_picture.ensures other.source other.state text last
-    (counted_picture other.source one.state other.state (c.counts_same.ensures.live one.state other.state (same_counts ours theirs one other p q same)) text
-    (subst (λ (source : PlanSource). IsPicture source one.state text) plan first)) second
+returns c = λ ours theirs one other p q same plan steps text last first second.
+    c.one_picture.ensures steps other.source other.state text last
+    (counted_picture other.source one.state other.state (c.counts_same.ensures.live one.state other.state (same_counts ours theirs one other p q same)) steps text
+    (subst (λ (source : PlanSource). IsPicture steps source one.state text) plan first)) second

@@ -4,5 +4,5 @@ use Rattle.stn_picture.proofs.picture.drawn_of.Goals as goal
 
 pub returns : goal.returns
 returns g c =
-    IfOk-weaker c.windows_of.result _ _ (λ text drawn. windows_picture c.args.plan.now.source c.args.plan.now.state c.in_ok-spans.spans.items c.deref.result.now text.items
+    IfOk-weaker c.windows_of.result _ _ (λ text drawn. windows_picture c.args.steps.now c.args.plan.now.source c.args.plan.now.state c.in_ok-spans.spans.items c.deref.result.now text.items
     c.requires.possible c.in_ok-spans.ensures c.deref.ensures.value drawn) c.windows_of.ensures

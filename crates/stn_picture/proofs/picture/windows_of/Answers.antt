@@ -1,6 +1,5 @@
 use Rattle.std.proofs.Common.{◌++◌, ap, ◌∙◌}
 use Rattle.stn_lift.specs.PlanSource.{events_of}
-use Rattle.stn_questions.specs.Steps.{steps_text}
 use Rattle.stn_picture.specs.{Axis.gap_of, Picture.rows_end, Picture.windows_text}
 use Rattle.stn_picture.proofs.picture.windows_of.Goals as goal
 
@@ -8,6 +7,5 @@ pub returns : goal.returns
 returns g c =
     let spans = c.args.spans.now in
     let events = c.from.ensures ∙ c.events.ensures.value ∙ ap events_of c.base.ensures in
-    let steps = c.deref.ensures.value ∙ c.in_ok-print_steps.ensures.printed ∙ ap (λ front. front ++ steps_text c.args.plan.now.source) c.new-steps.ensures.items in
     c.in_ok-append_windows.ensures
-    ∙ (λ i. c.new-text.ensures.items i ++ windows_text (rows_end (events i)) (gap_of spans) (steps i) spans)
+    ∙ (λ i. c.new-text.ensures.items i ++ windows_text (rows_end (events i)) (gap_of spans) c.args.steps.now spans)
