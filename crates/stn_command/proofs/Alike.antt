@@ -7,7 +7,7 @@ use Rattle.stn_windows.specs.declared.answers.RehearseFault.TheVariants as rehea
 use Rattle.stn_lift.specs.PlanSource.{PlanSource}
 use Rattle.stn_records.specs.Content.{Content}
 use Rattle.stn_site.specs.{Held.Held, Held.holding_state, Names.broken_bound, Report.IsReport, Report.done_events}
-use Rattle.stn_questions.specs.Answer.{IsAnswer}
+use Rattle.stn_questions.specs.{Answer.IsAnswer, Steps.steps_text}
 use Rattle.stn_picture.specs.Picture.{IsPicture}
 use Rattle.stn_repair.specs.Text.{IsRepairsText}
 use Rattle.stn_command.specs.Dispatch.{done_or_not_chosen, check_text, IsOverdueAt, IsRefusedRehearsal}
@@ -29,7 +29,7 @@ module _ (one other : Held) (plan : one.source ≡ other.source) (state : one.st
   said_alike (among outlook.Rehearse now choice) text = along (λ s c. IsForeseen outlook.Rehearse (holding_state s c) (done_or_not_chosen choice s c) now text)
   said_alike (ask question) text = along (λ s c. IsAnswer s c question text)
   said_alike repairs text = along (λ s c. IsRepairsText s c text)
-  said_alike draw text = along (λ s c. IsPicture s c text)
+  said_alike draw text = along (λ s c. IsPicture (steps_text s) s c text)
 
   pub refused_alike : (query : Query) (cause : Option Failure) → IsQueryRefusal query one cause → IsQueryRefusal query other cause
   refused_alike report cause is = is

@@ -5,12 +5,14 @@ use Rattle.stn_refusal.specs.{declared.failure.Failure.Failure, Refusals.refused
 use Rattle.stn_lift.specs.PlanSource.{PlanSource}
 use Rattle.stn_records.specs.Content.{Content}
 use Rattle.stn_site.specs.{Held.Held, Bounds.all_bounds, Report.IsReport, Report.done_events}
-use Rattle.stn_questions.specs.{declared.asked.Question.Question, Answer.IsAnswer}
+use Rattle.stn_questions.specs.{declared.asked.Question.Question, Answer.IsAnswer, Steps.steps_text, Steps.names_text}
 use Rattle.stn_picture.specs.Picture.{IsPicture}
 use Rattle.stn_repair.specs.Text.{IsRepairsText}
 use Rattle.stn_command.specs.Query.{Query, report, check, next, ready, rehearse, among, ask, repairs, draw, IsSaid, IsForeseen, IsRehearseRefusal, IsOutlookRefusal, IsQuestionRefusal, IsQueryRefusal}
 use Rattle.stn_command.specs.{Dispatch.done_or_not_chosen, declared.queries.Outlook.Outlook}
 use Rattle.stn_command.specs.declared.queries.Outlook.TheVariants as outlook
+use Rattle.stn_command.specs.{Named.IsNamed, declared.names.Shown.Shown}
+use Rattle.stn_command.specs.declared.names.Shown.TheVariants as shown
 use Rattle.stn_net.specs.{Failures.bound_failure, declared.bound.BoundFault.TheVariants.NoEvent}
 use Rattle.stn_command.proofs.Foresight.{one_next_text, one_ready_text, one_rest_text, one_overdue}
 
@@ -19,10 +21,13 @@ one_foreseen outlook.Next held done now text other p q = one_next_text held.sour
 one_foreseen outlook.Ready held done now text other p q = one_ready_text (all_bounds held.source held.state) done now text other p q
 one_foreseen outlook.Rehearse held done now text other p q = one_rest_text held.source held.state done now text other p q
 
+abbrev pub OnePicture : Type 0
+OnePicture = (steps : List ℕ) → (source : PlanSource) → (state : Content) → (text other : List ℕ) → IsPicture steps source state text → IsPicture steps source state other → text ≡ other
+
 pub one_text : ((source : PlanSource) → (state : Content) → (text other : List ℕ) → IsReport source state text → IsReport source state other → text ≡ other)
     → ((source : PlanSource) → (state : Content) → (question : Question) → (text other : List ℕ) → IsAnswer source state question text → IsAnswer source state question other → text ≡ other)
     → ((source : PlanSource) → (state : Content) → (text other : List ℕ) → IsRepairsText source state text → IsRepairsText source state other → text ≡ other)
-    → ((source : PlanSource) → (state : Content) → (text other : List ℕ) → IsPicture source state text → IsPicture source state other → text ≡ other)
+    → OnePicture
     → (query : Query) (held : Held) (text other : List ℕ) → IsSaid query held text → IsSaid query held other → text ≡ other
 one_text reports answers mends pictures report held text other p q = reports held.source held.state text other p q
 one_text reports answers mends pictures (check times) held text other p q = p ∙ sym q
@@ -33,7 +38,12 @@ one_text reports answers mends pictures (among outlook now choice) held text oth
     one_foreseen outlook held (done_or_not_chosen choice held.source held.state) now text other p q
 one_text reports answers mends pictures (ask question) held text other p q = answers held.source held.state question text other p q
 one_text reports answers mends pictures repairs held text other p q = mends held.source held.state text other p q
-one_text reports answers mends pictures draw held text other p q = pictures held.source held.state text other p q
+one_text reports answers mends pictures draw held text other p q = pictures (steps_text held.source) held.source held.state text other p q
+
+-- the same by the names that another plan's text gives
+pub one_named : OnePicture → (shown : Shown) (plan : List ℕ) (held : Held) (text other : List ℕ) → IsNamed shown plan held text → IsNamed shown plan held other → text ≡ other
+one_named pictures shown.Steps plan held text other p q = p ∙ sym q
+one_named pictures shown.Picture plan held text other p q = pictures (names_text plan) held.source held.state text other p q
 
 -- one test, and what stands against a query where it holds
 one_of : {P Q : Type 0} (found cause other : Option Failure) → ¬ (P × Q) → (P × (cause ≡ found)) ⊎ (Q × (cause ≡ None))

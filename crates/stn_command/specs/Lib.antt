@@ -4,3 +4,4 @@ pub mod Dispatch
 pub mod Query
 pub mod Steps
 pub mod Guarding
+pub mod Named

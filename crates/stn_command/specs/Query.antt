@@ -8,7 +8,7 @@ use Rattle.stn_net.specs.declared.bound.BoundFault.TheVariants.{NoEvent, SameEve
 use Rattle.stn_lift.specs.PlanSource.{events_of, steps_of}
 use Rattle.stn_site.specs.{Bounds.all_bounds, Held.Held, Names.broken_bound, Report.IsReport, Report.done_events}
 use Rattle.stn_replica.specs.Own.{is_within}
-use Rattle.stn_questions.specs.{declared.asked.Question.Question, Answer.IsAnswer, Answer.AsksOfNoEvent, Answer.AsksOfSameEvent, Ready.IsReadyWith}
+use Rattle.stn_questions.specs.{declared.asked.Question.Question, Answer.IsAnswer, Answer.AsksOfNoEvent, Answer.AsksOfSameEvent, Ready.IsReadyWith, Steps.steps_text}
 use Rattle.stn_picture.specs.Picture.{IsPicture}
 use Rattle.stn_repair.specs.Text.{IsRepairsText}
 use Rattle.stn_command.specs.{declared.queries.Query.Query as QueryOfCode, declared.queries.Choice.Choice as ChoiceOfCode, declared.queries.Outlook.Outlook, Words.no_such_word}
@@ -61,7 +61,7 @@ IsSaid (rehearse now) held text = IsForeseen outlook.Rehearse held (done_events 
 IsSaid (among outlook now choice) held text = IsForeseen outlook held (done_or_not_chosen choice held.source held.state) now text
 IsSaid (ask question) held text = IsAnswer held.source held.state question text
 IsSaid repairs held text = IsRepairsText held.source held.state text
-IsSaid draw held text = IsPicture held.source held.state text
+IsSaid draw held text = IsPicture (steps_text held.source) held.source held.state text
 
 -- why a check is refused: there is not one time for each event
 abbrev pub IsCheckRefusal : Held → List ℤ → Option Failure → Type 0

@@ -5,6 +5,8 @@ ghost use Rattle.stn_lift.specs.PlanSource.{PlanSource};
 ghost use Rattle.stn_records.specs.Content.{Content};
 ghost use Rattle.stn_site.specs.Report.{done_events};
 ghost use Rattle.stn_command.specs.Dispatch.{done_or_not_chosen};
+ghost use Rattle.stn_command.specs.Named.{IsNamed};
+ghost use Rattle.stn_command.specs.declared.names.Shown.{Shown};
 ghost use Rattle.stn_command.specs.Query.{Query, IsSaid, IsQueryRefusal};
 
 use stn_picture::one_picture;
@@ -12,10 +14,12 @@ use stn_questions::one_answer;
 use stn_repair::one_repairs_text;
 use stn_site::one_report;
 
-/// The law that what a site holds has one answer to each query, and one cause that refuses it or none; it
-/// does nothing.
+/// The law that what a site holds has one answer to each query, also by the names of another plan's steps, and one
+/// cause that refuses a query or none; it does nothing.
 pub fn one_said()
     ensures text { (query : Query) (held : Held) (text other : List ℕ) → IsSaid query held text → IsSaid query held other → text ≡ other }
+    ensures named { (shown : Shown) (plan : List ℕ) (held : Held) (text other : List ℕ)
+        → IsNamed shown plan held text → IsNamed shown plan held other → text ≡ other }
     ensures refusal { (query : Query) (held : Held) (cause other : Option Failure)
         → IsQueryRefusal query held cause → IsQueryRefusal query held other → cause ≡ other }
 {

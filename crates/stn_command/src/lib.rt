@@ -5,6 +5,7 @@
 pub use changes::{AskedBound, Change, Made, make_change};
 pub use guarding::print_guard;
 pub use laws::{among_all, one_said};
+pub use names::{Shown, say_named};
 pub use queries::{Choice, Outlook, Query, append_said, say};
 pub use steps::{read_owned, read_steps};
 pub use words::{no_such_word, read_event, read_id, read_time};
@@ -13,6 +14,7 @@ mod changes;
 mod dispatch;
 mod guarding;
 mod laws;
+mod names;
 mod queries;
 mod steps;
 mod words;

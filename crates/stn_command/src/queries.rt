@@ -15,7 +15,7 @@ use crate::words::no_such_word;
 use std::alloc::Allocator;
 use stn_net::BoundFault;
 use stn_picture::print_picture;
-use stn_questions::{Question, WhyFault, print_answer, print_ready_among};
+use stn_questions::{Question, WhyFault, print_answer, print_ready_among, print_steps};
 use stn_refusal::{Failure, Fault};
 use stn_repair::print_repairs;
 use stn_replica::{Own, Replica, StepRange};
@@ -320,7 +320,9 @@ fn repairs<A: Allocator + Copy>(plan: &SitePlan<A>) -> Result<Vec<u8, A>, Failur
 fn draw<A: Allocator + Copy>(plan: &SitePlan<A>) -> Result<Vec<u8, A>, Failure>
     ensures { Says draw plan.now result }
 {
+    let mut steps = Vec::new(plan.alloc());
+    print_steps(plan, &mut steps)?;
     let mut text = Vec::new(plan.alloc());
-    print_picture(plan, &mut text)?;
+    print_picture(plan, &steps, &mut text)?;
     Ok(text)
 }
