@@ -4,7 +4,7 @@ use crate::sweep::{Answer, Call, judged, requests};
 use std::alloc::Global;
 use std::process::Abort;
 use std::rc::Rc;
-use stn_command::{Query, say};
+use stn_command::{Choice, Outlook, Query, say};
 use stn_lift::{Base, Source};
 use stn_loosen::{LoosenFault, Tolerance, loosened_site_plan};
 use stn_net::Event;
@@ -47,6 +47,16 @@ pub enum Asked {
     Steps,
     Bounds,
     Why,
+    Apart,
+    Starts,
+}
+
+// The starts of all steps.
+fn starts<'a>() -> Choice<'a> {
+    Choice {
+        steps: None,
+        starts: true,
+    }
 }
 
 fn say_asked<'a>(
@@ -65,6 +75,12 @@ fn say_asked<'a>(
         Asked::Steps => say(plan, &Query::Ask(Question::Steps)),
         Asked::Bounds => say(plan, &Query::Ask(Question::Bounds)),
         Asked::Why => say(plan, &Query::Ask(Question::Why(Event::new(2).unwrap()))),
+        Asked::Starts => say(plan, &Query::Among(Outlook::Ready, now, starts())),
+        Asked::Apart => {
+            let start = Event::new(1).unwrap();
+            let end = Event::new(2).unwrap();
+            say(plan, &Query::Ask(Question::WhyApart(start, end)))
+        }
     }
 }
 
@@ -129,6 +145,7 @@ fn queries(rt: HostRuntime) {
         Asked::Next,
         Asked::Ready,
         Asked::Rehearse,
+        Asked::Starts,
     ] {
         sweep(&rt, rt.alloc(), asked);
     }
@@ -136,7 +153,13 @@ fn queries(rt: HostRuntime) {
 
 #[test]
 fn questions(rt: HostRuntime) {
-    for asked in [Asked::Records, Asked::Steps, Asked::Bounds, Asked::Why] {
+    for asked in [
+        Asked::Records,
+        Asked::Steps,
+        Asked::Bounds,
+        Asked::Why,
+        Asked::Apart,
+    ] {
         sweep(&rt, rt.alloc(), asked);
     }
 }
