@@ -19,8 +19,9 @@ use stn_replica::Replica;
 use stn_store::Store;
 
 /// Serves so many sites, as they come, one after another. Each session begins with what the log says by now, and ends by itself
-/// alone, however it ends; then what the log says by then is taken in, the log is saved, and a line is printed. Status 0. When no
-/// site can be let in, the log can't be taken in or saved, or the line can't be printed, that is told and the status is 1.
+/// alone, however it ends; a state that its records made another one is saved before the reply to them is written. Then what the log
+/// says by then is taken in, the log is saved, and a line is printed. Status 0. When no site can be let in, the log can't be taken in
+/// or saved, or the line can't be printed, that is told and the status is 1.
 pub fn serve_on<T: AllocGlobal, S: Store, L: Callers, W: Write, E: Write>(
     rt: &T,
     store: &mut S,
@@ -34,8 +35,8 @@ pub fn serve_on<T: AllocGlobal, S: Store, L: Callers, W: Write, E: Write>(
     ensures status { (result ≡ 0) ⊎ (result ≡ 1) }
 
     // So many sessions, with the next of the sites that were to come. Each was by what its site said and was told, and found the
-    // join of what the one before it left and what the log said; after each the join of what it left and what the log said was
-    // saved, and then its line printed.
+    // join of what the one before it left and what the log said; in each the join of a state that changed and what the log said was
+    // saved before the reply, and after each that of what it left, and then its line printed.
     ensures served { result ≡ 0 → Serves count (L.callers callers.old) (L.callers callers.new)
         replica.old.source log.now replica.old.state replica.new.state
         (S.entries store.old) (S.entries store.new) (device_of W.contents out.old) (device_of W.contents out.new)

@@ -99,13 +99,13 @@ pub fn keep_join<S: Store>(
     ensures kept { OnOk result (KeepsIn log.now replica.now.source replica.now.state (S.entries store.old) (S.entries store.new)) }
     ensures failed { IfErr result (FailsIn S.fails log.now replica.now.source replica.now.state (S.entries store.old) (S.entries store.new)) }
 {
-    let held = store.hold(log.name)?;
+    let lock = store.hold(log.name)?;
     if store.is_there(log.name)? {
-        let mut said = store.load_held(&held, log.site)?;
+        let mut said = store.load_held(&lock, log.site)?;
         take_in_plan(&mut said, replica.plan())?;
-        store.save(&held, &said)
+        store.save(&lock, &said)
     } else {
-        store.save(&held, replica.plan())
+        store.save(&lock, replica.plan())
     }
 }
 

@@ -8,10 +8,10 @@ use Rattle.stn_store.proofs.SameLog.{saves_same}
 use Rattle.stn_shell.proofs.Keepings.{said_kept, refused_by, alone_kept, save_failed}
 use Rattle.stn_shell.proofs.joining.keep_join.Goals as goal
 
-pub returns-in_err-held : goal.returns-in_err-held
-returns-in_err-held g c =
+pub returns-in_err-lock : goal.returns-in_err-lock
+returns-in_err-lock g c =
     let p = err_from_is_err_and c.from_residual.result c.from_residual.ensures.1 in
-    rw (p.1, p.2) (record { kept = tt; failed = (refl, inl c.in_err-held.ensures.failed) })
+    rw (p.1, p.2) (record { kept = tt; failed = (refl, inl c.in_err-lock.ensures.failed) })
 
 pub returns-in_err-is_there : goal.returns-in_err-is_there
 returns-in_err-is_there g c =
@@ -23,13 +23,13 @@ returns-in_err-said g c =
     let p = err_from_is_err_and c.from_residual-in_err-said.result c.from_residual-in_err-said.ensures.1 in
     rw (p.1, p.2) (record {
       kept = tt;
-      failed = (refl, ⊎_elim (λ unopened. inr (inl unopened)) inl (rw c.in_ok-held.ensures.named at c.in_err-said.ensures.failed));
+      failed = (refl, ⊎_elim (λ unopened. inr (inl unopened)) inl (rw c.in_ok-lock.ensures.named at c.in_err-said.ensures.failed));
     })
 
 pub returns-in_err-take_in : goal.returns-in_err-take_in
 returns-in_err-take_in g c =
     let p = err_from_is_err_and c.from_residual-in_err-take_in.result c.from_residual-in_err-take_in.ensures.1 in
-    let opened = rw c.in_ok-held.ensures.named at c.in_ok-said.ensures.opened in
+    let opened = rw c.in_ok-lock.ensures.named at c.in_ok-said.ensures.opened in
     rw (p.1, p.2) (record {
       kept = tt;
       failed = (
@@ -41,12 +41,12 @@ returns-in_err-take_in g c =
 
 pub returns-then-branch : goal.returns-then-branch
 returns-then-branch g c =
-    let opened = rw c.in_ok-held.ensures.named at c.in_ok-said.ensures.opened in
+    let opened = rw c.in_ok-lock.ensures.named at c.in_ok-said.ensures.opened in
     let is = c.in_ok-take_in.ensures in
     let left = subst (λ (state : Content). Leaves c.in_ok-said.said (took state) c.take_in.new.plan) c.plan.ensures.state is.left in
     record {
       kept = said_kept c.save.result c.args.log.now c.args.replica.now c.in_ok-said.said c.take_in.new.plan _ _ opened (is.same ∙ c.plan.ensures.source) left
-          (rw c.in_ok-held.ensures.named at c.save.ensures.saved);
+          (rw c.in_ok-lock.ensures.named at c.save.ensures.saved);
       failed = save_failed c.save.result _ c.args.log.now _ _ _ _ c.save.ensures.kept c.save.ensures.failed;
     }
 
@@ -54,7 +54,7 @@ pub returns : goal.returns
 returns g c =
     let gone = subst (IsThere (g.S.Store.entries c.args.store.now) c.args.log.now.name.now) c.if-branch.false c.in_ok-is_there.ensures.found in
     record {
-      kept = alone_kept c.save.result c.args.log.now c.args.replica.now _ _ gone
-          (saves_same c.save.result _ _ _ c.args.replica.now c.plan.result.now c.plan.ensures.source c.plan.ensures.state (rw c.in_ok-held.ensures.named at c.save.ensures.saved));
-      failed = save_failed c.save.result _ c.args.log.now _ _ _ _ c.save.ensures.kept c.save.ensures.failed;
+      kept = alone_kept c.save-else-branch.result c.args.log.now c.args.replica.now _ _ gone
+          (saves_same c.save-else-branch.result _ _ _ c.args.replica.now c.plan-else-branch.result.now c.plan-else-branch.ensures.source c.plan-else-branch.ensures.state (rw c.in_ok-lock.ensures.named at c.save-else-branch.ensures.saved));
+      failed = save_failed c.save-else-branch.result _ c.args.log.now _ _ _ _ c.save-else-branch.ensures.kept c.save-else-branch.ensures.failed;
     }
