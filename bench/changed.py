@@ -7,7 +7,9 @@ bench/part.py changed < crates/answers/stdout prints the same.
 
 A frame is read, is old, is less than a frame, or has a fault: 50, 51 or 52. A log of either version is read or refused.
 """
+import hashlib
 import sys
+from collections import Counter
 
 HORIZON, OLD_HORIZON = 31_536_000_000, 1_000_000_000
 MOST_BODY = 262_144
@@ -221,22 +223,18 @@ def log_case(data):
         return str(fault.code)
 
 
-def print_cases(head, cases):
-    runs = []
-    for at, case in enumerate(cases):
-        if runs and runs[-1][2] == case:
-            runs[-1][1] = at
-        else:
-            runs.append([at, at, case])
-    spans = (f"{first}-{last} {case}" if first < last else f"{first} {case}" for first, last, case in runs)
-    print(f"{head}: {', '.join(spans)}")
-
-
 def print_row(name, data, case_of):
-    print_cases(f"{name} cut to", [case_of(data[:length]) for length in range(len(data) + 1)])
+    """How often each case came, and the digest of their lines."""
+    cases = [case_of(data[:length]) for length in range(len(data) + 1)]
     for place in range(len(data)):
-        cases = [case_of(data[:place] + bytes([value]) + data[place + 1 :]) for value in range(256)]
-        print_cases(f"{name} byte {place}", cases)
+        cases += [case_of(data[:place] + bytes([value]) + data[place + 1 :]) for value in range(256)]
+    counted = Counter(cases)
+    words = [f"{counted.pop('read', 0)} read", f"{counted.pop('unfinished', 0)} unfinished", "0 broken"]
+    if "old" in counted:
+        words.append(f"{counted.pop('old')} old")
+    words += [f"{counted[code]} refused {code}" for code in sorted(counted, key=int)]
+    digest = hashlib.md5("".join(f"{case}\n" for case in cases).encode()).hexdigest()
+    print(f"{name}: {', '.join(words)}, digest {digest}")
 
 
 def main():

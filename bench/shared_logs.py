@@ -24,6 +24,7 @@ import time
 ADDED = 200
 STOPPED = 150
 REMOVED = 120
+TOLD = 30
 SECONDS = 60
 LITTER = re.compile(r"^(.*)\.saving-[0-9]+$")
 NOBODY = 65534
@@ -680,6 +681,43 @@ def serving(stn):
     no_litter()
 
 
+def told_and_killed(stn):
+    """What a site was told to be in is in the log, though the one that serves is killed at once."""
+    stn.answers("made\n", "bare", "a.log", "1", "1")
+    stn.answers("made\n", "bare", "b.log", "2", "1")
+    for turn in range(TOLD):
+        stn.add("b.log", turn, "2")
+        address = f"127.0.0.1:{free_port()}"
+        server = stn.start("serve", "a.log", "1", address, "1")
+        try:
+            check(server.stdout.readline() == b"listening\n", "serve")
+            check(stn.run("send", "b.log", "2", address)[0] == 0, "send")
+        finally:
+            server.kill()
+            server.communicate()
+        check(stn.records("a.log") == turn + 1, "a record that a site was told to be in is lost")
+
+
+def told_within_a_session(stn):
+    """The same where the session goes on, and the one that serves is killed after its reply to the records."""
+    stn.answers("made\n", "bare", "a.log", "1", "1")
+    port = free_port()
+    server = stn.start("serve", "a.log", "1", f"127.0.0.1:{port}", "1")
+    try:
+        check(server.stdout.readline() == b"listening\n", "serve")
+        with socket.create_connection(("127.0.0.1", port), timeout=SECONDS) as peer:
+            peer.sendall(bytes.fromhex("0000000407000001"))
+            check(received(peer) == b"\x06", "HELLO")
+            peer.sendall(bytes.fromhex("0000001e0800010003000100000000010000000757b137b80000000757b137b80000"))
+            check(received(peer)[:1] == b"\x08", "RECORDS")
+            server.kill()
+            server.communicate()
+    finally:
+        server.kill()
+        server.communicate()
+    check(stn.records("a.log") == 1, "a record that a site was told to be in is lost")
+
+
 def stopped_and_continued(process):
     """A signal comes while the process waits for its connection."""
     time.sleep(0.3)
@@ -815,6 +853,8 @@ TRIED = [
     small_device,
     full_device,
     full_behind_serve,
+    told_and_killed,
+    told_within_a_session,
     unprinted,
     closed_folder,
     serving,
