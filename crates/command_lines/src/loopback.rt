@@ -7,7 +7,7 @@ ghost use Rattle.stn_device.specs.Counted.{failure_count};
 mod changing;
 mod untrusted;
 
-use crate::print_digits;
+use crate::{cut_word, print_digits};
 use std::alloc::Global;
 use std::io::{Error, Read, Write};
 use std::net::{Shutdown, TcpListener, TcpStream};
@@ -307,7 +307,8 @@ fn serve_broken(rt: &HostRuntime, listener: &TcpListener) -> io::Result<()> {
 // Sends over a connection on which the replies of a site with two records wait.
 fn send(rt: &HostRuntime, listener: &TcpListener) -> io::Result<()> {
     let replies = replies_of_two(rt.alloc())?;
-    send_waiting(rt, listener, &replies)
+    send_waiting(rt, listener, &replies)?;
+    command(rt, &["stn", "report", "far.log", "2"])
 }
 
 fn replies_of_two(alloc: Global) -> io::Result<Vec<u8>> {
@@ -315,19 +316,6 @@ fn replies_of_two(alloc: Global) -> io::Result<Vec<u8>> {
     replies.extend_from_slice(REPORT)?;
     Ok(replies)
 }
-
-// Requests that site 1 answers, each over a connection of its own whose other end says nothing more: a HELLO of another plan, ASK
-// before any HELLO, an unknown kind, a HELLO and a body that breaks a rule; a HELLO, a record 1.1 that clashes, and ASK; an old
-// HELLO; a HELLO and old RECORDS.
-const REQUESTS: [&str; 7] = [
-    "0000000407000002",
-    "0000000103",
-    "0000000109",
-    "00000004070000010000000108",
-    "00000004070000010000001e0800010001000100000000010000000757b12c000000000757b12c0000000000000103",
-    "0000000401000001",
-    "0000000407000001000000050200000000",
-];
 
 // Sends requests, and says that nothing more comes.
 fn send_bytes(rt: &HostRuntime, listener: &TcpListener, digits: &str) -> io::Result<TcpStream> {
@@ -344,14 +332,7 @@ fn write_digits(rt: &HostRuntime, stream: &TcpStream, digits: &str) -> io::Resul
     }
 }
 
-// Serves each of the requests, and prints the replies.
-fn serve_requests(rt: &HostRuntime, listener: &TcpListener) -> io::Result<()> {
-    for digits in REQUESTS {
-        serve_request(rt, listener, digits)?;
-    }
-    Ok(())
-}
-
+// Serves requests after which nothing more comes, and prints the replies.
 fn serve_request(rt: &HostRuntime, listener: &TcpListener, digits: &str) -> io::Result<()> {
     let other = send_bytes(rt, listener, digits)?;
     serve_waiting(rt, listener, 1, "near.log")?;
@@ -378,7 +359,8 @@ const BEFORE_ASKING: [u8; 42] = [
 // These, and 100 times ASK, from a site that goes away before it is answered.
 fn serve_gone(rt: &HostRuntime, listener: &TcpListener) -> io::Result<()> {
     ask_and_go(rt, listener)?;
-    serve_waiting(rt, listener, 1, "near.log")
+    serve_waiting(rt, listener, 1, "near.log")?;
+    command(rt, &["stn", "report", "near.log", "1"])
 }
 
 fn ask_and_go(rt: &HostRuntime, listener: &TcpListener) -> io::Result<()> {
@@ -398,26 +380,26 @@ fn ask_often(stream: &TcpStream) -> io::Result<()> {
 
 // A session after which the log can't be saved.
 fn serve_unsaved(rt: &HostRuntime, listener: &TcpListener) -> io::Result<()> {
+    drop(connect(rt, listener)?);
+    serve_unlockable(rt, listener)
+}
+
+// Serves while nobody can lock the log.
+fn serve_unlockable(rt: &HostRuntime, listener: &TcpListener) -> io::Result<()> {
     fs::remove_file(rt, "near.log.lock")?;
     fs::create_dir(rt, "near.log.lock")?;
-    drop(connect(rt, listener)?);
     serve_waiting(rt, listener, 1, "near.log")?;
     fs::remove_dir(rt, "near.log.lock")
 }
 
-// Replies that are refused: REFUSED 52, SAME and the end, a length of 0, an unknown kind, a body that breaks a rule, ASK; SAME, a
-// record 1.3 and ASK; SAME and a record 1.1 that clashes; SAME and old RECORDS.
-const REFUSED_REPLIES: [&str; 9] = [
-    "000000020534",
-    "0000000106",
-    "00000000",
-    "0000000109",
-    "0000000108",
-    "0000000103",
-    "00000001060000001e0800010001000300000000010000000757b12c000000000757b12c0000000000000103",
-    "00000001060000001e0800010001000100000000010000000757b12c000000000757b12c000000",
-    "0000000106000000050200000000",
-];
+// Requests whose records can't be saved: prints the replies, after which the log is as before.
+fn serve_unsaved_records(rt: &HostRuntime, listener: &TcpListener, digits: &str) -> io::Result<()> {
+    let before = fs::read(rt, "near.log")?;
+    let other = send_bytes(rt, listener, digits)?;
+    serve_unlockable(rt, listener)?;
+    print_replies(rt, &other)?;
+    is_as_before(rt, "near.log", &before)
+}
 
 // Sends over a connection on which these replies wait.
 fn send_waiting(rt: &HostRuntime, listener: &TcpListener, replies: &[u8]) -> io::Result<()> {
@@ -479,15 +461,8 @@ fn status_of_sending(
     )
 }
 
-// Each of the refused replies, after which the log is as before.
-fn send_refused(rt: &HostRuntime, listener: &TcpListener) -> io::Result<()> {
-    for digits in REFUSED_REPLIES {
-        send_refused_one(rt, listener, digits)?;
-    }
-    Ok(())
-}
-
-fn send_refused_one(rt: &HostRuntime, listener: &TcpListener, digits: &str) -> io::Result<()> {
+// Sends where these replies wait, which are refused; then the log is as before.
+fn send_refused(rt: &HostRuntime, listener: &TcpListener, digits: &str) -> io::Result<()> {
     let before = fs::read(rt, "far.log")?;
     send_in_vain(rt, listener, digits, &before)
 }
@@ -558,20 +533,6 @@ fn make_logs(rt: &HostRuntime) -> io::Result<()> {
     command(rt, &["stn", "bare", "far.log", "2", "1"])
 }
 
-fn serve_and_send(rt: &HostRuntime, listener: &TcpListener) -> io::Result<()> {
-    session(rt, listener)?;
-    serve_refused(rt, listener)?;
-    serve_broken(rt, listener)?;
-    send(rt, listener)?;
-    command(rt, &["stn", "report", "far.log", "2"])?;
-    serve_requests(rt, listener)?;
-    send_refused(rt, listener)?;
-    serve_gone(rt, listener)?;
-    command(rt, &["stn", "report", "near.log", "1"])?;
-    serve_unsaved(rt, listener)?;
-    reach_nothing(rt, listener)
-}
-
 // An address, and a log, that are not there.
 fn find_nothing(rt: &HostRuntime) -> io::Result<()> {
     command(rt, &["stn", "send", "far.log", "2", "nowhere"])?;
@@ -579,16 +540,35 @@ fn find_nothing(rt: &HostRuntime) -> io::Result<()> {
     command(rt, &["stn", "serve", "none.log", "1", "127.0.0.1:0", "1"])
 }
 
-fn run(rt: &HostRuntime, listener: &TcpListener) -> io::Result<()> {
-    serve_and_send(rt, listener)?;
-    find_nothing(rt)?;
-    untrusted::serve_peers(rt, listener)?;
-    changing::serve_and_send(rt, listener)
+// Over one connection after the other, each of which the other end has made.
+fn serve_and_send(
+    rt: &HostRuntime,
+    listener: &TcpListener,
+    scenario: &str,
+    digits: &str,
+) -> io::Result<()> {
+    match scenario {
+        "session" => session(rt, listener),
+        "refused" => serve_refused(rt, listener),
+        "cut" => serve_broken(rt, listener),
+        "send" => send(rt, listener),
+        "request" => serve_request(rt, listener, digits),
+        "replies" => send_refused(rt, listener, digits),
+        "gone" => serve_gone(rt, listener),
+        "unsaved" => serve_unsaved(rt, listener),
+        "unsaved-records" => serve_unsaved_records(rt, listener, digits),
+        "addresses" => reach_nothing(rt, listener),
+        _ => untrusted::serve_or_send(rt, listener, scenario),
+    }
 }
 
-/// Makes two logs, and serves and sends them.
-pub fn run_both_ends(rt: &HostRuntime) -> io::Result<()> {
-    make_logs(rt)?;
+/// Serves or sends as a line says: the name of a scenario, perhaps bytes in hex, and what is expected.
+pub fn run_scenario(rt: &HostRuntime, scenario: &str, words: &str) -> io::Result<()> {
     let listener = TcpListener::bind(rt, "127.0.0.1:0")?;
-    run(rt, &listener)
+    let (digits, _) = cut_word(words);
+    match scenario {
+        "logs" => make_logs(rt),
+        "nowhere" => find_nothing(rt),
+        _ => serve_and_send(rt, &listener, scenario, digits),
+    }
 }

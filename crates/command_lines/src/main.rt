@@ -20,7 +20,8 @@
 //! - `:memory-serve NAME COUNT HEX` serves by the log of site 1 in the store a site that says these bytes and COUNT zeros, and one
 //!   that says nothing, and prints what each is told;
 //! - `:memory-talk NAME OTHER` has the site 2 of one log in the store ask the site 1 of another, and prints what both make of it;
-//! - `:loopback` serves and sends logs over connections on this machine, and prints what both ends make of it.
+//! - `:loopback SCENARIO WORDS` serves or sends logs over connections on this machine, and prints what both ends make of it; the words
+//!   say what is expected, after the bytes that are said in hex where the scenario is `request`, `replies` or `unsaved-records`.
 #![tactic(auto)]
 
 mod edges;
@@ -29,7 +30,7 @@ mod memory;
 mod talk;
 
 use crate::edges::{hold, print_mode, save_by_link, set_mode, tell};
-use crate::loopback::run_both_ends;
+use crate::loopback::run_scenario;
 use crate::memory::{put, run_in_memory};
 use crate::talk::{serve_saying, talk};
 use std::alloc::{AllocError, Global};
@@ -235,7 +236,7 @@ fn do_other(rt: &HostRuntime, line: &str) -> io::Result<()> {
         ":name" => fs::hard_link(rt, name, rest),
         ":hold" => hold(rt, &FileStore::new(rt), name),
         ":turn" => turn(rt, name, rest),
-        ":loopback" => run_both_ends(rt),
+        ":loopback" => run_scenario(rt, name, rest),
         _ => Err(Error::other("no such line")),
     }
 }

@@ -4,19 +4,22 @@ use super::{
     send_replica, serve_log,
 };
 use std::alloc::Global;
-use std::io::Write;
+use std::io::{Error, Write};
 use std::net::TcpListener;
 use std::{fs, io};
 use stn_replica::Replica;
 
-/// A log that gains a bound before a session and during an exchange; one that is gone; one that another plan's has replaced, and one
+/// A log that gains a bound before a session or during an exchange; one that is gone; one that another plan's has replaced, and one
 /// that is no log any more.
-pub fn serve_and_send(rt: &HostRuntime, listener: &TcpListener) -> io::Result<()> {
-    serve_older(rt, listener)?;
-    send_older(rt, listener)?;
-    serve_gone(rt, listener)?;
-    serve_other_plan(rt, listener)?;
-    serve_replaced(rt, listener, b"no log")
+pub fn serve_or_send(rt: &HostRuntime, listener: &TcpListener, scenario: &str) -> io::Result<()> {
+    match scenario {
+        "older" => serve_older(rt, listener),
+        "older-asks" => send_older(rt, listener),
+        "removed" => serve_gone(rt, listener),
+        "other-plan" => serve_other_plan(rt, listener),
+        "no-log" => serve_replaced(rt, listener, b"no log"),
+        _ => Err(Error::other("no such scenario")),
+    }
 }
 
 // Serves a connection that says nothing, and prints what the log then reports.

@@ -1,6 +1,6 @@
 // Peers that keep a site waiting, each with an honest one after it.
 use super::{
-    BEFORE_ASKING, ask, begin, command, far_replica, load_log, second_site, serve_waiting,
+    BEFORE_ASKING, ask, begin, changing, command, far_replica, load_log, second_site, serve_waiting,
 };
 use std::alloc::{AllocError, Global};
 use std::io;
@@ -15,13 +15,16 @@ use stn_time::Ms;
 
 /// A peer that says nothing, one that stops within a frame, one that stops after its records and one that reads no reports; one that
 /// is refused before it has said all; and an address that doesn't answer.
-pub fn serve_peers(rt: &HostRuntime, listener: &TcpListener) -> io::Result<()> {
-    serve_after(rt, listener, b"")?;
-    serve_after(rt, listener, &[0, 0, 0, 4, 7])?;
-    serve_records(rt, listener)?;
-    serve_unread(rt, listener)?;
-    serve_other_plan(rt, listener)?;
-    reach_no_answer(rt)
+pub fn serve_or_send(rt: &HostRuntime, listener: &TcpListener, scenario: &str) -> io::Result<()> {
+    match scenario {
+        "silent" => serve_after(rt, listener, b""),
+        "stopped" => serve_after(rt, listener, &[0, 0, 0, 4, 7]),
+        "silent-after-records" => serve_records(rt, listener),
+        "reads-nothing" => serve_unread(rt, listener),
+        "refused-early" => serve_other_plan(rt, listener),
+        "no-answer" => reach_no_answer(rt),
+        _ => changing::serve_or_send(rt, listener, scenario),
+    }
 }
 
 // A connection with the requests of a replica, and nothing after them.
