@@ -1,14 +1,15 @@
 -- New logs, and the texts that they are made of.
 use Rattle.std.proofs.Common.{◌≡◌, ◌⊎◌, ℕ, false, List, Option, Some, None, Result, Ok, Err, OnOk, OnErr, IfErr, MatchResult, refl, sym, ap, subst, inl, inr, ⊎_elim}
-use Rattle.stn_lift.specs.PlanSource.{PlanSource, files, base_of}
+use Rattle.stn_lift.specs.PlanSource.{PlanSource, bare, files, base_of}
 use Rattle.stn_records.specs.Content.{Content, no_content}
 use Rattle.stn_site.specs.Held.{Held}
 use Rattle.stn_store.specs.Store.{Entry, IsThere, IsTaken, IsLack, saved_too}
 use Rattle.stn_refusal.specs.declared.failure.Failure.{Failure}
 use Rattle.stn_refusal.specs.declared.failure.Fault.{Fault}
+use Rattle.stn_command.specs.Words.{no_such_word}
 use Rattle.stn_shell.specs.Commands.{IsMade, IsNewLog}
 use Rattle.stn_shell.specs.Endings.{SavesNew, IsUnsaved, IsOfTexts, MissesText}
-use Rattle.stn_shell.specs.Refusals.{IsBaseRefusal, WithText, base_refusal_of}
+use Rattle.stn_shell.specs.Refusals.{IsBaseRefusal, WhereBare, WithText, base_refusal_of}
 
 -- the log of a replica that holds nothing yet
 pub made_log : (old new : Option (List Entry)) (name : List ℕ) (source : PlanSource) (held : Held) (text : List ℕ) → held.source ≡ source
@@ -48,3 +49,12 @@ pub text_missing : (entries : Option (List Entry)) (domain plan : List ℕ) (Ref
     → WithText entries domain (λ actions. WithText entries plan (λ steps. Refuses (files actions steps))) (Some failure)
 text_missing entries domain plan Refuses failure missing = ⊎_elim (λ first. inl (failure, first, refl))
     (λ second. inr (second.0, second.1, inl (failure, second.2, refl))) missing
+
+-- what refuses a bare plan, and a plan in a domain
+pub where_bare : (source : PlanSource) (steps : ℕ) (Goes : Option Failure → Type 0) (cause : Option Failure) → source ≡ bare steps → Goes cause
+    → WhereBare source Goes cause
+where_bare source steps Goes cause is refusal = rw is refusal
+
+pub where_files : (source : PlanSource) (domain plan : List ℕ) (Goes : Option Failure → Type 0) → source ≡ files domain plan
+    → WhereBare source Goes (Some no_such_word)
+where_files source domain plan Goes is = rw is refl

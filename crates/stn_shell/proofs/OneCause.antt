@@ -1,10 +1,10 @@
 -- A command has one cause that refuses it, or none.
-use Rattle.std.proofs.Common.{◌≡◌, ◌⊎◌, inl, inr, ℕ, ◌+◌, Bool, true, false, List, ◌++◌, length, take, Option, Some, None, is_some, option_map, Result, Ok, Err, refl, sym, ap, subst, ◌∙◌, arith, length-append}
+use Rattle.std.proofs.Common.{◌≡◌, inl, inr, ℕ, ◌+◌, Bool, true, false, List, length, take, Option, Some, None, is_some, option_map, Result, Ok, Err, refl, sym, ap, subst, ◌∙◌, arith, length-append}
 use Rattle.std.proofs.lemmas.Bool.{false≢true}
 use Rattle.std.proofs.lemmas.Option.{same_Some}
 use Rattle.std.specs.Borrow.{Bor}
 use Rattle.stn_net.specs.Difference.{Difference}
-use Rattle.stn_lift.specs.PlanSource.{PlanSource, bare, files, base_of}
+use Rattle.stn_lift.specs.PlanSource.{PlanSource, bare, files}
 use Rattle.stn_lift.specs.Failures.{base_failure}
 use Rattle.stn_lift.specs.declared.fault.BaseFault.{BaseFault}
 use Rattle.stn_site.specs.Held.{Held}
@@ -13,6 +13,7 @@ use Rattle.stn_log.specs.Log.{Log, log_held, IsLog}
 use Rattle.stn_log.specs.Failures.{load_failure}
 use Rattle.stn_log.specs.declared.fault.LoadFault.{LoadFault}
 use Rattle.stn_command.specs.Change.{change_refusal}
+use Rattle.stn_command.specs.Named.{names_refusal}
 use Rattle.stn_command.specs.declared.changes.Change.{Change}
 use Rattle.stn_command.specs.declared.changes.Change.TheVariants.{Add, Amend, Withdraw, Done}
 use Rattle.stn_command.specs.Query.{Query, report, check, next, ready, rehearse, among, ask, repairs, draw, IsQueryRefusal}
@@ -30,10 +31,10 @@ use Rattle.stn_loosen.specs.Robust.{AreRobust, AreFewRobust, AreTooManyRobust}
 use Rattle.stn_refusal.specs.declared.failure.Failure.{Failure}
 use Rattle.stn_line.specs.declared.words.Line.{Line}
 use Rattle.stn_line.specs.declared.words.Line.TheVariants.{Bare, Init, Loosen, Explain}
-use Rattle.stn_store.specs.Store.{Entry, Holds, IsThere, Spells, Means, Opens, IsMissing, IsUnopened}
-use Rattle.stn_shell.specs.Words.{Asked, change, merge, guard, query, asked_of, slack_read}
+use Rattle.stn_store.specs.Store.{Entry, Holds, IsThere, Spells, Means, Opens, IsUnopened}
+use Rattle.stn_shell.specs.Words.{Asked, change, merge, guard, named_by, query, asked_of, slack_read}
 use Rattle.stn_shell.specs.Loosening.{IsLoosenedRefusal, IsRobustRefusal, WithBase, IsLooseningRefusal}
-use Rattle.stn_shell.specs.Refusals.{WithWords, WhereFree, WithText, WithLog, IsBaseRefusal, IsMergeRefusal, IsUnguarded, IsExplainRefusal, IsAskedRefusal, IsRefusalOf}
+use Rattle.stn_shell.specs.Refusals.{WithWords, WhereFree, WhereBare, WithText, WithLog, IsBaseRefusal, IsMergeRefusal, IsUnguarded, IsUnnamed, IsExplainRefusal, IsAskedRefusal, IsRefusalOf}
 
 -- at most one cause is named
 abbrev IsOne : (Option Failure → Type 0) → Type 0
@@ -176,6 +177,15 @@ guard_at_rest owned held cause p = (p.0, at_rest p.0 p.1, p.2)
     at_rest refusal (conflict there none is) = conflict there none is
     at_rest refusal (guarded there possible one is_one is) = guarded there possible one is_one is
 
+-- at most one refusal of names
+where_bare : (source : PlanSource) (Goes : Option Failure → Type 0) → IsOne Goes → IsOne (WhereBare source Goes)
+where_bare (bare steps) Goes one cause other p q = one cause other p q
+where_bare (files domain plan) Goes one cause other p q = p ∙ sym q
+
+one_unnamed : (entries : List Entry) (plan : List ℕ) (held : Held) → IsOne (IsUnnamed (Some entries) plan held)
+one_unnamed entries plan held = where_bare held.source (WithText (Some entries) plan (λ names refusal. refusal ≡ names_refusal held names))
+    (with_text entries plan (λ names refusal. refusal ≡ names_refusal held names) (λ names cause other p q. p ∙ sym q))
+
 module _ (logs : (bytes : List ℕ) (one other : Result Log LoadFault) → IsLog bytes one → IsLog bytes other → one ≡ other)
     (guards : (owner : ℕ → ℕ) (events : ℕ) (bounds one other : List Difference) → HasSchedule bounds → IsGuardOf owner events bounds one → IsGuardOf owner events bounds other → one ≡ other)
     (queries : (asked : Query) (held : Held) (cause other : Option Failure) → IsQueryRefusal asked held cause → IsQueryRefusal asked held other → cause ≡ other)
@@ -187,6 +197,7 @@ module _ (logs : (bytes : List ℕ) (one other : Result Log LoadFault) → IsLog
   one_asked entries (merge log other) = with_log entries log.name.now logs log.site (λ ours. WithLog (Some entries) other log.site (IsMergeRefusal ours)) (λ ours cause p. p)
       (λ ours. with_log entries other logs log.site (IsMergeRefusal ours) (λ theirs cause p. p) (one_merge ours))
   one_asked entries (guard log owned) = with_log entries log.name.now logs log.site (IsUnguarded owned) (guard_at_rest owned) (one_unguarded guards owned)
+  one_asked entries (named_by log what plan) = with_log entries log.name.now logs log.site (IsUnnamed (Some entries) plan) (λ held cause p. p) (one_unnamed entries plan)
   one_asked entries (query log asked) = with_log entries log.name.now logs log.site (IsQueryRefusal asked) (query_at_rest asked) (queries asked)
 
   -- ---- a loosened plan, and a robust one

@@ -9,10 +9,12 @@ use Rattle.stn_site.specs.Held.{Held}
 use Rattle.stn_command.specs.Change.{change_call, made_by, made_text}
 use Rattle.stn_command.specs.Query.{Query, IsSaid}
 use Rattle.stn_command.specs.Guarding.{IsGuarded}
+use Rattle.stn_command.specs.Named.{IsNamed}
+use Rattle.stn_command.specs.declared.names.Shown.{Shown}
 use Rattle.stn_guard.specs.declared.owners.OwnedSteps.{OwnedSteps}
 use Rattle.stn_command.specs.declared.changes.Change.{Change}
 use Rattle.stn_store.specs.Store.{Entry, IsThere, Spells, Opens, saved_too, Changes}
-use Rattle.stn_shell.specs.Words.{Asked, change, guard, merge, query, asked_of, slack_read}
+use Rattle.stn_shell.specs.Words.{Asked, change, guard, merge, named_by, query, asked_of, slack_read}
 use Rattle.stn_loosen.specs.Slack.{Slack}
 use Rattle.stn_shell.specs.Loosening.{HoldsLoosened}
 use Rattle.stn_explain.specs.Explained.{IsExplained}
@@ -78,6 +80,15 @@ pub record IsGuardAdded (old new : Option (List Entry)) (log : SiteLog) (owned :
   pub guarded : IsGuarded owned before after text
   pub saved : new ≡ saved_too old log.name.now (record { source = after.source; state = after.state })
 
+-- what is shown of a log by the names of a plan's file; both stay
+pub record IsShown (old new : Option (List Entry)) (log : SiteLog) (what : Shown) (plan text : List ℕ) : Type 0 where
+  pub ours : Held
+  pub names : List ℕ
+  pub opened : Opens old log.name.now log.site ours
+  pub spelled : Spells old plan names
+  pub said : IsNamed what names ours text
+  pub unsaved : new ≡ old
+
 -- what is said of what a log says, which stays
 pub record IsTold (old new : Option (List Entry)) (log : SiteLog) (asked : Query) (text : List ℕ) : Type 0 where
   pub ours : Held
@@ -90,6 +101,7 @@ abbrev pub IsDone : Option (List Entry) → Option (List Entry) → Asked → Li
 IsDone old new (change log asked) text = IsChanged old new log asked text
 IsDone old new (merge log other) text = IsMerged old new log other text
 IsDone old new (guard log owned) text = IsGuardAdded old new log owned text
+IsDone old new (named_by log what plan) text = IsShown old new log what plan text
 IsDone old new (query log asked) text = IsTold old new log asked text
 
 -- what a command line does over logs, and the text that it answers; `run`, `serve` and `send` are no commands on a log, and ask for nothing

@@ -13,8 +13,9 @@ use Rattle.stn_guard.specs.Adding.{IsGuardRefusal}
 use Rattle.stn_guard.specs.declared.owners.OwnedSteps.{OwnedSteps}
 use Rattle.stn_site.specs.declared.faults.ReplicaFault.{ReplicaFault}
 use Rattle.stn_command.specs.Words.{no_such_word}
+use Rattle.stn_command.specs.Named.{names_refusal}
 use Rattle.stn_store.specs.Store.{Entry, log_there, IsThere, Spells, Opens, IsMissing, IsUnopened}
-use Rattle.stn_shell.specs.Words.{Asked, change, guard, merge, query, asked_of, slack_read}
+use Rattle.stn_shell.specs.Words.{Asked, change, guard, merge, named_by, query, asked_of, slack_read}
 use Rattle.stn_explain.specs.Explained.{NamesNothing}
 use Rattle.stn_line.specs.declared.words.Line.{Line}
 use Rattle.stn_line.specs.declared.words.Line.TheVariants.{Bare, Init, Loosen, Explain}
@@ -44,6 +45,11 @@ abbrev pub WithLog : Option (List Entry) → List ℕ → ℕ → (Held → Opti
 WithLog entries name site Goes cause = ((failure : Failure) × IsUnopened entries name failure × (cause ≡ Some failure))
     ⊎ ((held : Held) × Opens entries name site held × Goes held cause)
 
+-- a plan in a domain does, whose steps have names
+abbrev pub WhereBare : PlanSource → (Option Failure → Type 0) → Option Failure → Type 0
+WhereBare (files domain plan) Goes cause = cause ≡ Some no_such_word
+WhereBare (bare steps) Goes cause = Goes cause
+
 -- a source without a base does
 abbrev pub base_refusal_of : Result PlanSource BaseFault → Option Failure
 base_refusal_of (Ok source) = None
@@ -70,11 +76,16 @@ abbrev pub IsExplainRefusal : Option (Bor (List ℕ)) → Option Failure → Typ
 IsExplainRefusal code cause = (NamesNothing (option_map (λ word. word.now) code) × (cause ≡ Some no_such_word))
     ⊎ ((¬ NamesNothing (option_map (λ word. word.now) code)) × (cause ≡ None))
 
--- why what a command asks of a log is refused: the log; then the change, the other log, the guard or the query
+-- why the steps of what a log says are not shown by the names of a plan's file: they have names; or the file, or what its text says
+abbrev pub IsUnnamed : Option (List Entry) → List ℕ → Held → Option Failure → Type 0
+IsUnnamed entries plan held cause = WhereBare held.source (WithText entries plan (λ names refusal. refusal ≡ names_refusal held names)) cause
+
+-- why what a command asks of a log is refused: the log; then the change, the other log, the guard, the names or the query
 abbrev pub IsAskedRefusal : Option (List Entry) → Asked → Option Failure → Type 0
 IsAskedRefusal entries (change log asked) = WithLog entries log.name.now log.site (λ held cause. cause ≡ option_map replica_failure (change_refusal held asked))
 IsAskedRefusal entries (merge log other) = WithLog entries log.name.now log.site (λ ours. WithLog entries other log.site (IsMergeRefusal ours))
 IsAskedRefusal entries (guard log owned) = WithLog entries log.name.now log.site (IsUnguarded owned)
+IsAskedRefusal entries (named_by log what plan) = WithLog entries log.name.now log.site (IsUnnamed entries plan)
 IsAskedRefusal entries (query log asked) = WithLog entries log.name.now log.site (IsQueryRefusal asked)
 
 -- the first cause: words that can't be read; a log that is there; the texts and the base; too many records, or no promise; the log; the other log;

@@ -11,6 +11,8 @@ use Rattle.stn_command.specs.Query.{Query, seen_query, report, check, among, ask
 use Rattle.stn_command.specs.Steps.{steps_read, all_owned}
 use Rattle.stn_command.specs.declared.queries.Outlook.{Outlook}
 use Rattle.stn_command.specs.declared.queries.Outlook.TheVariants as outlook
+use Rattle.stn_command.specs.declared.names.Shown.{Shown}
+use Rattle.stn_command.specs.declared.names.Shown.TheVariants as shown
 use Rattle.stn_guard.specs.declared.owners.OwnedSteps.{OwnedSteps}
 use Rattle.stn_replica.specs.declared.own.StepRange.{StepRange}
 use Rattle.stn_line.specs.declared.words.EventChoice.{EventChoice}
@@ -25,11 +27,12 @@ use Rattle.stn_shell.specs.declared.words.Asked.{Asked as AskedOfCode}
 use Rattle.stn_shell.specs.declared.words.Asked.TheVariants as code
 
 -- what a command asks of a log that is there, all its words read: a change, to take in all that another log says, to add the guard of what it
--- says, or a query
+-- says, to show its steps by the names of a plan's file, or a query
 pub data Asked : Type 0 where
   change : (log : SiteLog) (asked : Change) → Asked
   merge : (log : SiteLog) (other : List ℕ) → Asked
   guard : (log : SiteLog) (owned : List OwnedSteps) → Asked
+  named_by : (log : SiteLog) (what : Shown) (plan : List ℕ) → Asked
   query : (log : SiteLog) (asked : Query) → Asked
 
 -- the same, as the code has it
@@ -39,6 +42,7 @@ seen_asked (code.Merge log other) = merge log.now other.now
 seen_asked (code.Guard log owned) = guard log.now owned.items
 seen_asked (code.Among log outlook now chosen starts) =
     query log.now (among outlook now (record { steps = option_map (λ all. all.items) chosen; starts = starts }))
+seen_asked (code.Named log what plan) = named_by log.now what plan.now
 seen_asked (code.Check log times) = query log.now (check times.items)
 seen_asked (code.Query log asked) = query log.now (seen_query asked)
 
@@ -100,10 +104,12 @@ query_of (Ready log now choice) = among_read log outlook.Ready now.now choice
 query_of (Rehearse log now choice) = among_read log outlook.Rehearse now.now choice
 query_of (Why log event to) = and_then (why_read event.now to) (λ question. Ok (query log (ask question)))
 query_of (Records log) = Ok (query log (ask records))
-query_of (Steps log) = Ok (query log (ask steps))
+query_of (Steps log (Some plan)) = Ok (named_by log shown.Steps plan.now)
+query_of (Steps log None) = Ok (query log (ask steps))
 query_of (Bounds log) = Ok (query log (ask bounds))
 query_of (Repairs log) = Ok (query log repairs)
-query_of (Draw log) = Ok (query log draw)
+query_of (Draw log (Some plan)) = Ok (named_by log shown.Picture plan.now)
+query_of (Draw log None) = Ok (query log draw)
 query_of other = Err no_such_word
 
 -- what a command asks of a log that is there

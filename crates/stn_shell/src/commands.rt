@@ -5,7 +5,7 @@ ghost use Rattle.stn_lift.specs.PlanSource.{plan_source};
 ghost use Rattle.stn_command.specs.Change.{made_text};
 ghost use Rattle.stn_command.specs.Guarding.{guard_text};
 ghost use Rattle.stn_command.specs.Query.{seen_query, seen_choice};
-ghost use Rattle.stn_shell.specs.Words.{asked_of, change, guard, merge, query};
+ghost use Rattle.stn_shell.specs.Words.{asked_of, change, guard, merge, named_by, query};
 ghost use Rattle.stn_shell.specs.Commands.{IsDone, IsMade, IsMadeLoose, IsNewLog};
 ghost use Rattle.stn_shell.specs.Endings.{Completes, Succeeds, IsUndone, SavesNew, IsUnsaved, IsUnmade, IsOfTexts, MissesText};
 ghost use Rattle.stn_shell.specs.Loosening.{IsLooseningRefusal};
@@ -18,7 +18,9 @@ use crate::explaining::explain;
 use crate::loosening::loosen;
 use crate::words::{Asked, read_asked, read_tolerance};
 use std::alloc::Global;
-use stn_command::{Change, Choice, Made, Query, make_change, print_guard, say};
+use stn_command::{
+    Change, Choice, Made, Query, Shown, make_change, no_such_word, print_guard, say, say_named,
+};
 use stn_guard::{OwnedSteps, add_guard};
 use stn_lift::Source;
 use stn_line::{Line, SiteLog};
@@ -77,6 +79,7 @@ fn do_asked<S: Store>(alloc: Global, store: &mut S, line: &Line<'_>) -> Result<V
             let choice = choice_of(&steps, starts);
             say_of(store, log, &Query::Among(outlook, now, choice))
         }
+        Asked::Named(log, shown, plan) => show_named(store, log, shown, plan),
         Asked::Query(log, asked) => say_of(store, log, &asked),
     }
 }
@@ -343,6 +346,27 @@ fn say_of<S: Store>(store: &mut S, log: &SiteLog<'_>, asked: &Query<'_>) -> Resu
 {
     let plan = store.load(log.name, log.site)?;
     say(plan, asked)
+}
+
+// What is shown of a log whose plan is bare, by the names of a plan's file.
+fn show_named<S: Store>(
+    store: &S,
+    log: &SiteLog<'_>,
+    shown: Shown,
+    plan: &str,
+) -> Result<Vec<u8>, Failure>
+    ensures { MatchResult result
+        (λ text. Completes (S.entries store.now) (S.entries store.now) (named_by log.now shown plan.now) text.items)
+        (IsUndone (IsAskedRefusal (S.entries store.now) (named_by log.now shown plan.now)) S.fails (S.entries store.now) (S.entries store.now)) }
+{
+    let ours = store.load(log.name, log.site)?;
+    match ours.base().source() {
+        Source::Files(_, _) => Err(no_such_word()),
+        Source::Bare(_) => {
+            let names = store.text(plan)?;
+            say_named(&ours, shown, &names)
+        }
+    }
 }
 
 // Explains a refusal or a fault. Nothing of the store is read.

@@ -8,7 +8,7 @@ ghost use Rattle.stn_shell.specs.Words.{asked_of, query_of, among_read, chosen_r
 
 use std::alloc::{Allocator, Global};
 use stn_command::{
-    AskedBound, Change, Outlook, Query, no_such_word, read_owned, read_steps, read_time,
+    AskedBound, Change, Outlook, Query, Shown, no_such_word, read_owned, read_steps, read_time,
 };
 use stn_guard::OwnedSteps;
 use stn_line::{EventChoice, Line, SiteLog};
@@ -33,6 +33,8 @@ pub enum Asked<'l, 'a> {
     Check(&'l SiteLog<'a>, Vec<Ms, Global>),
     /// Asks of chosen events, from a time on: those of these steps, or of all where none are given; or their starts alone.
     Among(&'l SiteLog<'a>, Outlook, Ms, Option<Vec<StepRange, Global>>, bool),
+    /// Shows the steps by the names of a plan's file.
+    Named(&'l SiteLog<'a>, Shown, &'a str),
     /// Answers another query.
     Query(&'l SiteLog<'a>, Query<'a>),
 }
@@ -104,10 +106,16 @@ fn read_query<'l, 'a>(alloc: Global, line: &'l Line<'a>) -> Result<Asked<'l, 'a>
             Ok(Asked::Query(log, Query::Ask(question)))
         }
         Line::Records { log } => Ok(Asked::Query(log, Query::Ask(Question::Records))),
-        Line::Steps { log } => Ok(Asked::Query(log, Query::Ask(Question::Steps))),
+        Line::Steps { log, plan } => match plan {
+            Some(plan) => Ok(Asked::Named(log, Shown::Steps, *plan)),
+            None => Ok(Asked::Query(log, Query::Ask(Question::Steps))),
+        },
         Line::Bounds { log } => Ok(Asked::Query(log, Query::Ask(Question::Bounds))),
         Line::Repairs { log } => Ok(Asked::Query(log, Query::Repairs)),
-        Line::Draw { log } => Ok(Asked::Query(log, Query::Draw)),
+        Line::Draw { log, plan } => match plan {
+            Some(plan) => Ok(Asked::Named(log, Shown::Picture, *plan)),
+            None => Ok(Asked::Query(log, Query::Draw)),
+        },
         _ => Err(no_such_word()),
     }
 }

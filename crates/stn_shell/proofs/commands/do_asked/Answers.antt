@@ -31,6 +31,10 @@ returns-in-Among g c =
     completed c.say_of-in-Among.result _ _ _ _ _ (c.in_ok-asked.ensures ∙ ap (λ asked. Ok (seen_asked asked)) c.in-Among.is)
     (rw c.choice_of-choice.ensures at c.say_of-in-Among.ensures)
 
+pub returns-in-Named : goal.returns-in-Named
+returns-in-Named g c =
+    completed c.show_named.result _ _ _ _ _ (c.in_ok-asked.ensures ∙ ap (λ asked. Ok (seen_asked asked)) c.in-Named.is) c.show_named.ensures
+
 pub returns-in-Query : goal.returns-in-Query
 returns-in-Query g c =
     completed c.say_of-in-Query.result _ _ _ _ _ (c.in_ok-asked.ensures ∙ ap (λ asked. Ok (seen_asked asked)) c.in-Query.is) c.say_of-in-Query.ensures

@@ -1,4 +1,4 @@
-use Rattle.std.proofs.Common.{Some, None, refl, ap, inl, inr, ⊎_elim}
+use Rattle.std.proofs.Common.{None, refl, ap, inl, inr, ⊎_elim}
 use Rattle.std.proofs.lemmas.Result.{err_from_is_err_and}
 use Rattle.stn_site.specs.Failures.{replica_failure}
 use Rattle.stn_store.proofs.Lacks.{lack_of_memory}

@@ -1,4 +1,4 @@
-use Rattle.std.proofs.Common.{refl, subst, inl, inr, ⊎_elim, ◌∙◌}
+use Rattle.std.proofs.Common.{refl, subst, inl, inr, ⊎_elim}
 use Rattle.std.proofs.lemmas.Result.{err_from_is_err_and, MatchResult-weaker}
 use Rattle.stn_store.proofs.Lacks.{lack_of_memory}
 use Rattle.stn_shell.specs.Commands.{IsNewLog}
