@@ -112,6 +112,12 @@ def longest_durations(log):
     return longest
 
 
+def told_by_names(log, plan):
+    """Prints the line of an event that took place, with the action and the arguments of its step, as the plan names them."""
+    names = dict(line.split(" ", 1) for line in log.ask("steps", "--plan=" + plan))
+    return lambda line: print(line, names[line.split()[1][1:]])
+
+
 def run(log, machine, tell, robust=False):
     """Runs the plan of a log on a machine. Returns how the run ended: `all done`, or `overdue` with an event, or `conflict`,
     and when that was found."""
@@ -163,7 +169,6 @@ def main():
     parser.add_argument("--first", type=int, default=1)
     parser.add_argument("--quiet", action="store_true", help="print how each run ends, and not its events")
     words = parser.parse_args()
-    tell = (lambda line: None) if words.quiet else print
     early, late = round(words.early * 1000), round(words.late * 1000)
     complete = 0
     with tempfile.TemporaryDirectory() as name:
@@ -172,6 +177,7 @@ def main():
         loose = Log(words.program, folder / "loose.log")
         robust = ["--robust"] if words.robust else []
         loose.ask("loosen", words.domain, words.plan, "--early=" + time_text(early), "--late=" + time_text(late), *robust)
+        tell = (lambda line: None) if words.quiet else told_by_names(loose, words.plan)
         for seed in range(words.first, words.first + words.seeds):
             log = loose.copy(folder / "run.log")
             end = run(log, SimulatedMachine(durations, early, late, seed), tell, words.robust)
