@@ -1,5 +1,6 @@
 -- What a session keeps in a log.
-use Rattle.std.proofs.Common.{◌≡◌, ◌⊎◌, ℕ, false, List, [], ◌∷◌, Option, Some, Result, Ok, Err, OnOk, OnErr, IfErr, refl, sym, ap, subst, ◌∙◌, inl, inr}
+use Rattle.std.proofs.Common.{◌≡◌, ◌≢◌, ◌⊎◌, ℕ, ◌<◌, false, List, [], ◌∷◌, Option, Some, Result, Ok, Err, OnOk, OnErr, IfOk, IfErr, refl, sym, ap, subst, ◌∙◌, inl, inr}
+use Rattle.std.specs.Prelude.{IsErrOf}
 use Rattle.stn_lift.specs.PlanSource.{PlanSource}
 use Rattle.stn_records.specs.Content.{Content, join_contents}
 use Rattle.stn_records.specs.ContentLaws.{contents_join}
@@ -8,8 +9,12 @@ use Rattle.stn_site.specs.Calls.{Leaves, took}
 use Rattle.stn_site.specs.Held.{Held, holding_state}
 use Rattle.stn_wire.specs.Frame.{FrameContent}
 use Rattle.stn_log.specs.Log.{log_held}
-use Rattle.stn_session.specs.Session.{Session, advanced}
-use Rattle.stn_session.specs.Keeping.{KeepsChange, KeepsEach, KeepsLast, IsKept, IsKeptBroken, IsUnkept}
+use Rattle.stn_device.specs.Partner.{PartnerState}
+use Rattle.stn_session.specs.Session.{Session, advanced, opening}
+use Rattle.stn_session.specs.Serving.{IsInputEnd}
+use Rattle.stn_session.proofs.Answered.{fault_or, serve_fault_or, not_err}
+use Rattle.stn_session.specs.declared.session.KeepingFault.{KeepingFault}
+use Rattle.stn_session.specs.Keeping.{KeepsChange, KeepsEach, KeepsLast, IsKept, IsKeptBroken, IsUnkept, IsCutShort}
 use Rattle.stn_session.specs.declared.session.KeepingFault.TheVariants.{Serve, Keep}
 use Rattle.stn_session.specs.declared.session.Served.{Served}
 use Rattle.stn_session.specs.declared.session.ServeFault.{ServeFault}
@@ -18,6 +23,7 @@ use Rattle.stn_store.specs.Store.{Entry, IsThere, Opens, IsLack, saved_too}
 use Rattle.stn_line.specs.declared.words.SiteLog.{SiteLog}
 use Rattle.stn_refusal.specs.declared.failure.Failure.{Failure}
 use Rattle.stn_refusal.specs.declared.failure.Fault.{Fault}
+use Rattle.stn_shell.specs.Connections.{session_answer, IsSessionBetween, IsSessionUnkept}
 use Rattle.stn_shell.specs.Joining.{KeepsIn, FailsIn}
 use Rattle.stn_shell.specs.Refusals.{IsMergeRefusal}
 
@@ -109,5 +115,59 @@ save_failed (Ok done) Fails log source state old new kept lack = tt
 save_failed (Err failure) Fails log source state old new kept lack = (kept, inl lack)
 
 -- a state that was not kept is no fault of the session
-pub apart : (failure : Failure) (fault : ServeFault) → Keep failure ≡ Serve fault → ⊥
+apart : (failure : Failure) (fault : ServeFault) → Keep failure ≡ Serve fault → ⊥
 apart failure fault is = cc
+
+-- ---- a session that keeps in a log
+module _ {P : Type 0} (see : P → Option (List Entry)) (Fails : Fault → Type 0) (log : SiteLog) (source : PlanSource) (met gone : PartnerState) (first last : Content) (place kept : P) where
+  abbrev SavesAt : Content → P → P → Type 0
+  SavesAt state old new = KeepsIn log source state (see old) (see new)
+
+  abbrev FailsAt : Content → P → P → Failure → Type 0
+  FailsAt state old new failure = FailsIn Fails log source state (see old) (see new) failure
+
+  -- what came of it, told as a session, or as a failure
+  pub record Told (answer : Result Served KeepingFault) : Type 0 where
+    pub between : IfOk (session_answer answer) (λ session. IsSessionBetween met gone source log first session last (see place) (see kept))
+    pub unkept : IfErr (session_answer answer) (λ failure. IsSessionUnkept Fails met gone source log first last (see place) (see kept) failure)
+
+  pub told : (answer : Result Served KeepingFault)
+      → IfOk answer (IsKept SavesAt (opening source first) met.unheard gone.unheard met.told gone.told last place kept)
+      → IfOk answer (λ served. IsInputEnd served.end gone.unheard)
+      → IfErr answer (IsCutShort SavesAt FailsAt (opening source first) met.unheard gone.unheard met.told gone.told last place kept)
+      → (IsErrOf answer (Serve Read) → met.failed_reads < gone.failed_reads)
+      → (IsErrOf answer (Serve Write) → met.failed_writes < gone.failed_writes)
+      → (answer ≢ Err (Serve Read) → gone.failed_reads ≡ met.failed_reads)
+      → (answer ≢ Err (Serve Write) → gone.failed_writes ≡ met.failed_writes) → Told answer
+  told (Ok served) is end broken read write reads writes = record {
+    between = record {
+      served = kept_seen see (KeepsIn log source) (opening source first) met.unheard gone.unheard met.told gone.told last place kept served is;
+      heard = end;
+      broken = tt;
+      read_failed = λ e. absurd (not_err _ _ e);
+      write_failed = λ e. absurd (not_err _ _ e);
+      reads_kept = λ _. reads (not_err _ _);
+      writes_kept = λ _. writes (not_err _ _);
+    };
+    unkept = tt;
+  }
+  told (Err (Serve fault)) is end broken read write reads writes = record {
+    between = record {
+      served = tt;
+      heard = tt;
+      broken = broken_seen see (KeepsIn log source) (opening source first) met.unheard gone.unheard met.told gone.told last place kept fault broken;
+      read_failed = λ e. read (ap (λ (f : ServeFault). Err (Serve f)) (ap (fault_or Read) e));
+      write_failed = λ e. write (ap (λ (f : ServeFault). Err (Serve f)) (ap (fault_or Read) e));
+      reads_kept = λ other. reads (λ e. other (ap Err (ap (serve_fault_or Memory) e)));
+      writes_kept = λ other. writes (λ e. other (ap Err (ap (serve_fault_or Memory) e)));
+    };
+    unkept = tt;
+  }
+  told (Err (Keep failure)) is end broken read write reads writes = record {
+    between = tt;
+    unkept = record {
+      unkept = unkept_seen see (KeepsIn log source) (opening source first) met.unheard gone.unheard met.told gone.told last place kept (FailsIn Fails log source) failure broken;
+      reads_kept = reads (λ e. apart failure Read (ap (fault_or (Serve Read)) e));
+      writes_kept = writes (λ e. apart failure Write (ap (fault_or (Serve Read)) e));
+    };
+  }

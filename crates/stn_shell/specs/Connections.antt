@@ -23,6 +23,8 @@ use Rattle.stn_session.specs.declared.exchange.ReplyFault.{ReplyFault}
 use Rattle.stn_session.specs.declared.exchange.ReplyFault.TheVariants as reply
 use Rattle.stn_session.specs.declared.session.End.{End}
 use Rattle.stn_session.specs.declared.session.End.TheVariants.{Closed, Cut, Refused}
+use Rattle.stn_session.specs.declared.session.KeepingFault.{KeepingFault}
+use Rattle.stn_session.specs.declared.session.KeepingFault.TheVariants as keeping
 use Rattle.stn_session.specs.declared.session.Served.{Served}
 use Rattle.stn_session.specs.declared.session.ServeFault.{ServeFault}
 use Rattle.stn_session.specs.declared.session.ServeFault.TheVariants.{Read, Write, Bound, Memory}
@@ -44,6 +46,12 @@ fault_word Memory = codes "memory"
 abbrev pub session_text : Result Served ServeFault → List ℕ
 session_text (Ok served) = codes "session " ++ (decimal served.frames ++ (codes " " ++ (end_text served.end ++ 10 ∷ [])))
 session_text (Err fault) = codes "session " ++ (fault_word fault ++ 10 ∷ [])
+
+-- a fault that ends a session is told in its line; a state that could not be saved ends the serving
+abbrev pub session_answer : Result Served KeepingFault → Result (Result Served ServeFault) Failure
+session_answer (Ok served) = Ok (Ok served)
+session_answer (Err (keeping.Serve fault)) = Ok (Err fault)
+session_answer (Err (keeping.Keep failure)) = Err failure
 
 -- a session of a plan with another site, by what that one said and was told, that found one state and left another; a state that
 -- changed was saved in a log before the site was told of it

@@ -3,7 +3,7 @@
 ghost use Rattle.std.specs.Prelude.{◌≡◌, ◌++◌, ◌-◌, ◌^◌, ◌<◌, Ok, IfOk, IfErr, OnOk, OnErr};
 ghost use Rattle.stn_device.specs.Counted.{failure_count};
 ghost use Rattle.stn_device.specs.Partner.{partner_state};
-ghost use Rattle.stn_shell.specs.Connections.{end_text, fault_word, session_text, IsSessionBetween, IsSessionUnkept, IsSavedSession, IsUnservedSession, Visit, visit_text, IsVisit, PartsAfter, StopsAtPartner, Exchanges, StopsAsking, SendsTo, StopsSendingTo};
+ghost use Rattle.stn_shell.specs.Connections.{end_text, fault_word, session_answer, session_text, IsSessionBetween, IsSessionUnkept, IsSavedSession, IsUnservedSession, Visit, visit_text, IsVisit, PartsAfter, StopsAtPartner, Exchanges, StopsAsking, SendsTo, StopsSendingTo};
 ghost use Rattle.stn_shell.specs.Printing.{device_of, Prints, IsUnprinted};
 
 use crate::joining::{InLog, save_join, take_log};
@@ -93,14 +93,22 @@ fn serve_session<S: Store, R: Read, W: Finish>(
     ensures site { replica.new.site ≡ replica.old.site }
 {
     let keeper = InLog { log };
-    match serve_keeping(
+    let session = serve_keeping(
         alloc,
         &keeper,
         store,
         &mut partner.reader,
         &mut partner.writer,
         replica,
-    ) {
+    );
+    answer_of(session)
+}
+
+// A fault that ends a session is told in its line; a state that could not be saved ends the serving.
+fn answer_of(session: Result<Served, KeepingFault>) -> Result<Result<Served, ServeFault>, Failure>
+    ensures { result ≡ session_answer session }
+{
+    match session {
         Ok(served) => Ok(Ok(served)),
         Err(KeepingFault::Serve(fault)) => Ok(Err(fault)),
         Err(KeepingFault::Keep(failure)) => Err(failure),
