@@ -11,6 +11,7 @@ mod logs;
 mod random;
 mod records;
 mod sessions;
+mod tally;
 mod texts;
 mod words;
 

@@ -2,6 +2,8 @@
 use crate::case::Case;
 use crate::changed::frames::of_frame;
 use crate::held::loaded;
+use crate::tally::{NONE, Tally, print_tally};
+use md5::{Digest, Md5};
 use std::alloc::{AllocError, Global};
 use std::io;
 
@@ -20,97 +22,92 @@ fn case_of(alloc: Global, kind: Kind, bytes: &[u8]) -> Case {
     }
 }
 
-// Prints what became of the numbers from the first to the last.
-fn print_equal(rt: &HostRuntime, first: usize, last: usize, case: Case) -> io::Result<()> {
-    let mark = if first == 0 { ':' } else { ',' };
-    if first < last {
-        print!(rt; "{mark} {first}-{last} {case}")
-    } else {
-        print!(rt; "{mark} {first} {case}")
-    }
-}
-
-// Prints what became of 0, 1, 2 and so on, equal ones in a row together.
-fn print_cases(rt: &HostRuntime, cases: &[Case]) -> io::Result<()> {
-    let mut first = 0;
-    for (at, case) in cases.iter().enumerate() {
-        let next = at.saturating_add(1);
-        if cases.get(next) != Some(case) {
-            print_equal(rt, first, at, *case)?;
-            first = next;
-        }
-    }
-    println!(rt;)
-}
-
-// What becomes of the bytes cut to each length from 0 on.
-fn append_cut(
+// Counts what the bytes are, and adds its line to the digest.
+fn count_case(
     alloc: Global,
     kind: Kind,
     bytes: &[u8],
-    cases: &mut Vec<Case>,
+    tally: &mut Tally,
+    lines: &mut Md5,
+) -> Result<(), AllocError> {
+    let case = case_of(alloc, kind, bytes);
+    let line = format!(in alloc; "{case}\n")?;
+    tally.count(case);
+    lines.update(line.as_bytes());
+    Ok(())
+}
+
+// The bytes cut to each length from 0 on.
+fn count_cut(
+    alloc: Global,
+    kind: Kind,
+    bytes: &[u8],
+    tally: &mut Tally,
+    lines: &mut Md5,
 ) -> Result<(), AllocError> {
     for length in 0..=bytes.len() {
-        cases.push(case_of(alloc, kind, &bytes[..length]))?;
+        count_case(alloc, kind, &bytes[..length], tally, lines)?;
     }
     Ok(())
 }
 
-/// Prints what becomes of the bytes cut to each length from 0 on.
-pub fn print_cut(rt: &HostRuntime, name: &str, kind: Kind, bytes: &[u8]) -> io::Result<()> {
-    print!(rt; "{name} cut to")?;
-    let mut cases = Vec::new(rt.alloc());
-    append_cut(rt.alloc(), kind, bytes, &mut cases)?;
-    print_cases(rt, &cases)
-}
-
-// What becomes of the bytes where the byte at a place is each value.
-fn append_changed(
+// The bytes where the byte at a place is each value.
+fn count_values(
     kind: Kind,
     bytes: &mut Vec<u8>,
     place: usize,
-    cases: &mut Vec<Case>,
+    tally: &mut Tally,
+    lines: &mut Md5,
 ) -> Result<(), AllocError> {
     let alloc = *bytes.allocator();
     for value in 0..=255u8 {
         if let Some(byte) = bytes.get_mut(place) {
             *byte = value;
         }
-        cases.push(case_of(alloc, kind, bytes))?;
+        count_case(alloc, kind, bytes, tally, lines)?;
     }
     Ok(())
 }
 
-fn cases_at(
+fn count_at(
     alloc: Global,
     kind: Kind,
     bytes: &[u8],
     place: usize,
-    cases: &mut Vec<Case>,
+    tally: &mut Tally,
+    lines: &mut Md5,
 ) -> Result<(), AllocError> {
     let mut changed = Vec::from_slice(alloc, bytes)?;
-    let answer = append_changed(kind, &mut changed, place, cases);
-    drop(changed);
-    answer
+    count_values(kind, &mut changed, place, tally, lines)
 }
 
-fn print_place(
-    rt: &HostRuntime,
-    name: &str,
+// The bytes where each byte is each value.
+fn count_changed(
+    alloc: Global,
     kind: Kind,
     bytes: &[u8],
-    place: usize,
-) -> io::Result<()> {
-    print!(rt; "{name} byte {place}")?;
-    let mut cases = Vec::new(rt.alloc());
-    cases_at(rt.alloc(), kind, bytes, place, &mut cases)?;
-    print_cases(rt, &cases)
-}
-
-/// Prints what becomes of the bytes where each is each value.
-pub fn print_changed(rt: &HostRuntime, name: &str, kind: Kind, bytes: &[u8]) -> io::Result<()> {
+    tally: &mut Tally,
+    lines: &mut Md5,
+) -> Result<(), AllocError> {
     for place in 0..bytes.len() {
-        print_place(rt, name, kind, bytes, place)?;
+        count_at(alloc, kind, bytes, place, tally, lines)?;
     }
     Ok(())
+}
+
+// Prints how often each case came, and the digest of their lines.
+fn print_counted(rt: &HostRuntime, name: &str, tally: &Tally, lines: Md5) -> io::Result<()> {
+    print!(rt; "{name}: ")?;
+    print_tally(rt, tally)?;
+    let digest = hex::encode(rt.alloc(), lines.finalize())?;
+    println!(rt; ", digest {digest}")
+}
+
+/// Prints what becomes of the bytes cut to each length from 0 on, and where each byte is each value.
+pub fn print_cases(rt: &HostRuntime, name: &str, kind: Kind, bytes: &[u8]) -> io::Result<()> {
+    let mut tally = NONE;
+    let mut lines = Md5::new();
+    count_cut(rt.alloc(), kind, bytes, &mut tally, &mut lines)?;
+    count_changed(rt.alloc(), kind, bytes, &mut tally, &mut lines)?;
+    print_counted(rt, name, &tally, lines)
 }

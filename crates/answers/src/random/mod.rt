@@ -7,9 +7,9 @@
 mod hostile;
 mod log;
 mod session;
-mod tally;
+mod trials;
 
-use crate::random::tally::{Kind, print_cases};
+use crate::random::trials::{Kind, print_cases};
 use crate::words::{cut_word, push_bytes};
 use std::alloc::AllocError;
 use std::io;

@@ -1,5 +1,5 @@
-//! Sessions and exchanges over a plan of one step. A line has a word, how many bytes a call of the reader hands on at most, which of
-//! its calls fails (0: none), and the bytes that it gives in hex, in words.
+//! Sessions and exchanges over a plan of one step. A line has a name, which is printed, a word, how many bytes a call of the reader
+//! hands on at most, which of its calls fails (0: none), and the bytes that it gives in hex, in words.
 //!
 //! - `serve`: a session of a new replica of site 1. It prints the replies in hex, how many frames were answered, and how it ended.
 //! - `receive`: an exchange of a new replica of site 2. It prints what is asked in hex, the answer, the text that came in hex, and what
@@ -15,7 +15,7 @@ mod limits;
 use crate::case::replica_code;
 use crate::held::new_replica;
 use crate::sessions::limits::print_limits;
-use crate::words::{Row, bytes_of, next_row, print_hex};
+use crate::words::{Row, bytes_of, cut_word, next_row, print_hex};
 use std::alloc::Global;
 use std::io;
 use std::io::{Read, Write};
@@ -152,16 +152,17 @@ fn receive_row(rt: &HostRuntime, reader: PieceReader<'_>) -> io::Result<()> {
     answer
 }
 
-fn answer_row(rt: &HostRuntime, row: &Row<'_>, bytes: &[u8]) -> io::Result<()> {
+// Prints the name of a row, and what comes of it.
+fn answer_row(rt: &HostRuntime, name: &str, row: &Row<'_>, bytes: &[u8]) -> io::Result<()> {
     let reader = PieceReader {
         rest: bytes,
         piece: row.piece,
         calls: 0,
         fails_at: row.fails_at,
     };
+    print!(rt; "{name}: ")?;
     match row.word {
         "serve" => serve_row(rt, reader),
-        "limits" => print_limits(rt),
         _ => receive_row(rt, reader),
     }
 }
@@ -178,11 +179,19 @@ fn append_bytes(words: SplitWhitespace<'_>, bytes: &mut Vec<u8>) -> io::Result<(
     Ok(())
 }
 
-/// Prints what comes of the session or the exchange of a line.
-pub fn answer(rt: &HostRuntime, line: &str) -> io::Result<()> {
-    let mut words = line.split_whitespace();
+// The session or the exchange of the words of a line.
+fn answer_words(rt: &HostRuntime, name: &str, rest: &str) -> io::Result<()> {
+    let mut words = rest.split_whitespace();
     let row = next_row(&mut words);
     let mut bytes = Vec::new(rt.alloc());
     append_bytes(words, &mut bytes)?;
-    answer_row(rt, &row, &bytes)
+    answer_row(rt, name, &row, &bytes)
+}
+
+/// Prints the name that a line gives its session or exchange, and what comes of it.
+pub fn answer(rt: &HostRuntime, line: &str) -> io::Result<()> {
+    match cut_word(line) {
+        ("limits", _) => print_limits(rt),
+        (name, rest) => answer_words(rt, name, rest),
+    }
 }

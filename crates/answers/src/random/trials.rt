@@ -1,9 +1,10 @@
-// How often each case came.
+// Cases of random bytes.
 use crate::case::Case;
 use crate::held::Held;
 use crate::random::hostile::append_hostile;
 use crate::random::log::of_log;
 use crate::random::session::of_session;
+use crate::tally::{NONE, Tally, print_tally};
 use md5::{Digest, Md5};
 use rand_pcg::Pcg32;
 use std::alloc::{AllocError, Global};
@@ -11,48 +12,16 @@ use std::io;
 
 // How often each case came, and how many frames were answered.
 #[derive(Clone, Copy)]
-struct Tally {
+struct Trials {
+    tally: Tally,
     frames: u64,
-    read: u64,
-    unfinished: u64,
-    broken: u64,
-    refused: [u64; 256],
 }
 
-impl Tally {
+impl Trials {
     fn count(&mut self, case: Case, frames: u32) {
+        self.tally.count(case);
         self.frames = self.frames.saturating_add(u64::from(frames));
-        match case {
-            Case::Read => self.read = self.read.saturating_add(1),
-            Case::Unfinished => self.unfinished = self.unfinished.saturating_add(1),
-            Case::Old | Case::Broken => self.broken = self.broken.saturating_add(1),
-            Case::Refused(code) => {
-                let place = usize::from(code);
-                self.refused[place] = self.refused[place].saturating_add(1);
-            }
-        }
     }
-}
-
-const NONE: Tally = Tally {
-    frames: 0,
-    read: 0,
-    unfinished: 0,
-    broken: 0,
-    refused: [0; 256],
-};
-
-fn print_tally(rt: &HostRuntime, tally: &Tally) -> io::Result<()> {
-    print!(rt;
-        "{} read, {} unfinished, {} broken",
-        tally.read, tally.unfinished, tally.broken
-    )?;
-    for (code, count) in tally.refused.iter().enumerate() {
-        if *count > 0 {
-            print!(rt; ", {count} refused {code}")?;
-        }
-    }
-    Ok(())
 }
 
 /// What random bytes are taken for.
@@ -77,9 +46,9 @@ fn held_of(alloc: Global, kind: Kind, bytes: &[u8]) -> Held {
 }
 
 // Counts a case, and adds the log to those that were left.
-fn count_case(alloc: Global, kind: Kind, bytes: &[u8], tally: &mut Tally, left: &mut Md5) {
+fn count_case(alloc: Global, kind: Kind, bytes: &[u8], trials: &mut Trials, left: &mut Md5) {
     let held = held_of(alloc, kind, bytes);
-    tally.count(held.case, held.frames);
+    trials.count(held.case, held.frames);
     left.update(held.log.as_slice());
 }
 
@@ -89,12 +58,12 @@ fn try_one(
     kind: Kind,
     random: &mut Pcg32,
     frames: &[Vec<u8>],
-    tally: &mut Tally,
+    trials: &mut Trials,
     left: &mut Md5,
 ) -> Result<(), AllocError> {
     let mut bytes = Vec::new(alloc);
     append_hostile(random, frames, &mut bytes)?;
-    count_case(alloc, kind, &bytes, tally, left);
+    count_case(alloc, kind, &bytes, trials, left);
     Ok(())
 }
 
@@ -103,12 +72,12 @@ fn try_all(
     kind: Kind,
     count: u32,
     frames: &[Vec<u8>],
-    tally: &mut Tally,
+    trials: &mut Trials,
     left: &mut Md5,
 ) -> Result<(), AllocError> {
     let mut random = random_for(kind);
     for _ in 0..count {
-        try_one(alloc, kind, &mut random, frames, tally, left)?;
+        try_one(alloc, kind, &mut random, frames, trials, left)?;
     }
     Ok(())
 }
@@ -119,12 +88,12 @@ fn print_counted(
     kind: Kind,
     count: u32,
     name: &str,
-    tally: &Tally,
+    trials: &Trials,
 ) -> io::Result<()> {
     print!(rt; "{count} random {name}: ")?;
-    print_tally(rt, tally)?;
+    print_tally(rt, &trials.tally)?;
     match kind {
-        Kind::Session => print!(rt; ", {} frames", tally.frames),
+        Kind::Session => print!(rt; ", {} frames", trials.frames),
         Kind::Log => Ok(()),
     }
 }
@@ -142,9 +111,12 @@ pub fn print_cases(
     name: &str,
     frames: &[Vec<u8>],
 ) -> io::Result<()> {
-    let mut tally = NONE;
+    let mut trials = Trials {
+        tally: NONE,
+        frames: 0,
+    };
     let mut left = Md5::new();
-    try_all(rt.alloc(), kind, count, frames, &mut tally, &mut left)?;
-    print_counted(rt, kind, count, name, &tally)?;
+    try_all(rt.alloc(), kind, count, frames, &mut trials, &mut left)?;
+    print_counted(rt, kind, count, name, &trials)?;
     print_digest(rt, left)
 }
