@@ -105,24 +105,38 @@ fn judged(worked: &Worked, outcome: &Outcome, fault: RunFault) -> Option<bool> {
     }
 }
 
-// Whether each call that is answered with this fault, refused in turn, is answered so, and the script is run as ever where no
-// call is left to be refused.
-fn each_is_answered(alloc: Global, worked: &Worked, fault: RunFault) -> bool {
-    for number in 1..MOST_CALLS {
-        let outcome = attempt(alloc, worked.script, trial_of(fault, number));
-        if let Some(answered) = judged(worked, &outcome, fault) {
-            return answered;
-        }
-    }
-    false
+/// How many requests for memory, reads and writes of a run were refused in turn, each of which was answered as it must be.
+#[derive(Clone, Copy)]
+pub struct Refused {
+    pub requests: u64,
+    pub reads: u64,
+    pub writes: u64,
 }
 
-/// Whether the script has the same output in pieces of one byte, and each request for memory, and each read and each write of
-/// 16 bytes, refused in turn, is answered with its fault, and leaves the beginning of the output.
-pub fn answers_faults(alloc: Global, worked: &Worked) -> bool {
+// How many calls that are answered with this fault were refused in turn, until none was left and the script was run as ever; none
+// where one is not answered so.
+fn count_refused(alloc: Global, worked: &Worked, fault: RunFault) -> Option<u64> {
+    for refused in 0..MOST_CALLS {
+        let outcome = attempt(alloc, worked.script, trial_of(fault, refused + 1));
+        match judged(worked, &outcome, fault) {
+            Some(true) => return Some(refused),
+            Some(false) => return None,
+            None => {}
+        }
+    }
+    None
+}
+
+/// The refused calls of a script: each request for memory, and each read and each write of 16 bytes, is answered with its fault, and
+/// leaves the beginning of the output. None where one is not, or the script has another output in pieces of one byte.
+pub fn sweep(alloc: Global, worked: &Worked) -> Option<Refused> {
     let whole = Trial { piece: 1, ..WORKS };
-    is_right(worked, &attempt(alloc, worked.script, whole))
-        && each_is_answered(alloc, worked, RunFault::Memory)
-        && each_is_answered(alloc, worked, RunFault::Read)
-        && each_is_answered(alloc, worked, RunFault::Write)
+    if !is_right(worked, &attempt(alloc, worked.script, whole)) {
+        return None;
+    }
+    Some(Refused {
+        requests: count_refused(alloc, worked, RunFault::Memory)?,
+        reads: count_refused(alloc, worked, RunFault::Read)?,
+        writes: count_refused(alloc, worked, RunFault::Write)?,
+    })
 }

@@ -1,7 +1,7 @@
 //! For tests: runs scripts and prints what each prints and what its run counts, after a line `= <name>`: first those of
 //! its input, each after such a line, and then those of the files that its arguments name. Of each script of its input
 //! that has at most 1,024 bytes and prints at most so many it then has each request for memory, each read and each write
-//! refused in turn, and prints whether all was answered as it must be.
+//! refused in turn, and prints how many were, if each was answered as it must be.
 //!
 //! What sites report is compared after lines with another mark:
 //!
@@ -18,7 +18,7 @@ mod fresh;
 mod output;
 mod ring;
 
-use crate::faults::{Worked, answers_faults};
+use crate::faults::{Refused, Worked, sweep};
 use crate::fresh::compare;
 use crate::ring::merge_in_ring;
 use std::alloc::AllocError;
@@ -30,18 +30,24 @@ use stn_exec::{Counted, Ran, RunFault, run};
 // The most bytes of a script, and of its output, of which every call is refused in turn.
 const MOST_SWEPT: usize = 1024;
 
-// Prints whether each call of a script, refused in turn, is answered as it must be, where neither the script nor what it
+// Prints how many calls of a script were refused in turn, if each was answered as it must be, where neither the script nor what it
 // prints is long.
 fn print_sweep(rt: &HostRuntime, worked: &Worked) -> io::Result<()> {
     if worked.script.len() > MOST_SWEPT || worked.text.len() > MOST_SWEPT {
         return Ok(());
     }
-    let answered = if answers_faults(rt.alloc(), worked) {
-        "each fault is answered"
-    } else {
-        "a fault is not answered"
-    };
-    println!(rt; "{answered}")
+    match sweep(rt.alloc(), worked) {
+        Some(
+            Refused {
+                requests,
+                reads,
+                writes,
+            },
+        ) => println!(rt;
+            "answers each of {requests} requests, {reads} reads and {writes} writes that were refused"
+        ),
+        None => println!(rt; "a refused call is not answered"),
+    }
 }
 
 // Prints what a run counts, or why it ended.
