@@ -15,11 +15,12 @@ ghost use Rattle.stn_line.specs.declared.words.Line.TheVariants as of;
 
 use crate::changes::{copied, opened, take_in};
 use crate::explaining::explain;
+use crate::keeping::Kept;
 use crate::loosening::loosen;
 use crate::words::{Asked, read_asked, read_tolerance};
 use std::alloc::Global;
 use stn_command::{
-    Change, Choice, Made, Query, Shown, make_change, no_such_word, print_guard, say, say_named,
+    Change, Choice, Made, Query, Shown, make_change, no_such_word, print_guard, say_named,
 };
 use stn_guard::{OwnedSteps, add_guard};
 use stn_lift::Source;
@@ -46,6 +47,20 @@ pub fn answer<S: Store>(alloc: Global, store: &mut S, line: &Line<'_>) -> Result
         (λ text. Succeeds (S.entries store.old) (S.entries store.new) line.now text.items)
         (IsUndone (IsRefusalOf (S.entries store.old) line.now) S.fails (S.entries store.old) (S.entries store.new)) }
 {
+    answer_with(alloc, store, &mut Kept::nothing(), line)
+}
+
+/// Does a command on a log as `answer` does, and keeps what is worth keeping for the next one.
+pub fn answer_with<S: Store>(
+    alloc: Global,
+    store: &mut S,
+    kept: &mut Kept,
+    line: &Line<'_>,
+) -> Result<Vec<u8>, Failure>
+    ensures { MatchResult result
+        (λ text. Succeeds (S.entries store.old) (S.entries store.new) line.now text.items)
+        (IsUndone (IsRefusalOf (S.entries store.old) line.now) S.fails (S.entries store.old) (S.entries store.new)) }
+{
     match line {
         Line::Bare { log, steps } => make_bare(alloc, store, log, *steps),
         Line::Init { log, domain, plan } => make_of_texts(alloc, store, log, *domain, *plan),
@@ -58,12 +73,17 @@ pub fn answer<S: Store>(alloc: Global, store: &mut S, line: &Line<'_>) -> Result
             robust,
         } => loosen_texts(alloc, store, log, *domain, *plan, *early, *late, *robust),
         Line::Explain { code } => explain_word(alloc, store, *code),
-        _ => do_asked(alloc, store, line),
+        _ => do_asked(alloc, store, kept, line),
     }
 }
 
 // Does what a command asks of a log that is there.
-fn do_asked<S: Store>(alloc: Global, store: &mut S, line: &Line<'_>) -> Result<Vec<u8>, Failure>
+fn do_asked<S: Store>(
+    alloc: Global,
+    store: &mut S,
+    kept: &mut Kept,
+    line: &Line<'_>,
+) -> Result<Vec<u8>, Failure>
     ensures { MatchResult result
         (λ text. IsOkAnd (asked_of line.now) (λ asked. IsDone (S.entries store.old) (S.entries store.new) asked text.items)
         × WithWords (asked_of line.now) (IsAskedRefusal (S.entries store.old)) None)
@@ -74,13 +94,13 @@ fn do_asked<S: Store>(alloc: Global, store: &mut S, line: &Line<'_>) -> Result<V
         Asked::Change(log, asked) => change_log(alloc, store, log, &asked),
         Asked::Merge(log, other) => merge_log(alloc, store, log, other),
         Asked::Guard(log, owned) => guard_log(alloc, store, log, &owned),
-        Asked::Check(log, times) => say_of(store, log, &Query::Check(&times)),
+        Asked::Check(log, times) => say_of(store, kept, log, &Query::Check(&times)),
         Asked::Among(log, outlook, now, steps, starts) => {
             let choice = choice_of(&steps, starts);
-            say_of(store, log, &Query::Among(outlook, now, choice))
+            say_of(store, kept, log, &Query::Among(outlook, now, choice))
         }
         Asked::Named(log, shown, plan) => show_named(store, log, shown, plan),
-        Asked::Query(log, asked) => say_of(store, log, &asked),
+        Asked::Query(log, asked) => say_of(store, kept, log, &asked),
     }
 }
 
@@ -339,13 +359,18 @@ fn choice_of(steps: &Option<Vec<StepRange, Global>>, starts: bool) -> Choice<'_>
 }
 
 // What is said of a log.
-fn say_of<S: Store>(store: &mut S, log: &SiteLog<'_>, asked: &Query<'_>) -> Result<Vec<u8>, Failure>
+fn say_of<S: Store>(
+    store: &mut S,
+    kept: &mut Kept,
+    log: &SiteLog<'_>,
+    asked: &Query<'_>,
+) -> Result<Vec<u8>, Failure>
     ensures { MatchResult result
         (λ text. Completes (S.entries store.old) (S.entries store.new) (query log.now (seen_query asked.now)) text.items)
         (IsUndone (IsAskedRefusal (S.entries store.old) (query log.now (seen_query asked.now))) S.fails (S.entries store.old) (S.entries store.new)) }
 {
     let plan = store.load(log.name, log.site)?;
-    say(plan, asked)
+    kept.say(plan, asked)
 }
 
 // What is shown of a log whose plan is bare, by the names of a plan's file.

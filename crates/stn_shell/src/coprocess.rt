@@ -14,7 +14,8 @@ ghost use Rattle.stn_shell.specs.Coprocess.{standing, line_words, IsCommand, Ask
 ghost use Rattle.stn_shell.specs.Endings.{Succeeds};
 ghost use Rattle.stn_shell.specs.Printing.{device_of, Prints, IsUnprinted, TellsText};
 
-use crate::commands::answer;
+use crate::commands::answer_with;
+use crate::keeping::Kept;
 use crate::lines::read_line;
 use crate::printing::{print_now, tell, tell_failure};
 use crate::process::NO_TEXT;
@@ -57,7 +58,19 @@ pub fn run_shell<S: Store, R: Read, W: Write, E: Write>(
         room: MOST_BYTES,
         refused: false,
     };
-    match do_lines(alloc, store, log, &mut progress, reader, out, err) {
+    let mut kept = Kept::nothing();
+    let done = do_lines(
+        alloc,
+        store,
+        &mut kept,
+        log,
+        &mut progress,
+        reader,
+        out,
+        err,
+    );
+    drop(kept);
+    match done {
         Ok(()) => u8::from(progress.refused),
         Err(failure) => {
             tell_failure(alloc, failure, out, err);
@@ -70,6 +83,7 @@ pub fn run_shell<S: Store, R: Read, W: Write, E: Write>(
 fn do_lines<S: Store, R: Read, W: Write, E: Write>(
     alloc: Global,
     store: &mut S,
+    kept: &mut Kept,
     log: &SiteLog<'_>,
     progress: &mut Progress,
     reader: &mut Counted<R>,
@@ -87,7 +101,7 @@ fn do_lines<S: Store, R: Read, W: Write, E: Write>(
 {
     find_log(store, log)?;
     'turns: loop {
-        let more = turn(alloc, store, log, progress, reader, out, err)?;
+        let more = turn(alloc, store, kept, log, progress, reader, out, err)?;
         if !more {
             return Ok(());
         }
@@ -108,6 +122,7 @@ fn find_log<S: Store>(store: &S, log: &SiteLog<'_>) -> Result<(), Failure>
 fn turn<S: Store, R: Read, W: Write, E: Write>(
     alloc: Global,
     store: &mut S,
+    kept: &mut Kept,
     log: &SiteLog<'_>,
     progress: &mut Progress,
     reader: &mut Counted<R>,
@@ -128,7 +143,7 @@ fn turn<S: Store, R: Read, W: Write, E: Write>(
     match read_line(alloc, reader, &mut progress.room)? {
         Some(text) => {
             progress.lines += 1;
-            let refused = do_line(alloc, store, log, progress.lines, &text, out, err);
+            let refused = do_line(alloc, store, kept, log, progress.lines, &text, out, err);
             drop(text);
             progress.refused |= refused?;
             Ok(true)
@@ -141,6 +156,7 @@ fn turn<S: Store, R: Read, W: Write, E: Write>(
 fn do_line<S: Store, W: Write, E: Write>(
     alloc: Global,
     store: &mut S,
+    kept: &mut Kept,
     log: &SiteLog<'_>,
     number: u32,
     text: &[u8],
@@ -157,7 +173,7 @@ fn do_line<S: Store, W: Write, E: Write>(
     if is_skipped(text) {
         return Ok(false);
     }
-    match reply(alloc, store, log, number, text, err) {
+    match reply(alloc, store, kept, log, number, text, err) {
         Ok(answered) => {
             print_answer(answered, out)?;
             Ok(false)
@@ -203,6 +219,7 @@ fn text_of(alloc: Global, refusal: Refusal) -> Result<Vec<u8>, Memory>
 fn reply<S: Store, E: Write>(
     alloc: Global,
     store: &mut S,
+    kept: &mut Kept,
     log: &SiteLog<'_>,
     number: u32,
     text: &[u8],
@@ -217,7 +234,7 @@ fn reply<S: Store, E: Write>(
     let mut digits = Buffer::new();
     let site = digits.format(log.site.number());
     match read_words(alloc, log.name, site, text)? {
-        Some(words) => reply_to(alloc, store, number, &words, err),
+        Some(words) => reply_to(alloc, store, kept, number, &words, err),
         None => {
             tell(NO_TEXT, err);
             Err(Failure::refused_at(Code::Line, number))
@@ -279,6 +296,7 @@ fn read_further<'a>(before: Vec<&'a str>, text: &'a [u8]) -> Result<Option<Vec<&
 fn reply_to<S: Store, E: Write>(
     alloc: Global,
     store: &mut S,
+    kept: &mut Kept,
     number: u32,
     words: &[&str],
     err: &mut Counted<E>,
@@ -292,7 +310,7 @@ fn reply_to<S: Store, E: Write>(
     match line(alloc, words) {
         Ok(asked) => {
             if is_of_shell(&asked) {
-                answer(alloc, store, &asked)
+                answer_with(alloc, store, kept, &asked)
             } else {
                 Err(Failure::refused_at(Code::Line, number))
             }

@@ -16,6 +16,7 @@ mod coprocess;
 mod execution;
 mod explaining;
 mod joining;
+mod keeping;
 mod laws;
 mod lines;
 mod loosening;

@@ -6,7 +6,7 @@ use Rattle.stn_shell.proofs.coprocess.run_shell.Goals as goal
 
 pub returns-in-Ok-clause-ended : goal.returns-in-Ok-clause-ended
 returns-in-Ok-clause-ended g c =
-    let new = c.do_lines.new in (
+    let new = c.do_lines-done.new in (
       standing new.progress (g.S.Store.entries new.store) (device_of g.R.Read.remaining new.reader) (device_of g.W.Write.contents new.out) (device_of g.E.Write.contents new.err),
       refl,
       refl,
@@ -15,7 +15,7 @@ returns-in-Ok-clause-ended g c =
 
 pub returns-in-Err-clause-ended : goal.returns-in-Err-clause-ended
 returns-in-Err-clause-ended g c =
-    let new = c.do_lines.new in (
+    let new = c.do_lines-done.new in (
       standing new.progress (g.S.Store.entries new.store) (device_of g.R.Read.remaining new.reader) (device_of g.W.Write.contents new.out) (device_of g.E.Write.contents new.err),
       refl,
       refl,

@@ -1,5 +1,5 @@
 use Rattle.stn_shell.proofs.OfLogs.{succeeded}
-use Rattle.stn_shell.proofs.commands.answer.Goals as goal
+use Rattle.stn_shell.proofs.commands.answer_with.Goals as goal
 
 pub returns-in-Bare : goal.returns-in-Bare
 returns-in-Bare g c = rw c.in-Bare.is c.make_bare.ensures
