@@ -8,7 +8,7 @@ One run goes like this:
 
 - `loosen` makes a log of the plan, in which each step may end up to `--early` earlier and up to `--late` later. With
   `--robust`, the log also bounds the starts, so that the plan completes however long the steps take.
-- The driver reads the clock and asks `ready` which events may come next: one question for each decision. It waits until
+- The driver reads the clock and asks a `shell` on the log, by `ready`, which events may come next: one question for each decision. It waits until
   the first of them that it can start may start, and starts that step; or it waits until the machine says that a step has
   ended. In a robust plan it asks `ready --starts`: a start may then take place at any time of its window, whatever steps
   still run, as long as none of them takes longer than its tolerance.
@@ -28,39 +28,17 @@ import sys
 import tempfile
 from pathlib import Path
 
+from stn import Failed, Refused, Shell, millis_of, time_text
+
 SITE = "1"
 HORIZON = 31_536_000_000
 
 
-def millis_of(text):
-    """A time that the program printed, in milliseconds."""
-    whole, part = text.split(".")
-    return int(whole) * 1000 + int(part)
-
-
-def time_text(millis):
-    return f"{millis // 1000}.{millis % 1000:03}"
-
-
-class Log:
-    """A log of a plan, and the commands on it."""
-
-    def __init__(self, program, path):
-        self.program = program
-        self.path = path
-
-    def ask(self, command, *words):
-        """The lines that a command prints. A command that fails ends the driver."""
-        done = subprocess.run(
-            [self.program, command, str(self.path), SITE, *words], capture_output=True, text=True, check=False
-        )
-        if done.returncode != 0:
-            sys.exit(f"{command} {' '.join(words)}: {(done.stdout + done.stderr).strip()}")
-        return done.stdout.splitlines()
-
-    def copy(self, path):
-        shutil.copyfile(self.path, path)
-        return Log(self.program, path)
+def make_log(program, command, path, *words):
+    """Makes a log with `init` or `loosen`. If that fails, the driver ends."""
+    done = subprocess.run([program, command, str(path), SITE, *words], capture_output=True, text=True, check=False)
+    if done.returncode != 0:
+        sys.exit(f"{command} {' '.join(words)}: {(done.stdout + done.stderr).strip()}")
 
 
 class SimulatedMachine:
@@ -97,9 +75,10 @@ class SimulatedMachine:
 
 def planned_durations(program, domain, plan, folder):
     """The duration of each step, in milliseconds, as `steps` prints it of the exact plan."""
-    log = Log(program, folder / "exact.log")
-    log.ask("init", domain, plan)
-    return {words[0]: millis_of(words[-1]) for words in (line.split() for line in log.ask("steps"))}
+    path = folder / "exact.log"
+    make_log(program, "init", path, domain, plan)
+    with Shell(program, path, SITE) as log:
+        return {words[0]: millis_of(words[-1]) for words in (line.split() for line in log.ask("steps"))}
 
 
 def longest_durations(log):
@@ -119,8 +98,8 @@ def told_by_names(log, plan):
 
 
 def run(log, machine, tell, robust=False):
-    """Runs the plan of a log on a machine. Returns how the run ended: `all done`, or `overdue` with an event, or `conflict`,
-    and when that was found."""
+    """Runs the plan of a log, which a shell is asked of, on a machine. Returns how the run ended: `all done`, or `overdue`
+    with an event, or `conflict`, and when that was found."""
     options = ["--starts"] if robust else []
     longest = longest_durations(log) if robust else {}
     # By when each step that runs has to end, where `ready` says nothing of ends.
@@ -174,17 +153,22 @@ def main():
     with tempfile.TemporaryDirectory() as name:
         folder = Path(name)
         durations = planned_durations(words.program, words.domain, words.plan, folder)
-        loose = Log(words.program, folder / "loose.log")
+        loose, path = folder / "loose.log", folder / "run.log"
         robust = ["--robust"] if words.robust else []
-        loose.ask("loosen", words.domain, words.plan, "--early=" + time_text(early), "--late=" + time_text(late), *robust)
-        tell = (lambda line: None) if words.quiet else told_by_names(loose, words.plan)
+        tolerance = ["--early=" + time_text(early), "--late=" + time_text(late)]
+        make_log(words.program, "loosen", loose, words.domain, words.plan, *tolerance, *robust)
         for seed in range(words.first, words.first + words.seeds):
-            log = loose.copy(folder / "run.log")
-            end = run(log, SimulatedMachine(durations, early, late, seed), tell, words.robust)
+            shutil.copyfile(loose, path)
+            with Shell(words.program, path, SITE) as log:
+                tell = (lambda line: None) if words.quiet else told_by_names(log, words.plan)
+                end = run(log, SimulatedMachine(durations, early, late, seed), tell, words.robust)
             complete += end == "all done"
             print(f"seed {seed}: {end}")
     print(f"{complete} of {words.seeds} runs came to `all done`")
 
 
 if __name__ == "__main__":
-    main()
+    try:
+        main()
+    except (Refused, Failed) as error:
+        sys.exit(str(error))

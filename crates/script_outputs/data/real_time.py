@@ -47,9 +47,10 @@ def main():
     with tempfile.TemporaryDirectory() as name:
         folder = Path(name)
         durations = driver.planned_durations(program, domain, plan, folder)
-        log = driver.Log(program, folder / "run.log")
-        log.ask("loosen", domain, plan, f"--early={tolerance:.3f}", f"--late={tolerance:.3f}")
-        end = driver.run(log, ThreadMachine(durations), lambda line: print(line, flush=True))
+        path = folder / "run.log"
+        driver.make_log(program, "loosen", path, domain, plan, f"--early={tolerance:.3f}", f"--late={tolerance:.3f}")
+        with driver.Shell(program, path, driver.SITE) as log:
+            end = driver.run(log, ThreadMachine(durations), lambda line: print(line, flush=True))
     print(end)
     sys.exit(end != "all done")
 
