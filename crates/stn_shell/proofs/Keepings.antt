@@ -1,8 +1,8 @@
 -- What a session keeps in a log.
-use Rattle.std.proofs.Common.{◌≡◌, ◌≢◌, ◌⊎◌, ℕ, ◌<◌, false, List, [], ◌∷◌, Option, Some, Result, Ok, Err, OnOk, OnErr, IfOk, IfErr, refl, sym, ap, subst, ◌∙◌, inl, inr}
+use Rattle.std.proofs.Common.{◌≡◌, ◌≢◌, ℕ, ◌<◌, false, List, [], ◌∷◌, Option, Result, Ok, Err, OnOk, OnErr, IfOk, IfErr, refl, ap, subst, ◌∙◌, inl, inr}
 use Rattle.std.specs.Prelude.{IsErrOf}
 use Rattle.stn_lift.specs.PlanSource.{PlanSource}
-use Rattle.stn_records.specs.Content.{Content, join_contents}
+use Rattle.stn_records.specs.Content.{Content}
 use Rattle.stn_records.specs.ContentLaws.{contents_join}
 use Rattle.stn_records.specs.JoinLaws.{commutes}
 use Rattle.stn_site.specs.Calls.{Leaves, took}

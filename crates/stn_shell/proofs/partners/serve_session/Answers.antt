@@ -1,6 +1,4 @@
-use Rattle.std.proofs.Common.{IfOk, IfErr, Result, subst, sym}
 use Rattle.stn_device.specs.Partner.{partner_state}
-use Rattle.stn_shell.specs.Connections.{IsSessionBetween, IsSessionUnkept}
 use Rattle.stn_shell.proofs.Keepings.{told}
 use Rattle.stn_shell.proofs.partners.serve_session.Goals as goal
 
