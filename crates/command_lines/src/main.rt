@@ -7,6 +7,9 @@
 //! - `:withdrawn FILE COUNT SITE MANY` does so with a frame of the first so many withdrawn ids of a site;
 //! - `:folder NAME` makes a folder, `:link NAME TARGET` a link;
 //! - `:from FILE WORDS` does a command with the file as its standard input;
+//! - `:unprinted FILE NUMBER WORDS` does so with an output that fails to take the text of this number;
+//! - `:shared LOG FILE` does the lines of the file in a shell on a log of site 1; a line `!NAME` of it gives the file of that name the name
+//!   of the log, as another program may between two lines;
 //! - `:status WORDS` prints the status of a command alone;
 //! - `:told WORDS` does a command, and prints what stands on its output, what on the standard error, and its status;
 //! - `:mode FILE` prints who may read, write and run a file, in octal; `:chmod FILE MODE` sets that;
@@ -27,11 +30,13 @@
 mod edges;
 mod loopback;
 mod memory;
+mod shared;
 mod talk;
 
 use crate::edges::{hold, print_mode, save_by_link, set_mode, tell};
 use crate::loopback::run_scenario;
 use crate::memory::{put, run_in_memory};
+use crate::shared::{fail, share};
 use crate::talk::{serve_saying, talk};
 use std::alloc::{AllocError, Global};
 use std::io::{Error, Write};
@@ -185,6 +190,12 @@ fn run_from(rt: &HostRuntime, name: &str, line: &str) -> io::Result<()> {
     run_line(rt, line, &input)
 }
 
+// Does one whose output fails to take the text of this number.
+fn run_unprinted(rt: &HostRuntime, name: &str, words: &str) -> io::Result<()> {
+    let (number, line) = cut_word(words);
+    fail(rt, name, number.parse().unwrap_or(0), line)
+}
+
 fn run_each_cut(rt: &HostRuntime, bytes: &[u8], words: &str) -> io::Result<()> {
     let (cut, line) = cut_word(words);
     for length in 0..=bytes.len() {
@@ -230,6 +241,8 @@ fn do_other(rt: &HostRuntime, line: &str) -> io::Result<()> {
         ":folder" => fs::create_dir(rt, name),
         ":link" => symlink(rt, rest, name),
         ":from" => run_from(rt, name, rest),
+        ":unprinted" => run_unprinted(rt, name, rest),
+        ":shared" => share(rt, name, rest),
         ":cuts" => run_cuts(rt, name, rest),
         ":mode" => print_mode(rt, name),
         ":chmod" => set_mode(rt, name, rest),
