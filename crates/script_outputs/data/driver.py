@@ -8,10 +8,10 @@ One run goes like this:
 
 - `loosen` makes a log of the plan, in which each step may end up to `--early` earlier and up to `--late` later. With
   `--robust`, the log also bounds the starts, so that the plan completes however long the steps take.
-- The driver reads the clock and asks a `shell` on the log, by `ready`, which events may come next: one question for each decision. It waits until
-  the first of them that it can start may start, and starts that step; or it waits until the machine says that a step has
-  ended. In a robust plan it asks `ready --starts`: a start may then take place at any time of its window, whatever steps
-  still run, as long as none of them takes longer than its tolerance.
+- The driver reads the clock and asks, by `ready` in a shell on the log, which events may come next: one question for each
+  decision. It waits until the first of them that it can start may start, and starts that step; or it waits until the
+  machine says that a step has ended. In a robust plan it asks `ready --starts`: a start may then take place at any time
+  of its window, whatever steps still run, as long as none of them takes longer than its tolerance.
 - Each event that takes place is recorded with `done`, at the time that the clock showed. No end is ever commanded.
 
 The run ends with `all done`, or with `overdue` and the event that can't take place any more, or with `conflict`. The
