@@ -242,6 +242,40 @@ def crowded(folder):
         run_command(" ".join(["crowded loosen", *robust]), words, folder, lambda: loose.unlink(missing_ok=True))
 
 
+def shell_lines(name, log, folder, lines):
+    """The best wall time of a line of a shell on a log, of three runs, and its instructions."""
+    made = log.read_bytes()
+    asked = folder / "asked"
+    asked.write_text("\n".join(lines) + "\n")
+    best, done = timed(["shell", log.name, "1"], folder, asked, lambda: log.write_bytes(made))
+    log.write_bytes(made)
+    count = instructions(["shell", log.name, "1"], folder, asked) if len(lines) <= 1000 else None
+    log.write_bytes(made)
+    row = f"{name}: {len(lines)} lines, status {done.returncode}, {best / len(lines) * 1000:.3f} ms a line"
+    print(row if count is None else f"{row}, {count / len(lines) / 1e6:.2f} million instructions a line", flush=True)
+
+
+def shell(folder):
+    """A shell that is asked `next`, also between lines that record and withdraw, and single commands that ask and record."""
+    log = folder / "shell.log"
+    for steps, records in ((12, 0), (256, 4000)):
+        subprocess.run([str(PROGRAM), "bare", log.name, "1", str(steps)], cwd=folder, stdout=subprocess.DEVNULL, check=True)
+        if records:
+            log.write_bytes(bounded_log(records)[0])
+        name = f"shell of {steps} steps, {records} records"
+        changes = min(2500, 4095 - records)
+        changed = [line for number in range(records + 1, records + changes + 1)
+                   for line in (f"done s1 {SPREAD // 2000}", "next 0", f"withdraw 1.{number}", "next 0")]
+        for many in (100, 10_000):
+            shell_lines(f"{name}, next", log, folder, ["next 0"] * many)
+            shell_lines(f"{name}, done, withdraw and next", log, folder, changed[:many])
+        made = log.read_bytes()
+        for words in ("next 0", f"done s1 {SPREAD // 2000}"):
+            command, *rest = words.split()
+            run_command(f"{name}, single {command}", [command, log.name, "1", *rest], folder, lambda: log.write_bytes(made))
+        log.unlink()
+
+
 def send_pieces(port, data, piece):
     """Sends the bytes in pieces, and reads all that comes back."""
     with socket.create_connection(("127.0.0.1", port)) as link:
@@ -272,7 +306,7 @@ def feed(folder):
         served.wait()
 
 
-OTHERS = {made.__name__: made for made in (frames, commands, crowded, feed)}
+OTHERS = {made.__name__: made for made in (frames, commands, crowded, shell, feed)}
 
 
 def main():

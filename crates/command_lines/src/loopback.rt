@@ -384,12 +384,13 @@ fn serve_unsaved(rt: &HostRuntime, listener: &TcpListener) -> io::Result<()> {
     serve_unlockable(rt, listener)
 }
 
-// Serves while nobody can lock the log.
+// Serves while nobody can lock the log, which may be locked again afterwards.
 fn serve_unlockable(rt: &HostRuntime, listener: &TcpListener) -> io::Result<()> {
     fs::remove_file(rt, "near.log.lock")?;
     fs::create_dir(rt, "near.log.lock")?;
     serve_waiting(rt, listener, 1, "near.log")?;
-    fs::remove_dir(rt, "near.log.lock")
+    fs::remove_dir(rt, "near.log.lock")?;
+    fs::write(rt, "near.log.lock", b"")
 }
 
 // Requests whose records can't be saved: prints the replies, after which the log is as before.
