@@ -63,7 +63,10 @@ class Shell:
 
     def end(self):
         """Ends the shell: its status, 0 where nothing was refused and nothing failed."""
-        self.process.stdin.close()
+        try:
+            self.process.stdin.close()
+        except OSError:
+            pass  # It had ended before it read the last line.
         self.process.stdout.close()
         return self.process.wait()
 
