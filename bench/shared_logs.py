@@ -582,12 +582,12 @@ def full_device(stn):
     return None
 
 
-def full_behind_serve(stn):
-    """A log that can't be saved behind `serve`: the site that sends is not told that its records are in, and the old log stays."""
+def full_under_serve(stn):
+    """A log that can't be saved under `serve`: the site that sends is not told that its records are in, and the old log stays."""
     os.mkdir("small")
     mounted = subprocess.run(["mount", "-t", "tmpfs", "-o", "size=16k", "none", "small"], capture_output=True)
     if mounted.returncode != 0:
-        return "a full file system behind serve: it can't be mounted"
+        return "a full file system under serve: it can't be mounted"
     address = f"127.0.0.1:{free_port()}"
     server = None
     try:
@@ -852,7 +852,7 @@ TRIED = [
     two_writers,
     small_device,
     full_device,
-    full_behind_serve,
+    full_under_serve,
     told_and_killed,
     told_within_a_session,
     unprinted,

@@ -4,7 +4,7 @@ name of PROMISES.md in the crates, and the numbers of refusals in their table.
 
 usage: docs/listings.py
 
-A listing is a fenced block of README.md or of the guide. Its lines have to stand one behind the other in a script that the
+A listing is a fenced block of README.md or of the guide. Its lines have to stand one after the other in a script that the
 gate runs, or in what such a script prints, as both are stored with the programs of tests; lines `$ stn ..` and what they
 print, in what the program of command lines prints. A listing with a line `..` leaves out lines there. Passed over are
 listings for a shell (`sh`), and those of two terminals (`console`), whose two ends a program of tests runs. Clauses and
@@ -13,9 +13,9 @@ definitions (`antt`) have to stand in a source, but their lines may be broken el
 A link has to lead to a file, and where it names an anchor, to a heading of it. A path begins at the top, at a crate or at a
 folder of a crate, and a file of `specs/` and `proofs/` is also named without its ending; a name alone is that of some file.
 
-A name is a word in backticks, perhaps behind its crate or its type, as in `Type::name`. PROMISES.md, and what README.md
+A name is a word in backticks, perhaps after its crate or its type, as in `Type::name`. PROMISES.md, and what README.md
 says of proofs and crates, name functions, types, traits, constants, what a trait says of its types, definitions, crates, and
-clauses of the functions that the same item names before; the parentheses behind a function list clauses. In PROMISES.md the
+clauses of the functions that the same item names before; the parentheses after a function list clauses. In PROMISES.md the
 section of a crate has to name each function with a clause that another crate can call: `pub`, and handed on by `lib.rt`, or
 of a type or trait that is.
 
@@ -219,7 +219,7 @@ def differences():
 
 
 def clause_end(text, place):
-    """The place behind a clause, whose brace stands at this place."""
+    """The place after a clause, whose brace stands at this place."""
     depth = 0
     for place in range(place, len(text)):
         depth += {"{": 1, "}": -1}.get(text[place], 0)
@@ -228,7 +228,7 @@ def clause_end(text, place):
     return len(text)
 
 
-def clauses_behind(text, place):
+def clauses_after(text, place):
     """The names of the clauses of the function whose name ends at a place of a file; one without a name is ``."""
     found = []
     while mark := END_OF_HEAD.search(text, place):
@@ -274,7 +274,7 @@ def functions_of(crate):
                 is_trait = match["kind"] == "trait"
             else:
                 shown = bool(match["pub"] or is_trait) and not of_trait
-                yield Function(crate.name, owner, match["name"], clauses_behind(text, match.end()),
+                yield Function(crate.name, owner, match["name"], clauses_after(text, match.end()),
                                shown and (path.name == "lib.rt" or (owner or match["name"]) in public))
 
 
@@ -319,7 +319,7 @@ def items(text):
 
 
 def missing_names(document, functions, others, named):
-    """The names of a document that don't exist. A word behind `Type::name` belongs to the same type, if that has such a function.
+    """The names of a document that don't exist. A word after `Type::name` belongs to the same type, if that has such a function.
     The functions that the sections of their crates name are added to `named`."""
     text = without_listings(document)
     for section, begins, item in items(text):
