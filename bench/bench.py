@@ -249,7 +249,7 @@ def shell_lines(name, log, folder, lines):
     asked.write_text("\n".join(lines) + "\n")
     best, done = timed(["shell", log.name, "1"], folder, asked, lambda: log.write_bytes(made))
     log.write_bytes(made)
-    count = instructions(["shell", log.name, "1"], folder, asked) if len(lines) <= 1000 else None
+    count = instructions(["shell", log.name, "1"], folder, asked) if len(lines) <= 100 else None
     log.write_bytes(made)
     row = f"{name}: {len(lines)} lines, status {done.returncode}, {best / len(lines) * 1000:.3f} ms a line"
     print(row if count is None else f"{row}, {count / len(lines) / 1e6:.2f} million instructions a line", flush=True)
