@@ -1,12 +1,9 @@
 use Rattle.std.proofs.Common.{refl, subst, All}
-use Rattle.std.proofs.{lemmas.Bool.false≢true, lemmas.List.Elements.All-nil}
+use Rattle.std.proofs.lemmas.Bool.{false≢true}
 use Rattle.std.specs.FinMap.{entries}
 use Rattle.stn_net.specs.Difference.{NamesEvents}
 use Rattle.stn_site.proofs.Places.{walked_are, seen_with, all_seen, next_of}
 use Rattle.stn_site.proofs.site_plan.all_name_events.Goals as goal
-
-pub loop-record-init : goal.loop-record-init
-loop-record-init g c = All-nil (λ entry. NamesEvents c.args.events entry.1.bound)
 
 pub returns-then-not-names_events : goal.returns-then-not-names_events
 returns-then-not-names_events g c =

@@ -20,11 +20,6 @@ returns-in_err-bound g c =
       kept = rw p.1 refl;
     }
 
-pub hold-requires : goal.hold-requires
-hold-requires g c =
-    let events = c.events.ensures.value ∙ ap events_of c.deref.ensures ∙ ap (λ (h : Held). events_of h.source) c.self.view_is in
-    record { named = (subst (λ n. IsBoundWithin n c.in_ok-bound.bound) events c.in_ok-bound.ensures.sound).named; proper = tt }
-
 pub returns : goal.returns
 returns g c =
     let bound = difference c.args.from c.args.to c.args.lo c.args.hi in

@@ -34,14 +34,6 @@ returns-then-not-is_known g c =
       kept = refl;
     }
 
-pub replace-requires : goal.replace-requires
-replace-requires g c =
-    let events = c.events.ensures.value ∙ ap events_of c.deref.ensures ∙ ap (λ (h : Held). events_of h.source) c.self.view_is in
-    record {
-      named = (subst (λ n. IsBoundWithin n c.in_ok-bound.bound) events c.in_ok-bound.ensures.sound).named;
-      known = ap (λ (h : Held). is_known h.state c.args.old) (sym c.self.view_is) ∙ sym c.if-not-is_known.ensures;
-    }
-
 pub returns : goal.returns
 returns g c =
     let bound = difference c.args.from c.args.to c.args.lo c.args.hi in

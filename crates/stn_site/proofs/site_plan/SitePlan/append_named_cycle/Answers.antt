@@ -1,7 +1,6 @@
-use Rattle.std.proofs.Common.{◌≡◌, ◌+◌, ◌<◌, ◌≤◌, ◌++◌, length, length-append, is_some, ap, subst, ◌∙◌, arith, All}
-use Rattle.std.proofs.{lemmas.Bool.true_from_ne_false, lemmas.Result.err_from_is_err_and, lemmas.Result.on_ok_weaker}
+use Rattle.std.proofs.Common.{◌≡◌, ◌+◌, ◌<◌, ◌≤◌, ◌++◌, length, length-append, ap, subst, ◌∙◌, arith, All}
+use Rattle.std.proofs.lemmas.Result.{on_ok_weaker}
 use Rattle.std.specs.List.{flat_map}
-use Rattle.stn_net.specs.Schedule.{HasSchedule}
 use Rattle.stn_lift.specs.PlanSource.{events_of, base_bounds}
 use Rattle.stn_conflict.specs.{Arcs.weight_of, Arcs.IsNegativeCycle, Named.IsNamedCycle}
 use Rattle.stn_site.specs.Lines.{conflict_line, link_line}
@@ -12,12 +11,6 @@ pub cycle-requires-clause-extra_named : goal.cycle-requires-clause-extra_named
 cycle-requires-clause-extra_named g c =
     bounds_named c.args.self.now.state (events_of c.args.self.now.source) c.events.result c.args.others.now (c.events.ensures.value ∙ ap events_of c.base-2.ensures) c.requires.others c.requires.named
 
-pub unwrap-named-requires : goal.unwrap-named-requires
-unwrap-named-requires g c =
-    true_from_ne_false (is_some c.in_ok-found.found) (λ none. c.requires.conflict (subst HasSchedule
-    (ap (λ front. front ++ c.args.others.now) (c.bounds-base.ensures.value ∙ ap base_bounds c.base.ensures) ∙ ap (λ back. base_bounds c.args.self.now.source ++ back) c.requires.others)
-    (c.in_ok-found.ensures.none.0 none)))
-
 pub append_cycle-requires-clause-there : goal.append_cycle-requires-clause-there
 append_cycle-requires-clause-there g c =
     subst (λ n. All (λ link. link.place < n) c.unwrap-named.result.links.items) (length-append c.bounds-base.result.now c.args.others.now)
@@ -25,9 +18,6 @@ append_cycle-requires-clause-there g c =
 
 pub append_cycle-requires-clause-one_each : goal.append_cycle-requires-clause-one_each
 append_cycle-requires-clause-one_each g c = one_each c.args.self.now.state c.args.ids.now c.args.others.now c.requires.ids c.requires.others
-
-pub returns-in_err-found : goal.returns-in_err-found
-returns-in_err-found g c = let p = err_from_is_err_and c.from_residual.result c.from_residual.ensures.1 in rw p.1 (record { part = tt; short = tt })
 
 pub returns : goal.returns
 returns g c =

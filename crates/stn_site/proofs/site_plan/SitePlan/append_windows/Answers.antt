@@ -1,8 +1,8 @@
-use Rattle.std.proofs.Common.{◌≡◌, ℤ, pos, ◌+◌, ◌≤◌, ◌++◌, codes, slice_index_or, subst, sym, ap, ◌∙◌, refl, false, arith, append_assoc}
-use Rattle.std.proofs.{lemmas.List.get_or_default, lemmas.Result.err_from_is_err_and}
+use Rattle.std.proofs.Common.{◌≡◌, ℤ, pos, ◌+◌, ◌≤◌, ◌++◌, slice_index_or, sym, ap, ◌∙◌, false, arith, append_assoc}
+use Rattle.std.proofs.lemmas.List.{get_or_default}
 use Rattle.stn_net.specs.Event.{most_events}
 use Rattle.stn_lift.specs.PlanSource.{events_of}
-use Rattle.stn_site.specs.{Bounds.all_bounds, Lines.line, Lines.window_line, Report.is_done, Report.IsWindowLines, Windows.window_at}
+use Rattle.stn_site.specs.{Bounds.all_bounds, Lines.window_line, Report.is_done, Windows.window_at}
 use Rattle.stn_site.proofs.{Printing.one_more_line, Values.held_is}
 use Rattle.stn_site.proofs.site_plan.SitePlan.append_windows.Goals as goal
 
@@ -36,27 +36,3 @@ loop-before-preserved g c =
       );
       short = omega (arith, c.loop-before.invariant.short, c.in_ok-append_window_line.ensures.short);
     }
-
-pub returns-clause-part : goal.returns-clause-part
-returns-clause-part g c =
-    let source = c.args.self.now.source in
-    let state = c.args.self.now.state in
-    let seen = c.loop-before.invariant.lines in
-    let events = c.events-before-end.ensures.value ∙ ap events_of c.base.ensures in
-    let all : c.loop-before.before ≡ events_of source = omega (arith, events, c.loop-before.auto.before-end, c.loop-before-test.false) in (
-      line (codes "ok") ++ seen.0,
-      record {
-        possible = c.requires.possible;
-        lines = seen.0;
-        windows = subst (λ n. IsWindowLines (all_bounds source state) (is_done state) n seen.0) all seen.1;
-        whole = refl;
-      },
-      seen.2 ∙ ap (λ front. front ++ seen.0) c.in_ok-extend_from_slice.ensures.items ∙ append_assoc c.args.out.now.items (line (codes "ok")) seen.0,
-    )
-
-pub returns-in_err-extend_from_slice : goal.returns-in_err-extend_from_slice
-returns-in_err-extend_from_slice g c = let p = err_from_is_err_and c.from_residual.result c.from_residual.ensures.1 in rw p.1 (record { part = tt; short = tt })
-
-pub returns-in_err-append_window_line : goal.returns-in_err-append_window_line
-returns-in_err-append_window_line g c =
-    let p = err_from_is_err_and c.from_residual-in_err-append_window_line.result c.from_residual-in_err-append_window_line.ensures.1 in rw p.1 (record { part = tt; short = tt })

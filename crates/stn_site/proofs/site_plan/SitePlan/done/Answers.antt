@@ -11,12 +11,6 @@ pub returns-then-eq-clause-fault : goal.returns-then-eq-clause-fault
 returns-then-eq-clause-fault g c =
     ap (λ o. unwrap_or o Memory) (sym (done_origin c.args.self.now c.args.event (eqb-true c.args.event c.origin.result (sym c.if-eq.ensures) ∙ c.origin.ensures)))
 
-pub returns-in_err-bound-clause-leaves : goal.returns-in_err-bound-clause-leaves
-returns-in_err-bound-clause-leaves g c = let p = err_from_is_err_and c.from_residual.result c.from_residual.ensures.1 in rw p.1 tt
-
-pub returns-in_err-bound-clause-accepted : goal.returns-in_err-bound-clause-accepted
-returns-in_err-bound-clause-accepted g c = let p = err_from_is_err_and c.from_residual.result c.from_residual.ensures.1 in rw p.1 tt
-
 pub returns-in_err-bound-clause-fault : goal.returns-in_err-bound-clause-fault
 returns-in_err-bound-clause-fault g c =
     let p = err_from_is_err_and c.from_residual.result c.from_residual.ensures.1 in
@@ -25,8 +19,3 @@ returns-in_err-bound-clause-fault g c =
     let fault = subst (λ n. IsFaultOf n bound c.in_err-bound.field-0.0) events c.in_err-bound.ensures.fault in
     rw (p.1, p.2) (ap (λ o. unwrap_or o Memory) (sym (fixed_refused c.args.self.now c.origin-2.result c.args.event c.args.time c.in_err-bound.field-0.0 c.origin-2.ensures
     (λ first. eqb-false c.args.event c.origin.result (sym c.if-eq.ensures) (first ∙ sym c.origin.ensures)) fault)))
-
-pub returns-clause-leaves : goal.returns-clause-leaves
-returns-clause-leaves g c =
-    let fixed = c.in_ok-bound.ensures.made ∙ ap (λ origin. difference origin c.args.event c.args.time c.args.time) c.origin-2.ensures in
-    rw fixed at c.hold.ensures.leaves

@@ -1,12 +1,9 @@
 use Rattle.std.proofs.Common.{◌≡◌, ◌∙◌, ap, map}
-use Rattle.std.proofs.lemmas.Result.{err_from_is_err_and, IfOk-weaker}
+use Rattle.std.proofs.lemmas.Result.{IfOk-weaker}
 use Rattle.stn_records.specs.Content.{Content, live_of, listed}
 use Rattle.stn_site.specs.Names.{live_ids}
 use Rattle.stn_site.proofs.Printing.{ids_are}
 use Rattle.stn_site.proofs.site_plan.SitePlan.live_ids.Goals as goal
-
-pub returns-in_err-live : goal.returns-in_err-live
-returns-in_err-live g c = let p = err_from_is_err_and c.from_residual.result c.from_residual.ensures.1 in rw p.1 tt
 
 pub returns : goal.returns
 returns g c =

@@ -1,11 +1,8 @@
-use Rattle.std.proofs.Common.{◌≡◌, ◌++◌, refl, ap, ◌∙◌}
-use Rattle.std.proofs.lemmas.Result.{err_from_is_err_and, on_ok_weaker}
+use Rattle.std.proofs.Common.{◌≡◌, ◌++◌, ap, ◌∙◌}
+use Rattle.std.proofs.lemmas.Result.{on_ok_weaker}
 use Rattle.std.specs.Prelude.{is_ok, if◌then◌else◌}
 use Rattle.stn_site.proofs.Printing.{appended_ok, kept_err}
 use Rattle.stn_site.proofs.site_plan.SitePlan.report_conflict.Goals as goal
-
-pub returns-in_err-text : goal.returns-in_err-text
-returns-in_err-text g c = let p = err_from_is_err_and c.from_residual.result c.from_residual.ensures.1 in rw p.1 (record { part = tt; kept = refl })
 
 pub returns : goal.returns
 returns g c =

@@ -2,15 +2,9 @@ use Rattle.std.proofs.Common.{◌≡◌, true, refl, ap, ◌∙◌}
 use Rattle.std.proofs.{lemmas.Bool.false≢true, lemmas.Result.err_from_is_err_and}
 use Rattle.std.specs.{FinMap.contains_key, Rc.rc_value}
 use Rattle.stn_records.specs.Content.{with_tombstone}
-use Rattle.stn_lift.specs.PlanSource.{events_of}
-use Rattle.stn_site.specs.{Bounds.RecordsName, Held.Held}
+use Rattle.stn_site.specs.Held.{Held}
 use Rattle.stn_site.proofs.Refused.{withdraw_fault, can_withdraw}
 use Rattle.stn_site.proofs.site_plan.SitePlan.withdraw.Goals as goal
-
-pub invariant_of-self-2 : goal.invariant_of-self-2
-invariant_of-self-2 g c =
-    let named : RecordsName (events_of (rc_value c.self.inside.base)) c.withdraw.new.self = rw c.in_ok-withdraw.ensures.withdrawn c.self.invariant in
-    named
 
 pub returns-in_err-withdraw : goal.returns-in_err-withdraw
 returns-in_err-withdraw g c =
