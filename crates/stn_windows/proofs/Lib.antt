@@ -5,3 +5,7 @@ pub mod OneAnswer
 pub mod Rehearsals
 pub mod UnderWay
 pub mod ReadyTimes
+pub mod Told
+pub mod Fixed
+pub mod SomeNext
+pub mod SomeRehearsal

@@ -1,11 +1,12 @@
 -- The times at which an event may run.
-use Rattle.std.proofs.Common.{◌≡◌, ℕ, ℤ, ◌+◌, ◌≤ℤ◌, ◌<ℤ◌, ◌↔◌, Bool, true, false, cond, List, length, refl, arith}
+use Rattle.std.proofs.Common.{◌≡◌, inl, inr, ℕ, ℤ, ◌+◌, ◌≤ℤ◌, ◌<ℤ◌, ◌↔◌, Bool, true, false, cond, List, length, Option, Some, None, refl, arith}
 use Rattle.std.specs.Ordering.{ord_max, int_cmp, is_lt}
-use Rattle.std.proofs.lemmas.Int.{ints}
+use Rattle.std.proofs.lemmas.Int.{ints, by_lt_z}
 use Rattle.stn_net.specs.Difference.{Difference}
 use Rattle.stn_matrix.specs.{Table.Table, Table.far_of, Tightest.IsExact}
-use Rattle.stn_windows.specs.{Dispatch.IsLeft, Dispatch.IsReady, Leading.earliest, Leading.Leads, Leading.IsLeastLatest}
+use Rattle.stn_windows.specs.{Dispatch.IsLeft, Dispatch.IsReady, Dispatch.AreReadyTimes, Leading.earliest, Leading.Leads, Leading.IsLeastLatest}
 use Rattle.stn_windows.proofs.Readiness.{ready_now, ready_can_lead, ready_none_past}
+use Rattle.stn_windows.proofs.SomeNext.{AreFlagged, left_told, leads_told, some_least_latest}
 
 -- the later of two times comes before whatever both come before
 later_of : (early now first time : ℤ) → first ≡ ord_max int_cmp early now → (first ≤ℤ time) ↔ ((early ≤ℤ time) × (now ≤ℤ time))
@@ -41,3 +42,21 @@ ready_from_now bounds table done event now early first last exact one_each left 
       (λ h. let ends = ready.0 h.1 in (later.1 (rw from ends.0, h.0), ends.1)),
       (λ h. let ends = later.0 h.0 in (ends.1, ready.1 (rw from at ends.0, h.1))),
     )
+
+-- an event may run at some times, or at none
+pub some_ready_times : (bounds : List Difference) (table : Table) (done : List Bool) (now : ℤ) (event : ℕ) → AreFlagged bounds table done
+    → (times : Option (ℤ × ℤ)) × AreReadyTimes bounds done now event times
+some_ready_times bounds table done now event are =
+    elim (left_told done event) [
+      | inr not_left ↦ (None, λ time later ready. not_left ready.left)
+      | inl left ↦ elim (leads_told (far_of table) done event) [
+        | inr behind ↦ (None, λ time later ready. behind (ready_can_lead bounds table done event time are.exact are.one_each ready).leads)
+        | inl leads ↦
+            let (last, least) = some_least_latest (far_of table) done event left in
+            let first = ord_max int_cmp (earliest (far_of table) event) now in
+            let ready = ready_from_now bounds table done event now (earliest (far_of table) event) first last are.exact are.one_each left leads least refl refl in
+            by_lt_z last first
+            (λ none. (None, λ time later is_ready. let ends = (ready time).0 (later, is_ready) in let come = ends.0 in let late = ends.1 in absurd (omega (arith, ints))))
+            (λ some. (Some (first, last), (some, ready)))
+      ]
+    ]

@@ -1,8 +1,11 @@
-ghost use Rattle.std.specs.Prelude.{◌≡◌, ℕ, ℤ, Bool, List};
+ghost use Rattle.std.specs.Prelude.{◌≡◌, ◌⊎◌, ◌+◌, ℕ, ℤ, Bool, List, length};
 ghost use Rattle.stn_net.specs.Difference.{Difference};
+ghost use Rattle.stn_matrix.specs.Table.{Table};
+ghost use Rattle.stn_matrix.specs.Tightest.{IsExact};
 ghost use Rattle.stn_windows.specs.declared.answers.Next.{Next};
 ghost use Rattle.stn_windows.specs.Dispatch.{IsNext, IsOverdue};
-ghost use Rattle.stn_windows.specs.Rehearsal.{IsRehearsal};
+ghost use Rattle.stn_windows.specs.Rehearsal.{IsRehearsal, IsRehearseFault};
+ghost use Rattle.stn_windows.specs.declared.answers.RehearseFault.TheVariants.{Overdue};
 
 /// The law that one answer says what comes next; it does nothing.
 pub fn next_unique()
@@ -19,3 +22,16 @@ pub fn rehearsal_unique()
 {
     next_unique();
 }
+
+/// The law that something comes next from any time on, where the differences of the bounds are known and there is a test
+/// for each event; it does nothing.
+pub fn something_comes_next()
+    ensures { (bounds : List Difference) → (table : Table) → IsExact bounds table → (done : List Bool) → length done ≡ table.events + 1 → (now : ℤ)
+        → (answer : Next) × IsNext bounds done now answer }
+{}
+
+/// The law that there is then a rehearsal, or the event that is overdue; it does nothing.
+pub fn rehearsed_or_overdue()
+    ensures { (bounds : List Difference) → (table : Table) → IsExact bounds table → (done : List Bool) → length done ≡ table.events + 1 → (now : ℤ)
+        → ((runs : List (ℤ × ℕ)) × IsRehearsal bounds done now runs) ⊎ ((event : ℕ) × IsRehearseFault bounds done now (Overdue event)) }
+{}

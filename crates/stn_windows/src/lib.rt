@@ -8,7 +8,7 @@
 pub use answers::{Next, RehearseFault};
 pub use dispatch::{next, ready, ready_times};
 pub use ends::window;
-pub use laws::{next_unique, rehearsal_unique};
+pub use laws::{next_unique, rehearsal_unique, rehearsed_or_overdue, something_comes_next};
 pub use rehearsal::rehearse;
 
 mod answers;
