@@ -1,44 +1,10 @@
 -- The first link of which something holds that can be told.
-use Rattle.std.proofs.Common.{◌≡◌, ◌⊎◌, inl, inr, ℕ, zero, suc, ◌+◌, ◌/◌, ◌%◌, ◌<◌, Bool, true, false, eqb, eqb-true, refl, sym, subst, ◌∙◌, arith}
-use Rattle.std.specs.Prelude.{ℤ, if◌then◌else◌}
-use Rattle.std.proofs.lemmas.Bool.{cases_lt, eqb-false}
-use Rattle.std.proofs.lemmas.Int.{ints, by_lt_z}
+use Rattle.std.proofs.Common.{◌≡◌, ◌⊎◌, inl, inr, ℕ, ◌+◌, ◌/◌, ◌%◌, ◌<◌, Bool, true, false, eqb, eqb-true, refl, sym, subst, ◌∙◌, arith}
+use Rattle.std.specs.Prelude.{if◌then◌else◌}
+use Rattle.std.proofs.lemmas.Bool.{eqb-false}
+use Rattle.stn_windows.proofs.Told.{Told, least_below}
 use Rattle.stn_conflict.specs.{declared.links.Link.Link, declared.links.Side.TheVariants.Upper, declared.links.Side.TheVariants.Lower, Arcs.rank}
 use Rattle.stn_conflict.proofs.OneCycle.{rank_tells}
-
--- it holds, or it doesn't
-abbrev pub Told : Type 0 → Type 0
-Told P = P ⊎ (¬ P)
-
-pub both_told : (P Q : Type 0) → Told P → Told Q → Told (P × Q)
-both_told P Q (inl p) (inl q) = inl (p, q)
-both_told P Q (inl p) (inr none) = inr (λ both. none both.1)
-both_told P Q (inr none) q = inr (λ both. none both.0)
-
-pub told_as : (P Q : Type 0) → (P → Q) → (Q → P) → Told P → Told Q
-told_as P Q forth back (inl p) = inl (forth p)
-told_as P Q forth back (inr none) = inr (λ q. none (back q))
-
-pub same_told : (a b : ℤ) → Told (a ≡ b)
-same_told a b =
-    by_lt_z a b (λ below. inr (λ e. omega (arith, ints)))
-    (λ le. by_lt_z b a (λ above. inr (λ e. omega (arith, ints))) (λ ge. inl (omega (arith, ints))))
-
--- the least number of which it holds
-pub least_below : (P : ℕ → Type 0) → ((k : ℕ) → Told (P k)) → (n : ℕ)
-    → ((k : ℕ) × P k × ((j : ℕ) → j < k → ¬ P j)) ⊎ ((k : ℕ) → k < n → ¬ P k)
-least_below P told zero = inr (λ k below. absurd (omega arith))
-least_below P told (suc n) =
-    elim (least_below P told n) [
-      | inl found ↦ inl found
-      | inr none ↦ elim (told n) [
-        | inl holds ↦ inl (n, holds, none)
-        | inr fails ↦ inr (λ k below. elim (cases_lt k n) [
-          | inl before ↦ none k before
-          | inr past ↦ (let e : n ≡ k = omega arith in subst (λ j. ¬ P j) e fails)
-        ])
-      ]
-    ]
 
 -- the link of a rank
 abbrev link_at : ℕ → Link

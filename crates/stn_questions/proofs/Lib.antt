@@ -13,3 +13,5 @@ pub mod Levels
 pub mod Cycles
 pub mod SomeReport
 pub mod SomeAnswer
+pub mod SomeReady
+pub mod SomeDispatch

@@ -1,16 +1,20 @@
-ghost use Rattle.std.specs.Prelude.{◌≡◌, ℕ, ℤ, List, All};
+ghost use Rattle.std.specs.Prelude.{◌≡◌, ◌⊎◌, ℕ, ℤ, ◌+◌, Bool, List, length, All};
 ghost use Rattle.stn_net.specs.Difference.{IsBoundWithin};
+ghost use Rattle.stn_net.specs.Schedule.{HasSchedule};
 ghost use Rattle.stn_lift.specs.PlanSource.{PlanSource, IsSoundSource, events_of};
 ghost use Rattle.stn_records.specs.Content.{Content};
 ghost use Rattle.stn_windows.specs.Dispatch.{IsNext};
+ghost use Rattle.stn_windows.specs.Rehearsal.{IsRehearsal, IsRehearseFault};
+ghost use Rattle.stn_windows.specs.declared.answers.Next.{Next};
 ghost use Rattle.stn_windows.specs.declared.answers.Next.TheVariants.{Run};
+ghost use Rattle.stn_windows.specs.declared.answers.RehearseFault.TheVariants.{Overdue};
 ghost use Rattle.stn_site.specs.Bounds.{all_bounds, live_bounds};
 ghost use Rattle.stn_site.specs.Report.{IsReport, done_events};
 ghost use Rattle.stn_site.specs.Held.{Held};
 ghost use Rattle.stn_site.specs.Calls.{Accepted, CameBy, TookSame, TookSameItems};
 ghost use Rattle.stn_questions.specs.declared.asked.Question.{Question};
 ghost use Rattle.stn_questions.specs.Answer.{AsksOfNoEvent, AsksOfPlan, IsAnswer};
-ghost use Rattle.stn_questions.specs.Ready.{BeginsWithNext, IsReadyText};
+ghost use Rattle.stn_questions.specs.Ready.{BeginsWithNext, IsReadyText, IsReadyWith};
 
 use stn_conflict::{negative_cycle_is_conflict, one_way};
 use stn_records::counts_same;
@@ -38,6 +42,29 @@ pub fn every_state_has_a_report()
 pub fn every_question_has_an_answer()
     ensures { (source : PlanSource) → (state : Content) → IsSoundSource source → All (IsBoundWithin (events_of source)) (live_bounds state)
         → (question : Question) → (¬ AsksOfNoEvent source question) → (text : List ℕ) × IsAnswer source state question text }
+{}
+
+/// The law that where all their bounds have a schedule, something comes next from each time on, whichever events count as
+/// done; it does nothing.
+pub fn every_state_has_a_next()
+    ensures { (source : PlanSource) → (state : Content) → IsSoundSource source → All (IsBoundWithin (events_of source)) (live_bounds state)
+        → HasSchedule (all_bounds source state) → (done : List Bool) → length done ≡ events_of source + 1 → (now : ℤ)
+        → (answer : Next) × IsNext (all_bounds source state) done now answer }
+{}
+
+/// The law that there is then a rehearsal, or an event is overdue; it does nothing.
+pub fn every_state_has_a_rehearsal()
+    ensures { (source : PlanSource) → (state : Content) → IsSoundSource source → All (IsBoundWithin (events_of source)) (live_bounds state)
+        → HasSchedule (all_bounds source state) → (done : List Bool) → length done ≡ events_of source + 1 → (now : ℤ)
+        → ((runs : List (ℤ × ℕ)) × IsRehearsal (all_bounds source state) done now runs)
+        ⊎ ((event : ℕ) × IsRehearseFault (all_bounds source state) done now (Overdue event)) }
+{}
+
+/// The law that they have a text that says which events may run from a time on, whichever count as done; it does nothing.
+pub fn every_state_has_a_ready_text()
+    ensures { (source : PlanSource) → (state : Content) → IsSoundSource source → All (IsBoundWithin (events_of source)) (live_bounds state)
+        → (done : List Bool) → length done ≡ events_of source + 1 → (now : ℤ)
+        → (text : List ℕ) × IsReadyWith (all_bounds source state) done now text }
 {}
 
 /// The law that a plan and a state have one text that says which events may run from a time on; it does

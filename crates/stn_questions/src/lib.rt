@@ -8,7 +8,8 @@ pub use apart::print_apart;
 pub use asked::Question;
 pub use bounds::print_bounds;
 pub use laws::{
-    every_question_has_an_answer, every_state_has_a_report, one_answer, one_ready_text,
+    every_question_has_an_answer, every_state_has_a_next, every_state_has_a_ready_text,
+    every_state_has_a_rehearsal, every_state_has_a_report, one_answer, one_ready_text,
     ready_begins_with_next, same_answers,
 };
 pub use ready::{print_ready, print_ready_among};
