@@ -46,7 +46,6 @@ module _ (bounds : List Difference) (table : Table) (time : ℤ) (event : ℕ) (
   -- the event may come that late, and that early
   room : (time ≤ℤ far_of table 0 event) × (pos 0 ≤ℤ (far_of table event 0 +ℤ time))
   room =
-      let times = can.possible.0 in
       let before = schedule_before bounds (fixed_at time event) can.possible.0 can.possible.1 in
       let at = schedule_last bounds (fixed_at time event) can.possible.0 can.possible.1 in
       let forth = (can.exact.far 0 event (omega arith) can.within).bound can.possible.0 before in
