@@ -5,10 +5,10 @@ use Rattle.std.proofs.{lemmas.Bool.false≢true, lemmas.List.Elements.All-from_r
 use Rattle.stn_net.specs.{Difference.Difference, Difference.NamesEvents, Schedule.HasSchedule, Schedule.Meets}
 use Rattle.stn_matrix.specs.Table.{Table}
 use Rattle.stn_records.specs.{Id.SiteCounter, Id.id_cmp, declared.record.Record.Record, ContentLaws.ids_total, ContentLaws.ids_exact}
-use Rattle.stn_records.specs.Content.{Content, is_live, is_replaced, live_of, no_content, replaced_set}
+use Rattle.stn_records.specs.Content.{Content, addition, IsPart, is_live, is_replaced, live_of, no_content, replaced_set}
 use Rattle.stn_site.proofs.Named.{records_from_bounds, bounds_from_records}
 use Rattle.stn_site.specs.Bounds.{bounds_of, live_bounds}
-use Rattle.stn_replica.specs.{Invariant.IsSettled, Work.is_risen, Work.risen, Work.KeepsLive, Walk.Extends}
+use Rattle.stn_replica.specs.{Invariant.IsSettled, Work.is_risen, Work.risen, Work.KeepsLive, Work.GainsLive, Work.Grows, Walk.Extends}
 use Rattle.stn_records.proofs.Gets.{entries_from_get, get_from_entries}
 use Rattle.stn_replica.proofs.Schedules.{schedule_before, met_behind, schedule_with, settled_same_schedules}
 
@@ -164,6 +164,22 @@ keeps_where_dead old new extends dead =
     there_is : {X : Type 0} (o : Option X) → is_some o ≡ true → (x : X) × (o ≡ Some x)
     there_is None e = absurd (false≢true e)
     there_is (Some x) e = (x, refl)
+
+-- where none of the records has become live, no record has
+pub none_gained : (old new : Content) → All (λ (entry : Entry). is_risen old new entry.0 ≡ false) (entries new.additions) → ¬ GainsLive old new
+none_gained old new none gains =
+    let now = left_true (is_live new gains.0) (not (is_live old gains.0)) gains.1 in
+    let there = there_where_live (get new.additions gains.0) (not (is_replaced new gains.0)) now in
+    false≢true (sym (get_from_entries ids_total ids_exact new.additions (λ entry. is_risen old new entry.0 ≡ false) none gains.0 there.0 there.1) ∙ gains.1)
+
+-- a state has the records of its parts
+pub extends_part : (part whole old new : Content) → old ≡ part → new ≡ whole → IsPart part whole → Extends old new
+extends_part part whole old new was is within =
+    subst (λ (s : Content). Extends s new) (sym was) (subst (λ (s : Content). Extends part s) (sym is) (λ id r. within (addition id r)))
+
+-- one state grows to another, seen as equal ones
+pub grows_as : (part whole old new : Content) → old ≡ part → new ≡ whole → Grows part whole → Grows old new
+grows_as part whole old new was is grows = subst (λ (s : Content). Grows s new) (sym was) (subst (λ (s : Content). Grows part s) (sym is) grows)
 
 -- where an id that is replaced now was live, it no longer is
 pub falls_where_replaced : (old new : Content) (id : SiteCounter) → is_replaced new id ≡ true → is_live old id ≡ true → ¬ KeepsLive old new

@@ -1,6 +1,7 @@
 //! One site's replica of a plan: what it holds, with how far apart its events can be, and the rest of its plan.
 #![tactic(auto)]
 
+pub use follower::Follower;
 pub use own::{Own, StepRange, flags_among};
 pub use replica::Replica;
 pub use site_matrix::matrix_of;
@@ -9,6 +10,7 @@ pub use stn_site::{BoundName, ReplicaFault};
 mod closest;
 mod cursors;
 mod dispatch;
+mod follower;
 mod matrices;
 mod own;
 mod plan_matrix;

@@ -6,7 +6,7 @@ ghost use Rattle.stn_lift.specs.PlanSource.{PlanSource, base_bounds, events_of};
 ghost use Rattle.stn_records.specs.declared.record.Record.{Record};
 ghost use Rattle.stn_site.specs.Bounds.{bounds_of, live_bounds, RecordsName};
 ghost use Rattle.stn_replica.specs.Invariant.{IsSettled, IsSoundReplica};
-ghost use Rattle.stn_replica.specs.Work.{risen, KeepsLive};
+ghost use Rattle.stn_replica.specs.Work.{risen, KeepsLive, Grows, GainsLive};
 ghost use Rattle.stn_replica.specs.Walk as walk;
 ghost use Rattle.stn_replica.specs.Walk.{Extends};
 
@@ -146,6 +146,31 @@ pub fn catch_up<A: Allocator + Copy>(
     } else {
         false
     }
+}
+
+// Whether records have all that was held before, with each record live that was live then.
+pub fn has_grown<A: Allocator + Copy>(before: &Records<A>, after: &Records<A>) -> bool
+    ensures { IsTrue result ↔ Grows before.now after.now }
+{
+    after.holds(before) && keeps_live(before, after)
+}
+
+// Whether some record has become live.
+pub fn gains_live<A: Allocator + Copy>(before: &Records<A>, after: &Records<A>) -> bool
+    ensures { IsTrue result ↔ GainsLive before.now after.now }
+{
+    let mut added = before.state().additions().entries();
+    let mut fallen = before.replaced();
+    let mut replaced = after.replaced();
+    for &(id, _) in after.state().additions().entries() {
+        added = from_id(added, id);
+        fallen = from_id(fallen, id);
+        replaced = from_id(replaced, id);
+        if has_risen(added, fallen, replaced, id) {
+            return true;
+        }
+    }
+    false
 }
 
 // Whether the record of an id has become live, by what walks have left of the records and the replaced ids of before and
