@@ -1,9 +1,9 @@
-use Rattle.std.proofs.Common.{◌≡◌, ℕ, ℤ, pos, ◌≤◌, ◌+ℤ◌, ◌-ℤ◌, ◌≤ℤ◌, neg_ℤ, List, [], ◌∷◌, ◌++◌, length, get_or, Some, sym, refl, subst, ◌∙◌, arith}
+use Rattle.std.proofs.Common.{◌≡◌, ℕ, ℤ, pos, ◌≤◌, ◌+ℤ◌, ◌-ℤ◌, ◌≤ℤ◌, neg_ℤ, List, [], ◌∷◌, ◌++◌, get_or, Some, sym, refl, subst, ◌∙◌, arith}
 use Rattle.std.specs.Prelude.{All}
 use Rattle.std.proofs.{lemmas.Int.ints, lemmas.Int.clamps, lemmas.List.Elements.All-push, lemmas.List.Elements.All-pop}
 use Rattle.stn_time.specs.Time.{horizon}
 use Rattle.stn_net.specs.{Difference.Difference, Difference.NamesEvents, Schedule.IsSchedule, Schedule.HasSchedule, Schedule.Meets}
-use Rattle.stn_matrix.specs.{Table.Table, Table.far_of, Tightest.IsExact, Closed.IsClosed, Closed.IsClosedTable, Way.shorter, Way.narrower, Way.IsImplied, Way.HasRoom}
+use Rattle.stn_matrix.specs.{Table.Table, Table.far_of, Tightest.IsExact, Closed.IsClosed, Way.shorter, Way.narrower, Way.IsImplied, Way.HasRoom}
 use Rattle.stn_matrix.proofs.Tightest.{IsTight, tight_from_exact, exact_from_tight}
 
 -- a closed square stays closed by way of a link that closes no negative cycle
@@ -200,32 +200,31 @@ closed_within events far closed x y xs ys =
 
 -- the other table is the table, tightened by a bound
 pub record IsTightened (table other : Table) (b : Difference) : Type 0 where
-  pub closed : IsClosedTable other
+  pub closed : IsClosed other.events (far_of other)
   pub events : other.events ≡ table.events
   pub exact : (bounds : List Difference) → IsExact bounds table → IsExact (bounds ++ b ∷ []) other
 
 -- an implied bound tightens nothing
-pub tightened_implied : (table other : Table) (b : Difference) → IsClosedTable table → NamesEvents table.events b → IsImplied (far_of table) b
+pub tightened_implied : (table other : Table) (b : Difference) → IsClosed table.events (far_of table) → NamesEvents table.events b → IsImplied (far_of table) b
     → other.events ≡ table.events → other.entries ≡ table.entries → IsTightened table other b
 tightened_implied table other b closed named implied events entries =
-    let other_closed : IsClosed other.events (far_of other) = rw (events, entries) closed.closed in
+    let other_closed : IsClosed other.events (far_of other) = rw (events, entries) closed in
     record {
-      closed = record { few = rw events closed.few; whole = rw (events, entries) closed.whole; closed = other_closed };
+      closed = other_closed;
       events = events;
       exact = λ bounds exact. exact_implied bounds table other b named other_closed events entries implied exact;
     }
 
 -- the differences by way of the bound's sides tighten the table
-pub tightened_narrower : (table other : Table) (b : Difference) → IsClosedTable table → NamesEvents table.events b
-    → other.events ≡ table.events → length other.entries ≡ length table.entries → IsClosed table.events (far_of other)
+pub tightened_narrower : (table other : Table) (b : Difference) → IsClosed table.events (far_of table) → NamesEvents table.events b
+    → other.events ≡ table.events → IsClosed table.events (far_of other)
     → ((x y : ℕ) → x ≤ table.events → y ≤ table.events → far_of other x y ≡ narrower (far_of table) b x y) → IsTightened table other b
-tightened_narrower table other b closed named events entries here same =
-    let P : ℕ → Type 0 = λ n. IsClosed n (far_of other) in
-    let other_closed : IsClosed other.events (far_of other) = subst P (sym events) here in
+tightened_narrower table other b closed named events here same =
+    let other_closed = subst (λ n. IsClosed n (far_of other)) (sym events) here in
     record {
-      closed = record { few = rw events closed.few; whole = entries ∙ (closed.whole ∙ rw events refl); closed = other_closed };
+      closed = other_closed;
       events = events;
-      exact = λ bounds exact. exact_narrower bounds table other b named closed.closed other_closed events same exact;
+      exact = λ bounds exact. exact_narrower bounds table other b named closed other_closed events same exact;
     }
 
 -- a bound without room has no schedule together with the list

@@ -3,7 +3,7 @@ use Rattle.std.specs.{Prelude.All, Prelude.Contains, Prelude.slice_index_or, Int
 use Rattle.std.proofs.{lemmas.Int.ints, lemmas.Int.clamps, lemmas.Bool.cases_eq, lemmas.Bool.cases_lt, lemmas.Nat.mul-add-lt, lemmas.Nat.same_from_place, lemmas.List.get_or_default}
 use Rattle.std.proofs.lemmas.List.Elements.{All-push, Contains-push, Contains-append_left}
 use Rattle.stn_time.specs.Time.{horizon}
-use Rattle.stn_matrix.specs.{Closed.IsClosed, Table.entry, Way.IsWhole, Way.shorter, Way.IsInReach, Way.AreNearer, Way.AreRunsOf, Way.IsWritten, Way.IsRowShortened}
+use Rattle.stn_matrix.specs.{Closed.IsClosed, Table.Square, Table.entry, Way.IsWhole, Way.shorter, Way.IsInReach, Way.AreNearer, Way.AreRunsOf, Way.IsWritten, Way.IsRowShortened}
 use Rattle.stn_matrix.proofs.Closure.{shorter-own_row, shorter-kept_row}
 
 -- the place of an entry lies in the square
@@ -11,99 +11,67 @@ pub place_within : (events row column : ℕ) → row ≤ events → column ≤ e
 place_within events row column rs cs = mul-add-lt row (events + 1) column (events + 1) (omega arith) (omega arith)
 
 -- a write at the place of an entry is a write of this entry alone
-pub written-set : (events : ℕ) (entries : List ℤ) (row column : ℕ) (value : ℤ) → IsWhole events entries → row ≤ events → column ≤ events
-    → IsWritten events (entry entries events) (entry (set entries (row * (events + 1) + column) value) events) row column value
-written-set events entries row column value whole rs cs =
-    let place = row * (events + 1) + column in
-    let within : place < length entries = omega (arith, place_within events row column rs cs, whole.square) in
+pub written-set : (square : Square) (row column : ℕ) (value : ℤ) → IsWhole square → row ≤ square.events → column ≤ square.events
+    → IsWritten square.events (entry square)
+    (entry (record { events = square.events; entries = set square.entries (row * (square.events + 1) + column) value })) row column value
+written-set square row column value whole rs cs =
+    let width = square.events + 1 in
+    let place = row * width + column in
+    let within : place < length square.entries = omega (arith, place_within square.events row column rs cs, whole.entries) in
     record {
-      here = get_or-set_same entries place value (pos 0) within;
+      here = get_or-set_same square.entries place value (pos 0) within;
       others = λ x y xs ys apart.
-          let differs : (x * (events + 1) + y) ≢ place = λ e.
-          let same = same_from_place x y row column (events + 1) (omega arith) (omega arith) e in
+          let differs : (x * width + y) ≢ place = λ e.
+          let same = same_from_place x y row column width (omega arith) (omega arith) e in
           elim apart [ inl ne ↦ ne same.0 | inr ne ↦ ne same.1 ] in
-          get_or-set_other entries place (x * (events + 1) + y) value (pos 0) differs;
-    }
-
--- the entries of the row before a column are shorter already, and the others are as they were
-pub record IsRowShortenedTo (events : ℕ) (old new : ℕ → ℕ → ℤ) (row by : ℕ) (through : ℤ) (column : ℕ) : Type 0 where
-  pub here : (y : ℕ) → y < column → y ≤ events → new row y ≡ int_min (old row y) (through +ℤ old by y)
-  pub left : (y : ℕ) → column ≤ y → y ≤ events → new row y ≡ old row y
-  pub others : (x y : ℕ) → x ≤ events → y ≤ events → x ≢ row → new x y ≡ old x y
-
--- the entry by which the row is shortened at a column is still as it was
-pub row_shortened-by : (events : ℕ) (old new : ℕ → ℕ → ℤ) (row by : ℕ) (through : ℤ) (column : ℕ) → IsRowShortenedTo events old new row by through column
-    → by ≤ events → column ≤ events → new by column ≡ old by column
-row_shortened-by events old new row by through column so_far bs cs = elim (cases_eq by row) [
-  | inl e ↦ rw e (so_far.left column (omega arith) cs)
-  | inr ne ↦ so_far.others by column bs cs ne
-]
-
-pub row_shortened_more : (events : ℕ) (old new next : ℕ → ℕ → ℤ) (row by : ℕ) (through : ℤ) (column : ℕ) → IsRowShortenedTo events old new row by through column
-    → row ≤ events → by ≤ events → column ≤ events
-    → IsWritten events new next row column (int_min (new row column) (through +ℤ new by column))
-    → IsRowShortenedTo events old next row by through (column + 1)
-row_shortened_more events old new next row by through column so_far rs bs cs written =
-    let way = row_shortened-by events old new row by through column so_far bs cs in
-    let own = so_far.left column (omega arith) cs in
-    record {
-      here = λ y h ys. elim (cases_eq y column) [
-        | inl e ↦ rw e (written.here ∙ (rw (way, own) refl))
-        | inr ne ↦ (written.others row y rs ys (inr ne) ∙ so_far.here y (omega arith) ys)
-      ];
-      left = λ y h ys. written.others row y rs ys (inr (omega arith)) ∙ so_far.left y (omega arith) ys;
-      others = λ x y xs ys ne. written.others x y xs ys (inl ne) ∙ so_far.others x y xs ys ne;
+          get_or-set_other square.entries place (x * width + y) value (pos 0) differs;
     }
 
 -- a row's entries in the columns before a place are shorter already, and the others are as they were, or shorter too
-pub record AreShortened (events : ℕ) (old new : ℕ → ℕ → ℤ) (row by : ℕ) (through : ℤ) (columns : List ℕ) (place : ℕ) : Type 0 where
+pub record AreShortened (size : ℕ) (old new onward : ℕ → ℤ) (through : ℤ) (columns : List ℕ) (place : ℕ) : Type 0 where
   pub here : (k : ℕ) → k < place → k < length columns
-      → new row (slice_index_or columns k 0) ≡ int_min (old row (slice_index_or columns k 0)) (through +ℤ old by (slice_index_or columns k 0))
-  pub either : (y : ℕ) → y ≤ events → (new row y ≡ old row y) ⊎ (new row y ≡ int_min (old row y) (through +ℤ old by y))
-  pub others : (x y : ℕ) → x ≤ events → y ≤ events → x ≢ row → new x y ≡ old x y
+      → new (slice_index_or columns k 0) ≡ int_min (old (slice_index_or columns k 0)) (through +ℤ onward (slice_index_or columns k 0))
+  pub either : (y : ℕ) → y < size → (new y ≡ old y) ⊎ (new y ≡ int_min (old y) (through +ℤ onward y))
 
 -- one more column, which may be among them already
-pub shortened_column : (events : ℕ) (old new next : ℕ → ℕ → ℤ) (row by : ℕ) (through : ℤ) (columns : List ℕ) (place : ℕ)
-    → AreShortened events old new row by through columns place → All (λ y. y ≤ events) columns → row ≤ events → by ≤ events → row ≢ by → place < length columns
-    → IsWritten events new next row (slice_index_or columns place 0)
-    (int_min (new row (slice_index_or columns place 0)) (through +ℤ new by (slice_index_or columns place 0)))
-    → AreShortened events old next row by through columns (place + 1)
-shortened_column events old new next row by through columns place so_far within rs bs apart there written =
+pub shortened_column : (size : ℕ) (old new next onward : ℕ → ℤ) (through : ℤ) (columns : List ℕ) (place : ℕ)
+    → AreShortened size old new onward through columns place → All (λ y. y < size) columns → place < length columns
+    → next (slice_index_or columns place 0) ≡ int_min (new (slice_index_or columns place 0)) (through +ℤ onward (slice_index_or columns place 0))
+    → ((y : ℕ) → y < size → y ≢ slice_index_or columns place 0 → next y ≡ new y)
+    → AreShortened size old next onward through columns (place + 1)
+shortened_column size old new next onward through columns place so_far within there here others =
     let column = slice_index_or columns place 0 in
-    let cs : column ≤ events = within place 0 there in
-    let way : new by column ≡ old by column = so_far.others by column bs cs (λ e. apart (sym e)) in
-    let least : next row column ≡ int_min (old row column) (through +ℤ old by column) = elim (so_far.either column cs) [
-      | inl own ↦ (written.here ∙ rw (own, way) refl)
-      | inr own ↦ (let here = written.here in omega (arith, ints, clamps))
+    let cs : column < size = within place 0 there in
+    let least : next column ≡ int_min (old column) (through +ℤ onward column) = elim (so_far.either column cs) [
+      | inl own ↦ (here ∙ rw own refl)
+      | inr own ↦ omega (arith, ints, clamps)
     ] in
     record {
       here = λ k before below. elim (cases_eq (slice_index_or columns k 0) column) [
         | inl e ↦ rw e least
-        | inr ne ↦ (written.others row (slice_index_or columns k 0) rs (within k 0 below) (inr ne)
+        | inr ne ↦ (others (slice_index_or columns k 0) (within k 0 below) ne
             ∙ so_far.here k (let differs : k ≢ place = λ same. ne (ap (λ k. slice_index_or columns k 0) same) in omega arith) below)
       ];
       either = λ y ys. elim (cases_eq y column) [
         | inl e ↦ inr (rw e least)
         | inr ne ↦ elim (so_far.either y ys) [
-          | inl own ↦ inl (written.others row y rs ys (inr ne) ∙ own)
-          | inr own ↦ inr (written.others row y rs ys (inr ne) ∙ own)
+          | inl own ↦ inl (others y ys ne ∙ own)
+          | inr own ↦ inr (others y ys ne ∙ own)
         ]
       ];
-      others = λ x y xs ys ne. written.others x y xs ys (inl ne) ∙ so_far.others x y xs ys ne;
     }
 
 -- the run of a column that comes no nearer
-pub shortened_run : (events : ℕ) (old new : ℕ → ℕ → ℤ) (row by : ℕ) (through : ℤ) (columns ends : List ℕ) (place : ℕ)
-    → AreShortened events old new row by through columns place → AreRunsOf events old row by through columns ends → by ≤ events → row ≢ by
-    → place < length columns → new row (slice_index_or columns place 0) <ℤ (through +ℤ new by (slice_index_or columns place 0))
-    → AreShortened events old new row by through columns (slice_index_or ends place 0)
-shortened_run events old new row by through columns ends place so_far runs bs apart there longer =
+pub shortened_run : (size : ℕ) (old new onward : ℕ → ℤ) (through : ℤ) (columns ends : List ℕ) (place : ℕ)
+    → AreShortened size old new onward through columns place → AreRunsOf size old onward through columns ends
+    → place < length columns → new (slice_index_or columns place 0) <ℤ (through +ℤ onward (slice_index_or columns place 0))
+    → AreShortened size old new onward through columns (slice_index_or ends place 0)
+shortened_run size old new onward through columns ends place so_far runs there longer =
     let column = slice_index_or columns place 0 in
-    let cs : column ≤ events = runs.named place 0 there in
-    let way : new by column ≡ old by column = so_far.others by column bs cs (λ e. apart (sym e)) in
+    let cs : column < size = runs.named place 0 there in
     let either_here = so_far.either column cs in
-    let own : old row column ≤ℤ (through +ℤ old by column) = omega (arith, ints, clamps) in
-    let kept : (y : ℕ) → y ≤ events → old row y ≤ℤ (through +ℤ old by y) → new row y ≡ int_min (old row y) (through +ℤ old by y) =
+    let own : old column ≤ℤ (through +ℤ onward column) = omega (arith, ints, clamps) in
+    let kept : (y : ℕ) → y < size → old y ≤ℤ (through +ℤ onward y) → new y ≡ int_min (old y) (through +ℤ onward y) =
     λ y ys far. elim (so_far.either y ys) [ inl same ↦ omega (arith, ints, clamps) | inr same ↦ same ] in
     record {
       here = λ k before below. elim (cases_lt k place) [
@@ -114,26 +82,22 @@ shortened_run events old new row by through columns ends place so_far runs bs ap
         ]
       ];
       either = so_far.either;
-      others = so_far.others;
     }
 
 -- the columns that are left out do not change
-pub shortened_columns : (events : ℕ) (old new : ℕ → ℕ → ℤ) (row by : ℕ) (through : ℤ) (columns : List ℕ) (place : ℕ)
-    → AreShortened events old new row by through columns place → length columns ≤ place
-    → ((y : ℕ) → y ≤ events → Contains columns y ⊎ (old row y ≤ℤ (through +ℤ old by y)))
-    → IsRowShortened events old new row by through
-shortened_columns events old new row by through columns place so_far all left_out = record {
-  here = λ y ys. elim (left_out y ys) [
-    | inl there ↦ (
-        let e : slice_index_or columns there.0 0 ≡ y = get_or_default columns there.0 0 y there.1 ∙ there.2 in
-        rw e at (so_far.here there.0 (let h = there.1 in omega arith) there.1))
-    | inr longer ↦ elim (so_far.either y ys) [
-      | inl own ↦ omega (arith, ints, clamps)
-      | inr own ↦ own
-    ]
-  ];
-  others = so_far.others;
-}
+pub shortened_columns : (size : ℕ) (old new onward : ℕ → ℤ) (through : ℤ) (columns : List ℕ) (place : ℕ)
+    → AreShortened size old new onward through columns place → length columns ≤ place
+    → ((y : ℕ) → y < size → Contains columns y ⊎ (old y ≤ℤ (through +ℤ onward y)))
+    → (y : ℕ) → y < size → new y ≡ int_min (old y) (through +ℤ onward y)
+shortened_columns size old new onward through columns place so_far all left_out y ys = elim (left_out y ys) [
+  | inl there ↦ (
+      let e : slice_index_or columns there.0 0 ≡ y = get_or_default columns there.0 0 y there.1 ∙ there.2 in
+      rw e at (so_far.here there.0 (let h = there.1 in omega arith) there.1))
+  | inr longer ↦ elim (so_far.either y ys) [
+    | inl own ↦ omega (arith, ints, clamps)
+    | inr own ↦ own
+  ]
+]
 
 -- a column that comes no nearer is left out
 pub nearer_skip : (events : ℕ) (far : ℕ → ℕ → ℤ) (u v : ℕ) (w : ℤ) (columns : List ℕ) (column : ℕ) → AreNearer events far u v w columns column
@@ -265,8 +229,3 @@ pub record IsWidenedTo (events : ℕ) (far : ℕ → ℕ → ℤ) (row : ℕ) : 
   pub itself : (x : ℕ) → x < row → x ≤ events → far x x ≡ pos 0
   pub others : (x y : ℕ) → x ≤ events → y ≤ events → y ≢ 0 → x ≢ y → far x y ≡ horizon
   pub left : (x y : ℕ) → row ≤ x → x ≤ events → y ≤ events → far x y ≡ horizon
-
--- an equal value is written alike
-pub written_same : (events : ℕ) (old new : ℕ → ℕ → ℤ) (row column : ℕ) (value other : ℤ) → value ≡ other
-    → IsWritten events old new row column value → IsWritten events old new row column other
-written_same events old new row column value other e written = rw (← e) written

@@ -98,9 +98,9 @@ runs_all far v columns ends begin so_far = record {
 -- where the difference of a column's event does not get shorter, neither do those of its run
 pub runs_of_row : (events : ℕ) (old new : ℕ → ℕ → ℤ) (u v : ℕ) (w : ℤ) (row : ℕ) (through : ℤ) (columns ends : List ℕ) → IsShortenedTo events old new u v w row
     → IsClosed events old → u ≤ events → v ≤ events → pos 0 ≤ℤ (old v u +ℤ w) → row ≤ events
-    → through ≡ (new row u +ℤ w) → All (λ y. y ≤ events) columns → AreRuns old v columns ends → AreRunsOf events new row v through columns ends
+    → through ≡ (new row u +ℤ w) → All (λ y. y ≤ events) columns → AreRuns old v columns ends → AreRunsOf (events + 1) (new row) (new v) through columns ends
 runs_of_row events old new u v w row through columns ends so_far closed us vs round rs is within runs = record {
-  named = within;
+  named = λ k d h. let e = within k d h in omega arith;
   alike = runs.alike;
   after = runs.after;
   within = runs.within;

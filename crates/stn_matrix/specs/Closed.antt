@@ -1,8 +1,6 @@
 -- For proofs alone: no public clause cites these words.
-use Rattle.std.specs.Prelude.{◌≡◌, ◌≢◌, ℕ, ℤ, pos, ◌+◌, ◌*◌, ◌≤◌, ◌+ℤ◌, ◌≤ℤ◌, length}
+use Rattle.std.specs.Prelude.{◌≡◌, ◌≢◌, ℕ, ℤ, pos, ◌≤◌, ◌+ℤ◌, ◌≤ℤ◌}
 use Rattle.stn_time.specs.Time.{horizon}
-use Rattle.stn_net.specs.Event.{most_events}
-use Rattle.stn_matrix.specs.Table.{Table, far_of}
 
 -- an event lies no time from itself, no difference is more than the two by way of a third event, and none is
 -- beyond the horizon
@@ -16,9 +14,3 @@ pub record IsWidest (events : ℕ) (far : ℕ → ℕ → ℤ) : Type 0 where
   pub origin : (x : ℕ) → x ≤ events → far x 0 ≡ pos 0
   pub itself : (x : ℕ) → x ≤ events → far x x ≡ pos 0
   pub others : (x y : ℕ) → x ≤ events → y ≤ events → y ≢ 0 → x ≢ y → far x y ≡ horizon
-
--- the table is a whole square of no more than the most events, and closed
-pub record IsClosedTable (table : Table) : Type 0 where
-  pub few : table.events ≤ most_events
-  pub whole : length table.entries ≡ (table.events + 1) * (table.events + 1)
-  pub closed : IsClosed table.events (far_of table)

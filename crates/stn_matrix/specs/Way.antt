@@ -3,11 +3,12 @@ use Rattle.std.specs.Prelude.{◌≡◌, ◌≢◌, ◌⊎◌, ℕ, ℤ, ◌+◌
 use Rattle.std.specs.Int.{int_min}
 use Rattle.stn_time.specs.Time.{horizon}
 use Rattle.stn_net.specs.{Difference.Difference, Event.most_events}
+use Rattle.stn_matrix.specs.Table.{Square}
 
--- the entries are a square of one row for the origin and each of so many other events, row after row
-pub record IsWhole (events : ℕ) (entries : List ℤ) : Type 0 where
-  pub few : events ≤ most_events
-  pub square : length entries ≡ (events + 1) * (events + 1)
+-- there are no more than the most events, and an entry for each row and each column
+pub record IsWhole (square : Square) : Type 0 where
+  pub few : square.events ≤ most_events
+  pub entries : length square.entries ≡ (square.events + 1) * (square.events + 1)
 
 -- the lesser of the difference of x and y and of that by way of v, which lies at most w after u
 abbrev pub shorter : (ℕ → ℕ → ℤ) → ℕ → ℕ → ℤ → ℕ → ℕ → ℤ
@@ -49,16 +50,16 @@ pub record AreRuns (far : ℕ → ℕ → ℤ) (v : ℕ) (columns ends : List �
   pub beyond : (i j : ℕ) → i < j → j < length columns → j < slice_index_or ends i 0
       → IsOnWay far v (slice_index_or columns i 0) (slice_index_or columns j 0)
 
--- these columns are about the events, each one's run ends after it, and where its entry of the row is no longer than the
--- way by an event that lies at most `through` after the row's own, neither is any of its run
-pub record AreRunsOf (events : ℕ) (far : ℕ → ℕ → ℤ) (row by : ℕ) (through : ℤ) (columns ends : List ℕ) : Type 0 where
-  pub named : All (λ y. y ≤ events) columns
+-- each of these columns is one of a row, its run ends after it, and where its entry of the row is no longer than the way by
+-- an event that lies at most `through` after the row's own, from which the others lie so far onward, neither is any of its run
+pub record AreRunsOf (size : ℕ) (own onward : ℕ → ℤ) (through : ℤ) (columns ends : List ℕ) : Type 0 where
+  pub named : All (λ y. y < size) columns
   pub alike : length ends ≡ length columns
   pub after : (i : ℕ) → i < length columns → i < slice_index_or ends i 0
   pub within : (i : ℕ) → i < length columns → slice_index_or ends i 0 ≤ length columns
   pub passed : (i j : ℕ) → i < j → j < length columns → j < slice_index_or ends i 0
-      → far row (slice_index_or columns i 0) ≤ℤ (through +ℤ far by (slice_index_or columns i 0))
-      → far row (slice_index_or columns j 0) ≤ℤ (through +ℤ far by (slice_index_or columns j 0))
+      → own (slice_index_or columns i 0) ≤ℤ (through +ℤ onward (slice_index_or columns i 0))
+      → own (slice_index_or columns j 0) ≤ℤ (through +ℤ onward (slice_index_or columns j 0))
 
 -- one entry is this value, and the others are as they were
 pub record IsWritten (events : ℕ) (old new : ℕ → ℕ → ℤ) (row column : ℕ) (value : ℤ) : Type 0 where

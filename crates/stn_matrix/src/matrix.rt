@@ -6,30 +6,29 @@ ghost use Rattle.stn_net.specs.Event.{most_events};
 ghost use Rattle.stn_matrix.specs.Table.{far_of};
 ghost use Rattle.stn_matrix.specs.Tightest.{IsTightest, IsExact};
 
-use crate::square::{entry_of, has_room, is_implied, narrow, widen};
+use crate::square::Square;
 use std::alloc::Allocator;
 use std::marker::Model;
 use stn_net::{Bound, Event};
-use stn_time::{HORIZON, Memory, Ms};
+use stn_time::{Memory, Ms};
 
 /// The tightest differences of the events of a plan, in milliseconds: how much later than each
 /// event each other can be in the schedules of a list of bounds (Dechter, Meiri and Pearl, 1991).
 #[derive(Drop)]
 pub struct Matrix<A: Allocator> {
-    events: u16,
-    entries: Vec<i64, A>,
+    square: Square<A>,
     tightenings: u64,
 }
 
 impl<A: Allocator> Model for Matrix<A> {
-    ghost use Rattle.stn_matrix.specs.Table.{Table};
-    ghost use Rattle.stn_matrix.specs.Closed.{IsClosedTable};
+    ghost use Rattle.stn_matrix.specs.Table.{Table, entry};
+    ghost use Rattle.stn_matrix.specs.Closed.{IsClosed};
 
     ghost Value = { Table };
 
-    ghost view = { λ m. record { events = m.events; entries = m.entries.items; steps = m.tightenings } };
+    ghost view = { λ m. record { events = m.square.events; entries = m.square.entries; steps = m.tightenings } };
 
-    ghost invariant = { λ m. IsClosedTable (record { events = m.events; entries = m.entries.items; steps = m.tightenings }) };
+    ghost invariant = { λ m. IsClosed m.square.events (entry m.square) };
 }
 
 impl<A: Allocator> Matrix<A> {
@@ -41,12 +40,9 @@ impl<A: Allocator> Matrix<A> {
         ensures events { IfOk result (λ matrix. matrix.events ≡ events) }
         ensures steps { IfOk result (λ matrix. matrix.steps ≡ 0) }
     {
-        let size = usize::from(events) + 1;
-        let mut entries = vec![in alloc; HORIZON; size * size]?;
-        widen(&mut entries, usize::from(events));
+        let square = Square::widest(alloc, events)?;
         Ok(Matrix {
-            events,
-            entries,
+            square,
             tightenings: 0,
         })
     }
@@ -56,7 +52,7 @@ impl<A: Allocator> Matrix<A> {
         ensures value { result ≡ self.now.events }
         ensures few { result ≤ most_events }
     {
-        self.events
+        self.square.events()
     }
 
     /// How often a bound was taken, here and in the matrices that were copied into this one, with
@@ -74,11 +70,9 @@ impl<A: Allocator> Matrix<A> {
         ensures entry { result ≡ far_of self.now from to }
         ensures far { (bounds : List Difference) → IsExact bounds self.now → IsTightest bounds from to result }
     {
-        let events = usize::from(self.events());
         let row = usize::from(from.number());
         let column = usize::from(to.number());
-        let millis = entry_of(&self.entries, events, row, column);
-        Ms::new(millis).unwrap()
+        Ms::new(self.square.entry(row, column)).unwrap()
     }
 
     /// Takes one more bound, and answers true; false, and nothing changes, where the bounds taken
@@ -93,12 +87,11 @@ impl<A: Allocator> Matrix<A> {
         ensures events { self.new.events ≡ self.old.events }
         ensures counted { IsTrue result → self.new.steps ≡ min (self.old.steps + 1) u64.MAX }
     {
-        let events = usize::from(self.events);
-        if !is_implied(&self.entries, events, bound) {
-            if !has_room(&self.entries, events, bound) {
+        if !self.square.is_implied(bound) {
+            if !self.square.has_room(bound) {
                 return false;
             }
-            narrow(&mut self.entries, events, bound);
+            self.square.narrow(bound);
         }
         self.tightenings = self.tightenings.saturating_add(1);
         true
@@ -112,7 +105,7 @@ impl<A: Allocator> Matrix<A> {
         ensures entries { self.new.entries ≡ other.now.entries }
         ensures steps { self.new.steps ≡ min (self.old.steps + other.now.steps + 1) u64.MAX }
     {
-        self.entries.copy_from_slice(&other.entries);
+        self.square.copy_from(&other.square);
         self.tightenings = self
             .tightenings
             .saturating_add(other.tightenings)

@@ -3,9 +3,10 @@ ghost use Rattle.std.specs.List.Sorted.{IsPermutation};
 ghost use Rattle.stn_net.specs.Event.{most_events};
 ghost use Rattle.stn_matrix.specs.Closed.{IsClosed};
 ghost use Rattle.stn_matrix.specs.Table.{entry};
-ghost use Rattle.stn_matrix.specs.Way.{IsWhole, AreNearer, AreRuns, IsOnWay};
+ghost use Rattle.stn_matrix.specs.Way.{AreNearer, AreRuns, IsOnWay};
 
-use crate::square::{Arc, entry_of};
+use crate::square::{Arc, Square};
+use std::alloc::Allocator;
 
 // How many columns begin a run. Without runs the bounds of `windows` take 1,108 million instructions in place of 366, and those of
 // `conflict` 1,332 in place of 519. With ten `conflict` takes two in a hundred more; with twelve, and eight in place of five below,
@@ -36,26 +37,24 @@ struct Hub {
 }
 
 // Puts the columns into runs, where many rows change; else each is a run of its own.
-pub(crate) fn arrange(
-    entries: &[i64],
-    events: usize,
+pub(crate) fn arrange<A: Allocator>(
+    square: &Square<A>,
     arc: &Arc,
     columns: &mut [u16],
     ends: &mut [u16],
 )
-    requires whole { IsWhole events entries.now }
-    requires closed { IsClosed events (entry entries.now events) }
-    requires from { arc.now.from ≤ events }
-    requires to { arc.now.to ≤ events }
+    requires closed { IsClosed square.now.events (entry square.now) }
+    requires from { arc.now.from ≤ square.now.events }
+    requires to { arc.now.to ≤ square.now.events }
     requires alike { length ends.old ≡ length columns.old }
     requires few { length columns.old ≤ most_events + 1 }
-    requires nearer { AreNearer events (entry entries.now events) arc.now.from arc.now.to arc.now.weight columns.old (events + 1) }
-    ensures nearer { AreNearer events (entry entries.now events) arc.now.from arc.now.to arc.now.weight columns.new (events + 1) }
-    ensures runs { AreRuns (entry entries.now events) arc.now.to columns.new ends.new }
+    requires nearer { AreNearer square.now.events (entry square.now) arc.now.from arc.now.to arc.now.weight columns.old (square.now.events + 1) }
+    ensures nearer { AreNearer square.now.events (entry square.now) arc.now.from arc.now.to arc.now.weight columns.new (square.now.events + 1) }
+    ensures runs { AreRuns (entry square.now) arc.now.to columns.new ends.new }
 {
     count_up(ends);
-    if changes_many_rows(entries, events, arc) {
-        group(entries, events, arc, columns, ends);
+    if changes_many_rows(square, arc) {
+        group(square, arc, columns, ends);
     }
 }
 
@@ -71,19 +70,18 @@ fn count_up(ends: &mut [u16])
 }
 
 // Whether the arc's end comes nearer to many rows, by those that are asked.
-fn changes_many_rows(entries: &[i64], events: usize, arc: &Arc) -> bool
-    requires whole { IsWhole events entries.now }
-    requires closed { IsClosed events (entry entries.now events) }
-    requires from { arc.now.from ≤ events }
-    requires to { arc.now.to ≤ events }
+fn changes_many_rows<A: Allocator>(square: &Square<A>, arc: &Arc) -> bool
+    requires closed { IsClosed square.now.events (entry square.now) }
+    requires from { arc.now.from ≤ square.now.events }
+    requires to { arc.now.to ≤ square.now.events }
 {
     let from = usize::from(arc.from.number());
     let to = usize::from(arc.to.number());
     let weight = arc.weight.get();
     let mut many = 0;
-    for sample in 0..=events / SAMPLED {
+    for sample in 0..=usize::from(square.events()) / SAMPLED {
         let row = SAMPLED * sample;
-        if entry_of(entries, events, row, from) + weight < entry_of(entries, events, row, to) {
+        if square.entry(row, from) + weight < square.entry(row, to) {
             many += 1;
         }
     }
@@ -92,23 +90,22 @@ fn changes_many_rows(entries: &[i64], events: usize, arc: &Arc) -> bool
 
 // Puts columns into runs: those that come nearer by most each get what is left of the columns beyond
 // them, the one that comes nearer by least first.
-fn group(entries: &[i64], events: usize, arc: &Arc, columns: &mut [u16], ends: &mut [u16])
-    requires whole { IsWhole events entries.now }
-    requires closed { IsClosed events (entry entries.now events) }
-    requires from { arc.now.from ≤ events }
-    requires to { arc.now.to ≤ events }
+fn group<A: Allocator>(square: &Square<A>, arc: &Arc, columns: &mut [u16], ends: &mut [u16])
+    requires closed { IsClosed square.now.events (entry square.now) }
+    requires from { arc.now.from ≤ square.now.events }
+    requires to { arc.now.to ≤ square.now.events }
     requires alike { length ends.old ≡ length columns.old }
     requires few { length columns.old ≤ most_events + 1 }
-    requires nearer { AreNearer events (entry entries.now events) arc.now.from arc.now.to arc.now.weight columns.old (events + 1) }
+    requires nearer { AreNearer square.now.events (entry square.now) arc.now.from arc.now.to arc.now.weight columns.old (square.now.events + 1) }
     requires alone { (i : ℕ) → i < length ends.old → slice_index_or ends.old i 0 ≡ i + 1 }
-    ensures nearer { AreNearer events (entry entries.now events) arc.now.from arc.now.to arc.now.weight columns.new (events + 1) }
-    ensures runs { AreRuns (entry entries.now events) arc.now.to columns.new ends.new }
+    ensures nearer { AreNearer square.now.events (entry square.now) arc.now.from arc.now.to arc.now.weight columns.new (square.now.events + 1) }
+    ensures runs { AreRuns (entry square.now) arc.now.to columns.new ends.new }
 {
-    let hubs = hubs_of(entries, events, arc, columns);
+    let hubs = hubs_of(square, arc, columns);
     let mut begin = 0;
     for hub in &hubs {
         if begin < columns.len() {
-            let end = gather(entries, events, arc, columns, begin, hub.column);
+            let end = gather(square, arc, columns, begin, hub.column);
             ends[begin] = end as u16;
             begin = end;
         }
@@ -116,22 +113,21 @@ fn group(entries: &[i64], events: usize, arc: &Arc, columns: &mut [u16], ends: &
 }
 
 // The columns that come nearer by most, the one that does so by least first.
-fn hubs_of(entries: &[i64], events: usize, arc: &Arc, columns: &[u16]) -> [Hub; HUBS]
-    requires whole { IsWhole events entries.now }
-    requires closed { IsClosed events (entry entries.now events) }
-    requires from { arc.now.from ≤ events }
-    requires to { arc.now.to ≤ events }
-    requires within { All (λ y. y ≤ events) columns.now }
+fn hubs_of<A: Allocator>(square: &Square<A>, arc: &Arc, columns: &[u16]) -> [Hub; HUBS]
+    requires closed { IsClosed square.now.events (entry square.now) }
+    requires from { arc.now.from ≤ square.now.events }
+    requires to { arc.now.to ≤ square.now.events }
+    requires within { All (λ y. y ≤ square.now.events) columns.now }
 {
-    let from = usize::from(arc.from.number());
-    let to = usize::from(arc.to.number());
+    let own = square.row(usize::from(arc.from.number()));
+    let onward = square.row(usize::from(arc.to.number()));
     let mut hubs = [Hub {
         column: 0,
         gain: i64::MIN,
     }; HUBS];
     for column in columns {
         let place = usize::from(*column);
-        let gain = entry_of(entries, events, from, place) - entry_of(entries, events, to, place);
+        let gain = own[place] - onward[place];
         if hubs[0].gain < gain {
             let column = *column;
             rise(&mut hubs, Hub { column, gain });
@@ -153,35 +149,34 @@ fn rise(hubs: &mut [Hub; HUBS], hub: Hub) {
 
 // Puts the hub, or some column where it is not left, at `begin`, and after it those of the columns
 // from there on that lie beyond it; answers where these end.
-fn gather(
-    entries: &[i64],
-    events: usize,
+fn gather<A: Allocator>(
+    square: &Square<A>,
     arc: &Arc,
     columns: &mut [u16],
     begin: usize,
     hub: u16,
 ) -> usize
-    requires whole { IsWhole events entries.now }
-    requires closed { IsClosed events (entry entries.now events) }
-    requires to { arc.now.to ≤ events }
+    requires closed { IsClosed square.now.events (entry square.now) }
+    requires to { arc.now.to ≤ square.now.events }
     requires begin { begin < length columns.old }
-    requires within { All (λ y. y ≤ events) columns.old }
+    requires within { All (λ y. y ≤ square.now.events) columns.old }
     ensures permutation { IsPermutation columns.old columns.new }
     ensures kept { (i : ℕ) → i < begin → slice_index_or columns.new i 0 ≡ slice_index_or columns.old i 0 }
     ensures begins { begin < result }
     ensures ends { result ≤ length columns.old }
     ensures beyond { (i : ℕ) → begin < i → i < result
-        → IsOnWay (entry entries.now events) arc.now.to (slice_index_or columns.new begin 0) (slice_index_or columns.new i 0) }
+        → IsOnWay (entry square.now) arc.now.to (slice_index_or columns.new begin 0) (slice_index_or columns.new i 0) }
 {
-    let to = usize::from(arc.to.number());
     let there = place_of(columns, begin, hub);
     columns.swap(begin, there);
     let first = usize::from(columns[begin]);
-    let far = entry_of(entries, events, to, first);
+    let own = square.row(usize::from(arc.to.number()));
+    let onward = square.row(first);
+    let far = own[first];
     let mut end = begin + 1;
     for place in begin + 1..columns.len() {
         let column = usize::from(columns[place]);
-        if far + entry_of(entries, events, first, column) <= entry_of(entries, events, to, column) {
+        if far + onward[column] <= own[column] {
             columns.swap(end, place);
             end += 1;
         }

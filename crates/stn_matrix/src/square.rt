@@ -1,15 +1,17 @@
-ghost use Rattle.std.specs.Prelude.{◌≡◌, ◌≢◌, ◌⊎◌, ℕ, ◌+◌, ◌*◌, ◌<◌, ◌≤◌, ◌↔◌, pos, neg_ℤ, ◌+ℤ◌, ◌≤ℤ◌, IsTrue, length, take, All, Contains};
+ghost use Rattle.std.specs.Prelude.{◌≡◌, ◌≢◌, ◌⊎◌, ℕ, ◌+◌, ◌*◌, ◌<◌, ◌≤◌, ◌↔◌, pos, neg_ℤ, ◌+ℤ◌, ◌≤ℤ◌, IsTrue, IfOk, length, take, All, Contains};
 ghost use Rattle.std.specs.Int.{int_min};
 ghost use Rattle.stn_net.specs.Difference.{NamesEvents};
 ghost use Rattle.stn_net.specs.Event.{most_events};
 ghost use Rattle.stn_time.specs.Time.{horizon};
 ghost use Rattle.stn_matrix.specs.Closed.{IsClosed, IsWidest};
-ghost use Rattle.stn_matrix.specs.Table.{entry};
-ghost use Rattle.stn_matrix.specs.Way.{IsWhole, shorter, narrower, IsImplied, HasRoom, IsInReach, AreNearer, AreRunsOf, IsRowShortened, IsWritten};
+ghost use Rattle.stn_matrix.specs.Table.{entry, entry_at};
+ghost use Rattle.stn_matrix.specs.Way.{shorter, narrower, IsImplied, HasRoom, IsInReach, AreNearer, AreRunsOf, IsRowShortened, IsWritten};
 
 use crate::runs::{Runs, arrange};
+use std::alloc::Allocator;
+use std::marker::Model;
 use stn_net::{Bound, Event, MOST_EVENTS};
-use stn_time::Ms;
+use stn_time::{HORIZON, Memory, Ms};
 
 // The most columns: the origin's, and one for each event.
 const MOST_COLUMNS: usize = MOST_EVENTS as usize + 1;
@@ -22,190 +24,239 @@ pub(crate) struct Arc {
     pub weight: Ms,
 }
 
-// Writes the differences of events that lie anywhere from the origin to the horizon into a square
-// that is full of the horizon.
-pub(crate) fn widen(entries: &mut [i64], events: usize)
-    requires whole { IsWhole events entries.old }
-    requires full { (x y : ℕ) → x ≤ events → y ≤ events → entry entries.old events x y ≡ horizon }
-    ensures { IsWidest events (entry entries.new events) }
-{
-    for event in 0..=events {
-        set_entry(entries, events, event, 0, 0);
-        set_entry(entries, events, event, event, 0);
+// A square of differences: a row and a column for the origin and for each event, row after row.
+#[derive(Drop)]
+pub(crate) struct Square<A: Allocator> {
+    events: u16,
+    entries: Vec<i64, A>,
+}
+
+impl<A: Allocator> Model for Square<A> {
+    ghost use Rattle.stn_matrix.specs.Table.{Square};
+    ghost use Rattle.stn_matrix.specs.Way.{IsWhole};
+
+    ghost Value = { Square };
+
+    ghost view = { λ s. record { events = s.events; entries = s.entries.items } };
+
+    ghost invariant = { λ s. IsWhole (record { events = s.events; entries = s.entries.items }) };
+}
+
+impl<A: Allocator> Square<A> {
+    // The differences of events that lie anywhere from the origin to the horizon.
+    pub fn widest(alloc: A, events: u16) -> Result<Square<A>, Memory>
+        requires { events ≤ most_events }
+        ensures events { IfOk result (λ square. square.events ≡ events) }
+        ensures widest { IfOk result (λ square. IsWidest square.events (entry square)) }
+    {
+        let size = usize::from(events) + 1;
+        let entries = vec![in alloc; HORIZON; size * size]?;
+        let mut square = Square { events, entries };
+        square.widen();
+        Ok(square)
     }
-}
 
-// Whether the entries are no looser than the bound already.
-pub(crate) fn is_implied(entries: &[i64], events: usize, bound: Bound) -> bool
-    requires whole { IsWhole events entries.now }
-    requires named { NamesEvents events bound }
-    ensures { IsTrue result ↔ IsImplied (entry entries.now events) bound }
-{
-    let (from, to) = ends(bound);
-    entry_of(entries, events, from, to) <= bound.hi().get()
-        && entry_of(entries, events, to, from) <= -bound.lo().get()
-}
-
-// Whether some time between the entries of its events meets the bound.
-pub(crate) fn has_room(entries: &[i64], events: usize, bound: Bound) -> bool
-    requires whole { IsWhole events entries.now }
-    requires named { NamesEvents events bound }
-    ensures { IsTrue result ↔ HasRoom (entry entries.now events) bound }
-{
-    let (from, to) = ends(bound);
-    -bound.hi().get() <= entry_of(entries, events, to, from)
-        && bound.lo().get() <= entry_of(entries, events, from, to)
-}
-
-// Shortens each entry by way of both sides of the bound.
-pub(crate) fn narrow(entries: &mut [i64], events: usize, bound: Bound)
-    requires whole { IsWhole events entries.old }
-    requires closed { IsClosed events (entry entries.old events) }
-    requires named { NamesEvents events bound }
-    requires room { HasRoom (entry entries.old events) bound }
-    ensures closed { IsClosed events (entry entries.new events) }
-    ensures narrower { (x y : ℕ) → x ≤ events → y ≤ events
-        → entry entries.new events x y ≡ narrower (entry entries.old events) bound x y }
-{
-    let upper = Arc {
-        from: bound.from(),
-        to: bound.to(),
-        weight: bound.hi(),
-    };
-    let lower = Arc {
-        from: bound.to(),
-        to: bound.from(),
-        weight: -bound.lo(),
-    };
-    shorten(entries, events, upper);
-    shorten(entries, events, lower);
-}
-
-// Shortens each entry by way of the arc; only a row from which the arc's end comes nearer can
-// change, and only in a column that comes nearer to the arc's beginning.
-fn shorten(entries: &mut [i64], events: usize, arc: Arc)
-    requires whole { IsWhole events entries.old }
-    requires closed { IsClosed events (entry entries.old events) }
-    requires from { arc.from ≤ events }
-    requires to { arc.to ≤ events }
-    requires round { pos 0 ≤ℤ (entry entries.old events arc.to arc.from +ℤ arc.weight) }
-    ensures { (x y : ℕ) → x ≤ events → y ≤ events
-        → entry entries.new events x y ≡ shorter (entry entries.old events) arc.from arc.to arc.weight x y }
-{
-    let from = usize::from(arc.from.number());
-    let to = usize::from(arc.to.number());
-    let weight = arc.weight.get();
-    if entry_of(entries, events, from, to) <= weight {
-        return;
-    }
-    let mut columns = [0; MOST_COLUMNS];
-    let mut ends = [0; MOST_COLUMNS];
-    let count = nearer_columns(entries, events, arc, &mut columns);
-    let columns = &mut columns[..count];
-    let ends = &mut ends[..count];
-    arrange(entries, events, &arc, columns, ends);
-    let runs = Runs {
-        columns: &*columns,
-        ends: &*ends,
-    };
-    for row in 0..=events {
-        let through = entry_of(entries, events, row, from) + weight;
-        if through < entry_of(entries, events, row, to) {
-            shorten_row(entries, events, row, to, through, runs);
+    // Writes the differences that are no horizon.
+    fn widen(&mut self)
+        requires { (x y : ℕ) → x ≤ self.old.events → y ≤ self.old.events → entry self.old x y ≡ horizon }
+        ensures events { self.new.events ≡ self.old.events }
+        ensures widest { IsWidest self.old.events (entry self.new) }
+    {
+        for event in 0..self.size() {
+            self.set(event, 0, 0);
+            self.set(event, event, 0);
         }
     }
-}
 
-// Lists the columns that come nearer to the arc's beginning by way of it, and answers their number.
-fn nearer_columns(entries: &[i64], events: usize, arc: Arc, columns: &mut [u16]) -> usize
-    requires whole { IsWhole events entries.now }
-    requires closed { IsClosed events (entry entries.now events) }
-    requires from { arc.from ≤ events }
-    requires to { arc.to ≤ events }
-    requires long { events < length columns.old }
-    ensures few { result ≤ length columns.new }
-    ensures listed { AreNearer events (entry entries.now events) arc.from arc.to arc.weight
-        (take result columns.new) (events + 1) }
-{
-    let from = usize::from(arc.from.number());
-    let to = usize::from(arc.to.number());
-    let weight = arc.weight.get();
-    let mut count = 0;
-    for column in 0..events + 1 {
-        let through = weight + entry_of(entries, events, to, column);
-        if through < entry_of(entries, events, from, column) {
-            columns[count] = column as u16;
-            count += 1;
+    // The number of events beside the origin.
+    pub fn events(&self) -> u16
+        ensures value { result ≡ self.now.events }
+        ensures few { result ≤ most_events }
+    {
+        self.events
+    }
+
+    // The number of rows, and of columns.
+    #[inline]
+    pub fn size(&self) -> usize
+        ensures value { result ≡ self.now.events + 1 }
+        ensures few { result ≤ most_events + 1 }
+    {
+        usize::from(self.events) + 1
+    }
+
+    // Takes the entries of a square of as many events in place of its own.
+    pub fn copy_from(&mut self, other: &Square<A>)
+        requires { self.old.events ≡ other.now.events }
+        ensures { self.new ≡ other.now }
+    {
+        self.entries.copy_from_slice(&other.entries);
+    }
+
+    // Whether the entries are no looser than the bound already.
+    pub fn is_implied(&self, bound: Bound) -> bool
+        requires { NamesEvents self.now.events bound }
+        ensures { IsTrue result ↔ IsImplied (entry self.now) bound }
+    {
+        let (from, to) = ends(bound);
+        self.entry(from, to) <= bound.hi().get() && self.entry(to, from) <= -bound.lo().get()
+    }
+
+    // Whether some time between the entries of its events meets the bound.
+    pub fn has_room(&self, bound: Bound) -> bool
+        requires { NamesEvents self.now.events bound }
+        ensures { IsTrue result ↔ HasRoom (entry self.now) bound }
+    {
+        let (from, to) = ends(bound);
+        -bound.hi().get() <= self.entry(to, from) && bound.lo().get() <= self.entry(from, to)
+    }
+
+    // Shortens each entry by way of both sides of the bound.
+    pub fn narrow(&mut self, bound: Bound)
+        requires closed { IsClosed self.old.events (entry self.old) }
+        requires named { NamesEvents self.old.events bound }
+        requires room { HasRoom (entry self.old) bound }
+        ensures events { self.new.events ≡ self.old.events }
+        ensures closed { IsClosed self.old.events (entry self.new) }
+        ensures narrower { (x y : ℕ) → x ≤ self.old.events → y ≤ self.old.events
+            → entry self.new x y ≡ narrower (entry self.old) bound x y }
+    {
+        let upper = Arc {
+            from: bound.from(),
+            to: bound.to(),
+            weight: bound.hi(),
+        };
+        let lower = Arc {
+            from: bound.to(),
+            to: bound.from(),
+            weight: -bound.lo(),
+        };
+        self.shorten(upper);
+        self.shorten(lower);
+    }
+
+    // Shortens each entry by way of the arc; only a row from which the arc's end comes nearer can
+    // change, and only in a column that comes nearer to the arc's beginning.
+    fn shorten(&mut self, arc: Arc)
+        requires closed { IsClosed self.old.events (entry self.old) }
+        requires from { arc.from ≤ self.old.events }
+        requires to { arc.to ≤ self.old.events }
+        requires round { pos 0 ≤ℤ (entry self.old arc.to arc.from +ℤ arc.weight) }
+        ensures events { self.new.events ≡ self.old.events }
+        ensures shorter { (x y : ℕ) → x ≤ self.old.events → y ≤ self.old.events
+            → entry self.new x y ≡ shorter (entry self.old) arc.from arc.to arc.weight x y }
+    {
+        let from = usize::from(arc.from.number());
+        let to = usize::from(arc.to.number());
+        let weight = arc.weight.get();
+        let size = self.size();
+        if self.entry(from, to) <= weight {
+            return;
+        }
+        let mut columns = [0; MOST_COLUMNS];
+        let mut ends = [0; MOST_COLUMNS];
+        let count = self.nearer_columns(arc, &mut columns);
+        let columns = &mut columns[..count];
+        let ends = &mut ends[..count];
+        arrange(self, &arc, columns, ends);
+        let runs = Runs {
+            columns: &*columns,
+            ends: &*ends,
+        };
+        for row in 0..size {
+            let own = self.row(row);
+            let through = own[from] + weight;
+            if through < own[to] {
+                self.shorten_row(row, to, through, runs);
+            }
         }
     }
-    count
-}
 
-// Shortens each entry of a row by way of an event that lies at most so long after the row's own; only
-// the columns of the runs can change.
-fn shorten_row(
-    entries: &mut [i64],
-    events: usize,
-    row: usize,
-    by: usize,
-    through: i64,
-    runs: Runs<'_>,
-)
-    requires whole { IsWhole events entries.old }
-    requires row { row ≤ events }
-    requires by { by ≤ events }
-    requires apart { row ≢ by }
-    requires ways { (y : ℕ) → y ≤ events → IsInReach (through +ℤ entry entries.old events by y) }
-    requires runs { AreRunsOf events (entry entries.old events) row by through runs.columns.now runs.ends.now }
-    requires left_out { (y : ℕ) → y ≤ events → Contains runs.columns.now y
-        ⊎ (entry entries.old events row y ≤ℤ (through +ℤ entry entries.old events by y)) }
-    ensures { IsRowShortened events (entry entries.old events) (entry entries.new events) row by through }
-{
-    let mut place = 0;
-    while place < runs.columns.len() {
-        let column = usize::from(runs.columns[place]);
-        let way = through + entry_of(entries, events, by, column);
-        if way <= entry_of(entries, events, row, column) {
-            set_entry(entries, events, row, column, way);
-            place += 1;
-        } else {
-            place = usize::from(runs.ends[place]);
+    // Lists the columns that come nearer to the arc's beginning by way of it, and answers their number.
+    fn nearer_columns(&self, arc: Arc, columns: &mut [u16]) -> usize
+        requires closed { IsClosed self.now.events (entry self.now) }
+        requires from { arc.from ≤ self.now.events }
+        requires to { arc.to ≤ self.now.events }
+        requires long { self.now.events < length columns.old }
+        ensures few { result ≤ length columns.new }
+        ensures listed { AreNearer self.now.events (entry self.now) arc.from arc.to arc.weight
+            (take result columns.new) (self.now.events + 1) }
+    {
+        let own = self.row(usize::from(arc.from.number()));
+        let onward = self.row(usize::from(arc.to.number()));
+        let weight = arc.weight.get();
+        let mut count = 0;
+        for column in 0..self.size() {
+            let through = weight + onward[column];
+            if through < own[column] {
+                columns[count] = column as u16;
+                count += 1;
+            }
+        }
+        count
+    }
+
+    // Shortens each entry of a row by way of an event that lies at most so long after the row's own; only
+    // the columns of the runs can change.
+    fn shorten_row(&mut self, row: usize, by: usize, through: i64, runs: Runs<'_>)
+        requires row { row ≤ self.old.events }
+        requires by { by ≤ self.old.events }
+        requires apart { row ≢ by }
+        requires ways { (y : ℕ) → y ≤ self.old.events → IsInReach (through +ℤ entry self.old by y) }
+        requires runs { AreRunsOf (self.old.events + 1) (entry self.old row) (entry self.old by) through runs.columns.now runs.ends.now }
+        requires left_out { (y : ℕ) → y ≤ self.old.events → Contains runs.columns.now y
+            ⊎ (entry self.old row y ≤ℤ (through +ℤ entry self.old by y)) }
+        ensures events { self.new.events ≡ self.old.events }
+        ensures shortened { IsRowShortened self.old.events (entry self.old) (entry self.new) row by through }
+    {
+        let own = row * self.size();
+        let onward = by * self.size();
+        let entries = self.entries.as_mut_slice();
+        let mut place = 0;
+        while place < runs.columns.len() {
+            let column = usize::from(runs.columns[place]);
+            let way = through + entries[onward + column];
+            if way <= entries[own + column] {
+                entries[own + column] = way;
+                place += 1;
+            } else {
+                place = usize::from(runs.ends[place]);
+            }
         }
     }
-}
 
-// The entry in a row and a column.
-#[inline]
-pub(crate) fn entry_of(entries: &[i64], events: usize, row: usize, column: usize) -> i64
-    requires whole { IsWhole events entries.now }
-    requires row { row ≤ events }
-    requires column { column ≤ events }
-    ensures { result ≡ entry entries.now events row column }
-{
-    entries[place(events, row, column)]
-}
+    // The entry in a row and a column.
+    #[inline]
+    pub fn entry(&self, row: usize, column: usize) -> i64
+        requires row { row ≤ self.now.events }
+        requires column { column ≤ self.now.events }
+        ensures { result ≡ entry self.now row column }
+    {
+        self.row(row)[column]
+    }
 
-// Writes the entry in a row and a column.
-#[inline]
-fn set_entry(entries: &mut [i64], events: usize, row: usize, column: usize, value: i64)
-    requires whole { IsWhole events entries.old }
-    requires row { row ≤ events }
-    requires column { column ≤ events }
-    ensures { IsWritten events (entry entries.old events) (entry entries.new events) row column value }
-{
-    entries[place(events, row, column)] = value;
-}
+    // The entries of a row.
+    #[inline]
+    pub fn row(&self, row: usize) -> &[i64]
+        requires { row ≤ self.now.events }
+        ensures long { length result.now ≡ self.now.events + 1 }
+        ensures entries { (y : ℕ) → y ≤ self.now.events → entry_at result.now y ≡ entry self.now row y }
+    {
+        let begin = row * self.size();
+        &self.entries[begin..begin + self.size()]
+    }
 
-// The place of the entry in a row and a column.
-#[inline]
-fn place(events: usize, row: usize, column: usize) -> usize
-    requires few { events ≤ most_events }
-    requires row { row ≤ events }
-    requires column { column ≤ events }
-    ensures value { result ≡ row * (events + 1) + column }
-    ensures within { result < (events + 1) * (events + 1) }
-{
-    row * (events + 1) + column
+    // Writes the entry in a row and a column.
+    #[inline]
+    fn set(&mut self, row: usize, column: usize, value: i64)
+        requires row { row ≤ self.old.events }
+        requires column { column ≤ self.old.events }
+        ensures events { self.new.events ≡ self.old.events }
+        ensures written { IsWritten self.old.events (entry self.old) (entry self.new) row column value }
+    {
+        let place = row * self.size() + column;
+        self.entries[place] = value;
+    }
 }
 
 // The numbers of the bound's events.

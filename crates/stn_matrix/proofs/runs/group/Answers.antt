@@ -4,8 +4,8 @@ use Rattle.stn_matrix.proofs.{Passing.nearer_moved, Passing.runs_more, Passing.r
 use Rattle.stn_matrix.proofs.runs.group.Goals as goal
 
 pub loop-hub-preserved : goal.loop-hub-preserved
-loop-hub-preserved c =
-    let far = entry c.args.entries.now c.args.events in
+loop-hub-preserved g c =
+    let far = entry c.args.square.now in
     let arc = c.args.arc.now in
     let so_far = c.loop-hub.invariant in
     elim c.if-begin-columns.branch [
@@ -15,11 +15,11 @@ loop-hub-preserved c =
           let same : length moved ≡ length c.loop-hub.columns = omega arith in
           let runs = runs_more far arc.to c.loop-hub.columns moved c.loop-hub.ends c.loop-hub.begin end so_far.runs same
           w.gather-end.ensures.begins w.gather-end.ensures.ends w.gather-end.ensures.kept w.gather-end.ensures.beyond in
-          let nearer = nearer_moved c.args.events far arc.from arc.to arc.weight c.loop-hub.columns moved _ so_far.nearer w.gather-end.ensures.permutation in
+          let nearer = nearer_moved c.args.square.now.events far arc.from arc.to arc.weight c.loop-hub.columns moved _ so_far.nearer w.gather-end.ensures.permutation in
           rw (w.columns-is, w.ends-is, w.begin-is) (record { nearer = nearer; runs = runs }))
       | else-begin-columns w ↦ rw (w.columns-is, w.ends-is, w.begin-is) so_far
     ]
 
 pub returns-clause-runs : goal.returns-clause-runs
-returns-clause-runs c =
-    runs_all (entry c.args.entries.now c.args.events) c.args.arc.now.to c.loop-hub.columns c.loop-hub.ends c.loop-hub.begin c.loop-hub.invariant.runs
+returns-clause-runs g c =
+    runs_all (entry c.args.square.now) c.args.arc.now.to c.loop-hub.columns c.loop-hub.ends c.loop-hub.begin c.loop-hub.invariant.runs

@@ -1,14 +1,14 @@
 use Rattle.std.proofs.Common.{◌≡◌, arith, rules}
 use Rattle.std.proofs.lemmas.Int.{ints}
-use Rattle.stn_matrix.specs.{Table.far_of, Closed.IsClosedTable}
+use Rattle.stn_matrix.specs.{Table.far_of, Closed.IsClosed}
 use Rattle.stn_matrix.proofs.Closure.{closed_within}
 use Rattle.stn_matrix.proofs.matrix.Matrix.far.Goals as goal
 
 pub unwrap-requires : goal.unwrap-requires
 unwrap-requires g c =
-    let table : IsClosedTable c.args.self.now = rw (← c.self.view_is) c.self.invariant in
-    let within = closed_within c.args.self.now.events (far_of c.args.self.now) table.closed c.args.from c.args.to c.requires.from c.requires.to in
-    let millis : c.entry_of-millis.result ≡ far_of c.args.self.now c.args.from c.args.to = search rules in
+    let closed : IsClosed c.args.self.now.events (far_of c.args.self.now) = rw (← c.self.view_is) c.self.invariant in
+    let within = closed_within c.args.self.now.events (far_of c.args.self.now) closed c.args.from c.args.to c.requires.from c.requires.to in
+    let millis : c.entry.result ≡ far_of c.args.self.now c.args.from c.args.to = search rules in
     c.new.ensures.within.1 (omega (arith, ints), omega (arith, ints))
 
 pub returns-clause-far : goal.returns-clause-far
