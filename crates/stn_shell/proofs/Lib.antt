@@ -11,4 +11,3 @@ mod OneCause
 mod Guarded
 mod Bytes
 mod Keepings
-mod Whole

@@ -1,30 +1,31 @@
 //! What a shell keeps from one line of its input to the next.
 
-ghost use Rattle.std.specs.Prelude.{◌≡◌, ◌⊎◌, Some, None, IsTrue, IfOk, MatchResult};
+ghost use Rattle.std.specs.Prelude.{◌≡◌, ◌⊎◌, Some, None, IfOk, MatchResult};
 ghost use Rattle.stn_command.specs.Query.{seen_query, IsSaid, IsQueryRefusal, Says};
 ghost use Rattle.stn_refusal.specs.Refusals.{out_of_memory};
 
 use std::alloc::Global;
 use stn_command::{Query, append_said, say};
 use stn_refusal::Failure;
-use stn_replica::Replica;
+use stn_replica::{Follower, Replica};
 use stn_site::SitePlan;
 use stn_time::Memory;
 
-/// The replica by which a question was answered last, if any. It saves work alone: what is said is said of the log as it is.
+/// The replica by which a question was answered last, if any, with what it needs to follow the log. It saves work alone: what is said
+/// is said of the log as it is.
 #[derive(Drop)]
 pub struct Kept {
-    replica: Option<Replica<Global>>,
+    follower: Option<Follower<Global>>,
 }
 
 impl Kept {
     /// Nothing is kept yet.
     pub fn nothing() -> Kept {
-        Kept { replica: None }
+        Kept { follower: None }
     }
 
-    /// What is said to a query about a site's copy of the plan. Where that has all that the kept replica has, a matrix that the answer
-    /// needs is the kept one, tightened by what is new; else it is made anew.
+    /// What is said to a query about a site's copy of the plan. Where that has all that a kept replica has, with each record live that
+    /// is live there, a matrix that the answer needs is the kept one, tightened by what is new; else it is made anew.
     ///
     /// Refused as `say` refuses it, or where memory runs out.
     pub fn say(&mut self, plan: SitePlan<Global>, query: &Query<'_>) -> Result<Vec<u8>, Failure>
@@ -34,9 +35,9 @@ impl Kept {
     {
         match *query {
             Query::Next(_) | Query::Ready(_) | Query::Rehearse(_) | Query::Among(_, _, _) => {
-                let replica = replica_of(self.replica.take(), plan)?;
-                let text = said_by(&replica, query);
-                self.replica = Some(replica);
+                let follower = followed(self.follower.take(), plan)?;
+                let text = said_by(follower.latest(), query);
+                self.follower = Some(follower);
                 text
             }
             _ => say(plan, query),
@@ -53,33 +54,19 @@ fn said_by(replica: &Replica<Global>, query: &Query<'_>) -> Result<Vec<u8>, Fail
     Ok(text)
 }
 
-// The replica of a site's copy of a plan: the kept one, where it can catch up with that; else a new one.
-fn replica_of(
-    kept: Option<Replica<Global>>,
+// Follows the log to a site's copy of its plan.
+fn followed(
+    kept: Option<Follower<Global>>,
     plan: SitePlan<Global>,
-) -> Result<Replica<Global>, Memory>
-    ensures source { IfOk result (λ replica. replica.source ≡ plan.source) }
-    ensures state { IfOk result (λ replica. replica.state ≡ plan.state) }
+) -> Result<Follower<Global>, Memory>
+    ensures source { IfOk result (λ follower. follower.latest.source ≡ plan.source) }
+    ensures state { IfOk result (λ follower. follower.latest.state ≡ plan.state) }
 {
     match kept {
-        Some(mut replica) => {
-            if catches_up(&mut replica, &plan) {
-                drop(plan);
-                return Ok(replica);
-            }
-            drop(replica);
-            Replica::of(plan)
+        Some(mut follower) => {
+            follower.follow(plan)?;
+            Ok(follower)
         }
-        None => Replica::of(plan),
+        None => Follower::of(plan),
     }
-}
-
-// Takes in what a copy of the same plan has, where it has all that is held. Whether it did, and so holds the same.
-fn catches_up(replica: &mut Replica<Global>, plan: &SitePlan<Global>) -> bool
-    ensures source { IsTrue result → replica.new.source ≡ plan.now.source }
-    ensures state { IsTrue result → replica.new.state ≡ plan.now.state }
-{
-    replica.base().same(plan.base())
-        && plan.records().holds(replica.records())
-        && replica.take(plan.records()).is_ok()
 }
