@@ -255,6 +255,27 @@ def shell_lines(name, log, folder, lines):
     print(row if count is None else f"{row}, {count / len(lines) / 1e6:.2f} million instructions a line", flush=True)
 
 
+def shell_turns(name, log, folder, lines):
+    """How long a shell takes over each question and each change, from the line to the end of its answer."""
+    made = log.read_bytes()
+    spent = {"questions": [], "changes": []}
+    words = [str(PROGRAM), "shell", log.name, "1"]
+    with subprocess.Popen(words, cwd=folder, stdin=subprocess.PIPE, stdout=subprocess.PIPE) as talk:
+        for line in lines:
+            begun = time.monotonic()
+            talk.stdin.write(f"{line}\n".encode())
+            talk.stdin.flush()
+            while talk.stdout.readline().strip():
+                pass
+            spent["questions" if line.startswith("next") else "changes"].append(time.monotonic() - begun)
+        talk.stdin.close()
+    log.write_bytes(made)
+    for what, times in spent.items():
+        times = [1000 * one for one in sorted(times)]
+        print(f"{name}: {len(times)} {what}, half within {times[len(times) // 2]:.3f} ms, "
+              f"nine in ten within {times[len(times) * 9 // 10]:.3f} ms, the longest {times[-1]:.1f} ms", flush=True)
+
+
 def shell(folder):
     """A shell that is asked `next`, also between lines that record and withdraw, and single commands that ask and record."""
     log = folder / "shell.log"
@@ -269,6 +290,7 @@ def shell(folder):
         for many in (100, 10_000):
             shell_lines(f"{name}, next", log, folder, ["next 0"] * many)
             shell_lines(f"{name}, done, withdraw and next", log, folder, changed[:many])
+        shell_turns(name, log, folder, changed)
         made = log.read_bytes()
         for words in ("next 0", f"done s1 {SPREAD // 2000}"):
             command, *rest = words.split()
