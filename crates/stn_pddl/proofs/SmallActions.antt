@@ -9,7 +9,7 @@ use Rattle.stn_pddl.specs.declared.action.Label.TheVariants.{StartCondition, Ove
 use Rattle.stn_pddl.specs.declared.action.Side.TheVariants.{Condition, Effect}
 use Rattle.stn_pddl.specs.declared.word.Head.TheVariants as head
 use Rattle.stn_pddl.specs.Schemas.{TermSchema, AtomSchema, ActionSchema, Constant, with_literal}
-use Rattle.stn_pddl.specs.Conditions.{is_effect, equal_tree, negated_tree, negated_first, negation, plain_row, plain_tree, labelled, start_of, end_of, at_tree, over_tree, timed_row, timed_tree, equal_at}
+use Rattle.stn_pddl.specs.Conditions.{is_effect, equal_tree, negated_head, negated_tree, negated_first, negation, plain_head, plain_row, plain_tree, labelled, start_of, end_of, at_tree, over_tree, timed_head, timed_row, timed_tree}
 use Rattle.stn_pddl.proofs.SmallWords.{same_first, same_variable, same_key, same_position, same_head}
 
 -- the same fault, or what a function makes of the value
@@ -95,19 +95,7 @@ module _ (label : Label) (a : ActionSchema) where
       (small_terms a.parameters rest []) (λ found. refl))
       refl)
 
-  abbrev negated_by : ℕ → List ℕ → Trees → ActionSchema → Head → Result ActionSchema DomainFault
-  negated_by line word rest action k = elim k as (λ _. Result ActionSchema DomainFault) [
-    | head.And ↦ Err (Unsupported line)
-    | head.Not ↦ Err (Unsupported line)
-    | head.Equal ↦ equal_tree label line rest action
-    | head.OtherLogic ↦ Err (Unsupported line)
-    | head.NoName ↦ Err (Syntax line)
-    | head.At ↦ atom label true word rest action
-    | head.Over ↦ atom label true word rest action
-    | head.Name ↦ atom label true word rest action
-  ]
-
-  small_negated_by : (line : ℕ) (word : List ℕ) (rest : Trees) (k : Head) → negated_by line (folded word) (in_small rest) (action_in_small a) k ≡ mapped action_in_small (negated_by line word rest a k)
+  small_negated_by : (line : ℕ) (word : List ℕ) (rest : Trees) (k : Head) → negated_head label line (folded word) (in_small rest) (action_in_small a) k ≡ mapped action_in_small (negated_head label line word rest a k)
   small_negated_by line word rest head.And = refl
   small_negated_by line word rest head.Not = refl
   small_negated_by line word rest head.Equal = small_equal line rest
@@ -122,7 +110,7 @@ module _ (label : Label) (a : ActionSchema) where
   small_negated line End = refl
   small_negated line (Group at children next) = refl
   small_negated line (Word at word rest) =
-      ap (negated_by line (folded word) (in_small rest) (action_in_small a)) (same_head word) ∙ small_negated_by line word rest (head_of word)
+      ap (negated_head label line (folded word) (in_small rest) (action_in_small a)) (same_head word) ∙ small_negated_by line word rest (head_of word)
 
   small_first : (line : ℕ) (trees : Trees) → negated_first label line (in_small trees) (action_in_small a) ≡ mapped action_in_small (negated_first label line trees a)
   unfolding in_small
@@ -136,21 +124,9 @@ module _ (label : Label) (a : ActionSchema) where
       mapped-either action_in_small (eqb (how_many rest) 1) (eqb (how_many (in_small rest)) 1) (negated_first label line rest a) (Err (Syntax line))
       (negated_first label line (in_small rest) (action_in_small a)) (Err (Syntax line)) (ap (λ n. eqb n 1) (same_many rest)) (small_first line rest) refl
 
-abbrev plain_by : Label → ℕ → List ℕ → Trees → ActionSchema → Head → Result ActionSchema DomainFault
-plain_by label line word rest action k = elim k as (λ _. Result ActionSchema DomainFault) [
-  | head.And ↦ plain_row label rest action
-  | head.Not ↦ negation label line rest action
-  | head.Equal ↦ equal_tree label line rest action
-  | head.OtherLogic ↦ Err (Unsupported line)
-  | head.NoName ↦ Err (Syntax line)
-  | head.At ↦ atom label false word rest action
-  | head.Over ↦ atom label false word rest action
-  | head.Name ↦ atom label false word rest action
-]
-
 small_plain_by : (label : Label) (a : ActionSchema) (line : ℕ) (word : List ℕ) (rest : Trees)
     → plain_row label (in_small rest) (action_in_small a) ≡ mapped action_in_small (plain_row label rest a)
-    → (k : Head) → plain_by label line (folded word) (in_small rest) (action_in_small a) k ≡ mapped action_in_small (plain_by label line word rest a k)
+    → (k : Head) → plain_head (plain_row label (in_small rest) (action_in_small a)) label line (folded word) (in_small rest) (action_in_small a) k ≡ mapped action_in_small (plain_head (plain_row label rest a) label line word rest a k)
 small_plain_by label a line word rest row head.And = row
 small_plain_by label a line word rest row head.Not = small_negation label a line rest
 small_plain_by label a line word rest row head.Equal = small_equal label a line rest
@@ -174,7 +150,7 @@ mutual
   small_plain_tree label line End a = refl
   small_plain_tree label line (Group at children next) a = refl
   small_plain_tree label line (Word at word rest) a =
-      ap (plain_by label line (folded word) (in_small rest) (action_in_small a)) (same_head word) ∙ small_plain_by label a line word rest (small_plain_row label rest a) (head_of word)
+      ap (plain_head (plain_row label (in_small rest) (action_in_small a)) label line (folded word) (in_small rest) (action_in_small a)) (same_head word) ∙ small_plain_by label a line word rest (small_plain_row label rest a) (head_of word)
 
 small_labelled : (label : Label) (line : ℕ) (rest : Trees) (a : ActionSchema) → labelled label line (in_small rest) (action_in_small a) ≡ mapped action_in_small (labelled label line rest a)
 unfolding labelled
@@ -203,21 +179,9 @@ small_over Condition line (Word at word rest) a =
     mapped-either action_in_small (is_same_word word (codes "all")) (is_same_word (folded word) (codes "all")) (labelled OverAll line rest a) (Err (Syntax line))
     (labelled OverAll line (in_small rest) (action_in_small a)) (Err (Syntax line)) (same_first word (codes "all")) (small_labelled OverAll line rest a) refl
 
-abbrev timed_by : Side → ℕ → Trees → ActionSchema → Head → Result ActionSchema DomainFault
-timed_by side line rest action k = elim k as (λ _. Result ActionSchema DomainFault) [
-  | head.And ↦ timed_row side rest action
-  | head.At ↦ at_tree side line rest action
-  | head.Over ↦ over_tree side line rest action
-  | head.OtherLogic ↦ Err (Unsupported line)
-  | head.Equal ↦ Err (equal_at side line)
-  | head.Not ↦ Err (Syntax line)
-  | head.NoName ↦ Err (Syntax line)
-  | head.Name ↦ Err (Syntax line)
-]
-
 small_timed_by : (side : Side) (a : ActionSchema) (line : ℕ) (rest : Trees)
     → timed_row side (in_small rest) (action_in_small a) ≡ mapped action_in_small (timed_row side rest a)
-    → (k : Head) → timed_by side line (in_small rest) (action_in_small a) k ≡ mapped action_in_small (timed_by side line rest a k)
+    → (k : Head) → timed_head (timed_row side (in_small rest) (action_in_small a)) side line (in_small rest) (action_in_small a) k ≡ mapped action_in_small (timed_head (timed_row side rest a) side line rest a k)
 small_timed_by side a line rest row head.And = row
 small_timed_by side a line rest row head.At = small_at side line rest a
 small_timed_by side a line rest row head.Over = small_over side line rest a
@@ -241,4 +205,4 @@ mutual
   small_timed_tree side line End a = refl
   small_timed_tree side line (Group at children next) a = refl
   small_timed_tree side line (Word at word rest) a =
-      ap (timed_by side line (in_small rest) (action_in_small a)) (same_head word) ∙ small_timed_by side a line rest (small_timed_row side rest a) (head_of word)
+      ap (timed_head (timed_row side (in_small rest) (action_in_small a)) side line (in_small rest) (action_in_small a)) (same_head word) ∙ small_timed_by side a line rest (small_timed_row side rest a) (head_of word)

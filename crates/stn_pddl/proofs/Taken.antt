@@ -3,10 +3,9 @@ use Rattle.std.proofs.Common.{◌≡◌, ℕ, ◌<◌, ◌≤◌, Bool, true, fa
 use Rattle.std.proofs.lemmas.Bool.{eq-eqb, ne_eqb}
 use Rattle.stn_text.specs.Faults.{◌>>=◌, Fails, Unless}
 use Rattle.stn_tree.specs.{declared.cursor.Cursor.Cursor, Names.is_same_word, Trees.Trees, Trees.End, Trees.Word, Trees.Group, Trees.how_many, Cursors.rows_at, Cursors.behind_at, Cursors.left_at}
-use Rattle.stn_pddl.specs.{declared.action.Label.Label, declared.action.Label.TheVariants.OverAll, declared.action.Side.Side, declared.action.Side.TheVariants.Condition, declared.fault.DomainFault.DomainFault, declared.word.Head.Head, Faults.is_memory, Words.head_of, Schemas.ActionSchema, Atoms.atom, Atoms.equality, Atoms.terms}
-use Rattle.stn_pddl.specs.declared.fault.DomainFault.TheVariants.{Syntax, Unsupported}
-use Rattle.stn_pddl.specs.declared.word.Head.TheVariants as head
-use Rattle.stn_pddl.specs.Conditions.{equal_tree, negated_tree, negated_first, negation, plain_row, plain_tree, labelled, start_of, end_of, at_tree, over_tree, equal_at, timed_row, timed_tree}
+use Rattle.stn_pddl.specs.{declared.action.Label.Label, declared.action.Label.TheVariants.OverAll, declared.action.Side.Side, declared.action.Side.TheVariants.Condition, declared.fault.DomainFault.DomainFault, declared.word.Head.Head, Faults.is_memory, Words.head_of, Schemas.ActionSchema, Atoms.equality, Atoms.terms}
+use Rattle.stn_pddl.specs.declared.fault.DomainFault.TheVariants.{Syntax}
+use Rattle.stn_pddl.specs.Conditions.{negated_head, negated_tree, negated_first, negation, plain_head, plain_row, plain_tree, labelled, start_of, end_of, at_tree, over_tree, timed_head, timed_row, timed_tree}
 use Rattle.stn_pddl.proofs.Steps.{fails_first}
 
 -- what stands behind the rest of a row stands behind the row
@@ -41,23 +40,10 @@ module _ (side : Side) (row : Trees) (action : ActionSchema) where
     unfolding timed_row
     timed_row_goes_on after is = sym (ap (λ r. timed_row side r action) here ∙ ap (λ (found : Result ActionSchema DomainFault). found >>= λ a. timed_row side next a) is)
 
--- what a list means by its head
-abbrev pub timed_head : Side → ℕ → Trees → ActionSchema → Head → Result ActionSchema DomainFault
-timed_head side line rest action k = elim k [
-  | head.And ↦ timed_row side rest action
-  | head.At ↦ at_tree side line rest action
-  | head.Over ↦ over_tree side line rest action
-  | head.OtherLogic ↦ Err (Unsupported line)
-  | head.Equal ↦ Err (equal_at side line)
-  | head.Not ↦ Err (Syntax line)
-  | head.NoName ↦ Err (Syntax line)
-  | head.Name ↦ Err (Syntax line)
-]
-
 pub timed_tree_at : (side : Side) (line at : ℕ) (word : List ℕ) (rest row : Trees) (action : ActionSchema) (k : Head) → row ≡ Word at word rest → head_of word ≡ k
-    → timed_tree side line row action ≡ timed_head side line rest action k
+    → timed_tree side line row action ≡ timed_head (timed_row side rest action) side line rest action k
 unfolding timed_tree
-timed_tree_at side line at word rest row action k here is = ap (λ r. timed_tree side line r action) here ∙ ap (timed_head side line rest action) is
+timed_tree_at side line at word rest row action k here is = ap (λ r. timed_tree side line r action) here ∙ ap (timed_head (timed_row side rest action) side line rest action) is
 
 module _ (label : Label) (row : Trees) (action : ActionSchema) where
   pub plain_row_at_end : row ≡ End → plain_row label row action ≡ Ok action
@@ -77,35 +63,10 @@ module _ (label : Label) (row : Trees) (action : ActionSchema) where
     unfolding plain_row
     plain_row_goes_on after is = sym (ap (λ r. plain_row label r action) here ∙ ap (λ (found : Result ActionSchema DomainFault). found >>= λ a. plain_row label next a) is)
 
--- what a list means by its head
-abbrev pub plain_head : Label → ℕ → List ℕ → Trees → ActionSchema → Head → Result ActionSchema DomainFault
-plain_head label line word rest action k = elim k [
-  | head.And ↦ plain_row label rest action
-  | head.Not ↦ negation label line rest action
-  | head.Equal ↦ equal_tree label line rest action
-  | head.OtherLogic ↦ Err (Unsupported line)
-  | head.NoName ↦ Err (Syntax line)
-  | head.At ↦ atom label false word rest action
-  | head.Over ↦ atom label false word rest action
-  | head.Name ↦ atom label false word rest action
-]
-
 pub plain_tree_at : (label : Label) (line at : ℕ) (word : List ℕ) (rest row : Trees) (action : ActionSchema) (k : Head) → row ≡ Word at word rest → head_of word ≡ k
-    → plain_tree label line row action ≡ plain_head label line word rest action k
+    → plain_tree label line row action ≡ plain_head (plain_row label rest action) label line word rest action k
 unfolding plain_tree
-plain_tree_at label line at word rest row action k here is = ap (λ r. plain_tree label line r action) here ∙ ap (plain_head label line word rest action) is
-
-abbrev pub negated_head : Label → ℕ → List ℕ → Trees → ActionSchema → Head → Result ActionSchema DomainFault
-negated_head label line word rest action k = elim k [
-  | head.And ↦ Err (Unsupported line)
-  | head.Not ↦ Err (Unsupported line)
-  | head.Equal ↦ equal_tree label line rest action
-  | head.OtherLogic ↦ Err (Unsupported line)
-  | head.NoName ↦ Err (Syntax line)
-  | head.At ↦ atom label true word rest action
-  | head.Over ↦ atom label true word rest action
-  | head.Name ↦ atom label true word rest action
-]
+plain_tree_at label line at word rest row action k here is = ap (λ r. plain_tree label line r action) here ∙ ap (plain_head (plain_row label rest action) label line word rest action) is
 
 pub negated_tree_at : (label : Label) (line at : ℕ) (word : List ℕ) (rest row : Trees) (action : ActionSchema) (k : Head) → row ≡ Word at word rest → head_of word ≡ k
     → negated_tree label line row action ≡ negated_head label line word rest action k

@@ -1,7 +1,7 @@
 -- Conditions and effects: trees with times, and the plain trees in them.
-use Rattle.std.specs.Prelude.{ℕ, Bool, true, false, Result, Ok, Err, ◌==◌, if◌then◌else◌, codes}
+use Rattle.std.specs.Prelude.{ℕ, List, Bool, true, false, Result, Ok, Err, ◌==◌, if◌then◌else◌, codes}
 use Rattle.stn_tree.specs.{Names.is_same_word, Trees.Trees, Trees.End, Trees.Word, Trees.Group, Trees.how_many}
-use Rattle.stn_pddl.specs.{declared.fault.DomainFault.DomainFault, declared.action.Label.Label, declared.action.Side.Side, Words.head_of, Schemas.ActionSchema, Atoms.atom, Atoms.equality}
+use Rattle.stn_pddl.specs.{declared.fault.DomainFault.DomainFault, declared.action.Label.Label, declared.action.Side.Side, declared.word.Head.Head, Words.head_of, Schemas.ActionSchema, Atoms.atom, Atoms.equality}
 use Rattle.stn_pddl.specs.declared.fault.DomainFault.TheVariants.{Syntax, Unsupported}
 use Rattle.stn_pddl.specs.declared.action.Label.TheVariants.{StartCondition, OverAll, EndCondition, StartEffect, EndEffect}
 use Rattle.stn_pddl.specs.declared.action.Side.TheVariants.{Condition, Effect}
@@ -19,11 +19,9 @@ is_effect EndEffect = true
 abbrev pub equal_tree : Label → ℕ → Trees → ActionSchema → Result ActionSchema DomainFault
 equal_tree label line rest action = if is_effect label then Err (Unsupported line) else equality line rest action
 
--- the list after `not`, on its own line: an equality or an atom
-unfoldable pub negated_tree : Label → ℕ → Trees → ActionSchema → Result ActionSchema DomainFault
-negated_tree label line End action = Err (Syntax line)
-negated_tree label line (Group at children next) action = Err (Syntax line)
-negated_tree label line (Word at word rest) action = elim (head_of word) [
+-- the list after `not`, by its head: an equality or an atom
+abbrev pub negated_head : Label → ℕ → List ℕ → Trees → ActionSchema → Head → Result ActionSchema DomainFault
+negated_head label line word rest action k = elim k as (λ _. Result ActionSchema DomainFault) [
   | head.And ↦ Err (Unsupported line)
   | head.Not ↦ Err (Unsupported line)
   | head.Equal ↦ equal_tree label line rest action
@@ -33,6 +31,12 @@ negated_tree label line (Word at word rest) action = elim (head_of word) [
   | head.Over ↦ atom label true word rest action
   | head.Name ↦ atom label true word rest action
 ]
+
+-- the list after `not`, on its own line
+unfoldable pub negated_tree : Label → ℕ → Trees → ActionSchema → Result ActionSchema DomainFault
+negated_tree label line End action = Err (Syntax line)
+negated_tree label line (Group at children next) action = Err (Syntax line)
+negated_tree label line (Word at word rest) action = negated_head label line word rest action (head_of word)
 
 -- the first tree of a row, negated: a list with a head
 abbrev pub negated_first : Label → ℕ → Trees → ActionSchema → Result ActionSchema DomainFault
@@ -44,6 +48,19 @@ negated_first label line (Group at children next) action = negated_tree label at
 unfoldable pub negation : Label → ℕ → Trees → ActionSchema → Result ActionSchema DomainFault
 negation label line rest action = if how_many rest == 1 then negated_first label line rest action else Err (Syntax line)
 
+-- a list as a plain tree, by its head; the trees after `and` mean `row`
+abbrev pub plain_head : Result ActionSchema DomainFault → Label → ℕ → List ℕ → Trees → ActionSchema → Head → Result ActionSchema DomainFault
+plain_head row label line word rest action k = elim k as (λ _. Result ActionSchema DomainFault) [
+  | head.And ↦ row
+  | head.Not ↦ negation label line rest action
+  | head.Equal ↦ equal_tree label line rest action
+  | head.OtherLogic ↦ Err (Unsupported line)
+  | head.NoName ↦ Err (Syntax line)
+  | head.At ↦ atom label false word rest action
+  | head.Over ↦ atom label false word rest action
+  | head.Name ↦ atom label false word rest action
+]
+
 -- plain trees in a row, and a list as a plain tree: `()` is nothing
 unfoldable mutual
   pub plain_row : Label → Trees → ActionSchema → Result ActionSchema DomainFault
@@ -54,16 +71,7 @@ unfoldable mutual
   pub plain_tree : Label → ℕ → Trees → ActionSchema → Result ActionSchema DomainFault
   plain_tree label line End action = Ok action
   plain_tree label line (Group at children next) action = Err (Syntax line)
-  plain_tree label line (Word at word rest) action = elim (head_of word) [
-    | head.And ↦ plain_row label rest action
-    | head.Not ↦ negation label line rest action
-    | head.Equal ↦ equal_tree label line rest action
-    | head.OtherLogic ↦ Err (Unsupported line)
-    | head.NoName ↦ Err (Syntax line)
-    | head.At ↦ atom label false word rest action
-    | head.Over ↦ atom label false word rest action
-    | head.Name ↦ atom label false word rest action
-  ]
+  plain_tree label line (Word at word rest) action = plain_head (plain_row label rest action) label line word rest action (head_of word)
 
 abbrev pub start_of : Side → Label
 start_of Condition = StartCondition
@@ -98,6 +106,19 @@ abbrev pub equal_at : Side → ℕ → DomainFault
 equal_at Condition line = Syntax line
 equal_at Effect line = Unsupported line
 
+-- a list as a tree with times, by its head; the trees after `and` mean `row`
+abbrev pub timed_head : Result ActionSchema DomainFault → Side → ℕ → Trees → ActionSchema → Head → Result ActionSchema DomainFault
+timed_head row side line rest action k = elim k as (λ _. Result ActionSchema DomainFault) [
+  | head.And ↦ row
+  | head.At ↦ at_tree side line rest action
+  | head.Over ↦ over_tree side line rest action
+  | head.OtherLogic ↦ Err (Unsupported line)
+  | head.Equal ↦ Err (equal_at side line)
+  | head.Not ↦ Err (Syntax line)
+  | head.NoName ↦ Err (Syntax line)
+  | head.Name ↦ Err (Syntax line)
+]
+
 -- trees with times in a row, and a list as a tree with times: `()` is nothing
 unfoldable mutual
   pub timed_row : Side → Trees → ActionSchema → Result ActionSchema DomainFault
@@ -108,13 +129,4 @@ unfoldable mutual
   pub timed_tree : Side → ℕ → Trees → ActionSchema → Result ActionSchema DomainFault
   timed_tree side line End action = Ok action
   timed_tree side line (Group at children next) action = Err (Syntax line)
-  timed_tree side line (Word at word rest) action = elim (head_of word) [
-    | head.And ↦ timed_row side rest action
-    | head.At ↦ at_tree side line rest action
-    | head.Over ↦ over_tree side line rest action
-    | head.OtherLogic ↦ Err (Unsupported line)
-    | head.Equal ↦ Err (equal_at side line)
-    | head.Not ↦ Err (Syntax line)
-    | head.NoName ↦ Err (Syntax line)
-    | head.Name ↦ Err (Syntax line)
-  ]
+  timed_tree side line (Word at word rest) action = timed_head (timed_row side rest action) side line rest action (head_of word)
