@@ -3,19 +3,20 @@ use Rattle.std.proofs.Common.{◌≡◌, ◌⊎◌, inl, inr, ⊎_elim, ℕ, zer
 use Rattle.std.specs.{List.Contains, Set.is_member, Cmp.tied_itself}
 use Rattle.std.proofs.{lemmas.List.append-nil, lemmas.List.append_assoc, lemmas.Map.Made.distinct_count-le, lemmas.Bool.or_right, lemmas.Bool.or_cases, lemmas.List.Folds.list_any-append}
 use Rattle.std.proofs.lemmas.List.Elements.{Contains-append_left, Contains-append_right, Contains-append_cases}
-use Rattle.stn_net.specs.Difference.{Difference, NamesEvents}
+use Rattle.stn_net.specs.Difference.{Difference, IsBoundWithin}
 use Rattle.stn_lift.specs.PlanSource.{PlanSource, events_of}
 use Rattle.stn_records.specs.{Id.SiteCounter, Id.same_ids, declared.record.Record.Record, ContentLaws.ids_total, ContentLaws.contents_join, ContentLaws.contents_undisputed}
 use Rattle.stn_records.specs.Content.{Content, Item, addition, withdrawal, replacement, HasItem, AllAmend, is_known, known_ids, known_in_either, no_content, plain, with_record, with_amendment, with_tombstone, joined_contents, IsPart}
 use Rattle.stn_records.proofs.{KnownIds.fewer, KnownIds.known_member, Counters.next_is_new}
 use Rattle.stn_site.specs.Held.{executed}
 use Rattle.stn_site.proofs.Items.{addition_items, amendment_items, withdrawal_brought, nothing_there}
-use Rattle.stn_site.proofs.Refused.{accepted_named, accepted_known, executed_named, amended_named, amended_known}
-use Rattle.stn_world.specs.{declared.faults.WorldFault.WorldFault, Whole.IsWhole, Runs.Making, Runs.WasMade, Runs.makings, Runs.made_in, Runs.made_by, Runs.is_addition, Runs.records_made}
+use Rattle.stn_site.proofs.Refused.{accepted_known, amended_known}
+use Rattle.stn_world.specs.{declared.faults.WorldFault.WorldFault, Whole.IsWhole, Runs.Making, Runs.WasMade, Runs.makings, Runs.made_in, Runs.made_by, Runs.is_addition, Runs.records_made, Runs.IsRecordOf}
 use Rattle.stn_world.specs.World.{World, HasSite, opening_world, content_at, packet_at, held_at, next_id_at, with_content, make, amend, withdraw, send}
 use Rattle.stn_world.specs.Steps.{Step, added, finished, amended, withdrew, merged, sent, delivered, step_refusal, IsAccepted, after, stepped, run}
 use Rattle.stn_world.proofs.Parts.{sent_inside, sent_amends}
 use Rattle.stn_world.proofs.Accepted.{accepted_addition, accepted_execution, accepted_amendment, accepted_withdrawal, accepted_sending}
+use Rattle.stn_world.proofs.Bounds.{accepted_bound, executed_bound, amended_bound}
 use Rattle.stn_world.proofs.Whole.{kept, held_record, next_unknown, content_here, amended_items, added_whole, amended_whole, withdrawn_whole, parts_agree, joined_whole, sent_whole, whole_at_first}
 
 -- each item of the whole was made, and each item that was made is held by its site
@@ -75,25 +76,25 @@ module _ (world : World) (items : List Making) (now : IsLawful world items) wher
         (Contains-append_cases items (made_at site new) one h);
   }
 
-  make_lawful : (site : ℕ) (one : Record) → HasSite world site → NamesEvents (events_of world.source) one.bound
+  make_lawful : (site : ℕ) (one : Record) → HasSite world site → IsRecordOf (events_of world.source) one
       → IsLawful (make world site one) (items ++ record { site = site; item = addition (next_id_at world site) one } ∷ [])
-  make_lawful site one there named =
+  make_lawful site one there fits =
       let id = next_id_at world site in
       let here = addition_items (content_at world site) id one (next_is_new (content_at world site) site id.counter refl) in
       grown_lawful site (with_record (content_at world site) id one) (with_record now.all id one) (addition id one ∷ []) there
-      (added_whole world now.all site one now.whole there named)
+      (added_whole world now.all site one now.whole there fits)
       (λ other h. one_more (addition id one) other ((addition_items now.all id one (next_unknown world now.all site now.whole) other).0 h))
       (λ other h. (here other).1 (inl h))
       (λ other h. (here other).1 (inr (sym (one_contained (addition id one) other h))))
 
-  amend_lawful : (site : ℕ) (old : SiteCounter) (bound : Difference) → HasSite world site → is_known (content_at world site) old ≡ true → NamesEvents (events_of world.source) bound
+  amend_lawful : (site : ℕ) (old : SiteCounter) (bound : Difference) → HasSite world site → is_known (content_at world site) old ≡ true → IsBoundWithin (events_of world.source) bound
       → IsLawful (amend world site old bound)
       (items ++ record { site = site; item = addition (next_id_at world site) (plain bound) } ∷ (record { site = site; item = replacement (next_id_at world site) old } ∷ []))
-  amend_lawful site old bound there known named =
+  amend_lawful site old bound there known within =
       let id = next_id_at world site in
       let here = amended_items world (now.all, now.whole) site old bound in
       grown_lawful site (with_amendment (content_at world site) id old bound) (with_amendment now.all id old bound) (addition id (plain bound) ∷ (replacement id old ∷ [])) there
-      (amended_whole world now.all site old bound now.whole there known named)
+      (amended_whole world now.all site old bound now.whole there known within)
       (λ other h. ⊎_elim inl (λ n. inr (both_contain (addition id (plain bound)) (replacement id old) other n)) ((amendment_items now.all id old bound now.whole.amends (next_unknown world now.all site now.whole) other).0 h))
       (λ other h. (here other).1 (inl h))
       (λ other h. (here other).1 (inr (both_contained (addition id (plain bound)) (replacement id old) other h)))
@@ -126,12 +127,12 @@ module _ (world : World) (items : List Making) (now : IsLawful world items) wher
 
   lawful_after : (step : Step) → IsAccepted world step → IsLawful (after world step) (items ++ makings world step)
   lawful_after (added site bound) accepted =
-      let is = accepted_addition world site bound accepted in make_lawful site (plain bound) is.0 (accepted_named (held_at world site) bound is.1)
+      let is = accepted_addition world site bound accepted in make_lawful site (plain bound) is.0 (record { bound = accepted_bound (held_at world site) bound is.1; proper = tt })
   lawful_after (finished site event time) accepted =
-      let is = accepted_execution world site event time accepted in make_lawful site (executed time event) is.0 (executed_named (held_at world site) time event is.1)
+      let is = accepted_execution world site event time accepted in make_lawful site (executed time event) is.0 (record { bound = executed_bound (held_at world site) time event is.1; proper = (refl, refl) })
   lawful_after (amended site old bound) accepted =
       let is = accepted_amendment world site old bound accepted in
-      amend_lawful site old bound is.0 (amended_known (held_at world site) old bound is.1) (amended_named (held_at world site) old bound is.1)
+      amend_lawful site old bound is.0 (amended_known (held_at world site) old bound is.1) (amended_bound (held_at world site) old bound is.1)
   lawful_after (withdrew site id) accepted =
       let is = accepted_withdrawal world site id accepted in withdraw_lawful site id is.0 (accepted_known (held_at world site) id is.1)
   lawful_after (merged site other) accepted = nothing_made _ (join_lawful site (content_at world other) (now.whole.sites other) (now.whole.sites_amend other))

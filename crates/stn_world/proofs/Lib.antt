@@ -1,5 +1,6 @@
 pub mod Parts
 pub mod Accepted
+pub mod Bounds
 pub mod Whole
 pub mod Sites
 pub mod Pair

@@ -1,21 +1,24 @@
 -- The sites of a world stay parts of a whole.
-use Rattle.std.proofs.Common.{◌≡◌, ◌≢◌, ◌↔◌, ◌⊎◌, inl, inr, ⊎_elim, ℕ, zero, suc, ◌-◌, Bool, true, false, not, ◌||◌, is_some, Option, Some, None, List, [], ◌∷◌, ◌++◌, set, get_or, replicate, refl, ap, sym, subst, ◌∙◌, arith}
+use Rattle.std.proofs.Common.{◌≡◌, ◌≢◌, ◌↔◌, ◌⊎◌, inl, inr, ⊎_elim, ℕ, zero, suc, ◌-◌, Bool, true, false, not, ◌||◌, is_some, Option, Some, None, List, [], ◌∷◌, ◌++◌, set, get_or, replicate, All, refl, ap, sym, subst, ◌∙◌, arith}
 use Rattle.std.proofs.{lemmas.Bool.false≢true, lemmas.Bool.or_cases, lemmas.List.get_or-set_same}
 use Rattle.std.specs.FinMap as fin
-use Rattle.stn_net.specs.Difference.{Difference, NamesEvents}
+use Rattle.stn_net.specs.Difference.{Difference, NamesEvents, IsBoundWithin}
 use Rattle.stn_lift.specs.PlanSource.{PlanSource, events_of}
 use Rattle.stn_records.specs.{Id.SiteCounter, declared.record.Record.Record}
-use Rattle.stn_records.specs.Content.{Content, Item, addition, withdrawal, replacement, HasItem, is_known, is_replaced, no_content, plain, with_record, with_amendment, with_tombstone, dispute_contents, join_contents, joined_contents, IsPart, IsAmendment, AllAmend}
+use Rattle.stn_records.specs.Content.{Content, Item, addition, withdrawal, replacement, HasItem, is_known, is_replaced, no_content, plain, with_record, with_amendment, with_tombstone, dispute_contents, join_contents, joined_contents, IsPart, IsAmendment, AllAmend, AllProper}
 use Rattle.stn_records.specs.ContentLaws.{ids_total, ids_exact, contents_join, contents_dispute, contents_undisputed}
 use Rattle.stn_records.proofs.{Replaced.replaced_cases, Counters.next_is_new, Gets.entries_from_get}
-use Rattle.stn_site.specs.{Bounds.RecordsName, Held.executed}
+use Rattle.stn_site.specs.{Bounds.RecordsName, Bounds.live_bounds, Held.executed}
 use Rattle.stn_site.proofs.Items.{nothing_there, addition_items, amendment_items, withdrawal_brought}
-use Rattle.stn_site.proofs.Refused.{accepted_named, accepted_known, executed_named, amended_named, amended_known}
+use Rattle.stn_site.proofs.Refused.{accepted_known, amended_known}
+use Rattle.stn_replica.proofs.Live.{bounds_from_live}
 use Rattle.stn_world.specs.World.{World, HasSite, opening_world, content_at, packet_at, held_at, next_id_at, with_content, make, amend, withdraw, send}
 use Rattle.stn_world.specs.Steps.{Step, added, finished, amended, withdrew, merged, sent, delivered, after, IsAccepted}
 use Rattle.stn_world.specs.Whole.{IsWhole, IsCoherent}
+use Rattle.stn_world.specs.Runs.{IsRecordOf}
 use Rattle.stn_world.proofs.Parts.{sent_inside, sent_amends}
 use Rattle.stn_world.proofs.Accepted.{accepted_addition, accepted_execution, accepted_amendment, accepted_withdrawal, accepted_sending}
+use Rattle.stn_world.proofs.Bounds.{accepted_bound, executed_bound, amended_bound}
 
 -- a place of a list that was set has the new element, or what it had
 set_cases : {X : Type 0} (xs : List X) (i j : ℕ) (x d : X) → ((get_or (set xs i x) j d ≡ x) × (get_or xs i d ≡ get_or xs j d)) ⊎ (get_or (set xs i x) j d ≡ get_or xs j d)
@@ -121,7 +124,7 @@ same_old other second id old e = cc
 made_whole : (world : World) (all more : Content) (site : ℕ) (content : Content) (New : Item → Type 0) → IsWhole world all → HasSite world site
     → ((item : Item) → HasItem more item ↔ (HasItem all item ⊎ New item))
     → ((item : Item) → HasItem content item ↔ (HasItem (content_at world site) item ⊎ New item))
-    → ((id : SiteCounter) (one : Record) → New (addition id one) → (id.site ≡ site) × NamesEvents (events_of world.source) one.bound)
+    → ((id : SiteCounter) (one : Record) → New (addition id one) → (id.site ≡ site) × IsRecordOf (events_of world.source) one)
     → ((id : SiteCounter) → New (withdrawal id) → (one : Record) × HasItem all (addition id one))
     → ((id old : SiteCounter) → New (replacement id old) → ((one : Record) × HasItem all (addition old one)) × (((bound : Difference) × New (addition id (plain bound))) × (id ≢ old)))
     → IsWhole (with_content world site content) more
@@ -136,7 +139,7 @@ made_whole world all more site content New whole there larger grown records gone
   amends = amends_made all more New larger whole.amends amending;
   sites_amend = λ at. each_site AllAmend world site content at (amends_made (content_at world site) content New grown (whole.sites_amend site) amending) (whole.sites_amend at);
   packets_amend = whole.packets_amend;
-  named = λ id one h. ⊎_elim (whole.named id one) (λ new. (records id one new).1) ((larger (addition id one)).0 h);
+  records = λ id one h. ⊎_elim (whole.records id one) (λ new. (records id one new).1) ((larger (addition id one)).0 h);
 }
   where
     lifts : IsPart all more
@@ -148,14 +151,14 @@ made_whole world all more site content New whole there larger grown records gone
     amending : (id old : SiteCounter) → New (replacement id old) → ((bound : Difference) × New (addition id (plain bound))) × (id ≢ old)
     amending id old new = (entries id old new).1
 
-pub added_whole : (world : World) (all : Content) (site : ℕ) (one : Record) → IsWhole world all → HasSite world site → NamesEvents (events_of world.source) one.bound
+pub added_whole : (world : World) (all : Content) (site : ℕ) (one : Record) → IsWhole world all → HasSite world site → IsRecordOf (events_of world.source) one
     → IsWhole (make world site one) (with_record all (next_id_at world site) one)
-added_whole world all site one whole there named =
+added_whole world all site one whole there fits =
     let id = next_id_at world site in
     made_whole world all (with_record all id one) site (with_record (content_at world site) id one) (λ item. item ≡ addition id one) whole there
     (addition_items all id one (next_unknown world all site whole))
     (addition_items (content_at world site) id one (next_is_new (content_at world site) site id.counter refl))
-    (λ other two e. (site_of other two id one e, subst (λ (r : Record). NamesEvents (events_of world.source) r.bound) (sym (same_one other id two one e)) named))
+    (λ other two e. (site_of other two id one e, subst (IsRecordOf (events_of world.source)) (sym (same_one other id two one e)) fits))
     (λ other e. absurd (cc))
     (λ other old e. absurd (cc))
 
@@ -170,15 +173,15 @@ withdrawn_whole world all site id whole there known =
     (λ other old e. absurd (cc))
 
 pub amended_whole : (world : World) (all : Content) (site : ℕ) (old : SiteCounter) (bound : Difference) → IsWhole world all → HasSite world site
-    → is_known (content_at world site) old ≡ true → NamesEvents (events_of world.source) bound
+    → is_known (content_at world site) old ≡ true → IsBoundWithin (events_of world.source) bound
     → IsWhole (amend world site old bound) (with_amendment all (next_id_at world site) old bound)
-amended_whole world all site old bound whole there known named =
+amended_whole world all site old bound whole there known within =
     let id = next_id_at world site in
     let new = next_is_new (content_at world site) site id.counter refl in
     made_whole world all (with_amendment all id old bound) site (with_amendment (content_at world site) id old bound) (λ item. (item ≡ addition id (plain bound)) ⊎ (item ≡ replacement id old)) whole there
     (amendment_items all id old bound whole.amends (next_unknown world all site whole))
     (amendment_items (content_at world site) id old bound (whole.sites_amend site) new)
-    (λ other two e. ⊎_elim (λ f. (site_of other two id (plain bound) f, subst (λ (r : Record). NamesEvents (events_of world.source) r.bound) (sym (same_one other id two (plain bound) f)) named)) (λ f. absurd (cc)) e)
+    (λ other two e. ⊎_elim (λ f. (site_of other two id (plain bound) f, subst (IsRecordOf (events_of world.source)) (sym (same_one other id two (plain bound) f)) (record { bound = within; proper = tt }))) (λ f. absurd (cc)) e)
     (λ other e. ⊎_elim (λ f. absurd (cc)) (λ f. absurd (cc)) e)
     (λ other second e. ⊎_elim (λ f. absurd (cc)) (λ f. (
       subst (λ (i : SiteCounter). (r : Record) × HasItem all (addition i r)) (sym (same_old other second id old f)) (held_record world all (content_at world site) old whole (whole.sites site) known),
@@ -211,7 +214,16 @@ sites_join world coherent site other = contents_undisputed (content_at world sit
 pub part_named : (world : World) (all part : Content) → IsWhole world all → IsPart part all → RecordsName (events_of world.source) part
 part_named world all part whole inside =
     entries_from_get ids_total ids_exact part.additions (λ entry. NamesEvents (events_of world.source) entry.1.bound)
-    (λ id one there. whole.named id one (inside (addition id one) there))
+    (λ id one there. (whole.records id one (inside (addition id one) there)).bound.named)
+
+-- so what is live at a site are bounds of the plan, and the site's records of executions fix times
+pub site_bounds : (world : World) → IsCoherent world → (site : ℕ) → All (IsBoundWithin (events_of world.source)) (live_bounds (content_at world site))
+site_bounds world coherent site =
+    bounds_from_live (IsBoundWithin (events_of world.source)) (content_at world site)
+    (λ id one there live. (coherent.1.records id one (coherent.1.sites site (addition id one) there)).bound)
+
+pub site_proper : (world : World) → IsCoherent world → (site : ℕ) → AllProper (content_at world site).additions
+site_proper world coherent site id one there = (coherent.1.records id one (coherent.1.sites site (addition id one) there)).proper
 
 pub site_named : (world : World) → IsCoherent world → (site : ℕ) → RecordsName (events_of world.source) (content_at world site)
 site_named world coherent site = part_named world coherent.0 (content_at world site) coherent.1 (coherent.1.sites site)
@@ -229,7 +241,7 @@ joined_whole world all site other whole inside amends =
       amends = whole.amends;
       sites_amend = λ at. each_site AllAmend world site joined at (amends_join (content_at world site) other joined union (whole.sites_amend site) amends) (whole.sites_amend at);
       packets_amend = whole.packets_amend;
-      named = whole.named;
+      records = whole.records;
     }
 
 -- ---- packets
@@ -254,7 +266,7 @@ sent_whole world all part whole inside amends = record {
   amends = whole.amends;
   sites_amend = whole.sites_amend;
   packets_amend = λ number. each_packet AllAmend world part number amends (whole.packets_amend number);
-  named = whole.named;
+  records = whole.records;
 }
 
 -- a site and a packet agree on every id, what they hold has a join, and each record of the packet is about the plan's events
@@ -280,16 +292,16 @@ amended_grows world coherent at old bound item h = (amended_items world coherent
 pub coherent_after : (world : World) (step : Step) → IsAccepted world step → IsCoherent world → IsCoherent (after world step)
 coherent_after world (added site bound) accepted coherent =
     let is = accepted_addition world site bound accepted in
-    (with_record coherent.0 (next_id_at world site) (plain bound), added_whole world coherent.0 site (plain bound) coherent.1 is.0 (accepted_named (held_at world site) bound is.1))
+    (with_record coherent.0 (next_id_at world site) (plain bound), added_whole world coherent.0 site (plain bound) coherent.1 is.0 (record { bound = accepted_bound (held_at world site) bound is.1; proper = tt }))
 coherent_after world (finished site event time) accepted coherent =
     let is = accepted_execution world site event time accepted in (
       with_record coherent.0 (next_id_at world site) (executed time event),
-      added_whole world coherent.0 site (executed time event) coherent.1 is.0 (executed_named (held_at world site) time event is.1),
+      added_whole world coherent.0 site (executed time event) coherent.1 is.0 (record { bound = executed_bound (held_at world site) time event is.1; proper = (refl, refl) }),
     )
 coherent_after world (amended site old bound) accepted coherent =
     let is = accepted_amendment world site old bound accepted in (
       with_amendment coherent.0 (next_id_at world site) old bound,
-      amended_whole world coherent.0 site old bound coherent.1 is.0 (amended_known (held_at world site) old bound is.1) (amended_named (held_at world site) old bound is.1),
+      amended_whole world coherent.0 site old bound coherent.1 is.0 (amended_known (held_at world site) old bound is.1) (amended_bound (held_at world site) old bound is.1),
     )
 coherent_after world (withdrew site id) accepted coherent =
     let is = accepted_withdrawal world site id accepted in
@@ -342,7 +354,7 @@ whole_at_first source sites = record {
   amends = nothing_amends;
   sites_amend = λ site. subst AllAmend (sym (nothing_at_first source sites site)) nothing_amends;
   packets_amend = λ number. nothing_amends;
-  named = λ id one h. absurd (nothing_there (addition id one) h);
+  records = λ id one h. absurd (nothing_there (addition id one) h);
 }
 
 pub coherent_at_first : (source : PlanSource) (sites : ℕ) → IsCoherent (opening_world source sites)

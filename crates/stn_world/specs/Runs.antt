@@ -2,7 +2,8 @@
 use Rattle.std.specs.Prelude.{ℕ, List, [], ◌∷◌, ◌++◌, length, filter, Bool, true, false, is_some, if◌then◌else◌}
 use Rattle.std.specs.List.{Contains}
 use Rattle.stn_lift.specs.PlanSource.{PlanSource}
-use Rattle.stn_records.specs.{Id.SiteCounter, declared.record.Record.Record}
+use Rattle.stn_net.specs.Difference.{IsBoundWithin}
+use Rattle.stn_records.specs.{Id.SiteCounter, Record.IsProperRecord, declared.record.Record.Record}
 use Rattle.stn_records.specs.Content.{Content, Item, addition, withdrawal, replacement, HasItem}
 use Rattle.stn_site.specs.Held.{plain, executed}
 use Rattle.stn_world.specs.World.{World, opening_world, next_id_at, content_at}
@@ -50,6 +51,11 @@ records_made items = length (filter (λ one. is_addition one.item) items)
 -- breaks off early is a run, so it is true at each step of each run
 abbrev pub InEachRun : (World → List Making → Type 0) → Type 0
 InEachRun P = (source : PlanSource) (sites : ℕ) (steps : List Step) → P (run (opening_world source sites) steps) (made_by (opening_world source sites) steps)
+
+-- the record is of a bound of a plan with so many events beside the origin, and one that says that an event was executed fixes its time
+pub record IsRecordOf (events : ℕ) (one : Record) : Type 0 where
+  pub bound : IsBoundWithin events one.bound
+  pub proper : IsProperRecord one
 
 -- what all sites and all packets hold
 abbrev pub states_of : World → List Content

@@ -2,12 +2,11 @@
 -- The replicas of a world, and what all its sites and packets hold together.
 use Rattle.std.specs.Prelude.{◌≡◌, ℕ, ◌≤◌, List, length, map, replicate, slice_index_or}
 use Rattle.std.specs.List.{range_with_len}
-use Rattle.stn_net.specs.Difference.{NamesEvents}
 use Rattle.stn_lift.specs.PlanSource.{PlanSource, bare, events_of}
 use Rattle.stn_records.specs.{declared.record.Record.Record, Id.most_sites, Id.SiteCounter}
 use Rattle.stn_records.specs.Content.{Content, no_content, addition, withdrawal, replacement, HasItem, IsPart, AllAmend}
 use Rattle.stn_site.specs.Held.{Held}
-use Rattle.stn_world.specs.{World.World, World.most_packets, World.content_at, World.packet_at, Sites.world_of}
+use Rattle.stn_world.specs.{World.World, World.most_packets, World.content_at, World.packet_at, Sites.world_of, Runs.IsRecordOf}
 
 -- from 1 to 64 replicas of one plan, in order of site from 1 on
 pub record IsSites (source : PlanSource) (replicas : List Held) : Type 0 where
@@ -21,7 +20,7 @@ abbrev pub held_in : List Held → ℕ → Held
 held_in replicas place = slice_index_or replicas place (record { site = 0; source = bare 0; state = no_content; steps = 0 })
 
 -- what each site and each packet holds is part of a whole, of which each record is held by the site that made it, each id that is withdrawn
--- or replaced has a record, and each record is about the plan's events. So any two of them agree on every id. Each entry belongs to a Plain
+-- or replaced has a record, and each record is of a bound of the plan. So any two of them agree on every id. Each entry belongs to a Plain
 -- record that is held with it
 pub record IsWhole (world : World) (all : Content) : Type 0 where
   pub sites : (site : ℕ) → IsPart (content_at world site) all
@@ -32,7 +31,7 @@ pub record IsWhole (world : World) (all : Content) : Type 0 where
   pub amends : AllAmend all
   pub sites_amend : (site : ℕ) → AllAmend (content_at world site)
   pub packets_amend : (number : ℕ) → AllAmend (packet_at world number)
-  pub named : (id : SiteCounter) (one : Record) → HasItem all (addition id one) → NamesEvents (events_of world.source) one.bound
+  pub records : (id : SiteCounter) (one : Record) → HasItem all (addition id one) → IsRecordOf (events_of world.source) one
 
 -- the sites and the packets of the world are parts of a whole
 abbrev pub IsCoherent : World → Type 0

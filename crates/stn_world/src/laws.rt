@@ -1,14 +1,15 @@
 ghost use Rattle.std.specs.Prelude.{◌≡◌, ℕ, ◌≤◌, ◌↔◌, List, ◌∷◌, All, None, true, false};
 ghost use Rattle.std.specs.List.{Contains};
-ghost use Rattle.stn_lift.specs.PlanSource.{PlanSource};
+ghost use Rattle.stn_lift.specs.PlanSource.{PlanSource, events_of};
 ghost use Rattle.stn_records.specs.Id.{SiteCounter};
-ghost use Rattle.stn_records.specs.Content.{most_known, Content, Item, HasItem, is_known, is_live, dispute_contents, IsPart, CountsSame};
+ghost use Rattle.stn_records.specs.declared.record.Record.{Record};
+ghost use Rattle.stn_records.specs.Content.{most_known, Content, Item, addition, HasItem, is_known, is_live, dispute_contents, IsPart, CountsSame};
 ghost use Rattle.stn_site.specs.Calls.{Replaces};
 ghost use Rattle.stn_site.specs.Report.{IsReport};
 ghost use Rattle.stn_world.specs.World.{World, HasSite, HasPacket, opening_world, content_at, packet_at};
 ghost use Rattle.stn_world.specs.Steps.{Step, merged, delivered, IsAccepted, run, Brings, TookAt, TookSameAt, TookSameItemsAt};
 ghost use Rattle.stn_world.specs.Guarded.{HoldsGuarded, KeepsToOwn, HaveOwnSchedules, HaveSchedules};
-ghost use Rattle.stn_world.specs.Runs.{Making, WasMade, records_made, states_of, HasEntries, InEachRun};
+ghost use Rattle.stn_world.specs.Runs.{Making, WasMade, records_made, states_of, HasEntries, IsRecordOf, InEachRun};
 
 use stn_site::{one_report, same_counts_same_bytes};
 
@@ -44,6 +45,13 @@ pub fn only_made_items()
     ensures held { InEachRun (λ now items. (one : Making) → Contains items one → HasItem (content_at now one.site) one.item) }
     ensures at_sites { InEachRun (λ now items. (site : ℕ) (item : Item) → HasItem (content_at now site) item → WasMade items item) }
     ensures in_packets { InEachRun (λ now items. (number : ℕ) (item : Item) → HasItem (packet_at now number) item → WasMade items item) }
+{}
+
+/// The law that in each run each record of a site or of a packet is of a bound of the plan, and one that says that an event was executed
+/// fixes its time; it does nothing.
+pub fn records_are_bounds()
+    ensures { InEachRun (λ now items. (state : Content) → Contains (states_of now) state → (id : SiteCounter) → (one : Record) → HasItem state (addition id one)
+        → IsRecordOf (events_of now.source) one) }
 {}
 
 /// The law that an amendment is whole: in each run a site or a packet that has the record of an amendment
