@@ -1,12 +1,12 @@
-// What commands on logs ask, and the loosened plan, while a request for memory is refused. The commands themselves ask the global
-// allocator.
+// What commands on logs ask, and the loosened and the robust plan, while a request for memory is refused. The commands themselves
+// ask the global allocator.
 use crate::sweep::{Answer, Call, judged, requests};
 use std::alloc::Global;
 use std::process::Abort;
 use std::rc::Rc;
 use stn_command::{Choice, Outlook, Query, say};
 use stn_lift::{Base, Source};
-use stn_loosen::{LoosenFault, Tolerance, loosened_site_plan};
+use stn_loosen::{LoosenFault, RobustFault, Tolerance, loosened_site_plan, robust_site_plan};
 use stn_net::Event;
 use stn_questions::Question;
 use stn_records::Site;
@@ -208,4 +208,35 @@ pub fn loosen_refused(heap: &Refusing<Global>, number: u64) -> Answer {
 #[test]
 fn loosened_plans(rt: HostRuntime) {
     assert!(rt; requests(&rt, rt.alloc(), Call::Loosen) > 3);
+}
+
+// Whether a site's copy holds the durations of both steps and when each may start at the latest, or memory was lacking.
+fn is_robust(robust: Result<SitePlan<&Refusing<Global>>, RobustFault>) -> (bool, bool) {
+    match robust {
+        Ok(copy) => {
+            let right = copy.records().known() == 4;
+            drop(copy);
+            (right, false)
+        }
+        Err(fault) => (false, fault == RobustFault::Memory),
+    }
+}
+
+/// What the robust plan is while a request is refused.
+pub fn robust_refused(heap: &Refusing<Global>, number: u64) -> Answer {
+    let Some(base) = loose_base(heap) else {
+        return Answer::Wrong;
+    };
+    let second = Ms::new(1_000).unwrap();
+    let tolerance = Tolerance::new(second, second).unwrap();
+    heap.refuse(number);
+    let robust = robust_site_plan(heap, Site::new(1).unwrap(), &base, tolerance);
+    drop(base);
+    let (right, memory) = is_robust(robust);
+    judged(heap, right, memory)
+}
+
+#[test]
+fn robust_plans(rt: HostRuntime) {
+    assert!(rt; requests(&rt, rt.alloc(), Call::Robust) > 3);
 }

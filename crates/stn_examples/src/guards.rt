@@ -1,23 +1,31 @@
 // Guards of small plans, worked out by hand.
-use std::alloc::Global;
+use crate::sweep::{Answer, Call, judged, requests};
+use std::alloc::{Allocator, Global};
 use std::rc::Rc;
 use stn_guard::{OwnedSteps, add_guard};
 use stn_lift::Base;
 use stn_net::{Bound, BoundFault, Event};
 use stn_records::{Id, Mark, Records, Site};
+use stn_refusing::Refusing;
 use stn_replica::StepRange;
 use stn_site::{ReplicaFault, SitePlan};
 use stn_time::Ms;
 
 // What site 1 of a bare plan of so many steps holds at first.
-fn bare_plan(alloc: Global, steps: u16) -> Option<SitePlan<Global>> {
+fn bare_plan<A: Allocator + Copy>(alloc: A, steps: u16) -> Option<SitePlan<A>> {
     let base = Base::bare(alloc, steps).ok()?;
     let base = Rc::new(alloc, base).ok()?;
     let site = Site::new(1)?;
     Some(SitePlan::new(alloc, site, base))
 }
 
-fn add(plan: &mut SitePlan<Global>, from: u16, to: u16, least: i64, most: i64) -> bool {
+fn add<A: Allocator + Copy>(
+    plan: &mut SitePlan<A>,
+    from: u16,
+    to: u16,
+    least: i64,
+    most: i64,
+) -> bool {
     match (
         Event::new(from),
         Event::new(to),
@@ -44,7 +52,13 @@ fn owned(site: u8, step: u32) -> Option<OwnedSteps> {
 }
 
 // Whether the record at a place says only that the event comes within these times.
-fn is_window(plan: &SitePlan<Global>, place: usize, event: u16, least: i64, most: i64) -> bool {
+fn is_window<A: Allocator + Copy>(
+    plan: &SitePlan<A>,
+    place: usize,
+    event: u16,
+    least: i64,
+    most: i64,
+) -> bool {
     match plan.records().record_at(place) {
         Some((_, mark, bound)) => {
             mark == Mark::Plain
@@ -58,30 +72,77 @@ fn is_window(plan: &SitePlan<Global>, place: usize, event: u16, least: i64, most
 }
 
 // The second step starts at most four seconds after the end of the first, which comes by ten seconds.
-fn two_steps(alloc: Global) -> Option<SitePlan<Global>> {
+fn two_steps<A: Allocator + Copy>(alloc: A) -> Option<SitePlan<A>> {
     let mut plan = bare_plan(alloc, 2)?;
     if add(&mut plan, 2, 3, 0, 4_000) && add(&mut plan, 0, 2, 0, 10_000) {
         Some(plan)
     } else {
+        drop(plan);
         None
     }
 }
 
 // The start comes by nine seconds, and so the end no earlier than five; the middle of what is left, seven, parts the two.
+fn is_parted<A: Allocator + Copy>(plan: &SitePlan<A>) -> bool {
+    is_window(plan, 2, 2, 5_000, 7_000) && is_window(plan, 3, 3, 7_000, 9_000)
+}
+
 fn guards_two_sites(alloc: Global) -> Option<bool> {
     let mut plan = two_steps(alloc)?;
     let other = owned(2, 2)?;
     let ids = add_guard(&mut plan, &[other]).ok()??;
-    Some(
-        ids.len() == 2
-            && is_window(&plan, 2, 2, 5_000, 7_000)
-            && is_window(&plan, 3, 3, 7_000, 9_000),
-    )
+    Some(ids.len() == 2 && is_parted(&plan))
 }
 
 #[test]
 fn two_sites_share_a_bound(rt: HostRuntime) {
     assert!(rt; guards_two_sites(rt.alloc()) == Some(true));
+}
+
+// Whether the guard was made, or memory was lacking.
+fn is_guarded(plan: &mut SitePlan<&Refusing<Global>>, other: OwnedSteps) -> (bool, bool) {
+    match add_guard(plan, &[other]) {
+        Ok(Some(ids)) => {
+            let two = ids.len() == 2;
+            drop(ids);
+            (two && is_parted(plan), false)
+        }
+        Ok(None) => (false, false),
+        Err(fault) => (false, fault == ReplicaFault::Memory),
+    }
+}
+
+// What a guard answers one of whose requests is refused: it is made as with memory, where the request only asked in advance for more
+// room. Else the same call then makes it.
+fn guard_twice(
+    heap: &Refusing<Global>,
+    number: u64,
+    plan: &mut SitePlan<&Refusing<Global>>,
+    other: OwnedSteps,
+) -> Answer {
+    heap.refuse(number);
+    let (right, memory) = is_guarded(plan, other);
+    let unchanged = memory && plan.records().known() == 2;
+    let answer = judged(heap, right, unchanged || right);
+    answer.only_if(right || is_guarded(plan, other).0)
+}
+
+/// What the guard of two sites is while a request is refused.
+pub fn guard_refused(heap: &Refusing<Global>, number: u64) -> Answer {
+    let Some(other) = owned(2, 2) else {
+        return Answer::Wrong;
+    };
+    let Some(mut plan) = two_steps(heap) else {
+        return Answer::Wrong;
+    };
+    let answer = guard_twice(heap, number, &mut plan, other);
+    drop(plan);
+    answer
+}
+
+#[test]
+fn guards_without_memory(rt: HostRuntime) {
+    assert!(rt; requests(&rt, rt.alloc(), Call::Guard) > 5);
 }
 
 // The two sites, each of which holds the guard.

@@ -1,5 +1,6 @@
-use crate::commands::{Asked, loosen_refused, say_refused};
+use crate::commands::{Asked, loosen_refused, robust_refused, say_refused};
 use crate::conflict::cycle_refused;
+use crate::guards::guard_refused;
 use crate::readers::{domain_refused, plan_refused};
 use crate::records::{Change, Reading, change_refused, print_refused, read_refused, take_refused};
 use std::alloc::Global;
@@ -48,6 +49,8 @@ pub enum Call {
     Print,
     Say(Asked, bool),
     Loosen,
+    Robust,
+    Guard,
 }
 
 // What the call answers while the request of this number is refused. The allocator refuses nothing yet: each of these functions
@@ -63,6 +66,8 @@ fn answer_with(heap: &Refusing<Global>, number: u64, call: Call) -> Answer {
         Call::Print => print_refused(heap, number),
         Call::Say(asked, conflict) => say_refused(heap, number, asked, conflict),
         Call::Loosen => loosen_refused(heap, number),
+        Call::Robust => robust_refused(heap, number),
+        Call::Guard => guard_refused(heap, number),
     }
 }
 
