@@ -5,3 +5,6 @@ pub mod OneSaid
 pub mod Alike
 mod Chosen
 mod StepWords
+mod SomeRepairs
+mod SomePicture
+pub mod SomeSaid

@@ -1,5 +1,7 @@
-ghost use Rattle.std.specs.Prelude.{◌≡◌, ℕ, false, None, List, Option};
+ghost use Rattle.std.specs.Prelude.{◌≡◌, ◌⊎◌, ℕ, false, None, Some, List, Option};
+ghost use Rattle.stn_refusal.specs.declared.refusal.Refusal.{Refusal};
 ghost use Rattle.stn_refusal.specs.declared.failure.Failure.{Failure};
+ghost use Rattle.stn_refusal.specs.declared.failure.Failure.TheVariants.{Refused};
 ghost use Rattle.stn_site.specs.Held.{Held};
 ghost use Rattle.stn_lift.specs.PlanSource.{PlanSource};
 ghost use Rattle.stn_records.specs.Content.{Content};
@@ -7,7 +9,7 @@ ghost use Rattle.stn_site.specs.Report.{done_events};
 ghost use Rattle.stn_command.specs.Dispatch.{done_or_not_chosen};
 ghost use Rattle.stn_command.specs.Named.{IsNamed};
 ghost use Rattle.stn_command.specs.declared.names.Shown.{Shown};
-ghost use Rattle.stn_command.specs.Query.{Query, IsSaid, IsQueryRefusal};
+ghost use Rattle.stn_command.specs.Query.{Query, IsSoundSite, IsSaid, IsQueryRefusal};
 
 use stn_picture::one_picture;
 use stn_questions::one_answer;
@@ -28,6 +30,15 @@ pub fn one_said()
     one_repairs_text();
     one_picture();
 }
+
+/// The law that each site has an answer to each query that nothing refuses (`text`), that nothing refuses a query or a cause does that is
+/// printed (`refusal`), and that each site can show its steps by the names in any plan text (`named`); it does nothing.
+pub fn every_query_has_an_answer()
+    ensures text { (query : Query) (held : Held) → IsSoundSite held → IsQueryRefusal query held None → (text : List ℕ) × IsSaid query held text }
+    ensures refusal { (query : Query) (held : Held) → IsSoundSite held
+        → IsQueryRefusal query held None ⊎ ((cause : Refusal) × IsQueryRefusal query held (Some (Refused cause))) }
+    ensures named { (shown : Shown) (plan : List ℕ) (held : Held) → IsSoundSite held → (text : List ℕ) × IsNamed shown plan held text }
+{}
 
 /// The law that where neither steps nor starts are chosen, an event counts as left exactly if it is not done; it does nothing.
 pub fn among_all()

@@ -1,0 +1,35 @@
+-- Each plan and each state have a picture, with any lines of the steps.
+use Rattle.std.proofs.Common.{inl, inr, ℕ, ℤ, zero, suc, ◌≤◌, Bool, List, [], ◌∷◌, ◌++◌, neg_ℤ, refl, arith}
+use Rattle.stn_net.specs.Difference.{Difference}
+use Rattle.stn_windows.proofs.Windows.{window_of_ends}
+use Rattle.stn_lift.specs.PlanSource.{PlanSource, events_of}
+use Rattle.stn_records.specs.Content.{Content}
+use Rattle.stn_site.specs.{Bounds.all_bounds, Report.is_done}
+use Rattle.stn_questions.proofs.{Found.AreFound, Found.possible_found, Found.tightest_found, SomeReport.IsSoundState, SomeReport.differences, SomeReport.some_conflict}
+use Rattle.stn_picture.specs.{declared.span.Span.Span, Axis.gap_of, Spans.AreSpans}
+use Rattle.stn_picture.specs.Picture.{rows_end, windows_text, cycle_height, cycle_text, IsPicture}
+
+-- a span for each of the first events
+some_spans : (bounds : List Difference) (events : ℕ) (far : ℕ → ℕ → ℤ) (done : ℕ → Bool) → AreFound bounds events far → (n : ℕ) → n ≤ events
+    → (spans : List Span) × AreSpans bounds done n spans
+some_spans bounds events far done found zero within = ([], refl)
+some_spans bounds events far done found (suc n) within =
+    let (before, are) = some_spans bounds events far done found n (omega arith) in
+    let early = tightest_found bounds events far found (suc n) 0 within (omega arith) in
+    let late = tightest_found bounds events far found 0 (suc n) (omega arith) within in (
+      before ++ record { event = suc n; earliest = neg_ℤ (far (suc n) 0); latest = far 0 (suc n); done = done (suc n) } ∷ [],
+      (before, neg_ℤ (far (suc n) 0), far 0 (suc n), are, window_of_ends bounds (suc n) (far (suc n) 0) (far 0 (suc n)) early late, refl),
+    )
+
+pub some_picture : (steps : List ℕ) (source : PlanSource) (state : Content) → IsSoundState source state → (text : List ℕ) × IsPicture steps source state text
+some_picture steps source state sound =
+    elim (differences source state sound) [
+      | inl (far, found) ↦
+          let (spans, are) = some_spans (all_bounds source state) (events_of source) far (is_done state) found (events_of source) (omega arith) in (
+            windows_text (rows_end (events_of source)) (gap_of spans) steps spans,
+            inl (record { possible = possible_found (all_bounds source state) (events_of source) far found; spans = spans; windows = are; whole = refl }),
+          )
+      | inr (place, far, first) ↦
+          let (conflict, part) = some_conflict source state sound place far first in
+          (cycle_text (cycle_height (events_of source) conflict) steps conflict, inr (record { conflict = conflict; part = part; whole = refl }))
+    ]

@@ -1,0 +1,142 @@
+-- What a site holds has an answer to each query, or a cause that refuses it.
+use Rattle.std.proofs.Common.{◌≡◌, ◌⊎◌, inl, inr, ℕ, ℤ, pos, ◌+◌, ◌<◌, arith, ⊎_elim, Bool, true, false, List, ◌∷◌, codes, length, Some, None, refl}
+use Rattle.std.proofs.{lemmas.Bool.cases_eq, lemmas.Bool.cases_lt, lemmas.Option.none-some}
+use Rattle.std.proofs.lemmas.List.FromFn.{length-map-range_with_len}
+use Rattle.std.specs.Prelude.{not, ◌||◌}
+use Rattle.stn_net.specs.Schedule.{times_of}
+use Rattle.stn_refusal.specs.declared.code.Code.TheVariants as code
+use Rattle.stn_refusal.specs.{declared.refusal.Refusal.Refusal, declared.failure.Failure.TheVariants.Refused, Refusals.refusal, Refusals.refusal_at, Refusals.refusal_of}
+use Rattle.stn_lift.specs.PlanSource.{PlanSource, events_of, steps_of}
+use Rattle.stn_site.specs.{Held.Held, Lines.line, Names.broken_bound, Report.is_done, Report.done_events}
+use Rattle.stn_questions.specs.{declared.asked.Question.Question, Answer.AsksOfNoEvent, Answer.AsksOfSameEvent, Steps.steps_text, Steps.names_text}
+use Rattle.stn_questions.specs.declared.asked.Question.TheVariants.{Records, Steps, Bounds, Why, WhyApart}
+use Rattle.stn_questions.proofs.{SomeReport.IsSoundState, SomeReport.some_report, SomeAnswer.some_answer, SomeDispatch.possible_or_none, SomeDispatch.some_next, SomeDispatch.some_rest, SomeDispatch.some_ready}
+use Rattle.stn_command.specs.{declared.queries.Outlook.Outlook, declared.names.Shown.Shown, Named.IsNamed}
+use Rattle.stn_command.specs.declared.queries.Outlook.TheVariants as outlook
+use Rattle.stn_command.specs.declared.names.Shown.TheVariants as shown
+use Rattle.stn_command.specs.Dispatch.{Choice, is_chosen, done_or_not_chosen, check_text, next_text, runs_text}
+use Rattle.stn_command.specs.Query.{Query, report, check, next, ready, rehearse, among, ask, repairs, draw, IsSoundSite, IsForeseen, IsSaid, IsOutlookRefusal, has_steps, IsQueryRefusal}
+use Rattle.stn_command.proofs.{OneSaid.one_refusal, SomeRepairs.some_repairs_text, SomePicture.some_picture}
+
+-- something is said to the query, which nothing refuses, or a cause refuses it
+abbrev pub IsSaidOrRefused : Query → Held → Type 0
+IsSaidOrRefused query held =
+    ((text : List ℕ) × IsQueryRefusal query held None × IsSaid query held text) ⊎ ((cause : Refusal) × IsQueryRefusal query held (Some (Refused cause)))
+
+-- and so of the events that are left
+abbrev IsForeseenOrRefused : Outlook → Held → List Bool → ℤ → Type 0
+IsForeseenOrRefused outlook held done now =
+    ((text : List ℕ) × IsOutlookRefusal outlook held done now None × IsForeseen outlook held done now text)
+    ⊎ ((cause : Refusal) × IsOutlookRefusal outlook held done now (Some (Refused cause)))
+
+not_past : (last event : ℕ) → (last < event) ⊎ (¬ (last < event))
+not_past last event = elim (cases_lt last event) [ inl past ↦ inl past | inr within ↦ inr (λ past. omega (arith, past, within)) ]
+
+no_event_or_not : (source : PlanSource) (question : Question) → AsksOfNoEvent source question ⊎ (¬ AsksOfNoEvent source question)
+no_event_or_not source Records = inr (λ none. none)
+no_event_or_not source Steps = inr (λ none. none)
+no_event_or_not source Bounds = inr (λ none. none)
+no_event_or_not source (Why event) = not_past (events_of source) event
+no_event_or_not source (WhyApart from to) =
+    elim (not_past (events_of source) from) [
+      | inl past ↦ inl (inl past)
+      | inr there ↦ elim (not_past (events_of source) to) [
+        | inl past ↦ inl (inr past)
+        | inr other ↦ inr (⊎_elim there other)
+      ]
+    ]
+
+same_event_or_not : (question : Question) → AsksOfSameEvent question ⊎ (¬ AsksOfSameEvent question)
+same_event_or_not Records = inr (λ none. none)
+same_event_or_not Steps = inr (λ none. none)
+same_event_or_not Bounds = inr (λ none. none)
+same_event_or_not (Why event) = inr (λ none. none)
+same_event_or_not (WhyApart from to) = cases_eq from to
+
+module _ (held : Held) (sound : IsSoundSite held) where
+  state_sound : IsSoundState held.source held.state
+  state_sound = record { based = sound.based; live = sound.live }
+
+  foreseen : (outlook : Outlook) (done : List Bool) → length done ≡ events_of held.source + 1 → (now : ℤ) → IsForeseenOrRefused outlook held done now
+  foreseen outlook.Next done long now =
+      elim (possible_or_none held.source held.state state_sound) [
+        | inl possible ↦
+            let (answer, is) = some_next held.source held.state state_sound possible done long now in
+            inl (next_text answer, refl, inl (record { possible = possible; answer = answer; next = is; said = refl }))
+        | inr none ↦ inl (line (codes "conflict"), refl, inr (record { conflict = none; said = refl }))
+      ]
+  foreseen outlook.Ready done long now = (let (text, is) = some_ready held.source held.state state_sound done long now in inl (text, refl, is))
+  foreseen outlook.Rehearse done long now =
+      elim (possible_or_none held.source held.state state_sound) [
+        | inl possible ↦ elim (some_rest held.source held.state state_sound sound.proper possible done long now) [
+          | inl (runs, rest) ↦ inl (runs_text runs, inr ((λ late. late.1.overdue.1 rest.in_time), refl), inl (record { runs = runs; rest = rest; lines = refl }))
+          | inr (event, late) ↦ inr (refusal_of code.Overdue event, inl (event, record { possible = possible; overdue = late }, refl))
+        ]
+        | inr none ↦ inl (line (codes "conflict"), inr ((λ late. none late.1.possible), refl), inr (record { conflict = none; said = refl }))
+      ]
+
+  of_all : (outlook : Outlook) (now : ℤ) → IsForeseenOrRefused outlook held (done_events held.source held.state) now
+  of_all outlook now = foreseen outlook (done_events held.source held.state) (length-map-range_with_len (is_done held.state) 0 (events_of held.source + 1)) now
+
+  of_chosen : (outlook : Outlook) (now : ℤ) (choice : Choice) → IsSaidOrRefused (among outlook now choice) held
+  of_chosen outlook now choice = by (has_steps choice (steps_of held.source)) refl
+    where
+      done : List Bool
+      done = done_or_not_chosen choice held.source held.state
+
+      by : (t : Bool) → has_steps choice (steps_of held.source) ≡ t → IsSaidOrRefused (among outlook now choice) held
+      by false e = inr (refusal code.NoEvent, inl (e, refl))
+      by true e =
+          elim (foreseen outlook done (length-map-range_with_len (λ event. is_done held.state event || not (is_chosen choice event)) 0 (events_of held.source + 1)) now) [
+            | inl (text, free, is) ↦ inl (text, inr (e, free), is)
+            | inr (cause, refused) ↦ inr (cause, inr (e, refused))
+          ]
+
+  checked : (times : List ℤ) → IsSaidOrRefused (check times) held
+  checked times =
+      elim (cases_eq (length times) (events_of held.source)) [
+        | inl same ↦ inl (check_text (broken_bound held.source held.state (times_of (pos 0 ∷ times))), inr (same, refl), refl)
+        | inr other ↦ inr (refusal_at code.Line 0, inl (other, refl))
+      ]
+
+  -- a question names no event of the plan, or one and itself, or neither
+  asked : (question : Question) → IsSaidOrRefused (ask question) held
+  asked question =
+      elim (no_event_or_not held.source question) [
+        | inl none ↦ inr (refusal code.NoEvent, inl (none, refl))
+        | inr there ↦ elim (same_event_or_not question) [
+          | inl same ↦ inr (refusal code.SameEvent, inr (inl (there, same, refl)))
+          | inr apart ↦ (let (text, is) = some_answer held.source held.state state_sound question there in inl (text, inr (inr (there, apart, refl)), is))
+        ]
+      ]
+
+  pub said_or_refused : (query : Query) → IsSaidOrRefused query held
+  said_or_refused report = (let (text, is) = some_report held.source held.state state_sound in inl (text, refl, is))
+  said_or_refused (check times) = checked times
+  said_or_refused (next now) = of_all outlook.Next now
+  said_or_refused (ready now) = of_all outlook.Ready now
+  said_or_refused (rehearse now) = of_all outlook.Rehearse now
+  said_or_refused (among outlook now choice) = of_chosen outlook now choice
+  said_or_refused (ask question) = asked question
+  said_or_refused repairs = (let (text, is) = some_repairs_text held.source held.state state_sound in inl (text, refl, is))
+  said_or_refused draw = (let (text, is) = some_picture (steps_text held.source) held.source held.state state_sound in inl (text, refl, is))
+
+  -- where nothing refuses the query, something is said
+  pub some_said : (query : Query) → IsQueryRefusal query held None → (text : List ℕ) × IsSaid query held text
+  some_said query free =
+      elim (said_or_refused query) [
+        | inl (text, none, is) ↦ (text, is)
+        | inr (cause, refused) ↦ absurd (none-some (Refused cause) (one_refusal query held None (Some (Refused cause)) free refused))
+      ]
+
+  -- and nothing does, or a cause that is printed
+  pub some_refusal : (query : Query) → IsQueryRefusal query held None ⊎ ((cause : Refusal) × IsQueryRefusal query held (Some (Refused cause)))
+  some_refusal query =
+      elim (said_or_refused query) [
+        | inl (text, free, is) ↦ inl free
+        | inr refused ↦ inr refused
+      ]
+
+  pub some_named : (shown : Shown) (plan : List ℕ) → (text : List ℕ) × IsNamed shown plan held text
+  some_named shown.Steps plan = (names_text plan, refl)
+  some_named shown.Picture plan = some_picture (names_text plan) held.source held.state state_sound
