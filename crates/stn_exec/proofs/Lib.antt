@@ -5,3 +5,8 @@ pub mod Runs
 pub mod Scripts
 pub mod Reports
 mod ReadBack
+mod Told
+mod Texts
+mod Based
+mod Headings
+mod SomeOutput

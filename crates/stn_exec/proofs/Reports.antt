@@ -90,7 +90,7 @@ form_run : (number : ℕ) (world : World) (command : Option Command) → IsCoher
 form_run number world None coherent = refl
 form_run number world (Some command) coherent = effect_run world command.site command.action coherent
 
-line_run : (number : ℕ) (world : World) (words : List (List ℕ)) → IsCoherent world → (line_outcome number world words).world ≡ run world (line_steps world words)
+pub line_run : (number : ℕ) (world : World) (words : List (List ℕ)) → IsCoherent world → (line_outcome number world words).world ≡ run world (line_steps world words)
 line_run number world words coherent = tested (is_skipped words) refl
   where
     steps : Bool → List Step

@@ -20,7 +20,7 @@ ghost use Rattle.stn_exec.specs.Output.{IsOutput, CountsRefusals};
 ghost use Rattle.stn_exec.specs.Script.{Start, heading_of, last_line, script_outcome};
 ghost use Rattle.stn_exec.specs.Reports.{steps_of_lines, LineOf, first_world, steps_before, world_at, ReportsSite, AsksSite, AsksReady, PrintsAt};
 
-use stn_command::one_said;
+use stn_command::{every_query_has_an_answer, one_said};
 use stn_questions::{one_answer, one_ready_text};
 use stn_records::counts_same;
 use stn_world::{sites_are_unions, sites_took_same_same_bytes};
@@ -33,6 +33,14 @@ pub fn one_script()
         → CountsRefusals (script_outcome script).replies count → CountsRefusals (script_outcome script).replies other → count ≡ other }
 {
     one_said();
+}
+
+/// The law that each script has an output, and a number of refusals, whatever its text is; it does nothing.
+pub fn every_script_has_an_output()
+    ensures output { (script : List ℕ) → (text : List ℕ) × IsOutput (script_outcome script).replies text }
+    ensures count { (script : List ℕ) → (count : ℕ) × CountsRefusals (script_outcome script).replies count }
+{
+    every_query_has_an_answer();
 }
 
 /// The law that the commands of a script are a run of the world's steps, and what its reports say; it
