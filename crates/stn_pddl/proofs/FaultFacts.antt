@@ -13,7 +13,7 @@ use Rattle.stn_pddl.specs.declared.word.Section.TheVariants as section
 use Rattle.stn_text.specs.Faults.{◌>>=◌}
 use Rattle.stn_pddl.specs.Words.{is_name, is_variable, is_key, head_of, item_of, key_of, section_of}
 use Rattle.stn_pddl.specs.Schemas.{TermSchema, ActionSchema, Constant, bare_action, with_literal}
-use Rattle.stn_pddl.specs.Conditions.{is_effect, equal_tree, negated_tree, negated_first, negation, plain_row, plain_tree, labelled, start_of, end_of, at_tree, over_tree, timed_row, timed_tree, equal_at}
+use Rattle.stn_pddl.specs.Conditions.{is_effect, equal_tree, negated_head, negated_tree, negated_first, negation, plain_head, plain_row, plain_tree, labelled, start_of, end_of, at_tree, over_tree, timed_head, timed_row, timed_tree, equal_at}
 use Rattle.stn_pddl.specs.Fields.{Listing, Values, no_values, parameters, parameters_behind_type, not_negative, constant, duration, value_of, with_value, fields, field_value}
 use Rattle.stn_pddl.specs.Actions.{timed_value, action_of_lists, action_of_values, named_action, is_taken, action}
 
@@ -78,16 +78,7 @@ module _ (label : Label) (a : ActionSchema) where
   negated-forms line (Group at children next) = tt
   negated-forms line (Word at word rest) = by (head_of word)
     where
-      by : (k : Head) → OfForms (elim k as (λ _. Result ActionSchema DomainFault) [
-        | head.And ↦ Err (Unsupported line)
-        | head.Not ↦ Err (Unsupported line)
-        | head.Equal ↦ equal_tree label line rest a
-        | head.OtherLogic ↦ Err (Unsupported line)
-        | head.NoName ↦ Err (Syntax line)
-        | head.At ↦ atom label true word rest a
-        | head.Over ↦ atom label true word rest a
-        | head.Name ↦ atom label true word rest a
-      ])
+      by : (k : Head) → OfForms (negated_head label line word rest a k)
       by head.And = tt
       by head.Not = tt
       by head.Equal = equal-forms line rest
@@ -106,16 +97,7 @@ module _ (label : Label) (a : ActionSchema) where
       first (Word at word next) = tt
       first (Group at children next) = negated-forms at children
 
-  plain-by : (line : ℕ) (word : List ℕ) (rest : Trees) → OfForms (plain_row label rest a) → (k : Head) → OfForms (elim k as (λ _. Result ActionSchema DomainFault) [
-    | head.And ↦ plain_row label rest a
-    | head.Not ↦ negation label line rest a
-    | head.Equal ↦ equal_tree label line rest a
-    | head.OtherLogic ↦ Err (Unsupported line)
-    | head.NoName ↦ Err (Syntax line)
-    | head.At ↦ atom label false word rest a
-    | head.Over ↦ atom label false word rest a
-    | head.Name ↦ atom label false word rest a
-  ])
+  plain-by : (line : ℕ) (word : List ℕ) (rest : Trees) → OfForms (plain_row label rest a) → (k : Head) → OfForms (plain_head (plain_row label rest a) label line word rest a k)
   plain-by line word rest row head.And = row
   plain-by line word rest row head.Not = negation-forms line rest
   plain-by line word rest row head.Equal = equal-forms line rest
@@ -168,16 +150,7 @@ equal_at-forms Condition line = tt
 equal_at-forms Effect line = tt
 
 module _ (side : Side) (a : ActionSchema) where
-  timed-by : (line : ℕ) (rest : Trees) → OfForms (timed_row side rest a) → (k : Head) → OfForms (elim k as (λ _. Result ActionSchema DomainFault) [
-    | head.And ↦ timed_row side rest a
-    | head.At ↦ at_tree side line rest a
-    | head.Over ↦ over_tree side line rest a
-    | head.OtherLogic ↦ Err (Unsupported line)
-    | head.Equal ↦ Err (equal_at side line)
-    | head.Not ↦ Err (Syntax line)
-    | head.NoName ↦ Err (Syntax line)
-    | head.Name ↦ Err (Syntax line)
-  ])
+  timed-by : (line : ℕ) (rest : Trees) → OfForms (timed_row side rest a) → (k : Head) → OfForms (timed_head (timed_row side rest a) side line rest a k)
   timed-by line rest row head.And = row
   timed-by line rest row head.At = at-forms side a line rest
   timed-by line rest row head.Over = over-forms side line rest a

@@ -11,7 +11,7 @@ use Rattle.stn_pddl.specs.declared.action.Side.TheVariants.{Condition, Effect}
 use Rattle.stn_pddl.specs.declared.word.Head.TheVariants as head
 use Rattle.stn_text.specs.Faults.{◌>>=◌}
 use Rattle.stn_pddl.specs.Schemas.{TermSchema, AtomSchema, ActionSchema, Constant, with_literal}
-use Rattle.stn_pddl.specs.Conditions.{equal_tree, negated_tree, negated_first, negation, plain_row, plain_tree, labelled, start_of, end_of, at_tree, over_tree, timed_row, timed_tree, equal_at}
+use Rattle.stn_pddl.specs.Conditions.{equal_tree, negated_head, negated_tree, negated_first, negation, plain_head, plain_row, plain_tree, labelled, start_of, end_of, at_tree, over_tree, timed_head, timed_row, timed_tree, equal_at}
 
 -- the action after has the name, the parameters and the duration of the one before, and sound atoms where that has them
 pub record Keeps (before after : ActionSchema) : Type 0 where
@@ -109,16 +109,7 @@ module _ (a b : ActionSchema) where
   negated-keeps label line (Group at children next) is = cc
   negated-keeps label line (Word at word rest) is = by (head_of word) is
     where
-      by : (k : Head) → elim k as (λ _. Result ActionSchema DomainFault) [
-        | head.And ↦ Err (Unsupported line)
-        | head.Not ↦ Err (Unsupported line)
-        | head.Equal ↦ equal_tree label line rest a
-        | head.OtherLogic ↦ Err (Unsupported line)
-        | head.NoName ↦ Err (Syntax line)
-        | head.At ↦ atom label true word rest a
-        | head.Over ↦ atom label true word rest a
-        | head.Name ↦ atom label true word rest a
-      ] ≡ Ok b → Keeps a b
+      by : (k : Head) → negated_head label line word rest a k ≡ Ok b → Keeps a b
       by head.And h = refused (Unsupported line) b h
       by head.Not h = refused (Unsupported line) b h
       by head.Equal h = equal-keeps label line rest h
@@ -137,16 +128,7 @@ module _ (a b : ActionSchema) where
       first (Word at word next) h = refused (Syntax at) b h
       first (Group at children next) h = negated-keeps label at children h
 
-  plain-by : (label : Label) (line : ℕ) (word : List ℕ) (rest : Trees) → (plain_row label rest a ≡ Ok b → Keeps a b) → (k : Head) → elim k as (λ _. Result ActionSchema DomainFault) [
-    | head.And ↦ plain_row label rest a
-    | head.Not ↦ negation label line rest a
-    | head.Equal ↦ equal_tree label line rest a
-    | head.OtherLogic ↦ Err (Unsupported line)
-    | head.NoName ↦ Err (Syntax line)
-    | head.At ↦ atom label false word rest a
-    | head.Over ↦ atom label false word rest a
-    | head.Name ↦ atom label false word rest a
-  ] ≡ Ok b → Keeps a b
+  plain-by : (label : Label) (line : ℕ) (word : List ℕ) (rest : Trees) → (plain_row label rest a ≡ Ok b → Keeps a b) → (k : Head) → plain_head (plain_row label rest a) label line word rest a k ≡ Ok b → Keeps a b
   plain-by label line word rest row head.And h = row h
   plain-by label line word rest row head.Not h = negation-keeps label line rest h
   plain-by label line word rest row head.Equal h = equal-keeps label line rest h
@@ -194,16 +176,7 @@ module _ (a b : ActionSchema) where
   over-keeps Condition line (Group at children next) is = refused (Syntax line) b is
   over-keeps Condition line (Word at word rest) is = labelled-keeps OverAll line rest (guard_ok (is_same_word word (codes "all")) _ (Syntax line) b is)
 
-  timed-by : (side : Side) (line : ℕ) (rest : Trees) → (timed_row side rest a ≡ Ok b → Keeps a b) → (k : Head) → elim k as (λ _. Result ActionSchema DomainFault) [
-    | head.And ↦ timed_row side rest a
-    | head.At ↦ at_tree side line rest a
-    | head.Over ↦ over_tree side line rest a
-    | head.OtherLogic ↦ Err (Unsupported line)
-    | head.Equal ↦ Err (equal_at side line)
-    | head.Not ↦ Err (Syntax line)
-    | head.NoName ↦ Err (Syntax line)
-    | head.Name ↦ Err (Syntax line)
-  ] ≡ Ok b → Keeps a b
+  timed-by : (side : Side) (line : ℕ) (rest : Trees) → (timed_row side rest a ≡ Ok b → Keeps a b) → (k : Head) → timed_head (timed_row side rest a) side line rest a k ≡ Ok b → Keeps a b
   timed-by side line rest row head.And h = row h
   timed-by side line rest row head.At h = at-keeps side line rest h
   timed-by side line rest row head.Over h = over-keeps side line rest h
