@@ -1,9 +1,10 @@
-use Rattle.std.proofs.Common.{◌≡◌, ◌≢◌, inl, inr, ℕ, Bool, true, false, ◌+◌, ◌<◌, ◌≤◌, List, ◌++◌, length, set, take, replicate, sym, subst, ap, refl, ◌∙◌, arith}
+use Rattle.std.proofs.Common.{◌≡◌, ◌≢◌, inl, inr, ℕ, Bool, true, false, ◌+◌, ◌<◌, ◌≤◌, List, [], ◌∷◌, ◌++◌, length, set, take, replicate, sym, subst, ap, refl, ◌∙◌, arith}
 use Rattle.std.specs.Prelude.{ℤ, pos, negsuc, neg_ℤ, ◌+ℤ◌, ◌-ℤ◌, ◌≤ℤ◌, ◌<ℤ◌, All, unsigned_abs}
 use Rattle.std.proofs.{lemmas.Int.ints, lemmas.Bool.cases_eq, lemmas.Bool.false≢true, lemmas.List.Sums.sum_by-set}
 use Rattle.std.proofs.lemmas.List.{take-take, get_or-set_same, get_or-set_other, get_or-replicate, length-set, length-replicate}
-use Rattle.std.proofs.lemmas.List.Elements.{All-from_get_or, All-take, All-append}
+use Rattle.std.proofs.lemmas.List.Elements.{All-from_get_or, All-take, All-append, All-push}
 use Rattle.stn_time.specs.Time.{horizon, IsWithinHorizon}
+use Rattle.stn_time.proofs.Each.{All-left}
 use Rattle.stn_net.specs.{Difference.Difference, Difference.NamesEvents, Schedule.Meets, Schedule.IsSchedule, Schedule.HasSchedule, Schedule.times_of, Horizon.horizon_bounds}
 use Rattle.stn_matrix.proofs.Widest.{horizon_times}
 use Rattle.stn_conflict.specs.{declared.links.Link.Link, Arcs.arc_of, Arcs.bound_at}
@@ -38,6 +39,13 @@ network_of events base extra begins base_named extra_named =
 pub network_before : (events place : ℕ) (bounds : List Difference) → events ≤ place → take events bounds ≡ horizon_bounds events → All (NamesEvents events) bounds → IsNetwork events (take place bounds)
 network_before events place bounds past begins named =
     network_known events (take place bounds) (take-take events place bounds past ∙ begins) (All-take (NamesEvents events) place bounds named)
+
+-- and so do all, with one more
+pub network_more : (events : ℕ) (bounds : List Difference) (bound : Difference) → IsNetwork events bounds → NamesEvents events bound → IsNetwork events (bounds ++ bound ∷ [])
+network_more events bounds bound network named = record {
+  named = All-push (NamesEvents events) bounds bound network.named named;
+  apart = λ time s. network.apart time (record { origin = s.origin; met = All-left (Meets time) bounds (bound ∷ []) s.met });
+}
 
 -- a network has no event later after another than the horizon, nor earlier
 pub network_estimates : (bounds : List Difference) (events start : ℕ) (far : List ℤ) → far ≡ set (replicate (events + 1) horizon) start (pos 0) → start ≤ events

@@ -2,10 +2,10 @@
 use Rattle.std.proofs.Common.{◌≡◌, ◌≢◌, inl, inr, ℕ, zero, suc, ◌+◌, ◌-◌, ◌*◌, ◌<◌, List, [], ◌∷◌, ◌++◌, length, map, set, take, refl, sym, subst, ap, ◌∙◌, arith}
 use Rattle.std.specs.{Prelude.Vec, Prelude.slice_index_or, List.Contains, List.Sorted.IsNonDecreasingBy}
 use Rattle.std.proofs.{lemmas.Bool.cases_eq, lemmas.Bool.cases_lt, lemmas.List.Sorted.IsNonDecreasingBy-push, lemmas.List.Sorted.IsNonDecreasingBy-short}
-use Rattle.std.proofs.lemmas.List.{map-set, map-append, get_or-map, get_or_default, length-map, length-set, length-take, get_or-set_same, get_or-set_other, get_or_append_left, get_or-append_right}
+use Rattle.std.proofs.lemmas.List.{map-set, map-append, get_or-map, get_or_default, length-map, length-set, length-take, length-append, get_or-set_same, get_or-set_other, get_or_append_left, get_or-append_right}
 use Rattle.std.proofs.lemmas.List.Elements.{Contains-push, Contains-append_left, Contains-push_cases}
 use Rattle.stn_net.specs.Difference.{Difference}
-use Rattle.stn_conflict.specs.{declared.links.Link.Link, Arcs.Arc, Arcs.arc_of, Arcs.rank, Relaxation.row_of, Relaxation.AreRows}
+use Rattle.stn_conflict.specs.{declared.links.Link.Link, declared.outgoing.Rows.Rows, Arcs.Arc, Arcs.arc, Arcs.arc_of, Arcs.rank, Relaxation.row_of, Relaxation.AreRows, Relaxation.AreRowsTo, Relaxation.AreFirstRows}
 use Rattle.stn_conflict.proofs.{OneCycle.rank_tells, Steps.place_of_rank, Steps.rank_within, Tightness.arc_before}
 
 -- a link that is read from a row stands in it
@@ -16,14 +16,6 @@ module _ {A : Type 0} where
   -- the links of each row
   abbrev lists : List (Vec Link A) → List (List Link)
   lists rows = map (λ row. row.items) rows
-
-  -- the rows of the links that have been looked at: those of rank below `seen`
-  pub record AreRowsTo (bounds : List Difference) (count seen : ℕ) (rows : List (Vec Link A)) : Type 0 where
-    pub long : length rows ≡ count
-    pub every : (link : Link) → rank link < seen → Contains (row_of rows (arc_of bounds link).from) link
-    pub begin : (x : ℕ) (link : Link) → Contains (row_of rows x) link → (arc_of bounds link).from ≡ x
-    pub below : (x : ℕ) (link : Link) → Contains (row_of rows x) link → rank link < seen
-    pub ordered : (x : ℕ) → IsNonDecreasingBy (λ link. link.place) (row_of rows x)
 
   -- one more empty row
   pub rows_empty : (rows : List (Vec Link A)) (row : Vec Link A) → ((x : ℕ) → row_of rows x ≡ []) → row.items ≡ [] → (x : ℕ) → row_of (rows ++ row ∷ []) x ≡ []
@@ -50,6 +42,17 @@ module _ {A : Type 0} where
     where
       nothing : (link : Link) → ¬ Contains [] link
       nothing link (k, below, at) = omega arith
+
+  -- a row that is put in place of another, and the others
+  replaced_here : (rows : List (Vec Link A)) (from : ℕ) (row : Vec Link A) → from < length rows → row_of (set rows from row) from ≡ row.items
+  replaced_here rows from row there =
+      let long = length-map rows (λ (r : Vec Link A). r.items) in
+      let below : from < length (lists rows) = omega arith in
+      ap (λ l. slice_index_or l from []) (map-set (λ (r : Vec Link A). r.items) rows from row) ∙ get_or-set_same (lists rows) from row.items [] below
+
+  replaced_other : (rows : List (Vec Link A)) (from : ℕ) (row : Vec Link A) (x : ℕ) → x ≢ from → row_of (set rows from row) x ≡ row_of rows x
+  replaced_other rows from row x apart =
+      ap (λ l. slice_index_or l x []) (map-set (λ (r : Vec Link A). r.items) rows from row) ∙ get_or-set_other (lists rows) from x row.items [] apart
 
   -- the next link in its row
   pub rows_push : (bounds : List Difference) (count seen from : ℕ) (rows : List (Vec Link A)) (row : Vec Link A) (link : Link) → AreRowsTo bounds count seen rows → rank link ≡ seen
@@ -98,17 +101,46 @@ module _ {A : Type 0} where
         ];
   }
     where
-      whole : lists (set rows from row) ≡ set (lists rows) from (row_of rows from ++ link ∷ [])
-      whole = map-set (λ (r : Vec Link A). r.items) rows from row ∙ ap (set (lists rows) from) items
-
       here : row_of (set rows from row) from ≡ row_of rows from ++ link ∷ []
-      here =
-          let long = length-map rows (λ (r : Vec Link A). r.items) in
-          let below : from < length (lists rows) = omega (arith, h.long) in
-          ap (λ l. slice_index_or l from []) whole ∙ get_or-set_same (lists rows) from (row_of rows from ++ link ∷ []) [] below
+      here = replaced_here rows from row (omega (arith, h.long)) ∙ items
 
       others : (x : ℕ) → x ≢ from → row_of (set rows from row) x ≡ row_of rows x
-      others x apart = ap (λ l. slice_index_or l x []) whole ∙ get_or-set_other (lists rows) from x (row_of rows from ++ link ∷ []) [] apart
+      others x apart = replaced_other rows from row x apart
+
+  -- a row in place of one that has the same links
+  pub rows_kept : (bounds : List Difference) (count seen from : ℕ) (rows : List (Vec Link A)) (row : Vec Link A) → AreRowsTo bounds count seen rows → from < count
+      → row.items ≡ row_of rows from → AreRowsTo bounds count seen (set rows from row)
+  rows_kept bounds count seen from rows row h there items = record {
+    long = length-set rows from row ∙ h.long;
+    every = λ link below. subst (λ l. Contains l link) (sym (same (arc_of bounds link).from)) (h.every link below);
+    begin = λ x link has. h.begin x link (subst (λ l. Contains l link) (same x) has);
+    below = λ x link has. h.below x link (subst (λ l. Contains l link) (same x) has);
+    ordered = λ x. subst (IsNonDecreasingBy (λ l. l.place)) (sym (same x)) (h.ordered x);
+  }
+    where
+      same : (x : ℕ) → row_of (set rows from row) x ≡ row_of rows x
+      same x = elim (cases_eq x from) [
+        | inl e ↦ ap (row_of (set rows from row)) e ∙ replaced_here rows from row (omega (arith, h.long)) ∙ items ∙ ap (row_of rows) (sym e)
+        | inr apart ↦ replaced_other rows from row x apart
+      ]
+
+  -- the rows of the first links of bounds are those of these, with more bounds after them
+  pub rows_longer : (bounds more : List Difference) (count : ℕ) (rows : Rows A) → AreFirstRows bounds count rows → AreFirstRows (bounds ++ more) count rows
+  rows_longer bounds more count rows h =
+      let far = h.within in
+      let stand = h.stand in
+      let begins : (link : Link) → rank link < rows.added → (arc_of bounds link).from ≡ (arc_of (bounds ++ more) link).from =
+      λ link below. ap (λ b. (arc b link.side).from) (sym (get_or_append_left bounds more _ link.place (omega arith))) in
+      record {
+        within = omega (arith, far, length-append bounds more);
+        stand = record {
+          long = stand.long;
+          every = λ link below. subst (λ x. Contains (row_of rows.outgoing.items x) link) (begins link below) (stand.every link below);
+          begin = λ x link has. sym (begins link (stand.below x link has)) ∙ stand.begin x link has;
+          below = stand.below;
+          ordered = stand.ordered;
+        };
+      }
 
   -- where all links have been looked at, the rows are those of the bounds
   pub rows_of_all : (bounds : List Difference) (count : ℕ) (rows : List (Vec Link A)) → AreRowsTo bounds count (2 * length bounds) rows → AreRows bounds count rows

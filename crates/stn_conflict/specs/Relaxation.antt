@@ -1,10 +1,10 @@
 -- For proofs alone: no public clause cites these words.
-use Rattle.std.specs.Prelude.{◌≡◌, ℕ, ℤ, pos, neg_ℤ, ◌+ℤ◌, ◌-ℤ◌, ◌≤ℤ◌, ◌<◌, ◌≤◌, ◌+◌, Bool, true, false, List, [], length, map, All, Contains, Vec, slice_index_or, sum_by, unsigned_abs}
+use Rattle.std.specs.Prelude.{◌≡◌, ℕ, ℤ, pos, neg_ℤ, ◌+ℤ◌, ◌-ℤ◌, ◌≤ℤ◌, ◌<◌, ◌≤◌, ◌+◌, ◌*◌, Bool, true, false, List, [], length, map, All, Contains, Vec, slice_index_or, sum_by, unsigned_abs}
 use Rattle.std.specs.List.Sorted.{IsNonDecreasingBy}
 use Rattle.stn_time.specs.Time.{horizon}
 use Rattle.stn_net.specs.{Event.most_events, Difference.Difference, Difference.NamesEvents, Schedule.IsSchedule, Schedule.times_of}
 use Rattle.stn_matrix.specs.Tightest.{IsTightest}
-use Rattle.stn_conflict.specs.{declared.links.Link.Link, declared.relaxation.Search.Search, Arcs.arc_of}
+use Rattle.stn_conflict.specs.{declared.links.Link.Link, declared.relaxation.Search.Search, declared.outgoing.Rows.Rows, Arcs.arc_of, Arcs.rank}
 
 -- both events of the bound are among the first so many
 abbrev pub NamesAmong : ℕ → Difference → Type 0
@@ -89,3 +89,24 @@ pub record AreRows {A : Type 0} (bounds : List Difference) (count : ℕ) (rows :
   pub every : (link : Link) → link.place < length bounds → Contains (row_of rows (arc_of bounds link).from) link
   pub begin : (x : ℕ) (link : Link) → Contains (row_of rows x) link → link.place < length bounds → (arc_of bounds link).from ≡ x
   pub ordered : (x : ℕ) → IsNonDecreasingBy (λ link. link.place) (row_of rows x)
+
+-- there is a row for each of so many events; the first links of the bounds, those of rank below `seen`, stand in the rows of the events at which
+-- they begin, and nothing else, and those of each row stand in the order of their bounds
+pub record AreRowsTo {A : Type 0} (bounds : List Difference) (count seen : ℕ) (rows : List (Vec Link A)) : Type 0 where
+  pub long : length rows ≡ count
+  pub every : (link : Link) → rank link < seen → Contains (row_of rows (arc_of bounds link).from) link
+  pub begin : (x : ℕ) (link : Link) → Contains (row_of rows x) link → (arc_of bounds link).from ≡ x
+  pub below : (x : ℕ) (link : Link) → Contains (row_of rows x) link → rank link < seen
+  pub ordered : (x : ℕ) → IsNonDecreasingBy (λ link. link.place) (row_of rows x)
+
+-- the links that were added are the first ones of the bounds
+pub record AreFirstRows {A : Type 0} (bounds : List Difference) (count : ℕ) (rows : Rows A) : Type 0 where
+  pub within : rows.added ≤ 2 * length bounds
+  pub stand : AreRowsTo bounds count rows.added rows.outgoing.items
+
+-- the bounds of a plan with so many events can be searched, once all their links are added
+pub record IsReady {A : Type 0} (events : ℕ) (bounds : List Difference) (rows : Rows A) (search : Search A) : Type 0 where
+  pub few : events ≤ most_events
+  pub network : IsNetwork events bounds
+  pub first : AreFirstRows bounds (events + 1) rows
+  pub tables : HasTables (events + 1) search

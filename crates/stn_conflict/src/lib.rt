@@ -6,6 +6,7 @@ pub use links::{
     BothWays, Cycle, Distances, Link, Side, Way, negative_cycle_is_conflict, one_named_cycle,
     one_way,
 };
+pub use network::Network;
 pub use reach::distances;
 pub use search::cycle;
 pub use ways::both_ways;
@@ -13,6 +14,8 @@ pub use ways::both_ways;
 mod levels;
 mod links;
 mod listed;
+mod network;
+mod outgoing;
 mod reach;
 mod relaxation;
 mod search;

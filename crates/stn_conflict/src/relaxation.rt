@@ -14,7 +14,8 @@ ghost use Rattle.stn_conflict.specs.Relaxation.{AreRows, NamesAmong, AreEstimate
 ghost use Rattle.stn_time.specs.Time.{horizon};
 
 use crate::links::Link;
-use crate::listed::{Arc, Listed, link_at};
+use crate::listed::{Arc, Listed};
+use crate::outgoing::Rows;
 use std::alloc::Allocator;
 use stn_net::Event;
 use stn_time::{HORIZON, Memory, Ms};
@@ -38,16 +39,9 @@ pub(crate) fn outgoing_links<A: Allocator + Copy>(
     requires { All (NamesEvents events) bounds.now }
     ensures { IfOk result (λ outgoing. AreRows bounds.now (events + 1) outgoing.items) }
 {
-    let mut outgoing = Vec::new(alloc);
-    for _ in 0..usize::from(events) + 1 {
-        outgoing.push(Vec::new(alloc))?;
-    }
-    for index in 0..bounds.links() {
-        let link = link_at(index);
-        let from = usize::from(bounds.arc(link).from.number());
-        outgoing[from].push(link)?;
-    }
-    Ok(outgoing)
+    let mut rows = Rows::new(alloc, events)?;
+    rows.add(bounds)?;
+    Ok(rows.outgoing)
 }
 
 // A search for the distances from an event.

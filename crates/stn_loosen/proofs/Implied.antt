@@ -1,12 +1,13 @@
 -- Which bounds a matrix shows to be implied, and the matrix with one bound more.
-use Rattle.std.proofs.Common.{◌≡◌, ℕ, ℤ, ◌≤ℤ◌, neg_ℤ, ◌↔◌, Bool, true, false, IsTrue, List, [], ◌∷◌, ◌++◌, refl, sym, ap, subst, ◌∙◌, append_assoc}
-use Rattle.std.proofs.{lemmas.Int.ints, lemmas.Bool.false≢true}
-use Rattle.std.proofs.Common.{arith, ◌<ℤ◌, is_le, Ordering, Less, Equal, Greater}
+use Rattle.std.proofs.Common.{◌≡◌, ℤ, ◌≤ℤ◌, neg_ℤ, ◌↔◌, Bool, true, IsTrue, List, [], ◌∷◌, ◌++◌, sym, ap, subst, ◌∙◌, append_assoc}
+use Rattle.std.proofs.lemmas.Int.{ints}
+use Rattle.std.proofs.Common.{arith}
 use lib.Signed.{le_z}
-use Rattle.std.specs.{Ordering.int_cmp, Ordering.MatchOrdering, Cmp.int_ranks}
-use Rattle.stn_net.specs.{Difference.Difference, Horizon.horizon_bounds, Schedule.HasSchedule}
-use Rattle.stn_matrix.specs.{Table.Table, Tightest.IsTightest, Tightest.IsExact}
-use Rattle.stn_loosen.specs.{Loosened.Imply, Making.all_bounds, Making.AreTaken}
+use Rattle.stn_net.specs.{Difference.Difference, Difference.NamesEvents, Horizon.horizon_bounds, Schedule.IsSchedule, Schedule.HasSchedule}
+use Rattle.stn_matrix.specs.{Table.Table, Table.far_of, Tightest.IsTightest, Tightest.IsExact}
+use Rattle.stn_conflict.specs.Listing.{Listing}
+use Rattle.stn_replica.proofs.Schedules.{schedule_before}
+use Rattle.stn_loosen.specs.{Loosened.Imply, Making.all_bounds, Making.AreTaken, Making.IsShown, Making.IsSearched}
 
 -- both tightest differences are within the bound exactly where it is implied
 pub implied_from : (bounds : List Difference) (bound : Difference) (there back : ℤ) → IsTightest bounds bound.from bound.to there → IsTightest bounds bound.to bound.from back
@@ -24,6 +25,42 @@ lower_from bounds bound back home implied =
     let met = implied home.attained.0 home.attained.1 in
     omega (arith, ints, met.0, home.attained.2)
 
+-- just what the table shows is implied by the bounds for which it is exact
+pub shown_taken : (records : List Difference) (table : Table) (bound : Difference) → AreTaken records table → NamesEvents table.events bound
+    → (IsShown table bound ↔ Imply (all_bounds table.events records) bound)
+shown_taken records table bound taken named =
+    let bounds : List Difference = all_bounds table.events records in
+    let forth = taken.far bound.from bound.to named.from named.to in
+    let back = taken.far bound.to bound.from named.to named.from in (
+      λ shown. implied_from (all_bounds table.events records) bound (far_of table bound.from bound.to) (far_of table bound.to bound.from) forth back shown.0 shown.1,
+      λ implied. (upper_from (all_bounds table.events records) bound (far_of table bound.from bound.to) forth implied, lower_from (all_bounds table.events records) bound (far_of table bound.to bound.from) back implied),
+    )
+
+-- and it is implied with more bounds, too
+pub shown_searched : (records : List Difference) (table : Table) (network : Listing) (bound : Difference) → IsSearched records table network → NamesEvents table.events bound
+    → IsShown table bound → Imply (all_bounds table.events records) bound
+shown_searched records table network bound h named shown = λ time s. (
+  (let back = h.apart time s bound.to bound.from named.to named.from in let within = shown.1 in omega (arith, ints)),
+  (let forth = h.apart time s bound.from bound.to named.from named.to in let within = shown.0 in omega (arith, ints)),
+)
+
+-- all records are in the network, and the matrix is exact for them
+pub searched_first : (records : List Difference) (table : Table) (network : Listing) → AreTaken records table → network ≡ record { events = table.events; bounds = all_bounds table.events records }
+    → IsSearched records table network
+searched_first records table network taken whole = record { whole = whole; apart = λ time s x y xs ys. (taken.far x y xs ys).bound time s }
+
+-- the network takes one record more
+pub searched_more : (records more : List Difference) (bound : Difference) (table : Table) (old new : Listing) → IsSearched records table old → more ≡ records ++ bound ∷ []
+    → new ≡ record old { bounds = old.bounds ++ bound ∷ [] } → IsSearched more table new
+searched_more records more bound table old new h made pushed =
+    let all : all_bounds table.events records ++ bound ∷ [] ≡ all_bounds table.events more =
+    append_assoc (horizon_bounds table.events) records (bound ∷ []) ∙ ap (all_bounds table.events) (sym made) in
+    record {
+      whole = pushed ∙ ap (λ (l : Listing). record l { bounds = l.bounds ++ bound ∷ [] }) h.whole
+          ∙ ap (λ (l : List Difference). record { events = table.events; bounds = l }) all;
+      apart = λ time s. h.apart time (schedule_before (all_bounds table.events records) (bound ∷ []) time (subst (λ l. IsSchedule l time) (sym all) s));
+    }
+
 -- the matrix takes one record more
 pub taken_more : (records more : List Difference) (bound : Difference) (old new : Table) (fits : Bool) → more ≡ records ++ bound ∷ [] → AreTaken records old
     → HasSchedule (all_bounds old.events (records ++ bound ∷ []))
@@ -37,34 +74,6 @@ taken_more records more bound old new fits is taken there possible exact same =
     subst (λ l. IsExact l new)
     (whole ∙ ap (all_bounds old.events) (sym is) ∙ ap (λ n. all_bounds n more) (sym same))
     (exact front taken fit)
-
-le_from : (a b : ℤ) → is_le (int_cmp a b) ≡ true → a ≤ℤ b
-le_from a b is = by (int_cmp a b) (int_ranks a b) is
-  where
-    by : (o : Ordering) → MatchOrdering o (a <ℤ b) (a ≡ b) (b <ℤ a) → is_le o ≡ true → a ≤ℤ b
-    by Less ranks h = omega (arith, ints, ranks)
-    by Equal ranks h = omega (arith, ints, ranks)
-    by Greater ranks h = absurd (false≢true h)
-
-le_tells : (a b : ℤ) → a ≤ℤ b → is_le (int_cmp a b) ≡ true
-le_tells a b le = by (int_cmp a b) (int_ranks a b)
-  where
-    by : (o : Ordering) → MatchOrdering o (a <ℤ b) (a ≡ b) (b <ℤ a) → is_le o ≡ true
-    by Less ranks = refl
-    by Equal ranks = refl
-    by Greater ranks = absurd (omega (arith, ints, ranks))
-
-module _ (bounds : List Difference) (bound : Difference) (from to : ℕ) (there hi : ℤ) (from_is : from ≡ bound.from) (to_is : to ≡ bound.to) (hi_is : hi ≡ bound.hi)
-    (forth : IsTightest bounds from to there) where
-  forth_of : IsTightest bounds bound.from bound.to there
-  forth_of = subst (λ n. IsTightest bounds bound.from n there) to_is (subst (λ n. IsTightest bounds n to there) from_is forth)
-
-  -- the upper side is not implied
-  pub tells_upper : (upper : Bool) → upper ≡ is_le (int_cmp there hi) → upper ≡ false → IsTrue upper ↔ Imply bounds bound
-  tells_upper upper tells refused = (
-    λ is. absurd (false≢true (sym refused ∙ is)),
-    λ implied. tells ∙ le_tells there hi (subst (λ n. there ≤ℤ n) (sym hi_is) (upper_from bounds bound there forth_of implied)),
-  )
 
 pub le_z_tells : (a b : ℤ) → a ≤ℤ b → le_z a b ≡ true
 le_z_tells a b less = grind (arith, ints, less)

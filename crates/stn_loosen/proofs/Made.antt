@@ -12,7 +12,7 @@ use Rattle.stn_loosen.specs.declared.fault.LoosenFault.TheVariants.{Full, Memory
 use Rattle.stn_loosen.proofs.Kept.{AreKept-push, kept_hold}
 
 -- with a schedule of records and more, the records have one
-front_schedule : (events : ℕ) (records more : List Difference) → HasSchedule (all_bounds events (records ++ more)) → HasSchedule (all_bounds events records)
+pub front_schedule : (events : ℕ) (records more : List Difference) → HasSchedule (all_bounds events (records ++ more)) → HasSchedule (all_bounds events records)
 front_schedule events records more s = (
   s.0,
   schedule_before (all_bounds events records) more s.0 (subst (λ l. IsSchedule l s.0) (sym (append_assoc (horizon_bounds events) records more)) s.1),

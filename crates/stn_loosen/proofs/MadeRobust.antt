@@ -4,8 +4,7 @@ use Rattle.std.proofs.Common.{◌≡◌, ℕ, ◌≤◌, List, ◌++◌, length,
 use Rattle.std.proofs.{lemmas.List.take_at, lemmas.List.drop_at, lemmas.List.length-map, lemmas.List.Elements.All-from_recursion}
 use Rattle.stn_net.specs.{Difference.Difference, Difference.NamesEvents, Horizon.horizon_bounds, Schedule.HasSchedule}
 use Rattle.stn_lift.specs.PlanSource.{PlanSource, events_of, IsSoundSource}
-use Rattle.stn_matrix.specs.Table.{Table}
-use Rattle.stn_loosen.specs.{declared.fault.RobustFault.RobustFault, Slack.Slack, Slack.IsSlack, Slack.loose, Moved.moved_bounds, Robust.loose_bounds, Robust.HasPromise, Making.all_bounds, Making.AreTaken, Stepped.AreSteps, Stepped.AreMadeBehind, Stepped.IsCauseBehind, Whole.IsMadeRobust, Whole.IsCauseAfter}
+use Rattle.stn_loosen.specs.{declared.fault.RobustFault.RobustFault, Slack.Slack, Slack.IsSlack, Slack.loose, Moved.moved_bounds, Robust.loose_bounds, Robust.HasPromise, Making.all_bounds, Stepped.AreSteps, Stepped.AreMadeBehind, Stepped.IsCauseBehind, Whole.IsMadeRobust, Whole.IsCauseAfter}
 use Rattle.stn_loosen.specs.declared.fault.RobustFault.TheVariants.{Full, NotRobust, Memory}
 use Rattle.stn_loosen.specs.Loosened.{durations_of, AreKept, AreLoosened, bounds_with, loose_durations}
 use Rattle.stn_loosen.proofs.{Steps.source_steps, Robustness.sources_moved, Robustness.moved_possible, Robustness.records_promise, Settings.IsMetIn, Settings.each_weaker}
@@ -54,10 +53,10 @@ module _ (source : PlanSource) (sound : IsSoundSource source) (slack : Slack) (i
       behind = refl;
     }
 
-    pub made_promise : (records : List Difference) (table : Table) → table.events ≡ events → AreTaken records table → AreMadeBehind events loosened (moved_bounds durations bounds) records → HasPromise source slack
-    made_promise records table tables taken made =
+    pub made_promise : (records : List Difference) → HasSchedule (all_bounds events records) → AreMadeBehind events loosened (moved_bounds durations bounds) records → HasPromise source slack
+    made_promise records possible made =
         let made_of = made_robust records made in
-        (records_promise source sound slack is records made_of.are_robust).1 (subst (λ n. HasSchedule (all_bounds n records)) (tables ∙ same) taken.possible)
+        (records_promise source sound slack is records made_of.are_robust).1 (subst (λ n. HasSchedule (all_bounds n records)) same possible)
 
     pub cause_after : (fault : RobustFault) → IsCauseBehind events loosened (moved_bounds durations bounds) fault → IsCauseAfter source slack fault
     cause_after Full p = p

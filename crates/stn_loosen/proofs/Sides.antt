@@ -1,17 +1,18 @@
 -- Sides of moved bounds that are made one after the other.
-use Rattle.std.proofs.Common.{◌≡◌, ◌≢◌, inl, inr, ⊎_elim, ℕ, ◌+◌, ◌<◌, ℤ, pos, neg_ℤ, ◌+ℤ◌, ◌-ℤ◌, ◌≤ℤ◌, ◌<ℤ◌, Ordering, Less, Equal, Greater, ◌↔◌, Bool, true, false, IsTrue, List, [], ◌∷◌, ◌++◌, length, take, drop, get_or, refl, sym, ap, subst, ◌∙◌, arith, append_assoc, append-nil, All}
+use Rattle.std.proofs.Common.{◌≡◌, ◌≢◌, inl, inr, ⊎_elim, ℕ, ◌+◌, ◌<◌, ◌≤◌, ℤ, neg_ℤ, ◌+ℤ◌, ◌-ℤ◌, ◌≤ℤ◌, ◌<ℤ◌, Ordering, Less, Equal, Greater, ◌↔◌, Bool, IsTrue, List, [], ◌∷◌, ◌++◌, length, take, drop, get_or, refl, sym, ap, subst, ◌∙◌, arith, append_assoc, append-nil, All}
 use Rattle.std.specs.{List.AllByRecursion, Ordering.int_cmp, Ordering.MatchOrdering, Cmp.int_ranks}
-use Rattle.std.proofs.{lemmas.Int.ints, lemmas.List.take_more, lemmas.List.take-append-drop, lemmas.Grind.flat_map-append, lemmas.Bool.false≢true}
+use Rattle.std.proofs.{lemmas.Int.ints, lemmas.List.take_more, lemmas.List.take_all, lemmas.List.take-append-drop, lemmas.Grind.flat_map-append}
 use Rattle.std.proofs.lemmas.List.Elements.{All-head, All-from_recursion, recursion_from_All}
 use Rattle.stn_time.specs.Time.{horizon, IsWithinHorizon}
 use Rattle.stn_time.proofs.Each.{All-left, each_parted}
 use Rattle.stn_net.specs.{Difference.Difference, Difference.NamesEvents, Horizon.horizon_bounds, Schedule.Meets, Schedule.IsSchedule, Schedule.HasSchedule}
-use Rattle.stn_matrix.specs.{Table.Table, Tightest.IsExact}
+use Rattle.stn_matrix.specs.Table.{Table}
+use Rattle.stn_conflict.specs.{Distances.TellsWithin, Listing.Listing}
 use Rattle.stn_replica.proofs.Schedules.{schedule_before, met_behind, schedule_with}
-use Rattle.stn_loosen.specs.{Loosened.Imply, Loosened.AreKept, Making.all_bounds, Making.AreTaken, declared.fault.RobustFault.RobustFault, Moved.moved_upper, Moved.moved_lower, Moved.moved_bounds, declared.span.Span.Span, Promise.setting_of}
+use Rattle.stn_loosen.specs.{Loosened.Imply, Loosened.AreKept, Making.all_bounds, Making.IsSearched, declared.fault.RobustFault.RobustFault, Moved.moved_upper, Moved.moved_lower, Moved.moved_bounds, declared.span.Span.Span, Promise.setting_of}
 use Rattle.stn_loosen.specs.declared.fault.RobustFault.TheVariants.{Full, NotRobust, Memory}
-use Rattle.stn_loosen.specs.Stepped.{as_bound, AreSteps, IsOpen, IsBoundOf, AreMadeBehind, IsCauseBehind}
-use Rattle.stn_loosen.proofs.{Steps.earlier_start, Kept.kept_hold, Looser.within, Implied.taken_more}
+use Rattle.stn_loosen.specs.Stepped.{as_bound, AreSteps, IsOpen, IsBoundOf, AreMadeBehind, IsCauseBehind, IsCauseIn}
+use Rattle.stn_loosen.proofs.{Steps.earlier_start, Kept.kept_hold, Looser.within, Made.front_schedule}
 
 -- what is kept of more
 pub AreKept-join : (bounds first second one other : List Difference) → AreKept bounds first one → AreKept (bounds ++ one) second other → AreKept bounds (first ++ second) (one ++ other)
@@ -27,6 +28,53 @@ AreKept-join bounds (side ∷ first) second one other kept are =
     let same : bounds ++ one ≡ (bounds ++ side ∷ []) ++ rest = ap (λ l. bounds ++ l) p.1.1 ∙ sym (append_assoc bounds (side ∷ []) rest) in
     inr (p.0, (rest ++ other, ap (λ l. l ++ other) p.1.1, AreKept-join (bounds ++ side ∷ []) first second rest other p.1.2 (subst (λ l. AreKept l second other) same are))))
     kept
+
+-- no two events are farther apart than the horizon
+apart_within : (events : ℕ) (records : List Difference) (bound : Difference) → NamesEvents events bound → (time : ℕ → ℤ) → IsSchedule (all_bounds events records) time
+    → (neg_ℤ horizon ≤ℤ (time bound.to -ℤ time bound.from)) × ((time bound.to -ℤ time bound.from) ≤ℤ horizon)
+apart_within events records bound named time s =
+    let met : All (Meets time) (horizon_bounds events) = All-left (Meets time) (horizon_bounds events) records s.met in
+    let from = within time events s.origin met bound.from named.from in
+    let to = within time events s.origin met bound.to named.to in
+    (omega (arith, ints, from.1, to.0), omega (arith, ints, from.0, to.1))
+
+-- what is told of the side of a bound that is not open says whether it is implied
+module _ (records : List Difference) (table : Table) (network : Listing) (searched : IsSearched records table network) (side : Difference) (named : NamesEvents table.events side) (told : Bool) where
+  listed : network.bounds ≡ all_bounds table.events records
+  listed = ap (λ (l : Listing). l.bounds) searched.whole
+
+  pub upper_told : (most : ℤ) → most ≡ side.hi → side.lo ≡ neg_ℤ horizon → TellsWithin network.bounds side.from side.to most told → IsTrue told ↔ Imply (all_bounds table.events records) side
+  upper_told most is is_open tells =
+      let are : TellsWithin (all_bounds table.events records) side.from side.to most told = subst (λ l. TellsWithin l side.from side.to most told) listed tells in (
+        λ tells_it time s. (
+          (let low = (apart_within table.events records side named time s).0 in omega (arith, ints)),
+          (let high = are.within.0 tells_it time s in omega (arith, ints)),
+        ),
+        λ implied. are.within.1 (λ time s. (let met = (implied time s).1 in omega (arith, ints))),
+      )
+
+  pub lower_told : (most : ℤ) → most ≡ neg_ℤ side.lo → side.hi ≡ horizon → TellsWithin network.bounds side.to side.from most told → IsTrue told ↔ Imply (all_bounds table.events records) side
+  lower_told most is is_open tells =
+      let are : TellsWithin (all_bounds table.events records) side.to side.from most told = subst (λ l. TellsWithin l side.to side.from most told) listed tells in (
+        λ tells_it time s. (
+          (let low = are.within.0 tells_it time s in omega (arith, ints)),
+          (let high = (apart_within table.events records side named time s).1 in omega (arith, ints)),
+        ),
+        λ implied. are.within.1 (λ time s. (let met = (implied time s).0 in omega (arith, ints))),
+      )
+
+  pub ends_listed : (side.from ≤ network.events) × (side.to ≤ network.events)
+  ends_listed =
+      let events = ap (λ (l : Listing). l.events) searched.whole in
+      (omega (arith, events, named.from), omega (arith, events, named.to))
+
+-- where there is no schedule now, there is none with more
+pub cause_now : (records others : List Difference) (table : Table) (network : Listing) → IsSearched records table network → (fault : RobustFault) → IsCauseIn network.bounds fault
+    → IsCauseBehind table.events records others fault
+cause_now records others table network searched Full p = p
+cause_now records others table network searched NotRobust p = λ s.
+    p (subst HasSchedule (sym (ap (λ (l : Listing). l.bounds) searched.whole)) (front_schedule table.events records others s))
+cause_now records others table network searched Memory p = tt
 
 module _ (events : ℕ) (old : List Difference) where
   pub none_made : AreMadeBehind events old [] old
@@ -68,20 +116,11 @@ module _ (events : ℕ) (old : List Difference) where
 
     -- with a side that is open, needed, and no bound there is no schedule
     module _ (named : NamesEvents events side) (side_open : IsOpen side) (needed : ¬ Imply (all_bounds events old) side) (time : ℕ → ℤ) (schedule : IsSchedule (all_bounds events (old ++ side ∷ [])) time) where
-      between : (other : ℕ → ℤ) → other 0 ≡ pos 0 → All (Meets other) (horizon_bounds events) → (neg_ℤ horizon ≤ℤ (other side.to -ℤ other side.from)) × ((other side.to -ℤ other side.from) ≤ℤ horizon)
-      between other origin met =
-          let from = within other events origin met side.from named.from in
-          let to = within other events origin met side.to named.to in
-          (omega (arith, ints, from.1, to.0), omega (arith, ints, from.0, to.1))
-
-      between_old : (other : ℕ → ℤ) → IsSchedule (all_bounds events old) other → (neg_ℤ horizon ≤ℤ (other side.to -ℤ other side.from)) × ((other side.to -ℤ other side.from) ≤ℤ horizon)
-      between_old other s = between other s.origin (All-left (Meets other) (horizon_bounds events) old s.met)
-
       here : Meets time side
       here = All-head (Meets time) side [] (met_behind (all_bounds events old) (side ∷ []) time (subst (λ l. IsSchedule l time) (sym (append_assoc (horizon_bounds events) old (side ∷ []))) schedule))
 
       inside : (neg_ℤ horizon ≤ℤ (time side.to -ℤ time side.from)) × ((time side.to -ℤ time side.from) ≤ℤ horizon)
-      inside = between time schedule.origin (All-left (Meets time) (horizon_bounds events) (old ++ side ∷ []) schedule.met)
+      inside = apart_within events (old ++ side ∷ []) side named time schedule
 
       differs : side.from ≢ side.to
       differs same = needed (λ other s. (
@@ -94,7 +133,7 @@ module _ (events : ℕ) (old : List Difference) where
         where
           by : (o : Ordering) → MatchOrdering o (side.lo <ℤ neg_ℤ horizon) (side.lo ≡ neg_ℤ horizon) (neg_ℤ horizon <ℤ side.lo) → IsOpen side → IsWithinHorizon side.lo
           by Less ranks (inl is) = absurd (omega (arith, ints, ranks, is))
-          by Less ranks (inr is) = absurd (needed (λ other s. let b = between_old other s in (omega (arith, ints, b.0, ranks), omega (arith, ints, b.1, is))))
+          by Less ranks (inr is) = absurd (needed (λ other s. let b = apart_within events old side named other s in (omega (arith, ints, b.0, ranks), omega (arith, ints, b.1, is))))
           by Equal ranks o = (omega (arith, ints, ranks), omega (arith, ints, ranks))
           by Greater ranks o = (omega (arith, ints, ranks), omega (arith, ints, here.0, inside.1))
 
@@ -104,7 +143,7 @@ module _ (events : ℕ) (old : List Difference) where
           by : (o : Ordering) → MatchOrdering o (side.hi <ℤ horizon) (side.hi ≡ horizon) (horizon <ℤ side.hi) → IsOpen side → IsWithinHorizon side.hi
           by Less ranks o = (omega (arith, ints, here.1, inside.0), omega (arith, ints, ranks))
           by Equal ranks o = (omega (arith, ints, ranks), omega (arith, ints, ranks))
-          by Greater ranks (inl is) = absurd (needed (λ other s. let b = between_old other s in (omega (arith, ints, b.0, is), omega (arith, ints, b.1, ranks))))
+          by Greater ranks (inl is) = absurd (needed (λ other s. let b = apart_within events old side named other s in (omega (arith, ints, b.0, is), omega (arith, ints, b.1, ranks))))
           by Greater ranks (inr is) = absurd (omega (arith, ints, ranks, is))
 
       pub side_bound : IsBoundOf events side
@@ -114,20 +153,6 @@ module _ (events : ℕ) (old : List Difference) where
         hi = upper;
       }
 
--- what the matrix says of one more bound
-module _ (records : List Difference) (bound : Difference) (old : Table) (fits : Bool) (taken : AreTaken records old)
-    (possible : (bounds : List Difference) → IsExact bounds old → (IsTrue fits ↔ HasSchedule (bounds ++ bound ∷ []))) where
-  whole : all_bounds old.events records ++ bound ∷ [] ≡ all_bounds old.events (records ++ bound ∷ [])
-  whole = append_assoc (horizon_bounds old.events) records (bound ∷ [])
-
-  pub side_refused : fits ≡ false → ¬ HasSchedule (all_bounds old.events (records ++ bound ∷ []))
-  side_refused is s = false≢true (sym is ∙ (possible (all_bounds old.events records) taken).1 (subst (λ l. HasSchedule l) (sym whole) s))
-
-  pub side_taken : (more : List Difference) (new : Table) → fits ≡ true → more ≡ records ++ bound ∷ []
-      → ((bounds : List Difference) → IsExact bounds old → IsTrue fits → IsExact (bounds ++ bound ∷ []) new) → new.events ≡ old.events → AreTaken more new
-  side_taken more new is made exact same =
-      taken_more records more bound old new fits made taken (subst (λ l. HasSchedule l) whole ((possible (all_bounds old.events records) taken).0 is)) possible exact same
-
 module _ (durations : List Difference) (are : AreSteps 0 durations) (events : ℕ) (bound : Difference) (named : NamesEvents events bound) where
   pub upper_named : NamesEvents events (moved_upper durations bound)
   upper_named = record { from = omega (arith, earlier_start durations are bound.from, named.from); to = omega (arith, earlier_start durations are bound.to, named.to) }
@@ -136,16 +161,26 @@ module _ (durations : List Difference) (are : AreSteps 0 durations) (events : �
   lower_named = record { from = omega (arith, earlier_start durations are bound.from, named.from); to = omega (arith, earlier_start durations are bound.to, named.to) }
 
 -- the first bounds were looked at: the records are the old ones and those of the moved sides that were not implied
-pub record IsMovedTo (durations bounds old : List Difference) (first : Table) (place : ℕ) (records : List Difference) (table : Table) : Type 0 where
+pub record IsMovedTo (durations bounds old : List Difference) (first : Table) (place : ℕ) (records : List Difference) (table : Table) (network : Listing) : Type 0 where
   pub made : AreMadeBehind first.events old (moved_bounds durations (take place bounds)) records
-  pub taken : AreTaken records table
+  pub searched : IsSearched records table network
   pub events : table.events ≡ first.events
 
 module _ (durations bounds old : List Difference) (first : Table) where
-  pub moved_to_none : AreTaken old first → IsMovedTo durations bounds old first 0 old first
-  moved_to_none taken = record { made = none_made first.events old; taken = taken; events = refl }
+  pub moved_to_none : (network : Listing) → IsSearched old first network → IsMovedTo durations bounds old first 0 old first network
+  moved_to_none network searched = record { made = none_made first.events old; searched = searched; events = refl }
 
-  module _ (place : ℕ) (records : List Difference) (table : Table) (sofar : IsMovedTo durations bounds old first place records table)
+  -- all bounds were looked at, and the records have no schedule
+  pub moved_refused_last : (records : List Difference) (table : Table) (network : Listing) → IsMovedTo durations bounds old first (length bounds) records table network
+      → (fault : RobustFault) → IsCauseIn network.bounds fault → IsCauseBehind first.events old (moved_bounds durations bounds) fault
+  moved_refused_last records table network sofar fault cause =
+      let now : IsCauseBehind first.events records [] fault = subst (λ n. IsCauseBehind n records [] fault) sofar.events (cause_now records [] table network sofar.searched fault cause) in
+      let made : AreMadeBehind first.events old (moved_bounds durations bounds) records =
+      subst (λ l. AreMadeBehind first.events old (moved_bounds durations l) records) (take_all (length bounds) bounds (omega arith)) sofar.made in
+      subst (λ l. IsCauseBehind first.events old l fault) (append-nil (moved_bounds durations bounds))
+      (cause_behind first.events old (moved_bounds durations bounds) [] [] records made fault now)
+
+  module _ (place : ℕ) (records : List Difference) (table : Table) (network : Listing) (sofar : IsMovedTo durations bounds old first place records table network)
       (bound : Difference) (within_bounds : place < length bounds) (here : bound ≡ get_or bounds place bound) where
     next : take (place + 1) bounds ≡ take place bounds ++ bound ∷ []
     next = take_more bounds place bound within_bounds ∙ ap (λ b. take place bounds ++ b ∷ []) (sym here)
@@ -153,13 +188,13 @@ module _ (durations bounds old : List Difference) (first : Table) where
     join : (some others : List Difference) → moved_bounds durations (some ++ others) ≡ moved_bounds durations some ++ moved_bounds durations others
     join some others = flat_map-append (λ b. moved_upper durations b ∷ moved_lower durations b ∷ []) some others
 
-    pub moved_more : (more : List Difference) (new : Table) → AreMadeBehind table.events records (moved_bounds durations (bound ∷ [])) more → AreTaken more new → new.events ≡ table.events
-        → IsMovedTo durations bounds old first (place + 1) more new
-    moved_more more new made taken events = record {
+    pub moved_more : (more : List Difference) (new : Table) (next_network : Listing) → AreMadeBehind table.events records (moved_bounds durations (bound ∷ [])) more → IsSearched more new next_network
+        → new.events ≡ table.events → IsMovedTo durations bounds old first (place + 1) more new next_network
+    moved_more more new next_network made searched events = record {
       made = subst (λ l. AreMadeBehind first.events old l more) (sym (ap (moved_bounds durations) next ∙ join (take place bounds) (bound ∷ [])))
           (made_behind first.events old (moved_bounds durations (take place bounds)) (moved_bounds durations (bound ∷ [])) records more sofar.made
           (subst (λ n. AreMadeBehind n records (moved_bounds durations (bound ∷ [])) more) sofar.events made));
-      taken = taken;
+      searched = searched;
       events = events ∙ sofar.events;
     }
 

@@ -1,7 +1,8 @@
 -- For proofs alone: no public clause cites these words.
-use Rattle.std.specs.Prelude.{◌≡◌, ℕ, ◌<◌, ◌⊎◌, List, [], ◌∷◌, ◌++◌, length}
-use Rattle.stn_net.specs.{Difference.Difference, Horizon.horizon_bounds}
-use Rattle.stn_matrix.specs.{Table.Table, Tightest.IsExact}
+use Rattle.std.specs.Prelude.{◌≡◌, ℕ, ℤ, ◌<◌, ◌≤◌, ◌-ℤ◌, ◌≤ℤ◌, neg_ℤ, ◌⊎◌, List, [], ◌∷◌, ◌++◌, length}
+use Rattle.stn_net.specs.{Difference.Difference, Horizon.horizon_bounds, Schedule.IsSchedule}
+use Rattle.stn_matrix.specs.{Table.Table, Table.far_of, Tightest.IsExact}
+use Rattle.stn_conflict.specs.Listing.{Listing}
 use Rattle.stn_records.specs.Content.{most_known}
 use Rattle.stn_loosen.specs.{declared.fault.LoosenFault.LoosenFault, Loosened.Imply, Loosened.AreKept}
 use Rattle.stn_loosen.specs.declared.fault.LoosenFault.TheVariants.{Full, Memory}
@@ -13,6 +14,16 @@ all_bounds events records = horizon_bounds events ++ records
 -- the table is exact for the horizon bounds of its events and the records
 abbrev pub AreTaken : List Difference → Table → Type 0
 AreTaken records table = IsExact (all_bounds table.events records) table
+
+-- the differences in the table show that the bound is implied
+abbrev pub IsShown : Table → Difference → Type 0
+IsShown table bound = (far_of table bound.from bound.to ≤ℤ bound.hi) × (far_of table bound.to bound.from ≤ℤ neg_ℤ bound.lo)
+
+-- the network has the horizon bounds and the records, and in none of their schedules are two events farther apart than the table says
+pub record IsSearched (records : List Difference) (table : Table) (network : Listing) : Type 0 where
+  pub whole : network ≡ record { events = table.events; bounds = all_bounds table.events records }
+  pub apart : (time : ℕ → ℤ) → IsSchedule (all_bounds table.events records) time → (x y : ℕ) → x ≤ table.events → y ≤ table.events
+      → (time y -ℤ time x) ≤ℤ far_of table x y
 
 -- why no more is made than so many records
 abbrev pub IsCauseAt : ℕ → LoosenFault → Type 0

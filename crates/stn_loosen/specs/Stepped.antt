@@ -40,3 +40,9 @@ abbrev pub IsCauseBehind : ℕ → List Difference → List Difference → Robus
 IsCauseBehind events old sides Full = ⊥
 IsCauseBehind events old sides NotRobust = ¬ HasSchedule (all_bounds events (old ++ sides))
 IsCauseBehind events old sides Memory = Unit {0}
+
+-- why no more is asked of these bounds
+abbrev pub IsCauseIn : List Difference → RobustFault → Type 0
+IsCauseIn bounds Full = ⊥
+IsCauseIn bounds NotRobust = ¬ HasSchedule bounds
+IsCauseIn bounds Memory = Unit {0}

@@ -1,24 +1,28 @@
-//! The records of a loosened plan, one after the other, with the matrix of their bounds.
+//! The records of a loosened plan, one after the other, with the matrix of their bounds; and those of the robust plan behind them, with a
+//! network of all bounds, since each bound on starts would move most entries of the matrix.
 
 ghost use Rattle.std.specs.Prelude.{◌≡◌, ◌+◌, ◌≤◌, ◌↔◌, ◌++◌, ◌∷◌, [], pos, ◌≤ℤ◌, List, length, map, All, IsTrue, IfOk, IfErr, OnOk};
 ghost use Rattle.stn_net.specs.Event.{most_events};
 ghost use Rattle.stn_net.specs.Difference.{Difference, NamesEvents};
+ghost use Rattle.stn_net.specs.Horizon.{horizon_bounds};
 ghost use Rattle.stn_net.specs.Schedule.{HasSchedule};
+ghost use Rattle.stn_conflict.specs.Distances.{TellsWithin};
 ghost use Rattle.stn_records.specs.Content.{most_known};
 ghost use Rattle.stn_loosen.specs.Slack.{loose};
 ghost use Rattle.stn_loosen.specs.Loosened.{Imply, AreKept};
 ghost use Rattle.stn_loosen.specs.Moved.{moved_bounds};
-ghost use Rattle.stn_loosen.specs.Stepped.{AreSteps, as_bound, IsInReach, IsOpen, AreMadeBehind, IsCauseBehind};
-ghost use Rattle.stn_loosen.specs.Making.{all_bounds, AreTaken, IsNext, IsCauseAt, IsCauseOf, IsCauseWith};
+ghost use Rattle.stn_loosen.specs.Stepped.{AreSteps, as_bound, IsInReach, IsOpen, AreMadeBehind, IsCauseBehind, IsCauseIn};
+ghost use Rattle.stn_loosen.specs.Making.{all_bounds, AreTaken, IsShown, IsSearched, IsNext, IsCauseAt, IsCauseOf, IsCauseWith};
 
 use crate::fault::{LoosenFault, RobustFault};
 use crate::span::{Span, moved_lower, moved_upper};
 use crate::tolerance::Tolerance;
 use std::alloc::Allocator;
+use stn_conflict::Network;
 use stn_matrix::Matrix;
-use stn_net::Bound;
+use stn_net::{Bound, Event};
 use stn_records::MOST_KNOWN;
-use stn_time::Memory;
+use stn_time::{HORIZON, Memory};
 
 /// The records that were made so far, and the matrix of a bare plan with their bounds.
 #[derive(Drop)]
@@ -94,18 +98,17 @@ impl<A: Allocator + Copy> Making<A> {
         ensures events { self.new.matrix.events ≡ self.old.matrix.events }
         ensures fault { IfErr result (IsCauseOf self.old.matrix.events self.old.records.items order) }
     {
-        if self.implies(&Span::of(&order)) {
+        if self.shows(&Span::of(&order)) {
             return Ok(());
         }
         self.make(order)
     }
 
-    // Whether the bounds so far imply another.
-    fn implies(&self, span: &Span) -> bool
-        requires taken { AreTaken self.now.records.items self.now.matrix }
+    // Whether the matrix shows that its bounds imply another.
+    fn shows(&self, span: &Span) -> bool
         requires named { NamesEvents self.now.matrix.events (as_bound span.now) }
         requires reach { IsInReach (as_bound span.now) }
-        ensures { IsTrue result ↔ Imply (all_bounds self.now.matrix.events self.now.records.items) (as_bound span.now) }
+        ensures { IsTrue result ↔ IsShown self.now.matrix (as_bound span.now) }
     {
         self.matrix.far(span.from, span.to).get() <= span.hi
             && span.lo <= -self.matrix.far(span.to, span.from).get()
@@ -132,59 +135,110 @@ impl<A: Allocator + Copy> Making<A> {
     }
 
     /// Makes each side of the bounds, moved from the ends of these durations to their starts, that is not implied by then; however many
-    /// there are. Refused as `NotRobust` where there is no schedule with all of them.
-    pub fn make_moved(&mut self, durations: &[Bound], bounds: &[Bound]) -> Result<(), RobustFault>
+    /// there are. The matrix stays that of the records before them. Refused as `NotRobust` where there is no schedule with all of them.
+    pub fn make_moved(
+        &mut self,
+        alloc: A,
+        horizon: &[Bound],
+        durations: &[Bound],
+        bounds: &[Bound],
+    ) -> Result<(), RobustFault>
         requires taken { AreTaken self.old.records.items self.old.matrix }
+        requires horizon { horizon.now ≡ horizon_bounds self.old.matrix.events }
         requires steps { AreSteps 0 durations.now }
         requires named { All (NamesEvents self.old.matrix.events) bounds.now }
         ensures made { OnOk result (AreMadeBehind self.old.matrix.events self.old.records.items (moved_bounds durations.now bounds.now) self.new.records.items) }
-        ensures taken { OnOk result (AreTaken self.new.records.items self.new.matrix) }
-        ensures events { self.new.matrix.events ≡ self.old.matrix.events }
+        ensures possible { OnOk result (HasSchedule (all_bounds self.old.matrix.events self.new.records.items)) }
         ensures fault { IfErr result (IsCauseBehind self.old.matrix.events self.old.records.items (moved_bounds durations.now bounds.now)) }
     {
+        let mut network = Network::new(alloc, self.matrix.events(), horizon, &self.records)?;
         for bound in bounds {
-            self.make_sides(durations, bound)?;
+            self.make_sides(&mut network, durations, bound)?;
         }
+        is_within(&mut network, Event::origin(), Event::origin(), 0)?;
         Ok(())
     }
 
-    // The same of one bound.
-    fn make_sides(&mut self, durations: &[Bound], bound: &Bound) -> Result<(), RobustFault>
-        requires taken { AreTaken self.old.records.items self.old.matrix }
+    // The same of one bound, with the network of all bounds so far.
+    fn make_sides(
+        &mut self,
+        network: &mut Network<A>,
+        durations: &[Bound],
+        bound: &Bound,
+    ) -> Result<(), RobustFault>
+        requires searched { IsSearched self.old.records.items self.old.matrix network.old }
         requires steps { AreSteps 0 durations.now }
         requires named { NamesEvents self.old.matrix.events bound.now }
         ensures made { OnOk result (AreMadeBehind self.old.matrix.events self.old.records.items (moved_bounds durations.now (bound.now ∷ [])) self.new.records.items) }
-        ensures taken { OnOk result (AreTaken self.new.records.items self.new.matrix) }
+        ensures searched { OnOk result (IsSearched self.new.records.items self.new.matrix network.new) }
         ensures events { self.new.matrix.events ≡ self.old.matrix.events }
         ensures fault { IfErr result (IsCauseBehind self.old.matrix.events self.old.records.items (moved_bounds durations.now (bound.now ∷ []))) }
     {
         let upper = moved_upper(durations, bound);
         let lower = moved_lower(durations, bound);
-        self.make_side(&upper)?;
-        self.make_side(&lower)
+        self.make_side(network, &upper)?;
+        self.make_side(network, &lower)
     }
 
     // Makes the side of a bound, where it is not implied.
-    fn make_side(&mut self, side: &Span) -> Result<(), RobustFault>
-        requires taken { AreTaken self.old.records.items self.old.matrix }
+    fn make_side(&mut self, network: &mut Network<A>, side: &Span) -> Result<(), RobustFault>
+        requires searched { IsSearched self.old.records.items self.old.matrix network.old }
         requires named { NamesEvents self.old.matrix.events (as_bound side.now) }
         requires open { IsOpen (as_bound side.now) }
         requires reach { IsInReach (as_bound side.now) }
         ensures made { OnOk result (AreMadeBehind self.old.matrix.events self.old.records.items (as_bound side.now ∷ []) self.new.records.items) }
-        ensures taken { OnOk result (AreTaken self.new.records.items self.new.matrix) }
+        ensures searched { OnOk result (IsSearched self.new.records.items self.new.matrix network.new) }
         ensures events { self.new.matrix.events ≡ self.old.matrix.events }
         ensures fault { IfErr result (IsCauseBehind self.old.matrix.events self.old.records.items (as_bound side.now ∷ [])) }
     {
-        if self.implies(side) {
+        if self.implies(network, side)? {
             return Ok(());
         }
         let Some(bound) = side.bound(self.matrix.events()) else {
             return Err(RobustFault::NotRobust);
         };
-        if !self.matrix.tighten(bound) {
-            return Err(RobustFault::NotRobust);
-        }
         self.records.push(bound)?;
+        network.push(bound)?;
         Ok(())
+    }
+
+    // Whether the bounds so far imply the side of another: it is enough if those of the matrix do. The open side is implied anyway.
+    fn implies(&self, network: &mut Network<A>, side: &Span) -> Result<bool, RobustFault>
+        requires searched { IsSearched self.now.records.items self.now.matrix network.old }
+        requires named { NamesEvents self.now.matrix.events (as_bound side.now) }
+        requires open { IsOpen (as_bound side.now) }
+        requires reach { IsInReach (as_bound side.now) }
+        ensures value { IfOk result (λ implied. IsTrue implied ↔ Imply (all_bounds self.now.matrix.events self.now.records.items) (as_bound side.now)) }
+        ensures same { network.new ≡ network.old }
+        ensures fault { IfErr result (IsCauseBehind self.now.matrix.events self.now.records.items (as_bound side.now ∷ [])) }
+    {
+        if self.shows(side) {
+            return Ok(true);
+        }
+        if side.lo == -HORIZON {
+            is_within(network, side.from, side.to, side.hi)
+        } else {
+            is_within(network, side.to, side.from, -side.lo)
+        }
+    }
+}
+
+// Whether one event comes at most so long after another in each schedule of the network's bounds. Refused as `NotRobust` where they have
+// none.
+fn is_within<A: Allocator + Copy>(
+    network: &mut Network<A>,
+    from: Event,
+    to: Event,
+    most: i64,
+) -> Result<bool, RobustFault>
+    requires from { from ≤ network.old.events }
+    requires to { to ≤ network.old.events }
+    ensures told { IfOk result (TellsWithin network.old.bounds from to most) }
+    ensures same { network.new ≡ network.old }
+    ensures fault { IfErr result (IsCauseIn network.old.bounds) }
+{
+    match network.is_within(from, to, most)? {
+        Some(within) => Ok(within),
+        None => Err(RobustFault::NotRobust),
     }
 }

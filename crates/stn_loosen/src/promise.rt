@@ -73,5 +73,5 @@ fn make_robust<A: Allocator + Copy>(
     let durations = Vec::from_slice(alloc, &making.records[..steps])?;
     let mut bounds = Vec::from_slice(alloc, &making.records[steps..])?;
     bounds.extend_from_slice(horizon_of(base))?;
-    making.make_moved(&durations, &bounds)
+    making.make_moved(alloc, horizon_of(base), &durations, &bounds)
 }

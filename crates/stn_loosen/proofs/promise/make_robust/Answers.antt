@@ -19,6 +19,9 @@ make_moved-requires-clause-steps g c =
     ∙ ap (λ l. drop steps old.records.items ++ l) c.horizon_of.ensures in
     are_steps source c.requires.sound c.args.tolerance slack old.records.items c.requires.loosened old.matrix.events steps c.requires.events count c.deref-3.result.now c.deref-4.result.now first behind
 
+pub make_moved-requires-clause-horizon : goal.make_moved-requires-clause-horizon
+make_moved-requires-clause-horizon g c = rw c.requires.events c.horizon_of-2.ensures
+
 pub make_moved-requires-clause-named : goal.make_moved-requires-clause-named
 make_moved-requires-clause-named g c =
     let source = c.args.base.now in
@@ -56,7 +59,7 @@ returns-clause-possible g c =
     let behind : c.deref-4.result.now ≡ drop steps old.records.items ++ horizon_bounds (events_of source) =
     c.deref-4.ensures.value ∙ c.in_ok-extend_from_slice.ensures.items ∙ ap (λ l. l ++ c.horizon_of.result.now) (c.in_ok-bounds.ensures.items ∙ take_rest c.deref-2.result.now steps ∙ ap (drop steps) c.deref-2.ensures.value)
     ∙ ap (λ l. drop steps old.records.items ++ l) c.horizon_of.ensures in
-    on_both c.make_moved.result (λ made taken. made_promise source c.requires.sound c.args.tolerance slack old.records.items c.requires.loosened old.matrix.events steps c.requires.events count c.deref-3.result.now c.deref-4.result.now first behind c.make_moved.new.self.records.items c.make_moved.new.self.matrix c.make_moved.ensures.events taken made) c.make_moved.ensures.made c.make_moved.ensures.taken
+    on_both c.make_moved.result (λ made possible. made_promise source c.requires.sound c.args.tolerance slack old.records.items c.requires.loosened old.matrix.events steps c.requires.events count c.deref-3.result.now c.deref-4.result.now first behind c.make_moved.new.self.records.items possible made) c.make_moved.ensures.made c.make_moved.ensures.possible
 
 pub returns-clause-fault : goal.returns-clause-fault
 returns-clause-fault g c =

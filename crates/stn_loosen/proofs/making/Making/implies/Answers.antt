@@ -1,32 +1,45 @@
-use Rattle.std.proofs.Common.{pos, ◌-ℤ◌, to_z, of_z, w64, sym, ◌∙◌, arith}
-use Rattle.std.proofs.{lemmas.Int.ints, lemmas.Bool.false≢true}
-use Rattle.stn_loosen.specs.{Stepped.as_bound, Making.all_bounds}
-use Rattle.stn_loosen.proofs.Implied.{implied_from, upper_from, lower_from, le_z_tells}
+use Rattle.std.proofs.Common.{◌≡◌, ℤ, pos, neg_ℤ, ◌-ℤ◌, to_z, of_z, w64, [], ◌∷◌, refl, ⊎_elim, arith}
+use Rattle.std.proofs.{lemmas.Int.ints, lemmas.Result.IfOk-weaker, lemmas.Result.IfErr-weaker}
+use Rattle.stn_time.specs.Time.{horizon}
+use Rattle.stn_conflict.specs.Distances.{TellsWithin}
+use Rattle.stn_loosen.specs.Stepped.{as_bound}
+use Rattle.stn_loosen.proofs.{Implied.shown_searched, Sides.upper_told, Sides.lower_told, Sides.cause_now}
 use Rattle.stn_loosen.proofs.making.Making.implies.Goals as goal
 
-pub returns-then-get-span : goal.returns-then-get-span
-returns-then-get-span g c =
-    let bounds = all_bounds c.args.self.now.matrix.events c.args.self.now.records.items in
-    let span = as_bound c.args.span.now in
-    let there = c.far.ensures.far bounds c.requires.taken in
-    let back = c.far-then-get-span.ensures.far bounds c.requires.taken in
-    let reach = c.requires.reach in (
-      λ is. implied_from bounds span c.far.result c.far-then-get-span.result there back
-          (omega (arith, ints, c.if-get-span.true, c.get.ensures.value, c.get.ensures.within.0, c.get.ensures.within.1, reach.hi_least, reach.hi_most))
-          (omega (arith, ints, is, c.get-then-get-span.ensures.value, c.get-then-get-span.ensures.within.0, c.get-then-get-span.ensures.within.1, reach.lo_least, reach.lo_most)),
-      λ implied.
-          let below = lower_from bounds span c.far-then-get-span.result back implied in
-          le_z_tells (to_z w64 (of_z w64 c.args.span.now.lo)) (to_z w64 (of_z w64 (pos 0 -ℤ to_z w64 (of_z w64 c.get-then-get-span.result)))) (omega (arith, ints, below, c.get-then-get-span.ensures.value, c.get-then-get-span.ensures.within.0, c.get-then-get-span.ensures.within.1, reach.lo_least, reach.lo_most)),
+pub returns-then-shows-clause-value : goal.returns-then-shows-clause-value
+returns-then-shows-clause-value g c =
+    let now = c.args.self.now in (
+      λ is. shown_searched now.records.items now.matrix c.args.network.now (as_bound c.args.side.now) c.requires.searched c.requires.named (c.shows.ensures.0 c.if-shows.true),
+      λ implied. refl,
     )
 
-pub returns-else-get-span : goal.returns-else-get-span
-returns-else-get-span g c =
-    let bounds = all_bounds c.args.self.now.matrix.events c.args.self.now.records.items in
-    let span = as_bound c.args.span.now in
-    let there = c.far.ensures.far bounds c.requires.taken in
-    let reach = c.requires.reach in (
-      λ is. absurd (false≢true (sym c.if-get-span.false ∙ is)),
-      λ implied.
-          let above = upper_from bounds span c.far.result there implied in
-          le_z_tells (to_z w64 (of_z w64 c.get.result)) (to_z w64 (of_z w64 c.args.span.now.hi)) (omega (arith, ints, above, c.get.ensures.value, c.get.ensures.within.0, c.get.ensures.within.1, reach.hi_least, reach.hi_most)),
-    )
+pub returns-then-side-clause-value : goal.returns-then-side-clause-value
+returns-then-side-clause-value g c =
+    let now = c.args.self.now in
+    let reach = c.requires.reach in
+    let most : ℤ = to_z w64 (of_z w64 c.args.side.now.hi) in
+    let is : to_z w64 (of_z w64 c.args.side.now.hi) ≡ c.args.side.now.hi = omega (arith, ints, reach.hi_least, reach.hi_most) in
+    IfOk-weaker c.is_within.result (TellsWithin c.args.network.now.bounds c.args.side.now.from c.args.side.now.to (to_z w64 (of_z w64 c.args.side.now.hi))) _
+    (λ told. upper_told now.records.items now.matrix c.args.network.now c.requires.searched (as_bound c.args.side.now) c.requires.named told most is (omega (arith, ints, c.if-side.true, reach.lo_least, reach.lo_most)))
+    c.is_within.ensures.told
+
+pub returns-then-side-clause-fault : goal.returns-then-side-clause-fault
+returns-then-side-clause-fault g c =
+    let now = c.args.self.now in
+    IfErr-weaker c.is_within.result _ _ (cause_now now.records.items (as_bound c.args.side.now ∷ []) now.matrix c.args.network.now c.requires.searched) c.is_within.ensures.fault
+
+pub returns-else-side-clause-value : goal.returns-else-side-clause-value
+returns-else-side-clause-value g c =
+    let now = c.args.self.now in
+    let reach = c.requires.reach in
+    let high : c.args.side.now.hi ≡ horizon = ⊎_elim (λ lo. absurd (omega (arith, ints, lo, c.if-side.false))) (λ hi. hi) c.requires.open in
+    let most : ℤ = to_z w64 (of_z w64 (pos 0 -ℤ to_z w64 (of_z w64 c.args.side.now.lo))) in
+    let is : to_z w64 (of_z w64 (pos 0 -ℤ to_z w64 (of_z w64 c.args.side.now.lo))) ≡ neg_ℤ c.args.side.now.lo = omega (arith, ints, reach.lo_least, reach.lo_most) in
+    IfOk-weaker c.is_within-else-side.result
+    (TellsWithin c.args.network.now.bounds c.args.side.now.to c.args.side.now.from (to_z w64 (of_z w64 (pos 0 -ℤ to_z w64 (of_z w64 c.args.side.now.lo))))) _
+    (λ told. lower_told now.records.items now.matrix c.args.network.now c.requires.searched (as_bound c.args.side.now) c.requires.named told most is high) c.is_within-else-side.ensures.told
+
+pub returns-else-side-clause-fault : goal.returns-else-side-clause-fault
+returns-else-side-clause-fault g c =
+    let now = c.args.self.now in
+    IfErr-weaker c.is_within-else-side.result _ _ (cause_now now.records.items (as_bound c.args.side.now ∷ []) now.matrix c.args.network.now c.requires.searched) c.is_within-else-side.ensures.fault

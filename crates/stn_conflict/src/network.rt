@@ -1,0 +1,99 @@
+ghost use Rattle.std.specs.Prelude.{◌≡◌, ◌≤◌, ◌++◌, ◌∷◌, [], take, All, IfOk, OnOk, OnErr, MatchOption};
+ghost use Rattle.stn_net.specs.Event.{most_events};
+ghost use Rattle.stn_net.specs.Difference.{NamesEvents};
+ghost use Rattle.stn_net.specs.Schedule.{HasSchedule};
+ghost use Rattle.stn_net.specs.Horizon.{horizon_bounds};
+ghost use Rattle.stn_matrix.specs.Tightest.{IsTightest};
+ghost use Rattle.stn_conflict.specs.Distances.{TellsWithin};
+
+use crate::listed::{Direction, Listed};
+use crate::outgoing::Rows;
+use crate::relaxation::Search;
+use std::alloc::Allocator;
+use std::marker::Model;
+use stn_net::{Bound, Event};
+use stn_time::{Memory, Ms};
+
+/// A plan's bounds, to which more come one after the other, for questions about two events each.
+#[derive(Drop)]
+pub struct Network<A: Allocator> {
+    events: u16,
+    bounds: Vec<Bound, A>,
+    // The links of the bounds, as far as they were needed.
+    rows: Rows<A>,
+    search: Search<A>,
+}
+
+impl<A: Allocator> Model for Network<A> {
+    ghost use Rattle.stn_conflict.specs.Listing.{Listing};
+    ghost use Rattle.stn_conflict.specs.Relaxation.{IsReady};
+
+    ghost Value = { Listing };
+
+    ghost view = { λ n. record { events = n.events; bounds = n.bounds.items } };
+
+    ghost invariant = { λ n. IsReady n.events n.bounds.items n.rows n.search };
+}
+
+impl<A: Allocator + Copy> Network<A> {
+    /// The bounds of `base` followed by those of `extra`. There are so many `events` beside the origin, `base` begins
+    /// with their horizon bounds, and all bounds are about them. It fails only if memory runs out.
+    pub fn new(alloc: A, events: u16, base: &[Bound], extra: &[Bound]) -> Result<Network<A>, Memory>
+        requires few { events ≤ most_events }
+        requires begins { take events base.now ≡ horizon_bounds events }
+        requires base_named { All (NamesEvents events) base.now }
+        requires extra_named { All (NamesEvents events) extra.now }
+        ensures { IfOk result (λ network. network ≡ record { events = events; bounds = base.now ++ extra.now }) }
+    {
+        let mut bounds = Vec::from_slice(alloc, base)?;
+        bounds.extend_from_slice(extra)?;
+        let rows = Rows::new(alloc, events)?;
+        let search = Search::new(alloc, usize::from(events) + 1)?;
+        Ok(Network {
+            events,
+            bounds,
+            rows,
+            search,
+        })
+    }
+
+    /// One bound more, after the others. It fails only if memory runs out; all is as before then.
+    pub fn push(&mut self, bound: Bound) -> Result<(), Memory>
+        requires { NamesEvents self.old.events bound }
+        ensures pushed { OnOk result (self.new ≡ record self.old { bounds = self.old.bounds ++ bound ∷ [] }) }
+        ensures err { OnErr result (self.new ≡ self.old) }
+    {
+        self.bounds.push(bound)?;
+        Ok(())
+    }
+
+    /// Whether `to` comes at most `most` milliseconds after `from` in each schedule of the bounds; none exactly where they
+    /// have no schedule. It fails only if memory runs out.
+    pub fn is_within(&mut self, from: Event, to: Event, most: i64) -> Result<Option<bool>, Memory>
+        requires from { from ≤ self.old.events }
+        requires to { to ≤ self.old.events }
+        ensures told { IfOk result (λ found. MatchOption found (¬ HasSchedule self.old.bounds) (TellsWithin self.old.bounds from to most)) }
+        ensures same { self.new ≡ self.old }
+    {
+        match self.distance(from, to)? {
+            Some(far) => Ok(Some(far.get() <= most)),
+            None => Ok(None),
+        }
+    }
+
+    // How long after one event another can come at the most, or none where the bounds have no schedule.
+    fn distance(&mut self, from: Event, to: Event) -> Result<Option<Ms>, Memory>
+        requires from { from ≤ self.old.events }
+        requires to { to ≤ self.old.events }
+        ensures found { IfOk result (λ found. MatchOption found (¬ HasSchedule self.old.bounds) (IsTightest self.old.bounds from to)) }
+        ensures same { self.new ≡ self.old }
+    {
+        let bounds = Listed::new(Direction::Forward, &self.bounds, &[]);
+        self.rows.add(&bounds)?;
+        self.search.begin(from);
+        if !self.search.settle(&bounds, &self.rows.outgoing) {
+            return Ok(None);
+        }
+        Ok(Some(self.search.far[usize::from(to.number())]))
+    }
+}
