@@ -1,15 +1,15 @@
 use Rattle.std.proofs.Common.{◌≡◌, ◌≢◌, inl, inr, ℕ, Bool, true, false, ◌+◌, ◌<◌, ◌≤◌, List, [], ◌∷◌, ◌++◌, length, set, take, replicate, sym, subst, ap, refl, ◌∙◌, arith}
 use Rattle.std.specs.Prelude.{ℤ, pos, negsuc, neg_ℤ, ◌+ℤ◌, ◌-ℤ◌, ◌≤ℤ◌, ◌<ℤ◌, All, unsigned_abs}
-use Rattle.std.proofs.{lemmas.Int.ints, lemmas.Bool.cases_eq, lemmas.Bool.false≢true, lemmas.List.Sums.sum_by-set}
-use Rattle.std.proofs.lemmas.List.{take-take, get_or-set_same, get_or-set_other, get_or-replicate, length-set, length-replicate}
+use Rattle.std.proofs.{lemmas.Int.ints, lemmas.Bool.cases_eq, lemmas.Bool.cases_lt, lemmas.Bool.false≢true, lemmas.List.Sums.sum_by-set}
+use Rattle.std.proofs.lemmas.List.{take-take, get_or-set_same, get_or-set_other, get_or-replicate, get_or_append_left, get_or_push, length-append, length-set, length-replicate}
 use Rattle.std.proofs.lemmas.List.Elements.{All-from_get_or, All-take, All-append, All-push}
 use Rattle.stn_time.specs.Time.{horizon, IsWithinHorizon}
 use Rattle.stn_time.proofs.Each.{All-left}
 use Rattle.stn_net.specs.{Difference.Difference, Difference.NamesEvents, Schedule.Meets, Schedule.IsSchedule, Schedule.HasSchedule, Schedule.times_of, Horizon.horizon_bounds}
 use Rattle.stn_matrix.proofs.Widest.{horizon_times}
-use Rattle.stn_conflict.specs.{declared.links.Link.Link, Arcs.arc_of, Arcs.bound_at}
-use Rattle.stn_conflict.specs.Relaxation.{NamesAmong, IsNetwork, AreEstimates, AreDistances, AreRelaxed, IsRelaxed, IsRelaxedBut, is_fresh, room}
-use Rattle.stn_conflict.proofs.{Tightness.schedule_before, Tightness.link_kept, Tightness.link_among, Known.known_first, LevelTable.meets_moved}
+use Rattle.stn_conflict.specs.{declared.links.Link.Link, declared.links.Side.Side, declared.links.Side.TheVariants.Upper, declared.links.Side.TheVariants.Lower, Arcs.Arc, Arcs.arc, Arcs.arc_of, Arcs.bound_at}
+use Rattle.stn_conflict.specs.Relaxation.{NamesAmong, IsNetwork, AreEstimates, AreDistances, AreRelaxed, IsRelaxed, IsRelaxedBut, IsTaken, is_fresh, room}
+use Rattle.stn_conflict.proofs.{Tightness.schedule_before, Tightness.link_kept, Tightness.link_reaches, Tightness.link_among, Known.known_first, LevelTable.meets_moved}
 
 -- the events of the plan are so many and the origin
 pub among_events : (bounds : List Difference) (events count : ℕ) → count ≡ events + 1 → All (NamesEvents events) bounds → All (NamesAmong count) bounds
@@ -224,3 +224,60 @@ relaxed_now bounds far fresh link x way xs ys to is stale =
 pub all_fresh : (bounds : List Difference) (far : List ℤ) (fresh : List Bool) (count : ℕ) → fresh ≡ replicate count true → All (NamesAmong count) bounds → IsRelaxedBut bounds far fresh
 all_fresh bounds far fresh count is named = λ link there stale.
     absurd (false≢true (sym stale ∙ ap (λ l. is_fresh l (arc_of bounds link).from) is ∙ get_or-replicate count (arc_of bounds link).from true true (link_among bounds count link named there).0))
+
+-- over the distances each link is met
+pub distances_relaxed : (bounds : List Difference) (start : ℕ) (far : List ℤ) → AreDistances bounds start far → AreRelaxed bounds far
+distances_relaxed bounds start far d = λ link there.
+    let ends = link_among bounds (length far) link d.named there in
+    link_reaches bounds start link (times_of far (arc_of bounds link).from) (times_of far (arc_of bounds link).to) there (d.tightest (arc_of bounds link).from ends.0) (d.tightest (arc_of bounds link).to ends.1)
+
+-- and they differ as some schedule does
+pub distances_taken : (bounds : List Difference) (start : ℕ) (far : List ℤ) (from to : ℕ) → AreDistances bounds start far
+    → IsTaken bounds from to (times_of far to -ℤ times_of far from)
+distances_taken bounds start far from to d = (
+  λ x. times_of far x -ℤ times_of far 0,
+  relaxed_schedule bounds far (distances_relaxed bounds start far d),
+  omega (arith, ints),
+)
+
+-- estimates are estimates with one bound more
+pub estimates_push : (events start : ℕ) (bounds : List Difference) (bound : Difference) (far : List ℤ) → length far ≡ events + 1 → NamesEvents events bound
+    → AreEstimates bounds start far → AreEstimates (bounds ++ bound ∷ []) start far
+estimates_push events start bounds bound far long ends h =
+    let back : (time : ℕ → ℤ) → IsSchedule (bounds ++ bound ∷ []) time → IsSchedule bounds time =
+    λ time s. record { origin = s.origin; met = All-left (Meets time) bounds (bound ∷ []) s.met } in
+    let from = ends.from in
+    let to = ends.to in
+    record {
+      named = All-push (NamesAmong (length far)) bounds bound h.named (omega arith, omega arith);
+      start_named = h.start_named;
+      own = h.own;
+      sound = λ time s. h.sound time (back time s);
+      least = λ time s. h.least time (back time s);
+    }
+
+-- with one bound more, whose events have fresh estimates then, the other links are still met
+pub relaxed_push : (bounds : List Difference) (bound : Difference) (far : List ℤ) (fresh : List Bool) → bound.from < length fresh → bound.to < length fresh
+    → IsRelaxedBut bounds far fresh → IsRelaxedBut (bounds ++ bound ∷ []) far (set (set fresh bound.from true) bound.to true)
+relaxed_push bounds bound far fresh from to before = λ link there stale.
+    let first : List Bool = set fresh bound.from true in
+    let event : ℕ = (arc_of (bounds ++ bound ∷ []) link).from in
+    let long = length-set fresh bound.from true in
+    let was : is_fresh (set fresh bound.from true) (arc_of (bounds ++ bound ∷ []) link).from ≡ false =
+    stale_before (set fresh bound.from true) bound.to (arc_of (bounds ++ bound ∷ []) link).from (omega arith) stale in
+    let old : is_fresh fresh (arc_of (bounds ++ bound ∷ []) link).from ≡ false = stale_before fresh bound.from (arc_of (bounds ++ bound ∷ []) link).from from was in
+    elim (cases_lt link.place (length bounds)) [
+      | inl earlier ↦
+          let same : arc_of (bounds ++ bound ∷ []) link ≡ arc_of bounds link = ap (λ b. arc b link.side) (get_or_append_left bounds (bound ∷ []) _ link.place earlier) in
+          subst (λ (a : Arc). times_of far a.to ≤ℤ (times_of far a.from +ℤ a.weight)) (sym same) (before link earlier (subst (λ (a : Arc). is_fresh fresh a.from ≡ false) same old))
+      | inr last ↦
+          let place : link.place ≡ length bounds = omega (arith, there, length-append bounds (bound ∷ [])) in
+          let is : bound_at (bounds ++ bound ∷ []) link.place ≡ bound = get_or_push bounds bound _ link.place (sym place) in
+          absurd (begins_elsewhere bound link.side
+          (subst (λ (b : Difference). (arc b link.side).from ≢ bound.from) is (fell_elsewhere fresh bound.from (arc_of (bounds ++ bound ∷ []) link).from from was))
+          (subst (λ (b : Difference). (arc b link.side).from ≢ bound.to) is (fell_elsewhere (set fresh bound.from true) bound.to (arc_of (bounds ++ bound ∷ []) link).from (omega arith) stale)))
+    ]
+  where
+    begins_elsewhere : (bound : Difference) (side : Side) → (arc bound side).from ≢ bound.from → (arc bound side).from ≢ bound.to → ⊥
+    begins_elsewhere bound Upper not_from not_to = not_from refl
+    begins_elsewhere bound Lower not_from not_to = not_to refl

@@ -1,8 +1,8 @@
 -- How a search goes on.
-use Rattle.std.proofs.Common.{◌≡◌, inl, inr, ℕ, ◌+◌, ◌-◌, ◌<◌, Bool, true, false, List, Option, Some, None, length, set, sym, subst, ap, ◌∙◌, arith}
-use Rattle.std.specs.Prelude.{ℤ, Vec, All, IfSome, IfNone}
+use Rattle.std.proofs.Common.{◌≡◌, inl, inr, ℕ, ◌+◌, ◌-◌, ◌<◌, Bool, true, false, List, Option, Some, None, Result, Ok, Err, length, set, sym, subst, ap, ◌∙◌, arith}
+use Rattle.std.specs.Prelude.{ℤ, Vec, All, IfSome, IfNone, OnOk, is_ok}
 use Rattle.std.specs.{List.Contains, Option.option_or}
-use Rattle.std.proofs.{lemmas.Bool.cases_eq, lemmas.List.get_or-set_same, lemmas.List.get_or-set_other}
+use Rattle.std.proofs.{lemmas.Bool.cases_eq, lemmas.Bool.false≢true, lemmas.List.get_or-set_same, lemmas.List.get_or-set_other}
 use Rattle.stn_net.specs.Difference.{Difference}
 use Rattle.stn_conflict.specs.{declared.links.Link.Link, declared.relaxation.Search.Search, Arcs.arc_of}
 use Rattle.stn_conflict.specs.Relaxation.{AreRelaxed, AreRows, NamesAmong, HasTables, IsRelaxed, IsRelaxedBut, IsRelaxedOf, IsSearch, KeepsRelaxed, is_fresh, row_of}
@@ -103,3 +103,8 @@ none_or P Q R None None p q so = so p q
 pub none_then : {X : Type 0} (P Q : Type 0) (o : Option X) → IfNone o P → (P → Q) → IfNone o Q
 none_then P Q (Some x) p so = tt
 none_then P Q None p so = so p
+
+-- what is said of an Ok
+pub from_ok : {T E : Type 0} (r : Result T E) (P : Type 0) → is_ok r ≡ true → OnOk r P → P
+from_ok (Ok x) P t h = h
+from_ok (Err e) P t h = absurd (false≢true t)

@@ -104,9 +104,16 @@ pub record AreFirstRows {A : Type 0} (bounds : List Difference) (count : ℕ) (r
   pub within : rows.added ≤ 2 * length bounds
   pub stand : AreRowsTo bounds count rows.added rows.outgoing.items
 
--- the bounds of a plan with so many events can be searched, once all their links are added
-pub record IsReady {A : Type 0} (events : ℕ) (bounds : List Difference) (rows : Rows A) (search : Search A) : Type 0 where
+-- in some schedule of the bounds the one event comes so long after the other
+abbrev pub IsTaken : List Difference → ℕ → ℕ → ℤ → Type 0
+IsTaken bounds from to apart = (time : ℕ → ℤ) × IsSchedule bounds time × ((time to -ℤ time from) ≡ apart)
+
+-- the bounds of a plan with so many events can be searched, once all their links are added; and the search for how late each event can come
+-- has only links from events with fresh estimates left
+pub record IsReady {A : Type 0} (events : ℕ) (bounds : List Difference) (rows : Rows A) (latest search : Search A) : Type 0 where
   pub few : events ≤ most_events
   pub network : IsNetwork events bounds
   pub first : AreFirstRows bounds (events + 1) rows
+  pub late : IsSearch bounds 0 (events + 1) latest
+  pub relaxed : IsRelaxedBut bounds latest.far.items latest.fresh.items
   pub tables : HasTables (events + 1) search

@@ -5,6 +5,7 @@ ghost use Rattle.stn_net.specs.Schedule.{HasSchedule};
 ghost use Rattle.stn_net.specs.Horizon.{horizon_bounds};
 ghost use Rattle.stn_matrix.specs.Tightest.{IsTightest};
 ghost use Rattle.stn_conflict.specs.Distances.{TellsWithin};
+ghost use Rattle.stn_conflict.specs.Relaxation.{IsTaken};
 
 use crate::listed::{Direction, Listed};
 use crate::outgoing::Rows;
@@ -21,6 +22,8 @@ pub struct Network<A: Allocator> {
     bounds: Vec<Bound, A>,
     // The links of the bounds, as far as they were needed.
     rows: Rows<A>,
+    // How late each event can come, as far as it was needed: a search that goes on with more bounds.
+    latest: Search<A>,
     search: Search<A>,
 }
 
@@ -32,7 +35,7 @@ impl<A: Allocator> Model for Network<A> {
 
     ghost view = { λ n. record { events = n.events; bounds = n.bounds.items } };
 
-    ghost invariant = { λ n. IsReady n.events n.bounds.items n.rows n.search };
+    ghost invariant = { λ n. IsReady n.events n.bounds.items n.rows n.latest n.search };
 }
 
 impl<A: Allocator + Copy> Network<A> {
@@ -48,11 +51,15 @@ impl<A: Allocator + Copy> Network<A> {
         let mut bounds = Vec::from_slice(alloc, base)?;
         bounds.extend_from_slice(extra)?;
         let rows = Rows::new(alloc, events)?;
+        let mut latest = Search::new(alloc, usize::from(events) + 1)?;
+        latest.begin(Event::origin());
+        latest.fresh.fill(true);
         let search = Search::new(alloc, usize::from(events) + 1)?;
         Ok(Network {
             events,
             bounds,
             rows,
+            latest,
             search,
         })
     }
@@ -64,6 +71,8 @@ impl<A: Allocator + Copy> Network<A> {
         ensures err { OnErr result (self.new ≡ self.old) }
     {
         self.bounds.push(bound)?;
+        self.latest.fresh[usize::from(bound.from().number())] = true;
+        self.latest.fresh[usize::from(bound.to().number())] = true;
         Ok(())
     }
 
@@ -75,10 +84,34 @@ impl<A: Allocator + Copy> Network<A> {
         ensures told { IfOk result (λ found. MatchOption found (¬ HasSchedule self.old.bounds) (TellsWithin self.old.bounds from to most)) }
         ensures same { self.new ≡ self.old }
     {
+        let Some(apart) = self.latest_apart(from, to)? else {
+            return Ok(None);
+        };
+        if apart > most {
+            return Ok(Some(false));
+        }
         match self.distance(from, to)? {
             Some(far) => Ok(Some(far.get() <= most)),
             None => Ok(None),
         }
+    }
+
+    // How long after one event another comes where each comes as late as it can, which is a schedule; none where the bounds
+    // have no schedule.
+    fn latest_apart(&mut self, from: Event, to: Event) -> Result<Option<i64>, Memory>
+        requires from { from ≤ self.old.events }
+        requires to { to ≤ self.old.events }
+        ensures taken { IfOk result (λ found. MatchOption found (¬ HasSchedule self.old.bounds) (IsTaken self.old.bounds from to)) }
+        ensures same { self.new ≡ self.old }
+    {
+        let bounds = Listed::new(Direction::Forward, &self.bounds, &[]);
+        self.rows.add(&bounds)?;
+        if !self.latest.go_on(&bounds, &self.rows.outgoing) {
+            self.latest.fresh.fill(true);
+            return Ok(None);
+        }
+        let end = self.latest.far[usize::from(to.number())].get();
+        Ok(Some(end - self.latest.far[usize::from(from.number())].get()))
     }
 
     // How long after one event another can come at the most, or none where the bounds have no schedule.

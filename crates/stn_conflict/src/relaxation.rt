@@ -54,7 +54,7 @@ pub(crate) struct Search<A: Allocator> {
     // For each event the link that lowered its estimate last.
     by: Vec<Option<Link>, A>,
     // The events whose estimates were lowered since their links were relaxed.
-    fresh: Vec<bool, A>,
+    pub fresh: Vec<bool, A>,
 }
 
 impl<A: Allocator + Copy> Search<A> {
@@ -115,6 +115,18 @@ impl<A: Allocator + Copy> Search<A> {
         ensures distances { IsTrue result → AreDistances bounds.now self.old.start self.new.far.items }
     {
         self.fresh.fill(true);
+        self.relax_until_met(bounds, outgoing).is_ok()
+    }
+
+    // The same, where each link from an event whose estimate is not fresh is met already.
+    pub fn go_on(&mut self, bounds: &Listed<'_>, outgoing: &[Vec<Link, A>]) -> bool
+        requires search { IsSearch bounds.now self.old.start (length self.old.far.items) self.old }
+        requires rows { AreRows bounds.now (length self.old.far.items) outgoing.now }
+        requires relaxed { IsRelaxedBut bounds.now self.old.far.items self.old.fresh.items }
+        ensures search { IsSearch bounds.now self.old.start (length self.old.far.items) self.new }
+        ensures possible { IsTrue result ↔ HasSchedule bounds.now }
+        ensures distances { IsTrue result → AreDistances bounds.now self.old.start self.new.far.items }
+    {
         self.relax_until_met(bounds, outgoing).is_ok()
     }
 

@@ -2,7 +2,6 @@
 use Rattle.std.proofs.Common.{◌≡◌, ℤ, ◌≤ℤ◌, neg_ℤ, ◌↔◌, Bool, true, IsTrue, List, [], ◌∷◌, ◌++◌, sym, ap, subst, ◌∙◌, append_assoc}
 use Rattle.std.proofs.lemmas.Int.{ints}
 use Rattle.std.proofs.Common.{arith}
-use lib.Signed.{le_z}
 use Rattle.stn_net.specs.{Difference.Difference, Difference.NamesEvents, Horizon.horizon_bounds, Schedule.IsSchedule, Schedule.HasSchedule}
 use Rattle.stn_matrix.specs.{Table.Table, Table.far_of, Tightest.IsTightest, Tightest.IsExact}
 use Rattle.stn_conflict.specs.Listing.{Listing}
@@ -74,6 +73,3 @@ taken_more records more bound old new fits is taken there possible exact same =
     subst (λ l. IsExact l new)
     (whole ∙ ap (all_bounds old.events) (sym is) ∙ ap (λ n. all_bounds n more) (sym same))
     (exact front taken fit)
-
-pub le_z_tells : (a b : ℤ) → a ≤ℤ b → le_z a b ≡ true
-le_z_tells a b less = grind (arith, ints, less)

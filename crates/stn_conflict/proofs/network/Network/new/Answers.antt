@@ -1,14 +1,34 @@
-use Rattle.std.proofs.Common.{◌≡◌, ◌++◌, ap, ◌∙◌}
-use Rattle.stn_conflict.proofs.Relaxing.{network_of}
+use Rattle.std.proofs.Common.{◌≡◌, ◌+◌, ◌++◌, true, length, replicate, refl, rules, subst, ap, ◌∙◌, arith}
+use Rattle.std.proofs.lemmas.List.{length-replicate}
+use Rattle.stn_conflict.specs.Relaxation.{AreEstimates, IsNetwork}
+use Rattle.stn_conflict.proofs.{Relaxing.network_of, Relaxing.all_fresh, Relaxing.among_events}
 use Rattle.stn_conflict.proofs.network.Network.new.Goals as goal
 
 pub invariant_of-result : goal.invariant_of-result
 invariant_of-result g c =
+    let bounds = c.extend_from_slice.new.self.items in
+    let count = c.args.events + 1 in
+    let latest = c.begin.new.self in
     let whole : c.extend_from_slice.new.self.items ≡ c.args.base.now ++ c.args.extra.now =
     c.in_ok-extend_from_slice.ensures.items ∙ ap (λ l. l ++ c.args.extra.now) c.in_ok-bounds.ensures.items in
+    let network : IsNetwork c.args.events c.extend_from_slice.new.self.items =
+    rw whole (network_of c.args.events c.args.base.now c.args.extra.now c.requires.begins c.requires.base_named c.requires.extra_named) in
+    let long : length c.in_ok-latest.latest.far.items ≡ c.args.events + 1 = c.in_ok-latest.ensures.far ∙ ap (λ n. n + 1) c.from.ensures in
+    let tables = c.begin.ensures.tables in
+    let counted : c.begin.new.self.fresh.len ≡ c.args.events + 1 = search rules ∙ tables.fresh ∙ long in
+    let filled : c.fill.new.self.items ≡ replicate (c.args.events + 1) true = rw counted at (c.fill.ensures.items (λ _ e. e)) in
+    let estimates : AreEstimates c.extend_from_slice.new.self.items 0 c.begin.new.self.far.items =
+    subst (λ s. AreEstimates c.extend_from_slice.new.self.items s c.begin.new.self.far.items) c.origin.ensures (c.begin.ensures.estimates c.extend_from_slice.new.self.items c.args.events long network) in
     record {
       few = c.requires.few;
-      network = rw whole (network_of c.args.events c.args.base.now c.args.extra.now c.requires.begins c.requires.base_named c.requires.extra_named);
+      network = network;
       first = c.in_ok-rows.ensures c.extend_from_slice.new.self.items;
-      tables = rw (← c.from.ensures) c.in_ok-search.ensures;
+      late = record {
+        tables = record { few = omega arith; far = tables.far ∙ long; by = tables.by ∙ long; fresh = ap length filled ∙ length-replicate (c.args.events + 1) true };
+        from = c.begin.ensures.start ∙ c.origin.ensures;
+        estimates = estimates;
+      };
+      relaxed = all_fresh c.extend_from_slice.new.self.items c.begin.new.self.far.items c.fill.new.self.items (c.args.events + 1) filled
+          (among_events c.extend_from_slice.new.self.items c.args.events (c.args.events + 1) refl network.named);
+      tables = rw (← c.from-2.ensures) c.in_ok-search.ensures;
     }

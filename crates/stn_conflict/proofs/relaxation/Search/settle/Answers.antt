@@ -1,13 +1,6 @@
-use Rattle.std.proofs.Common.{◌≡◌, ◌∙◌, Result, Ok, Err, true, length, sym, rules}
-use Rattle.std.specs.Prelude.{is_ok, OnOk}
-use Rattle.std.proofs.lemmas.Bool.{false≢true}
-use Rattle.stn_conflict.proofs.Relaxing.{all_fresh}
+use Rattle.std.proofs.Common.{◌≡◌, ◌∙◌, length, sym, rules}
+use Rattle.stn_conflict.proofs.{Relaxing.all_fresh, Searches.from_ok}
 use Rattle.stn_conflict.proofs.relaxation.Search.settle.Goals as goal
-
--- what is said of an Ok
-from_ok : {T E : Type 0} (r : Result T E) (P : Type 0) → is_ok r ≡ true → OnOk r P → P
-from_ok (Ok x) P t h = h
-from_ok (Err e) P t h = absurd (false≢true t)
 
 pub relax_until_met-requires-clause-relaxed : goal.relax_until_met-requires-clause-relaxed
 relax_until_met-requires-clause-relaxed g c =

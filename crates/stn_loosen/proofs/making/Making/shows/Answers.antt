@@ -1,6 +1,6 @@
 use Rattle.std.proofs.Common.{pos, ◌-ℤ◌, to_z, of_z, w64, arith}
 use Rattle.std.proofs.lemmas.Int.{ints}
-use Rattle.stn_loosen.proofs.Implied.{le_z_tells}
+use Rattle.stn_conflict.proofs.Tightness.{le_z_tells}
 use Rattle.stn_loosen.proofs.making.Making.shows.Goals as goal
 
 pub returns-then-get-span : goal.returns-then-get-span

@@ -1,0 +1,22 @@
+use Rattle.std.proofs.Common.{subst, to_z, of_z, w64, arith}
+use Rattle.std.proofs.lemmas.Int.{ints}
+use Rattle.stn_matrix.specs.Tightest.{IsTightest}
+use Rattle.stn_conflict.specs.Listing.{Listing}
+use Rattle.stn_conflict.proofs.Tightness.{le_z_tells}
+use Rattle.stn_conflict.proofs.network.Network.is_within.Goals as goal
+
+pub returns-in-Some-2-clause-told : goal.returns-in-Some-2-clause-told
+returns-in-Some-2-clause-told g c =
+    let bounds = c.args.self.now.bounds in
+    let tightest : IsTightest c.args.self.now.bounds c.args.from c.args.to c.in-Some-2.far =
+    subst (λ (l : Listing). IsTightest l.bounds c.args.from c.args.to c.in-Some-2.far) c.latest_apart.ensures.same (rw c.in-Some-2.is at c.in_ok-far.ensures.found) in
+    let (other, other_is, other_at) = tightest.attained in
+    record {
+      possible = (other, other_is);
+      within = (
+        λ is time s. (let below = tightest.bound time s in omega (arith, ints, is, below, c.get.ensures.value, c.get.ensures.within.0, c.get.ensures.within.1)),
+        λ all.
+            let below = all other other_is in
+            le_z_tells (to_z w64 (of_z w64 c.get.result)) (to_z w64 (of_z w64 c.args.most)) (omega (arith, ints, below, other_at, c.get.ensures.value, c.get.ensures.within.0, c.get.ensures.within.1)),
+      );
+    }
