@@ -17,7 +17,7 @@ use stn_repair::one_repairs_text;
 use stn_site::one_report;
 
 /// The law that what a site holds has one answer to each query, also by the names of another plan's steps, and one
-/// cause that refuses a query or none; it does nothing.
+/// cause that refuses a query or none.
 pub fn one_said()
     ensures text { (query : Query) (held : Held) (text other : List ℕ) → IsSaid query held text → IsSaid query held other → text ≡ other }
     ensures named { (shown : Shown) (plan : List ℕ) (held : Held) (text other : List ℕ)
@@ -32,7 +32,7 @@ pub fn one_said()
 }
 
 /// The law that each site has an answer to each query that nothing refuses (`text`), that nothing refuses a query or a cause does that is
-/// printed (`refusal`), and that each site can show its steps by the names in any plan text (`named`); it does nothing.
+/// printed (`refusal`), and that each site can show its steps by the names in any plan text (`named`).
 pub fn every_query_has_an_answer()
     ensures text { (query : Query) (held : Held) → IsSoundSite held → IsQueryRefusal query held None → (text : List ℕ) × IsSaid query held text }
     ensures refusal { (query : Query) (held : Held) → IsSoundSite held
@@ -40,7 +40,7 @@ pub fn every_query_has_an_answer()
     ensures named { (shown : Shown) (plan : List ℕ) (held : Held) → IsSoundSite held → (text : List ℕ) × IsNamed shown plan held text }
 {}
 
-/// The law that where neither steps nor starts are chosen, an event counts as left exactly if it is not done; it does nothing.
+/// The law that where neither steps nor starts are chosen, an event counts as left exactly if it is not done.
 pub fn among_all()
     ensures { (source : PlanSource) (state : Content)
         → done_or_not_chosen (record { steps = None; starts = false }) source state ≡ done_events source state }

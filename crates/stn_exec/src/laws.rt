@@ -25,7 +25,7 @@ use stn_questions::{one_answer, one_ready_text};
 use stn_records::counts_same;
 use stn_world::{sites_are_unions, sites_took_same_same_bytes};
 
-/// The law that a script has one output, and one number of refusals; it does nothing.
+/// The law that a script has one output, and one number of refusals.
 pub fn one_script()
     ensures output { (script text other : List ℕ)
         → IsOutput (script_outcome script).replies text → IsOutput (script_outcome script).replies other → text ≡ other }
@@ -35,7 +35,7 @@ pub fn one_script()
     one_said();
 }
 
-/// The law that each script has an output, and a number of refusals, whatever its text is; it does nothing.
+/// The law that each script has an output, and a number of refusals, whatever its text is.
 pub fn every_script_has_an_output()
     ensures output { (script : List ℕ) → (text : List ℕ) × IsOutput (script_outcome script).replies text }
     ensures count { (script : List ℕ) → (count : ℕ) × CountsRefusals (script_outcome script).replies count }
@@ -43,14 +43,13 @@ pub fn every_script_has_an_output()
     every_query_has_an_answer();
 }
 
-/// The law that the commands of a script are a run of the world's steps, and what its reports say; it
-/// does nothing. The script's world is the end of the run of its steps, and at each line the end of
-/// the run of the steps before it. The output of the script falls into what the lines before a line
-/// print, what the line prints, and what the lines after it print. What a site's command `report`
-/// prints is the report of what the site holds, which is the union of what it took. So two sites of
-/// one plan, of one script or of two, that took the same additions and withdrawals, in any order, more
-/// than once or merged in any grouping, print the same bytes. An amendment is one addition and one
-/// withdrawal.
+/// The law that the commands of a script are a run of the world's steps, and what its reports say. The
+/// script's world is the end of the run of its steps, and at each line the end of the run of the steps
+/// before it. The output of the script falls into what the lines before a line print, what the line
+/// prints, and what the lines after it print. What a site's command `report` prints is the report of
+/// what the site holds, which is the union of what it took. So two sites of one plan, of one script or
+/// of two, that took the same additions and withdrawals, in any order, more than once or merged in any
+/// grouping, print the same bytes. An amendment is one addition and one withdrawal.
 pub fn scripts_are_runs()
     ensures end { (script : List ℕ) (start : Start) → heading_of (last_line script) (lines_of script) ≡ Ok start
         → (script_outcome script).world ≡ run (opening_world start.source start.sites) (steps_of_lines (opening_world start.source start.sites) start.lines) }
@@ -69,10 +68,10 @@ pub fn scripts_are_runs()
     sites_took_same_same_bytes();
 }
 
-/// The law of what a script's questions print; it does nothing. What the line of a site's question
-/// prints is the answer of the plan and of what the site holds. So two sites of one plan, of one script
-/// or of two, that took the same items print the same answer to each question; and where they took the
-/// same additions and withdrawals, to each question but that for the records.
+/// The law of what a script's questions print. What the line of a site's question prints is the answer
+/// of the plan and of what the site holds. So two sites of one plan, of one script or of two, that took
+/// the same items print the same answer to each question; and where they took the same additions and
+/// withdrawals, to each question but that for the records.
 pub fn questions_are_answered()
     ensures answer { (script output text : List ℕ) (at : LineOf script) (site : ℕ) (question : Question) → AsksSite at site question → PrintsAt at output text
         → IsAnswer at.start.source (content_at (world_at at) site) question text }
@@ -90,10 +89,9 @@ pub fn questions_are_answered()
     counts_same();
 }
 
-/// The law of what a script's commands `ready` print; it does nothing. What the line of a site's command
-/// prints says which events may run from its time on, by the plan and by what the site holds. So two
-/// sites of one plan, of one script or of two, that took the same additions and withdrawals print the
-/// same.
+/// The law of what a script's commands `ready` print. What the line of a site's command prints says
+/// which events may run from its time on, by the plan and by what the site holds. So two sites of one
+/// plan, of one script or of two, that took the same additions and withdrawals print the same.
 pub fn ready_is_answered()
     ensures text { (script output text : List ℕ) (at : LineOf script) (site : ℕ) (now : ℤ) → AsksReady at site now → PrintsAt at output text
         → IsReadyText at.start.source (content_at (world_at at) site) now text }
@@ -108,7 +106,7 @@ pub fn ready_is_answered()
 }
 
 /// The law that the lines of `bounds` and `records` are read as they say: an addition of the second to the fifth word of one, as
-/// its events and sides, adds its bound. It does nothing.
+/// its events and sides, adds its bound.
 pub fn listed_bounds_read_back()
     ensures bounds { (name : BoundName) (bound : Difference) → IsName name → IsReadable bound
         → (text : List ℕ) × (named_line name bound ≡ line text) × ReadsBack text bound }

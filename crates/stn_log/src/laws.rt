@@ -4,7 +4,7 @@ ghost use Rattle.stn_log.specs.declared.fault.LoadFault.{LoadFault};
 
 use stn_wire::{one_front, one_spelling};
 
-/// The law that bytes have one meaning as a log; it does nothing.
+/// The law that bytes have one meaning as a log.
 pub fn one_log()
     ensures { (input : List ℕ) (one other : Result Log LoadFault) → IsLog input one → IsLog input other → one ≡ other }
 {

@@ -11,25 +11,25 @@ ghost use Rattle.stn_loosen.specs.Moved.{moved_bounds};
 ghost use Rattle.stn_loosen.specs.Robust.{loose_bounds, HasPromise, AreRobust};
 ghost use Rattle.stn_loosen.specs.Run.{Execution, executed_bounds, IsRun};
 
-/// The law that a plan and a tolerance have one loosened plan; it does nothing.
+/// The law that a plan and a tolerance have one loosened plan.
 pub fn one_loosened_plan()
     ensures { (source : PlanSource) → (slack : Slack) → (one other : List Difference)
         → AreLoosened source slack one → AreLoosened source slack other → one ≡ other }
 {}
 
-/// The law that where the records of the loosened plan are too many, no list of them is short enough; it does nothing.
+/// The law that where the records of the loosened plan are too many, no list of them is short enough.
 pub fn too_many_are_not_few()
     ensures { (source : PlanSource) → (slack : Slack) → AreTooMany source slack → (records : List Difference) → ¬ AreFewLoosened source slack records }
 {}
 
-/// The law that a plan and a tolerance have one robust plan; it does nothing.
+/// The law that a plan and a tolerance have one robust plan.
 pub fn one_robust_plan()
     ensures { (source : PlanSource) → (slack : Slack) → (one other : List Difference)
         → AreRobust source slack one → AreRobust source slack other → one ≡ other }
 {}
 
 /// The law that times are a promise of a loosened plan if and only if they are a schedule of its bounds on starts: of its orders and its
-/// horizon, moved to the starts of its steps. It does nothing.
+/// horizon, moved to the starts of its steps.
 pub fn promises_are_schedules_of_starts()
     ensures { (source : PlanSource) → (slack : Slack) → IsSoundSource source → IsSlack slack → (promised : ℕ → ℤ)
         → (Promises (loose_durations slack source) (loose_bounds source slack) promised
@@ -37,7 +37,7 @@ pub fn promises_are_schedules_of_starts()
 {}
 
 /// The law of the robust plan: it has a schedule if and only if the loosened plan has a promise; each of its schedules is a promise of
-/// the robust plan itself, and a schedule of the loosened plan. It does nothing.
+/// the robust plan itself, and a schedule of the loosened plan.
 pub fn robust_plans_promise()
     ensures possible { (source : PlanSource) → (slack : Slack) → (records : List Difference) → IsSoundSource source → IsSlack slack
         → AreRobust source slack records → (HasPromise source slack ↔ HasSchedule (bounds_with source records)) }
@@ -49,7 +49,7 @@ pub fn robust_plans_promise()
         → IsSchedule (loose_bounds source slack) time }
 {}
 
-/// The law that a run of a robust plan always has a schedule, whatever the durations: no such run ends in a conflict. It does nothing.
+/// The law that a run of a robust plan always has a schedule, whatever the durations: no such run ends in a conflict.
 pub fn robust_runs_complete()
     ensures { (source : PlanSource) → (slack : Slack) → (records : List Difference) → (run : List Execution) → IsSoundSource source → IsSlack slack
         → AreRobust source slack records → HasPromise source slack → IsRun (loose_durations slack source) (bounds_with source records) run
@@ -57,7 +57,7 @@ pub fn robust_runs_complete()
 {}
 
 /// The law that in a run of a robust plan the window of the end of a step that was started is its duration: the end comes no earlier than
-/// its shortest and no later than its longest duration after the start, and may come at each time between. It does nothing.
+/// its shortest and no later than its longest duration after the start, and may come at each time between.
 pub fn ends_have_their_durations()
     ensures { (source : PlanSource) → (slack : Slack) → (records : List Difference) → (run : List Execution) → IsSoundSource source → IsSlack slack
         → AreRobust source slack records → HasPromise source slack → IsRun (loose_durations slack source) (bounds_with source records) run

@@ -8,13 +8,13 @@ ghost use Rattle.stn_pddl.specs.Domains.{domain_of};
 ghost use Rattle.stn_pddl.specs.Causes.{IsCause};
 ghost use Rattle.stn_pddl.specs.Case.{domain_in_small};
 
-/// The law that a text has a fault exactly where it has the cause of that fault; it does nothing.
+/// The law that a text has a fault exactly where it has the cause of that fault.
 pub fn faults_by_cause()
     ensures { (text : List ℕ) (fault : DomainFault) → is_memory fault ≡ false → (domain_of text ≡ Err fault) ↔ IsCause text fault }
 {}
 
 /// The law that the case of letters changes only the names: a text in small letters is the domain of the text with its names in
-/// small letters, or has the same fault; it does nothing.
+/// small letters, or has the same fault.
 pub fn small_letters()
     ensures { (text : List ℕ) → domain_of (folded text) ≡ domain_in_small (domain_of text) }
 {}

@@ -13,7 +13,7 @@ use stn_conflict::negative_cycle_is_conflict;
 use stn_records::counts_same;
 use stn_site::one_report;
 
-/// The law that a plan and a state have one picture with given lines of the steps; it does nothing.
+/// The law that a plan and a state have one picture with given lines of the steps.
 pub fn one_picture()
     ensures { (steps : List ℕ) → (source : PlanSource) → (state : Content) → (text other : List ℕ)
         → IsPicture steps source state text → IsPicture steps source state other → text ≡ other }
@@ -24,7 +24,7 @@ pub fn one_picture()
 
 /// The law that replicas of one plan that took the same additions and withdrawals, by whatever calls, in
 /// any order, more than once or merged in any grouping, have the same picture with given lines of the steps.
-/// An amendment is the addition of its record and the withdrawal of the id that it replaces. It does nothing.
+/// An amendment is the addition of its record and the withdrawal of the id that it replaces.
 pub fn same_pictures()
     ensures { (ours theirs : List Accepted) → (one other : Held) → CameBy ours one → CameBy theirs other → TookSame ours theirs
         → one.source ≡ other.source → (steps text last : List ℕ)
@@ -35,7 +35,7 @@ pub fn same_pictures()
 }
 
 /// The laws of the line of time. Each event's earliest time lies on it. A bar is marked as cut off if and only if its
-/// end lies past the line, and then the event has no deadline within half a year. It does nothing.
+/// end lies past the line, and then the event has no deadline within half a year.
 pub fn bars_are_on_the_line()
     ensures earliest { (spans : List Span) → All (λ span. unsigned_abs span.earliest ≤ unsigned_abs span.latest) spans
         → All (λ span. unsigned_abs span.earliest < 1000 * line_end (gap_of spans)) spans }
@@ -44,14 +44,14 @@ pub fn bars_are_on_the_line()
 {}
 
 /// The law that a line of text is shown without a `<`, `>` or `"`, and that each `&` in it begins one of the names
-/// `&amp;`, `&lt;`, `&gt;` and `&quot;`; it does nothing.
+/// `&amp;`, `&lt;`, `&gt;` and `&quot;`.
 pub fn lines_are_escaped()
     ensures { (row line : List ℕ) → list_all (λ byte. not (byte == 10)) line ≡ true
         → (list_all is_plain (flat_map (escaped row) line) ≡ true) × (are_named (flat_map (escaped row) line) ≡ true) }
 {}
 
 /// The law that the bars, the words and the label of each step stand in the step's own forty pixels, which begin where
-/// the row of its start does; it does nothing.
+/// the row of its start does.
 pub fn steps_have_rows()
     ensures bars { (step : ℕ) → 1 ≤ step → (row_top (2 * step - 1) ≤ bar_top (2 * step - 1)) × (bar_top (2 * step) + 10 ≤ row_top (2 * step - 1) + 40) }
     ensures words { (step : ℕ) → 1 ≤ step → (row_top (2 * step - 1) ≤ words_base (2 * step - 1)) × (words_base (2 * step) ≤ row_top (2 * step - 1) + 40) }

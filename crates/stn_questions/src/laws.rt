@@ -21,7 +21,7 @@ use stn_records::counts_same;
 use stn_site::{one_report, took_same_same_bytes};
 use stn_windows::next_unique;
 
-/// The law that a plan and a state have one answer to each question; it does nothing.
+/// The law that a plan and a state have one answer to each question.
 pub fn one_answer()
     ensures { (source : PlanSource) → (state : Content) → (question : Question) → (text other : List ℕ)
         → IsAnswer source state question text → IsAnswer source state question other → text ≡ other }
@@ -31,28 +31,27 @@ pub fn one_answer()
     negative_cycle_is_conflict();
 }
 
-/// The law that a plan that has a base and a state have a report, if each bound of a live record is one of the plan; it
-/// does nothing.
+/// The law that a plan that has a base and a state have a report, if each bound of a live record is one of the plan.
 pub fn every_state_has_a_report()
     ensures { (source : PlanSource) → (state : Content) → IsSoundSource source → All (IsBoundWithin (events_of source)) (live_bounds state)
         → (text : List ℕ) × IsReport source state text }
 {}
 
-/// The law that they also have an answer to each question about events that the plan has; it does nothing.
+/// The law that they also have an answer to each question about events that the plan has.
 pub fn every_question_has_an_answer()
     ensures { (source : PlanSource) → (state : Content) → IsSoundSource source → All (IsBoundWithin (events_of source)) (live_bounds state)
         → (question : Question) → (¬ AsksOfNoEvent source question) → (text : List ℕ) × IsAnswer source state question text }
 {}
 
 /// The law that where all their bounds have a schedule, something comes next from each time on, whichever events count as
-/// done; it does nothing.
+/// done.
 pub fn every_state_has_a_next()
     ensures { (source : PlanSource) → (state : Content) → IsSoundSource source → All (IsBoundWithin (events_of source)) (live_bounds state)
         → HasSchedule (all_bounds source state) → (done : List Bool) → length done ≡ events_of source + 1 → (now : ℤ)
         → (answer : Next) × IsNext (all_bounds source state) done now answer }
 {}
 
-/// The law that there is then a rehearsal, or an event is overdue; it does nothing.
+/// The law that there is then a rehearsal, or an event is overdue.
 pub fn every_state_has_a_rehearsal()
     ensures { (source : PlanSource) → (state : Content) → IsSoundSource source → All (IsBoundWithin (events_of source)) (live_bounds state)
         → HasSchedule (all_bounds source state) → (done : List Bool) → length done ≡ events_of source + 1 → (now : ℤ)
@@ -60,15 +59,14 @@ pub fn every_state_has_a_rehearsal()
         ⊎ ((event : ℕ) × IsRehearseFault (all_bounds source state) done now (Overdue event)) }
 {}
 
-/// The law that they have a text that says which events may run from a time on, whichever count as done; it does nothing.
+/// The law that they have a text that says which events may run from a time on, whichever count as done.
 pub fn every_state_has_a_ready_text()
     ensures { (source : PlanSource) → (state : Content) → IsSoundSource source → All (IsBoundWithin (events_of source)) (live_bounds state)
         → (done : List Bool) → length done ≡ events_of source + 1 → (now : ℤ)
         → (text : List ℕ) × IsReadyWith (all_bounds source state) done now text }
 {}
 
-/// The law that a plan and a state have one text that says which events may run from a time on; it does
-/// nothing.
+/// The law that a plan and a state have one text that says which events may run from a time on.
 pub fn one_ready_text()
     ensures { (source : PlanSource) → (state : Content) → (now : ℤ) → (text other : List ℕ)
         → IsReadyText source state now text → IsReadyText source state now other → text ≡ other }
@@ -77,7 +75,7 @@ pub fn one_ready_text()
 }
 
 /// The law that where an event comes next, the first line of those that may run says so, with its time,
-/// and that all of them may run until the same time; it does nothing.
+/// and that all of them may run until the same time.
 pub fn ready_begins_with_next()
     ensures { (source : PlanSource) → (state : Content) → (now time : ℤ) → (event : ℕ) → (text : List ℕ)
         → IsNext (all_bounds source state) (done_events source state) now (Run time event) → IsReadyText source state now text → BeginsWithNext time event text }
@@ -89,8 +87,7 @@ pub fn ready_begins_with_next()
 /// or merged in any grouping, give the same answers: to each question where they took the same items, and
 /// to each question but that for the records where they took the same additions and withdrawals, where
 /// an amendment is the addition of its record and the withdrawal of the id that it replaces. Where they
-/// took the same additions and withdrawals, they also say the same of what may run from a time on. It
-/// does nothing.
+/// took the same additions and withdrawals, they also say the same of what may run from a time on.
 pub fn same_answers()
     ensures items { (ours theirs : List Accepted) → (one other : Held) → CameBy ours one → CameBy theirs other → TookSameItems ours theirs
         → one.source ≡ other.source → (question : Question) → (text last : List ℕ)

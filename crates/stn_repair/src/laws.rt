@@ -19,14 +19,14 @@ ghost use Rattle.stn_repair.specs.Text.{IsRepairsText};
 
 use stn_records::counts_same;
 
-/// The law that a plan and a state have one text of what mends a conflict; it does nothing.
+/// The law that a plan and a state have one text of what mends a conflict.
 pub fn one_repairs_text()
     ensures { (source : PlanSource) → (state : Content) → (text other : List ℕ)
         → IsRepairsText source state text → IsRepairsText source state other → text ≡ other }
 {}
 
 /// The law that a record without which the others have a schedule has a link on each negative cycle of all
-/// bounds, so also on the named one; it does nothing.
+/// bounds, so also on the named one.
 pub fn repairs_lie_on_each_cycle()
     ensures { (source : PlanSource) → (state : Content) → (links : List Link) → (id : SiteCounter)
         → IsNegativeCycle (all_bounds source state) links → HasSchedule (others (base_bounds source) (live_of state) id)
@@ -34,7 +34,7 @@ pub fn repairs_lie_on_each_cycle()
 {}
 
 /// The law that the plan's bounds and those of the records that are not dropped have a schedule, and have
-/// none with any one of those that are; it does nothing.
+/// none with any one of those that are.
 pub fn kept_is_largest()
     ensures possible { (source : PlanSource) → (state : Content) → (ids : List SiteCounter)
         → HasSchedule (base_bounds source) → AreDropped (base_bounds source) (live_of state) ids
@@ -47,7 +47,7 @@ pub fn kept_is_largest()
 
 /// The law that replicas of one plan that took the same additions and withdrawals, by whatever calls, in any
 /// order, more than once or merged in any grouping, print the same of what mends a conflict, where an amendment
-/// is the addition of its record and the withdrawal of the id that it replaces; it does nothing.
+/// is the addition of its record and the withdrawal of the id that it replaces.
 pub fn same_repairs()
     ensures { (ours theirs : List Accepted) → (one other : Held) → CameBy ours one → CameBy theirs other → TookSame ours theirs
         → one.source ≡ other.source → (text last : List ℕ)

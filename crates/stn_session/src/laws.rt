@@ -6,7 +6,7 @@ ghost use Rattle.stn_session.specs.declared.session.End.{End};
 use stn_wire::{one_front, one_spelling};
 
 /// The law that bytes have one session: however they are cut into frames and a rest, it ends in one way, and its
-/// replies, state and count are the same; it does nothing.
+/// replies, state and count are the same.
 pub fn one_session()
     ensures { (first : Session) → (bytes : List ℕ) → (one other : End) → (last final : Session)
         → IsSession first bytes one last → IsSession first bytes other final → (one ≡ other) × (last ≡ final) }

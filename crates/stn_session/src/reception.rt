@@ -8,7 +8,7 @@ ghost use Rattle.stn_session.specs.declared.exchange.ReplyFault.{ReplyFault};
 use stn_wire::{one_front, one_spelling};
 
 /// The law that a reader's bytes have one reception: however many of them were read, and however they are cut into
-/// frames and a rest, the answer and the state are the same, unless a read fails or memory runs out; it does nothing.
+/// frames and a rest, the answer and the state are the same, unless a read fails or memory runs out.
 pub fn one_reception()
     ensures { (source : PlanSource) → (first : Content) → (input : List ℕ) → (after last : Option (List ℕ))
         → (one other : Result (List ℕ) ReplyFault) → (state final : Content)

@@ -9,7 +9,7 @@ use stn_guard::one_guard;
 use stn_log::one_log;
 use stn_loosen::{one_robust_plan, too_many_are_not_few};
 
-/// The law that a command has one cause that refuses it, or none, in a store of which all entries are known; it does nothing.
+/// The law that a command has one cause that refuses it, or none, in a store of which all entries are known.
 pub fn one_cause()
     ensures { (entries : List Entry) → (line : Line) → (cause other : Option Failure)
         → IsRefusalOf (Some entries) line cause → IsRefusalOf (Some entries) line other → cause ≡ other }

@@ -10,13 +10,13 @@ ghost use Rattle.stn_tree.specs.FirstFault.{IsFirstFault};
 ghost use Rattle.stn_tree.specs.Written.{written, IsWritable};
 
 /// The law that a text which is not too long has its first fault at the first byte after which no text can go on, whatever
-/// follows there, or at an end that comes too early; it does nothing.
+/// follows there, or at an end that comes too early.
 pub fn first_fault()
     ensures { (text : List ℕ) (fault : TreeFault) → tree_of text ≡ Err fault → length text ≤ most_text → IsFirstFault text fault }
 {}
 
 /// The law that a list which is written, with no more than 32 open brackets and 65,536 bytes, reads as that list, and that each
-/// tree of a text can be written; it does nothing.
+/// tree of a text can be written.
 pub fn written_reads()
     ensures reads { (line : ℕ) (children : Trees) → IsWritable 32 1 (Group line children End) → length (written 1 (Group line children End)) ≤ most_text
         → tree_of (written 1 (Group line children End)) ≡ Ok (Group line children End) }
@@ -24,7 +24,7 @@ pub fn written_reads()
 {}
 
 /// The law that the case of letters changes only the words: a text in small letters has the tree of the text with its words in
-/// small letters, or the same fault; it does nothing.
+/// small letters, or the same fault.
 pub fn small_letters()
     ensures { (text : List ℕ) → tree_of (folded text) ≡ tree_in_small (tree_of text) }
 {}

@@ -7,13 +7,13 @@ ghost use Rattle.stn_windows.specs.Dispatch.{IsNext, IsOverdue};
 ghost use Rattle.stn_windows.specs.Rehearsal.{IsRehearsal, IsRehearseFault};
 ghost use Rattle.stn_windows.specs.declared.answers.RehearseFault.TheVariants.{Overdue};
 
-/// The law that one answer says what comes next; it does nothing.
+/// The law that one answer says what comes next.
 pub fn next_unique()
     ensures { (bounds : List Difference) → (done : List Bool) → (now : ℤ) → (one other : Next)
         → IsNext bounds done now one → IsNext bounds done now other → one ≡ other }
 {}
 
-/// The law that a plan has one rehearsal, and none where an event is overdue; it does nothing.
+/// The law that a plan has one rehearsal, and none where an event is overdue.
 pub fn rehearsal_unique()
     ensures runs { (bounds : List Difference) → (done : List Bool) → (now : ℤ) → (one other : List (ℤ × ℕ))
         → IsRehearsal bounds done now one → IsRehearsal bounds done now other → one ≡ other }
@@ -24,13 +24,13 @@ pub fn rehearsal_unique()
 }
 
 /// The law that something comes next from any time on, where the differences of the bounds are known and there is a test
-/// for each event; it does nothing.
+/// for each event.
 pub fn something_comes_next()
     ensures { (bounds : List Difference) → (table : Table) → IsExact bounds table → (done : List Bool) → length done ≡ table.events + 1 → (now : ℤ)
         → (answer : Next) × IsNext bounds done now answer }
 {}
 
-/// The law that there is then a rehearsal, or the event that is overdue; it does nothing.
+/// The law that there is then a rehearsal, or the event that is overdue.
 pub fn rehearsed_or_overdue()
     ensures { (bounds : List Difference) → (table : Table) → IsExact bounds table → (done : List Bool) → length done ≡ table.events + 1 → (now : ℤ)
         → ((runs : List (ℤ × ℕ)) × IsRehearsal bounds done now runs) ⊎ ((event : ℕ) × IsRehearseFault bounds done now (Overdue event)) }

@@ -15,7 +15,7 @@ use stn_site::{one_report, same_counts_same_bytes};
 
 /// The law that what a site of a world holds is the union of what it took: after any run it has an
 /// addition, a withdrawal or an entry of an amendment exactly where one of the steps that were accepted
-/// brought it there; it does nothing.
+/// brought it there.
 pub fn sites_are_unions()
     ensures { (source : PlanSource) (sites : ℕ) (steps : List Step) (site : ℕ) → HasSite (opening_world source sites) site
         → (item : Item) → HasItem (content_at (run (opening_world source sites) steps) site) item ↔ TookAt (opening_world source sites) steps site item }
@@ -23,7 +23,7 @@ pub fn sites_are_unions()
 
 /// The law that the states of a world, those of its sites and of its packets, agree, after any run:
 /// any two on every id, so that each id has one record everywhere; and each id of a site that is known
-/// anywhere is known at that site, so that its next id is new everywhere. It does nothing.
+/// anywhere is known at that site, so that its next id is new everywhere.
 pub fn states_agree()
     ensures agreed { InEachRun (λ now items. (one other : Content) → Contains (states_of now) one → Contains (states_of now) other → dispute_contents one other ≡ None) }
     ensures own { InEachRun (λ now items. (one : Content) (id : SiteCounter) → Contains (states_of now) one → is_known one id ≡ true
@@ -31,7 +31,7 @@ pub fn states_agree()
 {}
 
 /// The law that in each run in which at most 4,096 records are made no delivery and no merge is refused
-/// for a cause other than memory and a site or packet that is not there; it does nothing.
+/// for a cause other than memory and a site or packet that is not there.
 pub fn none_refused()
     ensures delivery { InEachRun (λ now items. records_made items ≤ most_known
         → (site number : ℕ) → HasSite now site → HasPacket now number → IsAccepted now (delivered site number)) }
@@ -40,7 +40,7 @@ pub fn none_refused()
 {}
 
 /// The law that in each run each site holds every item that it made, and no site and no packet holds
-/// an item that nobody made; it does nothing.
+/// an item that nobody made.
 pub fn only_made_items()
     ensures held { InEachRun (λ now items. (one : Making) → Contains items one → HasItem (content_at now one.site) one.item) }
     ensures at_sites { InEachRun (λ now items. (site : ℕ) (item : Item) → HasItem (content_at now site) item → WasMade items item) }
@@ -48,7 +48,7 @@ pub fn only_made_items()
 {}
 
 /// The law that in each run each record of a site or of a packet is of a bound of the plan, and one that says that an event was executed
-/// fixes its time; it does nothing.
+/// fixes its time.
 pub fn records_are_bounds()
     ensures { InEachRun (λ now items. (state : Content) → Contains (states_of now) state → (id : SiteCounter) → (one : Record) → HasItem state (addition id one)
         → IsRecordOf (events_of now.source) one) }
@@ -61,7 +61,7 @@ pub fn amendments_are_whole()
 {}
 
 /// The law that in each run what a site took from a packet or from another site it holds ever after,
-/// whole: after the delivery or merge that was accepted, and after any further steps. It does nothing.
+/// whole: after the delivery or merge that was accepted, and after any further steps.
 pub fn held_ever_after()
     ensures delivered { InEachRun (λ now items. (site number : ℕ) → IsAccepted now (delivered site number)
         → (rest : List Step) → IsPart (packet_at now number) (content_at (run now (delivered site number ∷ rest)) site)) }
@@ -69,7 +69,7 @@ pub fn held_ever_after()
         → (rest : List Step) → IsPart (content_at now other) (content_at (run now (merged site other ∷ rest)) site)) }
 {}
 
-/// The law that two sites of a world that hold the same items print the same bytes; it does nothing.
+/// The law that two sites of a world that hold the same items print the same bytes.
 pub fn same_items_print_same()
     ensures { (world : World) (site other : ℕ) → ((item : Item) → HasItem (content_at world site) item ↔ HasItem (content_at world other) item)
         → (text last : List ℕ) → IsReport world.source (content_at world site) text → IsReport world.source (content_at world other) last → text ≡ last }
@@ -79,7 +79,7 @@ pub fn same_items_print_same()
 
 /// The law that in each run a bound that was withdrawn or replaced at a site, or came there as withdrawn
 /// or replaced by a packet or a merge, is never live there afterwards, even where its record comes
-/// later; it does nothing.
+/// later.
 pub fn withdrawn_for_good()
     ensures { InEachRun (λ now items. (step : Step) (site : ℕ) (id : SiteCounter) → IsAccepted now step → Replaces (Brings now step site) id
         → (rest : List Step) → is_live (content_at (run now (step ∷ rest)) site) id ≡ false) }
@@ -88,7 +88,7 @@ pub fn withdrawn_for_good()
 /// The law of acting out of contact. Take a world in any run in which each site holds a guarded state, and beside it nothing is
 /// held but records of bounds that are the own of the sites that made them. While from then on each site only adds bounds and
 /// executions of its own, and its own bounds keep a schedule, all that any site holds has one, whatever is merged or
-/// delivered. It does nothing.
+/// delivered.
 pub fn guarded_sites_keep_schedules()
     ensures { InEachRun (λ start items. (owner : ℕ → ℕ) (state : Content) → HoldsGuarded owner state start
         → (steps : List Step) → All (KeepsToOwn owner) steps → HaveOwnSchedules owner (run start steps) → HaveSchedules (run start steps)) }
@@ -96,9 +96,9 @@ pub fn guarded_sites_keep_schedules()
 
 /// The law that two sites of one plan, in one world or in two, that took the same additions and
 /// withdrawals, in any order, more than once or merged in any grouping, have the same records and the
-/// same replaced ids and report the same bytes; it does nothing. An amendment is the addition of its
-/// record and the withdrawal of the id that it replaces, so it prints as these two would. Sites that
-/// took the same items hold the same.
+/// same replaced ids and report the same bytes. An amendment is the addition of its record and the
+/// withdrawal of the id that it replaces, so it prints as these two would. Sites that took the same
+/// items hold the same.
 pub fn sites_took_same_same_bytes()
     ensures bytes { (source : PlanSource) (sites others : ℕ) (ours theirs : List Step)
         → (site other : ℕ) → HasSite (opening_world source sites) site → HasSite (opening_world source others) other
