@@ -12,7 +12,7 @@ use Rattle.stn_command.specs.Words.{and_then, named, no_such_word}
 abbrev pub digits_read : List ℕ → Result ℕ Failure
 digits_read word = named (number_of word)
 
--- what stands before the first of these bytes, and what behind it; none where there is no such byte
+-- what stands before the first of these bytes, and what after it; none where there is no such byte
 abbrev pub around : ℕ → List ℕ → Option (List ℕ × List ℕ)
 around mark word = if nat_lt (position_or_len (λ byte. byte == mark) word) (length word)
     then Some (before_first (λ byte. byte == mark) word, after_first (λ byte. byte == mark) word) else None

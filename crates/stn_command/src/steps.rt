@@ -187,7 +187,7 @@ fn read_digits(word: &str) -> Result<u32, Failure>
     }
 }
 
-// The parts of a word before the first mark and behind it, where it has one.
+// The parts of a word before the first mark and after it, where it has one.
 fn around<'a>(word: &'a str, mark: char) -> Option<(&'a str, &'a str)>
     requires { mark < 128 }
     ensures { option_map (λ parts. (parts.0.now, parts.1.now)) result ≡ named.around mark word.now }

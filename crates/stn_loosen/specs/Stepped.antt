@@ -5,7 +5,7 @@ use Rattle.stn_net.specs.{Difference.Difference, Difference.IsBoundWithin, Sched
 use Rattle.stn_loosen.specs.{declared.span.Span.Span, declared.fault.RobustFault.RobustFault, Loosened.AreKept, Making.all_bounds}
 use Rattle.stn_loosen.specs.declared.fault.RobustFault.TheVariants.{Full, NotRobust, Memory}
 
--- the durations of steps one behind the other, after so many others
+-- the durations of steps one after the other, after so many others
 abbrev pub AreSteps : ℕ → List Difference → Type 0
 AreSteps before [] = Unit {0}
 AreSteps before (duration ∷ durations) = ((duration.from ≡ 2 * before + 1) × (duration.to ≡ 2 * before + 2)) × AreSteps (before + 1) durations

@@ -5,7 +5,7 @@ use Rattle.stn_lift.specs.PlanSource.{PlanSource}
 use Rattle.stn_loosen.specs.{declared.fault.RobustFault.RobustFault, Slack.Slack, Robust.HasPromise, Robust.AreRobust}
 use Rattle.stn_loosen.specs.declared.fault.RobustFault.TheVariants.{Full, NotRobust, Memory}
 
--- these are the records of the robust plan behind those of the loosened one
+-- these are the records of the robust plan after those of the loosened one
 pub record IsMadeRobust (source : PlanSource) (slack : Slack) (loosened records : List Difference) : Type 0 where
   pub are_robust : AreRobust source slack records
   pub behind : are_robust.loosened ≡ loosened

@@ -1,4 +1,4 @@
-//! The records of a loosened plan, one after the other, with the matrix of their bounds; and those of the robust plan behind them, with a
+//! The records of a loosened plan, one after the other, with the matrix of their bounds; and those of the robust plan after them, with a
 //! network of all bounds, since each bound on starts would move most entries of the matrix.
 
 ghost use Rattle.std.specs.Prelude.{◌≡◌, ◌+◌, ◌≤◌, ◌↔◌, ◌++◌, ◌∷◌, [], pos, ◌≤ℤ◌, List, length, map, All, IsTrue, IfOk, IfErr, OnOk};

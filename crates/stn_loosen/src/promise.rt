@@ -54,7 +54,7 @@ pub fn robust<A: Allocator + Copy>(
     Ok(making.records)
 }
 
-// Makes the bounds on starts behind the records of the loosened plan, however many there are.
+// Makes the bounds on starts after the records of the loosened plan, however many there are.
 fn make_robust<A: Allocator + Copy>(
     alloc: A,
     base: &Base<A>,

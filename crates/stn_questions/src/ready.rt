@@ -148,7 +148,7 @@ fn ready_events<A: Allocator + Copy>(
     Ok(ready)
 }
 
-// The same, by their numbers.
+// The events that are ready from now on, in the order of their numbers.
 fn ready_by_number<A: Allocator + Copy>(
     alloc: A,
     matrix: &Matrix<A>,

@@ -63,7 +63,7 @@ beginning entries unread out err = record {
   refused = false;
 }
 
--- the words of a command line, by those of a line of the shell: LOG and SITE stand behind the command, but for the one of no log
+-- the words of a command line, by those of a line of the shell: LOG and SITE stand after the command, but for the one of no log
 abbrev pub line_words : Text → Text → List Text → List Text
 line_words log site [] = codes "stn" ∷ []
 line_words log site (command ∷ words) =
@@ -129,7 +129,7 @@ HasNoReply Fails log number words before after err told failure = (after ≡ bef
     × (((fault : Fault) × (failure ≡ Failed fault) × IsUndoneLine Fails log number words before err told failure)
     ⊎ ((refusal : Refusal) × (failure ≡ out_of_memory) × IsUndoneLine Fails log number words before err told (Refused refusal)))
 
--- a line was read and nothing behind it
+-- a line was read and nothing after it
 pub record ReadsLine (line : List ℕ) (old new : Standing) : Type 0 where
   pub bytes : List ℕ
   pub are : AreOfLine line new.unread.bytes bytes

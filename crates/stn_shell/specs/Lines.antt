@@ -10,7 +10,7 @@ use Rattle.stn_device.specs.declared.whole.ReadFault.TheVariants.{Bound}
 abbrev pub AreWithinLine : List ℕ → Type 0
 AreWithinLine = AllByRecursion (λ byte. byte ≢ line_feed)
 
--- the bytes of a line: up to its LF, or to the end of the input, which stands behind a byte at least
+-- the bytes of a line: up to its LF, or to the end of the input, which comes after at least one byte
 abbrev pub AreOfLine : List ℕ → Option (List ℕ) → List ℕ → Type 0
 AreOfLine line after bytes = AreWithinLine line
     × ((bytes ≡ line ++ line_feed ∷ []) ⊎ ((bytes ≡ line) × (line ≢ []) × IsAtEnd after))

@@ -242,7 +242,7 @@ fn reply<S: Store, E: Write>(
     }
 }
 
-// The words of the command line that a line asks for; none where one is no text. LOG and SITE stand behind the command, but for the
+// The words of the command line that a line asks for; none where one is no text. LOG and SITE stand after the command, but for the
 // one of no log.
 fn read_words<'a>(
     alloc: Global,
@@ -273,7 +273,7 @@ fn read_words<'a>(
     }
 }
 
-// Words, and those of a text behind them; none where one of the text is no text.
+// Words, and those of a text after them; none where one of the text is no text.
 fn read_further<'a>(before: Vec<&'a str>, text: &'a [u8]) -> Result<Option<Vec<&'a str>>, Memory>
     ensures words { IfOk result (λ read. IfSome read (λ words. map (λ word. word.now) words.items
         ≡ map (λ word. word.now) before.entry.items ++ words_of text.entry.now)) }

@@ -10,7 +10,7 @@ use std::io::Read;
 use stn_device::{Counted, ReadFault};
 use stn_text::LINE_FEED;
 
-/// The next line of an input, without its LF, which the last may lack; none at the end. No byte behind the line is read: the reader
+/// The next line of an input, without its LF, which the last may lack; none at the end. No byte after the line is read: the reader
 /// is asked for one after the other. `room` says how many bytes may still be read; one more shows that the input is too long.
 pub fn read_line<R: Read>(
     alloc: Global,
