@@ -1,5 +1,5 @@
 -- Which bounds a matrix shows to be implied, and the matrix with one bound more.
-use Rattle.std.proofs.Common.{◌≡◌, ℤ, ◌≤ℤ◌, neg_ℤ, ◌↔◌, Bool, true, IsTrue, List, [], ◌∷◌, ◌++◌, sym, ap, subst, ◌∙◌, append_assoc}
+use Rattle.std.proofs.Common.{◌≡◌, ℤ, ◌≤ℤ◌, neg_ℤ, ◌↔◌, Bool, IsTrue, List, [], ◌∷◌, ◌++◌, sym, ap, subst, ◌∙◌, append_assoc}
 use Rattle.std.proofs.lemmas.Int.{ints}
 use Rattle.std.proofs.Common.{arith}
 use Rattle.stn_net.specs.{Difference.Difference, Difference.NamesEvents, Horizon.horizon_bounds, Schedule.IsSchedule, Schedule.HasSchedule}
