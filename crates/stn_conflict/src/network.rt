@@ -20,9 +20,9 @@ use stn_time::{Memory, Ms};
 pub struct Network<A: Allocator> {
     events: u16,
     bounds: Vec<Bound, A>,
-    // The links of the bounds, as far as they were needed.
+    // The links of the bounds, as of the last question.
     rows: Rows<A>,
-    // How late each event can come, as far as it was needed: a search that goes on with more bounds.
+    // How late each event can come, as of the last question: a search that goes on with the bounds pushed since.
     latest: Search<A>,
     search: Search<A>,
 }

@@ -155,6 +155,7 @@ impl<A: Allocator + Copy> Making<A> {
         for bound in bounds {
             self.make_sides(&mut network, durations, bound)?;
         }
+        // There may be no schedule with the bounds that were made last.
         is_within(&mut network, Event::origin(), Event::origin(), 0)?;
         Ok(())
     }
@@ -202,7 +203,8 @@ impl<A: Allocator + Copy> Making<A> {
         Ok(())
     }
 
-    // Whether the bounds so far imply the side of another: it is enough if those of the matrix do. The open side is implied anyway.
+    // Whether the bounds so far imply another with an open side, which the horizon implies: where those of the matrix imply it, all do; else
+    // the network tells of the other side.
     fn implies(&self, network: &mut Network<A>, side: &Span) -> Result<bool, RobustFault>
         requires searched { IsSearched self.now.records.items self.now.matrix network.old }
         requires named { NamesEvents self.now.matrix.events (as_bound side.now) }
