@@ -1,5 +1,5 @@
 -- Replies that come one after the other.
-use Rattle.std.proofs.Common.{◌≡◌, ℕ, ◌+◌, ◌≤◌, List, [], ◌∷◌, ◌++◌, length, ◌⊎◌, Option, Result, Ok, Err, refl, sym, ap, subst, ◌∙◌, inl, inr, ⊎_elim, arith, append_assoc, append-nil, length-append}
+use Rattle.std.proofs.Common.{◌≡◌, ℕ, ◌+◌, List, [], ◌∷◌, ◌++◌, length, ◌⊎◌, Option, Result, Ok, Err, refl, sym, ap, subst, ◌∙◌, inl, inr, ⊎_elim, arith, append_assoc, append-nil, length-append}
 use Rattle.std.specs.Prelude.{flat_map, IfOk, IfErr, OnOk, OnErr}
 use Rattle.std.specs.Io.KnownBytes.{Consumes}
 use Rattle.std.proofs.KnownBytes.{Consumes-nil, Consumes-trans}
@@ -15,7 +15,7 @@ use Rattle.stn_stream.specs.declared.fault.FrameFault.{FrameFault}
 use Rattle.stn_stream.specs.declared.fault.StreamFault.{StreamFault}
 use Rattle.stn_stream.specs.declared.fault.StreamFault.TheVariants as stream
 use Rattle.stn_stream.specs.Stream.{unread, pending, Gives}
-use Rattle.stn_session.specs.Exchange.{Stage, greeting, handing, telling, told, failed, Reception, at_stage, expecting, greeted_by, handed, told_by, staged, reply_fault, IsWaiting, IsLost, IsReceived, seen}
+use Rattle.stn_session.specs.Exchange.{Stage, greeting, handing, telling, told, failed, Reception, at_stage, expecting, greeted_by, handed, told_by, staged, reply_fault, IsWaiting, IsReception, IsReceived, seen}
 use Rattle.stn_session.specs.Turns.{Finds, Came, Leads}
 use Rattle.stn_session.specs.declared.exchange.ReplyFault.{ReplyFault}
 use Rattle.stn_session.specs.declared.exchange.ReplyFault.TheVariants.{Frame, Reply, Read, Memory}
@@ -67,42 +67,11 @@ frame_came source first before after rest taken stage state p frame later is fro
   came = sym leads ∙ (ap (λ r. received source r frame) p.came ∙ sym (fold-append (received source) (expecting first) p.frames (frame ∷ [])));
 }
 
--- the text came
-pub text_came : (source : PlanSource) (first : Content) (before after : Option (List ℕ)) (rest : List ℕ) (taken : ℕ) (bytes : List ℕ) (state : Content)
-    → Came source first before after rest taken (told bytes) state → taken ≤ 16777216 → IsReceived source first before after state (Ok bytes)
-text_came source first before after rest taken bytes state p few = record {
-  bytes = p.bytes;
-  frames = p.frames;
-  rest = rest;
-  reception = at_stage (told bytes) state;
-  consumed = p.consumed;
-  each = p.each;
-  cut = p.cut;
-  came = p.came;
-  is = (omega (arith, few, p.many), refl);
-  left = refl;
-}
-
--- a frame was refused
-pub refusal_came : (source : PlanSource) (first : Content) (before after : Option (List ℕ)) (rest : List ℕ) (taken : ℕ) (fault : ReplyFault) (state : Content)
-    → Came source first before after rest taken (failed fault) state → taken ≤ 16777216 → IsReceived source first before after state (Err fault)
-refusal_came source first before after rest taken fault state p few = record {
-  bytes = p.bytes;
-  frames = p.frames;
-  rest = rest;
-  reception = at_stage (failed fault) state;
-  consumed = p.consumed;
-  each = p.each;
-  cut = p.cut;
-  came = p.came;
-  is = inl (omega (arith, few, p.many), refl);
-  left = refl;
-}
-
--- no further frame came
-pub lost : (source : PlanSource) (first : Content) (before after : Option (List ℕ)) (rest : List ℕ) (taken : ℕ) (stage : Stage) (state : Content)
-    → Came source first before after rest taken stage state → IsWaiting stage → (fault : ReplyFault) → IsLost rest taken after fault → IsReceived source first before after state (Err fault)
-lost source first before after rest taken stage state p waits fault is = record {
+-- a stage ends in a text or a fault
+pub stage_ends : (source : PlanSource) (first : Content) (before after : Option (List ℕ)) (rest : List ℕ) (taken : ℕ) (stage : Stage) (state : Content)
+    → Came source first before after rest taken stage state → (answer : Result (List ℕ) ReplyFault) → IsReception (at_stage stage state) rest taken after answer
+    → IsReceived source first before after state answer
+stage_ends source first before after rest taken stage state p answer is = record {
   bytes = p.bytes;
   frames = p.frames;
   rest = rest;
@@ -111,7 +80,7 @@ lost source first before after rest taken stage state p waits fault is = record 
   each = p.each;
   cut = p.cut;
   came = p.came;
-  is = inr (waits, subst (λ n. IsLost rest n after fault) p.many is);
+  is = subst (λ n. IsReception (at_stage stage state) rest n after answer) p.many is;
   left = refl;
 }
 
@@ -119,7 +88,7 @@ lost source first before after rest taken stage state p waits fault is = record 
 module _ (source : PlanSource) (first : Content) (before mid after : Option (List ℕ)) (old new : Stream) (stage : Stage) (state : Content)
     (p : Came source first before mid (pending old) old.count stage state) where
   pub next_lost : {A : Type 0} → IsWaiting stage → (fault : ReplyFault) → Finds {A = A} old new mid after (Err fault) → IsReceived source first before after state (Err fault)
-  next_lost waits fault f = lost source first before after _ _ stage state (read_on source first before mid (pending old) old.count stage state p after f.bytes f.consumed) waits fault f.found
+  next_lost waits fault f = stage_ends source first before after _ _ stage state (read_on source first before mid (pending old) old.count stage state p after f.bytes f.consumed) (Err fault) (inr (waits, f.found))
 
   module _ {A : Type 0} (frame : WireFrame A) (f : Finds old new mid after (Ok frame)) where
     pub next_came : (next : Stage) (left : Content) → staged source stage state (content frame) ≡ at_stage next left → Came source first before after (pending new) new.count next left
@@ -128,13 +97,13 @@ module _ (source : PlanSource) (first : Content) (before mid after : Option (Lis
         (content frame) (pending new) f.found.0 f.found.1 new.count f.found.3 next left leads
 
     pub next_refused : (fault : ReplyFault) → staged source stage state (content frame) ≡ at_stage (failed fault) state → IsReceived source first before after state (Err fault)
-    next_refused fault leads = refusal_came source first before after (pending new) new.count fault state (next_came (failed fault) state leads) (omega (arith, f.found.3, f.found.4))
+    next_refused fault leads = stage_ends source first before after (pending new) new.count (failed fault) state (next_came (failed fault) state leads) (Err fault) (inl (omega (arith, f.found.3, f.found.4), refl))
 
     -- lack of memory: the frame is not taken
     pub next_kept : IsWaiting stage → IsReceived source first before after state (Err Memory)
     next_kept waits =
-        lost source first before after _ _ stage state (read_on source first before mid (pending old) old.count stage state p after f.bytes f.consumed) waits Memory
-        f.found.4
+        stage_ends source first before after _ _ stage state (read_on source first before mid (pending old) old.count stage state p after f.bytes f.consumed) (Err Memory)
+        (inr (waits, f.found.4))
 
     pub next_taken : IsWaiting stage → (now : Content) → now ≡ state → (fault : ReplyFault) → (fault ≡ Memory) ⊎ (staged source stage state (content frame) ≡ at_stage (failed fault) state)
         → IsReceived source first before after now (Err fault)
@@ -147,9 +116,9 @@ pub text_answered : {A T : Type 0} (source : PlanSource) (first : Content) (befo
     → (view : T → List ℕ) (answer : Result T ReplyFault) → IfOk answer (λ given. content frame ≡ text (view given))
     → IfErr answer (λ fault. (s : Content) → told_by s (content frame) ≡ at_stage (failed fault) s) → IsReceived source first before after state (seen view answer)
 text_answered source first before mid after old new state p frame f view (Ok given) is why =
-    text_came source first before after (pending new) new.count (view given) state
+    stage_ends source first before after (pending new) new.count (told (view given)) state
     (next_came source first before mid after old new telling state p frame f (told (view given)) state (ap (told_by state) is))
-    (omega (arith, f.found.3, f.found.4))
+    (Ok (view given)) (omega (arith, f.found.3, f.found.4), refl)
 text_answered source first before mid after old new state p frame f view (Err fault) is why = next_refused source first before mid after old new telling state p frame f fault (why state)
 
 -- ---- a reply that was read leads on, or refuses

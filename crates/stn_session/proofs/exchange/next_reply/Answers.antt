@@ -6,7 +6,7 @@ use Rattle.stn_stream.specs.declared.fault.StreamFault.{StreamFault}
 use Rattle.stn_stream.specs.declared.fault.StreamFault.TheVariants as stream
 use Rattle.stn_session.specs.Exchange.{reply_fault}
 use Rattle.stn_session.specs.declared.exchange.ReplyFault.TheVariants.{Read}
-use Rattle.stn_session.proofs.Answered.{fault_or, not_err}
+use Rattle.stn_device.proofs.Known.{fault_or, not_err}
 use Rattle.stn_session.proofs.Exchanges.{stream_read, stream_lost, frame_unread, reply_unread}
 use Rattle.stn_session.proofs.exchange.next_reply.Goals as goal
 

@@ -7,7 +7,8 @@ use Rattle.stn_device.specs.Bytes.{AppendsPart}
 use Rattle.stn_device.specs.Counted.{counted_device}
 use Rattle.stn_session.specs.Exchange.{request_bytes}
 use Rattle.stn_session.specs.declared.exchange.SendFault.TheVariants.{Write, Memory}
-use Rattle.stn_session.proofs.Answered.{fault_or, not_err, fails_more}
+use Rattle.stn_device.proofs.Known.{fault_or, not_err}
+use Rattle.stn_session.proofs.Answered.{fails_more}
 use Rattle.stn_session.proofs.exchange.send_requests.Goals as goal
 
 apart : Write ≡ Memory → ⊥

@@ -1,7 +1,7 @@
 use Rattle.std.proofs.Common.{Err, refl, ap}
 use Rattle.std.proofs.lemmas.Result.{err_from_is_err_and}
 use Rattle.stn_session.specs.declared.exchange.ReplyFault.TheVariants.{Read}
-use Rattle.stn_session.proofs.Answered.{fault_or, not_err}
+use Rattle.stn_device.proofs.Known.{fault_or, not_err}
 use Rattle.stn_session.proofs.Exchanges.{next_lost, next_refused, records_answered}
 use Rattle.stn_session.proofs.exchange.take_records.Goals as goal
 

@@ -10,7 +10,7 @@ use Rattle.stn_device.specs.Bytes.{AppendsPart}
 use Rattle.stn_device.specs.Counted.{counted_device}
 use Rattle.stn_session.specs.declared.session.KeepingFault.TheVariants.{Serve, Keep}
 use Rattle.stn_session.specs.declared.session.ServeFault.TheVariants.{Write, Memory}
-use Rattle.stn_session.proofs.Answered.{fault_or, not_err}
+use Rattle.stn_device.proofs.Known.{fault_or, not_err}
 use Rattle.stn_session.proofs.Sessions.{turn_kept, turn_changed}
 use Rattle.stn_session.proofs.session.answer_frame.Goals as goal
 

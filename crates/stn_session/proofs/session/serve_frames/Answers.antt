@@ -14,7 +14,8 @@ use Rattle.stn_session.specs.Turns.{WroteKept}
 use Rattle.stn_session.specs.declared.session.KeepingFault.TheVariants.{Serve}
 use Rattle.stn_session.specs.declared.session.ServeFault.{ServeFault}
 use Rattle.stn_session.specs.declared.session.ServeFault.TheVariants.{Read, Memory}
-use Rattle.stn_session.proofs.Answered.{fault_or, serve_fault_or, not_err, fails_more}
+use Rattle.stn_device.proofs.Known.{fault_or, not_err}
+use Rattle.stn_session.proofs.Answered.{serve_fault_or, fails_more}
 use Rattle.stn_session.proofs.Sessions.{begun, closes, cuts, stream_fails, stream_read, stream_unwritten, answer_unread, refusal_unread, refuses, refusal_fails, frame_fails, frame_answered, frame_ends}
 use Rattle.stn_stream.proofs.Streams.{count_fits, measure_falls}
 use Rattle.stn_session.proofs.session.serve_frames.Goals as goal
