@@ -2,7 +2,8 @@ use Rattle.std.proofs.Common.{Ok, refl, sym, subst, ◌∙◌}
 use Rattle.std.proofs.lemmas.Result.{err_from_is_err_and}
 use Rattle.stn_device.specs.Counted.{counted_device}
 use Rattle.stn_log.specs.Log.{Log, IsDecided}
-use Rattle.stn_log.proofs.{Answered.not_err, Answered.not_read, Answered.not_bound, Saved.same_log}
+use Rattle.stn_device.proofs.Known.{not_err}
+use Rattle.stn_log.proofs.{Answered.not_read, Answered.not_bound, Saved.same_log}
 use Rattle.stn_log.proofs.reading.load.Goals as goal
 
 pub returns-in_err-plan : goal.returns-in_err-plan

@@ -1,6 +1,7 @@
 use Rattle.std.proofs.Common.{Err, refl, ap}
 use Rattle.stn_log.specs.declared.fault.LoadFault.TheVariants.{Read}
-use Rattle.stn_log.proofs.Answered.{fault_or, not_err, not_read, not_bound}
+use Rattle.stn_device.proofs.Known.{fault_or, not_err}
+use Rattle.stn_log.proofs.Answered.{not_read, not_bound}
 use Rattle.stn_log.proofs.reading.load_plan.Goals as goal
 
 pub returns-in-Err : goal.returns-in-Err

@@ -1,7 +1,8 @@
 use Rattle.std.proofs.Common.{refl, ◌∙◌}
 use Rattle.std.proofs.lemmas.Result.{err_from_is_err_and}
 use Rattle.stn_lift.specs.PlanSource.{plan_source}
-use Rattle.stn_log.proofs.{Answered.not_err, Answered.not_read, Answered.not_bound, Answered.base_not_cut, Takes.base_refused, Takes.base_opens}
+use Rattle.stn_device.proofs.Known.{not_err}
+use Rattle.stn_log.proofs.{Answered.not_read, Answered.not_bound, Answered.base_not_cut, Takes.base_refused, Takes.base_opens}
 use Rattle.stn_log.proofs.reading.open_by.Goals as goal
 
 pub returns-in_err-base : goal.returns-in_err-base

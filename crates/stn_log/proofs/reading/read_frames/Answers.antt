@@ -5,7 +5,8 @@ use Rattle.stn_stream.specs.{Held.Stream, Stream.pending, Stream.wire_fault, dec
 use Rattle.stn_stream.proofs.Streams.{measure_falls}
 use Rattle.stn_stream.specs.declared.fault.StreamFault.TheVariants as stream
 use Rattle.stn_log.specs.{Faults.of_stream, declared.fault.LoadFault.TheVariants.Read}
-use Rattle.stn_log.proofs.Answered.{fault_or, not_err, fails_more, not_read, not_bound}
+use Rattle.stn_device.proofs.Known.{fault_or, not_err}
+use Rattle.stn_log.proofs.Answered.{fails_more, not_read, not_bound}
 use Rattle.stn_log.proofs.Progress.{begun, read_on, used_within, next_held, refuses, shows_fault, closed, cuts, stream_fails, stream_open, stream_used, stream_bound, stream_read}
 use Rattle.stn_log.proofs.reading.read_frames.Goals as goal
 

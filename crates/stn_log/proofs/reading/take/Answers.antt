@@ -1,5 +1,5 @@
 use Rattle.std.proofs.Common.{refl}
-use Rattle.stn_log.proofs.Answered.{not_err}
+use Rattle.stn_device.proofs.Known.{not_err}
 use Rattle.stn_log.proofs.reading.take.Goals as goal
 
 pub returns-in_ok-opened-in-None : goal.returns-in_ok-opened-in-None

@@ -4,7 +4,8 @@ use Rattle.std.specs.Io.KnownBytes.{Appends}
 use Rattle.stn_device.specs.{Bytes.AppendsPart, Counted.counted_device}
 use Rattle.stn_log.specs.Log.{log_held, log_text}
 use Rattle.stn_log.specs.declared.fault.SaveFault.TheVariants.{Write, Memory}
-use Rattle.stn_log.proofs.Answered.{fault_or, not_err, fails_more}
+use Rattle.stn_device.proofs.Known.{fault_or, not_err}
+use Rattle.stn_log.proofs.Answered.{fails_more}
 use Rattle.stn_log.proofs.writing.save_plan.Goals as goal
 
 apart : Write ≡ Memory → ⊥
