@@ -12,7 +12,8 @@ use Rattle.stn_log.specs.Log.{log_held}
 use Rattle.stn_device.specs.Partner.{PartnerState}
 use Rattle.stn_session.specs.Session.{Session, advanced, opening}
 use Rattle.stn_session.specs.Serving.{IsInputEnd}
-use Rattle.stn_session.proofs.Answered.{fault_or, serve_fault_or, not_err}
+use Rattle.stn_device.proofs.Known.{fault_or, not_err}
+use Rattle.stn_session.proofs.Answered.{serve_fault_or}
 use Rattle.stn_session.specs.declared.session.KeepingFault.{KeepingFault}
 use Rattle.stn_session.specs.Keeping.{KeepsChange, KeepsEach, KeepsLast, IsKept, IsKeptBroken, IsUnkept, IsCutShort}
 use Rattle.stn_session.specs.declared.session.KeepingFault.TheVariants.{Serve, Keep}
