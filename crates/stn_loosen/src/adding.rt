@@ -5,7 +5,7 @@ ghost use Rattle.stn_lift.specs.PlanSource.{bare, steps_of, base_bounds, events_
 ghost use Rattle.stn_records.specs.Content.{no_content, with_record};
 ghost use Rattle.stn_site.specs.Held.{next_id, plain};
 ghost use Rattle.stn_site.specs.Bounds.{all_bounds};
-ghost use Rattle.stn_loosen.specs.Loosened.{orders_of, loose_durations, Imply, AreFewLoosened};
+ghost use Rattle.stn_loosen.specs.Loosened.{orders_of, loose_durations, bounds_with, Imply, AreFewLoosened};
 ghost use Rattle.stn_loosen.specs.Promise.{Promises};
 ghost use Rattle.stn_loosen.specs.Robust.{loose_bounds, HasPromise, AreFewRobust};
 ghost use Rattle.stn_loosen.specs.Faults.{IsCause, IsRobustCause};
@@ -48,9 +48,7 @@ pub fn loosened_site_plan<A: Allocator + Copy>(
     ensures fault { IfErr result (IsCause base.now tolerance) }
 {
     let records = loosened(alloc, base, tolerance)?;
-    let mut plan = bare_site_plan(alloc, site, base.steps())?;
-    add_all(&mut plan, &records)?;
-    Ok(plan)
+    Ok(plan_with(alloc, site, base, &records)?)
 }
 
 /// The same with the records of the robust plan, under which it completes however long its steps take.
@@ -80,8 +78,25 @@ pub fn robust_site_plan<A: Allocator + Copy>(
     ensures fault { IfErr result (IsRobustCause base.now tolerance) }
 {
     let records = robust(alloc, base, tolerance)?;
+    Ok(plan_with(alloc, site, base, &records)?)
+}
+
+// A site's copy of a bare plan with as many steps, which holds plain records of these bounds and nothing else.
+fn plan_with<A: Allocator + Copy>(
+    alloc: A,
+    site: Site,
+    base: &Base<A>,
+    bounds: &[Bound],
+) -> Result<SitePlan<A>, Memory>
+    ensures site { IfOk result (λ plan. plan.site ≡ site) }
+    ensures source { IfOk result (λ plan. plan.source ≡ bare (steps_of base.now)) }
+    ensures holds { IfOk result (λ plan. Holds site bounds.now plan.state) }
+    ensures bounds { IfOk result (λ plan. all_bounds plan.source plan.state ≡ bounds_with base.now bounds.now) }
+{
     let mut plan = bare_site_plan(alloc, site, base.steps())?;
-    add_all(&mut plan, &records)?;
+    for bound in bounds {
+        add_bound(&mut plan, *bound)?;
+    }
     Ok(plan)
 }
 
@@ -99,19 +114,6 @@ fn bare_site_plan<A: Allocator + Copy>(
         Ok(base) => Ok(SitePlan::new(alloc, site, Rc::new(alloc, base)?)),
         Err(_) => Err(Memory),
     }
-}
-
-// Adds bounds to a site's copy of a plan that holds nothing yet.
-fn add_all<A: Allocator + Copy>(plan: &mut SitePlan<A>, bounds: &[Bound]) -> Result<(), Memory>
-    requires { plan.old.state ≡ no_content }
-    ensures site { OnOk result (plan.new.site ≡ plan.old.site) }
-    ensures source { OnOk result (plan.new.source ≡ plan.old.source) }
-    ensures holds { OnOk result (Holds plan.old.site bounds.now plan.new.state) }
-{
-    for bound in bounds {
-        add_bound(plan, *bound)?;
-    }
-    Ok(())
 }
 
 // Adds a bound.

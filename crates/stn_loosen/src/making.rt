@@ -15,7 +15,7 @@ ghost use Rattle.stn_loosen.specs.Stepped.{AreSteps, as_bound, IsInReach, IsOpen
 ghost use Rattle.stn_loosen.specs.Making.{all_bounds, AreTaken, IsShown, IsSearched, IsNext, IsCauseAt, IsCauseOf, IsCauseWith};
 
 use crate::fault::{LoosenFault, RobustFault};
-use crate::span::{Span, moved_lower, moved_upper};
+use crate::span::{Span, moved_sides};
 use crate::tolerance::Tolerance;
 use std::alloc::Allocator;
 use stn_conflict::Network;
@@ -175,8 +175,7 @@ impl<A: Allocator + Copy> Making<A> {
         ensures events { self.new.matrix.events ≡ self.old.matrix.events }
         ensures fault { IfErr result (IsCauseBehind self.old.matrix.events self.old.records.items (moved_bounds durations.now (bound.now ∷ []))) }
     {
-        let upper = moved_upper(durations, bound);
-        let lower = moved_lower(durations, bound);
+        let (upper, lower) = moved_sides(durations, bound);
         self.make_side(network, &upper)?;
         self.make_side(network, &lower)
     }

@@ -75,34 +75,26 @@ fn setting_of(durations: &[Bound], event: Event) -> Span
     }
 }
 
-// The upper side of a bound, moved to the starts of the steps whose ends it names; the lower side is open.
-pub(crate) fn moved_upper(durations: &[Bound], bound: &Bound) -> Span
+// The upper and the lower side of a bound, each moved to the starts of the steps whose ends it names; the other side of each is open.
+pub(crate) fn moved_sides(durations: &[Bound], bound: &Bound) -> (Span, Span)
     requires { AreSteps 0 durations.now }
-    ensures value { as_bound result ≡ moved_upper durations.now bound.now }
-    ensures reach { IsInReach (as_bound result) }
+    ensures upper { as_bound result.0 ≡ moved_upper durations.now bound.now }
+    ensures lower { as_bound result.1 ≡ moved_lower durations.now bound.now }
+    ensures upper_reach { IsInReach (as_bound result.0) }
+    ensures lower_reach { IsInReach (as_bound result.1) }
 {
     let from = setting_of(durations, bound.from());
     let to = setting_of(durations, bound.to());
-    Span {
+    let upper = Span {
         from: from.from,
         to: to.from,
         lo: -HORIZON,
         hi: bound.hi().get() - to.hi + from.lo,
-    }
-}
-
-// Its lower side, moved so; the upper side is open.
-pub(crate) fn moved_lower(durations: &[Bound], bound: &Bound) -> Span
-    requires { AreSteps 0 durations.now }
-    ensures value { as_bound result ≡ moved_lower durations.now bound.now }
-    ensures reach { IsInReach (as_bound result) }
-{
-    let from = setting_of(durations, bound.from());
-    let to = setting_of(durations, bound.to());
-    Span {
-        from: from.from,
-        to: to.from,
+    };
+    let lower = Span {
         lo: bound.lo().get() - to.lo + from.hi,
         hi: HORIZON,
-    }
+        ..upper
+    };
+    (upper, lower)
 }

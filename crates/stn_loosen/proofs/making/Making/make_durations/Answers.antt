@@ -1,5 +1,4 @@
 use Rattle.std.proofs.Common.{◌∙◌}
-use Rattle.stn_loosen.specs.Slack.{loose}
 use Rattle.stn_loosen.proofs.Made.{made_more, duration_possible}
 use Rattle.stn_loosen.proofs.making.Making.make_durations.Goals as goal
 

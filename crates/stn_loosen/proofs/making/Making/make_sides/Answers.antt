@@ -7,11 +7,11 @@ use Rattle.stn_loosen.proofs.making.Making.make_sides.Goals as goal
 
 pub make_side-requires-clause-named : goal.make_side-requires-clause-named
 make_side-requires-clause-named g c =
-    subst (NamesEvents c.args.self.now.matrix.events) (sym c.moved_upper-upper.ensures.value) (upper_named c.args.durations.now c.requires.steps c.args.self.now.matrix.events c.args.bound.now c.requires.named)
+    subst (NamesEvents c.args.self.now.matrix.events) (sym c.moved_sides-upper.ensures.upper) (upper_named c.args.durations.now c.requires.steps c.args.self.now.matrix.events c.args.bound.now c.requires.named)
 
 pub make_side-requires-2-clause-named : goal.make_side-requires-2-clause-named
 make_side-requires-2-clause-named g c =
-    subst (NamesEvents c.make_side.new.self.matrix.events) (sym c.moved_lower-lower.ensures.value)
+    subst (NamesEvents c.make_side.new.self.matrix.events) (sym c.moved_sides-upper.ensures.lower)
     (subst (λ n. NamesEvents n (moved_lower c.args.durations.now c.args.bound.now)) (sym c.make_side.ensures.events)
     (lower_named c.args.durations.now c.requires.steps c.args.self.now.matrix.events c.args.bound.now c.requires.named))
 
@@ -21,7 +21,7 @@ returns-in_err-make_side-clause-fault g c =
     let upper = moved_upper c.args.durations.now c.args.bound.now in
     let lower = moved_lower c.args.durations.now c.args.bound.now in
     let returned = err_from_is_err_and c.from_residual.result c.from_residual.ensures.1 in
-    let fault = subst (λ (b : Difference). IsCauseBehind old.matrix.events old.records.items (b ∷ []) c.in_err-make_side.field-0.0) c.moved_upper-upper.ensures.value c.in_err-make_side.ensures.fault in
+    let fault = subst (λ (b : Difference). IsCauseBehind old.matrix.events old.records.items (b ∷ []) c.in_err-make_side.field-0.0) c.moved_sides-upper.ensures.upper c.in_err-make_side.ensures.fault in
     let cause = cause_behind old.matrix.events old.records.items [] (upper ∷ []) (lower ∷ []) old.records.items (none_made old.matrix.events old.records.items) c.in_err-make_side.field-0.0 fault in
     rw (returned.1, returned.2) cause
 
@@ -32,10 +32,10 @@ returns-clause-made g c =
     let lower = moved_lower c.args.durations.now c.args.bound.now in
     let middle = c.make_side.new.self.records.items in
     let new = c.make_side-2.new.self.records.items in
-    let first = subst (λ (b : Difference). AreMadeBehind old.matrix.events old.records.items (b ∷ []) middle) c.moved_upper-upper.ensures.value c.in_ok-make_side.ensures.made in
+    let first = subst (λ (b : Difference). AreMadeBehind old.matrix.events old.records.items (b ∷ []) middle) c.moved_sides-upper.ensures.upper c.in_ok-make_side.ensures.made in
     on_ok_weaker c.make_side-2.result
     (λ made. made_behind old.matrix.events old.records.items (upper ∷ []) (lower ∷ []) middle new first
-    (subst (λ n. AreMadeBehind n middle (lower ∷ []) new) c.make_side.ensures.events (subst (λ (b : Difference). AreMadeBehind c.make_side.new.self.matrix.events middle (b ∷ []) new) c.moved_lower-lower.ensures.value made)))
+    (subst (λ n. AreMadeBehind n middle (lower ∷ []) new) c.make_side.ensures.events (subst (λ (b : Difference). AreMadeBehind c.make_side.new.self.matrix.events middle (b ∷ []) new) c.moved_sides-upper.ensures.lower made)))
     c.make_side-2.ensures.made
 
 pub returns-clause-fault : goal.returns-clause-fault
@@ -44,9 +44,9 @@ returns-clause-fault g c =
     let upper = moved_upper c.args.durations.now c.args.bound.now in
     let lower = moved_lower c.args.durations.now c.args.bound.now in
     let middle = c.make_side.new.self.records.items in
-    let first = subst (λ (b : Difference). AreMadeBehind old.matrix.events old.records.items (b ∷ []) middle) c.moved_upper-upper.ensures.value c.in_ok-make_side.ensures.made in
-    IfErr-weaker c.make_side-2.result (IsCauseBehind c.make_side.new.self.matrix.events middle (as_bound c.moved_lower-lower.result ∷ [])) (IsCauseBehind old.matrix.events old.records.items (upper ∷ lower ∷ []))
+    let first = subst (λ (b : Difference). AreMadeBehind old.matrix.events old.records.items (b ∷ []) middle) c.moved_sides-upper.ensures.upper c.in_ok-make_side.ensures.made in
+    IfErr-weaker c.make_side-2.result (IsCauseBehind c.make_side.new.self.matrix.events middle (as_bound c.moved_sides-upper.result.1 ∷ [])) (IsCauseBehind old.matrix.events old.records.items (upper ∷ lower ∷ []))
     (λ fault cause. cause_behind old.matrix.events old.records.items (upper ∷ []) (lower ∷ []) [] middle first fault
     (subst (λ n. IsCauseBehind n middle (lower ∷ []) fault) c.make_side.ensures.events
-    (subst (λ (b : Difference). IsCauseBehind c.make_side.new.self.matrix.events middle (b ∷ []) fault) c.moved_lower-lower.ensures.value cause)))
+    (subst (λ (b : Difference). IsCauseBehind c.make_side.new.self.matrix.events middle (b ∷ []) fault) c.moved_sides-upper.ensures.lower cause)))
     c.make_side-2.ensures.fault

@@ -1,17 +1,21 @@
-use Rattle.std.proofs.Common.{◌≡◌, ◌+◌, [], ◌∷◌, ◌++◌, take, refl, sym, ap, subst, ◌∙◌}
-use Rattle.std.proofs.lemmas.List.{take_more}
+use Rattle.std.proofs.Common.{◌≡◌, ◌+◌, [], ◌∷◌, ◌++◌, take, refl, sym, ap, subst, ◌∙◌, arith}
+use Rattle.std.proofs.lemmas.List.{take_more, take_all}
 use Rattle.stn_records.specs.Content.{next_counter, with_record}
-use Rattle.stn_site.specs.Held.{plain}
+use Rattle.stn_site.specs.{Held.plain, Bounds.all_bounds}
 use Rattle.stn_loosen.specs.Numbered.{Holds}
-use Rattle.stn_loosen.proofs.NumberedStates.{holds_none, holds_more}
-use Rattle.stn_loosen.proofs.adding.add_all.Goals as goal
+use Rattle.stn_loosen.proofs.NumberedStates.{holds_none, holds_more, all_are}
+use Rattle.stn_loosen.proofs.adding.plan_with.Goals as goal
 
 pub loop-bound-init : goal.loop-bound-init
-loop-bound-init g c = record { site = refl; source = refl; holds = holds_none c.args.plan.now.site c.args.plan.now.state c.requires }
+loop-bound-init g c = record {
+  site = c.in_ok-plan.ensures.site;
+  source = c.in_ok-plan.ensures.source ∙ rw c.steps.ensures.value refl;
+  holds = holds_none c.args.site c.in_ok-plan.plan.state c.in_ok-plan.ensures.empty;
+}
 
 pub loop-bound-preserved : goal.loop-bound-preserved
 loop-bound-preserved g c =
-    let site = c.args.plan.now.site in
+    let site = c.args.site in
     let old = c.loop-bound.plan in
     let new = c.add_bound.new.plan in
     let place = c.loop-bound.bound-index in
@@ -26,4 +30,18 @@ loop-bound-preserved g c =
       site = c.in_ok-add_bound.ensures.site ∙ was;
       source = c.in_ok-add_bound.ensures.source ∙ c.loop-bound.invariant.source;
       holds = subst (λ l. Holds site l new.state) (sym more) (holds_more site (take place bounds) bound old.state new.state c.loop-bound.invariant.holds made);
+    }
+
+pub returns : goal.returns
+returns g c =
+    let is = c.loop-bound.invariant in
+    let plan = c.loop-bound.plan in
+    let bounds = c.args.bounds.now in
+    let whole : take c.loop-bound.bound-index bounds ≡ bounds = take_all c.loop-bound.bound-index bounds (omega (arith, c.loop-bound-test.false)) in
+    let holds : Holds c.args.site bounds plan.state = subst (λ l. Holds c.args.site l plan.state) whole is.holds in
+    record {
+      site = is.site;
+      source = is.source;
+      holds = holds;
+      bounds = ap (λ s. all_bounds s plan.state) is.source ∙ all_are c.args.base.now c.args.site bounds plan.state holds;
     }

@@ -1,0 +1,30 @@
+use Rattle.std.proofs.Common.{arith}
+use Rattle.std.proofs.lemmas.Int.{ints}
+use Rattle.stn_loosen.proofs.Sides.{is_upper, is_lower}
+use Rattle.stn_loosen.proofs.span.moved_sides.Goals as goal
+
+pub returns-clause-upper : goal.returns-clause-upper
+returns-clause-upper c =
+    is_upper c.args.durations.now c.args.bound.now c.from.result c.to.result c.setting_of-from.result c.setting_of-to.result _ c.from.ensures.value c.to.ensures.value c.setting_of-from.ensures.value c.setting_of-to.ensures.value
+    (omega (arith, ints, c.get.ensures.value, c.hi.ensures.value, c.get.ensures.within.0, c.get.ensures.within.1, c.setting_of-to.ensures.hi.0, c.setting_of-to.ensures.hi.1, c.setting_of-from.ensures.lo.0, c.setting_of-from.ensures.lo.1))
+
+pub returns-clause-lower : goal.returns-clause-lower
+returns-clause-lower c =
+    is_lower c.args.durations.now c.args.bound.now c.from.result c.to.result c.setting_of-from.result c.setting_of-to.result _ c.from.ensures.value c.to.ensures.value c.setting_of-from.ensures.value c.setting_of-to.ensures.value
+    (omega (arith, ints, c.get-2.ensures.value, c.lo.ensures.value, c.get-2.ensures.within.0, c.get-2.ensures.within.1, c.setting_of-to.ensures.lo.0, c.setting_of-to.ensures.lo.1, c.setting_of-from.ensures.hi.0, c.setting_of-from.ensures.hi.1))
+
+pub returns-clause-upper_reach : goal.returns-clause-upper_reach
+returns-clause-upper_reach c = record {
+  lo_least = omega (arith, ints);
+  lo_most = omega (arith, ints);
+  hi_least = omega (arith, ints, c.get.ensures.within.0, c.setting_of-to.ensures.hi.1, c.setting_of-from.ensures.lo.0);
+  hi_most = omega (arith, ints, c.get.ensures.within.1, c.setting_of-to.ensures.hi.0, c.setting_of-from.ensures.lo.1);
+}
+
+pub returns-clause-lower_reach : goal.returns-clause-lower_reach
+returns-clause-lower_reach c = record {
+  lo_least = omega (arith, ints, c.get-2.ensures.within.0, c.setting_of-to.ensures.lo.1, c.setting_of-from.ensures.hi.0);
+  lo_most = omega (arith, ints, c.get-2.ensures.within.1, c.setting_of-to.ensures.lo.0, c.setting_of-from.ensures.hi.1);
+  hi_least = omega (arith, ints);
+  hi_most = omega (arith, ints);
+}
