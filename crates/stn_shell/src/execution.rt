@@ -6,10 +6,10 @@ ghost use Rattle.stn_device.specs.Counted.{failure_count};
 ghost use Rattle.stn_command.specs.Words.{and_then};
 ghost use Rattle.stn_shell.specs.Carried.{RunsScript, StopsScript, ServesAt, StopsAt, SendsFrom, StopsFrom, Answers, StopsCommand, IsCarriedOut, Stops, StopsListening};
 ghost use Rattle.stn_shell.specs.Connections.{Serves, StopsServing, Sends, StopsSending};
-ghost use Rattle.stn_shell.specs.Executed.{IsSaid, IsExecuted, SaysText, Ends, Finishes};
+ghost use Rattle.stn_shell.specs.Executed.{IsSaid, IsExecuted, SaysText, Ends};
 ghost use Rattle.stn_shell.specs.Peer.{strangers};
 ghost use Rattle.stn_shell.specs.Printing.{Device, device_of, Prints};
-ghost use Rattle.stn_store.specs.Store.{IsLack};
+ghost use Rattle.stn_store.specs.Store.{Opens, IsUnopened, IsLack};
 ghost use Rattle.stn_refusal.specs.declared.failure.Failure.TheVariants.{Failed};
 ghost use Rattle.stn_refusal.specs.declared.failure.Fault.TheVariants as fault;
 ghost use Rattle.std.specs.Duration.{as_nanos};
@@ -120,39 +120,13 @@ fn end<
 {
     match line {
         Line::Shell { log } => run_shell(rt.alloc(), store, log, reader, out, err),
-        _ => finish(rt, store, line, reader, out, err),
-    }
-}
-
-// Does a command line that is no shell to its end.
-fn finish<
-    S: Store,
-    T: AllocGlobal + Clock + Net<Listener = TcpListener, Stream = TcpStream>,
-    R: Read,
-    W: Write,
-    E: Write,
->(
-    rt: &T,
-    store: &mut S,
-    line: &Line<'_>,
-    reader: &mut Counted<R>,
-    out: &mut Counted<W>,
-    err: &mut Counted<E>,
-) -> u8
-    requires reader_counts { failure_count reader.old < 2 ^ 64 - 1 }
-    requires out_counts { failure_count out.old < 2 ^ 64 - 1 }
-    ensures status { result ≤ 1 }
-    ensures ended { Finishes S.fails (S.entries store.old) (S.entries store.new) line.now
-        (device_of R.remaining reader.old) (device_of R.remaining reader.new)
-        (device_of W.contents out.old) (device_of W.contents out.new)
-        (device_of E.contents err.old) (device_of E.contents err.new) result }
-{
-    match do_line(rt, store, line, reader, out) {
-        Ok(status) => status,
-        Err(failure) => {
-            tell_failure(rt.alloc(), failure, out, err);
-            1
-        }
+        _ => match do_line(rt, store, line, reader, out) {
+            Ok(status) => status,
+            Err(failure) => {
+                tell_failure(rt.alloc(), failure, out, err);
+                1
+            }
+        },
     }
 }
 
@@ -291,6 +265,15 @@ fn limit(seconds: u16) -> Duration
     Duration::from_secs(u64::from(seconds))
 }
 
+// The replica of a log.
+fn open_replica<S: Store>(store: &S, log: &SiteLog<'_>) -> Result<Replica<Global>, Failure>
+    ensures opened { IfOk result (λ replica. Opens (S.entries store.now) log.now.name.now log.now.site replica) }
+    ensures failed { IfErr result (λ failure. IsUnopened (S.entries store.now) log.now.name.now failure ⊎ IsLack S.fails failure) }
+{
+    let plan = store.load(log.name, log.site)?;
+    Ok(Replica::of(plan)?)
+}
+
 // Serves a log at an address.
 fn serve_at<
     S: Store,
@@ -311,8 +294,7 @@ fn serve_at<
         (StopsAt S.fails (S.entries store.old) (S.entries store.new) log.now count
         (device_of W.contents out.old) (device_of W.contents out.new)) }
 {
-    let plan = store.load(log.name, log.site)?;
-    let mut replica = Replica::of(plan)?;
+    let mut replica = open_replica(store, log)?;
     let served = serve_replica(rt, store, log, address, count, limit, &mut replica, out);
     drop(replica);
     served
@@ -389,8 +371,7 @@ fn send_to<S: Store, T: AllocGlobal + Clock + Net<Stream = TcpStream>, W: Write>
         (StopsFrom S.fails (S.entries store.old) (S.entries store.new) log.now
         (device_of W.contents out.old) (device_of W.contents out.new)) }
 {
-    let plan = store.load(log.name, log.site)?;
-    let mut replica = Replica::of(plan)?;
+    let mut replica = open_replica(store, log)?;
     let sent = send_replica(rt, store, log, address, limit, &mut replica, out);
     drop(replica);
     sent

@@ -1,25 +1,17 @@
 use Rattle.std.proofs.Common.{refl, inl, inr, ⊎_elim}
 use Rattle.std.proofs.lemmas.Result.{err_from_is_err_and, MatchResult-weaker}
-use Rattle.stn_store.proofs.Lacks.{lack_of_memory}
-use Rattle.stn_store.proofs.SameLog.{opens_same}
 use Rattle.stn_shell.proofs.execution.send_to.Goals as goal
-
-pub returns-in_err-plan : goal.returns-in_err-plan
-returns-in_err-plan g c =
-    let p = err_from_is_err_and c.from_residual.result c.from_residual.ensures.1 in
-    rw (p.1, p.2) (inl (c.in_err-plan.ensures.failed, refl, refl))
 
 pub returns-in_err-replica : goal.returns-in_err-replica
 returns-in_err-replica g c =
-    let p = err_from_is_err_and c.from_residual-in_err-replica.result c.from_residual-in_err-replica.ensures.1 in
-    rw (p.1, p.2) (inl (inr (lack_of_memory g.S.Store.fails _ refl), refl, refl))
+    let p = err_from_is_err_and c.from_residual.result c.from_residual.ensures.1 in
+    rw (p.1, p.2) (inl (c.in_err-replica.ensures.failed, refl, refl))
 
 pub returns : goal.returns
 returns g c =
     let found = c.in_ok-replica.replica in
     let left = c.send_replica-sent.new.replica.state in
-    let is = c.in_ok-replica.ensures in
-    let opened = opens_same _ _ _ c.in_ok-plan.plan found is.site is.source is.state c.in_ok-plan.ensures.opened in
+    let opened = c.in_ok-replica.ensures.opened in
     MatchResult-weaker c.send_replica-sent.result c.send_replica-sent.ensures
     (λ _ sent. record { found = found; left = left; opened = opened; sent = sent })
     (λ failure why. ⊎_elim (λ far. inr (inl (found, opened, far.0, far.1, far.2))) (λ stop. inr (inr (found, left, opened, stop))) why)
