@@ -13,11 +13,11 @@ definitions (`antt`) have to stand in a source, but their lines may be broken el
 A link has to lead to a file, and where it names an anchor, to a heading of it. A path begins at the top, at a crate or at a
 folder of a crate, and a file of `specs/` and `proofs/` is also named without its ending; a name alone is that of some file.
 
-A name is a word in backticks, perhaps after its crate or its type, as in `Type::name`. PROMISES.md, and what README.md
-says of proofs and crates, name functions, types, traits, constants, what a trait says of its types, definitions, crates, and
-clauses of the functions that the same item names before; the parentheses after a function list clauses. In PROMISES.md the
-section of a crate has to name each function with a clause that another crate can call: `pub`, and handed on by `lib.rt`, or
-of a type or trait that is.
+A name is a word in backticks, perhaps after its crate, its module or its type, as in `Type::name`. PROMISES.md, and what
+README.md says of proofs and crates, name functions, types, traits, constants, what a trait says of its types, definitions,
+crates, and clauses of the functions that the same item names before; the parentheses after a function list clauses. In
+PROMISES.md the section of a crate has to name each function with a clause that another crate can call: `pub`, and handed on
+by `lib.rt`, or of a type or trait that is.
 
 The table of crates in README.md has a row for each, with its lines of code, within a tenth.
 
@@ -114,7 +114,7 @@ def shown_parts(block):
 
 def not_in_sources():
     """The clauses and definitions that stand in no source."""
-    sources = [on_one_line(path.read_text(encoding="utf-8")) for path in [*CRATES.rglob("src/**/*.rt"), *CRATES.rglob("specs/*.antt")]]
+    sources = [on_one_line(path.read_text(encoding="utf-8")) for path in [*CRATES.rglob("src/**/*.rt"), *CRATES.rglob("specs/**/*.antt")]]
     for document in LISTED:
         for begins, block in listings(document, ("```antt",)):
             for part in filter(None, shown_parts(block)):
@@ -240,8 +240,9 @@ def clauses_after(text, place):
     return found
 
 
-# A function of a crate: the type or the trait that it belongs to, if any, and the clauses that say what it gives.
-Function = namedtuple("Function", "crate owner name clauses is_public")
+# A function of a crate: the module of `lib.rt` that it stands in, the type or the trait that it belongs to, if any, and the
+# clauses that say what it gives.
+Function = namedtuple("Function", "crate module owner name clauses is_public")
 
 
 def handed_on(crate):
@@ -265,6 +266,7 @@ def functions_of(crate):
     public = handed_on(crate) if (crate / "src" / "lib.rt").exists() else set()
     for path in sorted(crate.rglob("src/**/*.rt")):
         text = path.read_text(encoding="utf-8")
+        module = path.relative_to(crate / "src").parts[0].removesuffix(".rt")
         owner, of_trait, is_trait = "", False, False
         for match in HEAD.finditer(text):
             if match["end"]:
@@ -274,7 +276,7 @@ def functions_of(crate):
                 is_trait = match["kind"] == "trait"
             else:
                 shown = bool(match["pub"] or is_trait) and not of_trait
-                yield Function(crate.name, owner, match["name"], clauses_after(text, match.end()),
+                yield Function(crate.name, module, owner, match["name"], clauses_after(text, match.end()),
                                shown and (path.name == "lib.rt" or (owner or match["name"]) in public))
 
 
@@ -284,7 +286,7 @@ def other_names():
     for path in CRATES.rglob("src/**/*.rt"):
         text = path.read_text(encoding="utf-8")
         names.update(re.findall(r"^pub (?:struct|enum|trait|type|const) (\w+)|^ +ghost (\w+):", text, re.M))
-    for path in CRATES.rglob("specs/*.antt"):
+    for path in CRATES.rglob("specs/**/*.antt"):
         names.update(re.findall(r"^(?:abbrev |unfoldable )?pub (?:record |data )?(\w+)", path.read_text(encoding="utf-8"), re.M))
     return {word for name in names for word in ([name] if isinstance(name, str) else name) if word}
 
@@ -335,8 +337,8 @@ def missing_names(document, functions, others, named):
                 continue
             before, _, name = match["name"].rpartition("::")
             if before and before not in CRATE_NAMES:
-                owner = before
-            meant = [one for one in functions if one.name == name and (before in ("", one.owner, one.crate))]
+                owner = before if before[0].isupper() else ""
+            meant = [one for one in functions if one.name == name and (before in ("", one.owner, one.crate, one.module))]
             near = [one for one in meant if one.owner == owner and one.owner] or [one for one in meant if not one.owner] or meant
             near = [one for one in near if one.crate == section] or near
             named.update((one.crate, one.owner, one.name) for one in near if one.crate == section and one.owner in ("", owner))

@@ -1,10 +1,10 @@
 // What some bytes are.
 use std::fmt;
 use stn_lift::BaseFault;
-use stn_log::LoadFault;
 use stn_net::BoundFault;
 use stn_pddl::DomainFault;
 use stn_site::ReplicaFault;
+use stn_store::LoadFault;
 use stn_wire::WireFault;
 
 /// What becomes of some bytes as a frame, as a log or as a session.

@@ -4,10 +4,10 @@ use std::alloc::{AllocError, Global};
 use std::rc::Rc;
 use stn_device::Counted;
 use stn_lift::Base;
-use stn_log::{load, save};
 use stn_records::Site;
 use stn_refusing::PieceReader;
 use stn_replica::Replica;
+use stn_store::{load, save};
 
 // The base of a plan of one step, for which only memory can lack.
 fn bare_base(alloc: Global) -> Result<Base<Global>, AllocError> {

@@ -10,9 +10,9 @@ use std::io;
 use std::io::{Error, ErrorKind, Read};
 use std::str::SplitWhitespace;
 use stn_device::Counted;
-use stn_log::{LoadFault, load};
 use stn_records::Site;
 use stn_replica::Replica;
+use stn_store::{LoadFault, load};
 
 /// Some bytes of a log, so many times.
 #[derive(Drop)]

@@ -1,6 +1,7 @@
 //! What a command prints on its output and on the standard error, told apart; and the modes, names and locks of files.
 
 use crate::SCRIPT;
+use std::alloc::Global;
 use std::fs::{self, Permissions, TryLockError};
 use std::io::{self, Error};
 use std::os::unix::fs::{MetadataExt, PermissionsExt, symlink};
@@ -24,7 +25,7 @@ fn print_lines(rt: &HostRuntime, word: &str, text: &[u8]) -> io::Result<()> {
 }
 
 /// Does the command of these words over a store, and prints what stands on its output, what on the standard error, and its status.
-pub fn tell<S: Store>(rt: &HostRuntime, store: &mut S, words: &[&str]) -> io::Result<()> {
+pub fn tell<S: Store<Global>>(rt: &HostRuntime, store: &mut S, words: &[&str]) -> io::Result<()> {
     let mut reader = Counted::new(SCRIPT);
     let mut out = Counted::new(Vec::new(rt.alloc()));
     let mut err = Counted::new(Vec::new(rt.alloc()));
@@ -64,7 +65,7 @@ fn print_lock(rt: &HostRuntime, log: &str) -> io::Result<()> {
 }
 
 /// Holds a log, and prints whether its lock is free before, meanwhile and afterwards.
-pub fn hold<S: Store>(rt: &HostRuntime, store: &S, log: &str) -> io::Result<()> {
+pub fn hold<S: Store<Global>>(rt: &HostRuntime, store: &S, log: &str) -> io::Result<()> {
     print_lock(rt, log)?;
     let held = store.hold(log).map_err(failed)?;
     print_lock(rt, log)?;
@@ -73,7 +74,7 @@ pub fn hold<S: Store>(rt: &HostRuntime, store: &S, log: &str) -> io::Result<()> 
 }
 
 /// Holds the log that a link leads to, lets the link lead to another, and saves what a third log says as the one that is held.
-pub fn save_by_link<S: Store>(
+pub fn save_by_link<S: Store<Global>>(
     rt: &HostRuntime,
     store: &mut S,
     link: &str,

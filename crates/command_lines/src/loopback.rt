@@ -15,12 +15,11 @@ use std::time::Duration;
 use std::{fs, io};
 use stn_device::Counted;
 use stn_line::SiteLog;
-use stn_log::load;
 use stn_records::Site;
 use stn_replica::Replica;
 use stn_session::{receive_replies, send_requests, serve};
 use stn_shell::{Peer, Service, execute, meet, send_on, serve_on};
-use stn_store::FileStore;
+use stn_store::{FileStore, load};
 
 // How many milliseconds a session or an exchange may take.
 const LIMIT: u64 = 2_000;

@@ -207,7 +207,7 @@ fn run_each_cut(rt: &HostRuntime, bytes: &[u8], words: &str) -> io::Result<()> {
 }
 
 // Does the command of a line over a store, and prints what stands where, and its status.
-fn tell_line<S: Store>(rt: &HostRuntime, store: &mut S, line: &str) -> io::Result<()> {
+fn tell_line<S: Store<Global>>(rt: &HostRuntime, store: &mut S, line: &str) -> io::Result<()> {
     let mut words = Vec::new(rt.alloc());
     append_words(line, &mut words)?;
     tell(rt, store, &words)
@@ -254,7 +254,11 @@ fn do_other(rt: &HostRuntime, line: &str) -> io::Result<()> {
     }
 }
 
-fn serve_in_memory(rt: &HostRuntime, store: &mut MemoryStore, words: &str) -> io::Result<()> {
+fn serve_in_memory(
+    rt: &HostRuntime,
+    store: &mut MemoryStore<Global>,
+    words: &str,
+) -> io::Result<()> {
     let (name, rest) = cut_word(words);
     let (count, digits) = cut_word(rest);
     match count.parse::<usize>() {
@@ -264,7 +268,7 @@ fn serve_in_memory(rt: &HostRuntime, store: &mut MemoryStore, words: &str) -> io
 }
 
 // Does what a line says.
-fn do_line(rt: &HostRuntime, store: &mut MemoryStore, line: &str) -> io::Result<()> {
+fn do_line(rt: &HostRuntime, store: &mut MemoryStore<Global>, line: &str) -> io::Result<()> {
     if let Some(words) = line.strip_prefix(":memory-text ") {
         put(rt.alloc(), store, words)
     } else if let Some(words) = line.strip_prefix(":memory ") {
@@ -287,12 +291,12 @@ fn do_line(rt: &HostRuntime, store: &mut MemoryStore, line: &str) -> io::Result<
     }
 }
 
-fn take_line(rt: &HostRuntime, store: &mut MemoryStore, line: &str) -> io::Result<()> {
+fn take_line(rt: &HostRuntime, store: &mut MemoryStore<Global>, line: &str) -> io::Result<()> {
     println!(rt; "> {line}")?;
     do_line(rt, store, line)
 }
 
-fn do_lines(rt: &HostRuntime, store: &mut MemoryStore) -> io::Result<()> {
+fn do_lines(rt: &HostRuntime, store: &mut MemoryStore<Global>) -> io::Result<()> {
     for line in rt.lines(rt.alloc()) {
         take_line(rt, store, &line?)?;
     }

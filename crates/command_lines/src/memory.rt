@@ -10,7 +10,7 @@ use stn_shell::answer;
 use stn_store::MemoryStore;
 
 /// Puts a text whose lines `|` parts under a name.
-pub fn put(alloc: Global, store: &mut MemoryStore, words: &str) -> io::Result<()> {
+pub fn put(alloc: Global, store: &mut MemoryStore<Global>, words: &str) -> io::Result<()> {
     let (name, lines) = cut_word(words);
     match store.put(name, text_of(alloc, lines)?) {
         Ok(()) => Ok(()),
@@ -34,7 +34,7 @@ fn print_answer(rt: &HostRuntime, answer: Result<Vec<u8>, Failure>) -> io::Resul
 }
 
 // Does a command on a log, and prints what it answers.
-fn run_line(rt: &HostRuntime, store: &mut MemoryStore, line: &Line<'_>) -> io::Result<()> {
+fn run_line(rt: &HostRuntime, store: &mut MemoryStore<Global>, line: &Line<'_>) -> io::Result<()> {
     match line {
         Line::Run | Line::Serve { .. } | Line::Send { .. } => {
             Err(Error::other("no command of a log"))
@@ -44,7 +44,7 @@ fn run_line(rt: &HostRuntime, store: &mut MemoryStore, line: &Line<'_>) -> io::R
 }
 
 // Does the command of these words, and prints what it answers.
-fn run_words(rt: &HostRuntime, store: &mut MemoryStore, words: &[&str]) -> io::Result<()> {
+fn run_words(rt: &HostRuntime, store: &mut MemoryStore<Global>, words: &[&str]) -> io::Result<()> {
     match line(rt.alloc(), words) {
         Ok(line) => {
             let answer = run_line(rt, store, &line);
@@ -56,7 +56,11 @@ fn run_words(rt: &HostRuntime, store: &mut MemoryStore, words: &[&str]) -> io::R
 }
 
 /// Does the command of a line, and prints what it answers, or why it is refused.
-pub fn run_in_memory(rt: &HostRuntime, store: &mut MemoryStore, line: &str) -> io::Result<()> {
+pub fn run_in_memory(
+    rt: &HostRuntime,
+    store: &mut MemoryStore<Global>,
+    line: &str,
+) -> io::Result<()> {
     let mut words = Vec::new(rt.alloc());
     append_words(line, &mut words)?;
     run_words(rt, store, &words)

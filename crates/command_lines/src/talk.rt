@@ -17,7 +17,7 @@ fn site_of(number: u8) -> io::Result<Site> {
     }
 }
 
-fn load(store: &MemoryStore, log: &SiteLog<'_>) -> io::Result<Replica<Global>> {
+fn load(store: &MemoryStore<Global>, log: &SiteLog<'_>) -> io::Result<Replica<Global>> {
     match store.load(log.name, log.site) {
         Ok(plan) => Ok(Replica::of(plan)?),
         Err(_) => Err(Error::other("a log is not loaded")),
@@ -40,7 +40,7 @@ fn hear(rt: &HostRuntime, partner: Partner<&[u8], Ear>) -> io::Result<Vec<u8>> {
 // Sends by a log of site 2 to a site that says these bytes, and gives what that one is told.
 fn send(
     rt: &HostRuntime,
-    store: &mut MemoryStore,
+    store: &mut MemoryStore<Global>,
     name: &str,
     bytes: &[u8],
 ) -> io::Result<Vec<u8>> {
@@ -70,7 +70,7 @@ fn send(
 // Serves so many of the sites that come, by a log of site 1.
 fn serve(
     rt: &HostRuntime,
-    store: &mut MemoryStore,
+    store: &mut MemoryStore<Global>,
     name: &str,
     callers: &mut MemoryCallers<'_>,
     count: u16,
@@ -97,7 +97,7 @@ fn serve(
 // Serves two sites that say these bytes, and prints what each is told. Gives what the last one is told.
 fn serve_both(
     rt: &HostRuntime,
-    store: &mut MemoryStore,
+    store: &mut MemoryStore<Global>,
     name: &str,
     first: &[u8],
     second: &[u8],
@@ -117,7 +117,7 @@ fn serve_both(
 /// told.
 pub fn serve_saying(
     rt: &HostRuntime,
-    store: &mut MemoryStore,
+    store: &mut MemoryStore<Global>,
     name: &str,
     digits: &str,
     zeros: usize,
@@ -134,7 +134,7 @@ pub fn serve_saying(
 /// and what it makes of the replies.
 pub fn talk(
     rt: &HostRuntime,
-    store: &mut MemoryStore,
+    store: &mut MemoryStore<Global>,
     asking: &str,
     asked: &str,
 ) -> io::Result<()> {

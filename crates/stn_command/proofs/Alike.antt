@@ -2,14 +2,14 @@
 use Rattle.std.proofs.Common.{◌≡◌, ◌⊎◌, inl, inr, ℕ, ℤ, pos, Bool, List, ◌∷◌, Vec, Option, Some, None, Result, Ok, Err, MatchResult, refl, ap, subst, ◌∙◌}
 use Rattle.stn_refusal.specs.{declared.failure.Failure.Failure, Refusals.out_of_memory}
 use Rattle.stn_net.specs.Schedule.{times_of}
-use Rattle.stn_windows.specs.{Failures.rehearse_failure, declared.answers.RehearseFault.RehearseFault}
-use Rattle.stn_windows.specs.declared.answers.RehearseFault.TheVariants as rehearse_fault
+use Rattle.stn_net.specs.{Windows.Failures.rehearse_failure, declared.windows.answers.RehearseFault.RehearseFault}
+use Rattle.stn_net.specs.declared.windows.answers.RehearseFault.TheVariants as rehearse_fault
 use Rattle.stn_lift.specs.PlanSource.{PlanSource}
 use Rattle.stn_records.specs.Content.{Content}
 use Rattle.stn_site.specs.{Held.Held, Held.holding_state, Names.broken_bound, Report.IsReport, Report.done_events}
 use Rattle.stn_questions.specs.{Answer.IsAnswer, Steps.steps_text}
-use Rattle.stn_picture.specs.Picture.{IsPicture}
-use Rattle.stn_repair.specs.Text.{IsRepairsText}
+use Rattle.stn_questions.specs.Picture.{IsPicture}
+use Rattle.stn_questions.specs.Repair.Text.{IsRepairsText}
 use Rattle.stn_command.specs.Dispatch.{done_or_not_chosen, check_text, IsOverdueAt, IsRefusedRehearsal}
 use Rattle.stn_command.specs.declared.queries.Outlook.TheVariants as outlook
 use Rattle.stn_command.specs.Query.{Query, report, check, next, ready, rehearse, among, ask, repairs, draw, IsSaid, IsForeseen, IsCheckRefusal, IsRehearseRefusal, IsAmongRefusal, IsQuestionRefusal, IsQueryRefusal, Says}

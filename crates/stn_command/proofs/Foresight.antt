@@ -1,11 +1,10 @@
 -- What comes next and what is ready has one text, and a rehearsal has one, or one cause that refuses it.
 use Rattle.std.proofs.Common.{◌≡◌, ◌⊎◌, inl, inr, ℕ, ◌≤◌, ℤ, Bool, List, ◌++◌, append_assoc, length, take, take_all, Result, Ok, Err, OnOk, refl, sym, ap, subst, ◌∙◌}
 use Rattle.std.specs.{Prelude.if◌then◌else◌, Prelude.is_ok, List.flat_map, Prelude.codes}
-use Rattle.stn_net.specs.{Difference.Difference, Schedule.HasSchedule}
-use Rattle.stn_windows.specs.{declared.answers.Next.Next, declared.answers.RehearseFault.RehearseFault, Rehearsal.IsRehearseFault}
-use Rattle.stn_windows.specs.declared.answers.Next.TheVariants.{Run, AllDone, Overdue}
-use Rattle.stn_windows.specs.declared.answers.RehearseFault.TheVariants as rehearse_fault
-use Rattle.stn_windows.proofs.OneAnswer.{one_next, one_rehearsal}
+use Rattle.stn_net.specs.{Difference.Difference, Schedule.HasSchedule, declared.windows.answers.Next.Next, declared.windows.answers.RehearseFault.RehearseFault, Windows.Rehearsal.IsRehearseFault}
+use Rattle.stn_net.specs.declared.windows.answers.Next.TheVariants.{Run, AllDone, Overdue}
+use Rattle.stn_net.specs.declared.windows.answers.RehearseFault.TheVariants as rehearse_fault
+use Rattle.stn_net.proofs.OneAnswer.{one_next, one_rehearsal}
 use Rattle.stn_lift.specs.PlanSource.{PlanSource}
 use Rattle.stn_records.specs.Content.{Content}
 use Rattle.stn_site.specs.{Bounds.all_bounds, Lines.line}

@@ -6,8 +6,8 @@ use Rattle.stn_lift.specs.PlanSource.{PlanSource}
 use Rattle.stn_records.specs.Content.{Content}
 use Rattle.stn_site.specs.{Held.Held, Bounds.all_bounds, Report.IsReport, Report.done_events}
 use Rattle.stn_questions.specs.{declared.asked.Question.Question, Answer.IsAnswer, Steps.steps_text, Steps.names_text}
-use Rattle.stn_picture.specs.Picture.{IsPicture}
-use Rattle.stn_repair.specs.Text.{IsRepairsText}
+use Rattle.stn_questions.specs.Picture.{IsPicture}
+use Rattle.stn_questions.specs.Repair.Text.{IsRepairsText}
 use Rattle.stn_command.specs.Query.{Query, report, check, next, ready, rehearse, among, ask, repairs, draw, IsSaid, IsForeseen, IsRehearseRefusal, IsOutlookRefusal, IsQuestionRefusal, IsQueryRefusal}
 use Rattle.stn_command.specs.{Dispatch.done_or_not_chosen, declared.queries.Outlook.Outlook}
 use Rattle.stn_command.specs.declared.queries.Outlook.TheVariants as outlook

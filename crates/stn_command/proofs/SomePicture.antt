@@ -1,13 +1,13 @@
 -- Each plan and each state have a picture, with any lines of the steps.
 use Rattle.std.proofs.Common.{inl, inr, ℕ, ℤ, zero, suc, ◌≤◌, Bool, List, [], ◌∷◌, ◌++◌, neg_ℤ, refl, arith}
 use Rattle.stn_net.specs.Difference.{Difference}
-use Rattle.stn_windows.proofs.Windows.{window_of_ends}
+use Rattle.stn_net.proofs.WindowEnds.{window_of_ends}
 use Rattle.stn_lift.specs.PlanSource.{PlanSource, events_of}
 use Rattle.stn_records.specs.Content.{Content}
 use Rattle.stn_site.specs.{Bounds.all_bounds, Report.is_done}
 use Rattle.stn_questions.proofs.{Found.AreFound, Found.possible_found, Found.tightest_found, SomeReport.IsSoundState, SomeReport.differences, SomeReport.some_conflict}
-use Rattle.stn_picture.specs.{declared.span.Span.Span, Axis.gap_of, Spans.AreSpans}
-use Rattle.stn_picture.specs.Picture.{rows_end, windows_text, cycle_height, cycle_text, IsPicture}
+use Rattle.stn_questions.specs.{declared.picture.span.Span.Span, Picture.Axis.gap_of, Picture.Spans.AreSpans}
+use Rattle.stn_questions.specs.Picture.{rows_end, windows_text, cycle_height, cycle_text, IsPicture}
 
 -- a span for each of the first events
 some_spans : (bounds : List Difference) (events : ℕ) (far : ℕ → ℕ → ℤ) (done : ℕ → Bool) → AreFound bounds events far → (n : ℕ) → n ≤ events

@@ -10,9 +10,8 @@ use Rattle.stn_records.specs.declared.record.Mark.TheVariants.{Plain, Done}
 use Rattle.stn_conflict.proofs.Known.{known_within, known_first}
 use Rattle.stn_site.specs.{Bounds.bounds_of, Lines.line}
 use Rattle.stn_site.proofs.Named.{records_from_bounds, bounds_from_records}
-use Rattle.stn_repair.specs.{declared.repair.Repair.Repair, Repairs.without, Repairs.others, Repairs.IsRepair, Repairs.AreRepairs}
-use Rattle.stn_repair.specs.{Dropped.marked, Dropped.facts_first, Dropped.AreRefused, Text.repair_line, Text.drop_line, Text.IsRepairsText}
-use Rattle.stn_repair.proofs.Ranges.{range_of_ends}
+use Rattle.stn_questions.specs.{declared.repair.Repair.Repair, Repair.Repairs.without, Repair.Repairs.others, Repair.Repairs.IsRepair, Repair.Repairs.AreRepairs, Repair.Dropped.marked, Repair.Dropped.facts_first, Repair.Dropped.AreRefused, Repair.Text.repair_line, Repair.Text.drop_line, Repair.Text.IsRepairsText}
+use Rattle.stn_questions.proofs.Ranges.{range_of_ends}
 use Rattle.stn_questions.proofs.Found.{AreFound, IsInOrder, possible_found, tightest_found, found_or_refused}
 use Rattle.stn_questions.proofs.SomeReport.{IsSoundState}
 

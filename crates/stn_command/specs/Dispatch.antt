@@ -2,10 +2,9 @@
 use Rattle.std.specs.Prelude.{◌≡◌, ◌⊎◌, ℕ, ◌+◌, ℤ, Bool, true, not, ◌&&◌, ◌||◌, List, ◌++◌, map, codes, Option, Some, None}
 use Rattle.std.specs.List.{flat_map, list_any, range_with_len}
 use Rattle.stn_time.specs.Text.{printed}
-use Rattle.stn_net.specs.{Event.event_text, Schedule.HasSchedule}
-use Rattle.stn_windows.specs.{declared.answers.Next.Next, Dispatch.IsNext, Rehearsal.IsRehearseFault}
-use Rattle.stn_windows.specs.declared.answers.Next.TheVariants.{Run, AllDone, Overdue}
-use Rattle.stn_windows.specs.declared.answers.RehearseFault.TheVariants as rehearse_fault
+use Rattle.stn_net.specs.{Event.event_text, Schedule.HasSchedule, declared.windows.answers.Next.Next, Windows.Dispatch.IsNext, Windows.Rehearsal.IsRehearseFault}
+use Rattle.stn_net.specs.declared.windows.answers.Next.TheVariants.{Run, AllDone, Overdue}
+use Rattle.stn_net.specs.declared.windows.answers.RehearseFault.TheVariants as rehearse_fault
 use Rattle.stn_lift.specs.PlanSource.{PlanSource, events_of}
 use Rattle.stn_records.specs.Content.{Content}
 use Rattle.stn_site.specs.{declared.names.BoundName.BoundName, Bounds.all_bounds, Lines.line, Names.name_text, Report.is_done}

@@ -1,11 +1,11 @@
 -- What is said of a plan whose steps get names from the text of another, and why it is not.
 use Rattle.std.specs.Prelude.{◌≡◌, ℕ, ◌==◌, if◌then◌else◌, List, length, Option, Some, None, Result, Ok, Err}
 use Rattle.stn_refusal.specs.declared.failure.Failure.{Failure}
-use Rattle.stn_plan.specs.{Steps.PlannedStep, Steps.plan_of, Failures.plan_failure, declared.fault.PlanFault.PlanFault}
+use Rattle.stn_lift.specs.{Plan.Steps.PlannedStep, Plan.Steps.plan_of, Plan.Failures.plan_failure, declared.plan.fault.PlanFault.PlanFault}
 use Rattle.stn_lift.specs.PlanSource.{steps_of}
 use Rattle.stn_site.specs.Held.{Held}
 use Rattle.stn_questions.specs.Steps.{names_text}
-use Rattle.stn_picture.specs.Picture.{IsPicture}
+use Rattle.stn_questions.specs.Picture.{IsPicture}
 use Rattle.stn_command.specs.{declared.names.Shown.Shown, Words.no_such_word}
 use Rattle.stn_command.specs.declared.names.Shown.TheVariants as shown
 

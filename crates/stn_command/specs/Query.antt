@@ -10,8 +10,8 @@ use Rattle.stn_records.specs.Content.{AllProper}
 use Rattle.stn_site.specs.{Bounds.all_bounds, Bounds.live_bounds, Held.Held, Names.broken_bound, Report.IsReport, Report.done_events}
 use Rattle.stn_replica.specs.Own.{is_within}
 use Rattle.stn_questions.specs.{declared.asked.Question.Question, Answer.IsAnswer, Answer.AsksOfNoEvent, Answer.AsksOfSameEvent, Ready.IsReadyWith, Steps.steps_text}
-use Rattle.stn_picture.specs.Picture.{IsPicture}
-use Rattle.stn_repair.specs.Text.{IsRepairsText}
+use Rattle.stn_questions.specs.Picture.{IsPicture}
+use Rattle.stn_questions.specs.Repair.Text.{IsRepairsText}
 use Rattle.stn_command.specs.{declared.queries.Query.Query as QueryOfCode, declared.queries.Choice.Choice as ChoiceOfCode, declared.queries.Outlook.Outlook, Words.no_such_word}
 use Rattle.stn_command.specs.declared.queries.Query.TheVariants as asked
 use Rattle.stn_command.specs.declared.queries.Outlook.TheVariants as outlook
@@ -45,6 +45,14 @@ seen_query (asked.Among outlook now choice) = among outlook now (seen_choice cho
 seen_query (asked.Ask question) = ask question
 seen_query asked.Repairs = repairs
 seen_query asked.Draw = draw
+
+-- what is said of the events that are left needs all pairs of events
+abbrev pub needs_matrix : Query → Bool
+needs_matrix (next now) = true
+needs_matrix (ready now) = true
+needs_matrix (rehearse now) = true
+needs_matrix (among outlook now choice) = true
+needs_matrix other = false
 
 -- what is true of each site: its plan has a base, its live records are of bounds of the plan, and each record that says that an event was
 -- executed fixes its time

@@ -4,15 +4,14 @@ ghost use Rattle.std.specs.Prelude.{◌≡◌, ◌⊎◌, ◌++◌, List, ℕ, c
 ghost use Rattle.stn_net.specs.Event.{event_text};
 ghost use Rattle.stn_replica.specs.Own.{done_or_others};
 ghost use Rattle.stn_site.specs.Lines.{line};
-ghost use Rattle.stn_windows.specs.declared.answers.RehearseFault.TheVariants.{Overdue, Memory as want_of_memory};
+ghost use Rattle.stn_net.specs.declared.windows.answers.RehearseFault.TheVariants.{Overdue, Memory as want_of_memory};
 ghost use Rattle.stn_command.specs.Dispatch.{check_text, run_line, runs_text, next_text, IsNextText, IsRestText, IsOverdueAt, IsRefusedRehearsal};
 
 use std::alloc::Allocator;
-use stn_net::Event;
+use stn_net::{Event, Next, RehearseFault};
 use stn_replica::{Own, Replica};
 use stn_site::BoundName;
 use stn_time::{Memory, Ms};
-use stn_windows::{Next, RehearseFault};
 
 /// Appends the name of the first bound that times break, or that they are a schedule.
 pub fn append_check<B: Allocator>(

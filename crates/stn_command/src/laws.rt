@@ -11,9 +11,7 @@ ghost use Rattle.stn_command.specs.Named.{IsNamed};
 ghost use Rattle.stn_command.specs.declared.names.Shown.{Shown};
 ghost use Rattle.stn_command.specs.Query.{Query, IsSoundSite, IsSaid, IsQueryRefusal};
 
-use stn_picture::one_picture;
-use stn_questions::one_answer;
-use stn_repair::one_repairs_text;
+use stn_questions::{one_answer, one_picture, one_repairs_text};
 use stn_site::one_report;
 
 /// The law that what a site holds has one answer to each query, also by the names of another plan's steps, and one

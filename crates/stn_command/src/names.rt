@@ -2,15 +2,14 @@
 
 ghost use Rattle.std.specs.Prelude.{◌≡◌, ◌⊎◌, None, Some, MatchResult};
 ghost use Rattle.stn_refusal.specs.Refusals.{out_of_memory};
-ghost use Rattle.stn_plan.specs.Steps.{plan_of};
+ghost use Rattle.stn_lift.specs.Plan.Steps.{plan_of};
 ghost use Rattle.stn_questions.specs.Steps.{names_text};
 ghost use Rattle.stn_command.specs.Named.{IsNamed, count_refusal, names_refusal};
 
 use crate::words::no_such_word;
 use std::alloc::Allocator;
-use stn_picture::print_picture;
-use stn_plan::Plan;
-use stn_questions::names_of;
+use stn_lift::Plan;
+use stn_questions::{names_of, print_picture};
 use stn_refusal::Failure;
 use stn_site::SitePlan;
 

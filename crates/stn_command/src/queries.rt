@@ -1,23 +1,23 @@
 //! What a site is asked about its plan and what it holds.
 
-ghost use Rattle.std.specs.Prelude.{◌≡◌, ◌⊎◌, ◌++◌, ◌∷◌, ℕ, pos, List, None, Some, OnOk, OnErr, IfOk, IfErr, IsErrOf, MatchResult};
+ghost use Rattle.std.specs.Prelude.{◌≡◌, ◌⊎◌, ◌++◌, ◌∷◌, ℕ, pos, true, false, List, None, Some, OnOk, OnErr, IfOk, IfErr, IsErrOf, MatchOption, MatchResult};
 ghost use Rattle.stn_lift.specs.PlanSource.{steps_of};
 ghost use Rattle.stn_refusal.specs.Refusals.{out_of_memory};
 ghost use Rattle.stn_site.specs.Report.{done_events};
 ghost use Rattle.stn_replica.specs.Own.{done_or_others};
 ghost use Rattle.stn_command.specs.Dispatch.{done_or_not_chosen};
 ghost use Rattle.stn_command.specs.Query as asked;
-ghost use Rattle.stn_command.specs.Query.{report, check, ask, repairs, draw, seen_query, seen_choice, IsSaid, IsQueryRefusal, Says, Foresees};
+ghost use Rattle.stn_command.specs.Query.{report, check, ask, repairs, draw, seen_query, seen_choice, needs_matrix, IsSaid, IsQueryRefusal, Says, Foresees};
 ghost use Rattle.stn_command.specs.declared.queries.Outlook.TheVariants as outlook;
 
 use crate::dispatch::{append_check, append_next, append_rest};
 use crate::words::no_such_word;
 use std::alloc::Allocator;
 use stn_net::BoundFault;
-use stn_picture::print_picture;
-use stn_questions::{Question, WhyFault, print_answer, print_ready_among, print_steps};
+use stn_questions::{
+    Question, WhyFault, print_answer, print_picture, print_ready_among, print_repairs, print_steps,
+};
 use stn_refusal::{Failure, Fault};
-use stn_repair::print_repairs;
 use stn_replica::{Own, Replica, StepRange};
 use stn_site::SitePlan;
 use stn_time::{Memory, Ms};
@@ -93,18 +93,34 @@ pub fn say<A: Allocator + Copy>(plan: SitePlan<A>, query: &Query<'_>) -> Result<
         (λ text. IsSaid (seen_query query.now) plan text.items × IsQueryRefusal (seen_query query.now) plan None)
         (λ failure. (failure ≡ out_of_memory) ⊎ IsQueryRefusal (seen_query query.now) plan (Some failure)) }
 {
-    match *query {
-        Query::Report => report(&plan),
-        Query::Check(times) => check(&plan, times),
-        Query::Ask(question) => tell(&plan, question),
-        Query::Repairs => repairs(&plan),
-        Query::Draw => draw(&plan),
-        Query::Next(_) | Query::Ready(_) | Query::Rehearse(_) | Query::Among(_, _, _) => {
+    match say_without_matrix(&plan, query) {
+        Some(said) => said,
+        None => {
             let replica = Replica::of(plan)?;
             let text = said(&replica, query);
             drop(replica);
             text
         }
+    }
+}
+
+/// What is said to a query about a site's copy of the plan; nothing where the answer needs all pairs of events, and so a matrix.
+///
+/// Refused as `append_said` refuses it.
+pub fn say_without_matrix<A: Allocator + Copy>(
+    plan: &SitePlan<A>,
+    query: &Query<'_>,
+) -> Option<Result<Vec<u8, A>, Failure>>
+    ensures { MatchOption result (needs_matrix (seen_query query.now) ≡ true)
+        (λ said. (needs_matrix (seen_query query.now) ≡ false) × Says (seen_query query.now) plan.now said) }
+{
+    match *query {
+        Query::Report => Some(report(plan)),
+        Query::Check(times) => Some(check(plan, times)),
+        Query::Ask(question) => Some(tell(plan, question)),
+        Query::Repairs => Some(repairs(plan)),
+        Query::Draw => Some(draw(plan)),
+        Query::Next(_) | Query::Ready(_) | Query::Rehearse(_) | Query::Among(_, _, _) => None,
     }
 }
 

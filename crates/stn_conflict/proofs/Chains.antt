@@ -2,8 +2,8 @@ use Rattle.std.proofs.Common.{◌≡◌, ℕ, ◌<◌, List, [], ◌∷◌, ◌+
 use Rattle.std.specs.{Prelude.ℤ, Prelude.pos, Prelude.◌+ℤ◌, List.AllByRecursion}
 use Rattle.std.proofs.{lemmas.Int.ints, lemmas.List.length-take}
 use Rattle.stn_net.specs.Difference.{Difference}
-use Rattle.stn_matrix.specs.Tightest.{IsTightest}
-use Rattle.stn_matrix.proofs.Tightest.{tightest_unique}
+use Rattle.stn_net.specs.Matrix.Tightest.{IsTightest}
+use Rattle.stn_net.proofs.Tightest.{tightest_unique}
 use Rattle.stn_conflict.specs.{declared.links.Link.Link, Arcs.Arc, Arcs.arc_of, Arcs.IsChain, Arcs.weight_of, Named.IsTight, Named.IsTightChain, Named.IsFirstStep, Named.IsWay}
 use Rattle.stn_conflict.proofs.Tightness.{arc_before}
 

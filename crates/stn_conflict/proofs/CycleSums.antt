@@ -4,8 +4,8 @@ use Rattle.std.proofs.{lemmas.Int.ints, lemmas.List.take_more, lemmas.List.Eleme
 use Rattle.std.specs.List.{AllByRecursion}
 use Rattle.stn_time.specs.Time.{horizon, IsWithinHorizon}
 use Rattle.stn_net.specs.{Difference.Difference, Schedule.IsSchedule, Schedule.HasSchedule}
-use Rattle.stn_matrix.specs.Tightest.{IsTightest}
-use Rattle.stn_matrix.proofs.Tightest.{tightest_unique}
+use Rattle.stn_net.specs.Matrix.Tightest.{IsTightest}
+use Rattle.stn_net.proofs.Tightest.{tightest_unique}
 use Rattle.stn_conflict.specs.{declared.links.Link.Link, declared.links.Side.Side, declared.links.Side.TheVariants.Upper, declared.links.Side.TheVariants.Lower, Arcs.arc, Arcs.arc_of, Arcs.bound_at, Arcs.IsChain, Arcs.weight_of, Arcs.IsNegativeCycle, Culprit.IsRefusedSide, Culprit.IsCulprit, Named.IsWay, Named.IsWayOf, Named.IsNamedCycle, Search.IsCycleOf}
 use Rattle.stn_conflict.proofs.{Tightness.tightest_self, Tightness.link_kept, Between.refused_lower, OneCycle.way_unique, Chains.way_is_tight, Chains.weight_of_tight, Chains.chain_before}
 

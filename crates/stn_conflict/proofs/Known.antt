@@ -3,7 +3,7 @@ use Rattle.std.specs.Prelude.{ℤ, pos}
 use Rattle.std.proofs.{lemmas.Int.ints, lemmas.Bool.cases_lt, lemmas.List.length-take, lemmas.List.take-append-le, lemmas.List.take_all}
 use Rattle.stn_net.specs.{Difference.Difference, Horizon.horizon_bounds, Schedule.Meets, Schedule.HasSchedule}
 use Rattle.stn_net.proofs.Horizons.{length-horizon_bounds}
-use Rattle.stn_matrix.proofs.Widest.{horizon_each}
+use Rattle.stn_net.proofs.Widest.{horizon_each}
 
 -- bounds that begin with the horizon bounds are no fewer than the events
 pub known_within : (events : ℕ) (base : List Difference) → take events base ≡ horizon_bounds events → events ≤ length base

@@ -4,7 +4,7 @@ use Rattle.std.specs.List.{AllByRecursion}
 use Rattle.std.proofs.{lemmas.Int.ints, lemmas.Int.by_lt_z, lemmas.List.length_push, lemmas.List.Elements.All-from_get_or}
 use Rattle.stn_time.proofs.Each.{each_pushed}
 use Rattle.stn_net.specs.{Difference.Difference, Schedule.Meets, Schedule.IsSchedule, Schedule.times_of}
-use Rattle.stn_matrix.specs.Tightest.{IsTightest}
+use Rattle.stn_net.specs.Matrix.Tightest.{IsTightest}
 use Rattle.stn_conflict.specs.{declared.links.Link.Link, declared.links.Side.Side, declared.links.Side.TheVariants.Upper, declared.links.Side.TheVariants.Lower, Arcs.arc, Arcs.arc_of, Arcs.bound_at, Arcs.IsChain, Relaxation.AreDistances, Named.IsTight, Named.IsTightChain, Named.IsLevel}
 use Rattle.stn_conflict.proofs.{Tightness.tightest_self, Tightness.link_reaches, Tightness.link_among, Chains.chain-push}
 

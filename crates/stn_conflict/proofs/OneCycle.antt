@@ -2,7 +2,7 @@ use Rattle.std.proofs.Common.{◌≡◌, inl, inr, ℕ, zero, suc, ◌+◌, ◌�
 use Rattle.std.proofs.{lemmas.Int.ints, lemmas.Bool.cases_order, lemmas.List.length_push, lemmas.List.take-take}
 use Rattle.stn_time.proofs.Each.{each_parted}
 use Rattle.stn_net.specs.{Difference.Difference, Schedule.IsSchedule, Schedule.HasSchedule}
-use Rattle.stn_matrix.proofs.Tightest.{tightest_unique}
+use Rattle.stn_net.proofs.Tightest.{tightest_unique}
 use Rattle.stn_conflict.specs.{declared.links.Link.Link, declared.links.Side.Side, declared.links.Side.TheVariants.Upper, declared.links.Side.TheVariants.Lower, Arcs.arc_of, Arcs.bound_at, Arcs.rank, Arcs.side_rank, Culprit.IsRefusedSide, Culprit.IsCulprit, Named.IsLevel, Named.IsStep, Named.IsFirstStep, Named.IsWay, Named.IsNamedCycle}
 use Rattle.stn_conflict.proofs.{Tightness.schedule_before, Chains.IsPushedChain, Chains.chain-unpush, Chains.last_of}
 

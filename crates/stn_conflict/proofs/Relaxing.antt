@@ -6,7 +6,7 @@ use Rattle.std.proofs.lemmas.List.Elements.{All-from_get_or, All-take, All-appen
 use Rattle.stn_time.specs.Time.{horizon, IsWithinHorizon}
 use Rattle.stn_time.proofs.Each.{All-left}
 use Rattle.stn_net.specs.{Difference.Difference, Difference.NamesEvents, Schedule.Meets, Schedule.IsSchedule, Schedule.HasSchedule, Schedule.times_of, Horizon.horizon_bounds}
-use Rattle.stn_matrix.proofs.Widest.{horizon_times}
+use Rattle.stn_net.proofs.Widest.{horizon_times}
 use Rattle.stn_conflict.specs.{declared.links.Link.Link, declared.links.Side.Side, declared.links.Side.TheVariants.Upper, declared.links.Side.TheVariants.Lower, Arcs.Arc, Arcs.arc, Arcs.arc_of, Arcs.bound_at}
 use Rattle.stn_conflict.specs.Relaxation.{NamesAmong, IsNetwork, AreEstimates, AreDistances, AreRelaxed, IsRelaxed, IsRelaxedBut, IsTaken, is_fresh, room}
 use Rattle.stn_conflict.proofs.{Tightness.schedule_before, Tightness.link_kept, Tightness.link_reaches, Tightness.link_among, Known.known_first, LevelTable.meets_moved}

@@ -4,7 +4,7 @@ use Rattle.std.specs.List.{AllByRecursion, Contains}
 use Rattle.std.proofs.{lemmas.List.get_or_default, lemmas.List.reverse-append, lemmas.Bool.cases_eq, lemmas.Bool.cases_lt, lemmas.Int.ints}
 use Rattle.stn_time.specs.Time.{IsWithinHorizon}
 use Rattle.stn_net.specs.Difference.{Difference}
-use Rattle.stn_matrix.specs.Tightest.{IsTightest}
+use Rattle.stn_net.specs.Matrix.Tightest.{IsTightest}
 use Rattle.stn_conflict.specs.{declared.links.Link.Link, declared.links.Side.Side, declared.links.Side.TheVariants.Upper, declared.links.Side.TheVariants.Lower, Arcs.arc, Arcs.arc_of, Arcs.bound_at, Arcs.rank, Arcs.side_rank, Arcs.IsChain, Named.IsTight, Named.IsLevel, Named.IsStep, Named.IsFirstStep, Relaxation.AreRows, Relaxation.row_of, Search.other_side, Search.across, Search.HasLevels, Search.HasNoStep, Search.IsFirstStepTo}
 use Rattle.stn_conflict.proofs.{Tightness.tight_from_sum, Tightness.sum_from_tight, OneCycle.link_same, OneCycle.level_unique}
 
@@ -61,21 +61,14 @@ level_zero bounds start x is =
     empty [] chain long = sym chain
     empty (link ∷ links) chain long = absurd (omega arith)
 
--- the link across begins where the link ends
-across_from : (bounds : List Difference) (link : Link) → (arc_of bounds (across link)).from ≡ (arc_of bounds link).to
-across_from bounds link = ends (bound_at bounds link.place) link.side
+-- the link across begins where the link ends, and ends where it begins
+across_ends : (bounds : List Difference) (link : Link)
+    → ((arc_of bounds (across link)).from ≡ (arc_of bounds link).to) × ((arc_of bounds (across link)).to ≡ (arc_of bounds link).from)
+across_ends bounds link = ends (bound_at bounds link.place) link.side
   where
-    ends : (bound : Difference) (side : Side) → (arc bound (other_side side)).from ≡ (arc bound side).to
-    ends bound Upper = refl
-    ends bound Lower = refl
-
--- and ends where it begins
-across_to : (bounds : List Difference) (link : Link) → (arc_of bounds (across link)).to ≡ (arc_of bounds link).from
-across_to bounds link = ends (bound_at bounds link.place) link.side
-  where
-    ends : (bound : Difference) (side : Side) → (arc bound (other_side side)).to ≡ (arc bound side).from
-    ends bound Upper = refl
-    ends bound Lower = refl
+    ends : (bound : Difference) (side : Side) → ((arc bound (other_side side)).from ≡ (arc bound side).to) × ((arc bound (other_side side)).to ≡ (arc bound side).from)
+    ends bound Upper = (refl, refl)
+    ends bound Lower = (refl, refl)
 
 -- across twice is back
 across_twice : (link : Link) → across (across link) ≡ link
@@ -121,7 +114,7 @@ module _ {A : Type 0} where
   across_in_row : (bounds : List Difference) (count event : ℕ) (rows : List (Vec Link A)) (link : Link) → AreRows bounds count rows → link.place < length bounds
       → (arc_of bounds link).to ≡ event → Contains (row_of rows event) (across link)
   across_in_row bounds count event rows link h there ends =
-      subst (λ x. Contains (row_of rows x) (across link)) (across_from bounds link ∙ ends) (h.every (across link) there)
+      subst (λ x. Contains (row_of rows x) (across link)) ((across_ends bounds link).0 ∙ ends) (h.every (across link) there)
 
   -- the first link of an event's row that is across from a step is across from the first step to the event
   pub first_in_row : (bounds : List Difference) (start count event seen : ℕ) (rows : List (Vec Link A)) (link : Link) → AreRows bounds count rows → seen < length (row_of rows event)
@@ -130,7 +123,7 @@ module _ {A : Type 0} where
   first_in_row bounds start count event seen rows link h there here passed step =
       let row = row_of rows event in
       let begins : (arc_of bounds link).from ≡ event = h.begin event link (seen, there, here) step.tight.there in
-      let ends : (arc_of bounds (across link)).to ≡ event = across_to bounds link ∙ begins in
+      let ends : (arc_of bounds (across link)).to ≡ event = (across_ends bounds link).1 ∙ begins in
       record {
         ends = ends;
         first = record {
@@ -144,7 +137,7 @@ module _ {A : Type 0} where
                     let order = h.ordered event seen k link later within in
                     let place : other.place ≡ link.place = omega (arith, place_of_rank other (across link) (omega arith), order, ap (λ l. l.place) here, ap (λ l. l.place) found) in
                     let e : other ≡ link = link_before_across other link place before in
-                    step_leaves bounds start (across link) step (across_from bounds link ∙ sym (ap (λ l. (arc_of bounds l).to) e) ∙ same)
+                    step_leaves bounds start (across link) step ((across_ends bounds link).0 ∙ sym (ap (λ l. (arc_of bounds l).to) e) ∙ same)
               ];
         };
       }

@@ -4,8 +4,8 @@ use Rattle.std.specs.List.{All}
 use lib.Signed.{le_z}
 use Rattle.std.proofs.{lemmas.Int.ints, lemmas.List.get_or-take, lemmas.List.Elements.All-take}
 use Rattle.stn_net.specs.{Difference.Difference, Schedule.Meets, Schedule.IsSchedule}
-use Rattle.stn_matrix.proofs.Tightest.{tightest_unique}
-use Rattle.stn_matrix.specs.Tightest.{IsTightest}
+use Rattle.stn_net.proofs.Tightest.{tightest_unique}
+use Rattle.stn_net.specs.Matrix.Tightest.{IsTightest}
 use Rattle.stn_conflict.specs.{declared.links.Link.Link, declared.links.Side.Side, declared.links.Side.TheVariants.Upper, declared.links.Side.TheVariants.Lower, Arcs.arc, Arcs.arc_of, Arcs.bound_at, Relaxation.NamesAmong, Named.IsTight}
 
 -- what a comparison of signed numbers answers

@@ -3,7 +3,7 @@ use Rattle.std.specs.{Prelude.ℤ, Prelude.neg_ℤ, Prelude.Vec, List.Contains}
 use Rattle.std.proofs.{lemmas.Int.ints, lemmas.List.Elements.All-map}
 use Rattle.std.proofs.lemmas.List.{get_or-map, get_or-take, take-map, length-map, length-take}
 use Rattle.stn_net.specs.{Difference.Difference, Difference.NamesEvents, Schedule.Meets, Schedule.IsSchedule, Schedule.HasSchedule}
-use Rattle.stn_matrix.specs.Tightest.{IsTightest}
+use Rattle.stn_net.specs.Matrix.Tightest.{IsTightest}
 use Rattle.stn_conflict.specs.{declared.listed.Direction.Direction, declared.links.Link.Link, declared.links.Side.Side, declared.links.Side.TheVariants.Upper, declared.links.Side.TheVariants.Lower, Arcs.arc, Arcs.arc_of, Arcs.bound_at, Directions.turned, Directions.faced, Directions.facing, Distances.AreDistancesFrom, Distances.AreDistancesTo, Relaxation.AreRows, Relaxation.IsNetwork, Relaxation.row_of}
 use Rattle.stn_conflict.specs.declared.listed.Direction.TheVariants.{Forward, Backward}
 

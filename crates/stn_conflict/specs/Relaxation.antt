@@ -3,7 +3,7 @@ use Rattle.std.specs.Prelude.{◌≡◌, ℕ, ℤ, pos, neg_ℤ, ◌+ℤ◌, ◌
 use Rattle.std.specs.List.Sorted.{IsNonDecreasingBy}
 use Rattle.stn_time.specs.Time.{horizon}
 use Rattle.stn_net.specs.{Event.most_events, Difference.Difference, Difference.NamesEvents, Schedule.IsSchedule, Schedule.times_of}
-use Rattle.stn_matrix.specs.Tightest.{IsTightest}
+use Rattle.stn_net.specs.Matrix.Tightest.{IsTightest}
 use Rattle.stn_conflict.specs.{declared.links.Link.Link, declared.relaxation.Search.Search, declared.outgoing.Rows.Rows, Arcs.arc_of, Arcs.rank}
 
 -- both events of the bound are among the first so many

@@ -19,6 +19,7 @@ pub(crate) struct Walk<A: Allocator> {
 
 // Whether the link's end can be as far after `start` as the link allows when its beginning is as far
 // as it can be.
+#[tactic(auto, using(crate::proofs::Tightness::link_among))]
 fn is_tight(bounds: &Listed<'_>, far: &[Ms], start: Event, link: Link) -> bool
     requires far { AreDistances bounds.now start far.now }
     requires there { link.place < length bounds.now }
@@ -124,6 +125,7 @@ fn is_step(
 }
 
 // The first step to an event: the links that end at it are those of its row with the other side of their bounds, in the row's order.
+#[tactic(auto, using(crate::proofs::Rows::row_is, crate::proofs::Steps::passed_more, std::proofs::lemmas::List::get_or_default))]
 pub(crate) fn first_step<A: Allocator>(
     bounds: &Listed<'_>,
     outgoing: &[Vec<Link, A>],

@@ -65,6 +65,7 @@ pub struct Distances<A: Allocator> {
 
 /// The law that bounds have one way at most from an event to another, so that all who hold the same bounds are told the
 /// same.
+#[tactic(auto, using(crate::proofs::OneCycle::way_unique))]
 pub fn one_way()
     ensures { (bounds : List Difference) → (from to : ℕ) → (one other : List Link)
         → IsWay bounds from to one → IsWay bounds from to other → one ≡ other }
@@ -72,6 +73,7 @@ pub fn one_way()
 
 /// The law that bounds have one named cycle at most, so that all who hold the same bounds name the
 /// same.
+#[tactic(auto, using(crate::proofs::OneCycle::named_cycle_unique))]
 pub fn one_named_cycle()
     ensures { (bounds : List Difference) → (one other : List Link)
         → IsNamedCycle bounds one → IsNamedCycle bounds other → one ≡ other }
@@ -79,6 +81,7 @@ pub fn one_named_cycle()
 
 /// The law that bounds with a negative cycle have no schedule, so that a cycle is reason enough
 /// (Dechter, Meiri and Pearl, 1991).
+#[tactic(auto, using(crate::proofs::CycleSums::negative_no_schedule))]
 pub fn negative_cycle_is_conflict()
     ensures { (bounds : List Difference) → (links : List Link)
         → IsNegativeCycle bounds links → ¬ HasSchedule bounds }

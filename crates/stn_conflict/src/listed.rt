@@ -93,6 +93,7 @@ impl<'a> Listed<'a> {
         }
     }
 
+    #[tactic(auto, using(crate::proofs::Turned::bound_listed, crate::proofs::Turned::faced_ends))]
     pub fn arc(&self, link: Link) -> Arc
         requires { link.place < length self.now }
         ensures from { result.from ≡ (arc_of self.now link).from }

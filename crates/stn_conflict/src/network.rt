@@ -3,7 +3,7 @@ ghost use Rattle.stn_net.specs.Event.{most_events};
 ghost use Rattle.stn_net.specs.Difference.{NamesEvents};
 ghost use Rattle.stn_net.specs.Schedule.{HasSchedule};
 ghost use Rattle.stn_net.specs.Horizon.{horizon_bounds};
-ghost use Rattle.stn_matrix.specs.Tightest.{IsTightest};
+ghost use Rattle.stn_net.specs.Matrix.Tightest.{IsTightest};
 ghost use Rattle.stn_conflict.specs.Distances.{TellsWithin};
 ghost use Rattle.stn_conflict.specs.Relaxation.{IsTaken};
 
@@ -123,8 +123,10 @@ impl<A: Allocator + Copy> Network<A> {
     {
         let bounds = Listed::new(Direction::Forward, &self.bounds, &[]);
         self.rows.add(&bounds)?;
-        self.search.begin(from);
-        if !self.search.settle(&bounds, &self.rows.outgoing) {
+        if !self
+            .search
+            .find(self.events, &bounds, &self.rows.outgoing, from)
+        {
             return Ok(None);
         }
         Ok(Some(self.search.far[usize::from(to.number())]))

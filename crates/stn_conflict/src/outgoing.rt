@@ -16,6 +16,7 @@ pub(crate) struct Rows<A: Allocator> {
 
 impl<A: Allocator + Copy> Rows<A> {
     // No links, among so many events beside the origin.
+    #[tactic(auto, using(std::proofs::lemmas::List::length_push, crate::proofs::Rows::rows_empty, crate::proofs::Rows::rows_of_none))]
     pub fn new(alloc: A, events: u16) -> Result<Rows<A>, Memory>
         ensures { IfOk result (λ rows. (bounds : List Difference) → AreFirstRows bounds (events + 1) rows) }
     {

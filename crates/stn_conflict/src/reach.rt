@@ -1,17 +1,16 @@
-ghost use Rattle.std.specs.Prelude.{◌≡◌, ◌+◌, ◌↔◌, ◌≤◌, ◌++◌, take, All, IsNone, IfOk, IfSome, MatchOption};
+ghost use Rattle.std.specs.Prelude.{◌≡◌, ◌+◌, ◌↔◌, ◌≤◌, ◌++◌, take, All, IsNone, IfOk, IfSome};
 ghost use Rattle.stn_net.specs.Event.{most_events};
 ghost use Rattle.stn_net.specs.Difference.{NamesEvents};
 ghost use Rattle.stn_net.specs.Schedule.{HasSchedule};
 ghost use Rattle.stn_net.specs.Horizon.{horizon_bounds};
 ghost use Rattle.stn_conflict.specs.Distances.{AreDistancesFrom, AreDistancesTo};
-ghost use Rattle.stn_conflict.specs.Relaxation.{AreRows, IsNetwork};
 
-use crate::links::{Distances, Link};
+use crate::links::Distances;
 use crate::listed::{Direction, Listed};
 use crate::relaxation::{Search, outgoing_links};
 use std::alloc::Allocator;
 use stn_net::{Bound, Event};
-use stn_time::{Memory, Ms};
+use stn_time::Memory;
 
 /// The tightest differences between `event` and each event, both ways, over the bounds of `base` followed by
 /// those of `extra`; none exactly where these bounds have no schedule. There are so many `events` beside the
@@ -38,35 +37,14 @@ pub fn distances<A: Allocator + Copy>(
     let onward = Listed::new(Direction::Forward, base, extra);
     let back = Listed::new(Direction::Backward, base, extra);
     let outgoing = outgoing_links(alloc, events, &onward)?;
-    let Some(from) = distances_from(alloc, events, &onward, &outgoing, event)? else {
+    let Some(from) = Search::found(alloc, events, &onward, &outgoing, event)? else {
         return Ok(None);
     };
-    let Some(to) = distances_from(alloc, events, &back, &outgoing, event)? else {
+    let Some(to) = Search::found(alloc, events, &back, &outgoing, event)? else {
         return Ok(None);
     };
-    Ok(Some(Distances { from, to }))
-}
-
-// The tightest differences from an event, or none where the bounds have no schedule.
-fn distances_from<A: Allocator + Copy>(
-    alloc: A,
-    events: u16,
-    bounds: &Listed<'_>,
-    outgoing: &[Vec<Link, A>],
-    event: Event,
-) -> Result<Option<Vec<Ms, A>>, Memory>
-    requires few { events ≤ most_events }
-    requires network { IsNetwork events bounds.now }
-    requires rows { AreRows bounds.now (events + 1) outgoing.now }
-    requires event { event ≤ events }
-    ensures { IfOk result (λ found. MatchOption found (¬ HasSchedule bounds.now)
-        (λ far. AreDistancesFrom bounds.now events event far.items)) }
-{
-    let mut search = Search::new(alloc, usize::from(events) + 1)?;
-    search.begin(event);
-    if search.settle(bounds, outgoing) {
-        Ok(Some(search.far))
-    } else {
-        Ok(None)
-    }
+    Ok(Some(Distances {
+        from: from.far,
+        to: to.far,
+    }))
 }

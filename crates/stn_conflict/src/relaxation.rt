@@ -5,7 +5,7 @@
 // What a search over other bounds left in `by` does no harm: a link counts only if it is one of these bounds, and ends at
 // the event.
 
-ghost use Rattle.std.specs.Prelude.{◌≡◌, ◌+◌, ◌<◌, ◌≤◌, ◌↔◌, ℕ, false, length, All, IsTrue, IsErr, IsOk, IfOk, IfSome, IfNone, OnOk, List};
+ghost use Rattle.std.specs.Prelude.{◌≡◌, ◌+◌, ◌<◌, ◌≤◌, ◌↔◌, ℕ, false, length, All, IsTrue, IsErr, IsOk, IfOk, IfSome, IfNone, OnOk, MatchOption, List};
 ghost use Rattle.std.specs.List.{Contains};
 ghost use Rattle.stn_net.specs.Event.{most_events};
 ghost use Rattle.stn_net.specs.Difference.{Difference, NamesEvents};
@@ -71,24 +71,48 @@ impl<A: Allocator + Copy> Search<A> {
         })
     }
 
-    // Finds the distances from an event, where the bounds have a schedule.
-    pub fn distances(
+    // A search that has found the distances from an event, or none where the bounds have no schedule.
+    pub fn found(
+        alloc: A,
+        events: u16,
+        bounds: &Listed<'_>,
+        outgoing: &[Vec<Link, A>],
+        start: Event,
+    ) -> Result<Option<Search<A>>, Memory>
+        requires few { events ≤ most_events }
+        requires network { IsNetwork events bounds.now }
+        requires rows { AreRows bounds.now (events + 1) outgoing.now }
+        requires start { start ≤ events }
+        ensures { IfOk result (λ found. MatchOption found (¬ HasSchedule bounds.now)
+            (λ search. HasTables (events + 1) search × AreDistances bounds.now start search.far.items)) }
+    {
+        let mut search = Search::new(alloc, usize::from(events) + 1)?;
+        if search.find(events, bounds, outgoing, start) {
+            Ok(Some(search))
+        } else {
+            Ok(None)
+        }
+    }
+
+    // Finds the distances from an event, and answers true; false exactly where the bounds have no schedule.
+    #[tactic(auto, using(crate::proofs::Searches::tables_of))]
+    pub fn find(
         &mut self,
         events: u16,
         bounds: &Listed<'_>,
         outgoing: &[Vec<Link, A>],
         start: Event,
-    )
+    ) -> bool
         requires tables { HasTables (events + 1) self.old }
         requires network { IsNetwork events bounds.now }
         requires rows { AreRows bounds.now (events + 1) outgoing.now }
         requires start { start ≤ events }
-        requires possible { HasSchedule bounds.now }
         ensures tables { HasTables (events + 1) self.new }
-        ensures distances { AreDistances bounds.now start self.new.far.items }
+        ensures possible { IsTrue result ↔ HasSchedule bounds.now }
+        ensures distances { IsTrue result → AreDistances bounds.now start self.new.far.items }
     {
         self.begin(start);
-        self.settle(bounds, outgoing);
+        self.settle(bounds, outgoing)
     }
 
     // Begins again from an event, with the estimates that the horizon allows.
@@ -107,6 +131,7 @@ impl<A: Allocator + Copy> Search<A> {
 
     // Lowers the estimates until they are the distances, and answers true; false exactly where the bounds, of which the
     // rows have all links, have no schedule.
+    #[tactic(auto, using(crate::proofs::Relaxing::all_fresh, crate::proofs::Searches::from_ok))]
     pub fn settle(&mut self, bounds: &Listed<'_>, outgoing: &[Vec<Link, A>]) -> bool
         requires search { IsSearch bounds.now self.old.start (length self.old.far.items) self.old }
         requires rows { AreRows bounds.now (length self.old.far.items) outgoing.now }
@@ -119,6 +144,7 @@ impl<A: Allocator + Copy> Search<A> {
     }
 
     // The same, where each link from an event whose estimate is not fresh is met already.
+    #[tactic(auto, using(crate::proofs::Searches::from_ok))]
     pub fn go_on(&mut self, bounds: &Listed<'_>, outgoing: &[Vec<Link, A>]) -> bool
         requires search { IsSearch bounds.now self.old.start (length self.old.far.items) self.old }
         requires rows { AreRows bounds.now (length self.old.far.items) outgoing.now }
@@ -132,6 +158,7 @@ impl<A: Allocator + Copy> Search<A> {
 
     // Relaxes the links from events with fresh estimates, back and forth through the events, until there is none; where
     // links that lowered estimates lead round, this would never end.
+    #[tactic(auto, using(crate::proofs::Searches::own, crate::proofs::Searches::goes_on, crate::proofs::Searches::tables_of))]
     fn relax_until_met(
         &mut self,
         bounds: &Listed<'_>,
@@ -156,6 +183,7 @@ impl<A: Allocator + Copy> Search<A> {
 
     // Relaxes the links from each event with a fresh estimate, in the events' order or against it; the last event whose
     // estimate was lowered. Where there is none, each link is met.
+    #[tactic(auto, using(crate::proofs::Searches::goes_on))]
     fn sweep(
         &mut self,
         bounds: &Listed<'_>,
@@ -189,6 +217,7 @@ impl<A: Allocator + Copy> Search<A> {
     }
 
     // Relaxes these links, as far as they are links of the bounds; the last event whose estimate was lowered.
+    #[tactic(auto, using(crate::proofs::Searches::goes_on, std::proofs::lemmas::List::get_or_default))]
     fn relax_from(
         &mut self,
         bounds: &Listed<'_>,
@@ -217,6 +246,7 @@ impl<A: Allocator + Copy> Search<A> {
     }
 
     // Lowers the estimate at the link's end to what the link allows, where that is less; whether it was.
+    #[tactic(auto, using(crate::proofs::Tightness::link_among, std::proofs::lemmas::List::get_or_read, crate::proofs::Relaxing::relaxed_estimates))]
     fn relax(&mut self, bounds: &Listed<'_>, link: Link) -> Result<bool, NoSchedule>
         requires search { IsSearch bounds.now self.old.start (length self.old.far.items) self.old }
         requires there { link.place < length bounds.now }

@@ -22,6 +22,7 @@ use stn_time::{Memory, Ms};
 /// 0 through both; none exactly where these bounds have a schedule. There are so many `events`
 /// beside the origin, `base` begins with their horizon bounds, and all bounds are about them. It
 /// fails only if memory runs out.
+#[tactic(auto, using(crate::proofs::Known::known_first, crate::proofs::Found::told_of_cycle, crate::proofs::Found::found_none, crate::proofs::CycleSums::negative_no_schedule))]
 pub fn cycle<A: Allocator + Copy>(
     alloc: A,
     events: u16,
@@ -72,6 +73,7 @@ fn cycle_of<A: Allocator + Copy>(
 
 // The place of the first bound with which the bounds have no schedule, by bisection. The distances of
 // bounds that have a schedule are estimates for more of them.
+#[tactic(auto, using(crate::proofs::Searches::tables_of))]
 fn first_refused<A: Allocator + Copy>(
     alloc: A,
     events: u16,
@@ -96,6 +98,7 @@ fn first_refused<A: Allocator + Copy>(
 }
 
 // The same place, where the bounds have no schedule, and `known` has estimates for the horizon bounds.
+#[tactic(auto, using(crate::proofs::Known::more_than_known))]
 fn first_between<A: Allocator + Copy>(
     events: u16,
     bounds: &Listed<'_>,
@@ -150,15 +153,16 @@ fn refused_side<A: Allocator + Copy>(
     let before = bounds.before(place);
     let side = Side::Upper;
     let upper = bounds.arc(Link { place, side });
-    search.distances(events, &before, outgoing, upper.to);
+    search.find(events, &before, outgoing, upper.to);
     if search.far[usize::from(upper.from.number())].get() + upper.weight.get() < 0 {
         return side;
     }
-    search.distances(events, &before, outgoing, upper.from);
+    search.find(events, &before, outgoing, upper.from);
     Side::Lower
 }
 
 // The named cycle, where the bound at the place is the first with which the bounds have no schedule.
+#[tactic(auto, using(crate::proofs::Tightness::link_among, crate::proofs::Relaxing::among_events))]
 fn named<A: Allocator + Copy>(
     alloc: A,
     events: u16,

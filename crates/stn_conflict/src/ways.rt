@@ -66,13 +66,10 @@ fn way<A: Allocator + Copy>(
     ensures { IfOk result (λ found. MatchOption found (¬ HasSchedule bounds.now)
         (λ way. IsWayOf bounds.now from to (events + 1) way.links.items way.sum)) }
 {
-    let mut search = Search::new(alloc, usize::from(events) + 1)?;
-    search.begin(from);
-    if search.settle(bounds, outgoing) {
-        Ok(Some(way_to(alloc, bounds, outgoing, &search.far, from, to)?))
-    } else {
-        Ok(None)
-    }
+    let Some(search) = Search::found(alloc, events, bounds, outgoing, from)? else {
+        return Ok(None);
+    };
+    Ok(Some(way_to(alloc, bounds, outgoing, &search.far, from, to)?))
 }
 
 // The way from `start` to `end`, with its sum.

@@ -1,5 +1,4 @@
-// What commands on logs ask, and the loosened and the robust plan, while a request for memory is refused. The commands themselves
-// ask the global allocator.
+// What commands on logs ask, and the loosened and the robust plan, while a request for memory is refused.
 use crate::sweep::{Answer, Call, judged, requests};
 use std::alloc::Global;
 use std::process::Abort;
@@ -164,10 +163,12 @@ fn questions(rt: HostRuntime) {
     }
 }
 
-const DOMAIN: &[u8] =
+/// The domain of a plan whose steps are loosened.
+pub const DOMAIN: &[u8] =
     b"(define (domain d) (:durative-action a :parameters () :duration (= ?duration 5) :effect (at end (p))))";
 
-const PLAN: &[u8] = b"0: (a)\n6: (a)\n";
+/// That plan.
+pub const PLAN: &[u8] = b"0: (a)\n6: (a)\n";
 
 // The plan whose steps are loosened.
 fn loose_base(heap: &Refusing<Global>) -> Option<Base<&Refusing<Global>>> {

@@ -14,6 +14,8 @@ mod frames;
 #[cfg(test)]
 mod guards;
 #[cfg(test)]
+mod logs;
+#[cfg(test)]
 mod readers;
 #[cfg(test)]
 mod records;

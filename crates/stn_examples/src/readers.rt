@@ -1,7 +1,7 @@
 use crate::sweep::{Answer, Call, judged, requests};
 use std::alloc::Global;
+use stn_lift::{Plan, PlanFault};
 use stn_pddl::{Domain, DomainFault};
-use stn_plan::{Plan, PlanFault};
 use stn_refusing::Refusing;
 
 const DOMAIN: &[u8] =

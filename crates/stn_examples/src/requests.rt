@@ -1,8 +1,7 @@
 use std::alloc::Global;
 use std::rc::Rc;
 use stn_lift::Base;
-use stn_matrix::Matrix;
-use stn_net::Event;
+use stn_net::{Event, Matrix};
 use stn_records::Site;
 use stn_refusing::Refusing;
 use stn_replica::Replica;

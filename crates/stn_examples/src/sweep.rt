@@ -1,6 +1,7 @@
 use crate::commands::{Asked, loosen_refused, robust_refused, say_refused};
 use crate::conflict::cycle_refused;
 use crate::guards::guard_refused;
+use crate::logs::{Done, line_refused};
 use crate::readers::{domain_refused, plan_refused};
 use crate::records::{Change, Reading, change_refused, print_refused, read_refused, take_refused};
 use std::alloc::Global;
@@ -39,7 +40,7 @@ pub fn judged(heap: &Refusing<Global>, right: bool, unchanged: bool) -> Answer {
 
 /// A call each of whose requests for memory is refused in turn.
 #[derive(Clone, Copy)]
-pub enum Call {
+pub enum Call<'a> {
     Cycle,
     Domain,
     Plan,
@@ -51,11 +52,12 @@ pub enum Call {
     Loosen,
     Robust,
     Guard,
+    Line(Done<'a>),
 }
 
 // What the call answers while the request of this number is refused. The allocator refuses nothing yet: each of these functions
 // asks for the refusal right before the call that is looked at.
-fn answer_with(heap: &Refusing<Global>, number: u64, call: Call) -> Answer {
+fn answer_with(heap: &Refusing<Global>, number: u64, call: Call<'_>) -> Answer {
     match call {
         Call::Cycle => cycle_refused(heap, number),
         Call::Domain => domain_refused(heap, number),
@@ -68,10 +70,11 @@ fn answer_with(heap: &Refusing<Global>, number: u64, call: Call) -> Answer {
         Call::Loosen => loosen_refused(heap, number),
         Call::Robust => robust_refused(heap, number),
         Call::Guard => guard_refused(heap, number),
+        Call::Line(done) => line_refused(heap, number, done),
     }
 }
 
-fn answer_of(alloc: Global, number: u64, call: Call) -> Answer {
+fn answer_of(alloc: Global, number: u64, call: Call<'_>) -> Answer {
     let heap = Refusing::new(alloc, 0);
     let answer = answer_with(&heap, number, call);
     drop(heap);
@@ -79,7 +82,7 @@ fn answer_of(alloc: Global, number: u64, call: Call) -> Answer {
 }
 
 /// Has each request for memory of a call refused in turn, and gives how many there are.
-pub fn requests(rt: &impl Abort, alloc: Global, call: Call) -> u64 {
+pub fn requests(rt: &impl Abort, alloc: Global, call: Call<'_>) -> u64 {
     for number in 1..1000 {
         match answer_of(alloc, number, call) {
             Answer::Right => return number,

@@ -4,26 +4,24 @@ use Rattle.std.specs.List.{AllByRecursion}
 use Rattle.std.proofs.{lemmas.Bool.Decides.nat_tests, lemmas.Int.ints, lemmas.List.Elements.All-head, lemmas.List.Elements.All-tail}
 use Rattle.stn_text.specs.Faults.{◌>>=◌}
 use Rattle.stn_time.specs.Time.{horizon}
-use Rattle.stn_tree.specs.Names.{is_same_word}
+use Rattle.stn_pddl.specs.Tree.Names.{is_same_word}
 use Rattle.stn_net.specs.Event.{most_steps}
 use Rattle.stn_pddl.specs.{declared.fault.DomainFault.DomainFault, Schemas.ActionSchema, Domains.domain_of, Domains.action_named, Sound.IsSound}
 use Rattle.stn_pddl.proofs.SoundActions.{domain-sound, domain-short}
-use Rattle.stn_plan.specs.{declared.fault.PlanFault.PlanFault, Lines.lines_of}
-use Rattle.stn_plan.specs.declared.fault.PlanFault.TheVariants.{TooLong, TooManySteps}
-use Rattle.stn_plan.specs.Steps.{most_text, PlannedStep, IsTimely, IsPlan, steps_of, limited, plan_of}
-use Rattle.stn_plan.proofs.StepFacts.{is_plan, plan_of-few}
-use Rattle.stn_lift.specs.{declared.fault.LiftFault.LiftFault, Timelines.IsTimed}
+use Rattle.stn_lift.specs.{declared.plan.fault.PlanFault.PlanFault, Plan.Lines.lines_of, declared.fault.LiftFault.LiftFault, Timelines.IsTimed, declared.fault.BaseFault.BaseFault, Failures.base_failure, Failures.lift_failure}
+use Rattle.stn_lift.specs.declared.plan.fault.PlanFault.TheVariants.{TooLong, TooManySteps}
+use Rattle.stn_lift.specs.Plan.Steps.{most_text, PlannedStep, IsTimely, IsPlan, steps_of, limited, plan_of}
+use Rattle.stn_lift.proofs.StepFacts.{is_plan, plan_of-few}
 use Rattle.stn_lift.specs.declared.fault.LiftFault.TheVariants.{Arity, DurationDiffers, PastHorizon}
 use Rattle.stn_lift.specs.Activities.{Activity, differs, activity, with_action, with_found, activity_of, activities}
 use Rattle.stn_lift.specs.declared.fault.BaseFault.TheVariants.{TooManySteps as TooMany}
-use Rattle.stn_lift.specs.{declared.fault.BaseFault.BaseFault, Failures.base_failure, Failures.lift_failure}
 use Rattle.stn_lift.specs.PlanSource.{PlanSource, bare, files, of_lift, steps_in, lifted, source_with, base_of, IsSoundSource}
 use Rattle.stn_refusal.specs.declared.code.Code.TheVariants as code
 use Rattle.stn_refusal.specs.Refusals.{refusal, refusal_at}
 use Rattle.stn_exec.proofs.Told.{IsTold, told}
 use Rattle.stn_exec.proofs.Texts.{IsReadBy, bind_told, domain_told, plan_told}
 use Rattle.stn_pddl.specs.Failures.{domain_failure}
-use Rattle.stn_plan.specs.Failures.{plan_failure}
+use Rattle.stn_lift.specs.Plan.Failures.{plan_failure}
 use Rattle.stn_lift.proofs.{BareSource.sound_bare_source, LiftedBase.sound_steps, LiftedBase.few_found, Steps.bind_ok, Texts.lifted-Ok, Texts.texts_lifted}
 
 -- ---- the steps of a plan text

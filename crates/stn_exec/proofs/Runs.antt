@@ -1,8 +1,7 @@
 -- A run of a script that was read whole.
 use Rattle.std.proofs.Common.{◌≡◌, ◌≢◌, ◌≤◌, ◌<◌, ◌+◌, ◌-◌, ◌^◌, ◌++◌, arith, min, ℕ, List, Option, Some, None, Result, Ok, Err, IfOk, IfSome, OnOk, length, refl, sym, ap, ◌∙◌, subst, append-nil}
 use Rattle.std.specs.{Prelude.OnErr, Io.KnownBytes.Consumes, Io.KnownBytes.IsAtEnd}
-use Rattle.stn_device.specs.{Bytes.most_bytes, declared.whole.ReadFault.ReadFault}
-use Rattle.stn_device.specs.declared.whole.ReadFault.TheVariants as read_fault
+use Rattle.stn_device.specs.Bytes.{most_bytes}
 use Rattle.stn_exec.specs.{declared.script.Ran.Ran, declared.script.RunFault.RunFault, Output.CountsRefusals, Output.WritesOutput, Output.WritesOutputPart, Running.IsRun, Script.script_outcome}
 use Rattle.stn_exec.specs.declared.script.RunFault.TheVariants.{Read, Write, Bound, Memory}
 
@@ -15,34 +14,6 @@ whole (Some bytes) (Some more) script consumed ended = consumed ∙ ap (λ left.
 -- a failure is counted
 pub counts_more : (before after : ℕ) → after ≡ min (before + 1) (2 ^ 64 - 1) → before < 2 ^ 64 - 1 → before < after
 counts_more before after counted few = omega arith
-
--- the faults differ
-pub read_not_write : {T : Type 0} (r : Result T RunFault) → r ≡ Err Read → r ≢ Err Write
-read_not_write r is e = cc
-
-pub read_not_bound : {T : Type 0} (r : Result T RunFault) → r ≡ Err Read → r ≢ Err Bound
-read_not_bound r is e = cc
-
-pub bound_not_read : {T : Type 0} (r : Result T RunFault) → r ≡ Err Bound → r ≢ Err Read
-bound_not_read r is e = cc
-
-pub bound_not_write : {T : Type 0} (r : Result T RunFault) → r ≡ Err Bound → r ≢ Err Write
-bound_not_write r is e = cc
-
-pub memory_not_read : {T : Type 0} (r : Result T RunFault) → r ≡ Err Memory → r ≢ Err Read
-memory_not_read r is e = cc
-
-pub memory_not_write : {T : Type 0} (r : Result T RunFault) → r ≡ Err Memory → r ≢ Err Write
-memory_not_write r is e = cc
-
-pub memory_not_bound : {T : Type 0} (r : Result T RunFault) → r ≡ Err Memory → r ≢ Err Bound
-memory_not_bound r is e = cc
-
-pub bound_kept : {T : Type 0} (r : Result T ReadFault) (fault : ReadFault) → r ≡ Err fault → fault ≡ read_fault.Bound → r ≢ Err read_fault.Read
-bound_kept r fault failed is e = cc
-
-pub memory_kept : {T : Type 0} (r : Result T ReadFault) (fault : ReadFault) → r ≡ Err fault → fault ≡ read_fault.Memory → r ≢ Err read_fault.Read
-memory_kept r fault failed is e = cc
 
 pub ok_not_err : {T E : Type 0} {value : T} {fault : E} → Ok value ≢ Err fault
 ok_not_err e = cc

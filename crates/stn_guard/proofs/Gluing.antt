@@ -3,7 +3,7 @@ use Rattle.std.specs.Prelude.{◌↔◌, All, flat_map}
 use Rattle.std.proofs.{lemmas.Bool.and_parts, lemmas.Bool.Decides.eqb_tells}
 use Rattle.std.proofs.lemmas.List.Elements.{All-append, All-weaker, All-filter}
 use Rattle.stn_net.specs.{Difference.Difference, Schedule.Meets, Schedule.IsSchedule, Schedule.HasSchedule}
-use Rattle.stn_windows.specs.Window.{IsInWindow}
+use Rattle.stn_net.specs.Windows.Window.{IsInWindow}
 use Rattle.stn_guard.specs.{Owners.is_at, Owners.is_own, Owners.own_bounds, Guard.Guards}
 use Rattle.stn_guard.proofs.Owned.{all_front, all_behind, all_passing, all_filtered, all_pieces, at_cases, at_owner}
 

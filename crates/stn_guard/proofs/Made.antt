@@ -5,7 +5,7 @@ use Rattle.std.proofs.{lemmas.Int.ints, lemmas.Bool.eq-eqb, lemmas.Bool.Decides.
 use Rattle.std.proofs.lemmas.List.Elements.{All-nil, All-cons, All-head, All-tail, All-append, All-take, All-filter}
 use Rattle.stn_time.specs.Time.{horizon}
 use Rattle.stn_net.specs.{Difference.Difference, Difference.NamesEvents, Horizon.horizon_bound, Horizon.horizon_bounds, Schedule.Meets, Schedule.IsSchedule, Schedule.HasSchedule}
-use Rattle.stn_windows.specs.Window.{IsInWindow}
+use Rattle.stn_net.specs.Windows.Window.{IsInWindow}
 use Rattle.stn_guard.specs.{declared.splitting.Arc.Arc, Owners.is_own, Owners.own_bounds, Owners.is_shared, Guard.Guards}
 use Rattle.stn_guard.specs.Making.{arcs_of, shared_arcs, window_bound, is_named, says_more, AreWindows, IsGuardOf}
 use Rattle.stn_guard.proofs.Owned.{all_front, all_behind, all_passing, all_filtered, all_pieces, all_of_pieces, at_owner, at_origin, both, own_or_shared, shared_parts}

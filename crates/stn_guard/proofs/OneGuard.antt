@@ -4,8 +4,8 @@ use Rattle.std.specs.{Prelude.All, Prelude.filter, Prelude.◌&&◌, List.range_
 use Rattle.std.proofs.{lemmas.List.same_lists, lemmas.List.FromFn.length-map-range_with_len, lemmas.List.FromFn.get_or-map-range_with_len}
 use Rattle.std.proofs.lemmas.List.Elements.{All-head, All-tail, All-weaker}
 use Rattle.stn_net.specs.{Difference.Difference, Schedule.HasSchedule}
-use Rattle.stn_windows.specs.Window.{IsWindow}
-use Rattle.stn_windows.proofs.Windows.{one_window}
+use Rattle.stn_net.specs.Windows.Window.{IsWindow}
+use Rattle.stn_net.proofs.WindowEnds.{one_window}
 use Rattle.stn_guard.specs.declared.splitting.Arc.{Arc}
 use Rattle.stn_guard.specs.Making.{shared_arcs, window_bound, split_of, is_named, says_more, IsSplit, AreSplit, AreWindows, IsGuardOf}
 use Rattle.stn_guard.proofs.{Split.Implies, Split.split_left, Split.are_left, Made.arcs_implied}

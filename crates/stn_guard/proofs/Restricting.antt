@@ -2,9 +2,8 @@
 use Rattle.std.proofs.Common.{◌≡◌, ℤ, ◌-ℤ◌, ◌≤ℤ◌, ◌<ℤ◌, Bool, true, false, cond, List, [], ◌∷◌, ◌++◌, refl, sym, ap, subst, ◌∙◌, arith, append-nil, append_assoc}
 use Rattle.std.specs.Prelude.{◌↔◌, IsTrue}
 use Rattle.std.proofs.{lemmas.Int.ints, lemmas.List.Elements.All-head}
-use Rattle.stn_net.specs.{Difference.Difference, Schedule.HasSchedule}
-use Rattle.stn_matrix.specs.{Table.Table, Tightest.IsExact}
-use Rattle.stn_windows.specs.Window.{IsWindow}
+use Rattle.stn_net.specs.{Difference.Difference, Schedule.HasSchedule, Matrix.Table.Table, Matrix.Tightest.IsExact}
+use Rattle.stn_net.specs.Windows.Window.{IsWindow}
 use Rattle.stn_guard.specs.{declared.splitting.Arc.Arc, Making.window_bound, Making.is_implied, Making.split_time, Splitting.MeetsArc, Splitting.LeavesTime, Splitting.CanSplit, Splitting.Splits}
 use Rattle.stn_guard.proofs.Split.{HasEnds, front_schedule, middle_leaves_time, splitting, splitting_possible}
 

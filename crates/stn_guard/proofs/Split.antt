@@ -4,8 +4,8 @@ use Rattle.std.specs.{Prelude.All, Int.int_min, Int.int_max, Int.int_div_euclid}
 use Rattle.std.proofs.lemmas.Int.{ints, clamps}
 use Rattle.std.proofs.lemmas.List.Elements.{All-nil, All-cons, All-head, All-tail, All-append, All-weaker}
 use Rattle.stn_net.specs.{Difference.Difference, Schedule.Meets, Schedule.IsSchedule, Schedule.HasSchedule}
-use Rattle.stn_windows.specs.Window.{IsInWindow, IsWindow}
-use Rattle.stn_windows.proofs.Windows.{lesser_schedule}
+use Rattle.stn_net.specs.Windows.Window.{IsInWindow, IsWindow}
+use Rattle.stn_net.proofs.WindowEnds.{lesser_schedule}
 use Rattle.stn_guard.specs.{declared.splitting.Arc.Arc, Making.window_bound, Making.is_implied, Making.split_time, Making.IsSplit, Making.AreSplit, Splitting.LeavesTime, Splitting.MeetsArc}
 use Rattle.stn_guard.proofs.Owned.{all_front, all_behind}
 

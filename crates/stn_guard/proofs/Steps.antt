@@ -3,8 +3,7 @@ use Rattle.std.proofs.Common.{◌≡◌, ◌≢◌, ℕ, ◌+◌, ◌<◌, ℤ, 
 use Rattle.std.specs.Prelude.{All, filter, flat_map}
 use Rattle.std.proofs.{lemmas.List.take-append-drop, lemmas.List.take_more, lemmas.List.Concat.flat_map-append}
 use Rattle.std.proofs.lemmas.List.Elements.{All-nil, All-cons, All-weaker, filter-append}
-use Rattle.stn_net.specs.{Difference.Difference, Difference.NamesEvents, Schedule.IsSchedule}
-use Rattle.stn_matrix.specs.{Table.Table, Tightest.IsExact}
+use Rattle.stn_net.specs.{Difference.Difference, Difference.NamesEvents, Schedule.IsSchedule, Matrix.Table.Table, Matrix.Tightest.IsExact}
 use Rattle.stn_guard.specs.{declared.splitting.Arc.Arc, Owners.is_shared, Making.arcs_of, Making.shared_arcs, Making.AreSplit, Splitting.NamesEnds, Splitting.MeetsArc, Splitting.CanSplit, Splitting.Splits}
 use Rattle.stn_guard.proofs.{Owned.all_front, Owned.all_behind, Owned.all_pieces, Owned.all_filtered, Owned.shared_parts, Split.Implies, Split.are_left, Made.arcs_implied}
 

@@ -4,10 +4,9 @@ use Rattle.std.specs.Prelude.{All, filter, Result, Ok, Err, IfOk}
 use Rattle.std.specs.List.{range_with_len}
 use Rattle.std.proofs.{lemmas.List.length-take, lemmas.List.take-append-le, lemmas.List.Folds.list_any-append, lemmas.List.FromFn.length-map-range_with_len, lemmas.List.FromFn.get_or-map-range_with_len}
 use Rattle.std.proofs.lemmas.List.Elements.{All-head, All-tail, All-weaker}
-use Rattle.stn_net.specs.{Difference.Difference, Difference.NamesEvents, Horizon.horizon_bounds}
+use Rattle.stn_net.specs.{Difference.Difference, Difference.NamesEvents, Horizon.horizon_bounds, Matrix.Table.Table, Matrix.Table.far_of, Matrix.Tightest.IsExact}
 use Rattle.stn_net.proofs.Horizons.{length-horizon_bounds}
-use Rattle.stn_matrix.specs.{Table.Table, Table.far_of, Tightest.IsExact}
-use Rattle.stn_windows.proofs.Windows.{window_of_exact}
+use Rattle.stn_net.proofs.WindowEnds.{window_of_exact}
 use Rattle.stn_guard.specs.{declared.splitting.Arc.Arc, Owners.is_shared, Making.shared_arcs, Making.window_bound, Making.is_named, Making.says_more, Making.IsGuardOf}
 use Rattle.stn_guard.specs.Splitting.{HasOwners, CanSplit, Splits, ends_of, is_kept, windows_of}
 use Rattle.stn_guard.proofs.{Steps.some_front, Steps.some_behind, Steps.splits_on, Steps.can_shared, Steps.arcs_append, Owned.all_front, Owned.all_behind}

@@ -3,7 +3,7 @@ use Rattle.std.specs.Prelude.{◌≡◌, ℕ, ℤ, pos, neg_ℤ, ◌≤◌, ◌+
 use Rattle.std.specs.{Int.int_min, Int.int_max, Int.int_div_euclid, List.list_any, List.range_with_len}
 use Rattle.stn_time.specs.Time.{horizon}
 use Rattle.stn_net.specs.Difference.{Difference}
-use Rattle.stn_windows.specs.Window.{IsWindow}
+use Rattle.stn_net.specs.Windows.Window.{IsWindow}
 use Rattle.stn_guard.specs.{declared.splitting.Arc.Arc, Owners.is_shared}
 
 -- what both sides of a bound say, the upper first

@@ -1,8 +1,7 @@
 -- For proofs alone: no public clause cites these words.
 use Rattle.std.specs.Prelude.{◌≢◌, ℕ, ◌<◌, ◌≤◌, ℤ, neg_ℤ, ◌+ℤ◌, ◌-ℤ◌, ◌≤ℤ◌, Bool, false, ◌&&◌, if◌then◌else◌, List, [], ◌∷◌, length, map, filter, slice_index_or, All}
 use Rattle.std.specs.List.{range_with_len}
-use Rattle.stn_net.specs.{Difference.Difference, Schedule.IsSchedule}
-use Rattle.stn_matrix.specs.{Table.Table, Tightest.IsExact}
+use Rattle.stn_net.specs.{Difference.Difference, Schedule.IsSchedule, Matrix.Table.Table, Matrix.Tightest.IsExact}
 use Rattle.stn_guard.specs.{declared.splitting.Arc.Arc, Making.AreSplit, Making.says_more, Making.window_bound}
 
 -- both events of the bound have an owner

@@ -1,8 +1,8 @@
 ghost use Rattle.std.specs.Prelude.{◌≡◌, ◌≢◌, ◌+◌, ◌<◌, ◌≤◌, ◌++◌, ◌&&◌, ◌||◌, false, ℕ, List, length, take, slice_index_or, All, IfOk, OnOk};
 ghost use Rattle.stn_net.specs.Difference.{Difference};
 ghost use Rattle.stn_net.specs.Horizon.{horizon_bounds};
-ghost use Rattle.stn_matrix.specs.Table.{far_of};
-ghost use Rattle.stn_matrix.specs.Tightest.{IsExact};
+ghost use Rattle.stn_net.specs.Matrix.Table.{far_of};
+ghost use Rattle.stn_net.specs.Matrix.Tightest.{IsExact};
 ghost use Rattle.stn_guard.specs.Owners.{owner_of};
 ghost use Rattle.stn_guard.specs.Guard.{Guards};
 ghost use Rattle.stn_guard.specs.Making.{is_named, says_more, window_bound, AreWindows, IsGuardOf};
@@ -10,11 +10,9 @@ ghost use Rattle.stn_guard.specs.Splitting.{HasOwners, ends_of, is_kept, kept, w
 
 use crate::splitting::{is_shared, split_shared, window_bound};
 use std::alloc::Allocator;
-use stn_matrix::Matrix;
-use stn_net::{Bound, Event};
+use stn_net::{Bound, Event, Matrix, window};
 use stn_records::Site;
 use stn_time::{HORIZON, Memory};
-use stn_windows::window;
 
 /// The guard of the bounds of `base` followed by those of `extra`: bounds that make every shared bound hold, whatever
 /// each site does within its own bounds. A bound is shared if its events have different owners, and neither is the

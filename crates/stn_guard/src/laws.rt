@@ -2,7 +2,7 @@ ghost use Rattle.std.specs.Prelude.{◌≡◌, ◌↔◌, ◌<◌, ◌≤◌, �
 ghost use Rattle.stn_net.specs.Difference.{Difference, NamesEvents};
 ghost use Rattle.stn_net.specs.Schedule.{HasSchedule};
 ghost use Rattle.stn_net.specs.Horizon.{horizon_bounds};
-ghost use Rattle.stn_windows.specs.Window.{IsInWindow};
+ghost use Rattle.stn_net.specs.Windows.Window.{IsInWindow};
 ghost use Rattle.stn_lift.specs.PlanSource.{PlanSource, events_of};
 ghost use Rattle.stn_records.specs.Content.{Content, CountsSame};
 ghost use Rattle.stn_site.specs.Bounds.{all_bounds};

@@ -2,17 +2,15 @@ ghost use Rattle.std.specs.Prelude.{◌≡◌, ◌≢◌, ◌≤◌, ◌-ℤ◌,
 ghost use Rattle.stn_net.specs.Difference.{Difference, NamesEvents};
 ghost use Rattle.stn_net.specs.Schedule.{HasSchedule};
 ghost use Rattle.stn_time.specs.Time.{IsWithinHorizon};
-ghost use Rattle.stn_matrix.specs.Tightest.{IsExact};
+ghost use Rattle.stn_net.specs.Matrix.Tightest.{IsExact};
 ghost use Rattle.stn_guard.specs.Owners.{owner_of, is_shared};
 ghost use Rattle.stn_guard.specs.Making.{arcs_of, shared_arcs, split_time, window_bound};
 ghost use Rattle.stn_guard.specs.Splitting.{CanSplit, HasOwners, LeavesTime, Splits};
 
 use std::alloc::Allocator;
-use stn_matrix::Matrix;
-use stn_net::{Bound, Event};
+use stn_net::{Bound, Event, Matrix, window};
 use stn_records::Site;
 use stn_time::Ms;
-use stn_windows::window;
 
 // What a side of a bound says: `to` comes at most `weight` after `from`.
 #[derive(Clone, Copy)]

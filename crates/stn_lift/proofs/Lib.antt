@@ -11,3 +11,4 @@ pub mod SoundBounds
 pub mod FewBounds
 pub mod LiftedBase
 pub mod PlannedTimes
+pub mod StepFacts

@@ -4,9 +4,9 @@ use Rattle.std.proofs.Common.{◌≡◌, ℕ, ◌+◌, ◌*◌, ◌<◌, ◌≤�
 use Rattle.std.proofs.{lemmas.Int.ints, lemmas.List.length-map}
 use Rattle.stn_time.specs.Time.{horizon}
 use Rattle.stn_net.specs.{Event.most_steps, Difference.NamesEvents, Horizon.horizon_bounds, Schedule.times_of, Schedule.IsSchedule}
-use Rattle.stn_tree.specs.Scan.{most_text}
+use Rattle.stn_pddl.specs.Tree.Scan.{most_text}
 use Rattle.stn_pddl.specs.{Schemas.ActionSchema, Domains.domain_of}
-use Rattle.stn_plan.specs.Steps.{PlannedStep, plan_of}
+use Rattle.stn_lift.specs.Plan.Steps.{PlannedStep, plan_of}
 use Rattle.stn_lift.specs.{Footprints.Footprint, Activities.Activity, Activities.activities}
 use Rattle.stn_lift.specs.BaseBounds.{times_behind, event_times, events_interfere, duration_of, lifted_bounds, KeepsOrder}
 use Rattle.stn_lift.specs.Timelines.{IsTimed, IsLifted, IsWhole, numbered_bounds}

@@ -5,7 +5,7 @@ use Rattle.std.proofs.lemmas.List.{map-append, take_more, get_or-map, length-map
 use Rattle.std.proofs.lemmas.List.Elements.{All-from_recursion, Contains-push, Contains-push_cases, Contains-append_left}
 use Rattle.std.proofs.lemmas.List.Sorted.{IsPermutation-sym, Contains-permutation}
 use Rattle.stn_pddl.specs.Schemas.{TermSchema, AtomSchema}
-use Rattle.stn_tree.specs.Names.{folded}
+use Rattle.stn_pddl.specs.Tree.Names.{folded}
 use Rattle.stn_lift.specs.Footprints.{GroundAtom, Footprint, name_of, ground}
 use Rattle.stn_lift.specs.Numbering.{Numbering, IsNameAt, IsNumberOf, Extends, AreNumbersOf, IsNumbered}
 

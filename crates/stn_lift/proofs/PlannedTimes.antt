@@ -3,7 +3,7 @@ use Rattle.std.specs.Prelude.{slice_index_or}
 use Rattle.std.proofs.Common.{◌≡◌, ℕ, ◌+◌, ◌-◌, ◌*◌, pos, ◌+ℤ◌, suc, Bool, true, false, cond, List, [], ◌∷◌, ◌++◌, length, Some, Result, Ok, Err, refl, sym, ap, ◌∙◌, arith}
 use Rattle.stn_text.specs.Faults.{◌>>=◌}
 use Rattle.stn_pddl.specs.{Schemas.ActionSchema, Domains.action_named}
-use Rattle.stn_plan.specs.Steps.{PlannedStep}
+use Rattle.stn_lift.specs.Plan.Steps.{PlannedStep}
 use Rattle.stn_lift.specs.{declared.fault.LiftFault.LiftFault, BaseBounds.times_behind, PlannedTimes.IsStepOf, PlannedTimes.IsPlannedAt}
 use Rattle.stn_lift.specs.declared.fault.LiftFault.TheVariants.{Arity, DurationDiffers, PastHorizon}
 use Rattle.stn_lift.specs.Activities.{Activity, activity, with_action, with_found, activity_of, activities}

@@ -4,8 +4,8 @@ use Rattle.std.specs.Result.{result_unwrap_or}
 use Rattle.stn_text.specs.Faults.{◌>>=◌, Fails}
 use Rattle.stn_net.specs.Event.{most_steps}
 use Rattle.stn_pddl.specs.{declared.fault.DomainFault.DomainFault, Schemas.ActionSchema, Domains.domain_of}
-use Rattle.stn_plan.specs.{declared.fault.PlanFault.PlanFault, Steps.PlannedStep, Steps.plan_of}
-use Rattle.stn_plan.proofs.StepFacts.{plan_of-few}
+use Rattle.stn_lift.specs.{declared.plan.fault.PlanFault.PlanFault, Plan.Steps.PlannedStep, Plan.Steps.plan_of}
+use Rattle.stn_lift.proofs.StepFacts.{plan_of-few}
 use Rattle.stn_lift.specs.declared.fault.LiftFault.{LiftFault}
 use Rattle.stn_lift.specs.declared.fault.LiftFault.TheVariants.{UnknownAction, Arity, DurationDiffers, PastHorizon, Memory}
 use Rattle.stn_lift.specs.Activities.{Activity, activity_of, activities, IsFirstRefused, IsCause, is_memory}

@@ -5,11 +5,10 @@ use Rattle.stn_text.specs.Faults.{Fails}
 use Rattle.stn_pddl.specs.{declared.fault.DomainFault.DomainFault, Schemas.ActionSchema, Domains.domain_of}
 use Rattle.stn_pddl.specs.declared.fault.DomainFault.TheVariants as domain_fault
 use Rattle.stn_pddl.specs.Faults as pddl
-use Rattle.stn_plan.specs.{declared.fault.PlanFault.PlanFault, Steps.PlannedStep, Steps.plan_of}
-use Rattle.stn_plan.specs.declared.fault.PlanFault.TheVariants as plan_fault
-use Rattle.stn_plan.specs.Steps as timed
+use Rattle.stn_lift.specs.{declared.plan.fault.PlanFault.PlanFault, Plan.Steps.PlannedStep, Plan.Steps.plan_of, declared.fault.LiftFault.LiftFault, Faults.of_domain, Faults.of_plan, Faults.of_lifting, Activities.Activity, Activities.activities}
+use Rattle.stn_lift.specs.declared.plan.fault.PlanFault.TheVariants as plan_fault
+use Rattle.stn_lift.specs.Plan.Steps as timed
 use Rattle.stn_lift.specs.declared.fault.BaseFault.TheVariants.{Domain, Plan, Lift, TooManySteps}
-use Rattle.stn_lift.specs.{declared.fault.LiftFault.LiftFault, Faults.of_domain, Faults.of_plan, Faults.of_lifting, Activities.Activity, Activities.activities}
 use Rattle.stn_lift.specs.declared.fault.LiftFault.TheVariants.{UnknownAction, Arity, DurationDiffers, PastHorizon, Memory}
 use Rattle.stn_lift.specs.Activities as lifting
 use Rattle.stn_lift.specs.PlanSource.{PlanSource, files, of_lift, steps_in, lifted, activities_of, source_with, source_with_lifted, base_of, is_memory}

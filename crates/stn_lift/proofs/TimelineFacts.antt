@@ -5,7 +5,7 @@ use Rattle.std.proofs.{lemmas.Int.ints, Math.Seq.drop-cons, lemmas.List.map-appe
 use Rattle.stn_time.specs.Time.{horizon, IsWithinHorizon}
 use Rattle.stn_pddl.specs.Schemas.{ActionSchema}
 use Rattle.stn_time.proofs.Each.{each_pushed}
-use Rattle.stn_plan.specs.Steps.{PlannedStep}
+use Rattle.stn_lift.specs.Plan.Steps.{PlannedStep}
 use Rattle.stn_text.specs.Faults.{◌>>=◌, Fails}
 use Rattle.stn_lift.specs.{declared.fault.LiftFault.LiftFault, Footprints.GroundAtom, Footprints.Footprint, Footprints.no_footprint, BaseBounds.times_behind, BaseBounds.footprints_behind, BaseBounds.event_footprints, Timelines.IsTimed, Timelines.IsTimeline, Timelines.IsLifted}
 use Rattle.stn_lift.specs.declared.fault.LiftFault.TheVariants.{UnknownAction, Arity, DurationDiffers, PastHorizon, Memory}

@@ -4,7 +4,7 @@ use Rattle.std.specs.Ordering.{int_eq}
 use Rattle.stn_time.specs.Time.{horizon}
 use Rattle.stn_text.specs.Faults.{◌>>=◌}
 use Rattle.stn_pddl.specs.{Schemas.ActionSchema, Domains.action_named}
-use Rattle.stn_plan.specs.Steps.{PlannedStep}
+use Rattle.stn_lift.specs.Plan.Steps.{PlannedStep}
 use Rattle.stn_lift.specs.declared.fault.LiftFault.{LiftFault}
 use Rattle.stn_lift.specs.declared.fault.LiftFault.TheVariants.{UnknownAction, Arity, DurationDiffers, PastHorizon, Memory}
 use Rattle.stn_lift.specs.Footprints.{GroundAtom, Footprint, start_of, end_of}

@@ -1,7 +1,7 @@
 -- Ground atoms, and which of them an event needs, adds and deletes.
 use Rattle.std.specs.Prelude.{ℕ, Bool, ◌||◌, ◌⊎◌, List, [], ◌∷◌, ◌++◌, map, slice_index_or, Contains}
 use Rattle.std.specs.{Cmp.Lexicographic.pointwise, List.list_any, Str.bytes_eq}
-use Rattle.stn_tree.specs.Names.{folded}
+use Rattle.stn_pddl.specs.Tree.Names.{folded}
 use Rattle.stn_pddl.specs.Schemas.{TermSchema, Parameter, Constant, AtomSchema, ActionSchema}
 
 -- a ground atom: the names of its predicate and of its terms, with small letters for capital ones

@@ -2,6 +2,7 @@ pub mod Faults
 pub mod Footprints
 pub mod Numbering
 pub mod AtomViews
+pub mod Plan
 pub mod Views
 pub mod Activities
 pub mod BaseBounds

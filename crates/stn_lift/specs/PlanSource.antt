@@ -3,10 +3,9 @@ use Rattle.std.proofs.Common.{inl, inr}
 use Rattle.std.specs.Coded.{Coded, code_by, coded_ℕ, coded_list, coded×, coded⊎}
 use Rattle.std.specs.Result.{result_unwrap_or}
 use Rattle.stn_net.specs.{Event.most_steps, Difference.Difference, Difference.NamesEvents, Horizon.horizon_bounds, Schedule.IsSchedule, Schedule.times_of}
-use Rattle.stn_tree.specs.Scan.{most_text}
+use Rattle.stn_pddl.specs.Tree.Scan.{most_text}
 use Rattle.stn_pddl.specs.{declared.fault.DomainFault.DomainFault, Schemas.ActionSchema, Domains.domain_of}
-use Rattle.stn_plan.specs.{declared.fault.PlanFault.PlanFault, Steps.PlannedStep, Steps.plan_of}
-use Rattle.stn_lift.specs.{declared.fault.LiftFault.LiftFault, declared.fault.BaseFault.BaseFault, declared.source.Source.Source, Activities.Activity, Activities.activities}
+use Rattle.stn_lift.specs.{declared.plan.fault.PlanFault.PlanFault, Plan.Steps.PlannedStep, Plan.Steps.plan_of, declared.fault.LiftFault.LiftFault, declared.fault.BaseFault.BaseFault, declared.source.Source.Source, Activities.Activity, Activities.activities}
 use Rattle.stn_lift.specs.declared.fault.BaseFault.TheVariants.{Domain, Plan, Lift, TooManySteps, Memory}
 use Rattle.stn_lift.specs.declared.source.Source.TheVariants.{Bare, Files}
 use Rattle.stn_lift.specs.BaseBounds.{lifted_bounds, event_times, events_interfere, KeepsOrder}

@@ -2,10 +2,10 @@
 
 ghost use Rattle.std.specs.Prelude.{◌≡◌, ◌++◌, [], List, map, length, slice_get, Some, IfOk, OnOk};
 ghost use Rattle.std.specs.List.{AllByRecursion};
-ghost use Rattle.stn_tree.specs.Names.{folded};
+ghost use Rattle.stn_pddl.specs.Tree.Names.{folded};
 ghost use Rattle.stn_pddl.specs.Sound.{IsSoundTerm, IsSoundAtom};
 ghost use Rattle.stn_pddl.specs.Views.{term_schema, atom_schema, atoms_schema};
-ghost use Rattle.stn_plan.specs.Views.{word_of};
+ghost use Rattle.stn_lift.specs.Plan.Views.{word_of};
 ghost use Rattle.stn_lift.specs.Footprints.{GroundAtom, name_of, ground};
 ghost use Rattle.stn_lift.specs.Numbering.{Extends, IsUnambiguous, IsNameAt, IsNumberOf, AreNumbersOf};
 

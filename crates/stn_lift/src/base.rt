@@ -10,13 +10,13 @@ ghost use Rattle.stn_lift.specs.PlanSource.{bare, files, plan_source, steps_of, 
 
 use crate::bounds::horizon_bounds;
 use crate::fault::{BaseFault, LiftFault};
+use crate::plan::Plan;
 use crate::source::Source;
 use crate::timeline::Timeline;
 use std::alloc::Allocator;
 use std::marker::Model;
 use stn_net::{Bound, Event, MOST_STEPS};
 use stn_pddl::Domain;
-use stn_plan::Plan;
 use stn_time::Ms;
 
 /// What all sites share of one plan: its events, the bounds that the plan itself sets, and the

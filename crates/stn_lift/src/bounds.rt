@@ -1,11 +1,12 @@
 //! The bounds that a plan sets itself.
 
-ghost use Rattle.std.specs.Prelude.{◌≡◌, ◌≢◌, ◌+◌, ◌*◌, ◌<◌, ◌≤◌, ◌++◌, ◌&&◌, ◌==◌, not, nat_lt, length, map, pos, slice_index_or, IfOk, OnOk};
+ghost use Rattle.std.specs.Prelude.{◌≡◌, ◌≢◌, ◌+◌, ◌*◌, ◌<◌, ◌≤◌, ◌≤ℤ◌, ◌++◌, ◌&&◌, ◌==◌, not, nat_lt, length, map, pos, slice_index_or, IfOk, OnOk};
 ghost use Rattle.std.specs.Ordering.{int_cmp};
+ghost use Rattle.stn_time.specs.Time.{IsWithinHorizon};
 ghost use Rattle.stn_net.specs.Event.{most_events, most_steps};
 ghost use Rattle.stn_net.specs.Horizon.{horizon_bounds};
 ghost use Rattle.stn_net.specs.Schedule.{times_of};
-ghost use Rattle.stn_lift.specs.BaseBounds.{step_of, duration_bound, before, together, order_bound, pair_order, event_orders, orders, duration_bounds};
+ghost use Rattle.stn_lift.specs.BaseBounds.{step_of, duration_bound, order_bound, pair_order, event_orders, orders, duration_bounds};
 ghost use Rattle.stn_lift.specs.Timelines.{interfere_by_number, numbered_bounds, IsWhole};
 ghost use Rattle.stn_lift.specs.Views.{numbers_of};
 
@@ -29,44 +30,34 @@ pub fn horizon_bounds<A: Allocator>(alloc: A, events: u16) -> Result<Vec<Bound, 
     Ok(bounds)
 }
 
+// The bound by which one event comes so long after another.
+fn between(one: u16, other: u16, least: i64, most: i64) -> Bound
+    requires one { one ≤ most_events }
+    requires other { other ≤ most_events }
+    requires apart { one ≢ other }
+    requires least { IsWithinHorizon least }
+    requires most { IsWithinHorizon most }
+    requires order { least ≤ℤ most }
+    ensures { result ≡ record { from = one; to = other; lo = least; hi = most } }
+{
+    let from = Event::new(one).unwrap();
+    let to = Event::new(other).unwrap();
+    let lo = Ms::new(least).unwrap();
+    let hi = Ms::new(most).unwrap();
+    Bound::new(MOST_EVENTS, from, to, lo, hi).unwrap()
+}
+
 // The bound of the duration of the step after so many others.
 fn duration_bound(before: u16, duration: Ms) -> Bound
     requires { before < most_steps }
     ensures { result ≡ duration_bound before duration }
 {
-    let start = Event::new(2 * before + 1).unwrap();
-    let end = Event::new(2 * before + 2).unwrap();
-    Bound::new(MOST_EVENTS, start, end, duration, duration).unwrap()
+    let duration = duration.get();
+    between(2 * before + 1, 2 * before + 2, duration, duration)
 }
 
-// By which the one event comes before the other.
-fn before(one: u16, other: u16) -> Bound
-    requires one { one ≤ most_events }
-    requires other { other ≤ most_events }
-    requires apart { one ≢ other }
-    ensures { result ≡ before one other }
-{
-    let from = Event::new(one).unwrap();
-    let to = Event::new(other).unwrap();
-    let least = Ms::new(1).unwrap();
-    let most = Ms::new(HORIZON).unwrap();
-    Bound::new(MOST_EVENTS, from, to, least, most).unwrap()
-}
-
-// By which two events come at one time.
-fn together(one: u16, other: u16) -> Bound
-    requires one { one ≤ most_events }
-    requires other { other ≤ most_events }
-    requires apart { one ≢ other }
-    ensures { result ≡ together one other }
-{
-    let from = Event::new(one).unwrap();
-    let to = Event::new(other).unwrap();
-    let zero = Ms::new(0).unwrap();
-    Bound::new(MOST_EVENTS, from, to, zero, zero).unwrap()
-}
-
-// By which two events that are planned at these times keep their order.
+// By which two events that are planned at these times keep their order: one comes before the other, by 1 ms or more, or both
+// come at one time.
 fn order_bound(one: u16, other: u16, first: Ms, second: Ms) -> Bound
     requires one { one ≤ most_events }
     requires other { other ≤ most_events }
@@ -74,9 +65,9 @@ fn order_bound(one: u16, other: u16, first: Ms, second: Ms) -> Bound
     ensures { result ≡ order_bound one other (int_cmp first second) }
 {
     match first.cmp(&second) {
-        Ordering::Less => before(one, other),
-        Ordering::Equal => together(one, other),
-        Ordering::Greater => before(other, one),
+        Ordering::Less => between(one, other, 1, HORIZON),
+        Ordering::Equal => between(one, other, 0, 0),
+        Ordering::Greater => between(other, one, 1, HORIZON),
     }
 }
 

@@ -5,9 +5,9 @@ ghost use Rattle.stn_lift.specs.Faults.{of_domain, of_plan, of_lifting};
 ghost use Rattle.stn_lift.specs.declared.fault.BaseFault.TheVariants as base;
 ghost use Rattle.stn_lift.specs.declared.fault.LiftFault.TheVariants as lifting;
 
+use crate::plan::PlanFault;
 use std::alloc::{AllocError, AllocFailed};
 use stn_pddl::DomainFault;
-use stn_plan::PlanFault;
 use thiserror::Error;
 
 /// Why a plan has no base in a domain. The first step with a cause decides, by the first of its causes in this order.

@@ -1,6 +1,6 @@
 ghost use Rattle.std.specs.Prelude.{◌≡◌, ◌↔◌, ℕ, List, Ok, IsTrue};
 ghost use Rattle.stn_pddl.specs.Schemas.{ActionSchema};
-ghost use Rattle.stn_plan.specs.Steps.{PlannedStep};
+ghost use Rattle.stn_lift.specs.Plan.Steps.{PlannedStep};
 ghost use Rattle.stn_lift.specs.Footprints.{Footprint, GroundAtom, is_same_atom, interfere, EitherTouches};
 ghost use Rattle.stn_lift.specs.PlanSource.{files, base_of, planned_of};
 ghost use Rattle.stn_lift.specs.PlannedTimes.{IsStepOf, IsPlannedAt};

@@ -1,9 +1,10 @@
-//! The base of a plan: its events, the bounds that it sets itself and its planned times.
+//! Plans, read from their texts, and the base of a plan: its events, the bounds that it sets itself and its planned times.
 #![tactic(auto)]
 
 pub use base::{Base, lift};
 pub use fault::{BaseFault, LiftFault};
 pub use laws::{interference_by_atoms, planned_times};
+pub use plan::{Plan, PlanFault, Step};
 pub use source::Source;
 
 mod atoms;
@@ -14,5 +15,6 @@ mod fault;
 mod footprint;
 mod laws;
 mod numbers;
+mod plan;
 mod source;
 mod timeline;

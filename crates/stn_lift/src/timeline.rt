@@ -7,8 +7,8 @@ ghost use Rattle.stn_time.specs.Time.{horizon};
 ghost use Rattle.stn_net.specs.Event.{most_steps};
 ghost use Rattle.stn_pddl.specs.Sound.{IsSound, HasSoundAtoms, IsSoundAtom};
 ghost use Rattle.stn_pddl.specs.Views.{action_schema, atoms_schema};
-ghost use Rattle.stn_plan.specs.Steps.{IsTimely};
-ghost use Rattle.stn_plan.specs.Views.{planned_step, word_of};
+ghost use Rattle.stn_lift.specs.Plan.Steps.{IsTimely};
+ghost use Rattle.stn_lift.specs.Plan.Views.{planned_step, word_of};
 ghost use Rattle.stn_lift.specs.Footprints.{start_of, end_of, ground};
 ghost use Rattle.stn_lift.specs.Numbering.{Extends, IsNumbered, IsUnambiguous};
 ghost use Rattle.stn_lift.specs.Views.{numbers_of};
@@ -18,9 +18,9 @@ ghost use Rattle.stn_lift.specs.Timelines.{IsTimeline, IsLifted};
 use crate::atoms::Atoms;
 use crate::fault::LiftFault;
 use crate::footprint::Footprint;
+use crate::plan::Step;
 use std::alloc::{AllocError, Allocator};
 use stn_pddl::{Action, Atom, Domain};
-use stn_plan::Step;
 use stn_time::{HORIZON, Ms};
 
 /// How long each step lasts, and of each event by number, the origin's first, its planned time and what it needs, adds and

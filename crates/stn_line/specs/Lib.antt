@@ -1,4 +1,5 @@
 pub mod Commands
+pub mod Explanations
 pub mod Given
 pub mod Lines
 pub mod Table

@@ -1,11 +1,14 @@
-//! The words of the command line: what `stn` is asked to do, on which log and for which site.
+//! The words of the command line: what `stn` is asked to do, on which log and for which site; and what is said for help, and of
+//! each refusal and fault.
 #![tactic(auto)]
 
+pub use explanations::{ExplainFault, Subject, fault_word, print_explained};
 pub use help::said;
 pub use reading::line;
 pub use words::{EventChoice, Line, LineFault, SiteLog};
 
 mod commands;
+mod explanations;
 mod help;
 mod reading;
 mod words;

@@ -2,8 +2,7 @@
 use Rattle.std.proofs.Common.{◌≡◌, ℤ, ◌≤ℤ◌, neg_ℤ, ◌↔◌, Bool, IsTrue, List, [], ◌∷◌, ◌++◌, sym, ap, subst, ◌∙◌, append_assoc}
 use Rattle.std.proofs.lemmas.Int.{ints}
 use Rattle.std.proofs.Common.{arith}
-use Rattle.stn_net.specs.{Difference.Difference, Difference.NamesEvents, Horizon.horizon_bounds, Schedule.IsSchedule, Schedule.HasSchedule}
-use Rattle.stn_matrix.specs.{Table.Table, Table.far_of, Tightest.IsTightest, Tightest.IsExact}
+use Rattle.stn_net.specs.{Difference.Difference, Difference.NamesEvents, Horizon.horizon_bounds, Schedule.IsSchedule, Schedule.HasSchedule, Matrix.Table.Table, Matrix.Table.far_of, Matrix.Tightest.IsTightest, Matrix.Tightest.IsExact}
 use Rattle.stn_conflict.specs.Listing.{Listing}
 use Rattle.stn_replica.proofs.Schedules.{schedule_before}
 use Rattle.stn_loosen.specs.{Loosened.Imply, Making.all_bounds, Making.AreTaken, Making.IsShown, Making.IsSearched}

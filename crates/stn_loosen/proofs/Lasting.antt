@@ -5,12 +5,11 @@ use Rattle.std.proofs.{lemmas.Int.ints, lemmas.List.Elements.All-from_recursion,
 use Rattle.stn_time.specs.Time.{horizon}
 use Rattle.stn_time.proofs.Each.{each_pushed}
 use Rattle.stn_text.specs.Faults.{◌>>=◌}
-use Rattle.stn_tree.specs.Names.{is_same_word}
+use Rattle.stn_pddl.specs.Tree.Names.{is_same_word}
 use Rattle.stn_net.specs.Difference.{Difference}
 use Rattle.stn_pddl.specs.{declared.fault.DomainFault.DomainFault, Schemas.ActionSchema, Domains.domain_of, Domains.action_named, Sound.IsSound}
 use Rattle.stn_pddl.proofs.SoundActions.{domain-sound}
-use Rattle.stn_plan.specs.{declared.fault.PlanFault.PlanFault, Steps.PlannedStep, Steps.plan_of}
-use Rattle.stn_lift.specs.{declared.fault.LiftFault.LiftFault, BaseBounds.duration_bound, BaseBounds.duration_bounds, BaseBounds.duration_of}
+use Rattle.stn_lift.specs.{declared.plan.fault.PlanFault.PlanFault, Plan.Steps.PlannedStep, Plan.Steps.plan_of, declared.fault.LiftFault.LiftFault, BaseBounds.duration_bound, BaseBounds.duration_bounds, BaseBounds.duration_of}
 use Rattle.stn_lift.specs.declared.fault.LiftFault.TheVariants.{Arity, DurationDiffers, PastHorizon}
 use Rattle.stn_lift.specs.Activities.{Activity, activity, differs, with_action, with_found, activity_of, activities}
 use Rattle.stn_lift.specs.PlanSource.{PlanSource, bare, files, of_lift, steps_in, lifted, activities_of}

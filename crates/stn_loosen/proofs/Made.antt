@@ -4,7 +4,7 @@ use Rattle.std.specs.List.{AllByRecursion}
 use Rattle.std.proofs.lemmas.List.{map_more, map-append, take_more, take-append-drop}
 use Rattle.std.proofs.lemmas.List.Elements.{All-take, All-from_recursion, recursion_from_All}
 use Rattle.stn_net.specs.{Difference.Difference, Horizon.horizon_bounds, Schedule.Meets, Schedule.IsSchedule, Schedule.HasSchedule}
-use Rattle.stn_matrix.specs.Table.{Table}
+use Rattle.stn_net.specs.Matrix.Table.{Table}
 use Rattle.stn_records.specs.Content.{most_known}
 use Rattle.stn_replica.proofs.Schedules.{schedule_before, met_behind, schedule_with}
 use Rattle.stn_loosen.specs.{Slack.Slack, Slack.loose, Loosened.Imply, Loosened.AreKept, Making.all_bounds, Making.AreTaken, Making.IsNext, Making.IsCauseOf, Making.IsCauseWith, declared.fault.LoosenFault.LoosenFault}

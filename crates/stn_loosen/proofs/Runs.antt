@@ -5,7 +5,7 @@ use Rattle.std.proofs.{lemmas.Bool.Decides.nat_tests, lemmas.Int.ints}
 use Rattle.std.proofs.lemmas.List.Elements.{All-from_recursion, recursion_from_All, All-append, All-contains}
 use Rattle.stn_time.proofs.Each.{All-left, All-right}
 use Rattle.stn_net.specs.{Difference.Difference, Schedule.Meets, Schedule.IsSchedule, Schedule.HasSchedule}
-use Rattle.stn_windows.specs.Window.{IsInWindow}
+use Rattle.stn_net.specs.Windows.Window.{IsInWindow}
 use Rattle.stn_loosen.specs.{Promise.still, Promise.setting_of, Promise.Keeps, Promise.Promises, Run.Execution, Run.executed_bounds, Run.MayCome, Run.IsRun}
 use Rattle.stn_loosen.proofs.Settings.{keeps_itself, each_weaker}
 

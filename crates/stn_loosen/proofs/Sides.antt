@@ -6,7 +6,7 @@ use Rattle.std.proofs.lemmas.List.Elements.{All-head, All-from_recursion, recurs
 use Rattle.stn_time.specs.Time.{horizon, IsWithinHorizon}
 use Rattle.stn_time.proofs.Each.{All-left, each_parted}
 use Rattle.stn_net.specs.{Difference.Difference, Difference.NamesEvents, Horizon.horizon_bounds, Schedule.Meets, Schedule.IsSchedule, Schedule.HasSchedule}
-use Rattle.stn_matrix.specs.Table.{Table}
+use Rattle.stn_net.specs.Matrix.Table.{Table}
 use Rattle.stn_conflict.specs.{Distances.TellsWithin, Listing.Listing}
 use Rattle.stn_replica.proofs.Schedules.{schedule_before, met_behind, schedule_with}
 use Rattle.stn_loosen.specs.{Loosened.Imply, Loosened.AreKept, Making.all_bounds, Making.IsSearched, declared.fault.RobustFault.RobustFault, Moved.moved_upper, Moved.moved_lower, Moved.moved_bounds, declared.span.Span.Span, Promise.setting_of}

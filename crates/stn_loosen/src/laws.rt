@@ -2,7 +2,7 @@ ghost use Rattle.std.specs.Prelude.{◌≡◌, ◌≢◌, ◌↔◌, ◌-ℤ◌,
 ghost use Rattle.stn_net.specs.Difference.{Difference};
 ghost use Rattle.stn_net.specs.Horizon.{horizon_bounds};
 ghost use Rattle.stn_net.specs.Schedule.{IsSchedule, HasSchedule};
-ghost use Rattle.stn_windows.specs.Window.{IsInWindow};
+ghost use Rattle.stn_net.specs.Windows.Window.{IsInWindow};
 ghost use Rattle.stn_lift.specs.PlanSource.{PlanSource, events_of, IsSoundSource};
 ghost use Rattle.stn_loosen.specs.Slack.{Slack, IsSlack};
 ghost use Rattle.stn_loosen.specs.Loosened.{orders_of, bounds_with, loose_durations, AreLoosened, AreFewLoosened, AreTooMany};

@@ -19,8 +19,7 @@ use crate::span::{Span, moved_sides};
 use crate::tolerance::Tolerance;
 use std::alloc::Allocator;
 use stn_conflict::Network;
-use stn_matrix::Matrix;
-use stn_net::{Bound, Event};
+use stn_net::{Bound, Event, Matrix};
 use stn_records::MOST_KNOWN;
 use stn_time::{HORIZON, Memory};
 

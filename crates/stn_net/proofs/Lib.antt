@@ -1,1 +1,17 @@
 pub mod Horizons
+pub mod Tightest
+pub mod Closure
+pub mod Widest
+pub mod Entries
+pub mod Passing
+pub mod WindowEnds
+pub mod Readiness
+pub mod Coming
+pub mod OneAnswer
+pub mod Rehearsals
+pub mod UnderWay
+pub mod ReadyTimes
+pub mod Told
+pub mod Fixed
+pub mod SomeNext
+pub mod SomeRehearsal

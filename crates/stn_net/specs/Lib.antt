@@ -1,5 +1,7 @@
 pub mod Event
 pub mod Difference
+pub mod Matrix
 pub mod Schedule
 pub mod Horizon
 pub mod Failures
+pub mod Windows

@@ -1,11 +1,19 @@
-//! Events of a plan, bounds on the differences of their times, and the check of a schedule.
+//! Events of a plan, and bounds on the differences of their times; of the schedules that meet all bounds, the check of one, the
+//! tightest differences of all events, the windows of each, what comes next and rehearsals.
 #![tactic(auto)]
 
 pub use bound::{Bound, BoundFault};
 pub use event::{Event, MOST_EVENTS, MOST_STEPS};
+pub use matrix::Matrix;
 pub use schedule::first_broken;
+pub use windows::{
+    Next, RehearseFault, next, next_unique, ready, ready_times, rehearsal_unique, rehearse,
+    rehearsed_or_overdue, something_comes_next, window,
+};
 
 mod bound;
 mod event;
 mod failures;
+mod matrix;
 mod schedule;
+mod windows;

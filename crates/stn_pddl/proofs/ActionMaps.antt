@@ -1,8 +1,7 @@
 -- A map of actions, and the list of what it says.
 use Rattle.std.proofs.Common.{◌≡◌, ℕ, Bool, true, false, ◌||◌, cond, List, [], ◌∷◌, ◌++◌, Option, Some, None, is_some, MatchOption, Result, Ok, Err, OnOk, OnErr, refl, sym, ◌∙◌, ap}
 use Rattle.std.specs.{Option.option_map, Option.option_copied, Borrow.Bor, Map.lookup}
-use Rattle.stn_tree.specs.{declared.name.Name.Name, Names.is_same_word}
-use Rattle.stn_pddl.specs.{declared.action.Action.Action, Schemas.ActionSchema, Actions.is_taken, Domains.action_named, Views.word_of, Views.action_schema, Views.entries_schema, Views.AreNamed}
+use Rattle.stn_pddl.specs.{declared.tree.name.Name.Name, Tree.Names.is_same_word, declared.action.Action.Action, Schemas.ActionSchema, Actions.is_taken, Domains.action_named, Views.word_of, Views.action_schema, Views.entries_schema, Views.AreNamed}
 
 module _ {A : Type 0} where
   -- one action more

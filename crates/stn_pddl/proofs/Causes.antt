@@ -1,10 +1,9 @@
 -- The first fault of a domain has its cause.
 use Rattle.std.proofs.Common.{◌≡◌, ℕ, ◌<◌, ◌⊎◌, inl, inr, Bool, true, false, cond, ◌&&◌, List, [], length, Result, Ok, Err, refl, sym, ap, subst, ◌∙◌, codes}
-use Rattle.stn_tree.specs.{declared.scan.TreeFault.TreeFault, Names.is_same_word, Trees.Trees, Trees.End, Trees.Word, Trees.Group, Scan.most_text, Scan.tree_of}
-use Rattle.stn_tree.specs.declared.scan.TreeFault.TheVariants as tree
-use Rattle.stn_tree.proofs.Faults.{tree_of-long, tree_of-list}
+use Rattle.stn_pddl.specs.{declared.tree.scan.TreeFault.TreeFault, Tree.Names.is_same_word, Tree.Trees.Trees, Tree.Trees.End, Tree.Trees.Word, Tree.Trees.Group, Tree.Scan.most_text, Tree.Scan.tree_of, declared.fault.DomainFault.DomainFault, Faults.of_tree, Faults.is_memory, Schemas.ActionSchema}
+use Rattle.stn_pddl.specs.declared.tree.scan.TreeFault.TheVariants as tree
+use Rattle.stn_pddl.proofs.tree.Faults.{tree_of-long, tree_of-list}
 use Rattle.stn_text.specs.Faults.{◌>>=◌, Fails}
-use Rattle.stn_pddl.specs.{declared.fault.DomainFault.DomainFault, Faults.of_tree, Faults.is_memory, Schemas.ActionSchema}
 use Rattle.stn_pddl.specs.declared.fault.DomainFault.TheVariants.{TooLong, Syntax, TooDeep, Unsupported, Number, Twice, Variable, Memory}
 use Rattle.stn_pddl.specs.Domains.{part, parts, is_title, root, domain_of_tree, domain_of_bytes, domain_of}
 use Rattle.stn_pddl.specs.Causes.{row_then, HasParts, IsListAt, IsOtherList, IsRefused, IsFirstRefused, IsCause}

@@ -2,8 +2,7 @@
 use Rattle.std.proofs.Common.{ℕ, Bool, true, false, cond, ◌==◌, ◌&&◌, List, [], ◌∷◌, ◌++◌, is_some, Option, Some, None, Result, Ok, Err, ℤ, pos, int_lt, position, codes}
 use Rattle.std.specs.List.{list_any}
 use Rattle.stn_time.specs.{declared.reading.TimeFault.TimeFault, TimeOf.time_of}
-use Rattle.stn_tree.specs.{Names.is_same_word, Trees.Trees, Trees.End, Trees.Word, Trees.Group, Trees.how_many}
-use Rattle.stn_pddl.specs.{declared.fault.DomainFault.DomainFault, declared.action.Label.Label, declared.action.Label.TheVariants.OverAll, declared.action.Side.Side, declared.word.Head.Head, declared.word.Item.Item, declared.word.Field.Field, declared.word.Key.Key, declared.word.Section.Section, Atoms.parameter_at, Atoms.term, Atoms.terms, Atoms.atom, Atoms.equality, Domains.part, Domains.parts}
+use Rattle.stn_pddl.specs.{Tree.Names.is_same_word, Tree.Trees.Trees, Tree.Trees.End, Tree.Trees.Word, Tree.Trees.Group, Tree.Trees.how_many, declared.fault.DomainFault.DomainFault, declared.action.Label.Label, declared.action.Label.TheVariants.OverAll, declared.action.Side.Side, declared.word.Head.Head, declared.word.Item.Item, declared.word.Field.Field, declared.word.Key.Key, declared.word.Section.Section, Atoms.parameter_at, Atoms.term, Atoms.terms, Atoms.atom, Atoms.equality, Domains.part, Domains.parts}
 use Rattle.stn_pddl.specs.declared.fault.DomainFault.TheVariants.{TooLong, Syntax, TooDeep, Unsupported, Number, Twice, Variable, Memory}
 use Rattle.stn_pddl.specs.declared.action.Side.TheVariants.{Condition, Effect}
 use Rattle.stn_pddl.specs.declared.word.Head.TheVariants as head

@@ -2,9 +2,8 @@
 use Rattle.std.proofs.Common.{◌≡◌, ◌<◌, ℕ, ◌⊎◌, inl, inr, Bool, true, false, cond, nat_lt, ◌&&◌, List, [], length, Ok, Err, refl, sym, ap, ◌∙◌, arith, codes}
 use Rattle.std.proofs.lemmas.Bool.Decides.{nat_tests}
 use Rattle.stn_text.specs.Faults.{◌>>=◌}
-use Rattle.stn_tree.specs.{declared.scan.TreeFault.TreeFault, Names.is_same_word, Trees.Trees, Trees.End, Trees.Word, Trees.Group, Scan.most_text, Scan.tree_of}
-use Rattle.stn_tree.specs.declared.scan.TreeFault.TheVariants as tree
-use Rattle.stn_pddl.specs.{declared.fault.DomainFault.DomainFault, Faults.of_tree, Faults.is_memory, Schemas.ActionSchema}
+use Rattle.stn_pddl.specs.{declared.tree.scan.TreeFault.TreeFault, Tree.Names.is_same_word, Tree.Trees.Trees, Tree.Trees.End, Tree.Trees.Word, Tree.Trees.Group, Tree.Scan.most_text, Tree.Scan.tree_of, declared.fault.DomainFault.DomainFault, Faults.of_tree, Faults.is_memory, Schemas.ActionSchema}
+use Rattle.stn_pddl.specs.declared.tree.scan.TreeFault.TheVariants as tree
 use Rattle.stn_pddl.specs.declared.fault.DomainFault.TheVariants.{TooLong, Syntax, TooDeep, Unsupported, Number, Twice, Variable, Memory}
 use Rattle.stn_pddl.specs.Domains.{part, parts, is_title, root, domain_of_tree, domain_of_bytes, domain_of}
 use Rattle.stn_pddl.specs.Causes.{row_then, HasParts, IsListAt, IsOtherList, IsRefused, IsFirstRefused, IsCause}

@@ -3,8 +3,7 @@ use Rattle.std.proofs.Common.{◌≡◌, ℕ, ◌<◌, Bool, true, false, cond, 
 use Rattle.std.specs.List.{AllByRecursion, position_or_len}
 use Rattle.std.proofs.lemmas.Bool.{ltb-true}
 use Rattle.stn_time.proofs.Each.{each_pushed}
-use Rattle.stn_tree.specs.{Names.is_same_word, Trees.Trees, Trees.End, Trees.Word, Trees.Group}
-use Rattle.stn_pddl.specs.{declared.fault.DomainFault.DomainFault, declared.action.Label.Label, declared.action.Side.Side, declared.word.Head.Head, Words.is_variable, Words.is_key, Words.head_of, Atoms.parameter_at, Atoms.term, Atoms.terms, Atoms.atom, Atoms.equality, Sound.IsSoundTerm, Sound.IsSoundAtom, Sound.HasSoundAtoms}
+use Rattle.stn_pddl.specs.{Tree.Names.is_same_word, Tree.Trees.Trees, Tree.Trees.End, Tree.Trees.Word, Tree.Trees.Group, declared.fault.DomainFault.DomainFault, declared.action.Label.Label, declared.action.Side.Side, declared.word.Head.Head, Words.is_variable, Words.is_key, Words.head_of, Atoms.parameter_at, Atoms.term, Atoms.terms, Atoms.atom, Atoms.equality, Sound.IsSoundTerm, Sound.IsSoundAtom, Sound.HasSoundAtoms}
 use Rattle.stn_pddl.specs.declared.fault.DomainFault.TheVariants.{Syntax, Unsupported}
 use Rattle.stn_pddl.specs.declared.action.Label.TheVariants.{StartCondition, OverAll, EndCondition, StartEffect, EndEffect}
 use Rattle.stn_pddl.specs.declared.action.Side.TheVariants.{Condition, Effect}

@@ -2,8 +2,7 @@
 use Rattle.std.proofs.Common.{◌≡◌, ℕ, Bool, true, false, cond, eqb, List, [], ◌∷◌, ◌++◌, map, Option, Some, None, Result, Ok, Err, refl, sym, ap, ◌∙◌, position, codes}
 use Rattle.std.proofs.lemmas.List.{map-append}
 use Rattle.stn_text.specs.Faults.{◌>>=◌}
-use Rattle.stn_tree.specs.{Names.folded, Names.is_same_word, Trees.Trees, Trees.End, Trees.Word, Trees.Group, Trees.how_many, Case.in_small}
-use Rattle.stn_pddl.specs.{declared.fault.DomainFault.DomainFault, declared.action.Label.Label, declared.action.Side.Side, declared.word.Head.Head, Words.is_variable, Words.is_key, Words.head_of, Atoms.parameter_at, Atoms.term, Atoms.terms, Atoms.atom, Atoms.equality, Case.term_in_small, Case.atom_in_small, Case.action_in_small}
+use Rattle.stn_pddl.specs.{Tree.Names.folded, Tree.Names.is_same_word, Tree.Trees.Trees, Tree.Trees.End, Tree.Trees.Word, Tree.Trees.Group, Tree.Trees.how_many, Tree.Case.in_small, declared.fault.DomainFault.DomainFault, declared.action.Label.Label, declared.action.Side.Side, declared.word.Head.Head, Words.is_variable, Words.is_key, Words.head_of, Atoms.parameter_at, Atoms.term, Atoms.terms, Atoms.atom, Atoms.equality, Case.term_in_small, Case.atom_in_small, Case.action_in_small}
 use Rattle.stn_pddl.specs.declared.fault.DomainFault.TheVariants.{Syntax, Unsupported}
 use Rattle.stn_pddl.specs.declared.action.Label.TheVariants.{StartCondition, OverAll, EndCondition, StartEffect, EndEffect}
 use Rattle.stn_pddl.specs.declared.action.Side.TheVariants.{Condition, Effect}

@@ -4,9 +4,8 @@ use Rattle.std.specs.{List.list_any, Option.option_map}
 use Rattle.std.proofs.lemmas.List.{map-append}
 use Rattle.stn_time.specs.TimeOf.{time_of}
 use Rattle.stn_text.specs.Faults.{◌>>=◌}
-use Rattle.stn_tree.specs.{declared.scan.TreeFault.TreeFault, Names.folded, Names.is_same_word, Trees.Trees, Trees.End, Trees.Word, Trees.Group, Scan.tree_of, Case.in_small, Case.tree_in_small}
-use Rattle.stn_tree.proofs.Case.{tree_of-folded}
-use Rattle.stn_pddl.specs.{declared.fault.DomainFault.DomainFault, declared.action.Side.Side, declared.word.Item.Item, declared.word.Field.Field, declared.word.Key.Key, declared.word.Section.Section, Words.is_name, Words.item_of, Words.key_of, Words.section_of, Schemas.ActionSchema, Schemas.bare_action, Case.action_in_small, Case.domain_in_small}
+use Rattle.stn_pddl.specs.{declared.tree.scan.TreeFault.TreeFault, Tree.Names.folded, Tree.Names.is_same_word, Tree.Trees.Trees, Tree.Trees.End, Tree.Trees.Word, Tree.Trees.Group, Tree.Scan.tree_of, Tree.Case.in_small, Tree.Case.tree_in_small, declared.fault.DomainFault.DomainFault, declared.action.Side.Side, declared.word.Item.Item, declared.word.Field.Field, declared.word.Key.Key, declared.word.Section.Section, Words.is_name, Words.item_of, Words.key_of, Words.section_of, Schemas.ActionSchema, Schemas.bare_action, Case.action_in_small, Case.domain_in_small}
+use Rattle.stn_pddl.proofs.tree.Case.{tree_of-folded}
 use Rattle.stn_pddl.specs.declared.fault.DomainFault.TheVariants.{Syntax, Unsupported, Twice}
 use Rattle.stn_pddl.specs.declared.action.Side.TheVariants.{Condition, Effect}
 use Rattle.stn_pddl.specs.declared.word.Item.TheVariants as item

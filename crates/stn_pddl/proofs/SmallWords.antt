@@ -4,8 +4,8 @@ use Rattle.std.specs.{Char.to_ascii_lowercase, Char.is_ascii_digit, List.list_an
 use Rattle.std.proofs.{lemmas.Bool.Decides.nat_tests, lemmas.List.length-map, lemmas.Str.Ascii.lowercase-lowercase}
 use Rattle.stn_time.specs.Text.{these_parts}
 use Rattle.stn_time.specs.TimeOf.{without_minus, is_numeral, fraction_of, parts_with, time_of_found, time_of}
-use Rattle.stn_tree.specs.Names.{folded, is_same_word}
-use Rattle.stn_tree.proofs.Case.{small_by, same_test}
+use Rattle.stn_pddl.specs.Tree.Names.{folded, is_same_word}
+use Rattle.stn_pddl.proofs.tree.Case.{small_by, same_test}
 use Rattle.stn_pddl.specs.Words.{begins_with, is_variable, is_key, is_name, connectives, comparisons, assignments, is_other_logic, head_of, item_of, key_of, skipped, section_of}
 
 folded-folded : (word : List ℕ) → folded (folded word) ≡ folded word

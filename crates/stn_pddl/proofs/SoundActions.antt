@@ -4,8 +4,7 @@ use Rattle.std.specs.{List.AllByRecursion, Borrow.Bor}
 use Rattle.std.proofs.{lemmas.Bool.Decides.nat_tests, lemmas.Int.ints}
 use Rattle.stn_time.proofs.Each.{each_pushed}
 use Rattle.stn_time.specs.{declared.reading.TimeFault.TimeFault, TimeOf.time_of}
-use Rattle.stn_tree.specs.{declared.scan.Place.TheVariants.Before, declared.scan.TreeFault.TreeFault, declared.scan.TreeFault.TheVariants.TooLong, Names.is_same_word, Trees.Trees, Trees.End, Trees.Word, Trees.Group, Trees.rows_from, Scan.most_text, Scan.tree_of, Scan.scanned}
-use Rattle.stn_pddl.specs.{declared.fault.DomainFault.DomainFault, declared.action.Side.Side, declared.action.Action.Action, declared.word.Section.Section, Faults.of_tree, Faults.is_memory, Words.section_of, Schemas.ActionSchema, Schemas.bare_action, Views.action_schema, Sound.IsSound}
+use Rattle.stn_pddl.specs.{declared.tree.scan.Place.TheVariants.Before, declared.tree.scan.TreeFault.TreeFault, declared.tree.scan.TreeFault.TheVariants.TooLong, Tree.Names.is_same_word, Tree.Trees.Trees, Tree.Trees.End, Tree.Trees.Word, Tree.Trees.Group, Tree.Trees.rows_from, Tree.Scan.most_text, Tree.Scan.tree_of, Tree.Scan.scanned, declared.fault.DomainFault.DomainFault, declared.action.Side.Side, declared.action.Action.Action, declared.word.Section.Section, Faults.of_tree, Faults.is_memory, Words.section_of, Schemas.ActionSchema, Schemas.bare_action, Views.action_schema, Sound.IsSound}
 use Rattle.stn_pddl.specs.declared.fault.DomainFault.TheVariants.{Syntax, Unsupported, Number, Twice}
 use Rattle.stn_pddl.specs.declared.action.Side.TheVariants.{Condition, Effect}
 use Rattle.stn_pddl.specs.declared.word.Section.TheVariants as section

@@ -2,6 +2,7 @@
 use Rattle.std.proofs.Common.{◌≡◌, Bool, true, false, Result, Ok, Err, ap}
 use Rattle.std.specs.Result.{result_and}
 use Rattle.stn_text.specs.Faults.{◌>>=◌, Fails, Gives, Unless}
+use Rattle.stn_pddl.specs.{declared.fault.DomainFault.DomainFault, Faults.is_memory}
 
 -- a value that was filled, or the first fault
 pub filled : {F X Y : Type 0} (is_memory : F → Bool) (view : X → Y) (read : Result (Unit {0}) F) (value : X) (whole : Result X F) (meaning : Result Y F)
@@ -16,3 +17,11 @@ fails_first is_memory fault first then fails = by (is_memory fault) fails
     by : (memory : Bool) → Unless memory (first ≡ Err fault) → Unless memory ((first >>= then) ≡ Err fault)
     by true said = tt
     by false said = ap (λ step. step >>= then) said
+
+-- a fault that is meant is given
+pub fails_as_meant : {A : Type 0} (fault : DomainFault) (meaning : Result A DomainFault) → meaning ≡ Err fault → Fails is_memory fault meaning
+fails_as_meant fault meaning is = by (is_memory fault)
+  where
+    by : (memory : Bool) → Unless memory (meaning ≡ Err fault)
+    by true = tt
+    by false = is

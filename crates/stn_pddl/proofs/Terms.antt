@@ -2,9 +2,8 @@
 use Rattle.std.proofs.Common.{◌≡◌, ℕ, Bool, true, false, cond, List, [], ◌∷◌, ◌++◌, Option, Result, Err, refl, sym, ◌∙◌, ap, position}
 use Rattle.std.proofs.lemmas.List.{length-map}
 use Rattle.std.specs.List.{position_or_len, list_any}
-use Rattle.stn_tree.specs.{Trees.Trees, Trees.Word, declared.name.Name.Name, Names.is_same_word}
+use Rattle.stn_pddl.specs.{Tree.Trees.Trees, Tree.Trees.Word, declared.tree.name.Name.Name, Tree.Names.is_same_word, declared.word.Item.Item, Fields.parameters, Fields.parameters_behind_type, declared.fault.DomainFault.DomainFault, Words.is_variable, Words.item_of, Atoms.term, Atoms.parameter_at, Views.word_of, Views.words_of}
 use Rattle.stn_pddl.specs.declared.word.Item.TheVariants as item
-use Rattle.stn_pddl.specs.{declared.word.Item.Item, Fields.parameters, Fields.parameters_behind_type, declared.fault.DomainFault.DomainFault, Words.is_variable, Words.item_of, Atoms.term, Atoms.parameter_at, Views.word_of, Views.words_of}
 use Rattle.stn_pddl.specs.declared.fault.DomainFault.TheVariants.{Twice, Syntax}
 
 position_or_len-map : (test : List ℕ → Bool) (names : List Name) → position_or_len test (words_of names) ≡ position_or_len (λ (name : Name). test (word_of name)) names

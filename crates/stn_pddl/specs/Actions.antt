@@ -1,8 +1,7 @@
 -- A durative action.
 use Rattle.std.specs.Prelude.{ℕ, Bool, List, [], Option, Some, None, Result, Ok, Err, if◌then◌else◌}
 use Rattle.std.specs.List.{list_any}
-use Rattle.stn_tree.specs.{Names.is_same_word, Trees.Trees, Trees.End, Trees.Word, Trees.Group}
-use Rattle.stn_pddl.specs.{declared.fault.DomainFault.DomainFault, declared.action.Side.Side, Words.is_name, Schemas.ActionSchema, Schemas.bare_action, Conditions.timed_tree}
+use Rattle.stn_pddl.specs.{Tree.Names.is_same_word, Tree.Trees.Trees, Tree.Trees.End, Tree.Trees.Word, Tree.Trees.Group, declared.fault.DomainFault.DomainFault, declared.action.Side.Side, Words.is_name, Schemas.ActionSchema, Schemas.bare_action, Conditions.timed_tree}
 use Rattle.stn_pddl.specs.declared.fault.DomainFault.TheVariants.{Syntax, Twice}
 use Rattle.stn_pddl.specs.declared.action.Side.TheVariants.{Condition, Effect}
 use Rattle.stn_text.specs.Faults.{◌>>=◌}

@@ -1,6 +1,6 @@
 -- A domain in small letters.
 use Rattle.std.specs.Prelude.{List, map, Result, Ok, Err}
-use Rattle.stn_tree.specs.Names.{folded}
+use Rattle.stn_pddl.specs.Tree.Names.{folded}
 use Rattle.stn_pddl.specs.declared.fault.DomainFault.{DomainFault}
 use Rattle.stn_pddl.specs.Schemas.{TermSchema, Parameter, Constant, AtomSchema, ActionSchema}
 

@@ -1,8 +1,7 @@
 -- Why a text is no domain, in the words of its parts.
 use Rattle.std.specs.Prelude.{◌≡◌, ℕ, ◌<◌, ◌⊎◌, true, List, [], length, Ok, Err, codes}
-use Rattle.stn_tree.specs.declared.scan.TreeFault.TheVariants as tree
-use Rattle.stn_tree.specs.{Names.is_same_word, Trees.Trees, Trees.End, Trees.Word, Trees.Group, Scan.most_text, Scan.tree_of}
-use Rattle.stn_pddl.specs.{declared.fault.DomainFault.DomainFault, Schemas.ActionSchema, Domains.part, Domains.parts, Domains.is_title}
+use Rattle.stn_pddl.specs.declared.tree.scan.TreeFault.TheVariants as tree
+use Rattle.stn_pddl.specs.{Tree.Names.is_same_word, Tree.Trees.Trees, Tree.Trees.End, Tree.Trees.Word, Tree.Trees.Group, Tree.Scan.most_text, Tree.Scan.tree_of, declared.fault.DomainFault.DomainFault, Schemas.ActionSchema, Domains.part, Domains.parts, Domains.is_title}
 use Rattle.stn_pddl.specs.declared.fault.DomainFault.TheVariants.{TooLong, Syntax, TooDeep, Memory}
 
 -- two rows, one after the other

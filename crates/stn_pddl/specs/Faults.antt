@@ -1,7 +1,7 @@
 -- The faults of a domain.
 use Rattle.std.specs.Prelude.{Bool, true, false}
-use Rattle.stn_tree.specs.declared.scan.TreeFault.{TreeFault}
-use Rattle.stn_tree.specs.declared.scan.TreeFault.TheVariants as tree
+use Rattle.stn_pddl.specs.declared.tree.scan.TreeFault.{TreeFault}
+use Rattle.stn_pddl.specs.declared.tree.scan.TreeFault.TheVariants as tree
 use Rattle.stn_pddl.specs.declared.fault.DomainFault.{DomainFault}
 use Rattle.stn_pddl.specs.declared.fault.DomainFault.TheVariants.{TooLong, Syntax, TooDeep, Memory}
 

@@ -1,4 +1,5 @@
 pub mod Faults
+pub mod Tree
 pub mod Words
 pub mod Schemas
 pub mod Atoms

@@ -1,7 +1,7 @@
 -- What every domain and each of its actions keeps.
 use Rattle.std.specs.Prelude.{◌≡◌, ℕ, ◌<◌, ◌≤◌, length, pos, ◌≤ℤ◌, Ok}
 use Rattle.std.specs.List.{AllByRecursion}
-use Rattle.stn_tree.specs.Scan.{most_text}
+use Rattle.stn_pddl.specs.Tree.Scan.{most_text}
 use Rattle.stn_pddl.specs.Schemas.{TermSchema, AtomSchema, ActionSchema, Parameter, Constant}
 use Rattle.stn_pddl.specs.Domains.{DomainSchema, domain_of}
 

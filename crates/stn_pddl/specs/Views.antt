@@ -1,6 +1,6 @@
 -- What the values of the code say.
 use Rattle.std.specs.Prelude.{◌≡◌, ℕ, List, [], ◌∷◌, map}
-use Rattle.stn_tree.specs.declared.name.Name.{Name}
+use Rattle.stn_pddl.specs.declared.tree.name.Name.{Name}
 use Rattle.stn_pddl.specs.{declared.action.Term.Term, declared.action.Atom.Atom, declared.action.Action.Action}
 use Rattle.stn_pddl.specs.declared.action.Term.TheVariants as code
 use Rattle.stn_pddl.specs.Schemas.{TermSchema, AtomSchema, ActionSchema, Parameter, Constant}

@@ -1,7 +1,7 @@
 -- What the words of a domain stand for. Words are compared without regard to ASCII case.
 use Rattle.std.specs.Prelude.{ℕ, Bool, false, not, ◌||◌, ◌&&◌, ◌==◌, List, [], ◌∷◌, length, nat_lt, if◌then◌else◌, codes}
 use Rattle.std.specs.List.{list_any}
-use Rattle.stn_tree.specs.Names.{is_same_word}
+use Rattle.stn_pddl.specs.Tree.Names.{is_same_word}
 use Rattle.stn_pddl.specs.{declared.word.Head.Head, declared.word.Item.Item, declared.word.Key.Key, declared.word.Section.Section}
 use Rattle.stn_pddl.specs.declared.word.Head.TheVariants as head
 use Rattle.stn_pddl.specs.declared.word.Item.TheVariants as item

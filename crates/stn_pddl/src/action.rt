@@ -4,11 +4,11 @@ ghost use Rattle.std.specs.Prelude.{◌≡◌, [], pos, IfOk};
 ghost use Rattle.stn_pddl.specs.Schemas.{bare_action, with_literal};
 ghost use Rattle.stn_pddl.specs.Views.{action_schema, atom_schema, word_of};
 
+use crate::tree::Name;
 use indexmap::IndexSet;
 use std::alloc::{AllocFailed, Allocator};
 use std::hash::{BuildHasherDefault, FoldHasher};
 use stn_time::Ms;
-use stn_tree::Name;
 
 /// Names in their order, each once.
 pub type Names<'a, A> = IndexSet<Name<'a>, BuildHasherDefault<FoldHasher>, A>;

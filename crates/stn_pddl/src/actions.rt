@@ -2,17 +2,17 @@
 
 ghost use Rattle.std.specs.Prelude.{◌≡◌, ◌++◌, ◌∷◌, [], false, IfOk, OnOk, OnErr, MatchOption, Some, None};
 ghost use Rattle.std.specs.Map.{lookup};
-ghost use Rattle.stn_tree.specs.Names.{is_same_word};
+ghost use Rattle.stn_pddl.specs.Tree.Names.{is_same_word};
 ghost use Rattle.stn_pddl.specs.Actions.{is_taken};
 ghost use Rattle.stn_pddl.specs.Domains.{action_named};
 ghost use Rattle.stn_pddl.specs.Views.{action_schema, word_of};
 
 use crate::action::Action;
+use crate::tree::Name;
 use indexmap::IndexMap;
 use std::alloc::{AllocError, Allocator};
 use std::hash::{BuildHasherDefault, FoldHasher};
 use std::marker::Model;
-use stn_tree::Name;
 
 /// Values by name, in their order.
 type ByName<'a, T, A> = IndexMap<Name<'a>, T, BuildHasherDefault<FoldHasher>, A>;

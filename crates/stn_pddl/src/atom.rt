@@ -1,17 +1,17 @@
 //! Terms, atoms and equalities.
 
-ghost use Rattle.std.specs.Prelude.{◌≡◌, ◌≤◌, [], IfOk};
+ghost use Rattle.std.specs.Prelude.{◌≡◌, [], IfOk};
 ghost use Rattle.stn_text.specs.Faults.{Gives};
-ghost use Rattle.stn_tree.specs.Cursors.{row_at, rows_at, behind_at, left_at};
+ghost use Rattle.stn_pddl.specs.Tree.Cursors.{row_at, IsPast};
 ghost use Rattle.stn_pddl.specs.Faults.{is_memory};
 ghost use Rattle.stn_pddl.specs.Views.{term_schema, terms_schema, words_of, action_schema};
 ghost use Rattle.stn_pddl.specs.Atoms as spec;
 
 use crate::action::{Action, Atom, Label, Names, Term};
 use crate::fault::DomainFault;
+use crate::tree::{Child, Cursor, Name};
 use crate::word::{is_key, is_variable};
 use std::alloc::Allocator;
-use stn_tree::{Child, Cursor, Name};
 
 /// A term that is a word on a line.
 #[tactic(auto, unfolding(crate::specs::Atoms::term))]
@@ -44,7 +44,7 @@ fn read_terms<'a, A: Allocator + Copy>(
 ) -> Result<(Vec<Term<'a>, A>, Cursor<'a>), DomainFault>
     ensures given { Gives is_memory (λ found. terms_schema found.0.items) result
         (spec.terms (words_of parameters.now.keys) (row_at children.entry) []) }
-    ensures passed { IfOk result (λ found. (rows_at found.1 ≡ behind_at children.entry) × (left_at found.1 ≤ left_at children.entry)) }
+    ensures passed { IfOk result (λ found. IsPast children.entry found.1) }
 {
     let mut terms = Vec::new(alloc);
     let mut cursor = children;
@@ -73,7 +73,7 @@ impl<'a, A: Allocator + Copy> Action<'a, A> {
     ) -> Result<Cursor<'a>, DomainFault>
         ensures given { Gives is_memory (λ _. action_schema self.new) result
             (spec.atom label negated predicate.now (row_at children.entry) (action_schema self.old)) }
-        ensures passed { IfOk result (λ rest. (rows_at rest ≡ behind_at children.entry) × (left_at rest ≤ left_at children.entry)) }
+        ensures passed { IfOk result (IsPast children.entry) }
     {
         let (terms, rest) = read_terms(alloc, &self.parameters, children)?;
         let predicate = Name { bytes: predicate };
@@ -82,7 +82,7 @@ impl<'a, A: Allocator + Copy> Action<'a, A> {
     }
 
     /// Reads the terms of an equality on a line, and gives the place after them.
-    #[tactic(auto, unfolding(crate::specs::Atoms::equality, crate::specs::Views::action_schema))]
+    #[tactic(auto, using(crate::proofs::Steps::fails_first), unfolding(crate::specs::Atoms::equality, crate::specs::Views::action_schema))]
     pub(crate) fn read_equality(
         &self,
         alloc: A,
@@ -91,7 +91,7 @@ impl<'a, A: Allocator + Copy> Action<'a, A> {
     ) -> Result<Cursor<'a>, DomainFault>
         ensures given { Gives is_memory (λ _. action_schema self.now) result
             (spec.equality line (row_at children.entry) (action_schema self.now)) }
-        ensures passed { IfOk result (λ rest. (rows_at rest ≡ behind_at children.entry) × (left_at rest ≤ left_at children.entry)) }
+        ensures passed { IfOk result (IsPast children.entry) }
     {
         if children.count_children() != 2 {
             return Err(DomainFault::Syntax(line));

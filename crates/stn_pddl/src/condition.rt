@@ -1,17 +1,17 @@
 //! Conditions and effects with their times.
 
-ghost use Rattle.std.specs.Prelude.{◌≡◌, ◌≤◌, IfOk};
+ghost use Rattle.std.specs.Prelude.{◌≡◌, IfOk};
 ghost use Rattle.stn_text.specs.Faults.{Gives};
-ghost use Rattle.stn_tree.specs.Cursors.{row_at, rows_at, behind_at, left_at};
+ghost use Rattle.stn_pddl.specs.Tree.Cursors.{row_at, IsPast};
 ghost use Rattle.stn_pddl.specs.Faults.{is_memory};
 ghost use Rattle.stn_pddl.specs.Views.{action_schema};
 ghost use Rattle.stn_pddl.specs.Conditions as spec;
 
 use crate::action::{Action, Label, Side};
 use crate::fault::DomainFault;
+use crate::tree::{Child, Cursor, is_same_word};
 use crate::word::{Head, head_of};
 use std::alloc::Allocator;
-use stn_tree::{Child, Cursor, is_same_word};
 
 fn start_of(side: Side) -> Label
     ensures { result ≡ spec.start_of side }
@@ -52,7 +52,7 @@ impl<'a, A: Allocator + Copy> Action<'a, A> {
     ) -> Result<Cursor<'a>, DomainFault>
         ensures given { Gives is_memory (λ _. action_schema self.new) result
             (spec.labelled label line (row_at children.entry) (action_schema self.old)) }
-        ensures passed { IfOk result (λ rest. (rows_at rest ≡ behind_at children.entry) × (left_at rest ≤ left_at children.entry)) }
+        ensures passed { IfOk result (IsPast children.entry) }
     {
         if children.count_children() != 1 {
             return Err(DomainFault::Syntax(line));
@@ -61,7 +61,7 @@ impl<'a, A: Allocator + Copy> Action<'a, A> {
     }
 
     /// What stands after `at`, in a list on a line.
-    #[tactic(auto, unfolding(crate::specs::Conditions::at_tree))]
+    #[tactic(auto, using(crate::proofs::tree::Cursors::behind_rest), unfolding(crate::specs::Conditions::at_tree))]
     fn read_at_tree(
         &mut self,
         alloc: A,
@@ -71,7 +71,7 @@ impl<'a, A: Allocator + Copy> Action<'a, A> {
     ) -> Result<Cursor<'a>, DomainFault>
         ensures given { Gives is_memory (λ _. action_schema self.new) result
             (spec.at_tree side line (row_at children.entry) (action_schema self.old)) }
-        ensures passed { IfOk result (λ rest. (rows_at rest ≡ behind_at children.entry) × (left_at rest ≤ left_at children.entry)) }
+        ensures passed { IfOk result (IsPast children.entry) }
     {
         match children.next_child() {
             Child::End(_) => Err(DomainFault::Syntax(line)),
@@ -89,7 +89,7 @@ impl<'a, A: Allocator + Copy> Action<'a, A> {
     }
 
     /// What stands after `over`, in a list on a line.
-    #[tactic(auto, unfolding(crate::specs::Conditions::over_tree))]
+    #[tactic(auto, using(crate::proofs::tree::Cursors::behind_rest), unfolding(crate::specs::Conditions::over_tree))]
     fn read_over_tree(
         &mut self,
         alloc: A,
@@ -99,7 +99,7 @@ impl<'a, A: Allocator + Copy> Action<'a, A> {
     ) -> Result<Cursor<'a>, DomainFault>
         ensures given { Gives is_memory (λ _. action_schema self.new) result
             (spec.over_tree side line (row_at children.entry) (action_schema self.old)) }
-        ensures passed { IfOk result (λ rest. (rows_at rest ≡ behind_at children.entry) × (left_at rest ≤ left_at children.entry)) }
+        ensures passed { IfOk result (IsPast children.entry) }
     {
         match side {
             Side::Effect => Err(DomainFault::Syntax(line)),
@@ -119,7 +119,7 @@ impl<'a, A: Allocator + Copy> Action<'a, A> {
 
     /// Takes up the trees of a row with their times, and gives the place after the row.
     #[cycle(timed)]
-    #[tactic(auto, unfolding(crate::specs::Conditions::timed_row))]
+    #[tactic(auto, using(crate::proofs::Steps::fails_first), unfolding(crate::specs::Conditions::timed_row))]
     fn read_timed_row(
         &mut self,
         alloc: A,
@@ -128,7 +128,7 @@ impl<'a, A: Allocator + Copy> Action<'a, A> {
     ) -> Result<Cursor<'a>, DomainFault>
         ensures given { Gives is_memory (λ _. action_schema self.new) result
             (spec.timed_row side (row_at children.entry) (action_schema self.old)) }
-        ensures passed { IfOk result (λ rest. (rows_at rest ≡ behind_at children.entry) × (left_at rest ≤ left_at children.entry)) }
+        ensures passed { IfOk result (IsPast children.entry) }
     {
         let mut cursor = children;
         'trees: loop {
@@ -144,7 +144,7 @@ impl<'a, A: Allocator + Copy> Action<'a, A> {
 
     /// Takes up a list on a line as a condition or an effect with its times, and gives the place after the list.
     #[cycle(timed)]
-    #[tactic(auto, unfolding(crate::specs::Conditions::timed_tree))]
+    #[tactic(auto, using(crate::proofs::tree::Cursors::behind_rest), unfolding(crate::specs::Conditions::timed_tree))]
     pub(crate) fn read_timed_tree(
         &mut self,
         alloc: A,
@@ -154,7 +154,7 @@ impl<'a, A: Allocator + Copy> Action<'a, A> {
     ) -> Result<Cursor<'a>, DomainFault>
         ensures given { Gives is_memory (λ _. action_schema self.new) result
             (spec.timed_tree side line (row_at children.entry) (action_schema self.old)) }
-        ensures passed { IfOk result (λ rest. (rows_at rest ≡ behind_at children.entry) × (left_at rest ≤ left_at children.entry)) }
+        ensures passed { IfOk result (IsPast children.entry) }
     {
         match children.next_child() {
             Child::End(behind) => Ok(behind),

@@ -3,8 +3,8 @@
 ghost use Rattle.std.specs.Prelude.{◌≡◌, ◌≤◌, [], false, length, pos, IfOk, IfErr, IfSome, MatchOption, Some, None, Ok, Err};
 ghost use Rattle.std.specs.Option.{option_map};
 ghost use Rattle.stn_text.specs.Faults.{Gives, ◌>>=◌ as ◌and_then◌};
-ghost use Rattle.stn_tree.specs.Cursors.{row_at};
-ghost use Rattle.stn_tree.specs.Scan.{most_text};
+ghost use Rattle.stn_pddl.specs.Tree.Cursors.{row_at};
+ghost use Rattle.stn_pddl.specs.Tree.Scan.{most_text};
 ghost use Rattle.stn_pddl.specs.Faults.{is_memory};
 ghost use Rattle.stn_pddl.specs.Causes.{IsCause};
 ghost use Rattle.stn_pddl.specs.Actions as rule;
@@ -19,10 +19,10 @@ use crate::action::{Action, Side};
 use crate::actions::Actions;
 use crate::fault::DomainFault;
 use crate::fields::{Listing, Values, read_duration, read_parameters};
+use crate::tree::{Child, Cursor, Name, is_same_word};
 use crate::word::{Section, is_name, section_of};
 use std::alloc::Allocator;
 use std::marker::Model;
-use stn_tree::{Child, Cursor, Name, is_same_word};
 
 /// A domain read from a text, which it borrows.
 #[derive(Drop)]
@@ -75,6 +75,7 @@ fn read_sides<'a, A: Allocator + Copy>(
 }
 
 /// Takes up the values of an action that has none, in their order.
+#[tactic(auto, using(crate::proofs::Steps::fails_first), unfolding(crate::specs::Views::action_schema, crate::specs::Actions::action_of_lists))]
 fn read_values<'a, A: Allocator + Copy>(
     alloc: A,
     parameters: Listing<'a>,
@@ -142,6 +143,7 @@ fn read_name<'a, A: Allocator + Copy>(
 }
 
 /// An action on a line, from what stands after its head.
+#[tactic(auto, using(crate::proofs::Steps::fails_as_meant))]
 fn read_action<'a, A: Allocator + Copy>(
     alloc: A,
     line: u32,
@@ -157,7 +159,7 @@ fn read_action<'a, A: Allocator + Copy>(
 }
 
 /// One part of a domain, a list on a line.
-#[tactic(auto, unfolding(crate::specs::Domains::part))]
+#[tactic(auto, using(crate::proofs::Steps::fails_first), unfolding(crate::specs::Domains::part))]
 fn read_part<'a, A: Allocator + Copy>(
     alloc: A,
     line: u32,
@@ -255,7 +257,7 @@ fn read_actions<'a, A: Allocator + Copy>(
     requires { actions.old ≡ [] }
     ensures { Gives is_memory (λ _. actions.new) result (domain_of text.now) }
 {
-    match stn_tree::start(text)?.next_child() {
+    match crate::tree::start(text)?.next_child() {
         Child::End(_) => Err(DomainFault::Syntax(1)),
         Child::Word(line, _, _) => Err(DomainFault::Syntax(line)),
         Child::Group(line, children) => read_root(alloc, line, children, actions),
@@ -265,6 +267,7 @@ fn read_actions<'a, A: Allocator + Copy>(
 impl<'a, A: Allocator + Copy> Domain<'a, A> {
     /// Reads a text. The first fault is the answer: `TooLong`; else the first of its bytes, `Syntax` or `TooDeep`; else the first of
     /// its forms, `Syntax`, `Unsupported`, `Number`, `Twice` or `Variable`. `Memory` may come in place of any other answer.
+    #[tactic(auto, using(crate::proofs::Causes::cause_of))]
     pub fn read(alloc: A, text: &'a [u8]) -> Result<Domain<'a, A>, DomainFault>
         // The domain that the text means, or its first fault.
         ensures given { Gives is_memory (λ domain. domain.actions) result (domain_of text.now) }

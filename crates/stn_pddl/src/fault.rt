@@ -4,8 +4,8 @@ ghost use Rattle.std.specs.Prelude.{◌≡◌};
 ghost use Rattle.stn_pddl.specs.declared.fault.DomainFault.TheVariants.{Memory};
 ghost use Rattle.stn_pddl.specs.Faults.{of_tree};
 
+use crate::tree::TreeFault;
 use std::alloc::{AllocError, AllocFailed};
-use stn_tree::TreeFault;
 use thiserror::Error;
 
 /// The first fault of a text, with its line, counted from 1.

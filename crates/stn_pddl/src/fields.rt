@@ -2,17 +2,17 @@
 
 ghost use Rattle.std.specs.Prelude.{◌≡◌, []};
 ghost use Rattle.stn_text.specs.Faults.{Gives};
-ghost use Rattle.stn_tree.specs.Cursors.{row_at};
+ghost use Rattle.stn_pddl.specs.Tree.Cursors.{row_at};
 ghost use Rattle.stn_pddl.specs.Faults.{is_memory};
 ghost use Rattle.stn_pddl.specs.Views.{words_of};
 ghost use Rattle.stn_pddl.specs.Fields as spec;
 
 use crate::action::Names;
 use crate::fault::DomainFault;
+use crate::tree::{Child, Cursor, Name, is_same_word};
 use crate::word::{Field, Item, Key, item_of, key_of};
 use std::alloc::Allocator;
 use stn_time::Ms;
-use stn_tree::{Child, Cursor, Name, is_same_word};
 
 /// Takes up the parameters of a row after those that stood before.
 #[tactic(auto, unfolding(crate::specs::Fields::parameters, crate::specs::Fields::parameters_behind_type))]
@@ -107,7 +107,7 @@ pub struct Values<'a> {
 impl<'a> Values<'a> {
     ghost use Rattle.std.specs.Prelude.{◌≡◌, is_some};
     ghost use Rattle.stn_text.specs.Faults.{Gives};
-    ghost use Rattle.stn_tree.specs.Cursors.{row_at};
+    ghost use Rattle.stn_pddl.specs.Tree.Cursors.{row_at};
     ghost use Rattle.stn_pddl.specs.Faults.{is_memory};
     ghost use Rattle.stn_pddl.specs.Fields as spec;
     ghost use Rattle.stn_pddl.specs.FieldViews.{listing_of, values_of};

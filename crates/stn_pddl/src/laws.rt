@@ -1,7 +1,7 @@
 //! Laws of domains, each the contract of a function that does nothing.
 
 ghost use Rattle.std.specs.Prelude.{◌≡◌, ◌↔◌, ℕ, false, List, Err};
-ghost use Rattle.stn_tree.specs.Names.{folded};
+ghost use Rattle.stn_pddl.specs.Tree.Names.{folded};
 ghost use Rattle.stn_pddl.specs.declared.fault.DomainFault.{DomainFault};
 ghost use Rattle.stn_pddl.specs.Faults.{is_memory};
 ghost use Rattle.stn_pddl.specs.Domains.{domain_of};
@@ -9,6 +9,7 @@ ghost use Rattle.stn_pddl.specs.Causes.{IsCause};
 ghost use Rattle.stn_pddl.specs.Case.{domain_in_small};
 
 /// The law that a text has a fault exactly where it has the cause of that fault.
+#[tactic(auto, using(crate::proofs::FromCauses::cause_for, crate::proofs::FromCauses::fault_of))]
 pub fn faults_by_cause()
     ensures { (text : List ℕ) (fault : DomainFault) → is_memory fault ≡ false → (domain_of text ≡ Err fault) ↔ IsCause text fault }
 {}

@@ -11,10 +11,11 @@ mod fault;
 mod fields;
 mod laws;
 mod plain;
+pub mod tree;
 mod word;
 
 pub use action::{Action, Atom, Names, Term};
 pub use domain::Domain;
 pub use fault::DomainFault;
 pub use laws::{faults_by_cause, small_letters};
-pub use stn_tree::Name;
+pub use tree::Name;

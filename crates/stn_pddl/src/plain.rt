@@ -1,17 +1,17 @@
 //! Plain conditions and effects: conjunctions of literals.
 
-ghost use Rattle.std.specs.Prelude.{◌≡◌, ◌≤◌, IfOk, true};
+ghost use Rattle.std.specs.Prelude.{◌≡◌, IfOk, true};
 ghost use Rattle.stn_text.specs.Faults.{Gives};
-ghost use Rattle.stn_tree.specs.Cursors.{row_at, rows_at, behind_at, left_at};
+ghost use Rattle.stn_pddl.specs.Tree.Cursors.{row_at, IsPast};
 ghost use Rattle.stn_pddl.specs.Faults.{is_memory};
 ghost use Rattle.stn_pddl.specs.Views.{action_schema};
 ghost use Rattle.stn_pddl.specs.Conditions as spec;
 
 use crate::action::{Action, Label};
 use crate::fault::DomainFault;
+use crate::tree::{Child, Cursor};
 use crate::word::{Head, head_of};
 use std::alloc::Allocator;
-use stn_tree::{Child, Cursor};
 
 fn is_effect(label: Label) -> bool
     ensures { result ≡ spec.is_effect label }
@@ -33,7 +33,7 @@ impl<'a, A: Allocator + Copy> Action<'a, A> {
     ) -> Result<Cursor<'a>, DomainFault>
         ensures given { Gives is_memory (λ _. action_schema self.now) result
             (spec.equal_tree label line (row_at children.entry) (action_schema self.now)) }
-        ensures passed { IfOk result (λ rest. (rows_at rest ≡ behind_at children.entry) × (left_at rest ≤ left_at children.entry)) }
+        ensures passed { IfOk result (IsPast children.entry) }
     {
         if is_effect(label) {
             return Err(DomainFault::Unsupported(line));
@@ -42,7 +42,7 @@ impl<'a, A: Allocator + Copy> Action<'a, A> {
     }
 
     /// The list after `not`, on its own line.
-    #[tactic(auto, unfolding(crate::specs::Conditions::negated_tree))]
+    #[tactic(auto, using(crate::proofs::tree::Cursors::behind_rest), unfolding(crate::specs::Conditions::negated_tree))]
     fn read_negated_tree(
         &mut self,
         alloc: A,
@@ -52,7 +52,7 @@ impl<'a, A: Allocator + Copy> Action<'a, A> {
     ) -> Result<Cursor<'a>, DomainFault>
         ensures given { Gives is_memory (λ _. action_schema self.new) result
             (spec.negated_tree label line (row_at children.entry) (action_schema self.old)) }
-        ensures passed { IfOk result (λ rest. (rows_at rest ≡ behind_at children.entry) × (left_at rest ≤ left_at children.entry)) }
+        ensures passed { IfOk result (IsPast children.entry) }
     {
         match children.next_child() {
             Child::End(_) => Err(DomainFault::Syntax(line)),
@@ -79,7 +79,7 @@ impl<'a, A: Allocator + Copy> Action<'a, A> {
     ) -> Result<Cursor<'a>, DomainFault>
         ensures given { Gives is_memory (λ _. action_schema self.new) result
             (spec.negation label line (row_at children.entry) (action_schema self.old)) }
-        ensures passed { IfOk result (λ rest. (rows_at rest ≡ behind_at children.entry) × (left_at rest ≤ left_at children.entry)) }
+        ensures passed { IfOk result (IsPast children.entry) }
     {
         if children.count_children() != 1 {
             return Err(DomainFault::Syntax(line));
@@ -96,7 +96,7 @@ impl<'a, A: Allocator + Copy> Action<'a, A> {
 
     /// Takes up the plain trees of a row, and gives the place after the row.
     #[cycle(plain)]
-    #[tactic(auto, unfolding(crate::specs::Conditions::plain_row))]
+    #[tactic(auto, using(crate::proofs::Steps::fails_first), unfolding(crate::specs::Conditions::plain_row))]
     pub(crate) fn read_plain_row(
         &mut self,
         alloc: A,
@@ -105,7 +105,7 @@ impl<'a, A: Allocator + Copy> Action<'a, A> {
     ) -> Result<Cursor<'a>, DomainFault>
         ensures given { Gives is_memory (λ _. action_schema self.new) result
             (spec.plain_row label (row_at children.entry) (action_schema self.old)) }
-        ensures passed { IfOk result (λ rest. (rows_at rest ≡ behind_at children.entry) × (left_at rest ≤ left_at children.entry)) }
+        ensures passed { IfOk result (IsPast children.entry) }
     {
         let mut cursor = children;
         'trees: loop {
@@ -121,7 +121,7 @@ impl<'a, A: Allocator + Copy> Action<'a, A> {
 
     /// Takes up a list on a line as a plain tree, and gives the place after the list.
     #[cycle(plain)]
-    #[tactic(auto, unfolding(crate::specs::Conditions::plain_tree))]
+    #[tactic(auto, using(crate::proofs::tree::Cursors::behind_rest), unfolding(crate::specs::Conditions::plain_tree))]
     fn read_plain_tree(
         &mut self,
         alloc: A,
@@ -131,7 +131,7 @@ impl<'a, A: Allocator + Copy> Action<'a, A> {
     ) -> Result<Cursor<'a>, DomainFault>
         ensures given { Gives is_memory (λ _. action_schema self.new) result
             (spec.plain_tree label line (row_at children.entry) (action_schema self.old)) }
-        ensures passed { IfOk result (λ rest. (rows_at rest ≡ behind_at children.entry) × (left_at rest ≤ left_at children.entry)) }
+        ensures passed { IfOk result (IsPast children.entry) }
     {
         match children.next_child() {
             Child::End(behind) => Ok(behind),

@@ -2,10 +2,10 @@
 
 ghost use Rattle.std.specs.Prelude.{◌≡◌};
 ghost use Rattle.std.specs.List.{list_any};
-ghost use Rattle.stn_tree.specs.Names.{is_same_word};
+ghost use Rattle.stn_pddl.specs.Tree.Names.{is_same_word};
 ghost use Rattle.stn_pddl.specs.Words as spec;
 
-use stn_tree::is_same_word as same;
+use crate::tree::is_same_word as same;
 
 /// The head of a condition or an effect.
 #[derive(Clone, Copy)]

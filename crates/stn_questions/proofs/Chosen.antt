@@ -2,7 +2,7 @@
 use Rattle.std.proofs.Common.{◌≡◌, ◌⊎◌, inl, inr, ℕ, ◌+◌, ◌/◌, ◌%◌, ◌<◌, Bool, true, false, eqb, eqb-true, refl, sym, subst, ◌∙◌, arith}
 use Rattle.std.specs.Prelude.{if◌then◌else◌}
 use Rattle.std.proofs.lemmas.Bool.{eqb-false}
-use Rattle.stn_windows.proofs.Told.{Told, least_below}
+use Rattle.stn_net.proofs.Told.{Told, least_below}
 use Rattle.stn_conflict.specs.{declared.links.Link.Link, declared.links.Side.TheVariants.Upper, declared.links.Side.TheVariants.Lower, Arcs.rank}
 use Rattle.stn_conflict.proofs.OneCycle.{rank_tells}
 

@@ -3,14 +3,15 @@ use Rattle.std.proofs.Common.{◌≡◌, inl, inr, ⊎_elim, ℕ, ℤ, neg_ℤ, 
 use Rattle.std.specs.List.{flat_map, range_with_len}
 use Rattle.stn_time.specs.Text.{printed}
 use Rattle.stn_net.specs.{Difference.Difference, Schedule.HasSchedule}
-use Rattle.stn_windows.specs.Window.{IsWindow}
+use Rattle.stn_net.specs.Windows.Window.{IsWindow}
 use Rattle.stn_lift.specs.PlanSource.{PlanSource, base_bounds, events_of}
 use Rattle.stn_records.specs.{Id.SiteCounter, declared.record.Record.Record, Content.Content, Content.live_of}
-use Rattle.stn_conflict.specs.{declared.links.Link.Link, Arcs.weight_of, Arcs.IsNegativeCycle, Named.IsWay, Named.IsNamedCycle}
-use Rattle.stn_site.specs.{Bounds.bounds_of, Lines.line, Lines.window_line, Lines.conflict_line, Lines.link_line, Report.says_done, Report.IsConflictPart}
-use Rattle.stn_repair.specs.Ranges.{IsRange}
+use Rattle.stn_conflict.specs.{declared.links.Link.Link, Arcs.weight_of, Named.IsWay}
+use Rattle.stn_site.specs.{Bounds.bounds_of, Lines.line, Lines.window_line, Lines.link_line, Report.says_done}
+use Rattle.stn_questions.specs.Repair.Ranges.{IsRange}
 use Rattle.stn_questions.specs.{declared.asked.Question.Question, Bounds.listed_line, Ready.IsReadyWith, Ready.IsReadyText, Why.end_text, Why.range_line, Why.IsWhyPart, Why.IsApartPart, Answer.IsAnswer, Answer.AsksOfPlan}
 use Rattle.stn_questions.specs.declared.asked.Question.TheVariants.{Records, Steps, Bounds, Why, WhyApart}
+use Rattle.stn_questions.proofs.picture.OnePicture.{same_conflict}
 
 abbrev Entries : Type 0
 Entries = List (SiteCounter × Record)
@@ -29,15 +30,6 @@ module _ (source : PlanSource) (s t : Content) (live : live_of s ≡ live_of t) 
   -- states with the same live records have the same events ready
   pub same_ready : (now : ℤ) (text : List ℕ) → IsReadyText source s now text → IsReadyText source t now text
   same_ready now text p = subst (λ (records : Entries). IsReadyWith (bounds_with source records) (done_with source records) now text) live p
-
-  same_conflict : (text : List ℕ) → IsConflictPart source s text → IsConflictPart source t text
-  same_conflict text p = record {
-    links = p.links;
-    named = subst (λ (records : Entries). IsNamedCycle (bounds_with source records) p.links) live p.named;
-    negative = subst (λ (records : Entries). IsNegativeCycle (bounds_with source records) p.links) live p.negative;
-    whole = p.whole ∙ (λ i. conflict_line (weight_of (bounds_with source (live i)) p.links)
-        ++ flat_map (link_line (base_bounds source) (ids_of (live i)) (bounds_of (live i))) p.links);
-  }
 
   same_end : (word : List ℕ) (time : ℤ) (links : List Link) → end_text source s word time links ≡ end_text source t word time links
   same_end word time links = λ i. line (word ++ codes " " ++ printed time) ++ flat_map (link_line (base_bounds source) (ids_of (live i)) (bounds_of (live i))) links
@@ -80,5 +72,5 @@ module _ (source : PlanSource) (s t : Content) (live : live_of s ≡ live_of t) 
   counted_answer Steps text asks p = p
   counted_answer Bounds text asks p =
       p ∙ (λ i. flat_map (listed_line (base_bounds source) (ids_of (live i)) (bounds_of (live i))) (range_with_len 0 (length (bounds_with source (live i)))))
-  counted_answer (Why event) text asks p = ⊎_elim (λ why. inl (same_why event text why)) (λ conflict. inr (same_conflict text conflict)) p
-  counted_answer (WhyApart from to) text asks p = ⊎_elim (λ apart. inl (same_apart from to text apart)) (λ conflict. inr (same_conflict text conflict)) p
+  counted_answer (Why event) text asks p = ⊎_elim (λ why. inl (same_why event text why)) (λ conflict. inr (same_conflict source s t live text conflict)) p
+  counted_answer (WhyApart from to) text asks p = ⊎_elim (λ apart. inl (same_apart from to text apart)) (λ conflict. inr (same_conflict source s t live text conflict)) p

@@ -8,12 +8,11 @@ use Rattle.std.proofs.lemmas.Int.{ints, by_lt_z}
 use Rattle.std.proofs.lemmas.List.{get_or_append_left, get_or_push, length_push, take-append-le, take_all, take_more}
 use Rattle.std.proofs.lemmas.List.Elements.{All-push}
 use Rattle.stn_time.specs.Time.{horizon}
-use Rattle.stn_net.specs.{Difference.Difference, Difference.NamesEvents, Horizon.horizon_bound, Horizon.horizon_bounds, Schedule.HasSchedule}
+use Rattle.stn_net.specs.{Difference.Difference, Difference.NamesEvents, Horizon.horizon_bound, Horizon.horizon_bounds, Schedule.HasSchedule, Matrix.Tightest.IsTightest, Matrix.Closed.IsClosed, Matrix.Closed.IsWidest, Matrix.Way.shorter, Matrix.Way.narrower, Matrix.Way.HasRoom}
 use Rattle.stn_net.proofs.Horizons.{length-horizon_bounds}
-use Rattle.stn_matrix.specs.{Tightest.IsTightest, Closed.IsClosed, Closed.IsWidest, Way.shorter, Way.narrower, Way.HasRoom}
-use Rattle.stn_matrix.proofs.Tightest.{IsTight, row_is_schedule}
-use Rattle.stn_matrix.proofs.Closure.{narrower-closed, narrower-tight, schedule_before, schedule_last}
-use Rattle.stn_matrix.proofs.Widest.{widest-closed, widest-tight, horizon_named}
+use Rattle.stn_net.proofs.Tightest.{IsTight, row_is_schedule}
+use Rattle.stn_net.proofs.Closure.{narrower-closed, narrower-tight, schedule_before, schedule_last}
+use Rattle.stn_net.proofs.Widest.{widest-closed, widest-tight, horizon_named}
 use Rattle.stn_conflict.specs.{declared.links.Link.Link, declared.links.Side.TheVariants.Upper, declared.links.Side.TheVariants.Lower, Arcs.Arc, Arcs.arc, Arcs.arc_of, Arcs.bound_at, Arcs.IsChain, Arcs.weight_of}
 use Rattle.stn_conflict.proofs.Chains.{chain_before}
 

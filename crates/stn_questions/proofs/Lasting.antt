@@ -6,8 +6,7 @@ use Rattle.std.specs.Result.{result_unwrap_or}
 use Rattle.stn_net.specs.{Difference.Difference, Horizon.horizon_bounds, Schedule.times_of}
 use Rattle.stn_net.proofs.Horizons.{length-horizon_bounds}
 use Rattle.stn_pddl.specs.{declared.fault.DomainFault.DomainFault, Schemas.ActionSchema, Domains.domain_of}
-use Rattle.stn_plan.specs.{declared.fault.PlanFault.PlanFault, Steps.PlannedStep, Steps.plan_of}
-use Rattle.stn_lift.specs.{declared.fault.LiftFault.LiftFault, declared.fault.BaseFault.BaseFault, Activities.Activity, Activities.activities}
+use Rattle.stn_lift.specs.{declared.plan.fault.PlanFault.PlanFault, Plan.Steps.PlannedStep, Plan.Steps.plan_of, declared.fault.LiftFault.LiftFault, declared.fault.BaseFault.BaseFault, Activities.Activity, Activities.activities}
 use Rattle.stn_lift.specs.BaseBounds.{duration_bound, duration_bounds, duration_of, events_interfere, event_times, orders, lifted_bounds}
 use Rattle.stn_lift.specs.PlanSource.{files, of_lift, steps_in, lifted, activities_of, source_with, base_of, base_bounds, events_of, IsSoundSource}
 use Rattle.stn_lift.proofs.Steps.{length-activities}

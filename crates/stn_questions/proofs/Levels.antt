@@ -10,7 +10,7 @@ use Rattle.stn_net.specs.Difference.{Difference, NamesEvents}
 use Rattle.stn_conflict.specs.{declared.links.Link.Link, declared.links.Side.Side, declared.links.Side.TheVariants.Upper, declared.links.Side.TheVariants.Lower, Arcs.arc, Arcs.arc_of, Arcs.bound_at, Arcs.IsChain, Arcs.weight_of, Named.IsTight, Named.IsTightChain, Named.IsLevel, Named.IsStep, Named.IsFirstStep, Named.IsWay}
 use Rattle.stn_conflict.proofs.{Tightness.link_reaches, Tightness.tight_from_sum, Tightness.sum_from_tight, Chains.chain-push, Chains.chain-unpush, Chains.last_of, OneCycle.level_unique, Steps.rank_within}
 use Rattle.stn_questions.proofs.Found.{AreFound, tightest_found}
-use Rattle.stn_windows.proofs.Told.{Told, both_told, told_as, same_told, least_below}
+use Rattle.stn_net.proofs.Told.{Told, both_told, told_as, same_told, least_below}
 use Rattle.stn_questions.proofs.Chosen.{first_below, first_of_some}
 
 -- the ends of a side of a bound are its events

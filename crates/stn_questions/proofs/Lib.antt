@@ -15,3 +15,4 @@ pub mod SomeReport
 pub mod SomeAnswer
 pub mod SomeReady
 pub mod SomeDispatch
+pub mod Ranges

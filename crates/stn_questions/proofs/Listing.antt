@@ -4,7 +4,7 @@ use Rattle.std.proofs.lemmas.List.{append-nil, map-append, take_more, length-map
 use Rattle.std.proofs.lemmas.List.Concat.{flat_map-append}
 use Rattle.std.specs.List.{flat_map, range_with_len}
 use Rattle.stn_net.specs.Difference.{Difference}
-use Rattle.stn_plan.specs.Steps.{PlannedStep}
+use Rattle.stn_lift.specs.Plan.Steps.{PlannedStep}
 use Rattle.stn_site.specs.Lines.{line}
 use Rattle.stn_questions.specs.{Durations.least_of, Steps.name_text, Steps.name_lines, Steps.step_line, Steps.step_lines}
 

@@ -2,15 +2,14 @@
 use Rattle.std.proofs.Common.{◌≡◌, ℕ, ℤ, Bool, List, ◌++◌, codes, refl, sym, ap, subst, ◌∙◌, ◌⊎◌, ⊎_elim, inr}
 use Rattle.std.proofs.lemmas.List.{append_cancel_left}
 use Rattle.std.specs.List.{flat_map}
-use Rattle.stn_net.specs.{Difference.Difference, Schedule.HasSchedule}
-use Rattle.stn_windows.specs.{declared.answers.Next.Next, Dispatch.IsNext}
-use Rattle.stn_windows.specs.declared.answers.Next.TheVariants.{Run, AllDone, Overdue}
-use Rattle.stn_windows.proofs.Windows.{one_window}
+use Rattle.stn_net.specs.{Difference.Difference, Schedule.HasSchedule, declared.windows.answers.Next.Next, Windows.Dispatch.IsNext}
+use Rattle.stn_net.specs.declared.windows.answers.Next.TheVariants.{Run, AllDone, Overdue}
+use Rattle.stn_net.proofs.WindowEnds.{one_window}
 use Rattle.stn_lift.specs.PlanSource.{PlanSource}
 use Rattle.stn_records.specs.Content.{Content}
 use Rattle.stn_conflict.specs.{declared.links.Link.Link, Arcs.IsNegativeCycle, Named.IsWay}
 use Rattle.stn_site.specs.{Bounds.all_bounds, Report.done_events, Report.is_done, Report.IsConflictPart, Report.IsReport, Report.heading, Lines.window_line}
-use Rattle.stn_repair.proofs.Ranges.{one_range}
+use Rattle.stn_questions.proofs.Ranges.{one_range}
 use Rattle.stn_questions.specs.{Ready.ready_line, Ready.IsReadyAnswer, Ready.IsReadyText, Why.end_text, Why.range_line, Why.IsWhyPart, Why.IsApartPart, declared.asked.Question.Question, Records.record_line, Records.IsRecordsText, Answer.IsAnswer}
 use Rattle.stn_questions.specs.declared.asked.Question.TheVariants.{Records, Steps, Bounds, Why, WhyApart}
 use Rattle.stn_questions.proofs.{KnownOnce.one_known, OneReady.one_list}

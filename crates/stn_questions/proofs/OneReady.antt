@@ -3,7 +3,7 @@ use Rattle.std.proofs.Common.{◌≡◌, ℕ, ℤ, zero, suc, ◌+◌, ◌<◌, 
 use Rattle.std.proofs.{lemmas.Bool.cases_lt, lemmas.Bool.Decides.nat_tests, lemmas.Int.ints, lemmas.List.Elements.All-tail, lemmas.List.Sums.sum_by-cons}
 use Rattle.std.specs.List.{AllPairs}
 use Rattle.stn_net.specs.Difference.{Difference}
-use Rattle.stn_windows.specs.Dispatch.{IsReady, AreReadyTimes}
+use Rattle.stn_net.specs.Windows.Dispatch.{IsReady, AreReadyTimes}
 use Rattle.stn_questions.specs.{declared.ready_event.ReadyEvent.ReadyEvent, Ready.IsBefore, Ready.AreReadyEvents}
 use Rattle.stn_questions.proofs.ReadyLists.{counted, same_number, HasTimes}
 

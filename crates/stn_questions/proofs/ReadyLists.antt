@@ -5,7 +5,7 @@ use Rattle.std.proofs.lemmas.Cmp.{nat_cmp_total, int_cmp_total, on_total, then_t
 use Rattle.std.specs.{Cmp.IsTotalOrder, Cmp.ranks, Cmp.int_ranks, List.AllPairs, List.count_by, List.Sorted.IsSorted}
 use Rattle.std.specs.Ordering.{MatchOrdering, nat_cmp, int_cmp, is_lt, ordering_then}
 use Rattle.stn_net.specs.Difference.{Difference}
-use Rattle.stn_windows.specs.Dispatch.{IsReady, AreReadyTimes}
+use Rattle.stn_net.specs.Windows.Dispatch.{IsReady, AreReadyTimes}
 use Rattle.stn_questions.specs.{declared.ready_event.ReadyEvent.ReadyEvent, Ready.IsBefore}
 
 -- by first time, by number, by last time

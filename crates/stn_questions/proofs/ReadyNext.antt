@@ -2,9 +2,8 @@
 use Rattle.std.proofs.Common.{◌≡◌, ◌⊎◌, ℕ, ℤ, ◌+ℤ◌, ◌-ℤ◌, ◌≤ℤ◌, ◌<ℤ◌, suc, Bool, List, [], ◌∷◌, get_or, All, Ordering, Less, Equal, Greater, sym, ap, subst, ◌∙◌, arith, ⊎_elim, inl, inr}
 use Rattle.std.proofs.lemmas.Int.{ints, clamps}
 use Rattle.std.specs.{Cmp.int_ranks, Int.int_min, List.flat_map, Ordering.MatchOrdering, Ordering.int_cmp}
-use Rattle.stn_net.specs.{Difference.Difference, Schedule.IsSchedule}
-use Rattle.stn_windows.specs.{declared.answers.Next.TheVariants.Run, Dispatch.LeavesNoneBefore, Dispatch.IsReady, Dispatch.IsFirstReady}
-use Rattle.stn_windows.proofs.Windows.{lesser_schedule}
+use Rattle.stn_net.specs.{Difference.Difference, Schedule.IsSchedule, declared.windows.answers.Next.TheVariants.Run, Windows.Dispatch.LeavesNoneBefore, Windows.Dispatch.IsReady, Windows.Dispatch.IsFirstReady}
+use Rattle.stn_net.proofs.WindowEnds.{lesser_schedule}
 use Rattle.stn_lift.specs.PlanSource.{PlanSource}
 use Rattle.stn_records.specs.Content.{Content}
 use Rattle.stn_site.specs.{Bounds.all_bounds, Report.done_events}

@@ -2,14 +2,14 @@
 use Rattle.std.proofs.Common.{◌≡◌, ℕ, ℤ, neg_ℤ, ◌+◌, List, ◌++◌, codes, Option, Some, None, Result, Ok, Err, refl, subst, ap, ◌∙◌, append_assoc}
 use Rattle.std.specs.Prelude.{◌↔◌, IsNone, IfOk, IfSome, MatchOption}
 use Rattle.stn_net.specs.{Difference.Difference, Schedule.HasSchedule}
-use Rattle.stn_windows.specs.Window.{IsWindow}
-use Rattle.stn_windows.proofs.Windows.{window_of_ends}
+use Rattle.stn_net.specs.Windows.Window.{IsWindow}
+use Rattle.stn_net.proofs.WindowEnds.{window_of_ends}
 use Rattle.stn_lift.specs.PlanSource.{PlanSource, events_of}
 use Rattle.stn_records.specs.Content.{Content}
 use Rattle.stn_conflict.specs.{declared.links.BothWays.BothWays, Named.IsWayOf}
 use Rattle.stn_site.specs.{Bounds.all_bounds, Lines.window_line, Report.is_done}
-use Rattle.stn_repair.specs.Ranges.{IsRange}
-use Rattle.stn_repair.proofs.Ranges.{range_of_ends}
+use Rattle.stn_questions.specs.Repair.Ranges.{IsRange}
+use Rattle.stn_questions.proofs.Ranges.{range_of_ends}
 use Rattle.stn_questions.specs.Why.{HoldEnds, IsWhyPart, IsApartPart, end_text, range_line}
 
 -- three texts, one after the other

@@ -4,14 +4,14 @@ use Rattle.std.specs.{List.AllByRecursion, List.flat_map, List.Sorted.IsStrictly
 use Rattle.std.specs.FinMap as fin
 use Rattle.std.proofs.lemmas.Bool.{cases_lt, and_parts, false≢true}
 use Rattle.std.proofs.lemmas.Map.Views.{Contains-from_any, list_any-from_Contains}
-use Rattle.stn_windows.proofs.Windows.{window_of_ends}
+use Rattle.stn_net.proofs.WindowEnds.{window_of_ends}
 use Rattle.stn_lift.specs.PlanSource.{PlanSource, events_of}
 use Rattle.stn_records.specs.{Id.SiteCounter, Id.id_cmp, Id.same_ids, Content.Content, Content.IdSet, Content.with_ids, Content.replaced_set, Content.is_known}
 use Rattle.stn_records.proofs.{Entries.in_order, Replaced.with_ids_member}
 use Rattle.stn_conflict.specs.{declared.links.Link.Link, Arcs.weight_of, Named.IsWay}
 use Rattle.stn_conflict.proofs.CycleSums.{weight_of_way}
 use Rattle.stn_site.specs.{Bounds.all_bounds, Lines.window_line, Report.is_done}
-use Rattle.stn_repair.proofs.Ranges.{range_of_ends}
+use Rattle.stn_questions.proofs.Ranges.{range_of_ends}
 use Rattle.stn_questions.specs.{declared.asked.Question.Question, Answer.IsAnswer, Answer.AsksOfNoEvent, Records.AreKnown, Records.record_line, Steps.steps_text, Bounds.bounds_text}
 use Rattle.stn_questions.specs.declared.asked.Question.TheVariants.{Records, Steps, Bounds, Why, WhyApart}
 use Rattle.stn_questions.specs.Why.{end_text, range_line, IsWhyText, IsApartText}

@@ -1,13 +1,12 @@
 -- From each time on, each plan and each state have what comes next, a rehearsal and a text of the events that are ready.
 use Rattle.std.proofs.Common.{◌≡◌, ◌⊎◌, inl, inr, ℕ, ℤ, ◌+◌, Bool, List, ◌++◌, length, codes, refl}
 use Rattle.std.specs.List.{flat_map}
-use Rattle.stn_net.specs.{Event.event_text, Schedule.HasSchedule}
-use Rattle.stn_matrix.specs.Table.{Table}
-use Rattle.stn_windows.specs.{declared.answers.Next.Next, Dispatch.IsNext, Rehearsal.IsRehearsal, Rehearsal.IsRehearseFault}
-use Rattle.stn_windows.specs.declared.answers.Next.TheVariants.{Run, AllDone, Overdue}
-use Rattle.stn_windows.specs.declared.answers.RehearseFault.TheVariants as fault
-use Rattle.stn_windows.proofs.{Fixed.table_of, Fixed.exact_of_tightest, SomeNext.AreFlagged, SomeNext.some_next as next_by_table, SomeRehearsal.rehearsed_or_overdue}
-use Rattle.stn_windows.proofs.Rehearsals.{rehearsed_schedule, rehearsed_rising, rehearsed_in_time, rehearsed_once}
+use Rattle.stn_net.specs.{Event.event_text, Schedule.HasSchedule, declared.windows.answers.Next.Next, Windows.Dispatch.IsNext, Windows.Rehearsal.IsRehearsal, Windows.Rehearsal.IsRehearseFault}
+use Rattle.stn_net.specs.Matrix.Table.{Table}
+use Rattle.stn_net.specs.declared.windows.answers.Next.TheVariants.{Run, AllDone, Overdue}
+use Rattle.stn_net.specs.declared.windows.answers.RehearseFault.TheVariants as fault
+use Rattle.stn_net.proofs.{Fixed.table_of, Fixed.exact_of_tightest, SomeNext.AreFlagged, SomeNext.some_next as next_by_table, SomeRehearsal.rehearsed_or_overdue}
+use Rattle.stn_net.proofs.Rehearsals.{rehearsed_schedule, rehearsed_rising, rehearsed_in_time, rehearsed_once}
 use Rattle.stn_lift.specs.PlanSource.{PlanSource, events_of}
 use Rattle.stn_records.specs.Content.{Content, AllProper}
 use Rattle.stn_conflict.proofs.Tightness.{schedule_before}

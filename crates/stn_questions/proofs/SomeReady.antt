@@ -5,9 +5,9 @@ use Rattle.std.proofs.{lemmas.Bool.cases_lt, lemmas.Int.ints, lemmas.Int.by_lt_z
 use Rattle.std.proofs.lemmas.List.{Elements.All-nil, Elements.All-cons, Elements.All-push, Kept.AllPairs-cons}
 use Rattle.std.proofs.lemmas.List.Sorted.{IsPermutation-refl, IsPermutation-cons, IsPermutation-middle, IsPermutation-trans, All-permutation, sum_by-IsPermutation}
 use Rattle.stn_net.specs.Difference.{Difference}
-use Rattle.stn_matrix.specs.Table.{Table}
-use Rattle.stn_windows.specs.Dispatch.{AreReadyTimes}
-use Rattle.stn_windows.proofs.{Readiness.left_within, ReadyTimes.some_ready_times, SomeNext.AreFlagged}
+use Rattle.stn_net.specs.Matrix.Table.{Table}
+use Rattle.stn_net.specs.Windows.Dispatch.{AreReadyTimes}
+use Rattle.stn_net.proofs.{Readiness.left_within, ReadyTimes.some_ready_times, SomeNext.AreFlagged}
 use Rattle.stn_questions.specs.{declared.ready_event.ReadyEvent.ReadyEvent, Ready.IsBefore, Ready.AreReadyEvents}
 use Rattle.stn_questions.proofs.{OneReady.first_before, ReadyLists.counted, ReadyLists.HasTimes, ReadyLists.HasEach, ReadyLists.pushed_other, ReadyLists.each_pushed, ReadyLists.each_kept}
 

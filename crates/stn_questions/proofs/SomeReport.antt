@@ -5,7 +5,7 @@ use Rattle.std.specs.List.{flat_map}
 use Rattle.std.proofs.lemmas.Int.{ints}
 use Rattle.std.proofs.lemmas.List.Elements.{All-append}
 use Rattle.stn_net.specs.{Difference.Difference, Difference.IsBoundWithin}
-use Rattle.stn_windows.proofs.Windows.{window_of_ends}
+use Rattle.stn_net.proofs.WindowEnds.{window_of_ends}
 use Rattle.stn_lift.specs.PlanSource.{PlanSource, events_of, base_bounds, IsSoundSource}
 use Rattle.stn_records.specs.Content.{Content}
 use Rattle.stn_conflict.specs.Arcs.{weight_of}

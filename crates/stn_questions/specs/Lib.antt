@@ -1,7 +1,9 @@
 pub mod Answer
 pub mod Bounds
 pub mod Durations
+pub mod Picture
 pub mod Ready
 pub mod Records
+pub mod Repair
 pub mod Steps
 pub mod Why

@@ -2,7 +2,7 @@
 use Rattle.std.specs.Prelude.{ℕ, ℤ, ◌+◌, List, [], ◌∷◌, ◌++◌, codes, decimal}
 use Rattle.std.specs.{List.flat_map, List.range_with_len, Result.result_unwrap_or}
 use Rattle.stn_time.specs.Text.{printed}
-use Rattle.stn_plan.specs.Steps.{PlannedStep, plan_of}
+use Rattle.stn_lift.specs.Plan.Steps.{PlannedStep, plan_of}
 use Rattle.stn_lift.specs.BaseBounds.{duration_of}
 use Rattle.stn_lift.specs.PlanSource.{PlanSource, bare, files, activities_of}
 use Rattle.stn_site.specs.Lines.{line}

@@ -3,12 +3,12 @@ use Rattle.std.specs.Prelude.{◌≡◌, ◌⊎◌, ◌<◌, ℕ, ℤ, neg_ℤ, 
 use Rattle.std.specs.List.{flat_map}
 use Rattle.stn_time.specs.Text.{printed}
 use Rattle.stn_net.specs.{Event.event_text, Schedule.HasSchedule}
-use Rattle.stn_windows.specs.Window.{IsWindow}
+use Rattle.stn_net.specs.Windows.Window.{IsWindow}
 use Rattle.stn_lift.specs.PlanSource.{PlanSource, base_bounds, events_of}
 use Rattle.stn_records.specs.Content.{Content}
 use Rattle.stn_conflict.specs.{declared.links.Link.Link, declared.links.BothWays.BothWays, Arcs.weight_of, Named.IsWay, Named.IsWayOf}
 use Rattle.stn_site.specs.{Bounds.all_bounds, Bounds.live_bounds, Names.live_ids, Lines.line, Lines.times_text, Lines.window_line, Lines.link_line, Report.is_done, Report.IsConflictPart}
-use Rattle.stn_repair.specs.Ranges.{IsRange}
+use Rattle.stn_questions.specs.Repair.Ranges.{IsRange}
 
 -- `<word> <time>`, and the line of each link
 abbrev pub end_text : PlanSource → Content → List ℕ → ℤ → List Link → List ℕ

@@ -3,11 +3,11 @@ ghost use Rattle.stn_net.specs.Difference.{IsBoundWithin};
 ghost use Rattle.stn_net.specs.Schedule.{HasSchedule};
 ghost use Rattle.stn_lift.specs.PlanSource.{PlanSource, IsSoundSource, events_of};
 ghost use Rattle.stn_records.specs.Content.{Content};
-ghost use Rattle.stn_windows.specs.Dispatch.{IsNext};
-ghost use Rattle.stn_windows.specs.Rehearsal.{IsRehearsal, IsRehearseFault};
-ghost use Rattle.stn_windows.specs.declared.answers.Next.{Next};
-ghost use Rattle.stn_windows.specs.declared.answers.Next.TheVariants.{Run};
-ghost use Rattle.stn_windows.specs.declared.answers.RehearseFault.TheVariants.{Overdue};
+ghost use Rattle.stn_net.specs.Windows.Dispatch.{IsNext};
+ghost use Rattle.stn_net.specs.Windows.Rehearsal.{IsRehearsal, IsRehearseFault};
+ghost use Rattle.stn_net.specs.declared.windows.answers.Next.{Next};
+ghost use Rattle.stn_net.specs.declared.windows.answers.Next.TheVariants.{Run};
+ghost use Rattle.stn_net.specs.declared.windows.answers.RehearseFault.TheVariants.{Overdue};
 ghost use Rattle.stn_site.specs.Bounds.{all_bounds, live_bounds};
 ghost use Rattle.stn_site.specs.Report.{IsReport, done_events};
 ghost use Rattle.stn_site.specs.Held.{Held};
@@ -17,9 +17,9 @@ ghost use Rattle.stn_questions.specs.Answer.{AsksOfNoEvent, AsksOfPlan, IsAnswer
 ghost use Rattle.stn_questions.specs.Ready.{BeginsWithNext, IsReadyText, IsReadyWith};
 
 use stn_conflict::{negative_cycle_is_conflict, one_way};
+use stn_net::next_unique;
 use stn_records::counts_same;
 use stn_site::{one_report, took_same_same_bytes};
-use stn_windows::next_unique;
 
 /// The law that a plan and a state have one answer to each question.
 pub fn one_answer()

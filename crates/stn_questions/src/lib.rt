@@ -1,6 +1,6 @@
 //! Questions that people ask of a plan: which records, steps and bounds it has, what may run from now on,
-//! why an event's window ends where it does, and why two events come no closer and no further apart. They
-//! change nothing.
+//! why an event's window ends where it does, why two events come no closer and no further apart, and what
+//! mends a conflict; and a picture of the plan. They change nothing.
 #![tactic(auto)]
 
 pub use answer::print_answer;
@@ -12,9 +12,17 @@ pub use laws::{
     every_state_has_a_rehearsal, every_state_has_a_report, one_answer, one_ready_text,
     ready_begins_with_next, same_answers,
 };
+pub use picture::{
+    Span, bars_are_on_the_line, lines_are_escaped, one_picture, print_picture, same_pictures,
+    steps_have_rows,
+};
 pub use ready::{print_ready, print_ready_among};
 pub use ready_event::ReadyEvent;
 pub use records::print_records;
+pub use repair::{
+    Repair, kept_is_largest, one_repairs_text, print_repairs, repairs_lie_on_each_cycle,
+    same_repairs,
+};
 pub use steps::{names_of, print_steps};
 pub use why::{WhyFault, print_why};
 
@@ -24,8 +32,10 @@ mod asked;
 mod bounds;
 mod ends;
 mod laws;
+mod picture;
 mod ready;
 mod ready_event;
 mod records;
+mod repair;
 mod steps;
 mod why;

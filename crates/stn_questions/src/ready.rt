@@ -1,10 +1,10 @@
-ghost use Rattle.std.specs.Prelude.{◌≡◌, ℕ, ℤ, ◌+◌, ◌≤◌, ◌≤ℤ◌, ◌==◌, ◌++◌, List, length, take, All, Some, count_by, codes, IfOk, OnOk, OnErr};
+ghost use Rattle.std.specs.Prelude.{◌≡◌, ℕ, ℤ, ◌+◌, ◌≤ℤ◌, ◌==◌, ◌++◌, List, length, All, Some, count_by, codes, IfOk, OnOk, OnErr};
 ghost use Rattle.std.specs.List.{flat_map};
 ghost use Rattle.stn_net.specs.Difference.{Difference};
-ghost use Rattle.stn_net.specs.Event.{most_events, event_text};
+ghost use Rattle.stn_net.specs.Event.{event_text};
 ghost use Rattle.stn_net.specs.Schedule.{HasSchedule};
-ghost use Rattle.stn_matrix.specs.Tightest.{IsExact};
-ghost use Rattle.stn_windows.specs.Dispatch.{IsReady, AreReadyTimes};
+ghost use Rattle.stn_net.specs.Matrix.Tightest.{IsExact};
+ghost use Rattle.stn_net.specs.Windows.Dispatch.{IsReady, AreReadyTimes};
 ghost use Rattle.stn_site.specs.Bounds.{all_bounds};
 ghost use Rattle.stn_site.specs.Lines.{line};
 ghost use Rattle.stn_replica.specs.Own.{done_or_others};
@@ -12,12 +12,9 @@ ghost use Rattle.stn_questions.specs.Ready.{AreReadyEvents, AreReadyLines, IsRea
 
 use crate::ready_event::ReadyEvent;
 use std::alloc::Allocator;
-use stn_matrix::Matrix;
-use stn_net::Event;
-use stn_replica::{Own, Replica, flags_among};
-use stn_site::EVENT_FLAGS;
+use stn_net::{Event, Matrix, Next, ready_times};
+use stn_replica::{Own, Replica, flags_among, flags_of};
 use stn_time::{Memory, Ms};
-use stn_windows::{Next, ready_times};
 
 /// Appends which events may run from now on: a line for each event that may run at some time from now
 /// on, with the first and the last such time, by first time and then by number. Where all bounds have
@@ -122,15 +119,6 @@ fn append_ready<A: Allocator + Copy>(
     let done = flags_of(&flags, matrix);
     let ready = ready_events(replica.alloc(), matrix, done, now)?;
     append_lines(&ready, out)
-}
-
-// Those of the flags that are about the matrix's events.
-fn flags_of<'a, A: Allocator>(flags: &'a [bool; EVENT_FLAGS], matrix: &Matrix<A>) -> &'a [bool]
-    ensures value { result.now ≡ take (matrix.now.events + 1) flags.now }
-    ensures one_each { length result.now ≡ matrix.now.events + 1 }
-    ensures few { matrix.now.events ≤ most_events }
-{
-    &flags[..usize::from(matrix.events()) + 1]
 }
 
 // The events that are ready from now on, in the order in which they are printed.

@@ -1,16 +1,15 @@
 ghost use Rattle.std.specs.Prelude.{◌≡◌, ◌≤◌, ◌++◌, ℕ, List, length, map, decimal, IfOk, OnOk, OnErr};
 ghost use Rattle.std.specs.List.{flat_map, range_with_len};
 ghost use Rattle.stn_net.specs.Event.{most_steps};
-ghost use Rattle.stn_plan.specs.Views.{planned_step, word_of};
+ghost use Rattle.stn_lift.specs.Plan.Views.{planned_step, word_of};
 ghost use Rattle.stn_lift.specs.PlanSource.{files};
 ghost use Rattle.stn_site.specs.Lines.{line};
 ghost use Rattle.stn_questions.specs.Durations.{least_of, AreDurations};
 ghost use Rattle.stn_questions.specs.Steps.{words_text, name_text, name_lines, step_line, step_lines, planned_steps, steps_text};
 
 use std::alloc::{AllocError, Allocator};
-use stn_lift::{Base, Source};
+use stn_lift::{Base, Plan, PlanFault, Source, Step};
 use stn_net::Bound;
-use stn_plan::{Plan, PlanFault, Step};
 use stn_site::SitePlan;
 use stn_text::append_decimal;
 use stn_time::{Memory, Ms};

@@ -130,6 +130,7 @@ impl<A: Allocator + Copy> Records<A> {
     ///
     /// Refused in this order: `Unknown`, where the id is not known; `Memory`. After a fault all is as
     /// before.
+    #[tactic(auto, using(crate::proofs::Outcomes::known_by_tombstone, crate::proofs::Outcomes::no_room_needed, crate::proofs::OneItem::tombstone_joins, crate::proofs::OneItem::tombstone_again))]
     pub fn withdraw(&mut self, id: Id) -> Result<(), WithdrawFault>
         ensures withdrawn { OnOk result (self.new ≡ with_tombstone self.old id) }
         ensures joined { OnOk result (join_contents self.old (one_tombstone id) ≡ Some self.new) }
@@ -149,6 +150,7 @@ impl<A: Allocator + Copy> Records<A> {
     ///
     /// Refused in this order: `Full`, where the id is new and 4,096 are known; `Memory`. After a
     /// fault all is as before.
+    #[tactic(auto, using(crate::proofs::Outcomes::known_by_tombstone, crate::proofs::Outcomes::room_left, crate::proofs::Outcomes::no_room_needed, crate::proofs::OneItem::tombstone_joins, crate::proofs::OneItem::tombstone_again))]
     pub fn bury(&mut self, id: Id) -> Result<(), BuryFault>
         ensures withdrawn { OnOk result (self.new ≡ with_tombstone self.old id) }
         ensures joined { OnOk result (join_contents self.old (one_tombstone id) ≡ Some self.new) }
@@ -182,6 +184,7 @@ impl<A: Allocator + Copy> Records<A> {
     /// Refused in this order: `SelfReplace`, where the id would replace itself; `Clash`, where the id
     /// has another record or replaces another id; `Unknown`, where the old id is not known; `Full`,
     /// where more than 4,096 ids would be known; `Memory`. After a fault all is as before.
+    #[tactic(auto, using(crate::proofs::Amending::amend_again, crate::proofs::Amending::amend_unrefused, crate::proofs::Amending::no_clash, crate::proofs::OneItem::amendment_joins, crate::proofs::OneItem::amendment_again))]
     pub fn amend(&mut self, id: Id, old: Id, bound: Bound) -> Result<(), AmendFault>
         ensures amended { OnOk result (self.new ≡ with_amendment self.old id old bound) }
         ensures joined { OnOk result (join_contents self.old (one_amendment id old bound) ≡ Some self.new) }
@@ -204,6 +207,7 @@ impl<A: Allocator + Copy> Records<A> {
     /// Refused in this order: `SelfReplace`, where the id would replace itself; `Clash`, where the id
     /// has another record or replaces another id; `Full`, where more than 4,096 ids would be known;
     /// `Memory`. After a fault all is as before.
+    #[tactic(auto, using(crate::proofs::Amending::replace_again, crate::proofs::Amending::replace_unrefused, crate::proofs::Amending::no_clash, crate::proofs::OneItem::amendment_joins, crate::proofs::OneItem::amendment_again))]
     pub fn replace(&mut self, id: Id, old: Id, bound: Bound) -> Result<(), ReplaceFault>
         ensures amended { OnOk result (self.new ≡ with_amendment self.old id old bound) }
         ensures joined { OnOk result (join_contents self.old (one_amendment id old bound) ≡ Some self.new) }

@@ -72,6 +72,7 @@ pub(crate) fn merged<X: Copy, A: Allocator + Copy>(
     Ok(all)
 }
 
+#[tactic(auto, using(crate::proofs::Disputes::ours_first, std::proofs::lemmas::Bool::and_parts, crate::proofs::Disputes::both_agree, crate::proofs::Disputes::theirs_first, crate::proofs::Disputes::ended))]
 pub(crate) fn first_dispute<X: MapValue>(ours: &[(Id, X)], theirs: &[(Id, X)]) -> Option<Id>
     requires ours { IsTrue (is_sorted id_cmp ours.now) }
     requires theirs { IsTrue (is_sorted id_cmp theirs.now) }
@@ -98,6 +99,7 @@ pub(crate) fn first_dispute<X: MapValue>(ours: &[(Id, X)], theirs: &[(Id, X)]) -
     None
 }
 
+#[tactic(auto, using(crate::proofs::Holding::theirs_first, crate::proofs::Holding::ours_first, std::proofs::lemmas::Bool::and_parts, crate::proofs::Holding::both_first))]
 pub(crate) fn has_entries<X: MapValue>(ours: &[(Id, X)], theirs: &[(Id, X)]) -> bool
     requires ours { IsTrue (is_sorted id_cmp ours.now) }
     requires theirs { IsTrue (is_sorted id_cmp theirs.now) }

@@ -1,11 +1,12 @@
 -- A walk over the entries of one map, and what walks beside it have left of the entries of others.
-use Rattle.std.proofs.Common.{◌≡◌, ℕ, ◌+◌, ◌<◌, Bool, true, false, cond, not, ◌&&◌, List, [], ◌∷◌, length, get_or, drop, Some, is_some, Less, Equal, Greater, is_lt, is_eq, sym, refl, ap, subst, ◌∙◌}
+use Rattle.std.proofs.Common.{◌≡◌, ℕ, ◌+◌, ◌<◌, true, false, cond, not, ◌&&◌, List, [], ◌∷◌, ◌++◌, length, get_or, take, drop, Some, is_some, Less, Equal, Greater, is_lt, is_eq, sym, refl, ap, subst, ◌∙◌}
 use Rattle.std.proofs.lemmas.Bool.{and_parts}
 use Rattle.std.specs.{List.AllByRecursion, Cmp.tied_back, FinMap.Entries.below_all}
 use Rattle.std.specs.FinMap.{FinMap, entries, get, get-entries, contains_key, find, is_sorted}
-use Rattle.stn_records.specs.{Id.SiteCounter, Id.id_cmp, Content.Content, Content.is_live, Content.is_replaced, ContentLaws.ids_total}
+use Rattle.stn_records.specs.{Id.SiteCounter, Id.id_cmp, declared.record.Record.Record, Content.Content, Content.is_live, Content.replaced_set, ContentLaws.ids_total}
 use Rattle.stn_records.proofs.Entries.{less_is, greater_back, below_less, find_below, passed_over, sorted_drop, in_order, front}
-use Rattle.stn_replica.specs.{Work.is_risen, Walk.from_id, Walk.begins_with}
+use Rattle.stn_site.proofs.Places.{one_more_seen}
+use Rattle.stn_replica.specs.{declared.cursors.LiveWalk.LiveWalk, Walk.from_id, Walk.begins_with, Walk.HasAll, Walk.GoesTo, Walk.has_live, Work.is_risen}
 
 module _ {X : Type 0} where
   -- what is left from an id on is in order
@@ -77,20 +78,89 @@ module _ {X Y : Type 0} (all : List (SiteCounter × Y)) (m : FinMap id_cmp X) wh
           (λ k l found. left_finds e.0 k.0 rest l ∙ found) here.1;
     }
 
--- the same at the items that are walked, and at what a cursor was left at
-module _ {X Y : Type 0} (all items : List (SiteCounter × Y)) (m : FinMap id_cmp X) (place : ℕ) (e : SiteCounter × Y) (rest next : List (SiteCounter × X)) (same : items ≡ all) (within : place < length items) (at : e ≡ get_or items place e)
-    (ahead : IsAhead all place m rest) (is : next ≡ from_id e.0 rest) where
+-- the next of the items that are walked, which are the entries of a map
+pub record IsNext {Y : Type 0} (all items : List (SiteCounter × Y)) (place : ℕ) (e : SiteCounter × Y) : Type 0 where
+  pub same : items ≡ all
+  pub within : place < length items
+  pub at : e ≡ get_or items place e
+
+pub one_more : {Y : Type 0} {all items : List (SiteCounter × Y)} {place : ℕ} {e : SiteCounter × Y} → IsNext all items place e → take (place + 1) all ≡ take place all ++ e ∷ []
+one_more {all = all} {items = items} {place = place} {e = e} here = one_more_seen all items place e here.same here.within here.at
+
+-- what is left of the entries of a map goes on to the id of the next
+pub record IsSought {X Y : Type 0} (all items : List (SiteCounter × Y)) (place : ℕ) (e : SiteCounter × Y) (m : FinMap id_cmp X) (rest next : List (SiteCounter × X)) : Type 0 where
+  pub here : IsNext all items place e
+  pub ahead : IsAhead all place m rest
+  pub goes : next ≡ from_id e.0 rest
+
+module _ {X Y : Type 0} {all items : List (SiteCounter × Y)} {place : ℕ} {e : SiteCounter × Y} {m : FinMap id_cmp X} {rest next : List (SiteCounter × X)} (sought : IsSought all items place e m rest next) where
+  within_all : place < length all
+  within_all = subst (λ l. place < length l) sought.here.same sought.here.within
+
+  at_all : e ≡ get_or all place e
+  at_all = subst (λ l. e ≡ get_or l place e) sought.here.same sought.here.at
+
   pub seen_there : begins_with e.0 next ≡ contains_key m e.0
-  seen_there = ap (begins_with e.0) is
-      ∙ begins_where_there all m place e rest (subst (λ l. place < length l) same within) (subst (λ l. e ≡ get_or l place e) same at) ahead
+  seen_there = ap (begins_with e.0) sought.goes ∙ begins_where_there all m place e rest within_all at_all sought.ahead
 
   pub seen_ahead : is_sorted id_cmp all ≡ true → IsAhead all (place + 1) m next
-  seen_ahead sorted =
-      subst (IsAhead all (place + 1) m) (sym is) (one_ahead all m place e rest (subst (λ l. place < length l) same within) (subst (λ l. e ≡ get_or l place e) same at) ahead sorted)
+  seen_ahead sorted = subst (IsAhead all (place + 1) m) (sym sought.goes) (one_ahead all m place e rest within_all at_all sought.ahead sorted)
 
--- an added record has become live by what the cursors say of it
-pub rises : (old new : Content) (id : SiteCounter) (added gone replaced risen : Bool) → contains_key new.additions id ≡ true
-    → added ≡ contains_key old.additions id → gone ≡ is_replaced old id → replaced ≡ is_replaced new id
-    → risen ≡ (not replaced && not (added && not gone)) → risen ≡ is_risen old new id
-rises old new id added gone replaced risen there a g w is =
-    is ∙ (λ i. not (w i) && not (a i && not (g i))) ∙ ap (λ b. (b && not (is_replaced new id)) && not (is_live old id)) (sym there)
+-- a walk has ahead all that a state has of the ids from a place on
+pub record WalksAhead {Y : Type 0} (all : List (SiteCounter × Y)) (place : ℕ) (state : Content) (walk : LiveWalk) : Type 0 where
+  pub added : IsAhead all place state.additions walk.added.now
+  pub replaced : IsAhead all place (replaced_set state) walk.replaced.now
+
+-- at first
+pub walks_all : {Y : Type 0} (all : List (SiteCounter × Y)) (state : Content) (walk : LiveWalk) → HasAll state walk → WalksAhead all 0 state walk
+walks_all all state walk has = record { added = all_ahead all state.additions walk.added.now has.added; replaced = all_ahead all (replaced_set state) walk.replaced.now has.replaced }
+
+-- a walk that goes on to the next id
+pub record IsWalked {Y : Type 0} (all items : List (SiteCounter × Y)) (place : ℕ) (e : SiteCounter × Y) (state : Content) (walk next : LiveWalk) : Type 0 where
+  pub here : IsNext all items place e
+  pub ahead : WalksAhead all place state walk
+  pub goes : GoesTo e.0 walk next
+
+module _ {Y : Type 0} {all items : List (SiteCounter × Y)} {place : ℕ} {e : SiteCounter × Y} {state : Content} {walk next : LiveWalk} (walked : IsWalked all items place e state walk next) where
+  in_added : IsSought all items place e state.additions walk.added.now next.added.now
+  in_added = record { here = walked.here; ahead = walked.ahead.added; goes = walked.goes.added }
+
+  in_replaced : IsSought all items place e (replaced_set state) walk.replaced.now next.replaced.now
+  in_replaced = record { here = walked.here; ahead = walked.ahead.replaced; goes = walked.goes.replaced }
+
+  -- it has the id where the record is live
+  pub has_where_live : has_live e.0 next ≡ is_live state e.0
+  has_where_live = λ i. seen_there in_added i && not (seen_there in_replaced i)
+
+  -- and has ahead what there is one place on
+  pub walks_on : is_sorted id_cmp all ≡ true → WalksAhead all (place + 1) state next
+  walks_on sorted = record { added = seen_ahead in_added sorted; replaced = seen_ahead in_replaced sorted }
+
+-- walks over an old state and a new one, beside one over the records of the new
+pub record AreAhead (before after : Content) (place : ℕ) (old new : LiveWalk) : Type 0 where
+  pub of_old : WalksAhead (entries after.additions) place before old
+  pub of_new : WalksAhead (entries after.additions) place after new
+
+pub both_ahead : (before after : Content) (old new : LiveWalk) → HasAll before old → HasAll after new → AreAhead before after 0 old new
+both_ahead before after old new was is = record { of_old = walks_all (entries after.additions) before old was; of_new = walks_all (entries after.additions) after new is }
+
+-- as they go on to the next record
+pub record AreWalked (before after : Content) (items : List (SiteCounter × Record)) (place : ℕ) (e : SiteCounter × Record) (old next_old new next_new : LiveWalk) : Type 0 where
+  pub here : IsNext (entries after.additions) items place e
+  pub ahead : AreAhead before after place old new
+  pub goes_old : GoesTo e.0 old next_old
+  pub goes_new : GoesTo e.0 new next_new
+
+module _ {before after : Content} {items : List (SiteCounter × Record)} {place : ℕ} {e : SiteCounter × Record} {old next_old new next_new : LiveWalk} (walked : AreWalked before after items place e old next_old new next_new) where
+  in_old : IsWalked (entries after.additions) items place e before old next_old
+  in_old = record { here = walked.here; ahead = walked.ahead.of_old; goes = walked.goes_old }
+
+  in_new : IsWalked (entries after.additions) items place e after new next_new
+  in_new = record { here = walked.here; ahead = walked.ahead.of_new; goes = walked.goes_new }
+
+  -- they tell whether it has become live
+  pub risen_there : (has_live e.0 next_new && not (has_live e.0 next_old)) ≡ is_risen before after e.0
+  risen_there = λ i. has_where_live in_new i && not (has_where_live in_old i)
+
+  pub both_on : AreAhead before after (place + 1) next_old next_new
+  both_on = record { of_old = walks_on in_old (in_order after.additions); of_new = walks_on in_new (in_order after.additions) }

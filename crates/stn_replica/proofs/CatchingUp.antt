@@ -2,7 +2,7 @@
 use Rattle.std.proofs.Common.{◌≡◌, ◌≤◌, Bool, true, false, List, [], ◌∷◌, ◌++◌, Some, inl, refl, sym, ap, subst, ◌∙◌}
 use Rattle.std.specs.FinMap.{get}
 use Rattle.stn_net.specs.Difference.{Difference}
-use Rattle.stn_matrix.specs.{Table.Table, Tightest.IsExact}
+use Rattle.stn_net.specs.{Matrix.Table.Table, Matrix.Tightest.IsExact}
 use Rattle.stn_lift.specs.PlanSource.{events_of}
 use Rattle.stn_records.specs.{Id.SiteCounter, declared.record.Record.Record, ContentLaws.contents_join}
 use Rattle.stn_records.specs.Content.{Content, is_known, is_live, replacement, plain, one_amendment, next_counter}

@@ -3,8 +3,7 @@ use Rattle.std.proofs.Common.{◌≡◌, ◌≢◌, ◌<◌, ◌≤◌, Bool, tr
 use Rattle.std.proofs.lemmas.Bool.{false≢true, false_from_ne_true, cases_lt, or_cases}
 use Rattle.std.proofs.lemmas.List.Elements.{All-append, All-nil, All-push}
 use Rattle.std.specs.{Ordering.eq_by_cmp, FinMap.get, FinMap.insert, FinMap.contains_key}
-use Rattle.stn_net.specs.{Difference.Difference, Difference.NamesEvents, Schedule.Meets}
-use Rattle.stn_matrix.specs.{Table.Table, Tightest.IsExact}
+use Rattle.stn_net.specs.{Difference.Difference, Difference.NamesEvents, Schedule.Meets, Matrix.Table.Table, Matrix.Tightest.IsExact}
 use Rattle.stn_records.specs.{Id.SiteCounter, Id.id_cmp, declared.record.Record.Record, ContentLaws.contents_join}
 use Rattle.stn_records.specs.Content.{Content, addition, is_live, is_replaced, is_known, no_content, plain, replaced_set, with_amendment, with_record, with_tombstone, join_contents}
 use Rattle.stn_records.proofs.Replaced.{replaced_by_withdrawal, inserted_key, replaced_withdrawn, replaced_amended}

@@ -3,7 +3,7 @@ use Rattle.std.proofs.Common.{◌≡◌, Bool, true, false, cond, not, ◌&&◌,
 use Rattle.std.specs.{List.AllByRecursion, FinMap.entries, FinMap.get, FinMap.contains_key, FinMap.get-empty}
 use Rattle.std.proofs.{lemmas.Bool.false≢true, lemmas.List.Elements.All-from_recursion, lemmas.List.Elements.recursion_from_All}
 use Rattle.stn_net.specs.{Difference.Difference, Difference.NamesEvents, Schedule.HasSchedule, Schedule.Meets}
-use Rattle.stn_matrix.specs.Table.{Table}
+use Rattle.stn_net.specs.Matrix.Table.{Table}
 use Rattle.stn_records.specs.{Id.SiteCounter, Id.id_cmp, declared.record.Record.Record, ContentLaws.ids_total, ContentLaws.ids_exact}
 use Rattle.stn_records.specs.Content.{Content, addition, IsPart, is_live, is_replaced, live_of, no_content, replaced_set}
 use Rattle.stn_site.proofs.Named.{records_from_bounds, bounds_from_records}

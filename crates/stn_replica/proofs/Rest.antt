@@ -2,12 +2,11 @@
 use Rattle.std.proofs.Common.{◌≡◌, ℕ, ℤ, true, false, ◌+◌, ◌≤◌, Bool, List, length, get_or, take, map, not, ap, ◌∙◌, arith, get_or-take}
 use Rattle.std.proofs.{lemmas.Bool.false≢true, lemmas.Int.ints, lemmas.List.Elements.All-filter, lemmas.List.FromFn.fill_by_all}
 use Rattle.std.specs.{List.range_with_len, FinMap.entries}
-use Rattle.stn_net.specs.{Difference.Difference, Schedule.IsSchedule, Schedule.Meets}
+use Rattle.stn_net.specs.{Difference.Difference, Schedule.IsSchedule, Schedule.Meets, Windows.Dispatch.CanWaitUntil, Windows.Rehearsal.IsRehearsal, Windows.Rehearsal.NeverFalls, Windows.Rehearsal.RunsEachOnce, Windows.Rehearsal.HasScheduleThrough}
 use Rattle.stn_lift.specs.PlanSource.{PlanSource, base_bounds, events_of}
 use Rattle.stn_records.specs.{Id.SiteCounter, Record.IsProper, Record.is_done as marks_done, declared.record.Mark.Mark, declared.record.Record.Record, Content.Content, Content.AllProper, Content.live_of, Content.is_replaced, ContentLaws.ids_total, ContentLaws.ids_exact}
 use Rattle.stn_records.specs.declared.record.Mark.TheVariants.{Plain, Done}
 use Rattle.stn_site.specs.Bounds.{all_bounds, live_bounds}
-use Rattle.stn_windows.specs.{Dispatch.CanWaitUntil, Rehearsal.IsRehearsal, Rehearsal.NeverFalls, Rehearsal.RunsEachOnce, Rehearsal.HasScheduleThrough}
 use Rattle.stn_replica.specs.Dispatch.{KeepsRecorded, IsRestWith}
 use Rattle.stn_records.proofs.Gets.{entries_from_get}
 use Rattle.stn_site.proofs.Named.{records_from_bounds}

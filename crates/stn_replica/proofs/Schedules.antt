@@ -3,9 +3,8 @@ use Rattle.std.proofs.Common.{ℕ, ℤ, Bool, true, false, ◌↔◌, List, [], 
 use Rattle.std.proofs.{lemmas.Bool.false≢true, lemmas.List.Elements.All-append, lemmas.List.Sorted.All-permutation, lemmas.List.Sorted.IsPermutation-sym}
 use Rattle.std.specs.List.Sorted.{IsPermutation}
 use Rattle.stn_time.proofs.Each.{All-left, All-right}
-use Rattle.stn_net.specs.{Difference.Difference, Difference.NamesEvents, Schedule.IsSchedule, Schedule.HasSchedule, Schedule.Meets}
-use Rattle.stn_matrix.specs.{Table.Table, Tightest.IsExact}
-use Rattle.stn_matrix.proofs.Tightest.{exact_same_schedules}
+use Rattle.stn_net.specs.{Difference.Difference, Difference.NamesEvents, Schedule.IsSchedule, Schedule.HasSchedule, Schedule.Meets, Matrix.Table.Table, Matrix.Tightest.IsExact}
+use Rattle.stn_net.proofs.Tightest.{exact_same_schedules}
 use Rattle.stn_replica.specs.Invariant.{IsSettled}
 
 -- a schedule of bounds and more is one of the bounds

@@ -1,8 +1,7 @@
 -- That a replica stays sound, and what its work is.
 use Rattle.std.proofs.Common.{◌≡◌, ◌+◌, ◌≤◌, Bool, true, false, List, [], ◌∷◌, ◌++◌, Some, refl, sym, ap, subst, ◌∙◌, arith, All}
 use Rattle.std.proofs.{lemmas.Bool.false≢true, lemmas.List.Elements.All-append}
-use Rattle.stn_net.specs.{Difference.Difference, Difference.NamesEvents, Schedule.HasSchedule}
-use Rattle.stn_matrix.specs.{Table.Table, Tightest.IsExact}
+use Rattle.stn_net.specs.{Difference.Difference, Difference.NamesEvents, Schedule.HasSchedule, Matrix.Table.Table, Matrix.Tightest.IsExact}
 use Rattle.stn_lift.specs.PlanSource.{PlanSource, base_bounds, events_of}
 use Rattle.stn_records.specs.{Id.SiteCounter, declared.record.Record.Record, Content.Content, Content.is_live, Content.no_content, Content.with_tombstone, Content.join_contents}
 use Rattle.stn_site.specs.{Bounds.all_bounds, Bounds.live_bounds, Bounds.bounds_of, Bounds.RecordsName, Held.Held}

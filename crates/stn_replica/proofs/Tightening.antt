@@ -2,8 +2,7 @@
 use Rattle.std.proofs.Common.{◌≡◌, ℕ, ◌+◌, ◌≤◌, Bool, true, false, cond, not, List, [], ◌∷◌, ◌++◌, length, filter, take, drop, min, refl, sym, ap, subst, ◌∙◌, arith, append_assoc, append-nil, length-append}
 use Rattle.std.proofs.{lemmas.List.map-append, lemmas.List.take-append-drop, lemmas.List.Elements.filter-append}
 use Rattle.std.specs.FinMap.{entries}
-use Rattle.stn_net.specs.{Difference.Difference, Schedule.HasSchedule, Schedule.IsSchedule}
-use Rattle.stn_matrix.specs.{Table.Table, Tightest.IsExact}
+use Rattle.stn_net.specs.{Difference.Difference, Schedule.HasSchedule, Schedule.IsSchedule, Matrix.Table.Table, Matrix.Tightest.IsExact}
 use Rattle.stn_records.specs.{Id.SiteCounter, declared.record.Record.Record, Content.Content, Content.is_replaced}
 use Rattle.stn_site.specs.Bounds.{bounds_of, live_bounds}
 use Rattle.stn_replica.specs.Work.{is_risen}

@@ -1,7 +1,7 @@
 -- The rest of a replica's plan: the runs of the events that are left.
 use Rattle.std.specs.Prelude.{◌≡◌, ℕ, ℤ, true, Bool, List, All}
 use Rattle.stn_net.specs.Schedule.{IsSchedule}
-use Rattle.stn_windows.specs.{Dispatch.CanWaitUntil, Rehearsal.IsRehearsal, Rehearsal.NeverFalls, Rehearsal.RunsEachOnce}
+use Rattle.stn_net.specs.{Windows.Dispatch.CanWaitUntil, Windows.Rehearsal.IsRehearsal, Windows.Rehearsal.NeverFalls, Windows.Rehearsal.RunsEachOnce}
 use Rattle.stn_lift.specs.PlanSource.{PlanSource}
 use Rattle.stn_records.specs.{Record.is_done as marks_done, Content.Content, Content.live_of}
 use Rattle.stn_site.specs.{Bounds.all_bounds, Report.done_events}

@@ -1,22 +1,18 @@
-ghost use Rattle.std.specs.Prelude.{◌≡◌, ◌+◌, ◌≤◌, length, take, IfOk, IfErr, MatchOption};
-ghost use Rattle.stn_net.specs.Event.{most_events};
+ghost use Rattle.std.specs.Prelude.{◌≡◌, IfOk, IfErr, MatchOption};
 ghost use Rattle.stn_net.specs.Schedule.{HasSchedule};
-ghost use Rattle.stn_windows.specs.Dispatch.{IsNext};
-ghost use Rattle.stn_windows.specs.Rehearsal.{IsRehearseFault};
+ghost use Rattle.stn_net.specs.Windows.Dispatch.{IsNext};
+ghost use Rattle.stn_net.specs.Windows.Rehearsal.{IsRehearseFault};
 ghost use Rattle.stn_lift.specs.PlanSource.{steps_of};
 ghost use Rattle.stn_site.specs.Bounds.{all_bounds};
 ghost use Rattle.stn_site.specs.Report.{done_events};
 ghost use Rattle.stn_replica.specs.Own.{done_or_others};
 ghost use Rattle.stn_replica.specs.Dispatch.{IsRestOfPlan, IsRestWith};
 
-use crate::own::{Own, StepRange, flags_among};
+use crate::own::{Own, StepRange, flags_among, flags_of};
 use crate::replica::Replica;
 use std::alloc::Allocator;
-use stn_matrix::Matrix;
-use stn_net::Event;
-use stn_site::EVENT_FLAGS;
+use stn_net::{Event, Next, RehearseFault, next, rehearse};
 use stn_time::Ms;
-use stn_windows::{Next, RehearseFault, next, rehearse};
 
 impl<A: Allocator + Copy> Replica<A> {
     /// All steps of the plan; the origin counts as step 0.
@@ -103,16 +99,4 @@ impl<A: Allocator + Copy> Replica<A> {
             None => Ok(None),
         }
     }
-}
-
-// Those of the flags that are about the matrix's events.
-fn flags_of<'a, A: Allocator + Copy>(
-    flags: &'a [bool; EVENT_FLAGS],
-    matrix: &Matrix<A>,
-) -> &'a [bool]
-    ensures value { result.now ≡ take (matrix.now.events + 1) flags.now }
-    ensures one_each { length result.now ≡ matrix.now.events + 1 }
-    ensures few { matrix.now.events ≤ most_events }
-{
-    &flags[..usize::from(matrix.events()) + 1]
 }

@@ -2,7 +2,7 @@
 #![tactic(auto)]
 
 pub use follower::Follower;
-pub use own::{Own, StepRange, flags_among};
+pub use own::{Own, StepRange, flags_among, flags_of};
 pub use replica::Replica;
 pub use site_matrix::matrix_of;
 pub use stn_site::{BoundName, ReplicaFault};

@@ -1,22 +1,21 @@
 ghost use Rattle.std.specs.Prelude.{◌≡◌, ◌+◌, ◌≤◌, ◌++◌, ◌↔◌, ◌&&◌, not, List, [], ◌∷◌, length, Some, IsTrue, IfOk};
 ghost use Rattle.std.specs.FinMap.{get, contains_key};
 ghost use Rattle.stn_net.specs.Difference.{Difference};
-ghost use Rattle.stn_matrix.specs.Tightest.{IsExact};
+ghost use Rattle.stn_net.specs.Matrix.Tightest.{IsExact};
 ghost use Rattle.stn_lift.specs.PlanSource.{PlanSource, base_bounds, events_of};
 ghost use Rattle.stn_records.specs.declared.record.Record.{Record};
 ghost use Rattle.stn_site.specs.Bounds.{bounds_of, live_bounds, RecordsName};
 ghost use Rattle.stn_replica.specs.Invariant.{IsSettled, IsSoundReplica};
 ghost use Rattle.stn_replica.specs.Work.{risen, KeepsLive, Grows, GainsLive};
-ghost use Rattle.stn_replica.specs.Walk as walk;
-ghost use Rattle.stn_replica.specs.Walk.{Extends};
+ghost use Rattle.stn_replica.specs.Walk.{has_live, Extends};
 
 use crate::closest::closest_first;
-use crate::cursors::{begins_with, from_id};
+use crate::cursors::{LiveWalk, begins_with, from_id};
 use crate::plan_matrix::PlanMatrix;
 use std::alloc::Allocator;
 use stn_lift::Base;
-use stn_matrix::Matrix;
-use stn_records::{Id, Record, Records};
+use stn_net::Matrix;
+use stn_records::{Id, Records};
 use stn_time::Memory;
 
 // The matrix of the plan's own bounds. Those of events that the plan has close together are taken first: where many events
@@ -87,14 +86,12 @@ fn tighten_risen<A: Allocator + Copy>(
     ensures least { matrix.old.steps ≤ matrix.new.steps }
     ensures most { matrix.new.steps ≤ matrix.old.steps + length (risen before.now after.now) }
 {
-    let mut added = before.state().additions().entries();
-    let mut fallen = before.replaced();
-    let mut replaced = after.replaced();
+    let mut old = LiveWalk::of(before);
+    let mut new = LiveWalk::of(after);
     for &(id, record) in after.state().additions().entries() {
-        added = from_id(added, id);
-        fallen = from_id(fallen, id);
-        replaced = from_id(replaced, id);
-        if has_risen(added, fallen, replaced, id) && !matrix.tighten(record.bound) {
+        old = old.from_id(id);
+        new = new.from_id(id);
+        if has_risen(old, new, id) && !matrix.tighten(record.bound) {
             return false;
         }
     }
@@ -159,26 +156,23 @@ pub fn has_grown<A: Allocator + Copy>(before: &Records<A>, after: &Records<A>) -
 pub fn gains_live<A: Allocator + Copy>(before: &Records<A>, after: &Records<A>) -> bool
     ensures { IsTrue result ↔ GainsLive before.now after.now }
 {
-    let mut added = before.state().additions().entries();
-    let mut fallen = before.replaced();
-    let mut replaced = after.replaced();
+    let mut old = LiveWalk::of(before);
+    let mut new = LiveWalk::of(after);
     for &(id, _) in after.state().additions().entries() {
-        added = from_id(added, id);
-        fallen = from_id(fallen, id);
-        replaced = from_id(replaced, id);
-        if has_risen(added, fallen, replaced, id) {
+        old = old.from_id(id);
+        new = new.from_id(id);
+        if has_risen(old, new, id) {
             return true;
         }
     }
     false
 }
 
-// Whether the record of an id has become live, by what walks have left of the records and the replaced ids of before and
-// of the ids replaced now.
-fn has_risen(added: &[(Id, Record)], fallen: &[(Id, ())], replaced: &[(Id, ())], id: Id) -> bool
-    ensures { result ≡ (not (walk.begins_with id replaced.now) && not (walk.begins_with id added.now && not (walk.begins_with id fallen.now))) }
+// Whether the record of an id has become live, by walks that are there.
+fn has_risen(old: LiveWalk<'_>, new: LiveWalk<'_>, id: Id) -> bool
+    ensures { result ≡ (has_live id new.entry && not (has_live id old.entry)) }
 {
-    !begins_with(replaced, id) && !was_live(added, fallen, id)
+    new.has(id) && !old.has(id)
 }
 
 // Whether each record that was live still is: none of those that are replaced now was.
@@ -186,21 +180,12 @@ fn keeps_live<A: Allocator + Copy>(before: &Records<A>, after: &Records<A>) -> b
     requires { Extends before.now after.now }
     ensures { IsTrue result ↔ KeepsLive before.now after.now }
 {
-    let mut added = before.state().additions().entries();
-    let mut fallen = before.replaced();
+    let mut old = LiveWalk::of(before);
     for &(id, _) in after.replaced() {
-        added = from_id(added, id);
-        fallen = from_id(fallen, id);
-        if was_live(added, fallen, id) {
+        old = old.from_id(id);
+        if old.has(id) {
             return false;
         }
     }
     true
-}
-
-// Whether the record of an id was live, by what walks have left of the records and the replaced ids of before.
-fn was_live(added: &[(Id, Record)], fallen: &[(Id, ())], id: Id) -> bool
-    ensures { result ≡ (walk.begins_with id added.now && not (walk.begins_with id fallen.now)) }
-{
-    begins_with(added, id) && !begins_with(fallen, id)
 }

@@ -1,4 +1,4 @@
-ghost use Rattle.std.specs.Prelude.{◌≡◌, ℕ, ◌≤◌, ◌||◌, not, false, slice_index_or};
+ghost use Rattle.std.specs.Prelude.{◌≡◌, ℕ, ◌+◌, ◌≤◌, ◌||◌, not, false, length, take, slice_index_or};
 ghost use Rattle.std.specs.List.{list_any};
 ghost use Rattle.stn_net.specs.Event.{most_events};
 ghost use Rattle.stn_lift.specs.BaseBounds as step;
@@ -8,7 +8,7 @@ ghost use Rattle.stn_replica.specs.Own as own_events;
 ghost use Rattle.stn_replica.specs.Own.{is_own};
 
 use std::alloc::Allocator;
-use stn_net::{Event, MOST_EVENTS};
+use stn_net::{Event, MOST_EVENTS, Matrix};
 use stn_site::{EVENT_FLAGS, SitePlan};
 
 /// Steps of a plan by their numbers, which are counted from 1: those from `first` to `last`, both included.
@@ -67,6 +67,18 @@ pub fn flags_among<A: Allocator + Copy>(plan: &SitePlan<A>, own: &Own<'_>) -> [b
         }
     }
     flags
+}
+
+/// Those of the flags that are about the matrix's events.
+pub fn flags_of<'a, A: Allocator + Copy>(
+    flags: &'a [bool; EVENT_FLAGS],
+    matrix: &Matrix<A>,
+) -> &'a [bool]
+    ensures value { result.now ≡ take (matrix.now.events + 1) flags.now }
+    ensures one_each { length result.now ≡ matrix.now.events + 1 }
+    ensures few { matrix.now.events ≤ most_events }
+{
+    &flags[..usize::from(matrix.events()) + 1]
 }
 
 // Whether one of the ranges has the event's step.

@@ -1,5 +1,5 @@
 ghost use Rattle.std.specs.Prelude.{◌≡◌, IfOk};
-ghost use Rattle.stn_matrix.specs.Tightest.{IsExact};
+ghost use Rattle.stn_net.specs.Matrix.Tightest.{IsExact};
 ghost use Rattle.stn_lift.specs.PlanSource.{base_bounds, events_of};
 
 use crate::matrices::opening_matrix;
@@ -7,7 +7,7 @@ use std::alloc::Allocator;
 use std::marker::Model;
 use std::rc::Rc;
 use stn_lift::Base;
-use stn_matrix::Matrix;
+use stn_net::Matrix;
 use stn_time::Memory;
 
 /// The matrix of a plan's own bounds, which is made once for all replicas of the plan and then only read.
@@ -18,7 +18,7 @@ pub struct PlanMatrix<A: Allocator> {
 
 impl<A: Allocator> Model for PlanMatrix<A> {
     ghost use Rattle.std.specs.Rc.{rc_value};
-    ghost use Rattle.stn_matrix.specs.Table.{Table};
+    ghost use Rattle.stn_net.specs.Matrix.Table.{Table};
 
     ghost Value = { Table };
 

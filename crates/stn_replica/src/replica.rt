@@ -2,8 +2,8 @@ ghost use Rattle.std.specs.Prelude.{◌≡◌, ◌+◌, ◌≤◌, pos, true, le
 ghost use Rattle.std.specs.FinMap.{contains_key};
 ghost use Rattle.std.specs.Rc.{rc_value};
 ghost use Rattle.stn_net.specs.Schedule.{HasSchedule, IsSchedule, times_of};
-ghost use Rattle.stn_matrix.specs.Tightest.{IsExact};
-ghost use Rattle.stn_windows.specs.Window.{IsWindow};
+ghost use Rattle.stn_net.specs.Matrix.Tightest.{IsExact};
+ghost use Rattle.stn_net.specs.Windows.Window.{IsWindow};
 ghost use Rattle.stn_lift.specs.PlanSource.{base_bounds, events_of};
 ghost use Rattle.stn_records.specs.Content.{no_content, IsPart};
 ghost use Rattle.stn_site.specs.Bounds.{all_bounds, RecordsName};
@@ -19,12 +19,10 @@ use std::alloc::Allocator;
 use std::marker::Model;
 use std::rc::Rc;
 use stn_lift::Base;
-use stn_matrix::Matrix;
-use stn_net::Event;
+use stn_net::{Event, Matrix, window};
 use stn_records::{Id, Records, Site};
 use stn_site::{BoundName, ReplicaFault, SitePlan};
 use stn_time::{Memory, Ms};
-use stn_windows::window;
 
 /// One site's copy of a plan, with how far apart the events can be.
 #[derive(Drop)]

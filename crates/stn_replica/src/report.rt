@@ -1,15 +1,13 @@
 ghost use Rattle.std.specs.Prelude.{◌≡◌, ◌+◌, ◌≤◌, ◌++◌, ℕ, List, length, IfOk, OnOk, OnErr};
 ghost use Rattle.stn_net.specs.Difference.{Difference};
-ghost use Rattle.stn_matrix.specs.Tightest.{IsExact};
+ghost use Rattle.stn_net.specs.Matrix.Tightest.{IsExact};
 ghost use Rattle.stn_site.specs.Report.{most_report, IsReport};
 ghost use Rattle.stn_site.specs.Windows.{AreWindows};
 
 use crate::replica::Replica;
 use std::alloc::Allocator;
-use stn_matrix::Matrix;
-use stn_net::Event;
+use stn_net::{Event, Matrix, window};
 use stn_time::{Memory, Ms};
-use stn_windows::window;
 
 impl<A: Allocator + Copy> Replica<A> {
     /// Appends the report: how many steps, events, live records and replaced ids there are; then, where

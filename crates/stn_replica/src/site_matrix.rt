@@ -1,12 +1,12 @@
 ghost use Rattle.std.specs.Prelude.{◌≡◌, IfOk, IfSome, MatchOption};
 ghost use Rattle.stn_net.specs.Schedule.{HasSchedule};
-ghost use Rattle.stn_matrix.specs.Tightest.{IsExact};
+ghost use Rattle.stn_net.specs.Matrix.Tightest.{IsExact};
 ghost use Rattle.stn_lift.specs.PlanSource.{events_of};
 ghost use Rattle.stn_site.specs.Bounds.{all_bounds};
 
 use crate::matrices::{opening_matrix, tighten_live};
 use std::alloc::Allocator;
-use stn_matrix::Matrix;
+use stn_net::Matrix;
 use stn_site::SitePlan;
 use stn_time::Memory;
 

@@ -10,11 +10,11 @@ use Rattle.stn_lift.specs.PlanSource.{PlanSource}
 use Rattle.stn_records.specs.Content.{Content}
 use Rattle.stn_wire.specs.Frame.{FrameContent, content, same, records, text, spelling, IsFrame}
 use Rattle.stn_wire.specs.declared.frame.Frame.{Frame as WireFrame}
-use Rattle.stn_stream.specs.Held.{Stream}
-use Rattle.stn_stream.specs.declared.fault.FrameFault.{FrameFault}
-use Rattle.stn_stream.specs.declared.fault.StreamFault.{StreamFault}
-use Rattle.stn_stream.specs.declared.fault.StreamFault.TheVariants as stream
-use Rattle.stn_stream.specs.Stream.{unread, pending, Gives}
+use Rattle.stn_wire.specs.Stream.Held.{Stream}
+use Rattle.stn_wire.specs.declared.stream.fault.FrameFault.{FrameFault}
+use Rattle.stn_wire.specs.declared.stream.fault.StreamFault.{StreamFault}
+use Rattle.stn_wire.specs.declared.stream.fault.StreamFault.TheVariants as stream
+use Rattle.stn_wire.specs.Stream.{unread, pending, Gives}
 use Rattle.stn_session.specs.Exchange.{Stage, greeting, handing, telling, told, failed, Reception, at_stage, expecting, greeted_by, handed, told_by, staged, reply_fault, IsWaiting, IsReception, IsReceived, seen}
 use Rattle.stn_session.specs.Turns.{Finds, Came, Leads}
 use Rattle.stn_session.specs.declared.exchange.ReplyFault.{ReplyFault}

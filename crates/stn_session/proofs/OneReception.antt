@@ -10,9 +10,9 @@ use Rattle.stn_records.specs.Content.{Content}
 use Rattle.stn_wire.specs.Frame.{FrameContent, spelling, IsFrame}
 use Rattle.stn_wire.specs.Front.{Front, whole, faulty, unfinished, IsFront}
 use Rattle.stn_wire.proofs.Fronts.{fault_more, whole_spelled}
-use Rattle.stn_stream.specs.Stream.{wire_fault}
-use Rattle.stn_stream.specs.declared.fault.FrameFault.{FrameFault}
-use Rattle.stn_stream.specs.declared.fault.FrameFault.TheVariants as frame_fault
+use Rattle.stn_wire.specs.Stream.{wire_fault}
+use Rattle.stn_wire.specs.declared.stream.fault.FrameFault.{FrameFault}
+use Rattle.stn_wire.specs.declared.stream.fault.FrameFault.TheVariants as frame_fault
 use Rattle.stn_session.specs.Exchange.{Stage, greeting, handing, telling, told, failed, Reception, at_stage, expecting, staged, replied, IsWaiting, IsLost, IsReceived}
 use Rattle.stn_session.specs.Reception.{SaysReplies}
 use Rattle.stn_session.specs.declared.exchange.ReplyFault.{ReplyFault}

@@ -12,21 +12,22 @@ use Rattle.stn_lift.specs.PlanSource.{PlanSource}
 use Rattle.stn_records.specs.Content.{Content}
 use Rattle.stn_wire.specs.Frame.{FrameContent, spelling, refused, IsFrame}
 use Rattle.stn_wire.specs.Front.{IsFront, faulty, unfinished}
-use Rattle.stn_stream.specs.Stream.{wire_fault, frame_code, IsNext, IsCounted}
+use Rattle.stn_wire.specs.Stream.{wire_fault, frame_code, IsNext, IsCounted}
 use Rattle.stn_refusal.specs.declared.failure.Failure.{Failure}
 use Rattle.stn_session.specs.Keeping.{KeepsChange, KeepsEach, KeepsLast, IsKept, IsKeptBroken, IsUnkept, IsCutShort}
 use Rattle.stn_session.specs.Session.{Reply, said, Session, Answer, answer, opening, followed, advanced, talked, broken_off}
-use Rattle.stn_session.specs.Serving.{IsReplyBytes, AreReplies, WritesReplies, Reaches, GoesOn, serve_fault}
-use Rattle.stn_stream.specs.declared.fault.FrameFault.{FrameFault}
+use Rattle.stn_session.specs.Serving.{IsReplyBytes, AreReplies, WritesReplies, Reaches, Ends, GoesOn, Leaves, serve_fault}
+use Rattle.stn_wire.specs.declared.stream.fault.FrameFault.{FrameFault}
+use Rattle.stn_session.specs.declared.session.End.{End}
 use Rattle.stn_session.specs.declared.session.End.TheVariants.{Closed, Cut, Refused}
 use Rattle.stn_session.specs.Turns.{IsChange, Wrote, KeepsTurn, WroteKept, WroteRefused}
 use Rattle.stn_session.specs.declared.session.KeepingFault.{KeepingFault}
 use Rattle.stn_session.specs.declared.session.KeepingFault.TheVariants as keeping
 use Rattle.stn_session.specs.declared.session.ServeFault.{ServeFault}
 use Rattle.stn_session.specs.declared.session.ServeFault.TheVariants.{Read, Write, Bound, Memory}
-use Rattle.stn_stream.specs.Held.{Stream}
-use Rattle.stn_stream.specs.declared.fault.StreamFault.{StreamFault}
-use Rattle.stn_stream.specs.declared.fault.StreamFault.TheVariants as stream
+use Rattle.stn_wire.specs.Stream.Held.{Stream}
+use Rattle.stn_wire.specs.declared.stream.fault.StreamFault.{StreamFault}
+use Rattle.stn_wire.specs.declared.stream.fault.StreamFault.TheVariants as stream
 
 -- ---- replies, one after the other
 pub replies_more : (first : List Reply) (done : List ℕ) (reply : Reply) (bytes : List ℕ) → AreReplies first done → IsReplyBytes reply bytes → AreReplies (first ++ reply ∷ []) (done ++ bytes)
@@ -100,7 +101,7 @@ begun Keeps place source state before old rest taken none zero = record {
   each = refl;
 }
 
-module _ {P : Type 0} (Keeps : Content → P → P → Type 0) (place kept : P) (first : Session) (before after old new : Option (List ℕ)) (rest : List ℕ) (taken : ℕ) (source : PlanSource) (state : Content) (greeted : Bool) (count : ℕ)
+module _ {P : Type 0} {Keeps : Content → P → P → Type 0} {place kept : P} {first : Session} {before after old new : Option (List ℕ)} {rest : List ℕ} {taken : ℕ} {source : PlanSource} {state : Content} {greeted : Bool} {count : ℕ}
     (p : Progress Keeps place kept first before after old new rest taken source state greeted count)
     (last : Option (List ℕ)) (more : List ℕ) (read : Consumes after last more) where
   -- more bytes were read
@@ -110,148 +111,66 @@ module _ {P : Type 0} (Keeps : Content → P → P → Type 0) (place kept : P) 
   many_all : taken + length more ≡ length (p.bytes ++ more)
   many_all = omega (arith, p.many, length-append p.bytes more)
 
+  few_all : taken + length more ≤ 16777216 → length (p.bytes ++ more) ≤ 16777216
+  few_all few = omega (arith, few, many_all)
+
   abbrev reached_all : Reaches first (p.bytes ++ more) p.session (rest ++ more)
   reached_all = reaches_more first p.bytes p.session rest more p.reached
 
+  -- so the session ends, or a fault ends it
+  ends_with : (then : Option (List ℕ)) (end : End) (left : Session) → taken + length more ≤ 16777216 → Ends p.session (rest ++ more) end left → WritesReplies old then left.replies → count ≡ left.frames → state ≡ left.state
+      → IsKept Keeps first before last old then state place kept (record { frames = count; end = end })
+  ends_with then end left few ended written frames same = record {
+    served = record {
+      bytes = p.bytes ++ more;
+      session = p.session;
+      rest = rest ++ more;
+      last = left;
+      consumed = consumed_all;
+      few = few_all few;
+      reached = reached_all;
+      ended = ended;
+      written = written;
+      frames = frames;
+      left = same;
+    };
+    each = p.each;
+  }
+
+  breaks_with : (then : Option (List ℕ)) (now : Content) (keeps : P) (fault : ServeFault) → Leaves (length (p.bytes ++ more)) p.session (rest ++ more) old then now fault → KeepsLast Keeps p.session.state now kept keeps fault
+      → IsKeptBroken Keeps first before last old then now place keeps fault
+  breaks_with then now keeps fault leaves kept_last = record {
+    broken = record { bytes = p.bytes ++ more; session = p.session; rest = rest ++ more; consumed = consumed_all; reached = reached_all; on = p.on; leaves = leaves };
+    between = kept;
+    each = p.each;
+    last = kept_last;
+  }
+
   -- the input ends after the last frame, or within one
   pub closes : taken + length more ≤ 16777216 → rest ++ more ≡ [] → IsKept Keeps first before last old new state place kept (record { frames = count; end = Closed })
-  closes few none = record {
-    served = record {
-      bytes = p.bytes ++ more;
-      session = p.session;
-      rest = rest ++ more;
-      last = p.session;
-      consumed = consumed_all;
-      few = omega (arith, few, many_all);
-      reached = reached_all;
-      ended = (p.on, none, refl);
-      written = p.written;
-      frames = p.counted;
-      left = p.state_is;
-    };
-    each = p.each;
-  }
+  closes few none = ends_with new Closed p.session few (p.on, none, refl) p.written p.counted p.state_is
 
   pub cuts : taken + length more ≤ 16777216 → IsFront (rest ++ more) unfinished → 0 < length (rest ++ more) → IsKept Keeps first before last old new state place kept (record { frames = count; end = Cut })
-  cuts few front some = record {
-    served = record {
-      bytes = p.bytes ++ more;
-      session = p.session;
-      rest = rest ++ more;
-      last = p.session;
-      consumed = consumed_all;
-      few = omega (arith, few, many_all);
-      reached = reached_all;
-      ended = (p.on, some, front, refl);
-      written = p.written;
-      frames = p.counted;
-      left = p.state_is;
-    };
-    each = p.each;
-  }
+  cuts few front some = ends_with new Cut p.session few (p.on, some, front, refl) p.written p.counted p.state_is
 
   -- nothing more comes of the stream
-  pub read_fails : taken + length more ≤ 16777216 → IsFront (rest ++ more) unfinished → IsKeptBroken Keeps first before last old new state place kept Read
-  read_fails few front = record {
-    broken = record {
-      bytes = p.bytes ++ more;
-      session = p.session;
-      rest = rest ++ more;
-      consumed = consumed_all;
-      reached = reached_all;
-      on = p.on;
-      leaves = (omega (arith, few, many_all), front, p.written, p.state_is);
-    };
-    between = kept;
-    each = p.each;
-    last = refl;
-  }
-
-  pub bound_passed : taken + length more ≡ 16777216 + 1 → (left : List ℕ) (byte : ℕ) → rest ++ more ≡ left ++ byte ∷ [] → IsFront left unfinished → IsKeptBroken Keeps first before last old new state place kept Bound
-  bound_passed many left byte e front = record {
-    broken = record {
-      bytes = p.bytes ++ more;
-      session = p.session;
-      rest = rest ++ more;
-      consumed = consumed_all;
-      reached = reached_all;
-      on = p.on;
-      leaves = (omega (arith, many, many_all), (left, byte, e, front), p.written, p.state_is);
-    };
-    between = kept;
-    each = p.each;
-    last = refl;
-  }
-
-  pub stream_refused : taken + length more ≤ 16777216 → IsKeptBroken Keeps first before last old new state place kept Memory
-  stream_refused few = record {
-    broken = record {
-      bytes = p.bytes ++ more;
-      session = p.session;
-      rest = rest ++ more;
-      consumed = consumed_all;
-      reached = reached_all;
-      on = p.on;
-      leaves = (omega (arith, few, many_all), p.written, inl p.state_is);
-    };
-    between = kept;
-    each = p.each;
-    last = refl;
-  }
-
   pub stream_fails : (A : Type 0) (now : Stream) (fault : StreamFault) → IsNext {A = A} (rest ++ more) now (Err fault) → IsCounted {A = A} (taken + length more) now (Err fault)
       → IsKeptBroken Keeps first before last old new state place kept (serve_fault fault)
-  stream_fails A now stream.Read next counted = read_fails counted next
-  stream_fails A now stream.Bound next counted = bound_passed counted next.0 next.1 next.2 next.3
-  stream_fails A now stream.Memory next counted = stream_refused counted
+  stream_fails A now stream.Read next few = breaks_with new state kept Read (few_all few, next, p.written, p.state_is) refl
+  stream_fails A now stream.Bound next many = breaks_with new state kept Bound (omega (arith, many, many_all), next, p.written, p.state_is) refl
+  stream_fails A now stream.Memory next few = breaks_with new state kept Memory (few_all few, p.written, inl p.state_is) refl
 
   -- a fault of the bytes is answered, or not
   module _ (few : taken + length more ≤ 16777216) (fault : FrameFault) (front : IsFront (rest ++ more) (faulty (wire_fault fault))) (then : Option (List ℕ)) where
-    pub fault_answered : Appends new then (spelling (refused (frame_code fault))) → IsKept Keeps first before last old then state place kept (record { frames = count; end = Refused (frame_code fault) })
-    fault_answered wrote = record {
-      served = record {
-        bytes = p.bytes ++ more;
-        session = p.session;
-        rest = rest ++ more;
-        last = broken_off p.session (frame_code fault);
-        consumed = consumed_all;
-        few = omega (arith, few, many_all);
-        reached = reached_all;
-        ended = inr (fault, p.on, front, refl, refl);
-        written = writes_more old new then p.session.replies (said (refused (frame_code fault))) (spelling (refused (frame_code fault))) p.written refl wrote;
-        frames = p.counted;
-        left = p.state_is;
-      };
-      each = p.each;
-    }
+    fault_answered : Appends new then (spelling (refused (frame_code fault))) → IsKept Keeps first before last old then state place kept (record { frames = count; end = Refused (frame_code fault) })
+    fault_answered wrote =
+        ends_with then (Refused (frame_code fault)) (broken_off p.session (frame_code fault)) few (inr (fault, p.on, front, refl, refl))
+        (writes_more old new then p.session.replies (said (refused (frame_code fault))) (spelling (refused (frame_code fault))) p.written refl wrote) p.counted p.state_is
 
-    pub fault_unanswered : Appends new then [] → IsKeptBroken Keeps first before last old then state place kept Memory
-    fault_unanswered none = record {
-      broken = record {
-        bytes = p.bytes ++ more;
-        session = p.session;
-        rest = rest ++ more;
-        consumed = consumed_all;
-        reached = reached_all;
-        on = p.on;
-        leaves = (omega (arith, few, many_all), writes_same old new then p.session.replies p.written none, inl p.state_is);
-      };
-      between = kept;
-      each = p.each;
-      last = refl;
-    }
-
-    pub fault_cut_off : AppendsPart new then (spelling (refused (frame_code fault))) → IsKeptBroken Keeps first before last old then state place kept Write
-    fault_cut_off part = record {
-      broken = record {
-        bytes = p.bytes ++ more;
-        session = p.session;
-        rest = rest ++ more;
-        consumed = consumed_all;
-        reached = reached_all;
-        on = p.on;
-        leaves = (
-          omega (arith, few, many_all),
+    fault_cut_off : AppendsPart new then (spelling (refused (frame_code fault))) → IsKeptBroken Keeps first before last old then state place kept Write
+    fault_cut_off part =
+        breaks_with then state kept Write (
+          few_all few,
           (
             broken_off p.session (frame_code fault),
             inr (fault, front, refl),
@@ -265,12 +184,8 @@ module _ {P : Type 0} (Keeps : Content → P → P → Type 0) (place kept : P) 
             },
             p.state_is,
           ),
-        );
-      };
-      between = kept;
-      each = p.each;
-      last = inl (p.state_is, refl);
-    }
+        )
+        (inl (p.state_is, refl))
 
     pub refuses : (code : ℕ) → code ≡ frame_code fault → Appends new then (spelling (refused code)) → IsKept Keeps first before last old then state place kept (record { frames = count; end = Refused code })
     refuses code is wrote =
@@ -278,7 +193,7 @@ module _ {P : Type 0} (Keeps : Content → P → P → Type 0) (place kept : P) 
 
     pub refusal_fails : (code : ℕ) → code ≡ frame_code fault → (broken : ServeFault) → WroteRefused code new then (Err broken) → IsKeptBroken Keeps first before last old then state place kept broken
     refusal_fails code is Write part = fault_cut_off (subst (λ k. AppendsPart new then (spelling (refused k))) is part)
-    refusal_fails code is Memory none = fault_unanswered none
+    refusal_fails code is Memory none = breaks_with then state kept Memory (few_all few, writes_same old new then p.session.replies p.written none, inl p.state_is) refl
     refusal_fails code is Read none = absurd none
     refusal_fails code is Bound none = absurd none
 
@@ -301,17 +216,10 @@ module _ {P : Type 0} (Keeps : Content → P → P → Type 0) (place kept : P) 
       moved = subst (λ (s : Session). KeepsChange Keeps s.state (advanced s frame).state kept keeps) p.reached.talked
           (subst (λ (s : Content). KeepsChange Keeps p.session.state s kept keeps) (left ∙ sym (ap (λ (s : Session). s.state) next_is)) moves)
 
-      pub frame_cut_off : AppendsPart new then bytes → IsKeptBroken Keeps first before last old then now place keeps Write
-      frame_cut_off part = record {
-        broken = record {
-          bytes = p.bytes ++ more;
-          session = p.session;
-          rest = rest ++ more;
-          consumed = consumed_all;
-          reached = reached_all;
-          on = p.on;
-          leaves = (
-            omega (arith, few, many_all),
+      frame_cut_off : AppendsPart new then bytes → IsKeptBroken Keeps first before last old then now place keeps Write
+      frame_cut_off part =
+          breaks_with then now keeps Write (
+            few_all few,
             (
               advanced p.session frame,
               goes_on,
@@ -326,12 +234,8 @@ module _ {P : Type 0} (Keeps : Content → P → P → Type 0) (place kept : P) 
               },
               left ∙ sym (ap (λ (s : Session). s.state) next_is),
             ),
-          );
-        };
-        between = kept;
-        each = p.each;
-        last = moves;
-      }
+          )
+          moves
 
       module _ (wrote : Appends new then bytes) (says : Bool) (says_is : says ≡ (answer source state greeted frame).greeted) where
         next_written : WritesReplies old then (advanced p.session frame).replies
@@ -364,7 +268,7 @@ module _ {P : Type 0} (Keeps : Content → P → P → Type 0) (place kept : P) 
             rest = later;
             last = advanced p.session frame;
             consumed = consumed_all;
-            few = omega (arith, few, many_all);
+            few = few_all few;
             reached = reaches_frame first (p.bytes ++ more) p.session (rest ++ more) later frame reached_all is front;
             ended = inl (ap (λ (s : Session). s.ended) next_is ∙ end, refl);
             written = next_written;
@@ -375,44 +279,16 @@ module _ {P : Type 0} (Keeps : Content → P → P → Type 0) (place kept : P) 
         }
 
     -- lack of memory: the frame was taken or not
-    pub frame_kept : Appends new then [] → now ≡ state → IsKeptBroken Keeps first before last old then now place kept Memory
-    frame_kept none same = record {
-      broken = record {
-        bytes = p.bytes ++ more;
-        session = p.session;
-        rest = rest ++ more;
-        consumed = consumed_all;
-        reached = reached_all;
-        on = p.on;
-        leaves = (omega (arith, few, many_all), writes_same old new then p.session.replies p.written none, inl (same ∙ p.state_is));
-      };
-      between = kept;
-      each = p.each;
-      last = refl;
-    }
+    frame_kept : Appends new then [] → now ≡ state → IsKeptBroken Keeps first before last old then now place kept Memory
+    frame_kept none same = breaks_with then now kept Memory (few_all few, writes_same old new then p.session.replies p.written none, inl (same ∙ p.state_is)) refl
 
-    pub frame_taken : Appends new then [] → now ≡ (answer source state greeted frame).state → IsKeptBroken Keeps first before last old then now place kept Memory
-    frame_taken none left = record {
-      broken = record {
-        bytes = p.bytes ++ more;
-        session = p.session;
-        rest = rest ++ more;
-        consumed = consumed_all;
-        reached = reached_all;
-        on = p.on;
-        leaves = (
-          omega (arith, few, many_all),
-          writes_same old new then p.session.replies p.written none,
-          inr (advanced p.session frame, goes_on, left ∙ sym (ap (λ (s : Session). s.state) next_is)),
-        );
-      };
-      between = kept;
-      each = p.each;
-      last = refl;
-    }
+    frame_taken : Appends new then [] → now ≡ (answer source state greeted frame).state → IsKeptBroken Keeps first before last old then now place kept Memory
+    frame_taken none left =
+        breaks_with then now kept Memory
+        (few_all few, writes_same old new then p.session.replies p.written none, inr (advanced p.session frame, goes_on, left ∙ sym (ap (λ (s : Session). s.state) next_is))) refl
 
     -- its state was not kept
-    pub frame_unkept : (Fails : Content → P → P → Failure → Type 0) (keeps : P) (failure : Failure) → Appends new then [] → now ≡ (answer source state greeted frame).state → now ≢ state
+    frame_unkept : (Fails : Content → P → P → Failure → Type 0) (keeps : P) (failure : Failure) → Appends new then [] → now ≡ (answer source state greeted frame).state → now ≢ state
         → Fails now kept keeps failure → IsUnkept Keeps Fails first before last old then now place keeps failure
     frame_unkept Fails keeps failure none left changed fails = record {
       bytes = p.bytes ++ more;
@@ -421,7 +297,7 @@ module _ {P : Type 0} (Keeps : Content → P → P → Type 0) (place kept : P) 
       next = advanced p.session frame;
       between = kept;
       consumed = consumed_all;
-      few = omega (arith, few, many_all);
+      few = few_all few;
       reached = reached_all;
       on = p.on;
       goes_on = goes_on;

@@ -5,14 +5,14 @@ use Rattle.std.specs.List.{AllByRecursion}
 use Rattle.std.proofs.lemmas.List.{take_at}
 use Rattle.stn_wire.specs.Frame.{FrameContent, spelling, IsFrame}
 use Rattle.stn_wire.specs.Front.{Front, whole, faulty, unfinished, IsFront}
-use Rattle.stn_stream.specs.Stream.{wire_fault, frame_code}
+use Rattle.stn_wire.specs.Stream.{wire_fault, frame_code}
 use Rattle.stn_session.specs.Session.{Session, answer, followed, advanced, talked, broken_off}
 use Rattle.stn_session.specs.Serving.{Ends, IsSession}
-use Rattle.stn_stream.specs.declared.fault.FrameFault.{FrameFault}
-use Rattle.stn_stream.specs.declared.fault.FrameFault.TheVariants.{Length, Kind, Body}
+use Rattle.stn_wire.specs.declared.stream.fault.FrameFault.{FrameFault}
+use Rattle.stn_wire.specs.declared.stream.fault.FrameFault.TheVariants.{Length, Kind, Body}
 use Rattle.stn_session.specs.declared.session.End.{End}
 use Rattle.stn_session.specs.declared.session.End.TheVariants.{Closed, Cut, Refused}
-use Rattle.stn_stream.proofs.Streams.{spelling_some}
+use Rattle.stn_wire.proofs.Streams.{spelling_some}
 
 -- a session that has ended stays
 stays : (first : Session) (code : ℕ) → first.ended ≡ Some code → (frames : List FrameContent) → talked first frames ≡ first

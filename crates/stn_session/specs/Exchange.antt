@@ -10,9 +10,9 @@ use Rattle.stn_site.specs.declared.faults.ReplicaFault.{ReplicaFault}
 use Rattle.stn_wire.specs.Frame.{FrameContent, old_hello, old_records, hello, records, ask, text, refused, same, spelling, IsFrame}
 use Rattle.stn_wire.specs.Front.{IsFront, faulty, unfinished}
 use Rattle.stn_site.specs.Held.{holding_state}
-use Rattle.stn_stream.specs.Stream.{wire_fault}
-use Rattle.stn_stream.specs.declared.fault.StreamFault.{StreamFault}
-use Rattle.stn_stream.specs.declared.fault.StreamFault.TheVariants as stream
+use Rattle.stn_wire.specs.Stream.{wire_fault}
+use Rattle.stn_wire.specs.declared.stream.fault.StreamFault.{StreamFault}
+use Rattle.stn_wire.specs.declared.stream.fault.StreamFault.TheVariants as stream
 use Rattle.stn_session.specs.declared.exchange.ReplyFault.{ReplyFault}
 use Rattle.stn_session.specs.declared.exchange.ReplyFault.TheVariants.{Refused, Frame, Reply, Replica, Read, Bound, Memory}
 

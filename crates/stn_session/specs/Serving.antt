@@ -7,11 +7,11 @@ use Rattle.stn_records.specs.Content.{Content}
 use Rattle.stn_site.specs.Report.{IsReport}
 use Rattle.stn_wire.specs.Frame.{FrameContent, text, spelling, IsFrame}
 use Rattle.stn_wire.specs.Front.{IsFront, faulty, unfinished}
-use Rattle.stn_stream.specs.Stream.{wire_fault, frame_code}
+use Rattle.stn_wire.specs.Stream.{wire_fault, frame_code}
 use Rattle.stn_session.specs.Session.{Reply, said, reported, Session, advanced, talked, broken_off}
-use Rattle.stn_stream.specs.declared.fault.FrameFault.{FrameFault}
-use Rattle.stn_stream.specs.declared.fault.StreamFault.{StreamFault}
-use Rattle.stn_stream.specs.declared.fault.StreamFault.TheVariants as stream
+use Rattle.stn_wire.specs.declared.stream.fault.FrameFault.{FrameFault}
+use Rattle.stn_wire.specs.declared.stream.fault.StreamFault.{StreamFault}
+use Rattle.stn_wire.specs.declared.stream.fault.StreamFault.TheVariants as stream
 use Rattle.stn_session.specs.declared.session.End.{End}
 use Rattle.stn_session.specs.declared.session.End.TheVariants.{Closed, Cut, Refused}
 use Rattle.stn_session.specs.declared.session.Served.{Served}

@@ -8,8 +8,8 @@ use Rattle.stn_lift.specs.PlanSource.{PlanSource}
 use Rattle.stn_records.specs.Content.{Content}
 use Rattle.stn_wire.specs.Frame.{FrameContent, content, spelling, refused, IsFrame}
 use Rattle.stn_wire.specs.declared.frame.Frame.{Frame}
-use Rattle.stn_stream.specs.Held.{Stream}
-use Rattle.stn_stream.specs.Stream.{pending, IsReading}
+use Rattle.stn_wire.specs.Stream.Held.{Stream}
+use Rattle.stn_wire.specs.Stream.{pending, IsReading}
 use Rattle.stn_session.specs.Session.{Answer}
 use Rattle.stn_session.specs.Serving.{IsReplyBytes}
 use Rattle.stn_session.specs.Exchange.{Stage, at_stage, expecting, replied, IsLost, IsReceived}

@@ -6,7 +6,7 @@ ghost use Rattle.stn_device.specs.Counted.{counted_device, failure_count, Counts
 ghost use Rattle.stn_lift.specs.PlanSource.{PlanSource};
 ghost use Rattle.stn_records.specs.Content.{Content};
 ghost use Rattle.stn_wire.specs.Frame.{content, same, records, text};
-ghost use Rattle.stn_stream.specs.Stream.{unread, pending, IsReading};
+ghost use Rattle.stn_wire.specs.Stream.{unread, pending, IsReading};
 ghost use Rattle.stn_session.specs.Exchange.{request_bytes, at_stage, greeting, handing, telling, failed, greeted_by, handed, told_by, unexpected, reply_fault, IsReceived, seen};
 ghost use Rattle.stn_session.specs.Turns.{Finds, Came, Leads};
 ghost use Rattle.stn_session.specs.declared.exchange.SendFault.TheVariants as send;
@@ -19,8 +19,7 @@ use stn_device::{Counted, WriteFault, write_whole};
 use stn_records::Records;
 use stn_replica::Replica;
 use stn_site::ReplicaFault;
-use stn_stream::{FrameFault, FrameReader, Next, StreamFault};
-use stn_wire::{Frame, Said, say};
+use stn_wire::{Frame, FrameFault, FrameReader, Next, Said, StreamFault, say};
 use thiserror::Error;
 
 /// Why nothing was asked.

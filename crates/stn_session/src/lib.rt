@@ -8,7 +8,7 @@ pub use laws::one_session;
 pub use reception::one_reception;
 pub use session::{End, KeepingFault, ServeFault, Served, serve, serve_keeping};
 pub use stn_device::{Counted, MOST_BYTES};
-pub use stn_stream::FrameFault;
+pub use stn_wire::FrameFault;
 
 mod exchange;
 mod failures;

@@ -1,7 +1,6 @@
 ghost use Rattle.std.specs.Prelude.{◌≡◌, ◌≢◌, ◌-◌, ◌^◌, ◌<◌, true, Err, IfOk, IfErr, OnOk, IsErrOf};
 ghost use Rattle.stn_device.specs.Counted.{counted_device, failure_count, CountsFailure, KeepsCount};
 ghost use Rattle.stn_wire.specs.Frame.{content};
-ghost use Rattle.stn_stream.specs.Stream.{unread};
 ghost use Rattle.stn_session.specs.Session.{opening, answer};
 ghost use Rattle.stn_session.specs.Serving.{IsServed, IsBroken, IsInputEnd, serve_fault};
 ghost use Rattle.stn_session.specs.Keeping.{IsKept, IsCutShort};
@@ -16,8 +15,7 @@ use std::io::{Read, Write};
 use stn_device::{Counted, WriteFault, write_whole};
 use stn_refusal::Failure;
 use stn_replica::Replica;
-use stn_stream::{FrameReader, Next, StreamFault};
-use stn_wire::Frame;
+use stn_wire::{Frame, FrameReader, Next, StreamFault};
 use thiserror::Error;
 
 /// How a session ended.
@@ -265,36 +263,6 @@ pub fn serve_keeping<P, K: Keeper<P, A>, R: Read, W: Write, A: Allocator + Copy>
     ensures writer_kept { result ≢ Err (Serve Write) → KeepsCount writer.old writer.new }
 {
     let mut frames = FrameReader::new(alloc);
-    serve_frames(alloc, &mut frames, keeper, place, reader, writer, replica)
-}
-
-// Answers frames to the end.
-fn serve_frames<P, K: Keeper<P, A>, R: Read, W: Write, A: Allocator + Copy>(
-    alloc: A,
-    frames: &mut FrameReader<A>,
-    keeper: &K,
-    place: &mut P,
-    reader: &mut Counted<R>,
-    writer: &mut Counted<W>,
-    replica: &mut Replica<A>,
-) -> Result<Served, KeepingFault>
-    requires fresh { frames.old ≡ unread }
-    requires reader_counts { failure_count reader.old < 2 ^ 64 - 1 }
-    requires writer_counts { failure_count writer.old < 2 ^ 64 - 1 }
-    ensures served { IfOk result (IsKept (K.keeps keeper.now replica.old.source) (opening replica.old.source replica.old.state)
-        (R.remaining (counted_device reader.old)) (R.remaining (counted_device reader.new))
-        (W.contents (counted_device writer.old)) (W.contents (counted_device writer.new)) replica.new.state place.old place.new) }
-    ensures end { IfOk result (λ served. IsInputEnd served.end (R.remaining (counted_device reader.new))) }
-    ensures broken { IfErr result (IsCutShort (K.keeps keeper.now replica.old.source) (K.fails keeper.now replica.old.source) (opening replica.old.source replica.old.state)
-        (R.remaining (counted_device reader.old)) (R.remaining (counted_device reader.new))
-        (W.contents (counted_device writer.old)) (W.contents (counted_device writer.new)) replica.new.state place.old place.new) }
-    ensures source { replica.new.source ≡ replica.old.source }
-    ensures site { replica.new.site ≡ replica.old.site }
-    ensures read { IsErrOf result (Serve Read) → failure_count reader.old < failure_count reader.new }
-    ensures write { IsErrOf result (Serve Write) → failure_count writer.old < failure_count writer.new }
-    ensures reader_kept { result ≢ Err (Serve Read) → KeepsCount reader.old reader.new }
-    ensures writer_kept { result ≢ Err (Serve Write) → KeepsCount writer.old writer.new }
-{
     let mut greeted = false;
     let mut count = 0;
     'frames: loop {

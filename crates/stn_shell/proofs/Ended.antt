@@ -2,7 +2,7 @@
 use Rattle.std.proofs.Common.{◌≡◌, ◌⊎◌, inl, inr, refl, Some, Bor, option_map, ℕ, List, Option, None, Vec, Result, Ok, Err, OnOk, IfOk, IfErr, MatchResult}
 use Rattle.std.specs.Prelude.{IsOkAnd}
 use Rattle.stn_command.specs.Words.{and_then}
-use Rattle.stn_explain.specs.Explained.{IsExplained}
+use Rattle.stn_line.specs.Explanations.Explained.{IsExplained}
 use Rattle.stn_line.specs.declared.words.Line.{Line}
 use Rattle.stn_line.specs.declared.words.Line.TheVariants.{Explain}
 use Rattle.stn_store.specs.Store.{Entry}

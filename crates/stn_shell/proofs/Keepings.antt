@@ -8,7 +8,7 @@ use Rattle.stn_records.specs.JoinLaws.{commutes}
 use Rattle.stn_site.specs.Calls.{Leaves, took}
 use Rattle.stn_site.specs.Held.{Held, holding_state}
 use Rattle.stn_wire.specs.Frame.{FrameContent}
-use Rattle.stn_log.specs.Log.{log_held}
+use Rattle.stn_store.specs.Log.{log_held}
 use Rattle.stn_device.specs.Partner.{PartnerState}
 use Rattle.stn_session.specs.Session.{Session, advanced, opening}
 use Rattle.stn_session.specs.Serving.{IsInputEnd}

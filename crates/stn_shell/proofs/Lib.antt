@@ -11,3 +11,4 @@ mod OneCause
 mod Guarded
 mod Bytes
 mod Keepings
+mod Spelled

@@ -9,9 +9,9 @@ use Rattle.stn_lift.specs.Failures.{base_failure}
 use Rattle.stn_lift.specs.declared.fault.BaseFault.{BaseFault}
 use Rattle.stn_site.specs.Held.{Held}
 use Rattle.stn_site.specs.Failures.{replica_failure}
-use Rattle.stn_log.specs.Log.{Log, log_held, IsLog}
-use Rattle.stn_log.specs.Failures.{load_failure}
-use Rattle.stn_log.specs.declared.fault.LoadFault.{LoadFault}
+use Rattle.stn_store.specs.Log.{Log, log_held, IsLog}
+use Rattle.stn_store.specs.Log.Failures.{load_failure}
+use Rattle.stn_store.specs.declared.log.fault.LoadFault.{LoadFault}
 use Rattle.stn_command.specs.Change.{change_refusal}
 use Rattle.stn_command.specs.Named.{names_refusal}
 use Rattle.stn_command.specs.declared.changes.Change.{Change}

@@ -17,7 +17,7 @@ use Rattle.stn_store.specs.Store.{Entry, IsThere, Spells, Opens, saved_too, Chan
 use Rattle.stn_shell.specs.Words.{Asked, change, guard, merge, named_by, query, asked_of, slack_read}
 use Rattle.stn_loosen.specs.Slack.{Slack}
 use Rattle.stn_shell.specs.Loosening.{HoldsLoosened}
-use Rattle.stn_explain.specs.Explained.{IsExplained}
+use Rattle.stn_line.specs.Explanations.Explained.{IsExplained}
 use Rattle.stn_line.specs.declared.words.SiteLog.{SiteLog}
 use Rattle.stn_line.specs.declared.words.Line.{Line}
 use Rattle.stn_line.specs.declared.words.Line.TheVariants.{Bare, Init, Loosen, Explain}

@@ -6,6 +6,7 @@ pub mod Coprocess
 pub mod Endings
 pub mod Executed
 pub mod Joining
+pub mod Keeping
 pub mod Lines
 pub mod Loosening
 pub mod Peer

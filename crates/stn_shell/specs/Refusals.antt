@@ -16,7 +16,7 @@ use Rattle.stn_command.specs.Words.{no_such_word}
 use Rattle.stn_command.specs.Named.{names_refusal}
 use Rattle.stn_store.specs.Store.{Entry, log_there, IsThere, Spells, Opens, IsMissing, IsUnopened}
 use Rattle.stn_shell.specs.Words.{Asked, change, guard, merge, named_by, query, asked_of, slack_read}
-use Rattle.stn_explain.specs.Explained.{NamesNothing}
+use Rattle.stn_line.specs.Explanations.Explained.{NamesNothing}
 use Rattle.stn_line.specs.declared.words.Line.{Line}
 use Rattle.stn_line.specs.declared.words.Line.TheVariants.{Bare, Init, Loosen, Explain}
 use Rattle.stn_shell.specs.Loosening.{IsLooseningRefusal}

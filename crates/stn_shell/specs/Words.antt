@@ -36,7 +36,7 @@ pub data Asked : Type 0 where
   query : (log : SiteLog) (asked : Query) → Asked
 
 -- the same, as the code has it
-abbrev pub seen_asked : AskedOfCode → Asked
+abbrev pub seen_asked : {A : Type 0} → AskedOfCode A → Asked
 seen_asked (code.Change log asked) = change log.now asked
 seen_asked (code.Merge log other) = merge log.now other.now
 seen_asked (code.Guard log owned) = guard log.now owned.items

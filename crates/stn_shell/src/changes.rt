@@ -9,7 +9,7 @@ ghost use Rattle.stn_shell.specs.Refusals.{other_plan, IsBaseRefusal, IsMergeFai
 ghost use Rattle.stn_refusal.specs.declared.failure.Failure.TheVariants.{Failed};
 ghost use Rattle.stn_refusal.specs.declared.failure.Fault.TheVariants as lack;
 
-use std::alloc::{Allocator, Global};
+use std::alloc::Allocator;
 use std::rc::Rc;
 use stn_lift::{Base, Source};
 use stn_records::Site;
@@ -34,7 +34,7 @@ pub fn opened<A: Allocator + Copy>(
 }
 
 /// A copy of a text.
-pub fn copied(alloc: Global, line: &[u8]) -> Result<Vec<u8>, Memory>
+pub fn copied<A: Allocator>(alloc: A, line: &[u8]) -> Result<Vec<u8, A>, Memory>
     ensures { IfOk result (λ text. text.items ≡ line.now) }
 {
     let mut text = Vec::new(alloc);

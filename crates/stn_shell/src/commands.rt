@@ -1,16 +1,17 @@
 //! The commands on a log.
 
-ghost use Rattle.std.specs.Prelude.{◌≡◌, ◌⊎◌, false, None, option_map, IfOk, IfErr, IsOkAnd, MatchResult};
+ghost use Rattle.std.specs.Prelude.{◌≡◌, ◌⊎◌, ℕ, false, List, None, Some, option_map, IfOk, IfErr, IsOkAnd, MatchResult};
 ghost use Rattle.stn_lift.specs.PlanSource.{plan_source};
 ghost use Rattle.stn_command.specs.Change.{made_text};
 ghost use Rattle.stn_command.specs.Guarding.{guard_text};
+ghost use Rattle.stn_command.specs.Named.{IsNamed};
 ghost use Rattle.stn_command.specs.Query.{seen_query, seen_choice};
 ghost use Rattle.stn_shell.specs.Words.{asked_of, change, guard, merge, named_by, query};
 ghost use Rattle.stn_shell.specs.Commands.{IsDone, IsMade, IsMadeLoose, IsNewLog};
 ghost use Rattle.stn_shell.specs.Endings.{Completes, Succeeds, IsUndone, SavesNew, IsUnsaved, IsUnmade, IsOfTexts, MissesText};
 ghost use Rattle.stn_shell.specs.Loosening.{IsLooseningRefusal};
-ghost use Rattle.stn_shell.specs.Refusals.{IsRefusalOf, IsAskedRefusal, IsBaseRefusal, WithWords};
-ghost use Rattle.stn_store.specs.Store.{IsThere, IsMissing, IsTaken, IsUnopened, IsLack, Opens};
+ghost use Rattle.stn_shell.specs.Refusals.{IsRefusalOf, IsAskedRefusal, IsBaseRefusal, IsUnnamed, WithWords};
+ghost use Rattle.stn_store.specs.Store.{IsThere, Spells, IsMissing, IsTaken, IsUnopened, IsLack, Opens};
 ghost use Rattle.stn_line.specs.declared.words.Line.TheVariants as of;
 
 use crate::changes::{copied, opened, take_in};
@@ -18,7 +19,7 @@ use crate::explaining::explain;
 use crate::keeping::Kept;
 use crate::loosening::loosen;
 use crate::words::{Asked, read_asked, read_tolerance};
-use std::alloc::Global;
+use std::alloc::Allocator;
 use stn_command::{
     Change, Choice, Made, Query, Shown, make_change, no_such_word, print_guard, say_named,
 };
@@ -35,14 +36,18 @@ use stn_time::Memory;
 
 // A log that is held, and what it says.
 #[derive(Drop)]
-struct OpenLog<H: Drop> {
+struct OpenLog<H: Drop, A: Allocator> {
     held: H,
-    plan: SitePlan<Global>,
+    plan: SitePlan<A>,
 }
 
 /// Does a command on a log: the answer. A refused command changes nothing; nor does one for which memory runs out or a device of
 /// the store fails. `run`, `serve` and `send` are no commands on a log, and are refused as words of a wrong form.
-pub fn answer<S: Store>(alloc: Global, store: &mut S, line: &Line<'_>) -> Result<Vec<u8>, Failure>
+pub fn answer<S: Store<A>, A: Allocator + Copy>(
+    alloc: A,
+    store: &mut S,
+    line: &Line<'_>,
+) -> Result<Vec<u8, A>, Failure>
     ensures { MatchResult result
         (λ text. Succeeds (S.entries store.old) (S.entries store.new) line.now text.items)
         (IsUndone (IsRefusalOf (S.entries store.old) line.now) S.fails (S.entries store.old) (S.entries store.new)) }
@@ -51,12 +56,12 @@ pub fn answer<S: Store>(alloc: Global, store: &mut S, line: &Line<'_>) -> Result
 }
 
 /// Does a command on a log as `answer` does, and keeps what is worth keeping for the next one.
-pub fn answer_with<S: Store>(
-    alloc: Global,
+pub fn answer_with<S: Store<A>, A: Allocator + Copy>(
+    alloc: A,
     store: &mut S,
-    kept: &mut Kept,
+    kept: &mut Kept<A>,
     line: &Line<'_>,
-) -> Result<Vec<u8>, Failure>
+) -> Result<Vec<u8, A>, Failure>
     ensures { MatchResult result
         (λ text. Succeeds (S.entries store.old) (S.entries store.new) line.now text.items)
         (IsUndone (IsRefusalOf (S.entries store.old) line.now) S.fails (S.entries store.old) (S.entries store.new)) }
@@ -78,12 +83,12 @@ pub fn answer_with<S: Store>(
 }
 
 // Does what a command asks of a log that is there.
-fn do_asked<S: Store>(
-    alloc: Global,
+fn do_asked<S: Store<A>, A: Allocator + Copy>(
+    alloc: A,
     store: &mut S,
-    kept: &mut Kept,
+    kept: &mut Kept<A>,
     line: &Line<'_>,
-) -> Result<Vec<u8>, Failure>
+) -> Result<Vec<u8, A>, Failure>
     ensures { MatchResult result
         (λ text. IsOkAnd (asked_of line.now) (λ asked. IsDone (S.entries store.old) (S.entries store.new) asked text.items)
         × WithWords (asked_of line.now) (IsAskedRefusal (S.entries store.old)) None)
@@ -91,21 +96,21 @@ fn do_asked<S: Store>(
 {
     let asked = read_asked(alloc, line)?;
     match asked {
-        Asked::Change(log, asked) => change_log(alloc, store, log, &asked),
-        Asked::Merge(log, other) => merge_log(alloc, store, log, other),
-        Asked::Guard(log, owned) => guard_log(alloc, store, log, &owned),
+        Asked::Change(log, asked) => change_log(alloc, store, kept, log, &asked),
+        Asked::Merge(log, other) => merge_log(alloc, store, kept, log, other),
+        Asked::Guard(log, owned) => guard_log(alloc, store, kept, log, &owned),
         Asked::Check(log, times) => say_of(store, kept, log, &Query::Check(&times)),
         Asked::Among(log, outlook, now, steps, starts) => {
             let choice = choice_of(&steps, starts);
             say_of(store, kept, log, &Query::Among(outlook, now, choice))
         }
-        Asked::Named(log, shown, plan) => show_named(store, log, shown, plan),
+        Asked::Named(log, shown, plan) => show_named(store, kept, log, shown, plan),
         Asked::Query(log, asked) => say_of(store, kept, log, &asked),
     }
 }
 
 // Finds that nothing stands under a name.
-fn find_free<S: Store>(store: &S, name: &str) -> Result<(), Failure>
+fn find_free<S: Store<A>, A: Allocator + Copy>(store: &S, name: &str) -> Result<(), Failure>
     ensures { MatchResult result (λ _. IsThere (S.entries store.now) name.now false)
         (λ failure. IsTaken (S.entries store.now) name.now failure ⊎ IsLack S.fails failure) }
 {
@@ -117,12 +122,12 @@ fn find_free<S: Store>(store: &S, name: &str) -> Result<(), Failure>
 }
 
 // Makes the log of a source, under a name that is free.
-fn make<S: Store>(
-    alloc: Global,
+fn make<S: Store<A>, A: Allocator + Copy>(
+    alloc: A,
     store: &mut S,
     log: &SiteLog<'_>,
-    source: &Source<Global>,
-) -> Result<Vec<u8>, Failure>
+    source: &Source<A>,
+) -> Result<Vec<u8, A>, Failure>
     ensures { MatchResult result
         (λ text. IsMade (S.entries store.old) (S.entries store.new) log.now.name.now (plan_source source.now) text.items
         × IsBaseRefusal (plan_source source.now) None)
@@ -136,14 +141,14 @@ fn make<S: Store>(
 }
 
 // Makes the log of the loosened plan of a source, or of its robust plan, under a name that is free.
-fn make_loose<S: Store>(
-    alloc: Global,
+fn make_loose<S: Store<A>, A: Allocator + Copy>(
+    alloc: A,
     store: &mut S,
     log: &SiteLog<'_>,
-    source: &Source<Global>,
+    source: &Source<A>,
     tolerance: Tolerance,
     robust: bool,
-) -> Result<Vec<u8>, Failure>
+) -> Result<Vec<u8, A>, Failure>
     ensures { MatchResult result
         (λ text. IsMadeLoose (S.entries store.old) (S.entries store.new) log.now (plan_source source.now) tolerance robust text.items
         × IsLooseningRefusal robust (plan_source source.now) tolerance None)
@@ -157,12 +162,12 @@ fn make_loose<S: Store>(
 }
 
 // Saves a new log, under a name that is free: what is printed for it.
-fn save_made<S: Store>(
-    alloc: Global,
+fn save_made<S: Store<A>, A: Allocator + Copy>(
+    alloc: A,
     store: &mut S,
     name: &str,
-    plan: &SitePlan<Global>,
-) -> Result<Vec<u8>, Failure>
+    plan: &SitePlan<A>,
+) -> Result<Vec<u8, A>, Failure>
     ensures { MatchResult result
         (λ text. IsNewLog (S.entries store.old) (S.entries store.new) name.now plan.now.source plan.now.state text.items)
         (IsUnsaved S.fails (S.entries store.old) (S.entries store.new) name.now) }
@@ -173,7 +178,11 @@ fn save_made<S: Store>(
 }
 
 // Saves a new log, under a name that is free. No other program changes it meanwhile.
-fn save_new<S: Store>(store: &mut S, name: &str, plan: &SitePlan<Global>) -> Result<(), Failure>
+fn save_new<S: Store<A>, A: Allocator + Copy>(
+    store: &mut S,
+    name: &str,
+    plan: &SitePlan<A>,
+) -> Result<(), Failure>
     ensures { MatchResult result
         (λ _. SavesNew (S.entries store.old) (S.entries store.new) name.now plan.now.source plan.now.state)
         (IsUnsaved S.fails (S.entries store.old) (S.entries store.new) name.now) }
@@ -183,7 +192,11 @@ fn save_new<S: Store>(store: &mut S, name: &str, plan: &SitePlan<Global>) -> Res
 }
 
 // The source of the texts of a domain and of a plan.
-fn source_of_texts<S: Store>(store: &S, domain: &str, plan: &str) -> Result<Source<Global>, Failure>
+fn source_of_texts<S: Store<A>, A: Allocator + Copy>(
+    store: &S,
+    domain: &str,
+    plan: &str,
+) -> Result<Source<A>, Failure>
     ensures { MatchResult result
         (λ source. IsOfTexts (S.entries store.now) domain.now plan.now (plan_source source))
         (λ failure. MissesText (S.entries store.now) domain.now plan.now failure ⊎ IsLack S.fails failure) }
@@ -193,12 +206,12 @@ fn source_of_texts<S: Store>(store: &S, domain: &str, plan: &str) -> Result<Sour
     Ok(Source::Files(domain, plan))
 }
 
-fn make_bare<S: Store>(
-    alloc: Global,
+fn make_bare<S: Store<A>, A: Allocator + Copy>(
+    alloc: A,
     store: &mut S,
     log: &SiteLog<'_>,
     steps: u16,
-) -> Result<Vec<u8>, Failure>
+) -> Result<Vec<u8, A>, Failure>
     ensures { MatchResult result
         (λ text. Succeeds (S.entries store.old) (S.entries store.new) (of.Bare log.now steps) text.items)
         (IsUndone (IsRefusalOf (S.entries store.old) (of.Bare log.now steps)) S.fails (S.entries store.old) (S.entries store.new)) }
@@ -207,13 +220,13 @@ fn make_bare<S: Store>(
     make(alloc, store, log, &Source::Bare(steps))
 }
 
-fn make_of_texts<S: Store>(
-    alloc: Global,
+fn make_of_texts<S: Store<A>, A: Allocator + Copy>(
+    alloc: A,
     store: &mut S,
     log: &SiteLog<'_>,
     domain: &str,
     plan: &str,
-) -> Result<Vec<u8>, Failure>
+) -> Result<Vec<u8, A>, Failure>
     ensures { MatchResult result
         (λ text. Succeeds (S.entries store.old) (S.entries store.new) (of.Init log.now domain.entry plan.entry) text.items)
         (IsUndone (IsRefusalOf (S.entries store.old) (of.Init log.now domain.entry plan.entry)) S.fails (S.entries store.old) (S.entries store.new)) }
@@ -223,8 +236,8 @@ fn make_of_texts<S: Store>(
     make(alloc, store, log, &source)
 }
 
-fn loosen_texts<S: Store>(
-    alloc: Global,
+fn loosen_texts<S: Store<A>, A: Allocator + Copy>(
+    alloc: A,
     store: &mut S,
     log: &SiteLog<'_>,
     domain: &str,
@@ -232,7 +245,7 @@ fn loosen_texts<S: Store>(
     early: Option<&str>,
     late: Option<&str>,
     robust: bool,
-) -> Result<Vec<u8>, Failure>
+) -> Result<Vec<u8, A>, Failure>
     ensures { MatchResult result
         (λ text. Succeeds (S.entries store.old) (S.entries store.new) (of.Loosen log.now domain.entry plan.entry early.entry late.entry robust) text.items)
         (IsUndone (IsRefusalOf (S.entries store.old) (of.Loosen log.now domain.entry plan.entry early.entry late.entry robust)) S.fails (S.entries store.old) (S.entries store.new)) }
@@ -244,7 +257,7 @@ fn loosen_texts<S: Store>(
 }
 
 // Holds a log that is there. No other program changes it until what is held is dropped.
-fn hold_log<S: Store>(store: &S, name: &str) -> Result<S::Held, Failure>
+fn hold_log<S: Store<A>, A: Allocator + Copy>(store: &S, name: &str) -> Result<S::Held, Failure>
     ensures named { IfOk result (λ held. S.held_name held ≡ name.now) }
     ensures failed { IfErr result (λ failure. IsMissing (S.entries store.now) name.now failure ⊎ IsLack S.fails failure) }
 {
@@ -256,7 +269,10 @@ fn hold_log<S: Store>(store: &S, name: &str) -> Result<S::Held, Failure>
 }
 
 // Holds a log that is there, and loads it. No other program changes it until what is held is dropped.
-fn open_log<S: Store>(store: &S, log: &SiteLog<'_>) -> Result<OpenLog<S::Held>, Failure>
+fn open_log<S: Store<A>, A: Allocator + Copy>(
+    store: &S,
+    log: &SiteLog<'_>,
+) -> Result<OpenLog<S::Held, A>, Failure>
     ensures named { IfOk result (λ found. S.held_name found.held ≡ log.now.name.now) }
     ensures opened { IfOk result (λ found. Opens (S.entries store.now) log.now.name.now log.now.site found.plan) }
     ensures failed { IfErr result (λ failure. IsUnopened (S.entries store.now) log.now.name.now failure ⊎ IsLack S.fails failure) }
@@ -267,12 +283,13 @@ fn open_log<S: Store>(store: &S, log: &SiteLog<'_>) -> Result<OpenLog<S::Held>, 
 }
 
 // Changes a log that is there.
-fn change_log<S: Store>(
-    alloc: Global,
+fn change_log<S: Store<A>, A: Allocator + Copy>(
+    alloc: A,
     store: &mut S,
+    kept: &mut Kept<A>,
     log: &SiteLog<'_>,
     asked: &Change,
-) -> Result<Vec<u8>, Failure>
+) -> Result<Vec<u8, A>, Failure>
     ensures { MatchResult result
         (λ text. Completes (S.entries store.old) (S.entries store.new) (change log.now asked.now) text.items)
         (IsUndone (IsAskedRefusal (S.entries store.old) (change log.now asked.now)) S.fails (S.entries store.old) (S.entries store.new)) }
@@ -281,11 +298,12 @@ fn change_log<S: Store>(
     let made = make_change(&mut ours.plan, asked)?;
     let text = line_of(alloc, made)?;
     store.save(&ours.held, &ours.plan)?;
+    kept.learn(ours.plan);
     Ok(text)
 }
 
 // The line that says what was made.
-fn line_of(alloc: Global, made: Made) -> Result<Vec<u8>, Memory>
+fn line_of<A: Allocator>(alloc: A, made: Made) -> Result<Vec<u8, A>, Memory>
     ensures { IfOk result (λ text. text.items ≡ made_text made) }
 {
     let mut text = Vec::new(alloc);
@@ -294,12 +312,13 @@ fn line_of(alloc: Global, made: Made) -> Result<Vec<u8>, Memory>
 }
 
 // Takes in all that another log of the same plan says.
-fn merge_log<S: Store>(
-    alloc: Global,
+fn merge_log<S: Store<A>, A: Allocator + Copy>(
+    alloc: A,
     store: &mut S,
+    kept: &mut Kept<A>,
     log: &SiteLog<'_>,
     other: &str,
-) -> Result<Vec<u8>, Failure>
+) -> Result<Vec<u8, A>, Failure>
     ensures { MatchResult result
         (λ text. Completes (S.entries store.old) (S.entries store.new) (merge log.now other.now) text.items)
         (IsUndone (IsAskedRefusal (S.entries store.old) (merge log.now other.now)) S.fails (S.entries store.old) (S.entries store.new)) }
@@ -309,16 +328,18 @@ fn merge_log<S: Store>(
     take_in(&mut ours.plan, &theirs)?;
     let text = copied(alloc, b"merged\n")?;
     store.save(&ours.held, &ours.plan)?;
+    kept.learn(ours.plan);
     Ok(text)
 }
 
 // Adds the guard of what a log says.
-fn guard_log<S: Store>(
-    alloc: Global,
+fn guard_log<S: Store<A>, A: Allocator + Copy>(
+    alloc: A,
     store: &mut S,
+    kept: &mut Kept<A>,
     log: &SiteLog<'_>,
     owned: &[OwnedSteps],
-) -> Result<Vec<u8>, Failure>
+) -> Result<Vec<u8, A>, Failure>
     ensures { MatchResult result
         (λ text. Completes (S.entries store.old) (S.entries store.new) (guard log.now owned.now) text.items)
         (IsUndone (IsAskedRefusal (S.entries store.old) (guard log.now owned.now)) S.fails (S.entries store.old) (S.entries store.new)) }
@@ -327,11 +348,12 @@ fn guard_log<S: Store>(
     let ids = add_guard(&mut ours.plan, owned)?;
     let text = lines_of(alloc, &ids)?;
     store.save(&ours.held, &ours.plan)?;
+    kept.learn(ours.plan);
     Ok(text)
 }
 
 // The lines that say which records a guard has.
-fn lines_of(alloc: Global, ids: &Option<Vec<Id, Global>>) -> Result<Vec<u8>, Memory>
+fn lines_of<A: Allocator>(alloc: A, ids: &Option<Vec<Id, A>>) -> Result<Vec<u8, A>, Memory>
     ensures { IfOk result (λ text. text.items ≡ guard_text (option_map (λ all. all.items) ids.now)) }
 {
     let mut text = Vec::new(alloc);
@@ -343,7 +365,7 @@ fn lines_of(alloc: Global, ids: &Option<Vec<Id, Global>>) -> Result<Vec<u8>, Mem
 }
 
 // The choice of events that was asked for.
-fn choice_of(steps: &Option<Vec<StepRange, Global>>, starts: bool) -> Choice<'_>
+fn choice_of<A: Allocator>(steps: &Option<Vec<StepRange, A>>, starts: bool) -> Choice<'_>
     ensures { seen_choice result ≡ record { steps = option_map (λ all. all.items) steps.now; starts = starts } }
 {
     match steps {
@@ -359,43 +381,65 @@ fn choice_of(steps: &Option<Vec<StepRange, Global>>, starts: bool) -> Choice<'_>
 }
 
 // What is said of a log.
-fn say_of<S: Store>(
+fn say_of<S: Store<A>, A: Allocator + Copy>(
     store: &mut S,
-    kept: &mut Kept,
+    kept: &mut Kept<A>,
     log: &SiteLog<'_>,
     asked: &Query<'_>,
-) -> Result<Vec<u8>, Failure>
+) -> Result<Vec<u8, A>, Failure>
     ensures { MatchResult result
         (λ text. Completes (S.entries store.old) (S.entries store.new) (query log.now (seen_query asked.now)) text.items)
         (IsUndone (IsAskedRefusal (S.entries store.old) (query log.now (seen_query asked.now))) S.fails (S.entries store.old) (S.entries store.new)) }
 {
-    let plan = store.load(log.name, log.site)?;
-    kept.say(plan, asked)
+    let known = kept.caught_up(store, log)?;
+    kept.say(known, asked)
 }
 
 // What is shown of a log whose plan is bare, by the names of a plan's file.
-fn show_named<S: Store>(
+fn show_named<S: Store<A>, A: Allocator + Copy>(
     store: &S,
+    kept: &mut Kept<A>,
     log: &SiteLog<'_>,
     shown: Shown,
     plan: &str,
-) -> Result<Vec<u8>, Failure>
+) -> Result<Vec<u8, A>, Failure>
     ensures { MatchResult result
         (λ text. Completes (S.entries store.now) (S.entries store.now) (named_by log.now shown plan.now) text.items)
         (IsUndone (IsAskedRefusal (S.entries store.now) (named_by log.now shown plan.now)) S.fails (S.entries store.now) (S.entries store.now)) }
 {
-    let ours = store.load(log.name, log.site)?;
+    let known = kept.caught_up(store, log)?;
+    let text = show_by_names(store, known.plan(), shown, plan);
+    kept.keep(known);
+    text
+}
+
+// What is shown of a site's copy of a plan, which is bare, by the names of a plan's file.
+fn show_by_names<S: Store<A>, A: Allocator + Copy>(
+    store: &S,
+    ours: &SitePlan<A>,
+    shown: Shown,
+    plan: &str,
+) -> Result<Vec<u8, A>, Failure>
+    ensures { MatchResult result
+        (λ text. ((names : List ℕ) × Spells (S.entries store.now) plan.now names × IsNamed shown names ours.now text.items)
+        × IsUnnamed (S.entries store.now) plan.now ours.now None)
+        (λ failure. IsUnnamed (S.entries store.now) plan.now ours.now (Some failure) ⊎ IsLack S.fails failure) }
+{
     match ours.base().source() {
         Source::Files(_, _) => Err(no_such_word()),
         Source::Bare(_) => {
             let names = store.text(plan)?;
-            say_named(&ours, shown, &names)
+            say_named(ours, shown, &names)
         }
     }
 }
 
 // Explains a refusal or a fault. Nothing of the store is read.
-fn explain_word<S: Store>(alloc: Global, store: &S, code: Option<&str>) -> Result<Vec<u8>, Failure>
+fn explain_word<S: Store<A>, A: Allocator + Copy>(
+    alloc: A,
+    store: &S,
+    code: Option<&str>,
+) -> Result<Vec<u8, A>, Failure>
     ensures { MatchResult result
         (λ text. Succeeds (S.entries store.now) (S.entries store.now) (of.Explain code.entry) text.items)
         (IsUndone (IsRefusalOf (S.entries store.now) (of.Explain code.entry)) S.fails (S.entries store.now) (S.entries store.now)) }

@@ -10,7 +10,7 @@ ghost use Rattle.stn_refusal.specs.declared.failure.Failure.{Failure as FailureV
 
 use crate::partners::{send_to_partner, serve_partner};
 use crate::printing::tell_failure;
-use std::alloc::Global;
+use std::alloc::{Allocator, Global};
 use std::io::{Read, Write};
 use stn_device::{Callers, Counted, Finish, Partner};
 use stn_line::SiteLog;
@@ -22,7 +22,7 @@ use stn_store::Store;
 /// alone, however it ends; a state that its records made another one is saved before the reply to them is written. Then what the log
 /// says by then is taken in, the log is saved, and a line is printed. Status 0. When no site can be let in, the log can't be taken in
 /// or saved, or the line can't be printed, that is told and the status is 1.
-pub fn serve_on<T: AllocGlobal, S: Store, L: Callers, W: Write, E: Write>(
+pub fn serve_on<T: AllocGlobal, S: Store<Global>, L: Callers, W: Write, E: Write>(
     rt: &T,
     store: &mut S,
     callers: &mut L,
@@ -61,13 +61,13 @@ pub fn serve_on<T: AllocGlobal, S: Store, L: Callers, W: Write, E: Write>(
 }
 
 /// Serves so many sites, one after another.
-pub fn serve_each<S: Store, L: Callers, W: Write>(
-    alloc: Global,
+pub fn serve_each<S: Store<A>, L: Callers, W: Write, A: Allocator + Copy>(
+    alloc: A,
     store: &mut S,
     callers: &mut L,
     count: u16,
     log: &SiteLog<'_>,
-    replica: &mut Replica<Global>,
+    replica: &mut Replica<A>,
     out: &mut Counted<W>,
 ) -> Result<(), Failure>
     ensures served { OnOk result (Serves count (L.callers callers.old) (L.callers callers.new)
@@ -86,12 +86,12 @@ pub fn serve_each<S: Store, L: Callers, W: Write>(
 }
 
 // Serves the next site.
-fn serve_next<S: Store, L: Callers, W: Write>(
-    alloc: Global,
+fn serve_next<S: Store<A>, L: Callers, W: Write, A: Allocator + Copy>(
+    alloc: A,
     store: &mut S,
     callers: &mut L,
     log: &SiteLog<'_>,
-    replica: &mut Replica<Global>,
+    replica: &mut Replica<A>,
     out: &mut Counted<W>,
 ) -> Result<(), Failure>
     ensures served { OnOk result ((visit : Visit) × ComeAndGo (L.callers callers.old) (L.callers callers.new) (visit ∷ [])
@@ -111,7 +111,7 @@ fn serve_next<S: Store, L: Callers, W: Write>(
 
 /// Sends another site what a replica holds and takes in what it replies; then what the log says by then is taken in, the log is
 /// saved, and the text that came is printed. Status 0. What keeps it from doing so is told, and the status is 1.
-pub fn send_on<T: AllocGlobal, S: Store, R: Read, V: Finish, W: Write, E: Write>(
+pub fn send_on<T: AllocGlobal, S: Store<Global>, R: Read, V: Finish, W: Write, E: Write>(
     rt: &T,
     store: &mut S,
     partner: &mut Partner<R, V>,

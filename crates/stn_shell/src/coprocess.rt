@@ -39,7 +39,7 @@ pub struct Progress {
 
 /// Does each line of an input as the command on a log, and answers it, before it reads more. Its status is 0 where no line was refused
 /// and no device failed, else 1.
-pub fn run_shell<S: Store, R: Read, W: Write, E: Write>(
+pub fn run_shell<S: Store<Global>, R: Read, W: Write, E: Write>(
     alloc: Global,
     store: &mut S,
     log: &SiteLog<'_>,
@@ -80,10 +80,10 @@ pub fn run_shell<S: Store, R: Read, W: Write, E: Write>(
 }
 
 // Does the lines of an input.
-fn do_lines<S: Store, R: Read, W: Write, E: Write>(
+fn do_lines<S: Store<Global>, R: Read, W: Write, E: Write>(
     alloc: Global,
     store: &mut S,
-    kept: &mut Kept,
+    kept: &mut Kept<Global>,
     log: &SiteLog<'_>,
     progress: &mut Progress,
     reader: &mut Counted<R>,
@@ -99,7 +99,7 @@ fn do_lines<S: Store, R: Read, W: Write, E: Write>(
         (standing progress.old (S.entries store.old) (device_of R.remaining reader.old) (device_of W.contents out.old) (device_of E.contents err.old))
         (standing progress.new (S.entries store.new) (device_of R.remaining reader.new) (device_of W.contents out.new) (device_of E.contents err.new))) }
 {
-    find_log(store, log)?;
+    find_log(store, kept, log)?;
     'turns: loop {
         let more = turn(alloc, store, kept, log, progress, reader, out, err)?;
         if !more {
@@ -108,21 +108,25 @@ fn do_lines<S: Store, R: Read, W: Write, E: Write>(
     }
 }
 
-// Finds that a log can be opened.
-fn find_log<S: Store>(store: &S, log: &SiteLog<'_>) -> Result<(), Failure>
+// Finds that a log can be opened, and keeps what it says.
+fn find_log<S: Store<Global>>(
+    store: &S,
+    kept: &mut Kept<Global>,
+    log: &SiteLog<'_>,
+) -> Result<(), Failure>
     ensures { MatchResult result (λ _. (found : Held) × Opens (S.entries store.now) log.now.name.now log.now.site found)
         (λ failure. IsUnopened (S.entries store.now) log.now.name.now failure ⊎ IsLack S.fails failure) }
 {
-    let plan = store.load(log.name, log.site)?;
-    drop(plan);
+    let known = kept.caught_up(store, log)?;
+    kept.keep(known);
     Ok(())
 }
 
 // Reads a line, does it, and answers it. Whether there was one.
-fn turn<S: Store, R: Read, W: Write, E: Write>(
+fn turn<S: Store<Global>, R: Read, W: Write, E: Write>(
     alloc: Global,
     store: &mut S,
-    kept: &mut Kept,
+    kept: &mut Kept<Global>,
     log: &SiteLog<'_>,
     progress: &mut Progress,
     reader: &mut Counted<R>,
@@ -153,10 +157,10 @@ fn turn<S: Store, R: Read, W: Write, E: Write>(
 }
 
 // Does a line of this number, and answers it; but not a comment, nor a line without words. Whether it is refused.
-fn do_line<S: Store, W: Write, E: Write>(
+fn do_line<S: Store<Global>, W: Write, E: Write>(
     alloc: Global,
     store: &mut S,
-    kept: &mut Kept,
+    kept: &mut Kept<Global>,
     log: &SiteLog<'_>,
     number: u32,
     text: &[u8],
@@ -216,10 +220,10 @@ fn text_of(alloc: Global, refusal: Refusal) -> Result<Vec<u8>, Memory>
 }
 
 // Does the command that a line asks for: its answer. Where it asks for none, why is told.
-fn reply<S: Store, E: Write>(
+fn reply<S: Store<Global>, E: Write>(
     alloc: Global,
     store: &mut S,
-    kept: &mut Kept,
+    kept: &mut Kept<Global>,
     log: &SiteLog<'_>,
     number: u32,
     text: &[u8],
@@ -293,10 +297,10 @@ fn read_further<'a>(before: Vec<&'a str>, text: &'a [u8]) -> Result<Option<Vec<&
 }
 
 // Does the command that the words of a command line ask for.
-fn reply_to<S: Store, E: Write>(
+fn reply_to<S: Store<Global>, E: Write>(
     alloc: Global,
     store: &mut S,
-    kept: &mut Kept,
+    kept: &mut Kept<Global>,
     number: u32,
     words: &[&str],
     err: &mut Counted<E>,

@@ -57,7 +57,7 @@ pub fn execute<
 /// was refused and no device failed, 1 where something was, 2 where the words are no command's. An answer or a refusal is printed to
 /// `out`, a device's fault and a mistake in the words to `err`.
 pub fn execute_over<
-    S: Store,
+    S: Store<Global>,
     T: AllocGlobal + Clock + Net<Listener = TcpListener, Stream = TcpStream>,
     R: Read,
     W: Write,
@@ -97,7 +97,7 @@ pub fn execute_over<
 
 // Does a command line to its end, and says the status. Why it stopped is told.
 fn end<
-    S: Store,
+    S: Store<Global>,
     T: AllocGlobal + Clock + Net<Listener = TcpListener, Stream = TcpStream>,
     R: Read,
     W: Write,
@@ -176,7 +176,7 @@ fn tell_text<W: Write, E: Write>(
 
 // Does a command line, and prints its answer: the status, or why there is none.
 fn do_line<
-    S: Store,
+    S: Store<Global>,
     T: AllocGlobal + Clock + Net<Listener = TcpListener, Stream = TcpStream>,
     R: Read,
     W: Write,
@@ -243,7 +243,7 @@ fn run_input<R: Read, W: Write>(
 }
 
 // Does a command on a log, and prints its answer.
-fn tell_answer<S: Store, W: Write>(
+fn tell_answer<S: Store<Global>, W: Write>(
     alloc: Global,
     store: &mut S,
     line: &Line<'_>,
@@ -266,7 +266,7 @@ fn limit(seconds: u16) -> Duration
 }
 
 // The replica of a log.
-fn open_replica<S: Store>(store: &S, log: &SiteLog<'_>) -> Result<Replica<Global>, Failure>
+fn open_replica<S: Store<Global>>(store: &S, log: &SiteLog<'_>) -> Result<Replica<Global>, Failure>
     ensures opened { IfOk result (λ replica. Opens (S.entries store.now) log.now.name.now log.now.site replica) }
     ensures failed { IfErr result (λ failure. IsUnopened (S.entries store.now) log.now.name.now failure ⊎ IsLack S.fails failure) }
 {
@@ -276,7 +276,7 @@ fn open_replica<S: Store>(store: &S, log: &SiteLog<'_>) -> Result<Replica<Global
 
 // Serves a log at an address.
 fn serve_at<
-    S: Store,
+    S: Store<Global>,
     T: AllocGlobal + Clock + Net<Listener = TcpListener, Stream = TcpStream>,
     W: Write,
 >(
@@ -302,7 +302,7 @@ fn serve_at<
 
 // Serves the replica of a log that can be saved.
 fn serve_replica<
-    S: Store,
+    S: Store<Global>,
     T: AllocGlobal + Clock + Net<Listener = TcpListener, Stream = TcpStream>,
     W: Write,
 >(
@@ -357,7 +357,7 @@ fn listen<T: Net<Listener = TcpListener, Stream = TcpStream>, W: Write>(
 }
 
 // Exchanges with the site that serves at an address.
-fn send_to<S: Store, T: AllocGlobal + Clock + Net<Stream = TcpStream>, W: Write>(
+fn send_to<S: Store<Global>, T: AllocGlobal + Clock + Net<Stream = TcpStream>, W: Write>(
     rt: &T,
     store: &mut S,
     log: &SiteLog<'_>,
@@ -378,7 +378,7 @@ fn send_to<S: Store, T: AllocGlobal + Clock + Net<Stream = TcpStream>, W: Write>
 }
 
 // Exchanges what the replica of a log holds with the site that serves at an address.
-fn send_replica<S: Store, T: AllocGlobal + Clock + Net<Stream = TcpStream>, W: Write>(
+fn send_replica<S: Store<Global>, T: AllocGlobal + Clock + Net<Stream = TcpStream>, W: Write>(
     rt: &T,
     store: &mut S,
     log: &SiteLog<'_>,

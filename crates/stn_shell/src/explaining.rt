@@ -1,13 +1,13 @@
 //! What a refusal or a fault means.
 
 ghost use Rattle.std.specs.Prelude.{◌⊎◌, ◌≡◌, None, Some, option_map, MatchResult};
-ghost use Rattle.stn_explain.specs.Explained.{IsExplained};
+ghost use Rattle.stn_line.specs.Explanations.Explained.{IsExplained};
 ghost use Rattle.stn_shell.specs.Refusals.{IsExplainRefusal};
 ghost use Rattle.stn_refusal.specs.declared.failure.Failure.TheVariants.{Failed};
 ghost use Rattle.stn_refusal.specs.declared.failure.Fault.TheVariants as lack;
 
 use std::alloc::Allocator;
-use stn_explain::print_explained;
+use stn_line::print_explained;
 use stn_refusal::Failure;
 
 /// Explains the refusal or the fault of a word; without one, says a few words on each. No log is opened.

@@ -6,7 +6,7 @@ ghost use Rattle.stn_site.specs.Calls.{Leaves, took};
 ghost use Rattle.stn_shell.specs.Refusals.{IsMergeFailure};
 
 use crate::changes::{find_same, take_in as take_in_plan};
-use std::alloc::Global;
+use std::alloc::Allocator;
 use stn_line::SiteLog;
 use stn_refusal::Failure;
 use stn_replica::Replica;
@@ -15,10 +15,10 @@ use stn_site::SitePlan;
 use stn_store::Store;
 
 /// Takes in what a log says. A log that is gone says nothing. A refusal or a fault changes nothing.
-pub fn take_log<S: Store>(
+pub fn take_log<S: Store<A>, A: Allocator + Copy>(
     store: &S,
     log: &SiteLog<'_>,
-    replica: &mut Replica<Global>,
+    replica: &mut Replica<A>,
 ) -> Result<(), Failure>
     ensures taken { OnOk result (JoinsLog (S.entries store.now) log.now replica.old.source replica.old.state replica.new.state) }
     ensures untaken { IfErr result (IsUntaken S.fails (S.entries store.now) log.now replica.old.source replica.old.state) }
@@ -37,10 +37,10 @@ pub fn take_log<S: Store>(
 }
 
 /// Takes in what a log says by now, and saves the join. No other program changes the log meanwhile.
-pub fn save_join<S: Store>(
+pub fn save_join<S: Store<A>, A: Allocator + Copy>(
     store: &mut S,
     log: &SiteLog<'_>,
-    replica: &mut Replica<Global>,
+    replica: &mut Replica<A>,
 ) -> Result<(), Failure>
     ensures saved { OnOk result (SavesJoin log.now replica.old.source replica.old.state replica.new.state
         (S.entries store.old) (S.entries store.new)) }
@@ -55,11 +55,11 @@ pub fn save_join<S: Store>(
 }
 
 // Takes in what a log says that is held.
-fn take_held<S: Store>(
+fn take_held<S: Store<A>, A: Allocator + Copy>(
     store: &S,
     log: &SiteLog<'_>,
     held: &S::Held,
-    replica: &mut Replica<Global>,
+    replica: &mut Replica<A>,
 ) -> Result<(), Failure>
     requires { S.held_name held.now ≡ log.now.name.now }
     ensures taken { OnOk result (JoinsLog (S.entries store.now) log.now replica.old.source replica.old.state replica.new.state) }
@@ -79,7 +79,7 @@ fn take_held<S: Store>(
 }
 
 // Takes all that another copy of the same plan holds. A refusal changes nothing.
-fn take_in(replica: &mut Replica<Global>, said: &SitePlan<Global>) -> Result<(), Failure>
+fn take_in<A: Allocator + Copy>(replica: &mut Replica<A>, said: &SitePlan<A>) -> Result<(), Failure>
     ensures same { OnOk result (replica.old.source ≡ said.now.source) }
     ensures left { OnOk result (Leaves replica.old (took said.now.state) replica.new) }
     ensures refused { IfErr result (IsMergeFailure replica.old said.now) }
@@ -91,10 +91,10 @@ fn take_in(replica: &mut Replica<Global>, said: &SitePlan<Global>) -> Result<(),
 }
 
 /// Saves what a log says by now, joined with what a replica holds. The replica stays as it is.
-pub fn keep_join<S: Store>(
+pub fn keep_join<S: Store<A>, A: Allocator + Copy>(
     store: &mut S,
     log: &SiteLog<'_>,
-    replica: &Replica<Global>,
+    replica: &Replica<A>,
 ) -> Result<(), Failure>
     ensures kept { OnOk result (KeepsIn log.now replica.now.source replica.now.state (S.entries store.old) (S.entries store.new)) }
     ensures failed { IfErr result (FailsIn S.fails log.now replica.now.source replica.now.state (S.entries store.old) (S.entries store.new)) }
@@ -115,12 +115,12 @@ pub struct InLog<'a, 'b> {
     pub log: &'a SiteLog<'b>,
 }
 
-impl<'a, 'b, S: Store> Keeper<S, Global> for InLog<'a, 'b> {
+impl<'a, 'b, S: Store<A>, A: Allocator + Copy> Keeper<S, A> for InLog<'a, 'b> {
     ghost keeps = { λ keeper source state old new. KeepsIn keeper.log.now source state (S.entries old) (S.entries new) };
 
     ghost fails = { λ keeper source state old new. FailsIn S.fails keeper.log.now source state (S.entries old) (S.entries new) };
 
-    fn keep(&self, store: &mut S, replica: &Replica<Global>) -> Result<(), Failure> {
+    fn keep(&self, store: &mut S, replica: &Replica<A>) -> Result<(), Failure> {
         keep_join(store, self.log, replica)
     }
 }

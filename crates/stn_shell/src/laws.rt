@@ -6,8 +6,8 @@ ghost use Rattle.stn_store.specs.Store.{Entry};
 
 use stn_command::one_said;
 use stn_guard::one_guard;
-use stn_log::one_log;
 use stn_loosen::{one_robust_plan, too_many_are_not_few};
+use stn_store::one_log;
 
 /// The law that a command has one cause that refuses it, or none, in a store of which all entries are known.
 pub fn one_cause()

@@ -5,18 +5,18 @@ ghost use Rattle.stn_device.specs.Counted.{counted_device, CountsFailure, KeepsC
 ghost use Rattle.stn_device.specs.declared.whole.ReadFault.TheVariants.{Read};
 ghost use Rattle.stn_shell.specs.Lines.{IsLineRead};
 
-use std::alloc::Global;
+use std::alloc::Allocator;
 use std::io::Read;
 use stn_device::{Counted, ReadFault};
 use stn_text::LINE_FEED;
 
 /// The next line of an input, without its LF, which the last may lack; none at the end. No byte after the line is read: the reader
 /// is asked for one after the other. `room` says how many bytes may still be read; one more shows that the input is too long.
-pub fn read_line<R: Read>(
-    alloc: Global,
+pub fn read_line<R: Read, A: Allocator>(
+    alloc: A,
     reader: &mut Counted<R>,
     room: &mut usize,
-) -> Result<Option<Vec<u8>>, ReadFault>
+) -> Result<Option<Vec<u8, A>>, ReadFault>
     ensures line { IsLineRead (R.remaining (counted_device reader.old)) (R.remaining (counted_device reader.new)) room.old room.new result }
     ensures read { IsErrOf result ReadFault.Read → CountsFailure reader.old reader.new }
     ensures kept { result ≢ Err ReadFault.Read → KeepsCount reader.old reader.new }
@@ -42,7 +42,7 @@ pub fn read_line<R: Read>(
 }
 
 // What stands in front of the end of an input: a last line, if it has a byte.
-fn last_line(line: Vec<u8>) -> Option<Vec<u8>>
+fn last_line<A: Allocator>(line: Vec<u8, A>) -> Option<Vec<u8, A>>
     ensures none { IsNone result → line.items ≡ [] }
     ensures some { IfSome result (λ last. (last.items ≡ line.items) × (line.items ≢ [])) }
 {

@@ -9,7 +9,7 @@ ghost use Rattle.stn_shell.specs.Printing.{device_of, Prints, IsUnprinted};
 use crate::joining::{InLog, save_join, take_log};
 use crate::printing::{print, print_now};
 use itoa::Buffer;
-use std::alloc::{Allocator, Global};
+use std::alloc::Allocator;
 use std::io::{Read, Write};
 use stn_device::{Counted, Finish, Partner};
 use stn_line::SiteLog;
@@ -24,12 +24,12 @@ use stn_time::Memory;
 /// Serves another site: takes in what the log says, serves a session, takes in what the log says by then, saves the log and prints how
 /// the session ended. Where the other site was refused, it is parted from. In the session, a state that the other site's records made
 /// another one is saved before that site is told of it.
-pub fn serve_partner<S: Store, R: Read, W: Finish, O: Write>(
-    alloc: Global,
+pub fn serve_partner<S: Store<A>, R: Read, W: Finish, O: Write, A: Allocator + Copy>(
+    alloc: A,
     store: &mut S,
     partner: &mut Partner<R, W>,
     log: &SiteLog<'_>,
-    replica: &mut Replica<Global>,
+    replica: &mut Replica<A>,
     out: &mut Counted<O>,
 ) -> Result<(), Failure>
     requires reader_counts { failure_count partner.old.reader < 2 ^ 64 - 1 }
@@ -52,12 +52,12 @@ pub fn serve_partner<S: Store, R: Read, W: Finish, O: Write>(
 }
 
 // Takes in what the log says, serves a session, and saves the log.
-fn serve_saved<S: Store, R: Read, W: Finish>(
-    alloc: Global,
+fn serve_saved<S: Store<A>, R: Read, W: Finish, A: Allocator + Copy>(
+    alloc: A,
     store: &mut S,
     partner: &mut Partner<R, W>,
     log: &SiteLog<'_>,
-    replica: &mut Replica<Global>,
+    replica: &mut Replica<A>,
 ) -> Result<Result<Served, ServeFault>, Failure>
     requires reader_counts { failure_count partner.old.reader < 2 ^ 64 - 1 }
     requires writer_counts { failure_count partner.old.writer < 2 ^ 64 - 1 }
@@ -76,12 +76,12 @@ fn serve_saved<S: Store, R: Read, W: Finish>(
 }
 
 // Serves a session, and saves in the log each state before the other site is told of it.
-fn serve_session<S: Store, R: Read, W: Finish>(
-    alloc: Global,
+fn serve_session<S: Store<A>, R: Read, W: Finish, A: Allocator + Copy>(
+    alloc: A,
     store: &mut S,
     partner: &mut Partner<R, W>,
     log: &SiteLog<'_>,
-    replica: &mut Replica<Global>,
+    replica: &mut Replica<A>,
 ) -> Result<Result<Served, ServeFault>, Failure>
     requires reader_counts { failure_count partner.old.reader < 2 ^ 64 - 1 }
     requires writer_counts { failure_count partner.old.writer < 2 ^ 64 - 1 }
@@ -131,8 +131,8 @@ fn part_after<R: Read, W: Finish>(session: Result<Served, ServeFault>, partner: 
 }
 
 // Prints how a session ended.
-fn print_session<W: Write>(
-    alloc: Global,
+fn print_session<W: Write, A: Allocator>(
+    alloc: A,
     session: Result<Served, ServeFault>,
     out: &mut Counted<W>,
 ) -> Result<(), Failure>
@@ -195,12 +195,12 @@ fn word_of(fault: ServeFault) -> &'static [u8]
 
 /// Sends another site what a replica holds and takes in what it replies; then what the log says by then is taken in, the log is saved,
 /// and the text that came is printed.
-pub fn send_to_partner<S: Store, R: Read, W: Finish, O: Write>(
-    alloc: Global,
+pub fn send_to_partner<S: Store<A>, R: Read, W: Finish, O: Write, A: Allocator + Copy>(
+    alloc: A,
     store: &mut S,
     partner: &mut Partner<R, W>,
     log: &SiteLog<'_>,
-    replica: &mut Replica<Global>,
+    replica: &mut Replica<A>,
     out: &mut Counted<O>,
 ) -> Result<(), Failure>
     requires reader_counts { failure_count partner.old.reader < 2 ^ 64 - 1 }
@@ -220,11 +220,11 @@ pub fn send_to_partner<S: Store, R: Read, W: Finish, O: Write>(
 }
 
 // Sends what a replica holds, and takes in the replies: the text that came.
-fn ask<R: Read, W: Finish>(
-    alloc: Global,
+fn ask<R: Read, W: Finish, A: Allocator + Copy>(
+    alloc: A,
     partner: &mut Partner<R, W>,
-    replica: &mut Replica<Global>,
-) -> Result<Vec<u8>, Failure>
+    replica: &mut Replica<A>,
+) -> Result<Vec<u8, A>, Failure>
     requires reader_counts { failure_count partner.old.reader < 2 ^ 64 - 1 }
     requires writer_counts { failure_count partner.old.writer < 2 ^ 64 - 1 }
     ensures exchanged { IfOk result (λ text. Exchanges (partner_state R.remaining W.contents W.ended partner.old) (partner_state R.remaining W.contents W.ended partner.new)

@@ -6,7 +6,7 @@ ghost use Rattle.stn_refusal.specs.Refusals.{out_of_memory};
 ghost use Rattle.stn_command.specs.Words.{times_read};
 ghost use Rattle.stn_shell.specs.Words.{asked_of, query_of, among_read, chosen_read, seen_asked, bound_read, event_read, id_read, side_read, slack_of, slack_read, why_read};
 
-use std::alloc::{Allocator, Global};
+use std::alloc::Allocator;
 use stn_command::{
     AskedBound, Change, Outlook, Query, Shown, no_such_word, read_owned, read_steps, read_time,
 };
@@ -22,17 +22,17 @@ use stn_time::{HORIZON, Ms};
 
 /// What a command asks of a log that is there, all its words read.
 #[derive(Drop)]
-pub enum Asked<'l, 'a> {
+pub enum Asked<'l, 'a, A: Allocator> {
     /// Makes a change.
     Change(&'l SiteLog<'a>, Change),
     /// Takes in all that another log says.
     Merge(&'l SiteLog<'a>, &'a str),
     /// Adds the guard of what the log says, where these steps belong to their sites.
-    Guard(&'l SiteLog<'a>, Vec<OwnedSteps, Global>),
+    Guard(&'l SiteLog<'a>, Vec<OwnedSteps, A>),
     /// Checks times, one for each event.
-    Check(&'l SiteLog<'a>, Vec<Ms, Global>),
+    Check(&'l SiteLog<'a>, Vec<Ms, A>),
     /// Asks of chosen events, from a time on: those of these steps, or of all where none are given; or their starts alone.
-    Among(&'l SiteLog<'a>, Outlook, Ms, Option<Vec<StepRange, Global>>, bool),
+    Among(&'l SiteLog<'a>, Outlook, Ms, Option<Vec<StepRange, A>>, bool),
     /// Shows the steps by the names of a plan's file.
     Named(&'l SiteLog<'a>, Shown, &'a str),
     /// Answers another query.
@@ -40,7 +40,10 @@ pub enum Asked<'l, 'a> {
 }
 
 /// Reads the words of a command on a log that is there; any other command line is none.
-pub fn read_asked<'l, 'a>(alloc: Global, line: &'l Line<'a>) -> Result<Asked<'l, 'a>, Failure>
+pub fn read_asked<'l, 'a, A: Allocator + Copy>(
+    alloc: A,
+    line: &'l Line<'a>,
+) -> Result<Asked<'l, 'a, A>, Failure>
     ensures { MatchResult result (λ asked. asked_of line.now ≡ Ok (seen_asked asked))
         (λ failure. (failure ≡ out_of_memory) ⊎ (asked_of line.now ≡ Err failure)) }
 {
@@ -86,7 +89,10 @@ pub fn read_asked<'l, 'a>(alloc: Global, line: &'l Line<'a>) -> Result<Asked<'l,
 }
 
 // Reads the words of a query.
-fn read_query<'l, 'a>(alloc: Global, line: &'l Line<'a>) -> Result<Asked<'l, 'a>, Failure>
+fn read_query<'l, 'a, A: Allocator + Copy>(
+    alloc: A,
+    line: &'l Line<'a>,
+) -> Result<Asked<'l, 'a, A>, Failure>
     ensures { MatchResult result (λ asked. query_of line.now ≡ Ok (seen_asked asked))
         (λ failure. (failure ≡ out_of_memory) ⊎ (query_of line.now ≡ Err failure)) }
 {
@@ -121,13 +127,13 @@ fn read_query<'l, 'a>(alloc: Global, line: &'l Line<'a>) -> Result<Asked<'l, 'a>
 }
 
 // Reads the words of a query of chosen events.
-fn read_among<'l, 'a>(
-    alloc: Global,
+fn read_among<'l, 'a, A: Allocator + Copy>(
+    alloc: A,
     log: &'l SiteLog<'a>,
     outlook: Outlook,
     now: &str,
     choice: &EventChoice<'_>,
-) -> Result<Asked<'l, 'a>, Failure>
+) -> Result<Asked<'l, 'a, A>, Failure>
     ensures { MatchResult result (λ asked. among_read log.now outlook now.now choice.now ≡ Ok (seen_asked asked))
         (λ failure. (failure ≡ out_of_memory) ⊎ (among_read log.now outlook now.now choice.now ≡ Err failure)) }
 {
@@ -137,7 +143,10 @@ fn read_among<'l, 'a>(
 }
 
 // The steps that a word names, where there is one.
-fn read_chosen(alloc: Global, word: Option<&str>) -> Result<Option<Vec<StepRange, Global>>, Failure>
+fn read_chosen<A: Allocator + Copy>(
+    alloc: A,
+    word: Option<&str>,
+) -> Result<Option<Vec<StepRange, A>>, Failure>
     ensures { MatchResult result (λ steps. chosen_read word.entry ≡ Ok (option_map (λ all. all.items) steps))
         (λ failure. (failure ≡ out_of_memory) ⊎ (chosen_read word.entry ≡ Err failure)) }
 {

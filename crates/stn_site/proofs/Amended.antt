@@ -75,6 +75,9 @@ module _ (held : Held) (id old : SiteCounter) (bound : Difference) (sound : IsSo
   nothing : get held.state.replacements id ≡ None
   nothing = replaces_nothing held.state id sound.amends unknown
 
+  not_another : (fault : AmendFault) → fault ≢ amend.Memory → fault ≢ amend.Full → ¬ Answers held.state id old bound (failed fault)
+  not_another fault not_memory not_full answers = not_full (full_alone held.state id old bound unknown known nothing fault ((answers fault not_memory).0 refl)).1
+
   pub amend_fault : (fault : AmendFault) → Answers held.state id old bound (failed fault) → of_amend_fault fault ≡ unwrap_or (next_refusal held) Memory
   amend_fault amend.Memory answers =
       ap (λ o. unwrap_or o Memory) (sym (next_free held counter (λ full. other_fault ((answers amend.Full full_not_memory).1 (refused_where_full held.state id old bound unknown known nothing full)))))
@@ -84,27 +87,9 @@ module _ (held : Held) (id old : SiteCounter) (bound : Difference) (sound : IsSo
   amend_fault amend.Full answers =
       let over = full_alone held.state id old bound unknown known nothing amend.Full ((answers amend.Full full_not_memory).0 refl) in
       ap (λ o. unwrap_or o Memory) (sym (next_full held counter (full_where_too_much held.state id old bound unknown known nothing sound.limited over.0)))
-  amend_fault amend.SelfReplace answers = absurd (none (full_alone held.state id old bound unknown known nothing amend.SelfReplace ((answers amend.SelfReplace not_memory).0 refl)).1)
-    where
-      none : amend.SelfReplace ≢ amend.Full
-      none e = absurd (cc)
-
-      not_memory : amend.SelfReplace ≢ amend.Memory
-      not_memory e = absurd (cc)
-  amend_fault amend.Unknown answers = absurd (none (full_alone held.state id old bound unknown known nothing amend.Unknown ((answers amend.Unknown not_memory).0 refl)).1)
-    where
-      none : amend.Unknown ≢ amend.Full
-      none e = absurd (cc)
-
-      not_memory : amend.Unknown ≢ amend.Memory
-      not_memory e = absurd (cc)
-  amend_fault (amend.Clash k) answers = absurd (none (full_alone held.state id old bound unknown known nothing (amend.Clash k) ((answers (amend.Clash k) not_memory).0 refl)).1)
-    where
-      none : amend.Clash k ≢ amend.Full
-      none e = absurd (cc)
-
-      not_memory : amend.Clash k ≢ amend.Memory
-      not_memory e = absurd (cc)
+  amend_fault amend.SelfReplace answers = absurd (not_another amend.SelfReplace (λ e. cc) (λ e. cc) answers)
+  amend_fault amend.Unknown answers = absurd (not_another amend.Unknown (λ e. cc) (λ e. cc) answers)
+  amend_fault (amend.Clash k) answers = absurd (not_another (amend.Clash k) (λ e. cc) (λ e. cc) answers)
 
   pub can_amend : (done : Unit {0}) → Answers held.state id old bound (succeeded done) → next_refusal held ≡ None
   can_amend done answers =

@@ -4,7 +4,7 @@ use Rattle.std.specs.Prelude.{Result, Ok, Err, is_ok, OnOk, OnErr, if◌then◌e
 use Rattle.std.proofs.lemmas.List.{length-map}
 use Rattle.std.specs.List.{flat_map}
 use Rattle.stn_net.specs.Difference.{Difference, NamesEvents}
-use Rattle.stn_windows.specs.Window.{IsWindow}
+use Rattle.stn_net.specs.Windows.Window.{IsWindow}
 use Rattle.stn_lift.specs.PlanSource.{PlanSource, base_bounds}
 use Rattle.stn_records.specs.{Id.SiteCounter, declared.record.Mark.Mark, declared.record.Record.Record, Content.Content, Content.live_of, Content.listed}
 use Rattle.stn_conflict.specs.{declared.links.Link.Link, Arcs.weight_of, Arcs.IsNegativeCycle, Named.IsNamedCycle}

@@ -5,7 +5,7 @@ use Rattle.std.proofs.{lemmas.Bool.false≢true, lemmas.Bool.false_from_ne_true,
 use Rattle.stn_net.specs.Difference.{Difference, NamesEvents, IsBoundWithin, IsFaultOf}
 use Rattle.stn_net.specs.declared.bound.BoundFault.{BoundFault}
 use Rattle.stn_net.specs.declared.bound.BoundFault.TheVariants.{NoEvent, SameEvent, Crossed}
-use Rattle.stn_windows.specs.Rehearsal.{fixed_at}
+use Rattle.stn_net.specs.Windows.Rehearsal.{fixed_at}
 use Rattle.stn_lift.specs.PlanSource.{events_of}
 use Rattle.stn_records.specs.{Id.most_counter, Id.SiteCounter, declared.record.Record.Record, declared.faults.RecordsFault.RecordsFault, declared.faults.WithdrawFault.WithdrawFault}
 use Rattle.stn_records.specs.declared.faults.RecordsFault.TheVariants as records

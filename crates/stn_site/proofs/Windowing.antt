@@ -2,7 +2,7 @@
 use Rattle.std.proofs.Common.{◌≡◌, ℕ, ℤ, pos, ◌+◌, ◌<◌, List, [], ◌∷◌, ◌++◌, length, length-append, ⊎_elim, refl, sym, ap, subst, ◌∙◌, arith}
 use Rattle.std.proofs.{lemmas.Bool.cases_lt, lemmas.List.get_or_append_left, lemmas.List.get_or-append-add}
 use Rattle.stn_net.specs.{Difference.Difference, Schedule.HasSchedule}
-use Rattle.stn_windows.specs.Window.{IsWindow}
+use Rattle.stn_net.specs.Windows.Window.{IsWindow}
 use Rattle.stn_site.specs.Windows.{window_at, AreWindows}
 
 pub record AreFirst (bounds : List Difference) (count : ℕ) (windows : List (ℤ × ℤ)) : Type 0 where

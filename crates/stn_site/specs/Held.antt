@@ -1,6 +1,6 @@
 use Rattle.std.specs.{Prelude.ℕ, Prelude.ℤ, Prelude.refl, Coded.Coded, Coded.code_by, Coded.coded×, Coded.coded_ℕ}
 use Rattle.stn_net.specs.Difference.{Difference}
-use Rattle.stn_windows.specs.Rehearsal.{fixed_at}
+use Rattle.stn_net.specs.Windows.Rehearsal.{fixed_at}
 use Rattle.stn_lift.specs.PlanSource.{PlanSource, coded_source}
 use Rattle.stn_records.specs.{Content.Content, Content.coded_content, Content.next_counter, Id.SiteCounter, declared.record.Mark.TheVariants.Done, declared.record.Record.Record}
 pub use Rattle.stn_records.specs.Content.{plain}

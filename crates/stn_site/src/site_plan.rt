@@ -1,15 +1,16 @@
-ghost use Rattle.std.specs.Prelude.{◌≡◌, ◌+◌, ◌↔◌, pos, true, false, length, All, None, unwrap_or, IsOk, IsNone, IsTrue, IfOk, IfErr, IfSome, IfNone, OnOk, OnErr, MatchOption};
+ghost use Rattle.std.specs.Prelude.{◌≡◌, ◌+◌, ◌≤◌, ◌↔◌, pos, true, false, length, All, Some, None, unwrap_or, IsOk, IsNone, IsTrue, IfOk, IfErr, IfSome, IfNone, OnOk, OnErr, MatchOption};
 ghost use Rattle.std.specs.FinMap.{contains_key};
 ghost use Rattle.std.specs.Rc.{rc_value};
 ghost use Rattle.stn_net.specs.Schedule.{IsSchedule, Meets, NamesTimes, times_of};
-ghost use Rattle.stn_net.specs.Difference.{NamesEvents};
+ghost use Rattle.stn_net.specs.Difference.{NamesEvents, IsBoundWithin, IsFaultOf};
 ghost use Rattle.stn_lift.specs.PlanSource.{events_of};
 ghost use Rattle.stn_records.specs.Record.{IsProper};
-ghost use Rattle.stn_records.specs.Content.{no_content, is_known, IsPart};
+ghost use Rattle.stn_records.specs.Content.{no_content, is_known, next_counter, IsPart};
+ghost use Rattle.stn_records.specs.Id.{most_counter};
 ghost use Rattle.stn_site.specs.Bounds.{all_bounds, live_bounds, RecordsName};
 ghost use Rattle.stn_site.specs.Names.{broken_bound};
 ghost use Rattle.stn_site.specs.Walk.{IsFirstBrokenRecord, RecordsTimed};
-ghost use Rattle.stn_site.specs.Held.{difference, plain, executed};
+ghost use Rattle.stn_site.specs.Held.{next_id, difference, plain, executed};
 ghost use Rattle.stn_site.specs.Calls.{added, amended, withdrew, took, Leaves};
 ghost use Rattle.stn_site.specs.Refusals.{next_refusal, add_refusal, amend_refusal, done_refusal, withdraw_refusal, take_refusal};
 
@@ -21,7 +22,7 @@ use std::mem;
 use std::rc::Rc;
 use stn_lift::Base;
 use stn_net::{Bound, BoundFault, Event, first_broken};
-use stn_records::{Id, Mark, Records, Site};
+use stn_records::{CounterSpent, Id, Mark, Records, Site};
 use stn_time::{Memory, Ms};
 
 /// One site's copy of a plan: the plan, and what the site holds.
@@ -84,7 +85,7 @@ impl<A: Allocator + Copy> SitePlan<A> {
         ensures fault { IfErr result (λ fault. fault ≡ unwrap_or (add_refusal self.old (difference from to lo hi)) ReplicaFault.Memory) }
         ensures kept { OnErr result (self.new ≡ self.old) }
     {
-        let bound = Bound::new(self.base.events(), from, to, lo, hi)?;
+        let bound = self.bound(from, to, lo, hi)?;
         self.hold(Mark::Plain, bound)
     }
 
@@ -107,7 +108,7 @@ impl<A: Allocator + Copy> SitePlan<A> {
         ensures fault { IfErr result (λ fault. fault ≡ unwrap_or (amend_refusal self.old old (difference from to lo hi)) ReplicaFault.Memory) }
         ensures kept { OnErr result (self.new ≡ self.old) }
     {
-        let bound = Bound::new(self.base.events(), from, to, lo, hi)?;
+        let bound = self.bound(from, to, lo, hi)?;
         if !self.records.is_known(old) {
             return Err(ReplicaFault::Unknown);
         }
@@ -123,8 +124,7 @@ impl<A: Allocator + Copy> SitePlan<A> {
         ensures fault { IfErr result (λ fault. fault ≡ unwrap_or (next_refusal self.old) ReplicaFault.Memory) }
         ensures kept { OnErr result (self.new ≡ self.old) }
     {
-        let counter = self.records.next_counter(self.site)?;
-        let id = Id::new(self.site, counter).unwrap();
+        let id = self.next_id()?;
         prove!(self.records.state().replacements().get(id).is_none());
         self.records.amend(id, old, bound)?;
         Ok(id)
@@ -145,7 +145,7 @@ impl<A: Allocator + Copy> SitePlan<A> {
         if event == Event::origin() {
             return Err(ReplicaFault::Bound(BoundFault::NoEvent));
         }
-        let bound = Bound::new(self.base.events(), Event::origin(), event, time, time)?;
+        let bound = self.bound(Event::origin(), event, time, time)?;
         self.hold(Mark::Done, bound)
     }
 
@@ -158,10 +158,29 @@ impl<A: Allocator + Copy> SitePlan<A> {
         ensures fault { IfErr result (λ fault. fault ≡ unwrap_or (next_refusal self.old) ReplicaFault.Memory) }
         ensures kept { OnErr result (self.new ≡ self.old) }
     {
-        let counter = self.records.next_counter(self.site)?;
-        let id = Id::new(self.site, counter).unwrap();
+        let id = self.next_id()?;
         self.records.add(id, mark, bound)?;
         Ok(id)
+    }
+
+    // A bound of the plan's events.
+    fn bound(&self, from: Event, to: Event, lo: Ms, hi: Ms) -> Result<Bound, BoundFault>
+        ensures made { IfOk result (λ bound. bound ≡ difference from to lo hi) }
+        ensures within { IfOk result (λ bound. IsBoundWithin (events_of self.now.source) bound) }
+        ensures fault { IfErr result (IsFaultOf (events_of self.now.source) (difference from to lo hi)) }
+    {
+        Bound::new(self.base.events(), from, to, lo, hi)
+    }
+
+    // The site's next id.
+    fn next_id(&self) -> Result<Id, CounterSpent>
+        ensures next { IfOk result (λ id. id ≡ next_id self.now) }
+        ensures unknown { IfOk result (λ id. is_known self.now.state id ≡ false) }
+        ensures left { OnOk result (next_counter self.now.state self.now.site ≤ most_counter) }
+        ensures spent { OnErr result (next_refusal self.now ≡ Some ReplicaFault.CounterSpent) }
+    {
+        let counter = self.records.next_counter(self.site)?;
+        Ok(Id::new(self.site, counter).unwrap())
     }
 
     /// Withdraws a known id for good; one that is withdrawn already changes nothing.

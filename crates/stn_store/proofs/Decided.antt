@@ -5,8 +5,8 @@ use Rattle.std.specs.{Prelude.IfSome, Prelude.◌⊎◌, Prelude.option_map, Io.
 use Rattle.stn_device.specs.{declared.whole.ReadFault.ReadFault, Failures.read_failure}
 use Rattle.stn_device.specs.declared.whole.ReadFault.TheVariants as read
 use Rattle.stn_text.specs.Bytes.{most_text}
-use Rattle.stn_log.specs.{Log.Log, Log.IsLog, Log.IsDecided, Log.meaning_of, declared.fault.LoadFault.LoadFault, Failures.load_failure}
-use Rattle.stn_log.specs.declared.fault.LoadFault.TheVariants as load
+use Rattle.stn_store.specs.{Log.Log, Log.IsLog, Log.IsDecided, Log.meaning_of, declared.log.fault.LoadFault.LoadFault, Log.Failures.load_failure}
+use Rattle.stn_store.specs.declared.log.fault.LoadFault.TheVariants as load
 use Rattle.stn_store.specs.Bytes.{IsLogIn, IsTextIn}
 use Rattle.stn_refusal.specs.declared.failure.Failure.TheVariants.{Failed}
 use Rattle.stn_refusal.specs.declared.failure.Fault.TheVariants.{Memory, Read, Bound}

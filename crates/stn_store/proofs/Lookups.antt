@@ -25,7 +25,7 @@ under_more (first ∷ entries) entry name =
     ∙ or_assoc (then_some (bytes_eq entry.name name) entry.bytes) (bytes_under entries name) (then_some (bytes_eq first.name name) first.bytes)
 
 -- one entry more was looked at
-under_next : (all : List NamedBytes) (place : ℕ) (one : NamedBytes) (name : List ℕ) → place < length all → one ≡ get_or all place one
+under_next : {A : Type 0} (all : List (NamedBytes A)) (place : ℕ) (one : NamedBytes A) (name : List ℕ) → place < length all → one ≡ get_or all place one
     → bytes_under (map entry_of (take (place + 1) all)) name
     ≡ option_or (then_some (bytes_eq (entry_of one).name name) (entry_of one).bytes) (bytes_under (map entry_of (take place all)) name)
 under_next all place one name within at =
@@ -34,14 +34,14 @@ under_next all place one name within at =
     ∙ under_more (map entry_of (take place all)) (entry_of one) name
 
 -- it stands under the name, or what was found before does
-pub under_this : (all : List NamedBytes) (place : ℕ) (one : NamedBytes) (name : List ℕ) → place < length all → one ≡ get_or all place one
+pub under_this : {A : Type 0} (all : List (NamedBytes A)) (place : ℕ) (one : NamedBytes A) (name : List ℕ) → place < length all → one ≡ get_or all place one
     → bytes_eq (entry_of one).name name ≡ true
     → bytes_under (map entry_of (take (place + 1) all)) name ≡ Some (entry_of one).bytes
 under_this all place one name within at same =
     under_next all place one name within at
     ∙ ap (λ (test : Bool). option_or (then_some test (entry_of one).bytes) (bytes_under (map entry_of (take place all)) name)) same
 
-pub under_earlier : (all : List NamedBytes) (place : ℕ) (one : NamedBytes) (name : List ℕ) → place < length all → one ≡ get_or all place one
+pub under_earlier : {A : Type 0} (all : List (NamedBytes A)) (place : ℕ) (one : NamedBytes A) (name : List ℕ) → place < length all → one ≡ get_or all place one
     → bytes_eq (entry_of one).name name ≡ false
     → bytes_under (map entry_of (take (place + 1) all)) name ≡ bytes_under (map entry_of (take place all)) name
 under_earlier all place one name within at other =

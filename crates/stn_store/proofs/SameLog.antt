@@ -1,8 +1,8 @@
 -- Sites that hold the same of the same plan have the same log.
 use Rattle.std.proofs.Common.{◌≡◌, ℕ, List, Option, Result, Ok, OnOk, sym, subst, ◌∙◌}
 use Rattle.stn_site.specs.Held.{Held}
-use Rattle.stn_log.specs.Log.{Log, log_held}
-use Rattle.stn_log.proofs.Saved.{same_log}
+use Rattle.stn_store.specs.Log.{Log, log_held}
+use Rattle.stn_store.proofs.log.Saved.{same_log}
 use Rattle.stn_store.specs.Store.{Entry, Means, Opens, saved_too}
 
 -- it is opened for either

@@ -1,3 +1,4 @@
 pub mod Bytes
+pub mod Log
 pub mod Store
 pub mod Memory

@@ -2,9 +2,9 @@
 use Rattle.std.specs.{Prelude.List, Prelude.map, String.string_bytes}
 use Rattle.stn_store.specs.{Store.Entry, declared.memory.NamedBytes.NamedBytes, declared.memory.MemoryStore.MemoryStore}
 
-abbrev pub entry_of : NamedBytes → Entry
+abbrev pub entry_of : {A : Type 0} → NamedBytes A → Entry
 entry_of one = record { name = string_bytes one.name; bytes = one.bytes.items }
 
 -- its entries, in the order in which they were put there
-abbrev pub entries_of : MemoryStore → List Entry
+abbrev pub entries_of : {A : Type 0} → MemoryStore A → List Entry
 entries_of store = map entry_of store.entries.items

@@ -1,9 +1,9 @@
 -- What commands find in a store of logs and texts, and what they leave there.
-use Rattle.std.specs.Prelude.{◌≡◌, ◌⊎◌, ℕ, ◌+◌, Bool, true, List, [], ◌∷◌, ◌++◌, take, Option, Some, None, is_some, option_map, Result, Ok, Err, ⊤}
+use Rattle.std.specs.Prelude.{◌≡◌, ◌⊎◌, ◌↔◌, ℕ, ◌+◌, Bool, true, List, [], ◌∷◌, ◌++◌, take, Option, Some, None, is_some, option_map, Result, Ok, Err, ⊤}
 use Rattle.std.specs.{Bool.then_some, Option.option_or, Str.bytes_eq}
 use Rattle.stn_text.specs.Bytes.{most_text}
 use Rattle.stn_site.specs.{Calls.Accepted, Calls.Leaves, Held.Held}
-use Rattle.stn_log.specs.{Log.Log, Log.log_held, Log.log_text, Log.IsLog, declared.fault.LoadFault.LoadFault, Failures.load_failure}
+use Rattle.stn_store.specs.{Log.Log, Log.log_held, Log.log_text, Log.IsLog, declared.log.fault.LoadFault.LoadFault, Log.Failures.load_failure}
 use Rattle.stn_refusal.specs.{declared.code.Code.TheVariants.LogThere, declared.failure.Failure.Failure, declared.failure.Fault.Fault, Refusals.refused}
 use Rattle.stn_refusal.specs.declared.failure.Failure.TheVariants.{Refused, Failed}
 use Rattle.stn_refusal.specs.declared.failure.Fault.TheVariants.{Memory, File}
@@ -26,6 +26,10 @@ Holds (Some entries) name found = bytes_under entries name ≡ found
 -- whether something stands there
 abbrev pub IsThere : Option (List Entry) → List ℕ → Bool → Type 0
 IsThere entries name there = (found : Option (List ℕ)) × Holds entries name found × (is_some found ≡ there)
+
+-- whether what stands there is these bytes
+abbrev pub Has : Option (List Entry) → List ℕ → List ℕ → Bool → Type 0
+Has entries name bytes has = (found : List ℕ) × Holds entries name (Some found) × (has ≡ true ↔ (found ≡ bytes))
 
 -- the text of a name, as it is read: of a longer text than a domain or a plan may be one byte more than that, which shows it
 abbrev pub Spells : Option (List Entry) → List ℕ → List ℕ → Type 0

@@ -3,6 +3,7 @@
 ghost use Rattle.std.specs.Prelude.{IfErr, ⊤};
 ghost use Rattle.stn_store.specs.Store.{IsLack};
 
+use crate::log::save_plan;
 use crate::place::NEW_MODE;
 use std::alloc::Global;
 use std::fs::{self, File, Metadata, OpenOptions};
@@ -10,7 +11,6 @@ use std::io::{self, ErrorKind};
 use std::os::unix::fs::{MetadataExt, OpenOptionsExt, fchown};
 use std::rt::Files;
 use stn_device::Counted;
-use stn_log::save_plan;
 use stn_refusal::{Failure, Fault};
 use stn_site::SitePlan;
 

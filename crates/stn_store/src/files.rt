@@ -6,7 +6,7 @@ ghost use Rattle.stn_store.specs.Store.{IsLack};
 use crate::beside::of_files;
 use crate::lock::{Lock, can_lock};
 use crate::place::{Place, resolve};
-use crate::reading::{read_log, read_text};
+use crate::reading::{are_these, read_log, read_text};
 use crate::store::Store;
 use std::alloc::Global;
 use std::fs::{self, File};
@@ -38,7 +38,7 @@ impl<'a, T> FileStore<'a, T> {
 }
 
 // What files hold, and how they fail, is known to no clause.
-impl<T: Files<File = File> + AllocGlobal> Store for FileStore<'_, T> {
+impl<T: Files<File = File> + AllocGlobal> Store<Global> for FileStore<'_, T> {
     ghost use Rattle.std.specs.Prelude.{None, ⊤};
     ghost use Rattle.std.specs.String.{string_bytes};
 
@@ -74,6 +74,10 @@ impl<T: Files<File = File> + AllocGlobal> Store for FileStore<'_, T> {
                 _ => Err(Failure::Failed(Fault::File)),
             },
         }
+    }
+
+    fn has(&self, path: &str, bytes: &[u8]) -> Result<bool, Failure> {
+        are_these(of_files(fs::open(self.rt, path))?, bytes)
     }
 
     fn load(&self, path: &str, site: Site) -> Result<SitePlan<Global>, Failure> {

@@ -1,13 +1,15 @@
-//! Logs and texts that stand under names, as files or in memory.
+//! What logs say, and the logs and texts that stand under names, as files or in memory.
 #![tactic(auto)]
 
 pub use files::FileStore;
+pub use log::{LoadFault, SaveFault, load, load_plan, one_log, save, save_plan, spell_log};
 pub use memory::MemoryStore;
 pub use store::Store;
 
 mod beside;
 mod files;
 mod lock;
+mod log;
 mod memory;
 mod place;
 mod reading;

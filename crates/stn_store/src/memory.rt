@@ -1,17 +1,13 @@
 //! Logs and texts in memory.
 
-ghost use Rattle.std.specs.Prelude.{◌≡◌, ◌++◌, [], ◌∷◌, option_map, OnOk, OnErr, IfOk, IfErr};
-ghost use Rattle.stn_log.specs.Log.{log_held, log_text};
+ghost use Rattle.std.specs.Prelude.{◌≡◌, ◌++◌, [], ◌∷◌, option_map, OnOk, OnErr};
 ghost use Rattle.stn_store.specs.Store.{bytes_under};
 ghost use Rattle.stn_store.specs.Memory.{entries_of};
-ghost use Rattle.stn_refusal.specs.declared.failure.Failure.TheVariants.{Failed};
-ghost use Rattle.stn_refusal.specs.declared.failure.Fault.TheVariants as lack;
 
+use crate::log::spell_log;
 use crate::reading::{read_log, read_text};
 use crate::store::Store;
-use std::alloc::Global;
-use stn_device::Counted;
-use stn_log::save_plan;
+use std::alloc::Allocator;
 use stn_records::Site;
 use stn_refusal::{Code, Failure, Fault};
 use stn_site::SitePlan;
@@ -19,27 +15,27 @@ use stn_time::Memory;
 
 // Bytes that were put under a name.
 #[derive(Drop)]
-struct NamedBytes {
-    name: String,
-    bytes: Vec<u8>,
+struct NamedBytes<A: Allocator> {
+    name: String<A>,
+    bytes: Vec<u8, A>,
 }
 
 /// The log of a name, which no other program sees.
 #[derive(Drop)]
-pub struct HeldName {
-    name: String,
+pub struct HeldName<A: Allocator> {
+    name: String<A>,
 }
 
 /// A store in memory: what was put under a name last stands there.
 #[derive(Drop)]
-pub struct MemoryStore {
-    alloc: Global,
-    entries: Vec<NamedBytes>,
+pub struct MemoryStore<A: Allocator> {
+    alloc: A,
+    entries: Vec<NamedBytes<A>, A>,
 }
 
-impl MemoryStore {
+impl<A: Allocator + Copy> MemoryStore<A> {
     /// A store in which nothing stands yet.
-    pub fn new(alloc: Global) -> MemoryStore
+    pub fn new(alloc: A) -> MemoryStore<A>
         ensures { entries_of result ≡ [] }
     {
         MemoryStore {
@@ -49,7 +45,7 @@ impl MemoryStore {
     }
 
     /// Puts bytes under a name, in place of what stood there. Without memory nothing changes.
-    pub fn put(&mut self, name: &str, bytes: Vec<u8>) -> Result<(), Memory>
+    pub fn put(&mut self, name: &str, bytes: Vec<u8, A>) -> Result<(), Memory>
         ensures put { OnOk result (entries_of self.new ≡ entries_of self.old ++ record { name = name.now; bytes = bytes.items } ∷ []) }
         ensures kept { OnErr result (entries_of self.new ≡ entries_of self.old) }
     {
@@ -70,21 +66,9 @@ impl MemoryStore {
         }
         found
     }
-
-    // The log of a site's copy of a plan.
-    fn spell(&self, plan: &SitePlan<Global>) -> Result<Vec<u8>, Failure>
-        ensures text { IfOk result (λ text. text.items ≡ log_text (log_held plan.now)) }
-        ensures failed { IfErr result (λ failure. failure ≡ Failed lack.Memory) }
-    {
-        let mut writer = Counted::new(Vec::new(self.alloc));
-        match save_plan(self.alloc, plan, &mut writer) {
-            Ok(()) => Ok(writer.into_inner()),
-            Err(_) => Err(Failure::Failed(Fault::Memory)),
-        }
-    }
 }
 
-impl Store for MemoryStore {
+impl<A: Allocator + Copy> Store<A> for MemoryStore<A> {
     ghost use Rattle.std.specs.Prelude.{Some};
     ghost use Rattle.std.specs.String.{string_bytes};
     ghost use Rattle.stn_refusal.specs.declared.failure.Fault.TheVariants.{Read};
@@ -95,11 +79,11 @@ impl Store for MemoryStore {
     ghost fails = { λ fault. fault ≡ Read };
 
     // No other program sees the memory of this one.
-    type Held = HeldName;
+    type Held = HeldName<A>;
 
     ghost held_name = { λ held. string_bytes held.name };
 
-    fn hold(&self, name: &str) -> Result<HeldName, Failure> {
+    fn hold(&self, name: &str) -> Result<HeldName<A>, Failure> {
         let name = String::from_str(self.alloc, name)?;
         Ok(HeldName { name })
     }
@@ -112,33 +96,40 @@ impl Store for MemoryStore {
         Ok(self.get(name).is_some())
     }
 
-    fn load(&self, name: &str, site: Site) -> Result<SitePlan<Global>, Failure> {
+    fn has(&self, name: &str, bytes: &[u8]) -> Result<bool, Failure> {
+        match self.get(name) {
+            Some(found) => Ok(found == bytes),
+            None => Err(Failure::Failed(Fault::File)),
+        }
+    }
+
+    fn load(&self, name: &str, site: Site) -> Result<SitePlan<A>, Failure> {
         match self.get(name) {
             Some(bytes) => read_log(self.alloc, bytes, site),
             None => Err(Failure::Failed(Fault::File)),
         }
     }
 
-    fn load_held(&self, held: &HeldName, site: Site) -> Result<SitePlan<Global>, Failure> {
+    fn load_held(&self, held: &HeldName<A>, site: Site) -> Result<SitePlan<A>, Failure> {
         self.load(held.name.as_str(), site)
     }
 
-    fn text(&self, name: &str) -> Result<Vec<u8>, Failure> {
+    fn text(&self, name: &str) -> Result<Vec<u8, A>, Failure> {
         match self.get(name) {
             Some(bytes) => read_text(self.alloc, bytes),
             None => Err(Failure::Failed(Fault::File)),
         }
     }
 
-    fn save_new(&mut self, held: &HeldName, plan: &SitePlan<Global>) -> Result<(), Failure> {
+    fn save_new(&mut self, held: &HeldName<A>, plan: &SitePlan<A>) -> Result<(), Failure> {
         if self.get(held.name.as_str()).is_some() {
             return Err(Failure::refused(Code::LogThere));
         }
         self.save(held, plan)
     }
 
-    fn save(&mut self, held: &HeldName, plan: &SitePlan<Global>) -> Result<(), Failure> {
-        let text = self.spell(plan)?;
+    fn save(&mut self, held: &HeldName<A>, plan: &SitePlan<A>) -> Result<(), Failure> {
+        let text = spell_log(self.alloc, plan)?;
         self.put(held.name.as_str(), text)?;
         Ok(())
     }

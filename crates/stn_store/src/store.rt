@@ -1,17 +1,17 @@
 //! Where commands find logs and texts, and leave logs.
 
 ghost use Rattle.std.specs.Prelude.{◌≡◌, ◌⊎◌, ℕ, false, List, Option, OnOk, OnErr, IfOk, IfErr};
-ghost use Rattle.stn_log.specs.Log.{log_held};
-ghost use Rattle.stn_store.specs.Store.{Entry, IsThere, Opens, IsUnopened, Spells, IsMissing, IsTaken, IsLack, saved_too};
+ghost use Rattle.stn_store.specs.Log.{log_held};
+ghost use Rattle.stn_store.specs.Store.{Entry, IsThere, Has, Opens, IsUnopened, Spells, IsMissing, IsTaken, IsLack, saved_too};
 ghost use Rattle.stn_refusal.specs.declared.failure.Fault.{Fault};
 
-use std::alloc::Global;
+use std::alloc::Allocator;
 use stn_records::Site;
 use stn_refusal::Failure;
 use stn_site::SitePlan;
 
 /// A store of logs and texts, each under a name. Several programs may use it at once.
-pub trait Store {
+pub trait Store<A: Allocator + Copy> {
     /// What was put under names, one after the other, where that is known.
     ghost entries: { Self → Option (List Entry) };
 
@@ -39,30 +39,35 @@ pub trait Store {
         ensures found { IfOk result (λ there. IsThere (entries self.now) name.now there) }
         ensures failed { IfErr result (IsLack fails) };
 
+    /// Whether the bytes under a name are these. Once they differ, no more is read.
+    fn has(&self, name: &str, bytes: &[u8]) -> Result<bool, Failure>
+        ensures told { IfOk result (λ has. Has (entries self.now) name.now bytes.now has) }
+        ensures failed { IfErr result (λ failure. IsMissing (entries self.now) name.now failure ⊎ IsLack fails failure) };
+
     /// A site's copy of a plan by its log.
-    fn load(&self, name: &str, site: Site) -> Result<SitePlan<Global>, Failure>
+    fn load(&self, name: &str, site: Site) -> Result<SitePlan<A>, Failure>
         ensures opened { IfOk result (λ plan. Opens (entries self.now) name.now site plan) }
         ensures failed { IfErr result (λ failure. IsUnopened (entries self.now) name.now failure ⊎ IsLack fails failure) };
 
     /// A site's copy of a plan by the log that is held.
-    fn load_held(&self, held: &Self::Held, site: Site) -> Result<SitePlan<Global>, Failure>
+    fn load_held(&self, held: &Self::Held, site: Site) -> Result<SitePlan<A>, Failure>
         ensures opened { IfOk result (λ plan. Opens (entries self.now) (held_name held.now) site plan) }
         ensures failed { IfErr result (λ failure. IsUnopened (entries self.now) (held_name held.now) failure ⊎ IsLack fails failure) };
 
     /// The text of a domain or a plan; of a longer one so much that it shows.
-    fn text(&self, name: &str) -> Result<Vec<u8>, Failure>
+    fn text(&self, name: &str) -> Result<Vec<u8, A>, Failure>
         ensures spelled { IfOk result (λ text. Spells (entries self.now) name.now text.items) }
         ensures failed { IfErr result (λ failure. IsMissing (entries self.now) name.now failure ⊎ IsLack fails failure) };
 
     /// Saves a site's copy of a plan as the log that is held, under a name that is free at that moment. What stands there stays.
-    fn save_new(&mut self, held: &Self::Held, plan: &SitePlan<Global>) -> Result<(), Failure>
+    fn save_new(&mut self, held: &Self::Held, plan: &SitePlan<A>) -> Result<(), Failure>
         ensures free { OnOk result (IsThere (entries self.old) (held_name held.now) false) }
         ensures saved { OnOk result (entries self.new ≡ saved_too (entries self.old) (held_name held.now) (log_held plan.now)) }
         ensures kept { OnErr result (entries self.new ≡ entries self.old) }
         ensures failed { IfErr result (λ failure. IsTaken (entries self.old) (held_name held.now) failure ⊎ IsLack fails failure) };
 
     /// Saves a site's copy of a plan as the log that is held. Where it can't be, the old one stays.
-    fn save(&mut self, held: &Self::Held, plan: &SitePlan<Global>) -> Result<(), Failure>
+    fn save(&mut self, held: &Self::Held, plan: &SitePlan<A>) -> Result<(), Failure>
         ensures saved { OnOk result (entries self.new ≡ saved_too (entries self.old) (held_name held.now) (log_held plan.now)) }
         ensures kept { OnErr result (entries self.new ≡ entries self.old) }
         ensures failed { IfErr result (IsLack fails) };

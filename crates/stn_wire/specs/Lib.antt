@@ -7,3 +7,4 @@ pub mod OldSides
 pub mod Reading
 pub mod Apart
 pub mod Failures
+pub mod Stream

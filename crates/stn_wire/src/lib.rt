@@ -1,5 +1,5 @@
 //! What two sites say to each other, as bytes: frames, each with one spelling, and the stream of
-//! frames that comes in pieces.
+//! frames that comes in pieces, also from a reader.
 #![tactic(auto)]
 
 pub use encoding::{encode, say};
@@ -8,6 +8,7 @@ pub use feeder::{Fed, Feeder};
 pub use frame::{Frame, Said};
 pub use front::decode;
 pub use laws::{old_sides, one_feeding, one_front, one_spelling, some_front};
+pub use stream::{FrameFault, FrameReader, Next, StreamFault};
 
 mod body;
 mod encoding;
@@ -23,6 +24,7 @@ mod layout;
 mod lists;
 mod source;
 mod state;
+mod stream;
 
 /// The greatest number of bytes in the body of a frame.
 pub const MOST_BODY: usize = 262_144;

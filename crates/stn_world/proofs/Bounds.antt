@@ -3,7 +3,7 @@ use Rattle.std.proofs.Common.{◌≡◌, ℕ, ℤ, None, sym, ◌∙◌, arith}
 use Rattle.std.proofs.{lemmas.Int.ints, lemmas.Int.by_lt_z, lemmas.Option.none-some}
 use Rattle.stn_net.specs.{Difference.Difference, Difference.NamesEvents, Difference.IsBoundWithin, Difference.IsFaultOf, declared.bound.BoundFault.BoundFault}
 use Rattle.stn_net.specs.declared.bound.BoundFault.TheVariants.{SameEvent, Crossed}
-use Rattle.stn_windows.specs.Rehearsal.{fixed_at}
+use Rattle.stn_net.specs.Windows.Rehearsal.{fixed_at}
 use Rattle.stn_lift.specs.PlanSource.{events_of}
 use Rattle.stn_records.specs.Id.{SiteCounter}
 use Rattle.stn_site.specs.{Held.Held, Refusals.add_refusal, Refusals.amend_refusal, Refusals.done_refusal}

@@ -3,6 +3,7 @@ pub mod Accepted
 pub mod Bounds
 pub mod Whole
 pub mod Sites
+pub mod Calls
 pub mod Pair
 pub mod Merges
 pub mod Sendings

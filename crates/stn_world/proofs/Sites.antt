@@ -1,16 +1,14 @@
 -- The replicas of a world, as they are made and as one of them changes.
 use Rattle.std.proofs.Common.{◌≡◌, true, false, ltb, not, is_some, Some, None, Option, ℕ, zero, suc, ◌+◌, ◌-◌, ◌<◌, ◌≤◌, List, [], ◌∷◌, ◌++◌, length, map, replicate, set, get_or, refl, ap, sym, ◌∙◌, arith, subst}
 use Rattle.std.proofs.{lemmas.Bool.false≢true, lemmas.List.FromFn.get_or-range_with_len, Math.Seq.map-set_same}
-use Rattle.std.proofs.lemmas.List.{get_or_default, map-append, map-set, set-get_or, length-set, length-append, get_or-map, length-map}
+use Rattle.std.proofs.lemmas.List.{get_or_default, map-append, map-set, length-set, length-append, get_or-map, length-map}
 use Rattle.std.specs.List.{range_with_len}
 use Rattle.stn_lift.specs.PlanSource.{PlanSource}
-use Rattle.stn_records.specs.Content.{Content, IsPart, no_content, with_record, with_amendment, with_tombstone, dispute_contents, join_contents, joined_contents}
-use Rattle.stn_records.specs.{ContentLaws.contents_dispute, ContentLaws.contents_undisputed, ContentLaws.contents_repeat, Id.SiteCounter, declared.record.Record.Record, Id.most_sites}
+use Rattle.stn_records.specs.Content.{Content, IsPart, no_content, dispute_contents, join_contents, joined_contents}
+use Rattle.stn_records.specs.{ContentLaws.contents_dispute, ContentLaws.contents_undisputed, ContentLaws.contents_repeat, Id.SiteCounter, Id.most_sites}
 use Rattle.stn_site.specs.Held.{Held, next_id}
-use Rattle.stn_net.specs.Difference.{Difference}
-use Rattle.stn_site.specs.Refusals.{add_refusal, done_refusal, amend_refusal, withdraw_refusal, take_refusal}
-use Rattle.stn_world.specs.World.{World, most_packets, HasSite, HasPacket, content_at, packet_at, held_at, next_id_at, with_content, make, amend, withdraw, send, deliver}
-use Rattle.stn_site.specs.Calls.{Accepted, added, amended, withdrew, took, Leaves}
+use Rattle.stn_site.specs.Refusals.{take_refusal}
+use Rattle.stn_world.specs.World.{World, most_packets, HasSite, HasPacket, content_at, packet_at, held_at, next_id_at, with_content, send}
 use Rattle.stn_world.specs.{Whole.IsSites, Whole.IsCoherent, Whole.IsSoundWorld, Sites.contents_of, Sites.world_of}
 use Rattle.stn_world.proofs.Whole.{coherent_at_first}
 
@@ -118,7 +116,7 @@ world_set {packets = packets} world source replicas place site one content is at
     ∙ ap (λ (w : World). with_content w site content) (sym is)))
 
 -- a replica as the world has it, but for the work that it has done
-held_is : (world : World) (site : ℕ) (one : Held) → IsHeldAt world site one → one ≡ record (held_at world site) { steps = one.steps }
+pub held_is : (world : World) (site : ℕ) (one : Held) → IsHeldAt world site one → one ≡ record (held_at world site) { steps = one.steps }
 held_is world site one held =
     ap (λ (n : ℕ). record { site = n; source = one.source; state = one.state; steps = one.steps }) held.number
     ∙ (ap (λ (s : PlanSource). record { site = site; source = s; state = one.state; steps = one.steps }) held.source
@@ -127,19 +125,7 @@ held_is world site one held =
 pub next_id_at-held : (world : World) (site : ℕ) (one : Held) → IsHeldAt world site one → next_id one ≡ next_id_at world site
 next_id_at-held world site one held = ap next_id (held_is world site one held)
 
--- what refuses a call of the replica refuses it at the site
-pub add_refusal_at : (world : World) (site : ℕ) (one : Held) (bound : Difference) → IsHeldAt world site one → add_refusal one bound ≡ add_refusal (held_at world site) bound
-add_refusal_at world site one bound held = ap (λ (h : Held). add_refusal h bound) (held_is world site one held)
-
-pub done_refusal_at : (world : World) (site : ℕ) (one : Held) (event : ℕ) → IsHeldAt world site one → done_refusal one event ≡ done_refusal (held_at world site) event
-done_refusal_at world site one event held = ap (λ (h : Held). done_refusal h event) (held_is world site one held)
-
-pub amend_refusal_at : (world : World) (site : ℕ) (one : Held) (old : SiteCounter) (bound : Difference) → IsHeldAt world site one → amend_refusal one old bound ≡ amend_refusal (held_at world site) old bound
-amend_refusal_at world site one old bound held = ap (λ (h : Held). amend_refusal h old bound) (held_is world site one held)
-
-pub withdraw_refusal_at : (world : World) (site : ℕ) (one : Held) (id : SiteCounter) → IsHeldAt world site one → withdraw_refusal one id ≡ withdraw_refusal (held_at world site) id
-withdraw_refusal_at world site one id held = ap (λ (h : Held). withdraw_refusal h id) (held_is world site one held)
-
+-- what refuses what the replica takes in refuses it at the site
 pub take_refusal_at : (world : World) (site : ℕ) (one : Held) (theirs other : Content) → IsHeldAt world site one → theirs ≡ other → take_refusal one theirs ≡ take_refusal (held_at world site) other
 take_refusal_at world site one theirs other held is = ap (λ (h : Held). take_refusal h theirs) (held_is world site one held) ∙ ap (take_refusal (held_at world site)) is
 
@@ -166,35 +152,6 @@ pub held_there : {packets : List Content} (world : World) (source : PlanSource) 
 held_there world source replicas place site one is sites at there same =
     subst (IsHeldAt world site) (sym same) (held_at_place world source replicas place site one (sym is) sites at there)
 
--- an addition at a site's replica is the world's
-pub made_there : {packets : List Content} (world : World) (source : PlanSource) (replicas : List Held) (place site : ℕ) (one new : Held) (id : SiteCounter) (record_of : Record)
-    → world_of source replicas packets ≡ world → place ≡ site - 1 → IsHeldAt world site one
-    → Leaves one (added id record_of) new
-    → world_of source (set replicas place new) packets ≡ make world site record_of
-made_there world source replicas place site one new id record_of is at held left =
-    world_set world source replicas place site new (with_record (content_at world site) (next_id_at world site) record_of) (sym is) at
-    (left.state.1 ∙ (ap (λ (c : Content). with_record c id record_of) held.state
-    ∙ ap (λ (i : SiteCounter). with_record (content_at world site) i record_of) (left.state.0 ∙ next_id_at-held world site one held)))
-
--- an amendment at a site's replica is the world's
-pub amended_there : {packets : List Content} (world : World) (source : PlanSource) (replicas : List Held) (place site : ℕ) (one new : Held) (id old : SiteCounter) (bound : Difference)
-    → world_of source replicas packets ≡ world → place ≡ site - 1 → IsHeldAt world site one
-    → Leaves one (amended id old bound) new
-    → world_of source (set replicas place new) packets ≡ amend world site old bound
-amended_there world source replicas place site one new id old bound is at held left =
-    world_set world source replicas place site new (with_amendment (content_at world site) (next_id_at world site) old bound) (sym is) at
-    (left.state.1 ∙ (ap (λ (c : Content). with_amendment c id old bound) held.state
-    ∙ ap (λ (i : SiteCounter). with_amendment (content_at world site) i old bound) (left.state.0 ∙ next_id_at-held world site one held)))
-
--- a withdrawal at a site's replica is the world's
-pub withdrawn_there : {packets : List Content} (world : World) (source : PlanSource) (replicas : List Held) (place site : ℕ) (one new : Held) (id : SiteCounter)
-    → world_of source replicas packets ≡ world → place ≡ site - 1 → IsHeldAt world site one
-    → Leaves one (withdrew id) new
-    → world_of source (set replicas place new) packets ≡ withdraw world site id
-withdrawn_there world source replicas place site one new id is at held left =
-    world_set world source replicas place site new (with_tombstone (content_at world site) id) (sym is) at
-    (left.state ∙ ap (λ (c : Content). with_tombstone c id) held.state)
-
 -- the packet at a number's place is the number's
 pub packet_there : {packets : List Content} (world : World) (source : PlanSource) (replicas : List Held) (place number : ℕ) (one : Content)
     → world_of source replicas packets ≡ world → place ≡ number - 1 → HasPacket world number → one ≡ get_or packets place one → one ≡ packet_at world number
@@ -204,15 +161,6 @@ packet_there {packets = packets} world source replicas place number one is at th
     let most : number ≤ length packets = subst (λ (l : List Content). number ≤ length l) packets_are there.most in
     let within : place < length packets = omega arith in
     same ∙ (get_or_default packets place one no_content within ∙ (ap (λ (l : List Content). get_or l place no_content) (sym packets_are) ∙ ap (λ k. get_or world.packets k no_content) at))
-
--- a take of a packet at a site's replica is the world's delivery
-pub delivered_there : {packets : List Content} (world : World) (source : PlanSource) (replicas : List Held) (place site number : ℕ) (one new : Held) (theirs : Content)
-    → world_of source replicas packets ≡ world → place ≡ site - 1 → IsHeldAt world site one → theirs ≡ packet_at world number
-    → Leaves one (took theirs) new
-    → world_of source (set replicas place new) packets ≡ deliver world site number
-delivered_there world source replicas place site number one new theirs is at held packet left =
-    world_set world source replicas place site new (joined_contents (content_at world site) (packet_at world number)) (sym is) at
-    (join_is_joined one.state theirs new.state left.state ∙ (ap (λ (c : Content). joined_contents c theirs) held.state ∙ ap (joined_contents (content_at world site)) packet))
 
 -- a world with a packet more
 pub sent_there : {packets : List Content} (world : World) (source : PlanSource) (replicas : List Held) (part theirs : Content)
@@ -230,29 +178,6 @@ sound_sent {packets = packets} world next source replicas theirs is sound room m
       omega (arith, length-append packets (theirs ∷ []), packets_are, room);
   coherent = subst IsCoherent (sym made) coherent;
 }
-
--- a replica that has changed, in a world that stays coherent
-pub sound_changed : {packets : List Content} (world next : World) (source : PlanSource) (replicas : List Held) (place : ℕ) (one new : Held) (call : Accepted)
-    → world_of source replicas packets ≡ world → IsSoundWorld source replicas packets → one ≡ get_or replicas place one → Leaves one call new
-    → world_of source (set replicas place new) packets ≡ next → IsCoherent next → IsSoundWorld source (set replicas place new) packets
-sound_changed world next source replicas place one new call is sound at left made coherent = record {
-  sites = sites_set source replicas place new one sound.sites (left.site ∙ ap (λ (r : Held). r.site) at) (left.source ∙ ap (λ (r : Held). r.source) at);
-  few = sound.few;
-  coherent = subst IsCoherent (sym made) coherent;
-}
-
--- a replica that has stayed as it was
-pub set_stayed : (replicas : List Held) (place : ℕ) (one new : Held) → one ≡ get_or replicas place one → new ≡ one → set replicas place new ≡ replicas
-set_stayed replicas place one new at same = ap (set replicas place) (same ∙ at) ∙ set-get_or replicas place one
-
-pub sound_stayed : {packets : List Content} (source : PlanSource) (replicas : List Held) (place : ℕ) (one new : Held) → IsSoundWorld source replicas packets → one ≡ get_or replicas place one → new ≡ one
-    → IsSoundWorld source (set replicas place new) packets
-sound_stayed {packets = packets} source replicas place one new sound at same = subst (λ (l : List Held). IsSoundWorld source l packets) (sym (set_stayed replicas place one new at same)) sound
-
-pub world_stayed : {packets : List Content} (world : World) (source : PlanSource) (replicas : List Held) (place : ℕ) (one new : Held) → world_of source replicas packets ≡ world
-    → one ≡ get_or replicas place one → new ≡ one → world_of source (set replicas place new) packets ≡ world
-world_stayed {packets = packets} world source replicas place one new is at same =
-    ap (λ (l : List Held). world_of source l packets) (set_stayed replicas place one new at same) ∙ is
 
 -- a replica of a list is of the plan that all of it are of
 pub first_source : (replicas : List Held) (source : PlanSource) (first : Held) → map (λ (replica : Held). replica.source) replicas ≡ replicate (length replicas) source

@@ -4,11 +4,11 @@ use crate::calls::sweep::{
 };
 use std::alloc::Global;
 use stn_device::Counted;
-use stn_log::{LoadFault, SaveFault, load, save};
 use stn_records::Site;
 use stn_refusing::Refusing;
 use stn_replica::Replica;
 use stn_session::{SendFault, send_requests};
+use stn_store::{LoadFault, SaveFault, load, save};
 
 /// The replica of site 1 by its log.
 pub fn opened<'a>(

@@ -1,8 +1,8 @@
 use std::alloc::Global;
 use std::io;
 use std::io::Error;
+use stn_lift::{Plan, PlanFault};
 use stn_pddl::{Domain, DomainFault};
-use stn_plan::{Plan, PlanFault};
 use stn_time::{Ms, TimeFault, print_millis};
 
 fn of_domain_fault(fault: DomainFault) -> (u8, usize) {

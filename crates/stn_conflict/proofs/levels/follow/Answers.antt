@@ -1,49 +1,50 @@
-use Rattle.std.proofs.Common.{◌≡◌, ◌+◌, ◌<◌, ◌≤◌, ◌∷◌, ◌++◌, [], None, length, take, refl, sym, ap, ◌∙◌, arith}
+use Rattle.std.proofs.Common.{◌≡◌, ℕ, Some, ◌+◌, ◌<◌, ◌≤◌, ◌∷◌, ◌++◌, [], None, length, take, refl, sym, ap, ◌∙◌, arith}
 use Rattle.std.proofs.{lemmas.Bool.false≢true, lemmas.List.get_or_read, lemmas.List.take_more, lemmas.List.take_all}
 use Rattle.std.specs.Prelude.{slice_index_or}
-use Rattle.stn_conflict.specs.{declared.levels.Walk.Walk, declared.links.Link.Link, declared.links.Side.TheVariants.Upper, Arcs.arc_of, Relaxation.row_of, Search.level_at, Search.LeadsOn}
-use Rattle.stn_conflict.proofs.{Tightness.link_among, Rows.row_is, Rows.in_row, levels.follow.Goals.then-leads_on+in_ok-push, levels.follow.Goals.else-leads_on}
+use Rattle.stn_conflict.specs.{declared.levels.Walk.Walk, declared.links.Link.Link, declared.links.Side.TheVariants.Upper, Arcs.arc_of, Relaxation.row_of, Search.event_at, Search.level_at, Search.LeadsOn}
+use Rattle.stn_conflict.proofs.{Tightness.link_among, Rows.row_is, Rows.in_row, levels.follow.Given.Over, levels.follow.Goals.then-leads_on+in_ok-push, levels.follow.Goals.else-leads_on}
 use Rattle.stn_conflict.proofs.Walks.{reached_at, level_there, level_low, following_begins, following_reaches, following_passes, following_ends}
 use Rattle.stn_conflict.proofs.levels.follow.Goals as goal
+use Rattle.stn_conflict.proofs.levels.follow.Goals.{After-from-event}
+
+-- the event at the place
+place_is : (g : Over) (c : After-from-event g) → c.from-event.result ≡ event_at c.args.walk.now.reached.items c.args.place
+place_is g c = c.from-event.ensures ∙ c.number.ensures.value ∙ get_or_read c.args.walk.now.reached.items _ _ c.requires.there c.index.ensures 0
+
+-- is one of those that have a level
+reached : (g : Over) (c : After-from-event g) → (i : ℕ) × (c.from-event.result < length c.args.far.now) × (level_at c.args.walk.now.levels.items c.from-event.result ≡ Some i)
+reached g c = reached_at c.args.bounds.now c.args.start (length c.args.far.now) c.args.place c.args.place c.from-event.result c.args.walk.now c.requires.walk c.requires.there (place_is g c)
 
 pub index-requires-2 : goal.index-requires-2
 index-requires-2 g c =
-    let walk = c.args.walk.now in
-    let event = c.from-event.ensures ∙ c.number.ensures.value ∙ get_or_read walk.reached.items _ _ c.requires.there c.index.ensures 0 in
-    let (i, within, at) = reached_at c.args.bounds.now c.args.start (length c.args.far.now) c.args.place c.args.place c.from-event.result walk c.requires.walk c.requires.there event in
-    omega (arith, within, c.requires.walk.whole, walk.levels.ok.0)
+    let (i, within, at) = reached g (goal.at.index-requires-2 g c).After-from-event in
+    omega (arith, within, c.requires.walk.whole, c.args.walk.now.levels.ok.0)
 
 pub unwrap-level-requires : goal.unwrap-level-requires
 unwrap-level-requires g c =
     let walk = c.args.walk.now in
-    let event = c.from-event.ensures ∙ c.number.ensures.value ∙ get_or_read walk.reached.items _ _ c.requires.there c.index.ensures 0 in
-    let (i, within, at) = reached_at c.args.bounds.now c.args.start (length c.args.far.now) c.args.place c.args.place c.from-event.result walk c.requires.walk c.requires.there event in
+    let (i, within, at) = reached g (goal.at.unwrap-level-requires g c).After-from-event in
     let below : c.from-event.result < length walk.levels.items = omega (arith, within, c.requires.walk.whole) in
-    let entry = get_or_read walk.levels.items _ _ below c.index-2.ensures None ∙ at in
-    rw entry refl
+    rw (get_or_read walk.levels.items _ _ below c.index-2.ensures None ∙ at) refl
 
 pub bounds-outgoing-event : goal.bounds-outgoing-event
 bounds-outgoing-event g c =
-    let walk = c.args.walk.now in
-    let event = c.from-event.ensures ∙ c.number.ensures.value ∙ get_or_read walk.reached.items _ _ c.requires.there c.index.ensures 0 in
-    let (i, within, at) = reached_at c.args.bounds.now c.args.start (length c.args.far.now) c.args.place c.args.place c.from-event.result walk c.requires.walk c.requires.there event in
+    let (i, within, at) = reached g (goal.at.bounds-outgoing-event g c).After-from-event in
     omega (arith, within, c.requires.rows.long)
 
 pub offset_bounds-outgoing-event : goal.offset_bounds-outgoing-event
 offset_bounds-outgoing-event g c =
-    let walk = c.args.walk.now in
-    let event = c.from-event.ensures ∙ c.number.ensures.value ∙ get_or_read walk.reached.items _ _ c.requires.there c.index.ensures 0 in
-    let (i, within, at) = reached_at c.args.bounds.now c.args.start (length c.args.far.now) c.args.place c.args.place c.from-event.result walk c.requires.walk c.requires.there event in
+    let (i, within, at) = reached g (goal.at.offset_bounds-outgoing-event g c).After-from-event in
     omega (arith, within, c.requires.rows.long)
 
 pub loop-link-init : goal.loop-link-init
 loop-link-init g c =
     let walk = c.args.walk.now in
-    let event = c.from-event.ensures ∙ c.number.ensures.value ∙ get_or_read walk.reached.items _ _ c.requires.there c.index.ensures 0 in
-    let (i, within, at) = reached_at c.args.bounds.now c.args.start (length c.args.far.now) c.args.place c.args.place c.from-event.result walk c.requires.walk c.requires.there event in
+    let at_place = (goal.at.loop-link-init g c).After-from-event in
+    let (i, within, at) = reached g at_place in
     let below : c.from-event.result < length walk.levels.items = omega (arith, within, c.requires.walk.whole) in
     let entry = get_or_read walk.levels.items _ _ below c.index-2.ensures None in
-    following_begins c.args.bounds.now c.args.start (length c.args.far.now) c.args.place c.unwrap-level.result c.from-event.result _ walk c.requires.walk c.requires.there (sym event)
+    following_begins c.args.bounds.now c.args.start (length c.args.far.now) c.args.place c.unwrap-level.result c.from-event.result _ walk c.requires.walk c.requires.there (sym (place_is g at_place))
     (sym entry ∙ c.unwrap-level.ensures) refl
 
 pub overflow_add-level : goal.overflow_add-level

@@ -6,16 +6,6 @@ use Rattle.stn_conflict.specs.Arcs.{arc_of}
 use Rattle.stn_conflict.proofs.{Tightness.link_among, Steps.sum_test, Steps.tight_decided}
 use Rattle.stn_conflict.proofs.levels.is_tight.Goals as goal
 
-pub bounds-far-from : goal.bounds-far-from
-bounds-far-from c =
-    let ends = link_among c.args.bounds.now (length c.args.far.now) c.args.link c.requires.far.named c.requires.there in
-    rw (c.from.ensures, c.number.ensures.value, c.arc-arc.ensures.from) ends.0
-
-pub bounds-far-from-2 : goal.bounds-far-from-2
-bounds-far-from-2 c =
-    let ends = link_among c.args.bounds.now (length c.args.far.now) c.args.link c.requires.far.named c.requires.there in
-    rw (c.from-2.ensures, c.number-2.ensures.value, c.arc-arc.ensures.to) ends.1
-
 pub returns : goal.returns
 returns c =
     let bounds = c.args.bounds.now in

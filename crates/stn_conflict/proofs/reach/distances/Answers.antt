@@ -1,22 +1,22 @@
-use Rattle.std.proofs.Common.{refl, sym, arith}
+use Rattle.std.proofs.Common.{ℕ, ◌+◌, List, refl, sym, arith}
 use Rattle.std.proofs.lemmas.Bool.{false≢true}
-use Rattle.std.specs.Prelude.{◌+◌, ◌++◌}
-use Rattle.stn_net.specs.Schedule.{HasSchedule}
-use Rattle.stn_conflict.specs.Distances.{AreDistancesFrom}
+use Rattle.std.specs.Prelude.{◌++◌}
+use Rattle.stn_net.specs.{Difference.Difference, Schedule.HasSchedule}
+use Rattle.stn_conflict.specs.{declared.relaxation.Search.Search, Distances.AreDistancesFrom, Relaxation.AreDistances, Relaxation.HasTables}
 use Rattle.stn_conflict.proofs.{Relaxing.network_of, Turned.network_turned, Turned.has_turned, Turned.distances_of_turned, Turned.rows_turned}
 use Rattle.stn_conflict.proofs.reach.distances.Goals as goal
 
-pub distances_from-requires-clause-network : goal.distances_from-requires-clause-network
-distances_from-requires-clause-network g c =
+pub found-requires-clause-network : goal.found-requires-clause-network
+found-requires-clause-network g c =
     rw c.new-onward.ensures (network_of c.args.events c.args.base.now c.args.extra.now c.requires.begins c.requires.base_named c.requires.extra_named)
 
-pub distances_from-requires-2-clause-network : goal.distances_from-requires-2-clause-network
-distances_from-requires-2-clause-network g c =
+pub found-requires-2-clause-network : goal.found-requires-2-clause-network
+found-requires-2-clause-network g c =
     rw c.new-back.ensures (network_turned c.args.events (c.args.base.now ++ c.args.extra.now)
     (network_of c.args.events c.args.base.now c.args.extra.now c.requires.begins c.requires.base_named c.requires.extra_named))
 
-pub distances_from-requires-2-clause-rows : goal.distances_from-requires-2-clause-rows
-distances_from-requires-2-clause-rows g c =
+pub found-requires-2-clause-rows : goal.found-requires-2-clause-rows
+found-requires-2-clause-rows g c =
     rw (c.new-back.ensures, c.deref-2.ensures.value) (rows_turned (c.args.base.now ++ c.args.extra.now) (c.args.events + 1) c.in_ok-outgoing.outgoing.items
     (rw c.new-onward.ensures at c.in_ok-outgoing.ensures))
 
@@ -26,15 +26,23 @@ returns-in_default-2-clause-none g c =
     let refused : ¬ HasSchedule c.new-back.result = rw c.in_default-2.is at c.in_ok-to.ensures in
     (λ e has. refused (rw c.new-back.ensures (has_turned bounds has)), λ e. refl)
 
+-- the distances that a search has found
+distances_of : {A : Type 0} (bounds : List Difference) (events event : ℕ) (search : Search A) → HasTables (events + 1) search × AreDistances bounds event search.far.items
+    → AreDistancesFrom bounds events event search.far.items
+distances_of bounds events event search (tables, far) = record { long = tables.far; tightest = λ x xs. far.tightest x (omega (arith, tables.far)) }
+
 pub returns-clause-none : goal.returns-clause-none
 returns-clause-none g c =
-    let far : AreDistancesFrom c.new-onward.result c.args.events c.args.event c.in-Some.from.items = rw c.in-Some.is at c.in_ok-from.ensures in
+    let far : AreDistancesFrom c.new-onward.result c.args.events c.args.event c.in-Some.from.far.items = distances_of _ _ _ _ (rw c.in-Some.is at c.in_ok-from.ensures) in
     let (time, s, at) = (far.tightest 0 (omega arith)).attained in
     let has : HasSchedule c.new-onward.result = (time, s) in
     ((λ e has. absurd (false≢true (sym e))), (λ none. absurd (none (rw c.new-onward.ensures at has))))
 
+pub returns-clause-from : goal.returns-clause-from
+returns-clause-from g c = rw c.new-onward.ensures at (distances_of c.new-onward.result c.args.events c.args.event c.in-Some.from (rw c.in-Some.is at c.in_ok-from.ensures))
+
 pub returns-clause-to : goal.returns-clause-to
 returns-clause-to g c =
     let bounds = c.args.base.now ++ c.args.extra.now in
-    let far : AreDistancesFrom c.new-back.result c.args.events c.args.event c.in-Some-2.to.items = rw c.in-Some-2.is at c.in_ok-to.ensures in
-    distances_of_turned bounds c.args.events c.args.event c.in-Some-2.to.items (rw c.new-back.ensures at far)
+    let far : AreDistancesFrom c.new-back.result c.args.events c.args.event c.in-Some-2.to.far.items = distances_of _ _ _ _ (rw c.in-Some-2.is at c.in_ok-to.ensures) in
+    distances_of_turned bounds c.args.events c.args.event c.in-Some-2.to.far.items (rw c.new-back.ensures at far)

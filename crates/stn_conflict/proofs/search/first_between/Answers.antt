@@ -2,22 +2,8 @@ use Rattle.std.proofs.Common.{◌≡◌, ◌+◌, ◌-◌, ◌/◌, ◌∙◌, l
 use Rattle.std.proofs.lemmas.Bool.{false≢true}
 use Rattle.stn_net.specs.Schedule.{HasSchedule}
 use Rattle.stn_conflict.specs.Relaxation.{HasTables}
-use Rattle.stn_conflict.proofs.{Known.more_than_known, Relaxing.estimates_of_more, Rows.rows_before}
+use Rattle.stn_conflict.proofs.{Relaxing.estimates_of_more, Rows.rows_before}
 use Rattle.stn_conflict.proofs.search.first_between.Goals as goal
-
-pub loop-high-init : goal.loop-high-init
-loop-high-init g c =
-    let (more, first, last) = more_than_known c.args.events c.args.bounds.now c.requires.begins c.requires.none in
-    rw (c.from-low.ensures, c.len-high.ensures) (record {
-      known = c.requires.known;
-      long = c.requires.long;
-      tables = c.requires.tables;
-      past = omega arith;
-      apart = more;
-      within = omega arith;
-      has = first;
-      none = last;
-    })
 
 pub settle-requires : goal.settle-requires
 settle-requires g c =

@@ -4,12 +4,6 @@ use Rattle.stn_conflict.specs.Relaxation.{HasTables}
 use Rattle.stn_conflict.proofs.{Relaxing.network_known, Relaxing.network_before, Searches.tables_of}
 use Rattle.stn_conflict.proofs.search.first_refused.Goals as goal
 
-pub begin-requires : goal.begin-requires
-begin-requires g c = record {
-  tables = tables_of _ _ c.requires.tables;
-  start = omega (arith, c.requires.tables.far, c.origin.ensures);
-}
-
 pub settle-requires : goal.settle-requires
 settle-requires g c =
     let long : length c.begin.new.self.far.items ≡ c.args.events + 1 = c.begin.ensures.tables.far ∙ c.requires.tables.far in

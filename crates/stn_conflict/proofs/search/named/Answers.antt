@@ -32,15 +32,6 @@ way_back-requires g c =
       end = ends.0;
     })
 
-pub index-requires : goal.index-requires
-index-requires g c =
-    let bounds = c.args.bounds.now in
-    let side = c.refused_side-side in
-    let link : Link = record { place = c.args.place; side = side.result } in
-    let below = (link_among bounds (length side.new.search.far.items) link (among_events bounds c.args.events _ side.ensures.tables.far c.requires.named) c.requires.first.there).0 in
-    let place : c.from.result ≡ (arc_of bounds link).from = c.from.ensures ∙ c.number.ensures.value ∙ c.arc-arc.ensures.from in
-    rw (place, side.new.search.far.ok.0) below
-
 pub returns : goal.returns
 returns g c =
     let bounds = c.args.bounds.now in

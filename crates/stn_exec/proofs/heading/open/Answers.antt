@@ -7,33 +7,16 @@ use Rattle.stn_exec.specs.{Heading.seen_part, Heading.seen_base, Script.based, S
 use Rattle.stn_exec.proofs.Scripts.{fails_first, heading-fault, heading-unopened, heading-made, sites_of-some}
 use Rattle.stn_exec.proofs.heading.open.Goals as goal
 
-pub returns-in_err-base : goal.returns-in_err-base
-returns-in_err-base g c =
+pub returns-in_err-base-clause-refused : goal.returns-in_err-base-clause-refused
+returns-in_err-base-clause-refused g c =
     let returned = err_from_is_err_and c.from_residual.result c.from_residual.ensures.1 in
-    record {
-      opened = rw returned.1 tt;
-      within = rw returned.1 tt;
-      refused = rw (returned.1, returned.2) (fails_first (based c.args.last (lines_of c.args.script.now)) (with_sites c.args.last) c.in_err-base.field-0.0 c.in_err-base.ensures.refused);
-    }
+    rw (returned.1, returned.2) (fails_first (based c.args.last (lines_of c.args.script.now)) (with_sites c.args.last) c.in_err-base.field-0.0 c.in_err-base.ensures.refused)
 
-pub returns-in_err-sites : goal.returns-in_err-sites
-returns-in_err-sites g c =
+pub returns-in_err-sites-clause-refused : goal.returns-in_err-sites-clause-refused
+returns-in_err-sites-clause-refused g c =
     let returned = err_from_is_err_and c.from_residual-in_err-sites.result c.from_residual-in_err-sites.ensures.1 in
-    record {
-      opened = rw returned.1 tt;
-      within = rw returned.1 tt;
-      refused = rw (returned.1, returned.2) (inr (heading-fault c.args.last (lines_of c.args.script.now) (seen_base c.in_ok-base.base c.in_ok-base.behind) c.in_err-sites.field-0.0
-          c.in_ok-base.ensures.base (sym c.in_err-sites.ensures.part)));
-    }
-
-pub returns-in_err-new : goal.returns-in_err-new
-returns-in_err-new g c =
-    let returned = err_from_is_err_and c.from_residual-in_err-new.result c.from_residual-in_err-new.ensures.1 in
-    record {
-      opened = rw returned.1 tt;
-      within = rw returned.1 tt;
-      refused = rw (returned.1, returned.2) (inl refl);
-    }
+    rw (returned.1, returned.2) (inr (heading-fault c.args.last (lines_of c.args.script.now) (seen_base c.in_ok-base.base c.in_ok-base.behind) c.in_err-sites.field-0.0
+    c.in_ok-base.ensures.base (sym c.in_err-sites.ensures.part)))
 
 pub returns-in-Ok : goal.returns-in-Ok
 returns-in-Ok g c =

@@ -3,7 +3,7 @@ use Rattle.std.proofs.KnownBytes.{Keeps-refl}
 use Rattle.stn_device.specs.Counted.{counted_device, failure_count}
 use Rattle.stn_exec.specs.{Running.IsRun, Script.script_outcome}
 use Rattle.stn_exec.proofs.Scripts.{part-nil, IfSome-all}
-use Rattle.stn_exec.proofs.Runs.{counts_more, read_not_write, read_not_bound, bound_not_read, bound_not_write, memory_not_read, memory_not_write, memory_not_bound, bound_kept, memory_kept, ok_not_err, on_ok, ran_whole, part_written, count_kept}
+use Rattle.stn_exec.proofs.Runs.{counts_more, ok_not_err, on_ok, ran_whole, part_written, count_kept}
 use Rattle.stn_exec.proofs.script.run.Goals as goal
 
 pub returns-in-Ok : goal.returns-in-Ok
@@ -37,8 +37,8 @@ returns-in-Err-Read g c = record {
   ran = tt;
   end = tt;
   read = λ _. counts_more (failure_count c.args.reader.now) (failure_count c.read_whole.new.reader) (c.in-Err-Read.ensures.read (ap Err c.in-Err-Read.field-0-is)) c.requires.reader_counts;
-  write = λ other. absurd (read_not_write _ refl other);
-  bound = λ other. absurd (read_not_bound _ refl other);
+  write = λ other. absurd (cc);
+  bound = λ other. absurd (cc);
   read_unwritten = λ _. Keeps-refl _;
   bound_unwritten = λ _. Keeps-refl _;
   part = IfSome-all _ _ (λ script. part-nil _ (script_outcome script).replies);
@@ -51,13 +51,13 @@ pub returns-in-Err-Bound : goal.returns-in-Err-Bound
 returns-in-Err-Bound g c = record {
   ran = tt;
   end = tt;
-  read = λ other. absurd (bound_not_read _ refl other);
-  write = λ other. absurd (bound_not_write _ refl other);
+  read = λ other. absurd (cc);
+  write = λ other. absurd (cc);
   bound = λ _. c.in-Err-Bound.ensures.bound (ap Err c.in-Err-Bound.field-0-is);
   read_unwritten = λ _. Keeps-refl _;
   bound_unwritten = λ _. Keeps-refl _;
   part = IfSome-all _ _ (λ script. part-nil _ (script_outcome script).replies);
-  reader_kept = λ _. c.in-Err-Bound.ensures.kept (bound_kept _ _ refl c.in-Err-Bound.field-0-is);
+  reader_kept = λ _. let is = c.in-Err-Bound.field-0-is in c.in-Err-Bound.ensures.kept (λ other. cc);
   writer_kept = λ _. refl;
   used = c.read_whole.ensures.used;
 }
@@ -66,13 +66,13 @@ pub returns-in-Err-Memory : goal.returns-in-Err-Memory
 returns-in-Err-Memory g c = record {
   ran = tt;
   end = tt;
-  read = λ other. absurd (memory_not_read _ refl other);
-  write = λ other. absurd (memory_not_write _ refl other);
-  bound = λ other. absurd (memory_not_bound _ refl other);
+  read = λ other. absurd (cc);
+  write = λ other. absurd (cc);
+  bound = λ other. absurd (cc);
   read_unwritten = λ _. Keeps-refl _;
   bound_unwritten = λ _. Keeps-refl _;
   part = IfSome-all _ _ (λ script. part-nil _ (script_outcome script).replies);
-  reader_kept = λ _. c.in-Err-Memory.ensures.kept (memory_kept _ _ refl c.in-Err-Memory.field-0-is);
+  reader_kept = λ _. let is = c.in-Err-Memory.field-0-is in c.in-Err-Memory.ensures.kept (λ other. cc);
   writer_kept = λ _. refl;
   used = c.read_whole.ensures.used;
 }

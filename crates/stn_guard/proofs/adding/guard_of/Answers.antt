@@ -2,7 +2,7 @@ use Rattle.std.proofs.Common.{◌≡◌, ℕ, ◌+◌, length, map, sym, ap, sub
 use Rattle.std.specs.{List.range_with_len, Prelude.All}
 use Rattle.std.proofs.{lemmas.Option.MatchOption-at_some, lemmas.List.FromFn.length-map-range_with_len}
 use Rattle.stn_net.specs.{Difference.NamesEvents, Schedule.HasSchedule}
-use Rattle.stn_matrix.specs.Tightest.{IsExact}
+use Rattle.stn_net.specs.Matrix.Tightest.{IsExact}
 use Rattle.stn_lift.specs.PlanSource.{events_of, base_bounds}
 use Rattle.stn_site.specs.Bounds.{all_bounds}
 use Rattle.stn_site.proofs.Printing.{if_some}

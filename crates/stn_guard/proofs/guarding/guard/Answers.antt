@@ -2,7 +2,7 @@ use Rattle.std.proofs.Common.{◌≡◌, ◌+◌, List, ◌++◌, length, subst,
 use Rattle.std.specs.Vec.{with_items}
 use Rattle.std.proofs.lemmas.List.{with_items_is}
 use Rattle.stn_net.specs.Difference.{Difference}
-use Rattle.stn_matrix.specs.Table.{far_of}
+use Rattle.stn_net.specs.Matrix.Table.{far_of}
 use Rattle.stn_guard.specs.{Owners.owner_of, Guard.Guards, Making.shared_arcs, Making.AreWindows, Making.IsGuardOf, Splitting.windows_of}
 use Rattle.stn_guard.proofs.Made.{made_guard, made_windows}
 use Rattle.stn_guard.proofs.Whole.{can_first, can_second, exact_after, owned_front, owned_behind, AreNamed, noted, whole_guard, if_ok, begins_both}

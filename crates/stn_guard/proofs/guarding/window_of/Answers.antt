@@ -1,6 +1,6 @@
 use Rattle.std.proofs.Common.{ap, ◌∙◌}
-use Rattle.stn_matrix.specs.Table.{far_of}
-use Rattle.stn_windows.proofs.Windows.{window_of_exact}
+use Rattle.stn_net.specs.Matrix.Table.{far_of}
+use Rattle.stn_net.proofs.WindowEnds.{window_of_exact}
 use Rattle.stn_guard.specs.{Making.window_bound, Splitting.ends_of}
 use Rattle.stn_guard.proofs.{Split.window_ordered, OneGuard.one_pair}
 use Rattle.stn_guard.proofs.guarding.window_of.Goals as goal

@@ -1,5 +1,5 @@
 use Rattle.std.proofs.Common.{◌≡◌, ◌-◌}
-use Rattle.stn_matrix.specs.Table.{far_of}
+use Rattle.stn_net.specs.Matrix.Table.{far_of}
 use Rattle.stn_guard.specs.Splitting.{windows_of}
 use Rattle.stn_guard.proofs.guarding.windows.Given as goal
 

@@ -2,12 +2,13 @@ use Rattle.std.proofs.Common.{◌≡◌, ◌≤◌, ◌∙◌, length, map, Ok, 
 use Rattle.std.proofs.{lemmas.List.length-map, lemmas.Result.err_from_is_err_and}
 use Rattle.stn_text.specs.Faults.{Fails}
 use Rattle.stn_net.specs.Event.{most_steps}
-use Rattle.stn_tree.specs.Scan.{most_text}
+use Rattle.stn_pddl.specs.Tree.Scan.{most_text}
 use Rattle.stn_pddl.specs.Domains.{domain_of}
-use Rattle.stn_plan.specs.Steps.{plan_of}
-use Rattle.stn_lift.specs.{Activities.activities, Activities.is_memory, Views.numbers_of}
-use Rattle.stn_lift.proofs.{LiftedBase.few_found, LiftedBase.is_whole, LiftedBase.base_lifted, Steps.cause_of, Texts.texts_lifted}
+use Rattle.stn_lift.specs.Plan.Steps.{plan_of}
+use Rattle.stn_lift.specs.{Activities.activities, Activities.is_memory, PlanSource.files, PlanSource.IsBase, Timelines.IsWhole, Timelines.numbered_bounds, Views.numbers_of}
+use Rattle.stn_lift.proofs.{LiftedBase.few_found, LiftedBase.is_whole, LiftedBase.base_lifted, Steps.cause_of, Texts.texts_lifted, base.lift.Given.Over}
 use Rattle.stn_lift.proofs.base.lift.Goals as goal
+use Rattle.stn_lift.proofs.base.lift.Goals.{In_ok-timeline, In_ok-from_slice-2}
 
 pub returns-in_err-timeline-clause-cause : goal.returns-in_err-timeline-clause-cause
 returns-in_err-timeline-clause-cause g c =
@@ -15,71 +16,64 @@ returns-in_err-timeline-clause-cause g c =
     let fails : Fails is_memory c.in_err-timeline.field-0.0 (activities c.args.domain.now.actions 0 c.args.plan.now.steps) = rw (← c.steps.ensures.steps) c.in_err-timeline.ensures.fault in
     rw (returned.1, returned.2) (cause_of c.args.domain.now.actions c.args.plan.now.steps c.in_err-timeline.field-0.0 fails)
 
-pub bounds-requires : goal.bounds-requires
-bounds-requires g c =
+-- the steps that were found, and how few they are
+found : (g : Over) (c : In_ok-timeline g)
+    → (activities c.args.domain.now.actions 0 c.args.plan.now.steps ≡ Ok c.in_ok-timeline.ensures.made.0) × (length c.in_ok-timeline.ensures.made.0 ≤ most_steps)
+found g c =
     let made = c.in_ok-timeline.ensures.made in
-    let planned = c.args.plan.now.steps in
     let actions = c.args.domain.now.actions in
-    let found : activities actions 0 planned ≡ Ok made.0 = rw c.steps.ensures.steps at made.1 in
-    let few : length planned ≤ most_steps = rw (← c.steps.ensures.steps, length-map) c.steps.ensures.few in
-    let small = few_found actions planned made.0 found few in
-    is_whole made.0 c.in_ok-timeline.timeline.durations.items c.in_ok-timeline.timeline.times.items (map numbers_of c.in_ok-timeline.timeline.footprints.items) made.2 small
+    let planned = c.args.plan.now.steps in
+    let is : activities actions 0 planned ≡ Ok made.0 = rw c.steps.ensures.steps at made.1 in
+    (is, few_found actions planned made.0 is (rw (← c.steps.ensures.steps, length-map) c.steps.ensures.few))
+
+whole : (g : Over) (c : In_ok-timeline g)
+    → IsWhole c.in_ok-timeline.timeline.durations.items c.in_ok-timeline.timeline.times.items (map numbers_of c.in_ok-timeline.timeline.footprints.items)
+whole g c =
+    let made = c.in_ok-timeline.ensures.made in
+    is_whole made.0 c.in_ok-timeline.timeline.durations.items c.in_ok-timeline.timeline.times.items (map numbers_of c.in_ok-timeline.timeline.footprints.items) made.2 (found g c).1
+
+pub bounds-requires : goal.bounds-requires
+bounds-requires g c = whole g (goal.at.bounds-requires g c).In_ok-timeline
 
 pub overflow_cast-result : goal.overflow_cast-result
-overflow_cast-result g c =
-    let made = c.in_ok-timeline.ensures.made in
-    let planned = c.args.plan.now.steps in
-    let actions = c.args.domain.now.actions in
-    let found : activities actions 0 planned ≡ Ok made.0 = rw c.steps.ensures.steps at made.1 in
-    let few : length planned ≤ most_steps = rw (← c.steps.ensures.steps, length-map) c.steps.ensures.few in
-    let small = few_found actions planned made.0 found few in
-    let whole = is_whole made.0 c.in_ok-timeline.timeline.durations.items c.in_ok-timeline.timeline.times.items (map numbers_of c.in_ok-timeline.timeline.footprints.items) made.2 small in
-    omega (arith, c.len.ensures, whole.few)
+overflow_cast-result g c = omega (arith, c.len.ensures, (whole g (goal.at.overflow_cast-result g c).In_ok-timeline).few)
 
-pub invariant_of-result : goal.invariant_of-result
-invariant_of-result g c =
+-- they make a base of the two texts
+based : (g : Over) (c : In_ok-from_slice-2 g)
+    → IsBase (files c.in_ok-from_slice.field-0.items c.in_ok-from_slice-2.field-0.items) (length c.in_ok-timeline.timeline.durations.items)
+    (numbered_bounds c.in_ok-timeline.timeline.durations.items c.in_ok-timeline.timeline.times.items (map numbers_of c.in_ok-timeline.timeline.footprints.items)) c.in_ok-timeline.timeline.times.items
+based g c =
     let made = c.in_ok-timeline.ensures.made in
-    let planned = c.args.plan.now.steps in
-    let actions = c.args.domain.now.actions in
-    let found : activities actions 0 planned ≡ Ok made.0 = rw c.steps.ensures.steps at made.1 in
-    let few : length planned ≤ most_steps = rw (← c.steps.ensures.steps, length-map) c.steps.ensures.few in
-    let small = few_found actions planned made.0 found few in
+    let timeline = c.in_ok-timeline.timeline in
     let domain = c.in_ok-from_slice.field-0.items in
     let plan = c.in_ok-from_slice-2.field-0.items in
+    let actions = c.args.domain.now.actions in
+    let planned = c.args.plan.now.steps in
+    let (is, small) = found g (goal.at.In_ok-from_slice-2 g c).In_ok-timeline in
     let domain_is : domain_of domain ≡ Ok actions = rw c.in_ok-from_slice.ensures.items c.text.ensures.given in
     let plan_is : plan_of plan ≡ Ok planned = rw (c.in_ok-from_slice-2.ensures.items, c.text-2.ensures.text) c.steps.ensures.given in
     let short_domain : length domain ≤ most_text = rw c.in_ok-from_slice.ensures.items c.text.ensures.short in
     let short_plan : length plan ≤ most_text = rw c.in_ok-from_slice-2.ensures.items c.text-2.ensures.short in
-    let base = base_lifted made.0 c.in_ok-timeline.timeline.durations.items c.in_ok-timeline.timeline.times.items (map numbers_of c.in_ok-timeline.timeline.footprints.items) made.2
-    domain plan actions planned domain_is plan_is found small short_domain short_plan in
+    base_lifted made.0 timeline.durations.items timeline.times.items (map numbers_of timeline.footprints.items) made.2 domain plan actions planned domain_is plan_is is small short_domain short_plan
+
+pub invariant_of-result : goal.invariant_of-result
+invariant_of-result g c =
     let durations = c.in_ok-timeline.timeline.durations in
     let counted : c.len.result ≡ length durations.items = omega (arith, c.len.ensures, durations.ok.0) in
-    rw (counted, c.in_ok-bounds.ensures) base
+    rw (counted, c.in_ok-bounds.ensures) (based g (goal.at.invariant_of-result g c).In_ok-from_slice-2)
 
 pub returns : goal.returns
 returns g c =
     let made = c.in_ok-timeline.ensures.made in
-    let planned = c.args.plan.now.steps in
     let actions = c.args.domain.now.actions in
-    let found : activities actions 0 planned ≡ Ok made.0 = rw c.steps.ensures.steps at made.1 in
-    let few : length planned ≤ most_steps = rw (← c.steps.ensures.steps, length-map) c.steps.ensures.few in
-    let small = few_found actions planned made.0 found few in
-    let durations = c.in_ok-timeline.timeline.durations.items in
-    let times = c.in_ok-timeline.timeline.times.items in
-    let numbers = map numbers_of c.in_ok-timeline.timeline.footprints.items in
-    let domain = c.in_ok-from_slice.field-0.items in
-    let plan = c.in_ok-from_slice-2.field-0.items in
-    let domain_is : domain_of domain ≡ Ok actions = rw c.in_ok-from_slice.ensures.items c.text.ensures.given in
-    let plan_is : plan_of plan ≡ Ok planned = rw (c.in_ok-from_slice-2.ensures.items, c.text-2.ensures.text) c.steps.ensures.given in
-    let short_domain : length domain ≤ most_text = rw c.in_ok-from_slice.ensures.items c.text.ensures.short in
-    let short_plan : length plan ≤ most_text = rw c.in_ok-from_slice-2.ensures.items c.text-2.ensures.short in
-    let base = base_lifted made.0 durations times numbers made.2 domain plan actions planned domain_is plan_is found small short_domain short_plan in
+    let (is, small) = found g (goal.at.returns g c).In_ok-timeline in
+    let base = based g (goal.at.returns g c).In_ok-from_slice-2 in
     let given_domain : domain_of c.args.domain.now.text ≡ Ok actions = rw (← c.text.ensures.text) c.text.ensures.given in
     record {
       made = search rules;
       given = search rules;
       cause = tt;
-      steps = found ∙ ap Ok (sym (texts_lifted c.args.domain.now.text c.args.plan.now.text actions planned made.0 given_domain c.steps.ensures.given found));
+      steps = is ∙ ap Ok (sym (texts_lifted c.args.domain.now.text c.args.plan.now.text actions c.args.plan.now.steps made.0 given_domain c.steps.ensures.given is));
       possible = base.sound.possible;
       ordered = base.sound.ordered;
       sound = base.sound;

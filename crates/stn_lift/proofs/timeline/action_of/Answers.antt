@@ -3,7 +3,7 @@ use Rattle.std.specs.Prelude.{◌<ℤ◌, int_lt}
 use Rattle.std.proofs.{lemmas.Bool.eq-eqb, lemmas.Bool.ne_eqb, lemmas.Int.ints}
 use Rattle.stn_time.specs.Time.{horizon}
 use Rattle.stn_pddl.specs.{Schemas.ActionSchema, Domains.action_named}
-use Rattle.stn_plan.specs.Steps.{PlannedStep}
+use Rattle.stn_lift.specs.Plan.Steps.{PlannedStep}
 use Rattle.stn_lift.specs.declared.fault.LiftFault.TheVariants.{UnknownAction, Arity, DurationDiffers, PastHorizon}
 use Rattle.stn_lift.specs.Activities.{differs, activity, with_found, with_action, activity_of}
 

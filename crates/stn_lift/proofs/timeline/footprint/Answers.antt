@@ -1,7 +1,7 @@
 use Rattle.std.proofs.Common.{map, subst}
 use Rattle.std.proofs.lemmas.List.{append-nil}
 use Rattle.stn_pddl.specs.Views.{atoms_schema}
-use Rattle.stn_plan.specs.Views.{word_of}
+use Rattle.stn_lift.specs.Plan.Views.{word_of}
 use Rattle.stn_lift.specs.{Footprints.ground, Numbering.AreNumbersOf}
 use Rattle.stn_lift.proofs.NumberLists.{kept_along, numbers_kept}
 use Rattle.stn_lift.proofs.timeline.footprint.Goals as goal

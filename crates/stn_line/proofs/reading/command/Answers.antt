@@ -4,30 +4,6 @@ use Rattle.stn_line.specs.{Given.HasWords, Lines.IsLineOf}
 use Rattle.stn_line.proofs.OfStn.{is_send}
 use Rattle.stn_line.proofs.reading.command.Goals as goal
 
-pub site_log-requires-clause-log : goal.site_log-requires-clause-log
-site_log-requires-clause-log c = (subst (λ name. HasWords name (rows_of (found_of c.args.words.now))) c.in-report.is c.requires).0
-
-pub site_log-requires-clause-site : goal.site_log-requires-clause-site
-site_log-requires-clause-site c = (subst (λ name. HasWords name (rows_of (found_of c.args.words.now))) c.in-report.is c.requires).1.0
-
-pub site_log-requires-in-repairs-clause-log : goal.site_log-requires-in-repairs-clause-log
-site_log-requires-in-repairs-clause-log c = (subst (λ name. HasWords name (rows_of (found_of c.args.words.now))) c.in-repairs.is c.requires).0
-
-pub site_log-requires-in-repairs-clause-site : goal.site_log-requires-in-repairs-clause-site
-site_log-requires-in-repairs-clause-site c = (subst (λ name. HasWords name (rows_of (found_of c.args.words.now))) c.in-repairs.is c.requires).1.0
-
-pub site_log-requires-in-records-clause-log : goal.site_log-requires-in-records-clause-log
-site_log-requires-in-records-clause-log c = (subst (λ name. HasWords name (rows_of (found_of c.args.words.now))) c.in-records.is c.requires).0
-
-pub site_log-requires-in-records-clause-site : goal.site_log-requires-in-records-clause-site
-site_log-requires-in-records-clause-site c = (subst (λ name. HasWords name (rows_of (found_of c.args.words.now))) c.in-records.is c.requires).1.0
-
-pub site_log-requires-in-bounds-clause-log : goal.site_log-requires-in-bounds-clause-log
-site_log-requires-in-bounds-clause-log c = (subst (λ name. HasWords name (rows_of (found_of c.args.words.now))) c.in-bounds.is c.requires).0
-
-pub site_log-requires-in-bounds-clause-site : goal.site_log-requires-in-bounds-clause-site
-site_log-requires-in-bounds-clause-site c = (subst (λ name. HasWords name (rows_of (found_of c.args.words.now))) c.in-bounds.is c.requires).1.0
-
 pub send-requires : goal.send-requires
 send-requires c =
     let none = c.in_default in

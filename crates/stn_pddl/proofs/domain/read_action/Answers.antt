@@ -1,18 +1,9 @@
 use Rattle.std.proofs.Common.{ap}
-use Rattle.std.proofs.lemmas.Result.{err_from_is_err_and}
 use Rattle.stn_text.specs.Faults.{Gives}
-use Rattle.stn_tree.specs.Cursors.{row_at}
+use Rattle.stn_pddl.specs.Tree.Cursors.{row_at}
 use Rattle.stn_pddl.specs.{Faults.is_memory, Schemas.ActionSchema, Actions.named_action, Views.action_schema, Views.word_of}
-use Rattle.stn_pddl.proofs.{SoundActions.new-name, Steps.filled, Taken.fails_as_meant}
+use Rattle.stn_pddl.proofs.{SoundActions.new-name, Steps.filled}
 use Rattle.stn_pddl.proofs.domain.read_action.Goals as goal
-
-pub returns-in_err-name : goal.returns-in_err-name
-returns-in_err-name g c =
-    let returned = err_from_is_err_and c.from_residual.result c.from_residual.ensures.1 in
-    record {
-      given = rw (returned.1, returned.2) (fails_as_meant c.in_err-name.field-0.0 _ c.in_err-name.ensures.fault);
-      new = rw returned.1 tt;
-    }
 
 pub returns : goal.returns
 returns g c =

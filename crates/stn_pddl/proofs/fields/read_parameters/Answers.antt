@@ -1,5 +1,5 @@
 use Rattle.std.proofs.Common.{◌≡◌, ◌∙◌, sym, refl, Bool, true, false, not, cond, List}
-use Rattle.stn_tree.specs.declared.name.Name.{Name}
+use Rattle.stn_pddl.specs.declared.tree.name.Name.{Name}
 use Rattle.stn_pddl.proofs.Terms.{parameter-twice, parameter-new}
 use Rattle.stn_pddl.proofs.fields.read_parameters.Goals as goal
 

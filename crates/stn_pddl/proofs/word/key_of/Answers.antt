@@ -1,5 +1,5 @@
 use Rattle.std.proofs.Common.{◌≡◌, ℕ, true, false, List, codes, refl}
-use Rattle.stn_tree.specs.Names.{is_same_word}
+use Rattle.stn_pddl.specs.Tree.Names.{is_same_word}
 use Rattle.stn_pddl.specs.declared.word.Field.TheVariants as field
 use Rattle.stn_pddl.specs.declared.word.Key.TheVariants as key
 use Rattle.stn_pddl.specs.Words.{is_key, key_of}

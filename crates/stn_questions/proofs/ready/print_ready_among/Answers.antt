@@ -1,12 +1,7 @@
-use Rattle.std.proofs.Common.{◌++◌, ◌∙◌, refl, ap}
-use Rattle.std.proofs.lemmas.Result.{IfOk-weaker, err_from_is_err_and}
+use Rattle.std.proofs.Common.{◌++◌, ◌∙◌, ap}
+use Rattle.std.proofs.lemmas.Result.{IfOk-weaker}
 use Rattle.stn_site.proofs.Printing.{appended_ok, kept_err}
 use Rattle.stn_questions.proofs.ready.print_ready_among.Goals as goal
-
-pub returns-in_err-append_text : goal.returns-in_err-append_text
-returns-in_err-append_text g c =
-    let returned = err_from_is_err_and c.from_residual.result c.from_residual.ensures.1 in
-    record { printed = rw returned.1 tt; kept = rw returned.1 refl }
 
 pub returns : goal.returns
 returns g c =

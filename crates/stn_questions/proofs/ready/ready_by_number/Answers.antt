@@ -1,8 +1,8 @@
 use Rattle.std.proofs.Common.{◌≡◌, ◌+◌, ◌<◌, [], ◌∷◌, ◌++◌, length, ap, subst, ◌∙◌, arith}
 use Rattle.std.proofs.lemmas.List.Elements.{All-push}
-use Rattle.stn_windows.specs.Dispatch.{AreReadyTimes}
+use Rattle.stn_net.specs.Windows.Dispatch.{AreReadyTimes}
 use Rattle.stn_site.proofs.Printing.{if_some}
-use Rattle.stn_windows.proofs.Readiness.{left_within}
+use Rattle.stn_net.proofs.Readiness.{left_within}
 use Rattle.stn_questions.specs.declared.ready_event.ReadyEvent.{ReadyEvent}
 use Rattle.stn_questions.proofs.{ReadyLists.HasTimes, ReadyLists.pushed_other, ReadyLists.each_pushed, ReadyLists.each_kept, ready.ready_by_number.Goals.in-Some+in_ok-push, ready.ready_by_number.Goals.in_default}
 use Rattle.stn_questions.proofs.ready.ready_by_number.Goals as goal

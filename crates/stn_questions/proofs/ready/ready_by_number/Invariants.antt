@@ -1,8 +1,8 @@
 use Rattle.std.proofs.Common.{◌≡◌, ℕ, ℤ, ◌+◌, ◌≤ℤ◌, ◌≤◌, List, All, Some, eqb}
 use Rattle.std.specs.List.{count_by}
 use Rattle.stn_net.specs.Difference.{Difference}
-use Rattle.stn_matrix.specs.Tightest.{IsExact}
-use Rattle.stn_windows.specs.Dispatch.{IsReady, AreReadyTimes}
+use Rattle.stn_net.specs.Matrix.Tightest.{IsExact}
+use Rattle.stn_net.specs.Windows.Dispatch.{IsReady, AreReadyTimes}
 use Rattle.stn_questions.proofs.ready.ready_by_number.Given as goal
 
 abbrev pub invariant-loop-before : goal.invariant-loop-before

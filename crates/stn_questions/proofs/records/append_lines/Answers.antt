@@ -1,18 +1,8 @@
-use Rattle.std.proofs.Common.{◌++◌, ◌∙◌, ap, sym}
-use Rattle.std.proofs.lemmas.List.{append-nil, take_all}
-use Rattle.std.specs.List.{flat_map}
 use Rattle.stn_questions.specs.Records.{record_line}
 use Rattle.stn_questions.proofs.Listing.{lines_grown}
 use Rattle.stn_questions.proofs.records.append_lines.Goals as goal
-
-pub loop-id-init : goal.loop-id-init
-loop-id-init g c = sym (append-nil c.args.out.now.items)
 
 pub loop-id-preserved : goal.loop-id-preserved
 loop-id-preserved g c =
     lines_grown (record_line c.args.records.now) c.args.ids.now c.loop-id.id-index c.id-item.result c.args.out.now.items c.loop-id.out.items c.append_line.new.out.items
     c.loop-id-test.true c.id-item.is c.loop-id.invariant c.in_ok-append_line.ensures
-
-pub returns : goal.returns
-returns g c =
-    c.loop-id.invariant ∙ ap (λ all. c.args.out.now.items ++ flat_map (record_line c.args.records.now) all) (take_all c.loop-id.id-index c.args.ids.now c.loop-id-test.false)

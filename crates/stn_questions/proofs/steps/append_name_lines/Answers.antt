@@ -1,5 +1,5 @@
 use Rattle.std.proofs.Common.{[], ◌∷◌, ◌+◌, ◌++◌, ◌∙◌, ap, append_assoc, arith}
-use Rattle.stn_plan.specs.Views.{planned_step}
+use Rattle.stn_lift.specs.Plan.Views.{planned_step}
 use Rattle.stn_questions.specs.Steps.{name_text}
 use Rattle.stn_questions.proofs.Listing.{names_grown}
 use Rattle.stn_questions.proofs.steps.append_name_lines.Goals as goal

@@ -1,5 +1,5 @@
 use Rattle.std.proofs.Common.{◌≡◌, ◌++◌, map, take}
-use Rattle.stn_plan.specs.Views.{planned_step}
+use Rattle.stn_lift.specs.Plan.Views.{planned_step}
 use Rattle.stn_questions.specs.Steps.{name_lines}
 use Rattle.stn_questions.proofs.steps.append_name_lines.Given as goal
 

@@ -1,5 +1,5 @@
 use Rattle.std.proofs.Common.{◌<◌, length, arith}
-use Rattle.stn_plan.specs.Views.{planned_step}
+use Rattle.stn_lift.specs.Plan.Views.{planned_step}
 use Rattle.stn_questions.proofs.Listing.{steps_grown}
 use Rattle.stn_questions.proofs.steps.append_step_lines.Goals as goal
 

@@ -1,6 +1,6 @@
 use Rattle.std.proofs.Common.{◌≡◌, ◌++◌, codes, map, take}
 use Rattle.std.specs.List.{flat_map}
-use Rattle.stn_plan.specs.Views.{word_of}
+use Rattle.stn_lift.specs.Plan.Views.{word_of}
 use Rattle.stn_questions.proofs.steps.append_words.Given as goal
 
 abbrev pub invariant-loop-argument : goal.invariant-loop-argument

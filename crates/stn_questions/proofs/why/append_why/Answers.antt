@@ -1,12 +1,7 @@
-use Rattle.std.proofs.Common.{◌++◌, ◌∙◌, refl, ap, inl, inr}
-use Rattle.std.proofs.lemmas.Result.{IfOk-weaker, err_from_is_err_and}
+use Rattle.std.proofs.Common.{◌++◌, ◌∙◌, ap, inl, inr}
+use Rattle.std.proofs.lemmas.Result.{IfOk-weaker}
 use Rattle.stn_site.proofs.Printing.{appended_ok, kept_err}
 use Rattle.stn_questions.proofs.why.append_why.Goals as goal
-
-pub returns-in_err-text-in-Some : goal.returns-in_err-text-in-Some
-returns-in_err-text-in-Some g c =
-    let returned = err_from_is_err_and c.from_residual-in_err-text-in-Some.result c.from_residual-in_err-text-in-Some.ensures.1 in
-    record { printed = rw returned.1 tt; kept = rw returned.1 refl }
 
 pub returns-in_ok-text-in-Some : goal.returns-in_ok-text-in-Some
 returns-in_ok-text-in-Some g c = record {
@@ -15,8 +10,5 @@ returns-in_ok-text-in-Some g c = record {
   kept = kept_err c.extend_from_slice.result c.extend_from_slice.new.self.items c.args.out.now.items c.deref.result.now c.extend_from_slice.ensures.items;
 }
 
-pub returns-in-None : goal.returns-in-None
-returns-in-None g c = record {
-  printed = IfOk-weaker c.report_conflict.result _ _ (λ _ said. (said.0, inr said.1, said.2)) c.report_conflict.ensures.part;
-  kept = c.report_conflict.ensures.kept;
-}
+pub returns-in-None-clause-printed : goal.returns-in-None-clause-printed
+returns-in-None-clause-printed g c = IfOk-weaker c.report_conflict.result _ _ (λ _ said. (said.0, inr said.1, said.2)) c.report_conflict.ensures.part

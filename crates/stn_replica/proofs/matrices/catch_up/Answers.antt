@@ -1,5 +1,4 @@
 use Rattle.std.proofs.Common.{refl, subst}
-use Rattle.std.proofs.lemmas.Bool.{false≢true}
 use Rattle.stn_site.specs.Bounds.{RecordsName}
 use Rattle.stn_replica.proofs.Sound.{sound_rebuilt, sound_taken, sound_taken_in_conflict}
 use Rattle.stn_replica.proofs.matrices.catch_up.Goals as goal
@@ -8,12 +7,6 @@ pub returns-then-not-keeps_live-clause-sound : goal.returns-then-not-keeps_live-
 returns-then-not-keeps_live-clause-sound g c = λ source p.
     sound_rebuilt source c.args.before.now c.args.after.now c.args.opening.now c.args.current.now c.rebuild.new.current c.args.possible c.rebuild.result
     p (subst (λ n. RecordsName n c.args.after.now) p.current_events c.requires.named) c.rebuild.ensures.settled c.rebuild.ensures.events c.rebuild.ensures.counted
-
-pub returns-then-not-keeps_live-clause-least : goal.returns-then-not-keeps_live-clause-least
-returns-then-not-keeps_live-clause-least g c = λ keeps. absurd (false≢true (c.if-not-keeps_live.ensures.1 keeps))
-
-pub returns-then-not-keeps_live-clause-most : goal.returns-then-not-keeps_live-clause-most
-returns-then-not-keeps_live-clause-most g c = λ keeps. absurd (false≢true (c.if-not-keeps_live.ensures.1 keeps))
 
 pub returns-then-possible-clause-sound : goal.returns-then-possible-clause-sound
 returns-then-possible-clause-sound g c = λ source p.

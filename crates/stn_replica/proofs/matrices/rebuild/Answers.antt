@@ -1,5 +1,5 @@
 use Rattle.std.proofs.Common.{sym, subst}
-use Rattle.stn_matrix.specs.Tightest.{IsExact}
+use Rattle.stn_net.specs.Matrix.Tightest.{IsExact}
 use Rattle.stn_replica.proofs.matrices.rebuild.Goals as goal
 
 pub returns-clause-settled : goal.returns-clause-settled

@@ -1,4 +1,4 @@
-use Rattle.std.proofs.Common.{◌≡◌, ◌++◌, [], ◌∷◌, is_some, sym, ap, subst, ◌∙◌}
+use Rattle.std.proofs.Common.{◌≡◌, ◌++◌, [], ◌∷◌, sym, ap, subst, ◌∙◌}
 use Rattle.std.specs.FinMap.{get}
 use Rattle.stn_records.specs.{declared.record.Record.Record, Content.Content, ContentLaws.ids_total, ContentLaws.ids_exact}
 use Rattle.stn_net.specs.Difference.{NamesEvents}
@@ -7,11 +7,6 @@ use Rattle.stn_site.proofs.Named.{value_of}
 use Rattle.stn_replica.specs.Invariant.{IsSettled}
 use Rattle.stn_replica.proofs.{Schedules.schedule_before, Schedules.settled_tightened, Sound.settled_exact, Sound.settled_conflict}
 use Rattle.stn_replica.proofs.matrices.tighten_by.Goals as goal
-
-pub unwrap-one-requires : goal.unwrap-one-requires
-unwrap-one-requires g c =
-    let found = c.get.ensures ∙ ap (λ m. get m c.args.id) (c.additions.ensures ∙ ap (λ (s : Content). s.additions) c.state.ensures.value) in
-    ap is_some found ∙ c.requires.there
 
 pub tighten-requires : goal.tighten-requires
 tighten-requires g c =

@@ -1,7 +1,7 @@
 use Rattle.std.proofs.Common.{◌≡◌, ◌≤◌, ◌++◌, List}
 use Rattle.std.specs.FinMap.{entries}
 use Rattle.stn_net.specs.Difference.{Difference}
-use Rattle.stn_matrix.specs.Tightest.{IsExact}
+use Rattle.stn_net.specs.Matrix.Tightest.{IsExact}
 use Rattle.stn_records.specs.Content.{replaced_set}
 use Rattle.stn_replica.proofs.Ahead.{IsAhead}
 use Rattle.stn_site.proofs.Walk.{bounds_seen}

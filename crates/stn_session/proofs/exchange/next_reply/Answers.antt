@@ -2,8 +2,8 @@ use Rattle.std.proofs.Common.{Ok, Err, inl, sym, ap, subst, arith}
 use Rattle.std.specs.Prelude.{List, ℕ}
 use Rattle.std.proofs.lemmas.Result.{err_from_is_err_and}
 use Rattle.stn_wire.specs.Front.{IsFront, unfinished}
-use Rattle.stn_stream.specs.declared.fault.StreamFault.{StreamFault}
-use Rattle.stn_stream.specs.declared.fault.StreamFault.TheVariants as stream
+use Rattle.stn_wire.specs.declared.stream.fault.StreamFault.{StreamFault}
+use Rattle.stn_wire.specs.declared.stream.fault.StreamFault.TheVariants as stream
 use Rattle.stn_session.specs.Exchange.{reply_fault}
 use Rattle.stn_session.specs.declared.exchange.ReplyFault.TheVariants.{Read}
 use Rattle.stn_device.proofs.Known.{fault_or, not_err}

@@ -1,7 +1,7 @@
 use Rattle.std.proofs.Common.{◌∙◌, ◌++◌, refl, inr, sym, ap, subst, option_map}
 use Rattle.std.proofs.lemmas.Bool.{false≢true}
 use Rattle.std.specs.Result.{is_err}
-use Rattle.stn_explain.specs.Explained.{IsExplained}
+use Rattle.stn_line.specs.Explanations.Explained.{IsExplained}
 use Rattle.stn_shell.proofs.explaining.explain.Goals as goal
 
 pub returns : goal.returns

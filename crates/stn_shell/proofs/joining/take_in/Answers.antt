@@ -4,7 +4,7 @@ use Rattle.stn_shell.proofs.Failed.{take_failed}
 use Rattle.stn_shell.proofs.joining.take_in.Goals as goal
 
 pub returns-in_err-find_same : goal.returns-in_err-find_same
-returns-in_err-find_same c =
+returns-in_err-find_same g c =
     let p = err_from_is_err_and c.from_residual.result c.from_residual.ensures.1 in
     let other = rw (c.base.ensures, c.base-2.ensures) at c.in_err-find_same.ensures in
     rw (p.1, p.2) (record {
@@ -15,7 +15,7 @@ returns-in_err-find_same c =
     })
 
 pub returns-in_err-take : goal.returns-in_err-take
-returns-in_err-take c =
+returns-in_err-take g c =
     let p = err_from_is_err_and c.from_residual-in_err-take.result c.from_residual-in_err-take.ensures.1 in
     let same = rw (c.base.ensures, c.base-2.ensures) at c.in_ok-find_same.ensures in
     rw (p.1, p.2) (record {
@@ -26,7 +26,7 @@ returns-in_err-take c =
     })
 
 pub returns : goal.returns
-returns c = record {
+returns g c = record {
   same = rw (c.base.ensures, c.base-2.ensures) at c.in_ok-find_same.ensures;
   left = rw c.records.ensures.value at c.in_ok-take.ensures.leaves;
   refused = tt;

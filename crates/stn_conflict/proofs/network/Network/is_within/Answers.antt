@@ -1,6 +1,6 @@
 use Rattle.std.proofs.Common.{subst, to_z, of_z, w64, arith}
 use Rattle.std.proofs.lemmas.Int.{ints}
-use Rattle.stn_matrix.specs.Tightest.{IsTightest}
+use Rattle.stn_net.specs.Matrix.Tightest.{IsTightest}
 use Rattle.stn_conflict.specs.Listing.{Listing}
 use Rattle.stn_conflict.proofs.Tightness.{le_z_tells}
 use Rattle.stn_conflict.proofs.network.Network.is_within.Goals as goal

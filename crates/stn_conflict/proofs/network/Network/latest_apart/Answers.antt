@@ -2,18 +2,29 @@ use Rattle.std.proofs.Common.{◌≡◌, ◌+◌, pos, true, get_or, length, rep
 use Rattle.std.proofs.{lemmas.Int.ints, lemmas.List.get_or_default, lemmas.List.length-replicate}
 use Rattle.stn_net.specs.Schedule.{times_of}
 use Rattle.stn_conflict.specs.{Listing.Listing, Relaxation.AreDistances, Relaxation.AreFirstRows, Relaxation.AreRelaxed, Relaxation.IsSearch}
-use Rattle.stn_conflict.proofs.{Relaxing.all_fresh, Relaxing.distances_relaxed, Relaxing.distances_taken, Relaxing.among_events, Searches.goes_on}
+use Rattle.stn_conflict.proofs.{network.Network.latest_apart.Given.Over, Relaxing.all_fresh, Relaxing.distances_relaxed, Relaxing.distances_taken, Relaxing.among_events, Searches.goes_on}
 use Rattle.stn_conflict.proofs.network.Network.latest_apart.Goals as goal
+use Rattle.stn_conflict.proofs.network.Network.latest_apart.Goals.{After-new-bounds, After-go_on}
+
+-- the rows and the search of the bounds, after it went on
+whole : (g : Over) (c : After-new-bounds g) → c.new-bounds.result ≡ c.self.inside.bounds.items
+whole g c = c.new-bounds.ensures ∙ append-nil c.deref.result.now ∙ c.deref.ensures.value
+
+went_on : (g : Over) (c : After-go_on g)
+    → AreFirstRows c.self.inside.bounds.items (c.self.inside.events + 1) c.add.new.self × IsSearch c.self.inside.bounds.items 0 (c.self.inside.events + 1) c.go_on.new.self
+went_on g c =
+    let is = c.self.inside in
+    let old = c.self.invariant in
+    let same = whole g (goal.at.After-go_on g c).After-new-bounds in (
+      subst (λ n. AreFirstRows is.bounds.items n c.add.new.self) old.first.stand.long (subst (λ l. AreFirstRows l (length is.rows.outgoing.items) c.add.new.self) same c.add.ensures.rows),
+      goes_on is.bounds.items 0 (is.events + 1) is.latest c.go_on.new.self old.late (subst (λ l. IsSearch l is.latest.start (length is.latest.far.items) c.go_on.new.self) same c.go_on.ensures.search),
+    )
 
 pub invariant_of-self-then-not-go_on : goal.invariant_of-self-then-not-go_on
 invariant_of-self-then-not-go_on g c =
     let is = c.self.inside in
     let old = c.self.invariant in
-    let whole : c.new-bounds.result ≡ is.bounds.items = c.new-bounds.ensures ∙ append-nil c.deref.result.now ∙ c.deref.ensures.value in
-    let first : AreFirstRows is.bounds.items (is.events + 1) c.add.new.self =
-    subst (λ n. AreFirstRows is.bounds.items n c.add.new.self) old.first.stand.long (subst (λ l. AreFirstRows l (length is.rows.outgoing.items) c.add.new.self) whole c.add.ensures.rows) in
-    let late : IsSearch is.bounds.items 0 (is.events + 1) c.go_on.new.self =
-    goes_on is.bounds.items 0 (is.events + 1) is.latest c.go_on.new.self old.late (subst (λ l. IsSearch l is.latest.start (length is.latest.far.items) c.go_on.new.self) whole c.go_on.ensures.search) in
+    let (first, late) = went_on g (goal.at.invariant_of-self-then-not-go_on g c).After-go_on in
     let counted : c.go_on.new.self.fresh.len ≡ is.events + 1 = search rules ∙ late.tables.fresh in
     let filled : c.fill.new.self.items ≡ replicate (is.events + 1) true = rw counted at (c.fill.ensures.items (λ _ e. e)) in
     record {
@@ -33,22 +44,11 @@ pub invariant_of-self-2 : goal.invariant_of-self-2
 invariant_of-self-2 g c =
     let is = c.self.inside in
     let old = c.self.invariant in
-    let whole : c.new-bounds.result ≡ is.bounds.items = c.new-bounds.ensures ∙ append-nil c.deref.result.now ∙ c.deref.ensures.value in
-    let first : AreFirstRows is.bounds.items (is.events + 1) c.add.new.self =
-    subst (λ n. AreFirstRows is.bounds.items n c.add.new.self) old.first.stand.long (subst (λ l. AreFirstRows l (length is.rows.outgoing.items) c.add.new.self) whole c.add.ensures.rows) in
-    let late : IsSearch is.bounds.items 0 (is.events + 1) c.go_on.new.self =
-    goes_on is.bounds.items 0 (is.events + 1) is.latest c.go_on.new.self old.late (subst (λ l. IsSearch l is.latest.start (length is.latest.far.items) c.go_on.new.self) whole c.go_on.ensures.search) in
+    let (first, late) = went_on g (goal.at.invariant_of-self-2 g c).After-go_on in
     let exact : AreDistances is.bounds.items is.latest.start c.go_on.new.self.far.items =
-    subst (λ l. AreDistances l is.latest.start c.go_on.new.self.far.items) whole (c.go_on.ensures.distances c.if-not-go_on.false) in
+    subst (λ l. AreDistances l is.latest.start c.go_on.new.self.far.items) (whole g (goal.at.invariant_of-self-2 g c).After-new-bounds) (c.go_on.ensures.distances c.if-not-go_on.false) in
     let met : AreRelaxed is.bounds.items c.go_on.new.self.far.items = distances_relaxed is.bounds.items is.latest.start c.go_on.new.self.far.items exact in
-    record {
-      few = old.few;
-      network = old.network;
-      first = first;
-      late = late;
-      relaxed = λ link there stale. met link there;
-      tables = old.tables;
-    }
+    record { few = old.few; network = old.network; first = first; late = late; relaxed = λ link there stale. met link there; tables = old.tables }
 
 pub returns-clause-taken : goal.returns-clause-taken
 returns-clause-taken g c =

@@ -1,21 +1,26 @@
-use Rattle.std.proofs.Common.{sym, ap, length, eqb-true, refl, arith}
+use Rattle.std.proofs.Common.{ℕ, to_z, w64, ◌<◌, sym, ap, length, eqb-true, refl, arith}
+use Rattle.std.specs.Prelude.{ℤ, ◌+ℤ◌, ◌-ℤ◌, ◌≤ℤ◌}
 use Rattle.std.proofs.lemmas.Int.{ints}
+use Rattle.stn_net.specs.Schedule.{IsSchedule}
 use Rattle.stn_conflict.specs.Arcs.{Arc}
-use Rattle.stn_conflict.proofs.Relaxing.{back_over}
+use Rattle.stn_conflict.proofs.{Relaxing.back_over, relaxation.Search.goes_round.Given.Over}
 use Rattle.stn_conflict.proofs.relaxation.Search.goes_round.Goals as goal
+use Rattle.stn_conflict.proofs.relaxation.Search.goes_round.Goals.{In-Some}
+
+-- one link further back
+further : (g : Over) (c : In-Some g) → (c.in-Some.arc.from < length c.args.self.now.far.items)
+    × ((time : ℕ → ℤ) → IsSchedule c.args.bounds.now time → (time c.far_back-start.result -ℤ time c.in-Some.arc.from) ≤ℤ (to_z w64 c.loop.sum-bits +ℤ c.in-Some.arc.weight))
+further g c =
+    let (link, there, is) = c.in-Some.ensures.arc in
+    back_over c.args.bounds.now _ c.far_back-start.result c.loop.here c.in-Some.arc.from c.loop.here c.in-Some.arc.weight _ link
+    c.requires.named there (sym (ap (λ (a : Arc). a.from) is)) (sym (ap (λ (a : Arc). a.to) is)) (sym (ap (λ (a : Arc). a.weight) is)) refl c.loop.invariant.kept
 
 pub returns-then-eq : goal.returns-then-eq
-returns-then-eq g c = λ t has.
-    let arc = c.in-Some.arc in
+returns-then-eq g c = λ t (time, s).
+    let back = (further g (goal.at.returns-then-eq g c).In-Some).1 time s in
     let (low, high) = c.get-sum.ensures.within in
     let weight = c.get-sum.ensures.value in
-    let (link, there, is) = c.in-Some.ensures.arc in
-    let (within, kept) = back_over c.args.bounds.now (length c.args.self.now.far.items) c.far_back-start.result c.loop.here arc.from c.loop.here arc.weight _ link
-    c.requires.named there (sym (ap (λ (a : Arc). a.from) is)) (sym (ap (λ (a : Arc). a.to) is)) (sym (ap (λ (a : Arc). a.weight) is)) refl c.loop.invariant.kept in
-    let round = eqb-true arc.from c.far_back-start.result (sym c.if-eq.ensures) in
-    let (time, s) = has in
-    let back = kept time s in
-    let now = ap time round in
+    let now = ap time (eqb-true c.in-Some.arc.from c.far_back-start.result (sym c.if-eq.ensures)) in
     let least = c.loop.invariant.least in
     let most = c.loop.invariant.most in
     let few = c.requires.tables.few in
@@ -23,12 +28,9 @@ returns-then-eq g c = λ t has.
 
 pub loop-preserved : goal.loop-preserved
 loop-preserved g c =
-    let arc = c.in-Some.arc in
+    let (within, kept) = further g (goal.at.loop-preserved g c).In-Some in
     let (low, high) = c.get-sum.ensures.within in
     let weight = c.get-sum.ensures.value in
-    let (link, there, is) = c.in-Some.ensures.arc in
-    let (within, kept) = back_over c.args.bounds.now (length c.args.self.now.far.items) c.far_back-start.result c.loop.here arc.from c.loop.here arc.weight _ link
-    c.requires.named there (sym (ap (λ (a : Arc). a.from) is)) (sym (ap (λ (a : Arc). a.to) is)) (sym (ap (λ (a : Arc). a.weight) is)) refl c.loop.invariant.kept in
     let least = c.loop.invariant.least in
     let most = c.loop.invariant.most in
     let few = c.requires.tables.few in

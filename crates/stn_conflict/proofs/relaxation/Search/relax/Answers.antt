@@ -7,105 +7,80 @@ use Rattle.stn_conflict.specs.{declared.links.Link.Link, Arcs.arc_of, Relaxation
 use Rattle.stn_conflict.proofs.{Tightness.link_among, relaxation.Search.relax.Given.Over}
 use Rattle.stn_conflict.proofs.Relaxing.{refused_at_start, refused_beyond, relaxed_estimates, relaxed_now, relaxed_still, stale_before}
 use Rattle.stn_conflict.proofs.relaxation.Search.relax.Goals as goal
+use Rattle.stn_conflict.proofs.relaxation.Search.relax.Goals.{After-from, After-get-3}
 
-pub index-requires : goal.index-requires
-index-requires g c =
-    let ends = link_among c.args.bounds.now (length c.args.self.now.far.items) c.args.link c.requires.search.estimates.named c.requires.there in
-    let from : c.from.result ≡ (arc_of c.args.bounds.now c.args.link).from = c.from.ensures ∙ c.number-2.ensures.value ∙ c.arc-arc.ensures.from in
-    rw (from, c.args.self.now.far.ok.0) ends.0
+-- both ends of the link have estimates, at these places
+record Ends (bounds : List Difference) (count : ℕ) (link : Link) (begin end : ℕ) : Type 0 where
+  begin_is : begin ≡ (arc_of bounds link).from
+  begin_there : begin < count
+  end_is : end ≡ (arc_of bounds link).to
+  end_there : end < count
 
-pub index-requires-2 : goal.index-requires-2
-index-requires-2 g c =
-    let ends = link_among c.args.bounds.now (length c.args.self.now.far.items) c.args.link c.requires.search.estimates.named c.requires.there in
-    let to : c.from-end.result ≡ (arc_of c.args.bounds.now c.args.link).to = c.from-end.ensures ∙ c.number.ensures.value ∙ c.arc-arc.ensures.to in
-    rw (to, c.args.self.now.far.ok.0) ends.1
+ends : (g : Over) (c : After-from g) → Ends c.args.bounds.now (length c.args.self.now.far.items) c.args.link c.from.result c.from-end.result
+ends g c =
+    let (from, to) = link_among c.args.bounds.now (length c.args.self.now.far.items) c.args.link c.requires.search.estimates.named c.requires.there in
+    let begin_is = c.from.ensures ∙ c.number-2.ensures.value ∙ c.arc-arc.ensures.from in
+    let end_is = c.from-end.ensures ∙ c.number.ensures.value ∙ c.arc-arc.ensures.to in
+    record { begin_is = begin_is; begin_there = rw begin_is from; end_is = end_is; end_there = rw end_is to }
 
 pub index_mut-requires : goal.index_mut-requires
-index_mut-requires g c =
-    let ends = link_among c.args.bounds.now (length c.args.self.now.far.items) c.args.link c.requires.search.estimates.named c.requires.there in
-    let to : c.from-end.result ≡ (arc_of c.args.bounds.now c.args.link).to = c.from-end.ensures ∙ c.number.ensures.value ∙ c.arc-arc.ensures.to in
-    rw (to, c.args.self.now.far.ok.0) ends.1
+index_mut-requires g c = rw c.args.self.now.far.ok.0 (ends g (goal.at.index_mut-requires g c).After-from).end_there
 
 pub index_mut-requires-2 : goal.index_mut-requires-2
-index_mut-requires-2 g c =
-    let ends = link_among c.args.bounds.now (length c.args.self.now.far.items) c.args.link c.requires.search.estimates.named c.requires.there in
-    let to : c.from-end.result ≡ (arc_of c.args.bounds.now c.args.link).to = c.from-end.ensures ∙ c.number.ensures.value ∙ c.arc-arc.ensures.to in
-    rw (to, c.args.self.now.by.ok.0, c.requires.search.tables.by) ends.1
+index_mut-requires-2 g c = rw (c.args.self.now.by.ok.0, c.requires.search.tables.by) (ends g (goal.at.index_mut-requires-2 g c).After-from).end_there
 
 pub index_mut-requires-3 : goal.index_mut-requires-3
-index_mut-requires-3 g c =
-    let ends = link_among c.args.bounds.now (length c.args.self.now.far.items) c.args.link c.requires.search.estimates.named c.requires.there in
-    let to : c.from-end.result ≡ (arc_of c.args.bounds.now c.args.link).to = c.from-end.ensures ∙ c.number.ensures.value ∙ c.arc-arc.ensures.to in
-    rw (to, c.args.self.now.fresh.ok.0, c.requires.search.tables.fresh) ends.1
+index_mut-requires-3 g c = rw (c.args.self.now.fresh.ok.0, c.requires.search.tables.fresh) (ends g (goal.at.index_mut-requires-3 g c).After-from).end_there
+
+-- what is compared: the estimates of both ends, and the link's weight
+record Compared (bounds : List Difference) (far : List ℤ) (link : Link) (begin weight end : ℤ) : Type 0 where
+  begin_is : begin ≡ times_of far (arc_of bounds link).from
+  begin_within : IsWithinHorizon begin
+  weight_is : weight ≡ (arc_of bounds link).weight
+  weight_within : IsWithinHorizon weight
+  end_is : end ≡ times_of far (arc_of bounds link).to
+  end_within : IsWithinHorizon end
+
+compared : (g : Over) (c : After-get-3 g) → Compared c.args.bounds.now c.args.self.now.far.items c.args.link c.get.result c.get-2.result c.get-3.result
+compared g c =
+    let far = c.args.self.now.far.items in
+    let e = ends g (goal.at.After-get-3 g c).After-from in
+    record {
+      begin_is = c.get.ensures.value ∙ get_or_read far _ _ e.begin_there c.index.ensures (pos 0) ∙ ap (times_of far) e.begin_is;
+      begin_within = c.get.ensures.within;
+      weight_is = c.get-2.ensures.value ∙ c.arc-arc.ensures.weight;
+      weight_within = c.get-2.ensures.within;
+      end_is = c.get-3.ensures.value ∙ get_or_read far _ _ e.end_there c.index-2.ensures (pos 0) ∙ ap (times_of far) e.end_is;
+      end_within = c.get-3.ensures.within;
+    }
 
 pub returns-then-get-way-clause-relaxed : goal.returns-then-get-way-clause-relaxed
 returns-then-get-way-clause-relaxed g c = λ e.
-    let far = c.args.self.now.far.items in
-    let bounds = c.args.bounds.now in
-    let a = arc_of bounds c.args.link in
-    let h = c.requires.search.estimates in
-    let ends = link_among bounds (length far) c.args.link h.named c.requires.there in
-    let from : c.from.result ≡ a.from = c.from.ensures ∙ c.number-2.ensures.value ∙ c.arc-arc.ensures.from in
-    let to : c.from-end.result ≡ a.to = c.from-end.ensures ∙ c.number.ensures.value ∙ c.arc-arc.ensures.to in
-    let first : c.index.result.now ≡ times_of far a.from = get_or_read far _ _ (rw from ends.0) c.index.ensures (pos 0) ∙ ap (times_of far) from in
-    let last : c.index-2.result.now ≡ times_of far a.to = get_or_read far _ _ (rw to ends.1) c.index-2.ensures (pos 0) ∙ ap (times_of far) to in
-    let weight = c.arc-arc.ensures.weight in
-    let (fl, fh) = c.get.ensures.within in
-    let (wl, wh) = c.get-2.ensures.within in
-    let (ll, lh) = c.get-3.ensures.within in
-    let from_is = c.get.ensures.value in
-    let weight_is = c.get-2.ensures.value in
-    let to_is = c.get-3.ensures.value in
+    let k = compared g (goal.at.returns-then-get-way-clause-relaxed g c).After-get-3 in
     let test = c.if-get-way.true in
     omega (arith, ints)
 
 pub returns-then-eq-clause-refused : goal.returns-then-eq-clause-refused
 returns-then-eq-clause-refused g c = λ e.
     let far = c.args.self.now.far.items in
-    let bounds = c.args.bounds.now in
-    let a = arc_of bounds c.args.link in
-    let h = c.requires.search.estimates in
-    let ends = link_among bounds (length far) c.args.link h.named c.requires.there in
-    let from : c.from.result ≡ a.from = c.from.ensures ∙ c.number-2.ensures.value ∙ c.arc-arc.ensures.from in
-    let to : c.from-end.result ≡ a.to = c.from-end.ensures ∙ c.number.ensures.value ∙ c.arc-arc.ensures.to in
-    let first : c.index.result.now ≡ times_of far a.from = get_or_read far _ _ (rw from ends.0) c.index.ensures (pos 0) ∙ ap (times_of far) from in
-    let last : c.index-2.result.now ≡ times_of far a.to = get_or_read far _ _ (rw to ends.1) c.index-2.ensures (pos 0) ∙ ap (times_of far) to in
-    let weight = c.arc-arc.ensures.weight in
-    let (fl, fh) = c.get.ensures.within in
-    let (wl, wh) = c.get-2.ensures.within in
-    let (ll, lh) = c.get-3.ensures.within in
-    let from_is = c.get.ensures.value in
-    let weight_is = c.get-2.ensures.value in
-    let to_is = c.get-3.ensures.value in
+    let a = arc_of c.args.bounds.now c.args.link in
+    let k = compared g (goal.at.returns-then-eq-clause-refused g c).After-get-3 in
     let test = c.if-get-way.false in
     let less : (times_of far a.from +ℤ a.weight) <ℤ times_of far a.to = omega (arith, ints) in
     let same = eqb-true c.arc-arc.result.to c.args.self.now.start (sym c.if-eq.ensures) in
-    refused_at_start bounds c.args.self.now.start far c.args.link (times_of far a.from +ℤ a.weight) h c.requires.there refl (sym c.arc-arc.ensures.to ∙ same) less
+    refused_at_start c.args.bounds.now c.args.self.now.start far c.args.link (times_of far a.from +ℤ a.weight) c.requires.search.estimates c.requires.there refl
+    (sym c.arc-arc.ensures.to ∙ same) less
 
 pub returns-in_default-clause-refused : goal.returns-in_default-clause-refused
 returns-in_default-clause-refused g c = λ e.
     let far = c.args.self.now.far.items in
-    let bounds = c.args.bounds.now in
-    let a = arc_of bounds c.args.link in
-    let h = c.requires.search.estimates in
-    let ends = link_among bounds (length far) c.args.link h.named c.requires.there in
-    let from : c.from.result ≡ a.from = c.from.ensures ∙ c.number-2.ensures.value ∙ c.arc-arc.ensures.from in
-    let to : c.from-end.result ≡ a.to = c.from-end.ensures ∙ c.number.ensures.value ∙ c.arc-arc.ensures.to in
-    let first : c.index.result.now ≡ times_of far a.from = get_or_read far _ _ (rw from ends.0) c.index.ensures (pos 0) ∙ ap (times_of far) from in
-    let last : c.index-2.result.now ≡ times_of far a.to = get_or_read far _ _ (rw to ends.1) c.index-2.ensures (pos 0) ∙ ap (times_of far) to in
-    let weight = c.arc-arc.ensures.weight in
-    let (fl, fh) = c.get.ensures.within in
-    let (wl, wh) = c.get-2.ensures.within in
-    let (ll, lh) = c.get-3.ensures.within in
-    let from_is = c.get.ensures.value in
-    let weight_is = c.get-2.ensures.value in
-    let to_is = c.get-3.ensures.value in
+    let a = arc_of c.args.bounds.now c.args.link in
+    let k = compared g (goal.at.returns-in_default-clause-refused g c).After-get-3 in
     let test = c.if-get-way.false in
-    let sum = times_of far a.from +ℤ a.weight in
     let most : (times_of far a.from +ℤ a.weight) ≤ℤ horizon = omega (arith, ints) in
     let beyond : ¬ IsWithinHorizon (times_of far a.from +ℤ a.weight) = λ (low, high).
     false≢true (sym (ap is_some c.in_default.is) ∙ c.new.ensures.within.1 (omega (arith, ints), omega (arith, ints))) in
-    refused_beyond bounds c.args.self.now.start far c.args.link (times_of far a.from +ℤ a.weight) h c.requires.there refl most beyond
+    refused_beyond c.args.bounds.now c.args.self.now.start far c.args.link (times_of far a.from +ℤ a.weight) c.requires.search.estimates c.requires.there refl most beyond
 
 -- the estimates after a fall
 record Fallen (bounds : List Difference) (start : ℕ) (far : List ℤ) (link : Link) (x : ℕ) (way : ℤ) : Type 0 where
@@ -122,28 +97,17 @@ lowered g c =
     let far = c.args.self.now.far.items in
     let bounds = c.args.bounds.now in
     let a = arc_of bounds c.args.link in
-    let h = c.requires.search.estimates in
-    let ends = link_among bounds (length far) c.args.link h.named c.requires.there in
-    let from : c.from.result ≡ a.from = c.from.ensures ∙ c.number-2.ensures.value ∙ c.arc-arc.ensures.from in
-    let to : c.from-end.result ≡ a.to = c.from-end.ensures ∙ c.number.ensures.value ∙ c.arc-arc.ensures.to in
-    let first : c.index.result.now ≡ times_of far a.from = get_or_read far _ _ (rw from ends.0) c.index.ensures (pos 0) ∙ ap (times_of far) from in
-    let last : c.index-2.result.now ≡ times_of far a.to = get_or_read far _ _ (rw to ends.1) c.index-2.ensures (pos 0) ∙ ap (times_of far) to in
-    let weight = c.arc-arc.ensures.weight in
-    let (fl, fh) = c.get.ensures.within in
-    let (wl, wh) = c.get-2.ensures.within in
-    let (ll, lh) = c.get-3.ensures.within in
-    let from_is = c.get.ensures.value in
-    let weight_is = c.get-2.ensures.value in
-    let to_is = c.get-3.ensures.value in
+    let there = ends g (goal.at.returns g c).After-from in
+    let k = compared g (goal.at.returns g c).After-get-3 in
     let test = c.if-get-way.false in
     let (low, high) = c.new.ensures.within.0 (ap is_some c.in-Some.is) in
     let value = c.in-Some.ensures.value in
     let is : c.in-Some.lower ≡ times_of far a.from +ℤ a.weight = omega (arith, ints) in
     let less : c.in-Some.lower <ℤ times_of far a.to = omega (arith, ints) in
     let least : neg_ℤ horizon ≤ℤ c.in-Some.lower = omega (arith, ints) in
-    let (estimates, room) = relaxed_estimates bounds c.args.self.now.start far c.args.link c.from-end.result c.in-Some.lower h c.requires.there to is
-    (λ same. eqb-false c.arc-arc.result.to c.args.self.now.start (sym c.if-eq.ensures) (c.arc-arc.ensures.to ∙ sym to ∙ same)) least (rw to less) in
-    record { estimates = estimates; room = room; there = rw to ends.1; to = to; is = is; less = rw to less }
+    let (estimates, room) = relaxed_estimates bounds c.args.self.now.start far c.args.link c.from-end.result c.in-Some.lower c.requires.search.estimates c.requires.there there.end_is is
+    (λ same. eqb-false c.arc-arc.result.to c.args.self.now.start (sym c.if-eq.ensures) (c.arc-arc.ensures.to ∙ sym there.end_is ∙ same)) least (rw there.end_is less) in
+    record { estimates = estimates; room = room; there = there.end_there; to = there.end_is; is = is; less = rw there.end_is less }
 
 pub returns : goal.returns
 returns g c =

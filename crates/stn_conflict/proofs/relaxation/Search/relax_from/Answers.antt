@@ -1,24 +1,10 @@
-use Rattle.std.proofs.Common.{◌≡◌, inl, inr, ℕ, ◌+◌, ◌<◌, length, refl, sym, subst, ◌∙◌, arith}
+use Rattle.std.proofs.Common.{◌≡◌, inl, inr, ℕ, ◌+◌, ◌<◌, length, sym, subst, arith}
 use Rattle.std.specs.Prelude.{slice_index_or}
-use Rattle.std.proofs.{lemmas.Bool.cases_lt, lemmas.List.get_or_default, lemmas.Result.err_from_is_err_and}
+use Rattle.std.proofs.{lemmas.Bool.cases_lt}
 use Rattle.stn_conflict.specs.{declared.links.Link.Link, declared.links.Side.TheVariants.Upper, Relaxation.IsRelaxedOf}
 use Rattle.stn_conflict.proofs.{Tightness.link_among, Searches.goes_on, Searches.keeps_on, Searches.relaxed_on}
 use Rattle.stn_conflict.proofs.relaxation.Search.relax_from.Goals as goal
 use Rattle.stn_conflict.proofs.relaxation.Search.relax_from.Goals.{then-branch, else-branch}
-
-pub returns-in_err-relax : goal.returns-in_err-relax
-returns-in_err-relax g c =
-    let p = err_from_is_err_and c.from_residual.result c.from_residual.ensures.1 in
-    record {
-      search = goes_on _ _ _ _ _ c.loop-link.invariant.search c.relax.ensures.search;
-      refused = λ e. c.in_err-relax.ensures.refused refl;
-      there = rw p.1 tt;
-      most = rw (c.in_err-relax.ensures.err refl) c.loop-link.invariant.most;
-      less = rw p.1 tt;
-      same = rw p.1 tt;
-      kept = rw p.1 tt;
-      relaxed = rw p.1 tt;
-    }
 
 pub loop-link-preserved : goal.loop-link-preserved
 loop-link-preserved g c =
@@ -63,9 +49,3 @@ loop-link-preserved g c =
             relaxed = relaxed;
           })
     ]
-
-pub returns-clause-relaxed : goal.returns-clause-relaxed
-returns-clause-relaxed g c = λ link (k, below, at).
-    let none : Link = record { place = 0; side = Upper } in
-    subst (IsRelaxedOf c.args.bounds.now c.loop-link.self) (get_or_default c.args.links.now k none link below ∙ at)
-    (c.loop-link.invariant.relaxed k (omega (arith, below, c.loop-link-test.false)))

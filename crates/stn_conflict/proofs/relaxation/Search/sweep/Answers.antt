@@ -1,23 +1,11 @@
 use Rattle.std.proofs.Common.{◌≡◌, ℕ, ◌<◌, true, All, length, refl, sym, subst, ◌∙◌, arith}
 use Rattle.std.specs.List.{Contains}
-use Rattle.std.proofs.{lemmas.List.get_or_read, lemmas.Bool.false≢true, lemmas.Option.IfSome_then, lemmas.Result.err_from_is_err_and}
+use Rattle.std.proofs.{lemmas.List.get_or_read, lemmas.Bool.false≢true, lemmas.Option.IfSome_then}
 use Rattle.stn_conflict.specs.Relaxation.{NamesAmong, room, row_of}
 use Rattle.stn_conflict.proofs.Rows.{row_is}
 use Rattle.stn_conflict.proofs.Searches.{AreSwept, all_swept, goes_on, none_or, none_then, row_relaxed, some_or, swept_more, swept_over, turn_of}
 use Rattle.stn_conflict.proofs.relaxation.Search.sweep.Goals as goal
 use Rattle.stn_conflict.proofs.relaxation.Search.sweep.Goals.{then-onward, else-onward, then-index+in_ok-found, else-index}
-
-pub returns-in_err-found : goal.returns-in_err-found
-returns-in_err-found g c =
-    let p = err_from_is_err_and c.from_residual.result c.from_residual.ensures.1 in
-    record {
-      search = goes_on _ _ _ c.loop-index.self _ c.loop-index.invariant.search c.relax_from.ensures.search;
-      refused = λ e. c.in_err-found.ensures.refused refl;
-      there = rw p.1 tt;
-      less = rw p.1 tt;
-      relaxed = rw p.1 tt;
-      met = rw p.1 tt;
-    }
 
 pub loop-index-preserved : goal.loop-index-preserved
 loop-index-preserved g c =

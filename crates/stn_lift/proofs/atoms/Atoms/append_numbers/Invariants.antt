@@ -1,6 +1,6 @@
 use Rattle.std.proofs.Common.{List, ◌++◌, map, take}
 use Rattle.stn_pddl.specs.Views.{atoms_schema}
-use Rattle.stn_plan.specs.Views.{word_of}
+use Rattle.stn_lift.specs.Plan.Views.{word_of}
 use Rattle.stn_lift.specs.{Footprints.GroundAtom, Footprints.ground, Numbering.Extends, Numbering.AreNumbersOf}
 use Rattle.stn_lift.proofs.atoms.Atoms.append_numbers.Given as goal
 

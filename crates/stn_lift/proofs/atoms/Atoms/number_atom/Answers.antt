@@ -1,8 +1,8 @@
 use Rattle.std.proofs.Common.{◌<◌, ◌≤◌, map, length, sym}
 use Rattle.std.proofs.lemmas.List.{take_all, get_or-map, length-map}
-use Rattle.stn_tree.specs.Names.{folded}
+use Rattle.stn_pddl.specs.Tree.Names.{folded}
 use Rattle.stn_pddl.specs.{Sound.IsSoundTerm, Views.term_schema, Views.terms_schema}
-use Rattle.stn_plan.specs.Views.{word_of}
+use Rattle.stn_lift.specs.Plan.Views.{word_of}
 use Rattle.stn_lift.proofs.NumberLists.{kept_along, names_kept, spelled_more, all_said}
 use Rattle.stn_lift.proofs.atoms.Atoms.number_atom.Goals as goal
 

@@ -1,8 +1,8 @@
 use Rattle.std.proofs.Common.{◌∷◌, map, take}
 use Rattle.std.specs.List.{AllZip}
-use Rattle.stn_tree.specs.Names.{folded}
+use Rattle.stn_pddl.specs.Tree.Names.{folded}
 use Rattle.stn_pddl.specs.Views.{terms_schema}
-use Rattle.stn_plan.specs.Views.{word_of}
+use Rattle.stn_lift.specs.Plan.Views.{word_of}
 use Rattle.stn_lift.specs.{Footprints.name_of, Numbering.Extends, Numbering.IsNameAt}
 use Rattle.stn_lift.proofs.atoms.Atoms.number_atom.Given as goal
 

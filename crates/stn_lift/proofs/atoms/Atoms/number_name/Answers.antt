@@ -1,4 +1,4 @@
-use Rattle.stn_tree.specs.Names.{is_same_word}
+use Rattle.stn_pddl.specs.Tree.Names.{is_same_word}
 use Rattle.stn_lift.specs.AtomViews.{folded_name}
 use Rattle.stn_lift.proofs.{Numbered.different, Numbered.stored_at, Numbered.kept_at, NumberedAtoms.names_decide}
 use Rattle.stn_lift.proofs.atoms.Atoms.number_name.Goals as goal

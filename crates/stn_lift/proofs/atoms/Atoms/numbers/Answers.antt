@@ -1,7 +1,7 @@
 use Rattle.std.proofs.Common.{map, sym, subst, []}
 use Rattle.std.proofs.lemmas.List.{map-append}
 use Rattle.stn_pddl.specs.Views.{atoms_schema}
-use Rattle.stn_plan.specs.Views.{word_of}
+use Rattle.stn_lift.specs.Plan.Views.{word_of}
 use Rattle.stn_lift.specs.{Footprints.ground, Numbering.AreNumbersOf}
 use Rattle.stn_lift.proofs.NumberLists.{kept_along, numbers_none, numbers_moved}
 use Rattle.stn_lift.proofs.atoms.Atoms.numbers.Goals as goal

@@ -1,6 +1,6 @@
 use Rattle.std.proofs.Common.{◌∙◌, ◌++◌, ◌∷◌, map, subst, ap, []}
 use Rattle.stn_pddl.specs.Views.{action_schema}
-use Rattle.stn_plan.specs.Views.{planned_step, word_of}
+use Rattle.stn_lift.specs.Plan.Views.{planned_step, word_of}
 use Rattle.stn_lift.specs.{Footprints.start_of, Footprints.end_of, Numbering.IsNumbered, Activities.activity, Views.numbers_of}
 use Rattle.stn_lift.proofs.TimelineFacts.{timeline_pushed}
 use Rattle.stn_lift.proofs.timeline.Timeline.push.Goals as goal

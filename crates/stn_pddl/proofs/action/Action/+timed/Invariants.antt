@@ -1,5 +1,5 @@
 use Rattle.std.proofs.Common.{◌≡◌, ◌≤◌}
-use Rattle.stn_tree.specs.Cursors.{row_at, behind_at, left_at}
+use Rattle.stn_pddl.specs.Tree.Cursors.{row_at, behind_at, left_at}
 use Rattle.stn_pddl.specs.{Conditions.timed_row, Views.action_schema}
 use Rattle.stn_pddl.proofs.action.Action.+timed.Given as goal
 

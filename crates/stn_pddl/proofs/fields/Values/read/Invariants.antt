@@ -1,5 +1,5 @@
 use Rattle.std.proofs.Common.{◌≡◌}
-use Rattle.stn_tree.specs.Cursors.{row_at, left_at}
+use Rattle.stn_pddl.specs.Tree.Cursors.{row_at, left_at}
 use Rattle.stn_pddl.specs.{Fields.fields, Fields.no_values, FieldViews.values_of}
 use Rattle.stn_pddl.proofs.fields.Values.read.Given as goal
 

@@ -1,5 +1,4 @@
 use Rattle.std.proofs.Common.{is_some, refl, sym, ap, ◌∙◌, arith}
-use Rattle.std.proofs.lemmas.Result.{err_from_is_err_and}
 use Rattle.std.specs.FinMap.{contains_key}
 use Rattle.stn_records.specs.{declared.record.Record.Record, Content.Content}
 use Rattle.stn_site.specs.Held.{Held, difference, plain}
@@ -16,9 +15,6 @@ tighten_by-self-inside-requires-clause-there g c =
     let more = grown_by_addition c.self.inside.plan c.add.new.self c.in_ok-id.id one c.in_ok-id.ensures.leaves in
     ap (λ (s : Content). contains_key s.additions c.in_ok-id.id) c.records.ensures.value ∙ ap is_some more.there
 
-pub invariant_of-self : goal.invariant_of-self
-invariant_of-self g c = rw c.in_err-id.ensures.kept c.self.invariant
-
 pub invariant_of-self-2 : goal.invariant_of-self-2
 invariant_of-self-2 g c =
     let one : Record = plain (difference c.args.from c.args.to c.args.lo c.args.hi) in
@@ -27,17 +23,6 @@ invariant_of-self-2 g c =
     let took = c.tighten_by-self-inside.ensures in
     sound_with_one c.self.inside.plan c.add.new.self c.self.inside.opening c.self.inside.current c.tighten_by-self-inside.new.current c.self.inside.possible c.tighten_by-self-inside.result c.records.result.now
     c.self.invariant leaves.source c.records.ensures.named c.records.ensures.value c.in_ok-id.id one more (record { settled = took.settled; events = took.events; counted = took.counted })
-
-pub returns-in_err-id : goal.returns-in_err-id
-returns-in_err-id g c =
-    let p = err_from_is_err_and c.from_residual.result c.from_residual.ensures.1 in
-    record {
-      leaves = rw p.1 tt;
-      work = rw p.1 tt;
-      accepted = rw p.1 tt;
-      fault = rw (p.1, p.2, ← c.self.view_is) c.in_err-id.ensures.fault;
-      kept = rw p.1 (ap (λ (h : Held). record { site = h.site; source = h.source; state = h.state; steps = c.self.inside.current.steps }) c.in_err-id.ensures.kept ∙ c.self.view_is);
-    }
 
 pub returns : goal.returns
 returns g c =

@@ -1,5 +1,4 @@
 use Rattle.std.proofs.Common.{◌≡◌, true, Some, is_some, sym, ap, ◌∙◌, arith}
-use Rattle.std.proofs.lemmas.Result.{err_from_is_err_and}
 use Rattle.std.specs.FinMap.{contains_key}
 use Rattle.stn_records.specs.Content.{Content, is_known, is_live, join_contents, one_amendment, with_amendment}
 use Rattle.stn_site.specs.Held.{Held, next_id, difference, plain}
@@ -7,20 +6,6 @@ use Rattle.stn_site.proofs.Refused.{amended_known}
 use Rattle.stn_replica.proofs.CatchingUp.{grown_by_amendment, falls_by_amendment, named_after, sound_with_one, sound_anew}
 use Rattle.stn_replica.proofs.{Sound.spares_added, Sound.spares_fallen, replica.Replica.amend.Goals.then-was_live, replica.Replica.amend.Goals.else-was_live}
 use Rattle.stn_replica.proofs.replica.Replica.amend.Goals as goal
-
-pub invariant_of-self : goal.invariant_of-self
-invariant_of-self g c = rw c.in_err-id.ensures.kept c.self.invariant
-
-pub returns-in_err-id : goal.returns-in_err-id
-returns-in_err-id g c =
-    let p = err_from_is_err_and c.from_residual.result c.from_residual.ensures.1 in
-    record {
-      leaves = rw p.1 tt;
-      work = rw p.1 tt;
-      accepted = rw p.1 tt;
-      fault = rw (p.1, p.2, ← c.self.view_is) c.in_err-id.ensures.fault;
-      kept = rw p.1 (ap (λ (h : Held). record { site = h.site; source = h.source; state = h.state; steps = c.self.inside.current.steps }) c.in_err-id.ensures.kept ∙ c.self.view_is);
-    }
 
 pub rebuild-self-inside-requires-clause-named : goal.rebuild-self-inside-requires-clause-named
 rebuild-self-inside-requires-clause-named g c =

@@ -1,17 +1,9 @@
-use Rattle.std.proofs.Common.{ap, subst, sym, ◌∙◌, ◌++◌}
+use Rattle.std.proofs.Common.{ap, subst, ◌∙◌, ◌++◌}
 use Rattle.stn_lift.specs.PlanSource.{base_bounds, events_of}
 use Rattle.stn_records.specs.Content.{Content}
-use Rattle.stn_site.specs.Bounds.{live_bounds, RecordsName}
+use Rattle.stn_site.specs.Bounds.{live_bounds}
 use Rattle.stn_replica.specs.Invariant.{IsSettled}
 use Rattle.stn_replica.proofs.replica.Replica.opened.Goals as goal
-
-pub rebuild-possible-requires-clause-events : goal.rebuild-possible-requires-clause-events
-rebuild-possible-requires-clause-events g c = c.in_ok-current.ensures.events ∙ c.events.ensures.value ∙ ap events_of c.base.ensures ∙ sym c.requires.events
-
-pub rebuild-possible-requires-clause-named : goal.rebuild-possible-requires-clause-named
-rebuild-possible-requires-clause-named g c =
-    subst (λ n. RecordsName n c.records.result.now) (sym (c.in_ok-current.ensures.events ∙ c.events.ensures.value ∙ ap events_of c.base.ensures))
-    (subst (λ (s : Content). RecordsName (events_of c.args.plan.source) s) (sym c.records.ensures.value) c.records.ensures.named)
 
 pub invariant_of-result : goal.invariant_of-result
 invariant_of-result g c = record {

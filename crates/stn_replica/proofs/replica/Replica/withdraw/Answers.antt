@@ -1,5 +1,5 @@
 use Rattle.std.proofs.Common.{◌≡◌, true, refl, sym, ap, subst, ◌∙◌}
-use Rattle.std.proofs.{lemmas.Bool.false≢true, lemmas.Result.err_from_is_err_and}
+use Rattle.std.proofs.{lemmas.Bool.false≢true}
 use Rattle.std.specs.FinMap.{contains_key}
 use Rattle.stn_lift.specs.PlanSource.{PlanSource}
 use Rattle.stn_records.specs.Content.{Content, is_live, with_tombstone}
@@ -7,9 +7,6 @@ use Rattle.stn_site.specs.Held.{Held}
 use Rattle.stn_replica.specs.Invariant.{IsSoundReplica}
 use Rattle.stn_replica.proofs.{CatchingUp.named_after, CatchingUp.sound_anew, Changes.replaced_dead, Changes.withdrawn_replaced, Sound.sound_dead, Sound.falls_withdrawn, Sound.spares_fallen, Sound.spares_same, replica.Replica.withdraw.Goals.then-was_live, replica.Replica.withdraw.Goals.else-was_live}
 use Rattle.stn_replica.proofs.replica.Replica.withdraw.Goals as goal
-
-pub invariant_of-self : goal.invariant_of-self
-invariant_of-self g c = rw c.in_err-withdraw.ensures.kept c.self.invariant
 
 pub rebuild-self-inside-requires-clause-named : goal.rebuild-self-inside-requires-clause-named
 rebuild-self-inside-requires-clause-named g c =
@@ -29,18 +26,6 @@ invariant_of-self-else-was_live g c =
     subst (λ (source : PlanSource). IsSoundReplica source c.withdraw.new.self.state c.self.inside.opening c.self.inside.current c.self.inside.possible) (sym leaves.source)
     (subst (λ (state : Content). IsSoundReplica old.source state c.self.inside.opening c.self.inside.current c.self.inside.possible) (sym leaves.state)
     (sound_dead old.source old.state c.self.inside.opening c.self.inside.current c.self.inside.possible c.args.id c.self.invariant dead))
-
-pub returns-in_err-withdraw : goal.returns-in_err-withdraw
-returns-in_err-withdraw g c =
-    let p = err_from_is_err_and c.from_residual.result c.from_residual.ensures.1 in
-    record {
-      leaves = rw p.1 tt;
-      work = rw p.1 tt;
-      again = λ there. absurd (false≢true (c.in_err-withdraw.ensures.again (ap (λ (h : Held). contains_key h.state.tombstones c.args.id) c.self.view_is ∙ there)).0);
-      accepted = rw p.1 tt;
-      fault = rw (p.1, p.2, ← c.self.view_is) c.in_err-withdraw.ensures.fault;
-      kept = rw p.1 (ap (λ (h : Held). record { site = h.site; source = h.source; state = h.state; steps = c.self.inside.current.steps }) c.in_err-withdraw.ensures.kept ∙ c.self.view_is);
-    }
 
 pub returns : goal.returns
 returns g c =

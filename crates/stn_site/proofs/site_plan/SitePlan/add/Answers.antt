@@ -1,31 +1,20 @@
-use Rattle.std.proofs.Common.{refl, sym, ap, subst, ◌∙◌}
+use Rattle.std.proofs.Common.{sym, ap, subst}
 use Rattle.std.proofs.lemmas.Result.{err_from_is_err_and}
 use Rattle.std.specs.Prelude.{unwrap_or}
-use Rattle.stn_net.specs.Difference.{IsBoundWithin, IsFaultOf}
+use Rattle.stn_net.specs.Difference.{IsBoundWithin}
 use Rattle.stn_lift.specs.PlanSource.{events_of}
-use Rattle.stn_site.specs.{Held.Held, Held.difference, declared.faults.ReplicaFault.TheVariants.Memory}
+use Rattle.stn_site.specs.{Held.difference, declared.faults.ReplicaFault.TheVariants.Memory}
 use Rattle.stn_site.proofs.Refused.{add_passes, add_refused}
 use Rattle.stn_site.proofs.site_plan.SitePlan.add.Goals as goal
 
-pub returns-in_err-bound : goal.returns-in_err-bound
-returns-in_err-bound g c =
+pub returns-in_err-bound-clause-fault : goal.returns-in_err-bound-clause-fault
+returns-in_err-bound-clause-fault g c =
     let p = err_from_is_err_and c.from_residual.result c.from_residual.ensures.1 in
-    let bound = difference c.args.from c.args.to c.args.lo c.args.hi in
-    let events = c.events.ensures.value ∙ ap events_of c.deref.ensures ∙ ap (λ (h : Held). events_of h.source) c.self.view_is in
-    let fault = subst (λ n. IsFaultOf n bound c.in_err-bound.field-0.0) events c.in_err-bound.ensures.fault in
-    record {
-      leaves = rw p.1 tt;
-      accepted = rw p.1 tt;
-      fault = rw (p.1, p.2) (ap (λ o. unwrap_or o Memory) (sym (add_refused c.args.self.now bound c.in_err-bound.field-0.0 fault)));
-      kept = rw p.1 refl;
-    }
+    rw (p.1, p.2) (ap (λ o. unwrap_or o Memory) (sym (add_refused c.args.self.now (difference c.args.from c.args.to c.args.lo c.args.hi) c.in_err-bound.field-0.0 c.in_err-bound.ensures.fault)))
 
 pub returns : goal.returns
 returns g c =
-    let bound = difference c.args.from c.args.to c.args.lo c.args.hi in
-    let events = c.events.ensures.value ∙ ap events_of c.deref.ensures ∙ ap (λ (h : Held). events_of h.source) c.self.view_is in
-    let within = subst (λ n. IsBoundWithin n c.in_ok-bound.bound) events c.in_ok-bound.ensures.sound in
-    let passes = add_passes c.args.self.now bound (subst (IsBoundWithin (events_of c.args.self.now.source)) c.in_ok-bound.ensures.made within) in
+    let passes = add_passes c.args.self.now (difference c.args.from c.args.to c.args.lo c.args.hi) (subst (IsBoundWithin (events_of c.args.self.now.source)) c.in_ok-bound.ensures.made c.in_ok-bound.ensures.within) in
     record {
       leaves = rw c.in_ok-bound.ensures.made at c.hold.ensures.leaves;
       accepted = rw passes c.hold.ensures.accepted;

@@ -1,9 +1,7 @@
-use Rattle.std.proofs.Common.{sym, ap, subst, ◌∙◌}
+use Rattle.std.proofs.Common.{sym, ap, ◌∙◌}
 use Rattle.std.proofs.{lemmas.Bool.eqb-true, lemmas.Bool.eqb-false, lemmas.Result.err_from_is_err_and}
 use Rattle.std.specs.Prelude.{unwrap_or}
-use Rattle.stn_net.specs.Difference.{IsFaultOf}
-use Rattle.stn_lift.specs.PlanSource.{events_of}
-use Rattle.stn_site.specs.{Held.Held, Held.difference, declared.faults.ReplicaFault.TheVariants.Memory}
+use Rattle.stn_site.specs.declared.faults.ReplicaFault.TheVariants.{Memory}
 use Rattle.stn_site.proofs.Refused.{done_origin, fixed_refused}
 use Rattle.stn_site.proofs.site_plan.SitePlan.done.Goals as goal
 
@@ -14,8 +12,5 @@ returns-then-eq-clause-fault g c =
 pub returns-in_err-bound-clause-fault : goal.returns-in_err-bound-clause-fault
 returns-in_err-bound-clause-fault g c =
     let p = err_from_is_err_and c.from_residual.result c.from_residual.ensures.1 in
-    let bound = difference c.origin-2.result c.args.event c.args.time c.args.time in
-    let events = c.events.ensures.value ∙ ap events_of c.deref.ensures ∙ ap (λ (h : Held). events_of h.source) c.self.view_is in
-    let fault = subst (λ n. IsFaultOf n bound c.in_err-bound.field-0.0) events c.in_err-bound.ensures.fault in
     rw (p.1, p.2) (ap (λ o. unwrap_or o Memory) (sym (fixed_refused c.args.self.now c.origin-2.result c.args.event c.args.time c.in_err-bound.field-0.0 c.origin-2.ensures
-    (λ first. eqb-false c.args.event c.origin.result (sym c.if-eq.ensures) (first ∙ sym c.origin.ensures)) fault)))
+    (λ first. eqb-false c.args.event c.origin.result (sym c.if-eq.ensures) (first ∙ sym c.origin.ensures)) c.in_err-bound.ensures.fault)))

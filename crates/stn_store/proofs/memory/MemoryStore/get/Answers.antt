@@ -6,10 +6,10 @@ use Rattle.stn_store.proofs.{Lookups.under_this, Lookups.under_earlier, memory.M
 use Rattle.stn_store.proofs.memory.MemoryStore.get.Goals as goal
 
 pub loop-entry-init : goal.loop-entry-init
-loop-entry-init c = refl
+loop-entry-init g c = refl
 
 pub loop-entry-preserved : goal.loop-entry-preserved
-loop-entry-preserved c =
+loop-entry-preserved g c =
     let named = c.eq.ensures ∙ ap (λ (name : List ℕ). bytes_eq name c.args.name.now) c.as_str.ensures.value in
     elim c.if-eq.branch [
       | then-eq w ↦ ap (option_map (λ bytes. bytes.now)) w.found-is ∙ ap Some w.as_slice.ensures.value
@@ -19,6 +19,6 @@ loop-entry-preserved c =
     ]
 
 pub returns : goal.returns
-returns c = c.loop-entry.invariant
+returns g c = c.loop-entry.invariant
     ∙ ap (λ all. bytes_under (map entry_of all) c.args.name.now)
     (take_all c.loop-entry.entry-index c.deref-entry-items.result.now c.loop-entry-test.false ∙ c.deref-entry-items.ensures.value)

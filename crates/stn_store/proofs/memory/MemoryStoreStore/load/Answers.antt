@@ -1,9 +1,8 @@
 use Rattle.std.proofs.Common.{◌≡◌, ℕ, List, Some, Result, Ok, Err, refl, sym, ap, inl, inr, ◌∙◌}
 use Rattle.std.specs.Prelude.{◌⊎◌, IfOk}
 use Rattle.std.proofs.lemmas.Result.{IfErr-weaker}
-use Rattle.stn_log.specs.{Log.log_held, declared.fault.LoadFault.LoadFault, Failures.load_failure}
+use Rattle.stn_store.specs.{Log.log_held, declared.log.fault.LoadFault.LoadFault, Log.Failures.load_failure, Bytes.IsLogIn, Memory.entries_of, Store.Entry, Store.Opens, Store.IsUnopened, Store.IsLack, Store.bytes_under}
 use Rattle.stn_site.specs.Held.{Held}
-use Rattle.stn_store.specs.{Bytes.IsLogIn, Memory.entries_of, Store.Entry, Store.Opens, Store.IsUnopened, Store.IsLack, Store.bytes_under}
 use Rattle.stn_refusal.specs.{declared.failure.Failure.Failure, declared.failure.Failure.TheVariants.Failed}
 use Rattle.stn_refusal.specs.declared.failure.Fault.TheVariants.{Memory, Read}
 use Rattle.stn_store.proofs.Lacks.{lack_of_memory}
@@ -25,7 +24,7 @@ why_unopened entries name known there failure (inr (inr why)) =
     inl (inr (why.0, record { bytes = why.1.0; there = there ∙ ap Some why.1.1; meant = why.1.2 }, why.2))
 
 pub returns-in-Some : goal.returns-in-Some
-returns-in-Some c =
+returns-in-Some g c =
     let entries = entries_of c.args.self.now in
     let known = c.in-Some.bytes.now in
     let there : bytes_under entries c.args.name.now ≡ Some known = sym c.in-Some.ensures in
@@ -35,4 +34,4 @@ returns-in-Some c =
     }
 
 pub returns-in-None : goal.returns-in-None
-returns-in-None c = record { opened = tt; failed = inl (inl (sym c.in-None.ensures, refl)) }
+returns-in-None g c = record { opened = tt; failed = inl (inl (sym c.in-None.ensures, refl)) }

@@ -1,8 +1,8 @@
+use Rattle.std.proofs.Common.{refl, inl}
 use Rattle.std.proofs.lemmas.Result.{err_from_is_err_and}
-use Rattle.stn_store.proofs.Lacks.{lack_of_memory}
 use Rattle.stn_store.proofs.memory.MemoryStoreStore.save.Goals as goal
 
 pub returns-in_err-text-clause-failed : goal.returns-in_err-text-clause-failed
-returns-in_err-text-clause-failed c =
+returns-in_err-text-clause-failed g c =
     let p = err_from_is_err_and c.from_residual.result c.from_residual.ensures.1 in
-    rw (p.1, p.2) (lack_of_memory _ _ c.in_err-text.ensures.failed)
+    rw (p.1, p.2) (inl refl)

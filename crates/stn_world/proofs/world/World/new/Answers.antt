@@ -21,15 +21,11 @@ loop-before-preserved g c =
     subst (λ (n : ℕ). IsStarted (rc_value c.args.base) n c.push.new.self.items) count
     (subst (λ (l : List Held). IsStarted (rc_value c.args.base) (suc c.loop-before.before) l) (sym grown) more)
 
-pub returns : goal.returns
-returns g c =
+pub returns-clause-opening : goal.returns-clause-opening
+returns-clause-opening g c =
     let all : c.loop-before.before ≡ c.args.sites = omega arith in
-    record {
-      opening = ap (λ (l : List Content). record { source = rc_value c.args.base; sites = contents_of c.loop-before.replicas.items; packets = l }) c.new-2.ensures.items
-          ∙ ap (λ (l : List Content). record { source = rc_value c.args.base; sites = l; packets = [] }) (c.loop-before.invariant.nothing ∙ ap (λ (n : ℕ). replicate n no_content) all);
-      accepted = record { least = omega (arith, c.if-sites-lt1.false); most = omega (arith, c.if-sites-gt-MOST_SITES.false) };
-      fault = tt;
-    }
+    ap (λ (l : List Content). record { source = rc_value c.args.base; sites = contents_of c.loop-before.replicas.items; packets = l }) c.new-2.ensures.items
+    ∙ ap (λ (l : List Content). record { source = rc_value c.args.base; sites = l; packets = [] }) (c.loop-before.invariant.nothing ∙ ap (λ (n : ℕ). replicate n no_content) all)
 
 pub invariant_of-result : goal.invariant_of-result
 invariant_of-result g c =
@@ -37,23 +33,12 @@ invariant_of-result g c =
     subst (λ (l : List Content). IsSoundWorld (rc_value c.args.base) c.loop-before.replicas.items l) (sym c.new-2.ensures.items)
     (started_sound (rc_value c.args.base) c.loop-before.before c.loop-before.replicas.items c.loop-before.invariant (omega arith) (omega arith))
 
-pub beside_others-requires : goal.beside_others-requires
-beside_others-requires g c =
-    let started = c.loop-before.invariant in
-    subst (λ (l : List Held). map (λ replica. replica.source) l ≡ replicate (length l) (rc_value c.args.base)) (sym c.deref.ensures.value)
-    (started.sources ∙ ap (λ (n : ℕ). replicate n (rc_value c.args.base)) (sym started.counted))
-
-pub returns-in_err-replica : goal.returns-in_err-replica
-returns-in_err-replica g c =
+pub returns-in_err-replica-clause-fault : goal.returns-in_err-replica-clause-fault
+returns-in_err-replica-clause-fault g c =
     let p = err_from_is_err_and c.from_residual-in_err-replica.result c.from_residual-in_err-replica.ensures.1 in
-    rw (p.1, p.2) (record { opening = tt; accepted = tt; fault = record { least = omega (arith, c.if-sites-lt1.false); most = omega (arith, c.if-sites-gt-MOST_SITES.false) } })
+    rw (p.1, p.2) (record { least = omega (arith, c.if-sites-lt1.false); most = omega (arith, c.if-sites-gt-MOST_SITES.false) })
 
-pub returns-in_err-push : goal.returns-in_err-push
-returns-in_err-push g c =
+pub returns-in_err-push-clause-fault : goal.returns-in_err-push-clause-fault
+returns-in_err-push-clause-fault g c =
     let p = err_from_is_err_and c.from_residual-in_err-push.result c.from_residual-in_err-push.ensures.1 in
-    rw (p.1, p.2) (record { opening = tt; accepted = tt; fault = record { least = omega (arith, c.if-sites-lt1.false); most = omega (arith, c.if-sites-gt-MOST_SITES.false) } })
-
-pub returns-in_err-replicas : goal.returns-in_err-replicas
-returns-in_err-replicas g c =
-    let p = err_from_is_err_and c.from_residual.result c.from_residual.ensures.1 in
-    rw (p.1, p.2) (record { opening = tt; accepted = tt; fault = record { least = omega (arith, c.if-sites-lt1.false); most = omega (arith, c.if-sites-gt-MOST_SITES.false) } })
+    rw (p.1, p.2) (record { least = omega (arith, c.if-sites-lt1.false); most = omega (arith, c.if-sites-gt-MOST_SITES.false) })

@@ -1,0 +1,36 @@
+-- Why a text is refused, in the words of its lines.
+use Rattle.std.specs.Prelude.{◌≡◌, ℕ, ◌<◌, List, ◌∷◌, ◌++◌, length, All, Ok, Err, IsOk}
+use Rattle.stn_lift.specs.{declared.plan.fault.PlanFault.PlanFault, Plan.Lines.lines_of, Plan.Steps.PlannedStep, Plan.Steps.most_text, Plan.Steps.most_steps, Plan.Steps.line_step, Plan.Steps.steps_of}
+use Rattle.stn_lift.specs.declared.plan.fault.PlanFault.TheVariants.{TooLong, Syntax, Number, Negative, TooManySteps, Memory}
+
+-- a fault that names this line
+abbrev pub IsFaultOf : ℕ → PlanFault → Type 0
+IsFaultOf line TooLong = ⊥
+IsFaultOf line (Syntax number) = number ≡ line
+IsFaultOf line (Number number) = number ≡ line
+IsFaultOf line (Negative number) = number ≡ line
+IsFaultOf line TooManySteps = ⊥
+IsFaultOf line Memory = ⊥
+
+-- one of the lines has the fault by itself, which names that line, and no line before it has a fault
+pub record IsFirstFault (lines : List (ℕ × List ℕ)) (fault : PlanFault) : Type 0 where
+  pub earlier : List (ℕ × List ℕ)
+  pub line : ℕ × List ℕ
+  pub later : List (ℕ × List ℕ)
+  pub whole : lines ≡ earlier ++ line ∷ later
+  pub its_fault : line_step line ≡ Err fault
+  pub its_number : IsFaultOf line.0 fault
+  pub none_before : All (λ other. IsOk (line_step other)) earlier
+
+-- no line has a fault, and there are more steps than a plan may have
+pub record HasTooManySteps (lines : List (ℕ × List ℕ)) : Type 0 where
+  pub steps : List PlannedStep
+  pub found : steps_of lines ≡ Ok steps
+  pub many : most_steps < length steps
+
+-- the cause that a fault has
+abbrev pub IsCause : List ℕ → PlanFault → Type 0
+IsCause text TooLong = most_text < length text
+IsCause text TooManySteps = HasTooManySteps (lines_of text)
+IsCause text Memory = Unit {0}
+IsCause text fault = IsFirstFault (lines_of text) fault

@@ -1,0 +1,47 @@
+//! Why a text is no plan.
+
+ghost use Rattle.std.specs.Prelude.{◌≡◌};
+ghost use Rattle.stn_lift.specs.declared.plan.fault.PlanFault.TheVariants.{Memory};
+
+use std::alloc::{AllocError, AllocFailed};
+use thiserror::Error;
+
+/// Why a text is no plan. The first line with a fault decides, and on one line `Syntax`, then `Number`, then
+/// `Negative`.
+#[derive(Clone, Copy, Debug, PartialEq, Eq, Error)]
+pub enum PlanFault {
+    /// The text has more than 65,536 bytes.
+    #[error("the plan is too long")]
+    TooLong,
+    /// This line has not the form of a step.
+    #[error("syntax on line {0} of the plan")]
+    Syntax(u32),
+    /// On this line a word that should be a time is none.
+    #[error("no time on line {0} of the plan")]
+    Number(u32),
+    /// On this line a time is below 0.
+    #[error("a negative time on line {0} of the plan")]
+    Negative(u32),
+    /// No line has a fault, and there are more than 256 steps.
+    #[error("the plan has too many steps")]
+    TooManySteps,
+    /// Out of memory.
+    #[error("out of memory")]
+    Memory,
+}
+
+impl From<AllocError> for PlanFault {
+    ghost from_gives = { λ _ fault. fault ≡ Memory };
+
+    fn from(_refused: AllocError) -> PlanFault {
+        PlanFault::Memory
+    }
+}
+
+impl<T: Drop> From<AllocFailed<T>> for PlanFault {
+    ghost from_gives = { λ _ fault. fault ≡ Memory };
+
+    fn from(_refused: AllocFailed<T>) -> PlanFault {
+        PlanFault::Memory
+    }
+}

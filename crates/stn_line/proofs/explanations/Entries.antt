@@ -1,0 +1,126 @@
+-- The entries of all subjects.
+use Rattle.std.proofs.Common.{arith, refl, ◌+◌, true≢false, ◌≡◌, ◌≢◌, ◌∙◌, ◌<◌, ◌≤◌, ◌&&◌, ◌++◌, Bool, true, false, ℕ, List, [], ◌∷◌, length, map, take, get_or, sym, ap, Option, Some, subst, All}
+use Rattle.std.specs.List.{list_all}
+use Rattle.std.proofs.lemmas.List.{append_assoc, append-nil, map_more, take_all}
+use Rattle.std.proofs.lemmas.List.Elements.{All-nil, All-cons, All-map}
+use Rattle.stn_refusal.specs.declared.code.Code.TheVariants as code
+use Rattle.stn_refusal.specs.declared.failure.Fault.TheVariants as fault
+use Rattle.stn_line.specs.{Explanations.Explained.IsMeaning, Explanations.Explained.AreMeanings, Explanations.Explained.IsExplained, Explanations.Explained.NamesNothing, Explanations.Subjects.subjects, Explanations.Subjects.word_of, Explanations.Table.IsEntry, Explanations.Table.IsTable, Explanations.Table.is_some, Explanations.Table.says, declared.explanations.subject.Subject.Subject, declared.explanations.table.Entry.Entry}
+use Rattle.stn_line.specs.declared.explanations.subject.Subject.TheVariants as subject
+
+-- what holds of all subjects of the list holds of each
+at_each : (P : Subject → Type 0) → All P subjects → (s : Subject) → P s
+at_each P all (subject.Refusal code.Malformed) = all 0 (subject.Fault fault.File) (omega arith)
+at_each P all (subject.Refusal code.TooFine) = all 1 (subject.Fault fault.File) (omega arith)
+at_each P all (subject.Refusal code.OutOfRange) = all 2 (subject.Fault fault.File) (omega arith)
+at_each P all (subject.Refusal code.NoEvent) = all 3 (subject.Fault fault.File) (omega arith)
+at_each P all (subject.Refusal code.SameEvent) = all 4 (subject.Fault fault.File) (omega arith)
+at_each P all (subject.Refusal code.Crossed) = all 5 (subject.Fault fault.File) (omega arith)
+at_each P all (subject.Refusal code.Overdue) = all 6 (subject.Fault fault.File) (omega arith)
+at_each P all (subject.Refusal code.DomainTooLong) = all 7 (subject.Fault fault.File) (omega arith)
+at_each P all (subject.Refusal code.DomainSyntax) = all 8 (subject.Fault fault.File) (omega arith)
+at_each P all (subject.Refusal code.DomainTooDeep) = all 9 (subject.Fault fault.File) (omega arith)
+at_each P all (subject.Refusal code.DomainUnsupported) = all 10 (subject.Fault fault.File) (omega arith)
+at_each P all (subject.Refusal code.DomainNumber) = all 11 (subject.Fault fault.File) (omega arith)
+at_each P all (subject.Refusal code.DomainTwice) = all 12 (subject.Fault fault.File) (omega arith)
+at_each P all (subject.Refusal code.DomainVariable) = all 13 (subject.Fault fault.File) (omega arith)
+at_each P all (subject.Refusal code.PlanTooLong) = all 14 (subject.Fault fault.File) (omega arith)
+at_each P all (subject.Refusal code.PlanSyntax) = all 15 (subject.Fault fault.File) (omega arith)
+at_each P all (subject.Refusal code.PlanNumber) = all 16 (subject.Fault fault.File) (omega arith)
+at_each P all (subject.Refusal code.PlanNegative) = all 17 (subject.Fault fault.File) (omega arith)
+at_each P all (subject.Refusal code.PlanTooManySteps) = all 18 (subject.Fault fault.File) (omega arith)
+at_each P all (subject.Refusal code.UnknownAction) = all 19 (subject.Fault fault.File) (omega arith)
+at_each P all (subject.Refusal code.Arity) = all 20 (subject.Fault fault.File) (omega arith)
+at_each P all (subject.Refusal code.DurationDiffers) = all 21 (subject.Fault fault.File) (omega arith)
+at_each P all (subject.Refusal code.PastHorizon) = all 22 (subject.Fault fault.File) (omega arith)
+at_each P all (subject.Refusal code.BareTooManySteps) = all 23 (subject.Fault fault.File) (omega arith)
+at_each P all (subject.Refusal code.Clash) = all 24 (subject.Fault fault.File) (omega arith)
+at_each P all (subject.Refusal code.Full) = all 25 (subject.Fault fault.File) (omega arith)
+at_each P all (subject.Refusal code.Unknown) = all 26 (subject.Fault fault.File) (omega arith)
+at_each P all (subject.Refusal code.CounterSpent) = all 27 (subject.Fault fault.File) (omega arith)
+at_each P all (subject.Refusal code.SelfReplace) = all 28 (subject.Fault fault.File) (omega arith)
+at_each P all (subject.Refusal code.NotRobust) = all 29 (subject.Fault fault.File) (omega arith)
+at_each P all (subject.Refusal code.FrameLength) = all 30 (subject.Fault fault.File) (omega arith)
+at_each P all (subject.Refusal code.FrameKind) = all 31 (subject.Fault fault.File) (omega arith)
+at_each P all (subject.Refusal code.FrameBody) = all 32 (subject.Fault fault.File) (omega arith)
+at_each P all (subject.Refusal code.OldFrame) = all 33 (subject.Fault fault.File) (omega arith)
+at_each P all (subject.Refusal code.OtherPlan) = all 34 (subject.Fault fault.File) (omega arith)
+at_each P all (subject.Refusal code.Unexpected) = all 35 (subject.Fault fault.File) (omega arith)
+at_each P all (subject.Refusal code.LogForm) = all 36 (subject.Fault fault.File) (omega arith)
+at_each P all (subject.Refusal code.Reply) = all 37 (subject.Fault fault.File) (omega arith)
+at_each P all (subject.Refusal code.LogThere) = all 38 (subject.Fault fault.File) (omega arith)
+at_each P all (subject.Refusal code.OldVersion) = all 39 (subject.Fault fault.File) (omega arith)
+at_each P all (subject.Refusal code.Line) = all 40 (subject.Fault fault.File) (omega arith)
+at_each P all (subject.Refusal code.NoSite) = all 41 (subject.Fault fault.File) (omega arith)
+at_each P all (subject.Refusal code.NoPacket) = all 42 (subject.Fault fault.File) (omega arith)
+at_each P all (subject.Refusal code.TooManyPackets) = all 43 (subject.Fault fault.File) (omega arith)
+at_each P all (subject.Fault fault.File) = all 44 (subject.Fault fault.File) (omega arith)
+at_each P all (subject.Fault fault.Net) = all 45 (subject.Fault fault.File) (omega arith)
+at_each P all (subject.Fault fault.Read) = all 46 (subject.Fault fault.File) (omega arith)
+at_each P all (subject.Fault fault.Write) = all 47 (subject.Fault fault.File) (omega arith)
+at_each P all (subject.Fault fault.Bound) = all 48 (subject.Fault fault.File) (omega arith)
+at_each P all (subject.Fault fault.Memory) = all 49 (subject.Fault fault.File) (omega arith)
+
+-- what holds of the subjects of the entries of all
+all_named : (P : Subject → Type 0) (entries : List Entry) → map (λ entry. entry.subject) entries ≡ subjects → All (λ entry. P entry.subject) entries → All P subjects
+all_named P entries are hold = subst (All P) are (All-map P (λ entry. entry.subject) entries hold)
+
+some : (text : List ℕ) → is_some text ≡ true → text ≢ []
+some [] is none = absurd (true≢false (sym is))
+some (x ∷ xs) is none = absurd (true≢false (ap is_some none))
+
+both : (a b : Bool) → (a && b) ≡ true → (a ≡ true) × (b ≡ true)
+both true true is = (refl, refl)
+both true false is = absurd (true≢false (sym is))
+both false b is = absurd (true≢false (sym is))
+
+-- each of the entries says something
+all_say : (entries : List Entry) → list_all says entries ≡ true → All IsEntry entries
+all_say [] is = All-nil IsEntry
+all_say (entry ∷ rest) is =
+    let parts = both (says entry) (list_all says rest) is in
+    let texts = both (is_some entry.meaning.now) (is_some entry.more.now) parts.0 in
+    All-cons IsEntry entry rest (record { meaning = some entry.meaning.now texts.0; more = some entry.more.now texts.1 }) (all_say rest parts.1)
+
+pub all_entries : (entries : List Entry) → IsTable entries → All IsEntry entries
+all_entries entries table = all_say entries table.said
+
+-- a word that names the subject of no entry names nothing
+pub names_nothing : (word : List ℕ) (entries : List Entry) → IsTable entries → All (λ entry. word ≢ word_of entry.subject) entries → NamesNothing (Some word)
+names_nothing word entries table none = at_each (λ subject. word ≢ word_of subject) (all_named (λ subject. word ≢ word_of subject) entries table.each none)
+
+-- what explains a word is appended to a text
+pub appended : (word : Option (List ℕ)) (text old between new : List ℕ) → IsExplained word text → between ≡ text → new ≡ old ++ between
+    → (text : List ℕ) × IsExplained word text × (new ≡ old ++ text)
+appended word text old between new is same grown = (text, is, grown ∙ ap (λ t. old ++ t) same)
+
+pub unnamed : (named : Bool) → named ≡ false → named ≡ true → ⊥
+unnamed named not is = true≢false (sym is ∙ not)
+
+more_meanings : (subjects : List Subject) (s : Subject) (text line : List ℕ) → AreMeanings subjects text → IsMeaning s line
+    → AreMeanings (subjects ++ s ∷ []) (text ++ line)
+more_meanings [] s text line none is = (line, [], is, refl, ap (λ t. t ++ line) none ∙ sym (append-nil line))
+more_meanings (first ∷ rest) s text line are is =
+    (are.0, are.1 ++ line, are.2, more_meanings rest s are.1 line are.3 is, ap (λ t. t ++ line) are.4 ∙ append_assoc are.0 are.1 line)
+
+-- a text goes on with the lines of the first entries
+pub record AppendsMeanings (entries : List Entry) (count : ℕ) (old new : List ℕ) : Type 0 where
+  pub text : List ℕ
+  pub lines : AreMeanings (map (λ entry. entry.subject) (take count entries)) text
+  pub whole : new ≡ old ++ text
+
+-- and then with that of the next
+pub one_more : (entries : List Entry) (count : ℕ) (d : Entry) (old between new line : List ℕ) → count < length entries
+    → AppendsMeanings entries count old between → IsMeaning (get_or entries count d).subject line → new ≡ between ++ line → AppendsMeanings entries (count + 1) old new
+one_more entries count d old between new line within before meaning whole = record {
+  text = before.text ++ line;
+  lines = subst (λ subjects. AreMeanings subjects (before.text ++ line)) (sym (map_more (λ entry. entry.subject) entries count d within))
+      (more_meanings (map (λ entry. entry.subject) (take count entries)) (get_or entries count d).subject before.text line before.lines meaning);
+  whole = whole ∙ ap (λ t. t ++ line) before.whole ∙ append_assoc old before.text line;
+}
+
+-- with those of all, the text is whole
+pub whole_list : (entries : List Entry) (count : ℕ) (old new : List ℕ) → length entries ≤ count → AppendsMeanings entries count old new
+    → (text : List ℕ) × AreMeanings (map (λ entry. entry.subject) entries) text × (new ≡ old ++ text)
+whole_list entries count old new all are =
+    (are.text, subst (λ some. AreMeanings (map (λ entry. entry.subject) some) are.text) (take_all count entries all) are.lines, are.whole)

@@ -1,0 +1,19 @@
+use Rattle.std.proofs.Common.{[], refl, sym}
+use Rattle.std.proofs.lemmas.List.{append-nil}
+use Rattle.stn_line.proofs.explanations.Entries.{one_more, whole_list}
+use Rattle.stn_line.proofs.explanations.printing.append_meanings.Goals as goal
+
+pub loop-entry-init : goal.loop-entry-init
+loop-entry-init g c = record { text = []; lines = refl; whole = sym (append-nil c.args.out.now.items) }
+
+pub append_meaning-requires : goal.append_meaning-requires
+append_meaning-requires g c = c.requires c.loop-entry.entry-index _ c.loop-entry-test.true
+
+pub loop-entry-preserved : goal.loop-entry-preserved
+loop-entry-preserved g c =
+    one_more c.args.entries.now c.loop-entry.entry-index _ c.args.out.now.items c.loop-entry.out.items c.append_meaning.new.out.items
+    c.in_ok-append_meaning.ensures.0 c.loop-entry-test.true c.loop-entry.invariant
+    c.in_ok-append_meaning.ensures.1 c.in_ok-append_meaning.ensures.2
+
+pub returns : goal.returns
+returns g c = whole_list c.args.entries.now c.loop-entry.entry-index c.args.out.now.items c.loop-entry.out.items c.loop-entry-test.false c.loop-entry.invariant

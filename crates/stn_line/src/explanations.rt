@@ -1,0 +1,9 @@
+//! What the program's refusals and faults mean, and what to do about them.
+
+pub use printing::{ExplainFault, print_explained};
+pub use subject::{Subject, fault_word};
+
+mod failures;
+mod printing;
+mod subject;
+mod table;

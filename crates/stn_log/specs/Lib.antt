@@ -1,4 +1,0 @@
-pub mod Faults
-pub mod Log
-pub mod Opening
-pub mod Failures

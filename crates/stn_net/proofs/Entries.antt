@@ -1,0 +1,231 @@
+use Rattle.std.proofs.Common.{◌≡◌, ◌≢◌, ℕ, ℤ, pos, ◌+◌, ◌*◌, ◌<◌, ◌≤◌, ◌+ℤ◌, ◌≤ℤ◌, ◌<ℤ◌, ◌⊎◌, neg_ℤ, inl, inr, List, [], ◌∷◌, ◌++◌, length, set, refl, ap, sym, ◌∙◌, arith, get_or-set_same, get_or-set_other}
+use Rattle.std.specs.{Prelude.All, Prelude.Contains, Prelude.slice_index_or, Int.int_min}
+use Rattle.std.proofs.{lemmas.Int.ints, lemmas.Int.clamps, lemmas.Bool.cases_eq, lemmas.Bool.cases_lt, lemmas.Nat.mul-add-lt, lemmas.Nat.same_from_place, lemmas.List.get_or_default}
+use Rattle.std.proofs.lemmas.List.Elements.{All-push, Contains-push, Contains-append_left}
+use Rattle.stn_time.specs.Time.{horizon}
+use Rattle.stn_net.specs.{Matrix.Closed.IsClosed, Matrix.Table.Square, Matrix.Table.entry, Matrix.Way.IsWhole, Matrix.Way.shorter, Matrix.Way.IsInReach, Matrix.Way.AreNearer, Matrix.Way.AreRunsOf, Matrix.Way.IsWritten, Matrix.Way.IsRowShortened}
+use Rattle.stn_net.proofs.Closure.{shorter-own_row, shorter-kept_row}
+
+-- the place of an entry lies in the square
+pub place_within : (events row column : ℕ) → row ≤ events → column ≤ events → row * (events + 1) + column < (events + 1) * (events + 1)
+place_within events row column rs cs = mul-add-lt row (events + 1) column (events + 1) (omega arith) (omega arith)
+
+-- a write at the place of an entry is a write of this entry alone
+pub written-set : (square : Square) (row column : ℕ) (value : ℤ) → IsWhole square → row ≤ square.events → column ≤ square.events
+    → IsWritten square.events (entry square)
+    (entry (record { events = square.events; entries = set square.entries (row * (square.events + 1) + column) value })) row column value
+written-set square row column value whole rs cs =
+    let width = square.events + 1 in
+    let place = row * width + column in
+    let within : place < length square.entries = omega (arith, place_within square.events row column rs cs, whole.entries) in
+    record {
+      here = get_or-set_same square.entries place value (pos 0) within;
+      others = λ x y xs ys apart.
+          let differs : (x * width + y) ≢ place = λ e.
+          let same = same_from_place x y row column width (omega arith) (omega arith) e in
+          elim apart [ inl ne ↦ ne same.0 | inr ne ↦ ne same.1 ] in
+          get_or-set_other square.entries place (x * width + y) value (pos 0) differs;
+    }
+
+-- a row's entries in the columns before a place are shorter already, and the others are as they were, or shorter too
+pub record AreShortened (size : ℕ) (old new onward : ℕ → ℤ) (through : ℤ) (columns : List ℕ) (place : ℕ) : Type 0 where
+  pub here : (k : ℕ) → k < place → k < length columns
+      → new (slice_index_or columns k 0) ≡ int_min (old (slice_index_or columns k 0)) (through +ℤ onward (slice_index_or columns k 0))
+  pub either : (y : ℕ) → y < size → (new y ≡ old y) ⊎ (new y ≡ int_min (old y) (through +ℤ onward y))
+
+-- one more column, which may be among them already
+pub shortened_column : (size : ℕ) (old new next onward : ℕ → ℤ) (through : ℤ) (columns : List ℕ) (place : ℕ)
+    → AreShortened size old new onward through columns place → All (λ y. y < size) columns → place < length columns
+    → next (slice_index_or columns place 0) ≡ int_min (new (slice_index_or columns place 0)) (through +ℤ onward (slice_index_or columns place 0))
+    → ((y : ℕ) → y < size → y ≢ slice_index_or columns place 0 → next y ≡ new y)
+    → AreShortened size old next onward through columns (place + 1)
+shortened_column size old new next onward through columns place so_far within there here others =
+    let column = slice_index_or columns place 0 in
+    let cs : column < size = within place 0 there in
+    let least : next column ≡ int_min (old column) (through +ℤ onward column) = elim (so_far.either column cs) [
+      | inl own ↦ (here ∙ rw own refl)
+      | inr own ↦ omega (arith, ints, clamps)
+    ] in
+    record {
+      here = λ k before below. elim (cases_eq (slice_index_or columns k 0) column) [
+        | inl e ↦ rw e least
+        | inr ne ↦ (others (slice_index_or columns k 0) (within k 0 below) ne
+            ∙ so_far.here k (let differs : k ≢ place = λ same. ne (ap (λ k. slice_index_or columns k 0) same) in omega arith) below)
+      ];
+      either = λ y ys. elim (cases_eq y column) [
+        | inl e ↦ inr (rw e least)
+        | inr ne ↦ elim (so_far.either y ys) [
+          | inl own ↦ inl (others y ys ne ∙ own)
+          | inr own ↦ inr (others y ys ne ∙ own)
+        ]
+      ];
+    }
+
+-- the run of a column that comes no nearer
+pub shortened_run : (size : ℕ) (old new onward : ℕ → ℤ) (through : ℤ) (columns ends : List ℕ) (place : ℕ)
+    → AreShortened size old new onward through columns place → AreRunsOf size old onward through columns ends
+    → place < length columns → new (slice_index_or columns place 0) <ℤ (through +ℤ onward (slice_index_or columns place 0))
+    → AreShortened size old new onward through columns (slice_index_or ends place 0)
+shortened_run size old new onward through columns ends place so_far runs there longer =
+    let column = slice_index_or columns place 0 in
+    let cs : column < size = runs.named place 0 there in
+    let either_here = so_far.either column cs in
+    let own : old column ≤ℤ (through +ℤ onward column) = omega (arith, ints, clamps) in
+    let kept : (y : ℕ) → y < size → old y ≤ℤ (through +ℤ onward y) → new y ≡ int_min (old y) (through +ℤ onward y) =
+    λ y ys far. elim (so_far.either y ys) [ inl same ↦ omega (arith, ints, clamps) | inr same ↦ same ] in
+    record {
+      here = λ k before below. elim (cases_lt k place) [
+        | inl done ↦ so_far.here k done below
+        | inr not_done ↦ elim (cases_eq k place) [
+          | inl e ↦ rw e (kept column cs own)
+          | inr ne ↦ kept (slice_index_or columns k 0) (runs.named k 0 below) (runs.passed place k (omega arith) below before own)
+        ]
+      ];
+      either = so_far.either;
+    }
+
+-- the columns that are left out do not change
+pub shortened_columns : (size : ℕ) (old new onward : ℕ → ℤ) (through : ℤ) (columns : List ℕ) (place : ℕ)
+    → AreShortened size old new onward through columns place → length columns ≤ place
+    → ((y : ℕ) → y < size → Contains columns y ⊎ (old y ≤ℤ (through +ℤ onward y)))
+    → (y : ℕ) → y < size → new y ≡ int_min (old y) (through +ℤ onward y)
+shortened_columns size old new onward through columns place so_far all left_out y ys = elim (left_out y ys) [
+  | inl there ↦ (
+      let e : slice_index_or columns there.0 0 ≡ y = get_or_default columns there.0 0 y there.1 ∙ there.2 in
+      rw e at (so_far.here there.0 (let h = there.1 in omega arith) there.1))
+  | inr longer ↦ elim (so_far.either y ys) [
+    | inl own ↦ omega (arith, ints, clamps)
+    | inr own ↦ own
+  ]
+]
+
+-- a column that comes no nearer is left out
+pub nearer_skip : (events : ℕ) (far : ℕ → ℕ → ℤ) (u v : ℕ) (w : ℤ) (columns : List ℕ) (column : ℕ) → AreNearer events far u v w columns column
+    → far u column ≤ℤ (w +ℤ far v column) → AreNearer events far u v w columns (column + 1)
+nearer_skip events far u v w columns column so_far longer = record {
+  within = so_far.within;
+  left_out = λ y below. elim (cases_eq y column) [
+    | inl e ↦ inr (rw e longer)
+    | inr ne ↦ so_far.left_out y (omega arith)
+  ];
+}
+
+-- the others are listed
+pub nearer_more : (events : ℕ) (far : ℕ → ℕ → ℤ) (u v : ℕ) (w : ℤ) (columns : List ℕ) (column : ℕ) → AreNearer events far u v w columns column
+    → column ≤ events → AreNearer events far u v w (columns ++ column ∷ []) (column + 1)
+nearer_more events far u v w columns column so_far cs = record {
+  within = All-push (λ y. y ≤ events) columns column so_far.within cs;
+  left_out = λ y below. elim (cases_eq y column) [
+    | inl e ↦ inl (rw e (Contains-push columns column))
+    | inr ne ↦ elim (so_far.left_out y (omega arith)) [
+      | inl there ↦ inl (Contains-append_left columns (column ∷ []) y there)
+      | inr longer ↦ inr longer
+    ]
+  ];
+}
+
+-- a column that comes no nearer to u by way of v comes no nearer to any row's event
+pub kept_column : (events : ℕ) (far : ℕ → ℕ → ℤ) (u v : ℕ) (w : ℤ) → IsClosed events far → u ≤ events
+    → (x y : ℕ) → x ≤ events → y ≤ events → far u y ≤ℤ (w +ℤ far v y) → far x y ≤ℤ ((far x u +ℤ w) +ℤ far v y)
+kept_column events far u v w closed us x y xs ys longer =
+    let onward = closed.triangle x u y xs us ys in
+    omega (arith, ints)
+
+-- the rows before this one are shorter already by way of the link, and the others are as they were
+pub record IsShortenedTo (events : ℕ) (old new : ℕ → ℕ → ℤ) (u v : ℕ) (w : ℤ) (row : ℕ) : Type 0 where
+  pub here : (x y : ℕ) → x < row → x ≤ events → y ≤ events → new x y ≡ shorter old u v w x y
+  pub left : (x y : ℕ) → row ≤ x → x ≤ events → y ≤ events → new x y ≡ old x y
+
+-- the row that the link leads to is as it was all the while
+pub shortened-own_row : (events : ℕ) (old new : ℕ → ℕ → ℤ) (u v : ℕ) (w : ℤ) (row : ℕ) → IsShortenedTo events old new u v w row
+    → u ≤ events → v ≤ events → pos 0 ≤ℤ (old v u +ℤ w) → (y : ℕ) → y ≤ events → new v y ≡ old v y
+shortened-own_row events old new u v w row so_far us vs round y ys = elim (cases_lt v row) [
+  | inl before ↦ so_far.here v y before vs ys ∙ shorter-own_row events old u v w us vs round y
+  | inr after ↦ so_far.left v y after vs ys
+]
+
+-- the row as it was
+pub shortened_skip : (events : ℕ) (old new : ℕ → ℕ → ℤ) (u v : ℕ) (w : ℤ) (row : ℕ) → IsShortenedTo events old new u v w row
+    → IsClosed events old → u ≤ events → v ≤ events → row ≤ events → new row v ≤ℤ (new row u +ℤ w) → IsShortenedTo events old new u v w (row + 1)
+shortened_skip events old new u v w row so_far closed us vs rs longer =
+    let own = so_far.left row v (omega arith) rs vs in
+    let way = so_far.left row u (omega arith) rs us in
+    record {
+      here = λ x y h xs ys. elim (cases_eq x row) [
+        | inl e ↦ (let kept = shorter-kept_row events old u v w closed vs row y rs ys (omega (arith, ints)) in rw e (so_far.left row y (omega arith) rs ys ∙ sym kept))
+        | inr ne ↦ so_far.here x y (omega arith) xs ys
+      ];
+      left = λ x y h xs ys. so_far.left x y (omega arith) xs ys;
+    }
+
+-- the row by way of the link
+pub shortened_turn : (events : ℕ) (old new next : ℕ → ℕ → ℤ) (u v : ℕ) (w : ℤ) (row : ℕ) → IsShortenedTo events old new u v w row
+    → u ≤ events → v ≤ events → pos 0 ≤ℤ (old v u +ℤ w) → row ≤ events
+    → IsRowShortened events new next row v (new row u +ℤ w) → IsShortenedTo events old next u v w (row + 1)
+shortened_turn events old new next u v w row so_far us vs round rs turned = record {
+  here = λ x y h xs ys. elim (cases_eq x row) [
+    | inl e ↦ (
+        let own = so_far.left row y (omega arith) rs ys in
+        let way = so_far.left row u (omega arith) rs us in
+        let onward = shortened-own_row events old new u v w row so_far us vs round y ys in
+        rw e (turned.here y ys ∙ (rw (own, way, onward) refl)))
+    | inr ne ↦ (turned.others x y xs ys ne ∙ so_far.here x y (omega arith) xs ys)
+  ];
+  left = λ x y h xs ys. turned.others x y xs ys (omega arith) ∙ so_far.left x y (omega arith) xs ys;
+}
+
+-- the differences by way of the row's own event and the link's end do not pass the least, minus the horizon
+pub least_way : (events : ℕ) (far : ℕ → ℕ → ℤ) (u v : ℕ) (w : ℤ) → IsClosed events far → u ≤ events → v ≤ events → pos 0 ≤ℤ (far v u +ℤ w)
+    → (x y : ℕ) → x ≤ events → y ≤ events → neg_ℤ horizon ≤ℤ ((far x u +ℤ w) +ℤ far v y)
+least_way events far u v w closed us vs round x y xs ys =
+    let back = closed.triangle v x u vs xs us in
+    let onward = closed.triangle v y x vs ys xs in
+    let most = closed.most y x ys xs in
+    omega (arith, ints)
+
+-- a row from which v comes nearer by way of the arc is not v's own, and no sum of its differences goes beyond reach
+pub record IsNearerRow (events : ℕ) (far : ℕ → ℕ → ℤ) (row v : ℕ) (through : ℤ) : Type 0 where
+  pub apart : row ≢ v
+  pub ways : (y : ℕ) → y ≤ events → IsInReach (through +ℤ far v y)
+
+pub nearer_row : (events : ℕ) (old new : ℕ → ℕ → ℤ) (u v : ℕ) (w : ℤ) (row : ℕ) (through : ℤ) → IsShortenedTo events old new u v w row
+    → IsClosed events old → u ≤ events → v ≤ events → pos 0 ≤ℤ (old v u +ℤ w) → row ≤ events
+    → through ≡ (new row u +ℤ w) → through <ℤ new row v → IsNearerRow events new row v through
+nearer_row events old new u v w row through so_far closed us vs round rs is nearer =
+    let start = so_far.left row u (omega arith) rs us in
+    let end = so_far.left row v (omega arith) rs vs in
+    let most = closed.most row v rs vs in
+    let itself = closed.itself v vs in
+    let least = least_way events old u v w closed us vs round row v rs vs in
+    record {
+      apart = λ e.
+          let own : old row v ≡ old v v = ap (λ x. old x v) e in
+          let way : old row u ≡ old v u = ap (λ x. old x u) e in
+          omega (arith, ints);
+      ways = λ y ys.
+          let onward = shortened-own_row events old new u v w row so_far us vs round y ys in
+          let far = closed.most v y vs ys in
+          let below = least_way events old u v w closed us vs round row y rs ys in
+          (omega (arith, ints), omega (arith, ints));
+    }
+
+-- in the row the columns that are not listed do not come nearer
+pub row_left_out : (events : ℕ) (old new : ℕ → ℕ → ℤ) (u v : ℕ) (w : ℤ) (row : ℕ) (columns : List ℕ) (through : ℤ) → IsShortenedTo events old new u v w row
+    → IsClosed events old → u ≤ events → v ≤ events → pos 0 ≤ℤ (old v u +ℤ w) → row ≤ events
+    → through ≡ (new row u +ℤ w) → AreNearer events old u v w columns (events + 1)
+    → (y : ℕ) → y ≤ events → Contains columns y ⊎ (new row y ≤ℤ (through +ℤ new v y))
+row_left_out events old new u v w row columns through so_far closed us vs round rs is listed y ys =
+    let start = so_far.left row u (omega arith) rs us in
+    let own = so_far.left row y (omega arith) rs ys in
+    let onward = shortened-own_row events old new u v w row so_far us vs round y ys in
+    elim (listed.left_out y (omega arith)) [
+      | inl there ↦ inl there
+      | inr longer ↦ inr (let kept = kept_column events old u v w closed us row y rs ys longer in omega (arith, ints))
+    ]
+
+-- the rows before this one hold the widest differences already, and the others the horizon
+pub record IsWidenedTo (events : ℕ) (far : ℕ → ℕ → ℤ) (row : ℕ) : Type 0 where
+  pub origin : (x : ℕ) → x < row → x ≤ events → far x 0 ≡ pos 0
+  pub itself : (x : ℕ) → x < row → x ≤ events → far x x ≡ pos 0
+  pub others : (x y : ℕ) → x ≤ events → y ≤ events → y ≢ 0 → x ≢ y → far x y ≡ horizon
+  pub left : (x y : ℕ) → row ≤ x → x ≤ events → y ≤ events → far x y ≡ horizon

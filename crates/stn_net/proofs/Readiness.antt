@@ -1,0 +1,91 @@
+use Rattle.std.proofs.Common.{◌≡◌, ℕ, ℤ, pos, ◌+◌, ◌<◌, ◌≤◌, ◌+ℤ◌, ◌-ℤ◌, ◌≤ℤ◌, Bool, true, List, length, get_or, sym, ◌∙◌, inl, inr, arith}
+use Rattle.std.specs.Int.{int_min}
+use Rattle.std.proofs.{lemmas.Int.ints, lemmas.Int.clamps, lemmas.Bool.false≢true, lemmas.Bool.cases_lt, lemmas.List.get_or_past}
+use Rattle.stn_net.specs.{Difference.Difference, Schedule.IsSchedule, Matrix.Table.Table, Matrix.Table.far_of, Matrix.Tightest.IsExact, Windows.Dispatch.IsLeft, Windows.Dispatch.IsReady, Windows.Leading.NonePast, Windows.Leading.CanLead}
+use Rattle.stn_net.proofs.WindowEnds.{lesser_schedule}
+
+-- an event that is left has a test in the list
+pub left_within : (done : List Bool) (event : ℕ) → IsLeft done event → event < length done
+left_within done event left = elim (cases_lt event (length done)) [ inl lt ↦ lt | inr ge ↦ absurd (false≢true (sym left.1 ∙ get_or_past done event true ge)) ]
+
+-- no difference is more than the two by way of a third event
+pub exact_triangle : (bounds : List Difference) (table : Table) (x y z : ℕ) → IsExact bounds table → x ≤ table.events → y ≤ table.events → z ≤ table.events
+    → far_of table x z ≤ℤ (far_of table x y +ℤ far_of table y z)
+exact_triangle bounds table x y z exact xs ys zs =
+    let whole = (exact.far x z xs zs).attained in
+    let attains = whole.2 in
+    let first = (exact.far x y xs ys).bound whole.0 whole.1 in
+    let second = (exact.far y z ys zs).bound whole.0 whole.1 in
+    omega (arith, ints)
+
+-- an event lies no time from itself
+pub exact_itself : (bounds : List Difference) (table : Table) (x : ℕ) → IsExact bounds table → x ≤ table.events → far_of table x x ≡ pos 0
+exact_itself bounds table x exact xs = let attains = (exact.far x x xs xs).attained.2 in omega (arith, ints)
+
+-- a row of an exact table, shifted so that the origin is at 0, is a schedule
+pub exact_row : (bounds : List Difference) (table : Table) (x : ℕ) → IsExact bounds table → x ≤ table.events → IsSchedule bounds (λ z. far_of table x z -ℤ far_of table x 0)
+exact_row bounds table x exact xs = record {
+  origin = omega (arith, ints);
+  met = λ k d h.
+      let b = get_or bounds k d in
+      let ends = exact.named k d h in
+      let forth = (exact.far b.from b.to ends.from ends.to).attained in
+      let back = (exact.far b.to b.from ends.to ends.from).attained in
+      let upper = forth.1.met k d h in
+      let lower = back.1.met k d h in
+      let attains_forth = forth.2 in
+      let attains_back = back.2 in
+      let onward = exact_triangle bounds table x b.from b.to exact xs ends.from ends.to in
+      let return = exact_triangle bounds table x b.to b.from exact xs ends.to ends.from in
+      (omega (arith, ints), omega (arith, ints));
+}
+
+-- an event that is left, whose earliest time has come, that leads, and before which no other has to run, is ready
+pub ready_now : (bounds : List Difference) (table : Table) (done : List Bool) (event : ℕ) (time : ℤ) → IsExact bounds table → length done ≡ table.events + 1
+    → CanLead (far_of table) done time event → NonePast (far_of table) done time → IsReady bounds done event time
+ready_now bounds table done event time exact one_each can none =
+    let within : event ≤ table.events = omega (arith, left_within done event can.left) in
+    let itself = exact_itself bounds table event exact within in
+    let origin = exact_itself bounds table 0 exact (omega arith) in
+    let come = can.come in
+    let in_time = none event can.left in
+    record {
+      left = can.left;
+      possible = (
+        (λ y. int_min (far_of table 0 y -ℤ far_of table 0 0) ((far_of table event y -ℤ far_of table event 0) +ℤ (time +ℤ far_of table event 0))),
+        lesser_schedule bounds (λ z. far_of table 0 z -ℤ far_of table 0 0) (λ z. far_of table event z -ℤ far_of table event 0) (time +ℤ far_of table event 0)
+            (exact_row bounds table 0 exact (omega arith)) (exact_row bounds table event exact within) (omega (arith, ints)),
+        omega (arith, ints, clamps),
+        λ other left. let leads = can.leads other left in let late = none other left in omega (arith, ints, clamps),
+      );
+    }
+
+-- a ready event's earliest time has come
+pub ready_can_lead : (bounds : List Difference) (table : Table) (done : List Bool) (event : ℕ) (time : ℤ) → IsExact bounds table → length done ≡ table.events + 1
+    → IsReady bounds done event time → CanLead (far_of table) done time event
+ready_can_lead bounds table done event time exact one_each ready =
+    let within : event ≤ table.events = omega (arith, left_within done event ready.left) in
+    let times = ready.possible.0 in
+    let schedule = ready.possible.1 in
+    let at = ready.possible.2 in
+    let origin = schedule.origin in
+    let early = (exact.far event 0 within (omega arith)).bound times schedule in
+    record {
+      left = ready.left;
+      come = omega (arith, ints);
+      leads = λ other left.
+          let others : other ≤ table.events = omega (arith, left_within done other left) in
+          let after = ready.possible.3 other left in
+          let far = (exact.far event other within others).bound times schedule in
+          omega (arith, ints);
+    }
+
+-- and no event that is left has to run before its time
+pub ready_none_past : (bounds : List Difference) (table : Table) (done : List Bool) (event : ℕ) (time : ℤ) → IsExact bounds table → length done ≡ table.events + 1
+    → IsReady bounds done event time → NonePast (far_of table) done time
+ready_none_past bounds table done event time exact one_each ready = λ other left.
+    let others : other ≤ table.events = omega (arith, left_within done other left) in
+    let origin = ready.possible.1.origin in
+    let after = ready.possible.3 other left in
+    let late = (exact.far 0 other (omega arith) others).bound ready.possible.0 ready.possible.1 in
+    omega (arith, ints)

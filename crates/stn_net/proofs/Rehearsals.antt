@@ -1,0 +1,115 @@
+use Rattle.std.proofs.Common.{◌≡◌, ◌≢◌, ℕ, ℤ, true, Bool, List, [], ◌∷◌, ◌++◌, get_or, set, cond, eqb, inl, inr, refl, sym, ap, subst, ◌∙◌, arith, get_or-set_same, get_or-set_other}
+use Rattle.std.specs.Prelude.{slice_set, Result, Err, IfErr}
+use Rattle.std.proofs.{lemmas.Int.ints, lemmas.Bool.false≢true, lemmas.Bool.Decides.eqb_tells, lemmas.List.Sums.sum_by-cons}
+use Rattle.std.proofs.lemmas.List.Elements.{All-nil, All-cons, All-push}
+use Rattle.stn_net.specs.{Difference.Difference, Schedule.IsSchedule, Schedule.HasSchedule, Schedule.Meets, Matrix.Table.Table, Matrix.Tightest.IsExact, declared.windows.answers.Next.Next, declared.windows.answers.RehearseFault.RehearseFault, declared.windows.answers.RehearseFault.TheVariants.Memory}
+use Rattle.stn_net.proofs.Closure.{schedule_before, schedule_last}
+use Rattle.stn_net.proofs.Readiness.{left_within}
+use Rattle.stn_net.specs.Windows.Dispatch.{IsLeft, IsReady, IsOverdue, IsNext, CanWaitUntil}
+use Rattle.stn_net.specs.declared.windows.answers.Next.TheVariants.{Run, AllDone, Overdue}
+use Rattle.stn_net.specs.Windows.Rehearsal.{fixed_at, IsRehearsal, NeverFalls, RunsEachOnce, HasScheduleThrough, IsRehearseFault}
+
+-- a schedule that has the event at the time is one of the bounds and the fixed event
+pub fixed_schedule : (bounds : List Difference) (times : ℕ → ℤ) (time : ℤ) (event : ℕ) → IsSchedule bounds times → times event ≡ time → IsSchedule (bounds ++ fixed_at time event ∷ []) times
+fixed_schedule bounds times time event schedule at = let origin = schedule.origin in record {
+  origin = schedule.origin;
+  met = All-push (Meets times) bounds (fixed_at time event) schedule.met (omega (arith, ints), omega (arith, ints));
+}
+
+-- an event that is ready can be fixed at its time
+pub ready_can_be_fixed : (bounds : List Difference) (done : List Bool) (time : ℤ) (event : ℕ) → IsReady bounds done event time → HasSchedule (bounds ++ fixed_at time event ∷ [])
+ready_can_be_fixed bounds done time event ready =
+    (ready.possible.0, fixed_schedule bounds ready.possible.0 time event ready.possible.1 ready.possible.2)
+
+-- what is left once an event is done is another event, which was left before
+pub left_before : (done : List Bool) (event other : ℕ) → IsLeft done event → IsLeft (slice_set done event true) other → (other ≢ event) × IsLeft done other
+left_before done event other was_left left =
+    let differs : other ≢ event = λ same.
+    false≢true (sym left.1 ∙ ap (λ e. get_or (set done event true) e true) same ∙ get_or-set_same done event true true (left_within done event was_left)) in
+    (differs, (left.0, sym (get_or-set_other done event other true true differs) ∙ left.1))
+
+-- and another event that was left is left
+pub left_after : (done : List Bool) (event other : ℕ) → IsLeft done other → other ≢ event → IsLeft (slice_set done event true) other
+left_after done event other left differs = (left.0, get_or-set_other done event other true true differs ∙ left.1)
+
+-- once an event has run, none is overdue from its time on
+pub none_overdue_after : (bounds : List Difference) (done : List Bool) (time : ℤ) (event other : ℕ) → IsReady bounds done event time
+    → ¬ IsOverdue (bounds ++ fixed_at time event ∷ []) (slice_set done event true) time other
+none_overdue_after bounds done time event other ready overdue =
+    let times = ready.possible.0 in
+    overdue.past (
+      times other,
+      ready.possible.3 other (left_before done event other ready.left overdue.left).1,
+      (times, fixed_schedule bounds times time event ready.possible.1 ready.possible.2, refl),
+    )
+
+-- some schedule has each event of a rehearsal at its time
+pub rehearsed_schedule : (runs : List (ℤ × ℕ)) (bounds : List Difference) (done : List Bool) (now : ℤ) → HasSchedule bounds → IsRehearsal bounds done now runs → HasScheduleThrough bounds runs
+rehearsed_schedule [] bounds done now possible rehearsal = (possible.0, possible.1, All-nil (λ (run : ℤ × ℕ). possible.0 run.1 ≡ run.0))
+rehearsed_schedule (run ∷ runs) bounds done now possible rehearsal =
+    let rest = rehearsed_schedule runs (bounds ++ fixed_at run.0 run.1 ∷ []) (slice_set done run.1 true) run.0 (ready_can_be_fixed bounds done run.0 run.1 rehearsal.0.ready) rehearsal.1 in
+    let times = rest.0 in
+    let origin = rest.1.origin in
+    let fixed = schedule_last bounds (fixed_at run.0 run.1) times rest.1 in
+    let at : times run.1 ≡ run.0 = omega (arith, ints, fixed.0, fixed.1) in
+    (times, schedule_before bounds (fixed_at run.0 run.1) times rest.1, All-cons (λ (run : ℤ × ℕ). times run.1 ≡ run.0) run runs at rest.2)
+
+-- the times of a rehearsal never fall
+pub rehearsed_rising : (runs : List (ℤ × ℕ)) (bounds : List Difference) (done : List Bool) (now : ℤ) → IsRehearsal bounds done now runs → NeverFalls now runs
+rehearsed_rising [] bounds done now rehearsal = tt
+rehearsed_rising (run ∷ runs) bounds done now rehearsal =
+    (rehearsal.0.later, rehearsed_rising runs (bounds ++ fixed_at run.0 run.1 ∷ []) (slice_set done run.1 true) run.0 rehearsal.1)
+
+-- a plan that has a rehearsal can wait
+pub rehearsed_in_time : (runs : List (ℤ × ℕ)) (bounds : List Difference) (done : List Bool) (now : ℤ) → HasSchedule bounds → IsRehearsal bounds done now runs → CanWaitUntil bounds done now
+rehearsed_in_time [] bounds done now possible rehearsal = (possible.0, possible.1, λ event left. absurd (rehearsal event left))
+rehearsed_in_time (run ∷ runs) bounds done now possible rehearsal =
+    let ready = rehearsal.0.ready in
+    let later = rehearsal.0.later in
+    (ready.possible.0, ready.possible.1, λ event left. (let after = ready.possible.3 event left in omega (arith, ints)))
+
+-- a plan in which an event is overdue can't
+pub overdue_cannot_wait : (bounds : List Difference) (done : List Bool) (now : ℤ) (event : ℕ) → IsOverdue bounds done now event → ¬ CanWaitUntil bounds done now
+overdue_cannot_wait bounds done now event overdue wait =
+    overdue.past (wait.0 event, wait.2 event overdue.left, (wait.0, wait.1, refl))
+
+abbrev one_or_none : Bool → ℕ
+one_or_none test = cond test 1 0
+
+abbrev runs_at : ℕ → ℤ × ℕ → ℕ
+runs_at event run = one_or_none (eqb run.1 event)
+
+-- each event that is left runs once in a rehearsal, and no other
+pub rehearsed_once : (runs : List (ℤ × ℕ)) (bounds : List Difference) (done : List Bool) (now : ℤ) → IsRehearsal bounds done now runs → RunsEachOnce done runs
+rehearsed_once [] bounds done now rehearsal = record { left = λ event left. absurd (rehearsal event left); others = λ event not_left. refl }
+rehearsed_once (run ∷ runs) bounds done now rehearsal =
+    let rest = rehearsed_once runs (bounds ++ fixed_at run.0 run.1 ∷ []) (slice_set done run.1 true) run.0 rehearsal.1 in
+    let left = rehearsal.0.ready.left in
+    record {
+      left = λ event is_left. sum_by-cons (runs_at event) run runs ∙ elim (eqb_tells run.1 event) [
+        | inl same ↦ omega (arith, ap one_or_none same.0, rest.others event (λ still. (left_before done run.1 event left still).0 (sym same.1)))
+        | inr differs ↦ omega (arith, ap one_or_none differs.0, rest.left event (left_after done run.1 event is_left (λ same. differs.1 (sym same))))
+      ];
+      others = λ event not_left. sum_by-cons (runs_at event) run runs ∙ elim (eqb_tells run.1 event) [
+        | inl same ↦ absurd (not_left (subst (IsLeft done) same.1 left))
+        | inr differs ↦ omega (arith, ap one_or_none differs.0, rest.others event (λ still. not_left (left_before done run.1 event left still).1))
+      ];
+    }
+
+-- where no event is overdue, the plan can wait
+pub can_wait : (bounds : List Difference) (done : List Bool) (now : ℤ) (answer : Next) → HasSchedule bounds → IsNext bounds done now answer
+    → ((event : ℕ) → answer ≢ Overdue event) → CanWaitUntil bounds done now
+can_wait bounds done now (Run time event) possible next none =
+    let ready = next.ready in
+    let later = next.later in
+    (ready.possible.0, ready.possible.1, λ other left. (let after = ready.possible.3 other left in omega (arith, ints)))
+can_wait bounds done now AllDone possible next none = (possible.0, possible.1, λ event left. absurd (next event left))
+can_wait bounds done now (Overdue event) possible next none = absurd (none event refl)
+
+-- where the first answer is no overdue event, lack of memory is the first fault that stands
+pub want_of_memory : {X : Type 0} (result : Result X RehearseFault) (table : Table) (done : List Bool) (now : ℤ) (answer : Next) → result ≡ Err Memory
+    → ((bounds : List Difference) → IsExact bounds table → IsNext bounds done now answer) → ((event : ℕ) → answer ≢ Overdue event)
+    → IfErr result (λ fault. (bounds : List Difference) → IsExact bounds table → IsRehearseFault bounds done now fault)
+want_of_memory {X} result table done now answer is next none =
+    let P : Result X RehearseFault → Type 0 = λ r. IfErr r (λ fault. (bounds : List Difference) → IsExact bounds table → IsRehearseFault bounds done now fault) in
+    subst P (sym is) (λ bounds exact. can_wait bounds done now answer exact.possible (next bounds exact) none)

@@ -1,0 +1,51 @@
+-- The rest of a plan can be rehearsed, or an event is overdue.
+use Rattle.std.proofs.Common.{◌≡◌, ◌≢◌, ◌⊎◌, inl, inr, ℕ, ℤ, zero, suc, ◌+◌, ◌≤◌, Bool, true, not, cond, List, [], ◌∷◌, ◌++◌, refl, ap, subst, arith, length-set}
+use Rattle.std.specs.Prelude.{count_by, slice_set}
+use Rattle.std.proofs.lemmas.List.Sums.{sum_by-set}
+use Rattle.stn_net.specs.Difference.{Difference}
+use Rattle.stn_net.specs.Matrix.Table.{Table}
+use Rattle.stn_net.specs.{declared.windows.answers.Next.Next, Windows.Dispatch.IsLeft, Windows.Dispatch.IsNext, Windows.Rehearsal.fixed_at, Windows.Rehearsal.IsRehearsal, Windows.Rehearsal.IsRehearseFault}
+use Rattle.stn_net.specs.declared.windows.answers.Next.TheVariants.{Run, AllDone, Overdue}
+use Rattle.stn_net.specs.declared.windows.answers.RehearseFault.TheVariants as fault
+use Rattle.stn_net.proofs.{Readiness.left_within, Rehearsals.ready_can_be_fixed, Rehearsals.none_overdue_after, Rehearsals.overdue_cannot_wait, Fixed.exact_fixed, SomeNext.AreFlagged, SomeNext.some_next}
+
+-- one event fewer is left once one is done
+one_fewer : (done : List Bool) (event : ℕ) → IsLeft done event → count_by not (slice_set done event true) + 1 ≡ count_by not done
+one_fewer done event left =
+    omega (arith, sum_by-set (λ b. cond (not b) 1 0) done event true true (left_within done event left), ap {B = ℕ} (λ b. cond (not b) 1 0) left.1)
+
+-- the bounds and the flags, and what comes next, which is no overdue event
+record AreUnderWay (bounds : List Difference) (table : Table) (done : List Bool) (now : ℤ) (answer : Next) : Type 0 where
+  flagged : AreFlagged bounds table done
+  next : IsNext bounds done now answer
+  in_time : (event : ℕ) → answer ≢ Overdue event
+
+some_rehearsal : (left : ℕ) (bounds : List Difference) (table : Table) (done : List Bool) (now : ℤ) (answer : Next) → count_by not done ≤ left
+    → AreUnderWay bounds table done now answer → (runs : List (ℤ × ℕ)) × IsRehearsal bounds done now runs
+some_rehearsal left bounds table done now AllDone few are = ([], are.next)
+some_rehearsal left bounds table done now (Overdue event) few are = absurd (are.in_time event refl)
+some_rehearsal zero bounds table done now (Run time event) few are = absurd (omega (arith, one_fewer done event are.next.ready.left))
+some_rehearsal (suc left) bounds table done now (Run time event) few are =
+    let ready = are.next.ready in
+    let (other, same, exact) = exact_fixed bounds table time event (record {
+      exact = are.flagged.exact;
+      within = omega (arith, left_within done event ready.left, are.flagged.one_each);
+      possible = ready_can_be_fixed bounds done time event ready;
+    }) in
+    let flagged : AreFlagged (bounds ++ fixed_at time event ∷ []) other (slice_set done event true) = record { exact = exact; one_each = omega (arith, length-set done event true, are.flagged.one_each, same) } in
+    let (answer, next) = some_next (bounds ++ fixed_at time event ∷ []) other (slice_set done event true) time flagged in
+    let (runs, rest) = some_rehearsal left (bounds ++ fixed_at time event ∷ []) other (slice_set done event true) time answer (omega (arith, one_fewer done event ready.left)) (record {
+      flagged = flagged;
+      next = next;
+      in_time = λ late is. none_overdue_after bounds done time event late ready (subst (IsNext (bounds ++ fixed_at time event ∷ []) (slice_set done event true) time) {x = answer} is next);
+    }) in
+    ((time, event) ∷ runs, (are.next, rest))
+
+pub rehearsed_or_overdue : (bounds : List Difference) (table : Table) (done : List Bool) (now : ℤ) → AreFlagged bounds table done
+    → ((runs : List (ℤ × ℕ)) × IsRehearsal bounds done now runs) ⊎ ((event : ℕ) × IsRehearseFault bounds done now (fault.Overdue event))
+rehearsed_or_overdue bounds table done now are = (let (answer, next) = some_next bounds table done now are in by answer next)
+  where
+    by : (answer : Next) → IsNext bounds done now answer → ((runs : List (ℤ × ℕ)) × IsRehearsal bounds done now runs) ⊎ ((event : ℕ) × IsRehearseFault bounds done now (fault.Overdue event))
+    by (Run time event) next = inl (some_rehearsal (count_by not done) bounds table done now (Run time event) (omega arith) (record { flagged = are; next = next; in_time = λ late is. cc }))
+    by AllDone next = inl ([], next)
+    by (Overdue event) next = inr (event, (next, overdue_cannot_wait bounds done now event next))

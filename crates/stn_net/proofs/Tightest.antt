@@ -1,0 +1,98 @@
+use Rattle.std.proofs.Common.{◌≡◌, ℕ, ℤ, ◌≤◌, ◌-ℤ◌, ◌≤ℤ◌, neg_ℤ, List, get_or, arith}
+use Rattle.std.specs.Prelude.{All}
+use Rattle.std.proofs.lemmas.Int.{ints}
+use Rattle.stn_net.specs.{Difference.Difference, Difference.NamesEvents, Schedule.IsSchedule, Matrix.Table.Table, Matrix.Table.far_of, Matrix.Tightest.IsTightest, Matrix.Tightest.IsExact, Matrix.Closed.IsClosed}
+
+-- two tightest differences of the same events are equal
+pub tightest_unique : (bounds : List Difference) (x y : ℕ) (most other : ℤ) → IsTightest bounds x y most → IsTightest bounds x y other → most ≡ other
+tightest_unique bounds x y most other p q =
+    let below = q.bound p.attained.0 p.attained.1 in
+    let above = p.bound q.attained.0 q.attained.1 in
+    let reaches = p.attained.2 in
+    let attains = q.attained.2 in
+    omega (arith, ints)
+
+-- a tightest difference depends on the set of schedules alone
+pub tightest_same_schedules : (these those : List Difference) (x y : ℕ) (most : ℤ)
+    → ((time : ℕ → ℤ) → IsSchedule these time → IsSchedule those time)
+    → ((time : ℕ → ℤ) → IsSchedule those time → IsSchedule these time)
+    → IsTightest these x y most → IsTightest those x y most
+tightest_same_schedules these those x y most forth back p = record {
+  bound = λ time s. p.bound time (back time s);
+  attained = (p.attained.0, forth p.attained.0 p.attained.1, p.attained.2);
+}
+
+-- exactness depends on the set of schedules alone: so the order of the list, for one, does not matter
+pub exact_same_schedules : (these those : List Difference) (table : Table)
+    → ((time : ℕ → ℤ) → IsSchedule these time → IsSchedule those time)
+    → ((time : ℕ → ℤ) → IsSchedule those time → IsSchedule these time)
+    → All (NamesEvents table.events) those
+    → IsExact these table → IsExact those table
+exact_same_schedules these those table forth back named p = record {
+  named = named;
+  possible = (p.possible.0, forth p.possible.0 p.possible.1);
+  far = λ x y xs ys. tightest_same_schedules these those x y (far_of table x y) forth back (p.far x y xs ys);
+}
+
+-- an exact table's count of steps does not matter
+pub exact_same_entries : (bounds : List Difference) (table other : Table) → other.events ≡ table.events → other.entries ≡ table.entries → IsExact bounds table → IsExact bounds other
+exact_same_entries bounds table other e f p =
+    let named : All (NamesEvents other.events) bounds = rw e p.named in
+    let far : (x y : ℕ) → x ≤ other.events → y ≤ other.events → IsTightest bounds x y (far_of other x y) = λ x y. rw (e, f) (p.far x y) in
+    record { named = named; possible = p.possible; far = far }
+
+-- no schedule goes beyond an entry, and no side of a bound is tighter than the entries
+pub record IsTight (bounds : List Difference) (events : ℕ) (far : ℕ → ℕ → ℤ) : Type 0 where
+  pub sound : (time : ℕ → ℤ) → IsSchedule bounds time → (x y : ℕ) → x ≤ events → y ≤ events → (time y -ℤ time x) ≤ℤ far x y
+  pub upper : All (λ b. far b.from b.to ≤ℤ b.hi) bounds
+  pub lower : All (λ b. b.lo ≤ℤ neg_ℤ (far b.to b.from)) bounds
+
+-- the entries of an exact table are no looser than any of the bounds
+pub tight_from_exact : (bounds : List Difference) (table : Table) → IsExact bounds table → IsTight bounds table.events (far_of table)
+tight_from_exact bounds table p = record {
+  sound = λ time s x y xs ys. (p.far x y xs ys).bound time s;
+  upper = λ k d h.
+      let b = get_or bounds k d in
+      let named = p.named k d h in
+      let best = (p.far b.from b.to named.from named.to).attained in
+      let met = best.1.met k d h in
+      let attains = best.2 in
+      omega (arith, ints);
+  lower = λ k d h.
+      let b = get_or bounds k d in
+      let named = p.named k d h in
+      let best = (p.far b.to b.from named.to named.from).attained in
+      let met = best.1.met k d h in
+      let attains = best.2 in
+      omega (arith, ints);
+}
+
+-- a row of a closed and tight table, shifted so that the origin is at 0, is a schedule
+pub row_is_schedule : (bounds : List Difference) (events : ℕ) (far : ℕ → ℕ → ℤ) → All (NamesEvents events) bounds → IsClosed events far → IsTight bounds events far
+    → (x : ℕ) → x ≤ events → IsSchedule bounds (λ z. far x z -ℤ far x 0)
+row_is_schedule bounds events far named closed tight x xs = record {
+  origin = omega (arith, ints);
+  met = λ k d h.
+      let b = get_or bounds k d in
+      let ends = named k d h in
+      let upper = tight.upper k d h in
+      let lower = tight.lower k d h in
+      let onward = closed.triangle x b.from b.to xs ends.from ends.to in
+      let back = closed.triangle x b.to b.from xs ends.to ends.from in
+      (omega (arith, ints), omega (arith, ints));
+}
+
+-- a closed and tight table is exact: each row is a schedule that attains its entries
+pub exact_from_tight : (bounds : List Difference) (table : Table) → All (NamesEvents table.events) bounds → IsClosed table.events (far_of table) → IsTight bounds table.events (far_of table) → IsExact bounds table
+exact_from_tight bounds table named closed tight =
+    let row : (x : ℕ) → x ≤ table.events → IsSchedule bounds (λ z. far_of table x z -ℤ far_of table x 0) = row_is_schedule bounds table.events (far_of table) named closed tight in
+    record {
+      named = named;
+      possible = ((λ z. far_of table 0 z -ℤ far_of table 0 0), row 0 (omega arith));
+      far = λ x y xs ys.
+          let itself = closed.itself x xs in
+          record {
+            bound = λ time s. tight.sound time s x y xs ys;
+            attained = ((λ z. far_of table x z -ℤ far_of table x 0), row x xs, omega (arith, ints));
+          };
+    }

@@ -1,0 +1,93 @@
+use Rattle.std.proofs.Common.{◌≡◌, ◌≢◌, ℕ, zero, suc, ℤ, pos, ◌≤◌, ◌+ℤ◌, ◌≤ℤ◌, neg_ℤ, ◌⊎◌, inl, inr, refl, ap, arith}
+use Rattle.std.specs.Prelude.{All}
+use Rattle.std.proofs.{lemmas.Int.ints, lemmas.Bool.cases_eq, lemmas.List.Elements.All-push, lemmas.List.Elements.All-nil}
+use Rattle.stn_time.specs.Time.{horizon}
+use Rattle.stn_net.specs.{Difference.Difference, Difference.NamesEvents, Horizon.horizon_bound, Horizon.horizon_bounds, Schedule.IsSchedule, Matrix.Table.Table, Matrix.Table.far_of, Matrix.Tightest.IsExact, Matrix.Closed.IsClosed, Matrix.Closed.IsWidest}
+use Rattle.stn_net.proofs.{Tightest.IsTight, Tightest.exact_from_tight, Closure.schedule_before, Closure.schedule_last}
+
+-- the widest difference of two events is 0 or the horizon
+widest_cases : (events : ℕ) (far : ℕ → ℕ → ℤ) → IsWidest events far → (x y : ℕ) → x ≤ events → y ≤ events → (far x y ≡ pos 0) ⊎ (far x y ≡ horizon)
+widest_cases events far widest x y xs ys = elim (cases_eq y 0) [
+  | inl e ↦ inl (let here = widest.origin x xs in rw e here)
+  | inr apart ↦ elim (cases_eq x y) [
+    | inl e ↦ inl (let here = widest.itself y ys in rw e here)
+    | inr differ ↦ inr (widest.others x y xs ys apart differ)
+  ]
+]
+
+widest_least : (events : ℕ) (far : ℕ → ℕ → ℤ) → IsWidest events far → (x y : ℕ) → x ≤ events → y ≤ events → pos 0 ≤ℤ far x y
+widest_least events far widest x y xs ys = elim (widest_cases events far widest x y xs ys) [ inl e ↦ omega (arith, ints) | inr e ↦ omega (arith, ints) ]
+
+widest_most : (events : ℕ) (far : ℕ → ℕ → ℤ) → IsWidest events far → (x y : ℕ) → x ≤ events → y ≤ events → far x y ≤ℤ horizon
+widest_most events far widest x y xs ys = elim (widest_cases events far widest x y xs ys) [ inl e ↦ omega (arith, ints) | inr e ↦ omega (arith, ints) ]
+
+widest_triangle : (events : ℕ) (far : ℕ → ℕ → ℤ) → IsWidest events far → (x y z : ℕ) → x ≤ events → y ≤ events → z ≤ events → far x z ≤ℤ (far x y +ℤ far y z)
+widest_triangle events far widest x y z xs ys zs =
+    let first = widest_least events far widest x y xs ys in
+    let second = widest_least events far widest y z ys zs in
+    let most = widest_most events far widest x z xs zs in
+    elim (cases_eq z 0) [
+      | inl e ↦ (let here : far x z ≡ pos 0 = rw e (widest.origin x xs) in omega (arith, ints))
+      | inr apart ↦ elim (cases_eq y z) [
+        | inl e ↦ (let here : far x y ≡ far x z = rw e refl in omega (arith, ints))
+        | inr differ ↦ (let onward = widest.others y z ys zs apart differ in omega (arith, ints))
+      ]
+    ]
+
+-- the widest differences are closed
+pub widest-closed : (events : ℕ) (far : ℕ → ℕ → ℤ) → IsWidest events far → IsClosed events far
+widest-closed events far widest = record {
+  itself = widest.itself;
+  triangle = widest_triangle events far widest;
+  most = widest_most events far widest;
+}
+
+-- what holds of each horizon bound holds of all of them
+pub horizon_each : (P : Difference → Type 0) (events : ℕ) → ((event : ℕ) → event ≢ 0 → event ≤ events → P (horizon_bound event)) → All P (horizon_bounds events)
+unfolding horizon_bounds
+horizon_each P zero each = All-nil P
+horizon_each P (suc events) each =
+    All-push P (horizon_bounds events) (horizon_bound (suc events))
+    (horizon_each P events (λ event apart within. each event apart (omega arith)))
+    (each (suc events) (omega arith) (omega arith))
+
+-- in a schedule of the horizon bounds each event lies from the origin to the horizon
+pub horizon_times : (events : ℕ) (time : ℕ → ℤ) → IsSchedule (horizon_bounds events) time → (event : ℕ) → event ≤ events → (pos 0 ≤ℤ time event) × (time event ≤ℤ horizon)
+unfolding horizon_bounds
+horizon_times zero time s event within =
+    let first : event ≡ 0 = omega arith in
+    let origin : time event ≡ pos 0 = rw first s.origin in
+    (omega (arith, ints), omega (arith, ints))
+horizon_times (suc events) time s event within =
+    let before = schedule_before (horizon_bounds events) (horizon_bound (suc events)) time s in
+    let last = schedule_last (horizon_bounds events) (horizon_bound (suc events)) time s in
+    elim (cases_eq event (suc events)) [
+      | inl e ↦ (let here : time event ≡ time (suc events) = ap time e in let origin = s.origin in (omega (arith, ints), omega (arith, ints)))
+      | inr differ ↦ horizon_times events time before event (omega arith)
+    ]
+
+-- the widest differences are tight for the horizon bounds
+pub widest-tight : (events : ℕ) (far : ℕ → ℕ → ℤ) → IsWidest events far → IsTight (horizon_bounds events) events far
+widest-tight events far widest = record {
+  sound = λ time s x y xs ys.
+      let first = horizon_times events time s x xs in
+      let second = horizon_times events time s y ys in
+      let origin = s.origin in
+      elim (cases_eq y 0) [
+        | inl e ↦ (let here : far x y ≡ pos 0 = rw e (widest.origin x xs) in let there : time y ≡ time 0 = ap time e in omega (arith, ints))
+        | inr apart ↦ elim (cases_eq x y) [
+          | inl e ↦ (let here : far x y ≡ pos 0 = rw e (widest.itself y ys) in let there : time x ≡ time y = ap time e in omega (arith, ints))
+          | inr differ ↦ (let here = widest.others x y xs ys apart differ in omega (arith, ints))
+        ]
+      ];
+  upper = horizon_each (λ b. far b.from b.to ≤ℤ b.hi) events (λ event apart within. widest_most events far widest 0 event (omega arith) within);
+  lower = horizon_each (λ b. b.lo ≤ℤ neg_ℤ (far b.to b.from)) events (λ event apart within. let here = widest.origin event within in omega (arith, ints));
+}
+
+-- the horizon bounds name their events
+pub horizon_named : (events : ℕ) → All (NamesEvents events) (horizon_bounds events)
+horizon_named events = horizon_each (NamesEvents events) events (λ event apart within. record { from = omega arith; to = within })
+
+-- a table of the widest differences is exact for the horizon bounds
+pub exact_widest : (table : Table) → IsWidest table.events (far_of table) → IsExact (horizon_bounds table.events) table
+exact_widest table widest = exact_from_tight (horizon_bounds table.events) table (horizon_named table.events) (widest-closed table.events (far_of table) widest) (widest-tight table.events (far_of table) widest)

@@ -1,0 +1,8 @@
+use Rattle.stn_net.proofs.OneAnswer.{one_rehearsal, none_overdue}
+use Rattle.stn_net.proofs.windows.laws.rehearsal_unique.Goals as goal
+
+pub returns-clause-runs : goal.returns-clause-runs
+returns-clause-runs c = λ bounds done now one other. one_rehearsal one other bounds done now
+
+pub returns-clause-overdue : goal.returns-clause-overdue
+returns-clause-overdue c = none_overdue

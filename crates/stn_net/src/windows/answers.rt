@@ -1,0 +1,38 @@
+ghost use Rattle.std.specs.Prelude.{◌≡◌};
+ghost use Rattle.stn_net.specs.declared.windows.answers.RehearseFault.TheVariants.{Memory as want_of_memory};
+
+use crate::Event;
+use std::alloc::AllocError;
+use stn_time::Ms;
+use thiserror::Error;
+
+/// What comes next in a plan.
+#[derive(Clone, Copy, Debug, PartialEq, Eq)]
+pub enum Next {
+    /// The event runs at the time.
+    Run(Ms, Event),
+    /// Every event is done.
+    AllDone,
+    /// No event can run any more without another that comes too late: this is the least of those
+    /// whose windows have passed.
+    Overdue(Event),
+}
+
+/// Why a plan can't be rehearsed.
+#[derive(Clone, Copy, Debug, PartialEq, Eq, Error)]
+pub enum RehearseFault {
+    /// The window of this event has passed; the least such event.
+    #[error("an event is overdue")]
+    Overdue(Event),
+    /// Memory ran out.
+    #[error("out of memory")]
+    Memory,
+}
+
+impl From<AllocError> for RehearseFault {
+    ghost from_gives = { λ _ made. made ≡ want_of_memory };
+
+    fn from(_refused: AllocError) -> RehearseFault {
+        RehearseFault::Memory
+    }
+}

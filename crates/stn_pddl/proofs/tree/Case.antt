@@ -1,0 +1,111 @@
+-- A text in small letters has the tree of the text, with its words in small letters.
+use Rattle.std.proofs.Common.{◌≡◌, ℕ, ◌+◌, ◌<◌, ◌≤◌, Bool, true, false, cond, eqb, leb, nat_lt, List, [], ◌∷◌, length, map, Result, Ok, Err, refl, sym, ap, ◌∙◌, arith}
+use Rattle.std.specs.Char.{to_ascii_lowercase}
+use Rattle.std.proofs.{lemmas.Bool.ltb-true, lemmas.Bool.ltb-false, lemmas.Bool.Decides.nat_tests, lemmas.List.length-map}
+use Rattle.stn_text.specs.Faults.{◌>>=◌}
+use Rattle.stn_pddl.specs.{declared.tree.bytes.Kind.Kind, declared.tree.scan.TreeFault.TreeFault, declared.tree.scan.TreeFault.TheVariants.TooLong, declared.tree.scan.Place.Place, declared.tree.scan.Place.TheVariants.Before, Tree.Bytes.kind_of, Tree.Bytes.kind_in, Tree.Bytes.comment_after, Tree.Bytes.line_after, Tree.Names.folded, Tree.Scan.most_text, Tree.Scan.place_after, Tree.Scan.scanned, Tree.Scan.tree_of, Tree.Case.in_small, Tree.Case.tree_in_small}
+use Rattle.stn_pddl.specs.declared.tree.bytes.Kind.TheVariants.{Blank, Open, Close, Letter, Stray}
+use Rattle.stn_pddl.specs.Tree.Trees.{Trees, End, Word, Group, Rows, before_byte, is_letter, begins_word, rows_from}
+
+-- the small letter for a byte, and what a byte is: no capital letter, or one
+pub small_by : (P : ℕ → Type 0) (b : ℕ) → P b → (65 ≤ b → b ≤ 90 → P (b + 32)) → P (to_ascii_lowercase b)
+small_by P b same capital = by (nat_lt b 65) (nat_lt b 91) refl refl
+  where
+    by : (low small : Bool) → nat_lt b 65 ≡ low → nat_lt b 91 ≡ small → P (cond low b (cond small (b + 32) b))
+    by true small is_low is_small = same
+    by false true is_low is_small =
+        let above = ltb-false b 65 is_low in
+        let below = ltb-true b 91 is_small in
+        capital (omega arith) (omega arith)
+    by false false is_low is_small = same
+
+letter : (b : ℕ) → 65 ≤ b → b ≤ 122 → kind_of b ≡ Letter
+unfolding kind_of
+letter b low high =
+    let above : leb 9 b ≡ true = grind (arith, nat_tests) in
+    let no_space : leb b 13 ≡ false = grind (arith, nat_tests) in
+    let no_blank : eqb b 32 ≡ false = grind (arith, nat_tests) in
+    let no_comment : eqb b 59 ≡ false = grind (arith, nat_tests) in
+    let no_open : eqb b 40 ≡ false = grind (arith, nat_tests) in
+    let no_close : eqb b 41 ≡ false = grind (arith, nat_tests) in
+    let visible : leb 33 b ≡ true = grind (arith, nat_tests) in
+    let printing : leb b 126 ≡ true = grind (arith, nat_tests) in
+    rw (above, no_space, no_blank, no_comment, no_open, no_close, visible, printing) refl
+
+same_kind : (b : ℕ) → kind_of (to_ascii_lowercase b) ≡ kind_of b
+same_kind b = small_by (λ n. kind_of n ≡ kind_of b) b refl (λ low high. letter (b + 32) (omega arith) (omega arith) ∙ sym (letter b low (omega arith)))
+
+pub same_test : (b n : ℕ) → n < 65 → eqb (to_ascii_lowercase b) n ≡ eqb b n
+same_test b n small = small_by (λ m. eqb m n ≡ eqb b n) b refl (λ low high.
+    let first : eqb (b + 32) n ≡ false = grind (arith, nat_tests) in
+    let second : eqb b n ≡ false = grind (arith, nat_tests) in
+    first ∙ sym second)
+
+same_kind_in : (comment : Bool) (b : ℕ) → kind_in comment (to_ascii_lowercase b) ≡ kind_in comment b
+same_kind_in true b = refl
+same_kind_in false b = same_kind b
+
+same_comment : (comment : Bool) (b : ℕ) → comment_after comment (to_ascii_lowercase b) ≡ comment_after comment b
+unfolding comment_after
+same_comment comment b = rw (same_test b 10 (omega arith), same_test b 59 (omega arith)) refl
+
+same_line : (line b : ℕ) → line_after line (to_ascii_lowercase b) ≡ line_after line b
+unfolding line_after
+same_line line b = rw (same_test b 10 (omega arith)) refl
+
+same_begins : (bytes : List ℕ) → begins_word (folded bytes) ≡ begins_word bytes
+unfolding begins_word
+same_begins [] = refl
+same_begins (b ∷ bytes) = ap is_letter (same_kind b)
+
+-- the scan of both
+same_steps : (step : Result Place TreeFault) (one other : Place → Result Place TreeFault) → ((next : Place) → one next ≡ other next) → (step >>= one) ≡ (step >>= other)
+same_steps (Ok next) one other same = same next
+same_steps (Err fault) one other same = refl
+
+scanned-folded : (text : List ℕ) (comment : Bool) (line : ℕ) (place : Place) → scanned comment line place (folded text) ≡ scanned comment line place text
+unfolding scanned
+scanned-folded [] comment line place = refl
+scanned-folded (b ∷ bytes) comment line place =
+    rw (same_kind_in comment b, same_comment comment b, same_line line b)
+    (same_steps (place_after (kind_in comment b) line place) (λ next. scanned (comment_after comment b) (line_after line b) next (folded bytes))
+    (λ next. scanned (comment_after comment b) (line_after line b) next bytes) (λ next. scanned-folded bytes (comment_after comment b) (line_after line b) next))
+
+-- the rows of both
+small_rows : Rows → Rows
+small_rows rows = record { row = in_small rows.row; around = map in_small rows.around }
+
+before_byte-small : (kind : Kind) (line b : ℕ) (more : Bool) (row : Trees) (around : List Trees)
+    → before_byte kind line (to_ascii_lowercase b) more (small_rows (record { row = row; around = around })) ≡ small_rows (before_byte kind line b more (record { row = row; around = around }))
+unfolding in_small small_rows
+before_byte-small Blank line b more row around = refl
+before_byte-small Open line b more row [] = refl
+before_byte-small Open line b more row (next ∷ around) = refl
+before_byte-small Close line b more row around = refl
+before_byte-small Letter line b true End around = refl
+before_byte-small Letter line b true (Word at word next) around = refl
+before_byte-small Letter line b true (Group at children next) around = refl
+before_byte-small Letter line b false row around = refl
+before_byte-small Stray line b more row around = refl
+
+rows-folded : (text : List ℕ) (comment : Bool) (line : ℕ) → rows_from comment line (folded text) ≡ small_rows (rows_from comment line text)
+unfolding rows_from small_rows in_small
+rows-folded [] comment line = refl
+rows-folded (b ∷ bytes) comment line =
+    let rows = rows_from (comment_after comment b) (line_after line b) bytes in
+    rw (same_kind_in comment b, same_comment comment b, same_line line b, same_begins bytes, rows-folded bytes (comment_after comment b) (line_after line b))
+    (before_byte-small (kind_in comment b) line b (begins_word bytes) rows.row rows.around)
+
+pub tree_of-folded : (text : List ℕ) → tree_of (folded text) ≡ tree_in_small (tree_of text)
+unfolding tree_of small_rows
+tree_of-folded text =
+    rw (scanned-folded text false 1 Before, rows-folded text false 1, long) (by (nat_lt most_text (length text)) (scanned false 1 Before text))
+  where
+    long : nat_lt most_text (length (folded text)) ≡ nat_lt most_text (length text)
+    long = ap (nat_lt most_text) (length-map text to_ascii_lowercase)
+
+    by : (many : Bool) (end : Result Place TreeFault)
+        → cond many (Err TooLong) (end >>= λ place. Ok (in_small (rows_from false 1 text).row)) ≡ tree_in_small (cond many (Err TooLong) (end >>= λ place. Ok (rows_from false 1 text).row))
+    by true end = refl
+    by false (Ok place) = refl
+    by false (Err fault) = refl

@@ -1,0 +1,15 @@
+-- Bytes left at a cursor.
+use Rattle.std.proofs.Common.{◌≡◌, ℕ, zero, suc, Result, Ok, Err, IfOk, ◌<◌, arith, ◌∙◌}
+use Rattle.stn_pddl.specs.{declared.tree.cursor.Cursor.Cursor, Tree.Cursors.IsPast, Tree.Cursors.behind_at, Tree.Cursors.left_at, Tree.Trees.Rows, Tree.Trees.behind}
+use Rattle.stn_pddl.specs.declared.tree.cursor.Child.TheVariants as child
+
+-- after so many more rows
+unfoldable pub further : ℕ → Rows → Rows
+further zero rows = rows
+further (suc depth) rows = further depth (behind rows)
+
+-- what stands after the rest of a row stands after the row
+pub behind_rest : {F : Type 0} (result : Result Cursor F) (row rest : Cursor) → behind_at rest ≡ behind_at row → left_at rest < left_at row
+    → IfOk result (IsPast rest) → IfOk result (IsPast row)
+behind_rest (Ok place) row rest same shorter passed = (passed.0 ∙ same, omega (arith, shorter, passed.1))
+behind_rest (Err fault) row rest same shorter passed = tt

@@ -1,0 +1,152 @@
+-- The rows before a byte of each kind.
+use Rattle.std.proofs.Common.{◌≡◌, ◌≢◌, ℕ, suc, ◌+◌, ◌<◌, ◌≤◌, Bool, true, false, cond, eqb, List, [], ◌∷◌, length, get_or, take, drop, refl, sym, ◌∙◌, ap, arith, add-one, drop-cons, ◌⊎◌, inl, inr}
+use Rattle.std.proofs.{lemmas.List.drop_all, lemmas.Bool.Decides.nat_tests}
+use Rattle.stn_pddl.specs.{declared.tree.bytes.Kind.Kind, Tree.Bytes.kind_of, Tree.Bytes.kind_in, Tree.Bytes.comment_after, Tree.Bytes.line_after}
+use Rattle.stn_pddl.specs.declared.tree.bytes.Kind.TheVariants.{Blank, Open, Close, Letter, Stray}
+use Rattle.stn_pddl.specs.Tree.Trees.{Word, Group, End, Rows, behind, before_open, before_close, before_letter, is_letter, begins_word, word_len, rows_from}
+
+-- no line feed and no semicolon is a token
+pub lf-blank : (b : ℕ) → kind_of b ≢ Blank → eqb b 10 ≡ false
+unfolding kind_of
+lf-blank b h = let other : b ≢ 10 = λ e. h (ap kind_of e) in grind (arith, nat_tests)
+
+pub semicolon-blank : (b : ℕ) → kind_of b ≢ Blank → eqb b 59 ≡ false
+unfolding kind_of
+semicolon-blank b h = let other : b ≢ 59 = λ e. h (ap kind_of e) in grind (arith, nat_tests)
+
+-- after a token no comment goes on, and the line is the same
+pub comment_after-token : (b : ℕ) → kind_of b ≢ Blank → comment_after false b ≡ false
+unfolding comment_after
+comment_after-token b h = rw (lf-blank b h, semicolon-blank b h) refl
+
+pub line_after-token : (line b : ℕ) → kind_of b ≢ Blank → line_after line b ≡ line
+unfolding line_after
+line_after-token line b h = rw (lf-blank b h) refl
+
+-- a token stands outside comments
+pub outside : (comment : Bool) (b : ℕ) → kind_in comment b ≢ Blank → comment ≡ false
+outside true b h = absurd (h refl)
+outside false b h = refl
+
+module _ (line b : ℕ) (bytes : List ℕ) where
+  pub rows-open : (comment : Bool) → kind_in comment b ≡ Open → rows_from comment line (b ∷ bytes) ≡ before_open line (rows_from false line bytes)
+  unfolding rows_from
+  rows-open true is = cc
+  rows-open false is =
+      let token : kind_of b ≢ Blank = λ e. cc in
+      rw (is, comment_after-token b token, line_after-token line b token) refl
+
+  pub rows-close : (comment : Bool) → kind_in comment b ≡ Close → rows_from comment line (b ∷ bytes) ≡ before_close (rows_from false line bytes)
+  unfolding rows_from
+  rows-close true is = cc
+  rows-close false is =
+      let token : kind_of b ≢ Blank = λ e. cc in
+      rw (is, comment_after-token b token, line_after-token line b token) refl
+
+  pub rows-letter : kind_of b ≡ Letter → rows_from false line (b ∷ bytes) ≡ before_letter line b (begins_word bytes) (rows_from false line bytes)
+  unfolding rows_from
+  rows-letter is =
+      let token : kind_of b ≢ Blank = λ e. cc in
+      rw (is, comment_after-token b token, line_after-token line b token) refl
+
+  pub rows-blank : (comment : Bool) → kind_in comment b ≡ Blank → rows_from comment line (b ∷ bytes) ≡ rows_from (comment_after comment b) (line_after line b) bytes
+  unfolding rows_from
+  rows-blank comment is = rw is refl
+
+  pub rows-stray : (comment : Bool) → kind_in comment b ≡ Stray → rows_from comment line (b ∷ bytes) ≡ rows_from (comment_after comment b) (line_after line b) bytes
+  unfolding rows_from
+  rows-stray comment is = rw is refl
+
+-- the rows before a word
+abbrev pub before_word : ℕ → List ℕ → Rows → Rows
+before_word line word rows = record { row = Word line word rows.row; around = rows.around }
+
+letter-is : (k : Kind) → is_letter k ≡ true → k ≡ Letter
+letter-is Blank h = cc
+letter-is Open h = cc
+letter-is Close h = cc
+letter-is Letter h = refl
+letter-is Stray h = cc
+
+pub word_len-letter : (b : ℕ) (bytes : List ℕ) → kind_of b ≡ Letter → word_len (b ∷ bytes) ≡ suc (word_len bytes)
+unfolding word_len
+word_len-letter b bytes is = rw (is, add-one) refl
+
+pub word_len-none : (bytes : List ℕ) → begins_word bytes ≡ false → word_len bytes ≡ 0
+unfolding begins_word word_len
+word_len-none [] h = refl
+word_len-none (b ∷ bytes) h = rw h refl
+
+pub begins-letter : (b : ℕ) (bytes : List ℕ) → begins_word (b ∷ bytes) ≡ true → kind_of b ≡ Letter
+unfolding begins_word
+begins-letter b bytes h = letter-is (kind_of b) h
+
+pub letter-begins : (b : ℕ) (bytes : List ℕ) → kind_of b ≡ Letter → begins_word (b ∷ bytes) ≡ true
+unfolding begins_word
+letter-begins b bytes is = rw is refl
+
+begins-none : begins_word [] ≢ true
+unfolding begins_word
+begins-none h = cc
+
+-- the word goes on, or ends here
+word-on : (line b : ℕ) (bytes : List ℕ) (more : Bool) → begins_word bytes ≡ more
+    → (more ≡ true → rows_from false line bytes ≡ before_word line (take (word_len bytes) bytes) (rows_from false line (drop (word_len bytes) bytes)))
+    → before_letter line b more (rows_from false line bytes) ≡ before_word line (b ∷ take (word_len bytes) bytes) (rows_from false line (drop (word_len bytes) bytes))
+word-on line b bytes true is goes_on = ap (before_letter line b true) (goes_on refl)
+word-on line b bytes false is goes_on = rw (word_len-none bytes is) refl
+
+pub rows-word : (line : ℕ) (bytes : List ℕ) → begins_word bytes ≡ true → rows_from false line bytes ≡ before_word line (take (word_len bytes) bytes) (rows_from false line (drop (word_len bytes) bytes))
+rows-word line [] begins = absurd (begins-none begins)
+rows-word line (b ∷ bytes) begins =
+    let is : kind_of b ≡ Letter = begins-letter b bytes begins in
+    rw (word_len-letter b bytes is) (rows-letter line b bytes is ∙ word-on line b bytes (begins_word bytes) refl (rows-word line bytes))
+
+pub word_len-positive : (bytes : List ℕ) → begins_word bytes ≡ true → 0 < word_len bytes
+word_len-positive [] begins = absurd (begins-none begins)
+word_len-positive (b ∷ bytes) begins = rw (word_len-letter b bytes (begins-letter b bytes begins)) (omega arith)
+
+-- a word in its two parts, as the code splits it
+pub split-word : (line n : ℕ) (bytes word rest : List ℕ) → begins_word bytes ≡ true → n ≡ word_len bytes → word ≡ take n bytes → rest ≡ drop n bytes
+    → ((rows_from false line bytes).row ≡ Word line word (rows_from false line rest).row) × (behind (rows_from false line rest) ≡ behind (rows_from false line bytes))
+split-word line n bytes word rest begins len front back = rw (rows-word line bytes begins, front, back, len) (refl, refl)
+
+-- what is left after the byte at i
+drop-at : (i : ℕ) (bytes rest : List ℕ) → i < length bytes → rest ≡ drop (i + 1) bytes → drop i bytes ≡ get_or bytes i 0 ∷ rest
+drop-at i bytes rest within is = drop-cons bytes i 0 within ∙ ap (λ bs. get_or bytes i 0 ∷ bs) (sym (rw add-one at is))
+
+module _ (line i : ℕ) (bytes rest : List ℕ) (rows : Rows) (comment : Bool) (within : i < length bytes) (left : rest ≡ drop (i + 1) bytes) (same : rows_from comment line (drop i bytes) ≡ rows) where
+  -- the same, with the byte at i in front
+  here : rows ≡ rows_from comment line (get_or bytes i 0 ∷ rest)
+  here = sym same ∙ ap (rows_from comment line) (drop-at i bytes rest within left)
+
+  pub opened : kind_in comment (get_or bytes i 0) ≡ Open
+      → (rows.row ≡ Group line (rows_from false line rest).row (behind (rows_from false line rest)).row) × (behind (behind (rows_from false line rest)) ≡ behind rows)
+  opened is = rw (here ∙ rows-open line (get_or bytes i 0) rest comment is) (refl, refl)
+
+  pub closed : kind_in comment (get_or bytes i 0) ≡ Close → (rows.row ≡ End) × (rows_from false line rest ≡ behind rows)
+  closed is = rw (here ∙ rows-close line (get_or bytes i 0) rest comment is) (refl, refl)
+
+  pub passed : (k : Kind) → k ≡ kind_in comment (get_or bytes i 0) → (k ≡ Blank) ⊎ (k ≡ Stray)
+      → rows_from (comment_after comment (get_or bytes i 0)) (line_after line (get_or bytes i 0)) rest ≡ rows
+  passed k kind (inl is) = sym (here ∙ rows-blank line (get_or bytes i 0) rest comment (sym kind ∙ is))
+  passed k kind (inr is) = sym (here ∙ rows-stray line (get_or bytes i 0) rest comment (sym kind ∙ is))
+
+-- a letter stands outside comments, and a word begins there
+pub letter-outside : (comment : Bool) (b : ℕ) → kind_in comment b ≡ Letter → (comment ≡ false) × (kind_of b ≡ Letter)
+letter-outside true b is = cc
+letter-outside false b is = (refl, is)
+
+pub begins-at : (i : ℕ) (bytes word : List ℕ) (comment : Bool) → i < length bytes → word ≡ drop i bytes → kind_in comment (get_or bytes i 0) ≡ Letter → begins_word word ≡ true
+begins-at i bytes word comment within is letter =
+    rw (is, drop-cons bytes i 0 within) (letter-begins _ _ (letter-outside comment _ letter).1)
+
+pub line_after-most : (line b : ℕ) → line_after line b ≤ line + 1
+unfolding line_after
+line_after-most line b = elim (eqb b 10) as (λ t. cond t (line + 1) line ≤ line + 1) [ true ↦ omega arith | false ↦ omega arith ]
+
+-- the end of the text ends every row
+pub at-end : (line i : ℕ) (bytes : List ℕ) (rows : Rows) (comment : Bool) → length bytes ≤ i → rows_from comment line (drop i bytes) ≡ rows
+    → (rows.row ≡ End) × (rows_from false line [] ≡ behind rows)
+unfolding rows_from
+at-end line i bytes rows comment over same = rw (sym same, drop_all i bytes over) (refl, refl)

@@ -1,0 +1,125 @@
+-- The scan of a text, byte by byte, and that a text without a fault is one list.
+use Rattle.std.proofs.Common.{◌≡◌, ℕ, ◌+◌, ◌-◌, ◌<◌, ◌≤◌, Bool, true, false, cond, nat_lt, List, [], ◌∷◌, ◌++◌, length, get_or, drop, Result, Ok, Err, refl, ◌∙◌, ap, arith, add-one, drop-cons}
+use Rattle.std.proofs.lemmas.Bool.{ltb-true, ltb-false}
+use Rattle.stn_pddl.specs.{declared.tree.bytes.Kind.Kind, declared.tree.scan.TreeFault.TreeFault, declared.tree.scan.Place.Place, Tree.Bytes.kind_in, Tree.Bytes.comment_after, Tree.Bytes.line_after, Tree.Scan.place_after, Tree.Scan.ends_at, Tree.Scan.scanned, Tree.Scan.IsOneList}
+use Rattle.stn_pddl.specs.declared.tree.bytes.Kind.TheVariants.{Blank, Open, Close, Letter, Stray}
+use Rattle.stn_pddl.specs.declared.tree.scan.TreeFault.TheVariants.{Syntax, TooDeep}
+use Rattle.stn_pddl.specs.declared.tree.scan.Place.TheVariants.{Before, Inside, After}
+use Rattle.stn_pddl.specs.Tree.Trees.{Trees, Group, End, Rows, outer, before_byte, begins_word, rows_from}
+use Rattle.stn_text.specs.Faults.{◌>>=◌}
+
+-- one byte more
+pub scanned-at : (comment : Bool) (line : ℕ) (place next : Place) (i : ℕ) (text : List ℕ) → i < length text → place_after (kind_in comment (get_or text i 0)) line place ≡ Ok next
+    → scanned comment line place (drop i text) ≡ scanned (comment_after comment (get_or text i 0)) (line_after line (get_or text i 0)) next (drop (i + 1) text)
+unfolding scanned
+scanned-at comment line place next i text within is =
+    ap (scanned comment line place) (drop-cons text i 0 within) ∙ rw (is, add-one) refl
+
+pub scanned-next : (comment : Bool) (line b : ℕ) (place next : Place) (bytes : List ℕ) → place_after (kind_in comment b) line place ≡ Ok next
+    → scanned comment line place (b ∷ bytes) ≡ scanned (comment_after comment b) (line_after line b) next bytes
+unfolding scanned
+scanned-next comment line b place next bytes is = rw is refl
+
+-- the first byte is a fault
+pub scanned-fault : (comment : Bool) (line b : ℕ) (place : Place) (fault : TreeFault) (bytes : List ℕ) → place_after (kind_in comment b) line place ≡ Err fault
+    → scanned comment line place (b ∷ bytes) ≡ Err fault
+unfolding scanned
+scanned-fault comment line b place fault bytes is = rw is refl
+
+-- A place inside has an open bracket.
+abbrev pub IsPlace : Place → Type 0
+IsPlace Before = Unit {0}
+IsPlace (Inside depth) = 0 < depth
+IsPlace After = Unit {0}
+
+-- as many rows around as brackets are open, and nothing after the outermost list
+abbrev pub Closes : ℕ → List Trees → Type 0
+Closes depth around = (inner : List Trees) × (around ≡ inner ++ End ∷ []) × (length inner + 1 ≡ depth)
+
+-- what is still to come at a place of a text without a fault
+abbrev pub Completes : Place → Rows → Type 0
+Completes Before rows = (line : ℕ) × (children : Trees) × (rows.row ≡ Group line children End) × (rows.around ≡ [])
+Completes (Inside depth) rows = Closes depth rows.around
+Completes After rows = (rows.row ≡ End) × (rows.around ≡ [])
+
+abbrev placed : Place → Result Place TreeFault
+placed place = Ok place
+
+refused : {B : Type 0} (fault : TreeFault) (end : Place) → Err fault ≡ Ok end → B
+refused fault end is = cc
+
+-- whether a bracket may open or close
+chosen : {B : Type 0} (t : Bool) (a b : Result Place TreeFault) → (t ≡ true → a ≡ cond t a b → B) → (t ≡ false → b ≡ cond t a b → B) → B
+chosen true a b if_true if_false = if_true refl refl
+chosen false a b if_true if_false = if_false refl refl
+
+module _ (f : Place → Result Place TreeFault) (end : Place) (rows : Rows) (later : (next : Place) → IsPlace next → f next ≡ Ok end → Completes next rows) where
+  completes-open : (line b : ℕ) (more : Bool) (place : Place) → IsPlace place → (place_after Open line place >>= f) ≡ Ok end → Completes place (before_byte Open line b more rows)
+  unfolding place_after
+  completes-open line b more Before at is =
+      let inside : Closes 1 rows.around = later (Inside 1) (omega arith) is in
+      outermost inside.0 inside.1 inside.2
+    where
+      outermost : (inner : List Trees) → rows.around ≡ inner ++ End ∷ [] → length inner + 1 ≡ 1 → Completes Before (before_byte Open line b more rows)
+      outermost [] around long = (line, rows.row, rw around refl, rw around refl)
+      outermost (row ∷ inner) around long = absurd (omega arith)
+  completes-open line b more (Inside depth) at is = chosen (nat_lt depth 32) (Ok (Inside (depth + 1))) (Err (TooDeep line)) opens (λ e same. refused (TooDeep line) end (ap (λ r. r >>= f) same ∙ is))
+    where
+      inner_ones : (inner : List Trees) → rows.around ≡ inner ++ End ∷ [] → length inner + 1 ≡ depth + 1 → Closes depth (outer rows.around)
+      inner_ones [] around long = absurd (omega arith)
+      inner_ones (row ∷ inner) around long = (inner, rw around refl, omega arith)
+
+      opens : nat_lt depth 32 ≡ true → placed (Inside (depth + 1)) ≡ cond (nat_lt depth 32) (placed (Inside (depth + 1))) (Err (TooDeep line)) → Completes (Inside depth) (before_byte Open line b more rows)
+      opens e same =
+          let inside : Closes (depth + 1) rows.around = later (Inside (depth + 1)) (omega arith) (ap (λ r. r >>= f) same ∙ is) in
+          inner_ones inside.0 inside.1 inside.2
+  completes-open line b more After at is = refused (Syntax line) end is
+
+  completes-close : (line b : ℕ) (more : Bool) (place : Place) → IsPlace place → (place_after Close line place >>= f) ≡ Ok end → Completes place (before_byte Close line b more rows)
+  unfolding place_after
+  completes-close line b more Before at is = refused (Syntax line) end is
+  completes-close line b more (Inside depth) at is = chosen (nat_lt 1 depth) (Ok (Inside (depth - 1))) (Ok After) closes ends
+    where
+      closes : nat_lt 1 depth ≡ true → placed (Inside (depth - 1)) ≡ cond (nat_lt 1 depth) (placed (Inside (depth - 1))) (placed After) → Completes (Inside depth) (before_byte Close line b more rows)
+      closes e same =
+          let deep : 1 < depth = ltb-true _ _ e in
+          let around : Closes (depth - 1) rows.around = later (Inside (depth - 1)) (omega arith) (ap (λ r. r >>= f) same ∙ is) in
+          (rows.row ∷ around.0, ap (λ rs. rows.row ∷ rs) around.1, omega arith)
+
+      ends : nat_lt 1 depth ≡ false → placed After ≡ cond (nat_lt 1 depth) (placed (Inside (depth - 1))) (placed After) → Completes (Inside depth) (before_byte Close line b more rows)
+      ends e same =
+          let flat : depth ≤ 1 = ltb-false _ _ e in
+          let after : Completes After rows = later After tt (ap (λ r. r >>= f) same ∙ is) in
+          ([], ap (λ rs. rows.row ∷ rs) after.1 ∙ ap (λ r. r ∷ []) after.0, omega arith)
+  completes-close line b more After at is = refused (Syntax line) end is
+
+  completes-byte : (k : Kind) (line b : ℕ) (more : Bool) (place : Place) → IsPlace place → (place_after k line place >>= f) ≡ Ok end → Completes place (before_byte k line b more rows)
+  unfolding place_after
+  completes-byte Blank line b more place at is = later place at is
+  completes-byte Open line b more place at is = completes-open line b more place at is
+  completes-byte Close line b more place at is = completes-close line b more place at is
+  completes-byte Letter line b more Before at is = refused (Syntax line) end is
+  completes-byte Letter line b true (Inside depth) at is = later (Inside depth) at is
+  completes-byte Letter line b false (Inside depth) at is = later (Inside depth) at is
+  completes-byte Letter line b more After at is = refused (Syntax line) end is
+  completes-byte Stray line b more place at is = refused (Syntax line) end is
+
+pub rows-byte : (comment : Bool) (line b : ℕ) (bytes : List ℕ) → rows_from comment line (b ∷ bytes) ≡ before_byte (kind_in comment b) line b (begins_word bytes) (rows_from (comment_after comment b) (line_after line b) bytes)
+unfolding rows_from
+rows-byte comment line b bytes = refl
+
+completes-end : (comment : Bool) (line : ℕ) (place end : Place) → ends_at line place ≡ Ok end → Completes place (rows_from comment line [])
+unfolding rows_from
+completes-end comment line Before end is = refused (Syntax line) end is
+completes-end comment line (Inside depth) end is = refused (Syntax line) end is
+completes-end comment line After end is = (refl, refl)
+
+-- A text without a fault completes its place.
+pub completes : (bytes : List ℕ) (comment : Bool) (line : ℕ) (place end : Place) → IsPlace place → scanned comment line place bytes ≡ Ok end → Completes place (rows_from comment line bytes)
+unfolding scanned
+completes [] comment line place end at is = completes-end comment line place end is
+completes (b ∷ bytes) comment line place end at is =
+    rw (rows-byte comment line b bytes) (completes-byte (λ next. scanned (comment_after comment b) (line_after line b) next bytes) end (rows_from (comment_after comment b) (line_after line b) bytes) (λ next here so. completes bytes (comment_after comment b) (line_after line b) next end here so) (kind_in comment b) line b (begins_word bytes) place at is)
+
+pub one-list : (text : List ℕ) (end : Place) → scanned false 1 Before text ≡ Ok end → IsOneList (rows_from false 1 text).row
+one-list text end is = let whole = completes text false 1 Before end tt is in (whole.0, whole.1, whole.2)

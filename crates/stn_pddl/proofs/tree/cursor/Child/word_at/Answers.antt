@@ -1,0 +1,15 @@
+use Rattle.std.proofs.Common.{◌<◌, arith}
+use Rattle.stn_pddl.specs.{Tree.Trees.word_len, Tree.Cursors.rows_at, Tree.Cursors.left_at}
+use Rattle.stn_pddl.proofs.tree.Rows.{split-word, word_len-positive}
+use Rattle.stn_pddl.proofs.tree.cursor.Child.word_at.Goals as goal
+
+pub returns-clause-first : goal.returns-clause-first
+unfolding rows_at
+returns-clause-first c =
+    split-word _ _ _ _ _ c.requires.letter c.word_len.ensures.len c.split_at.ensures.front c.split_at.ensures.back
+
+pub returns-clause-shorter : goal.returns-clause-shorter
+unfolding left_at
+returns-clause-shorter c =
+    let some : 0 < word_len c.args.bytes.now = word_len-positive c.args.bytes.now c.requires.letter in
+    omega (arith, c.word_len.ensures.len, c.split_at.ensures.back_len)

@@ -1,0 +1,32 @@
+use Rattle.std.proofs.Common.{◌∙◌, ◌+◌, get_or, arith, refl, sym}
+use Rattle.stn_pddl.specs.Tree.Cursors.{rows_at}
+use Rattle.std.proofs.lemmas.List.{take_rest}
+use Rattle.stn_pddl.proofs.{tree.Rows.opened, tree.Rows.closed, tree.Rows.passed, tree.Rows.begins-at, tree.Rows.line_after-most, tree.Rows.at-end}
+use Rattle.stn_pddl.proofs.tree.cursor.Cursor.next_child.Goals as goal
+
+pub returns-in-Open-clause-first : goal.returns-in-Open-clause-first
+unfolding rows_at
+returns-in-Open-clause-first c =
+    let bytes = c.args.self.rest.now in
+    opened _ c.loop-index.index _ _ _ c.loop-index.comment c.loop-index-test.true (take_rest bytes (c.loop-index.index + 1)) c.loop-index.invariant.same_rows (sym c.kind_in.ensures ∙ c.in-Open.is)
+
+pub returns-in-Close-clause-first : goal.returns-in-Close-clause-first
+unfolding rows_at
+returns-in-Close-clause-first c =
+    let bytes = c.args.self.rest.now in
+    closed _ c.loop-index.index _ _ _ c.loop-index.comment c.loop-index-test.true (take_rest bytes (c.loop-index.index + 1)) c.loop-index.invariant.same_rows (sym c.kind_in.ensures ∙ c.in-Close.is)
+
+pub word_at-requires-clause-letter : goal.word_at-requires-clause-letter
+word_at-requires-clause-letter c =
+    begins-at c.loop-index.index _ _ c.loop-index.comment c.loop-index-test.true (take_rest c.args.self.rest.now c.loop-index.index) (sym c.kind_in.ensures ∙ c.in-Letter.is)
+
+pub loop-index-preserved : goal.loop-index-preserved
+loop-index-preserved c = record {
+  in_range = omega (arith, line_after-most c.loop-index.line (get_or c.args.self.rest.now c.loop-index.index 0));
+  same_rows = rw (c.comment_after-comment.ensures, c.line_after-line.ensures)
+      (passed _ c.loop-index.index _ _ _ c.loop-index.comment c.loop-index-test.true refl c.loop-index.invariant.same_rows _ c.kind_in.ensures c.in-Blank.is);
+}
+
+pub returns-clause-first : goal.returns-clause-first
+unfolding rows_at
+returns-clause-first c = at-end _ c.loop-index.index _ _ c.loop-index.comment (omega arith) c.loop-index.invariant.same_rows

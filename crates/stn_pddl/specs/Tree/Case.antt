@@ -1,0 +1,14 @@
+-- A row of trees in small letters.
+use Rattle.std.specs.Prelude.{Result, Ok, Err}
+use Rattle.stn_pddl.specs.{declared.tree.scan.TreeFault.TreeFault, Tree.Names.folded, Tree.Trees.Trees, Tree.Trees.End, Tree.Trees.Word, Tree.Trees.Group}
+
+-- the same row, with small letters for the capital ones of ASCII in each word
+unfoldable pub in_small : Trees → Trees
+in_small End = End
+in_small (Word line word next) = Word line (folded word) (in_small next)
+in_small (Group line children next) = Group line (in_small children) (in_small next)
+
+-- the same fault, or the row in small letters
+abbrev pub tree_in_small : Result Trees TreeFault → Result Trees TreeFault
+tree_in_small (Ok row) = Ok (in_small row)
+tree_in_small (Err fault) = Err fault

@@ -1,0 +1,13 @@
+//! The bytes of a domain text as one tree of words and lists, read with a cursor over the text and no tree in memory.
+
+mod bytes;
+mod cursor;
+mod laws;
+mod name;
+mod scan;
+mod word;
+
+pub use cursor::{Child, Cursor};
+pub use laws::{first_fault, small_letters, written_reads};
+pub use name::{Name, is_same_word};
+pub use scan::{TreeFault, start};

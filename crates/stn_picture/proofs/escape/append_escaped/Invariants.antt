@@ -1,7 +1,0 @@
-use Rattle.std.proofs.Common.{◌≡◌, ◌++◌, take}
-use Rattle.std.specs.List.{flat_map}
-use Rattle.stn_picture.specs.Escape.{escaped}
-use Rattle.stn_picture.proofs.escape.append_escaped.Given as goal
-
-abbrev pub invariant-loop-byte : goal.invariant-loop-byte
-invariant-loop-byte g l = l.out.items ≡ l.initial.out.items ++ flat_map (escaped l.row) (take l.byte-index l.text)

@@ -1,5 +1,0 @@
-use Rattle.stn_picture.proofs.OnePicture.{one_picture}
-use Rattle.stn_picture.proofs.laws.one_picture.Goals as goal
-
-pub returns : goal.returns
-returns c = one_picture c.one_report.ensures c.negative_cycle_is_conflict.ensures

@@ -1,4 +1,0 @@
-pub mod LineFacts
-pub mod TokenFacts
-pub mod StepFacts
-pub mod FaultFacts

@@ -1,0 +1,9 @@
+mod Found
+mod Once
+mod Elements
+mod Cycles
+mod Refusing
+mod Largest
+mod LiveOnce
+mod Listing
+mod RepairFound

@@ -1,0 +1,35 @@
+-- What is found of bytes that are compared piece by piece.
+use Rattle.std.proofs.Common.{◌≡◌, ◌≢◌, ℕ, List, [], ◌++◌, Option, Some, None, false, sym, ap, ◌∙◌, append_assoc}
+use Rattle.std.proofs.lemmas.Bool.{false≢true}
+use Rattle.std.proofs.lemmas.List.{append_cancel_left}
+use Rattle.std.proofs.KnownBytes.{Consumes-trans}
+use Rattle.std.specs.Io.KnownBytes.{Consumes}
+use Rattle.stn_store.specs.Bytes.{AreKnown, AreTheseIn}
+
+-- what was read is the front of what the bytes are
+known_front : (known rest : Option (List ℕ)) (front : List ℕ) → Consumes known rest front → (behind : List ℕ) × AreKnown known (front ++ behind)
+known_front None rest front read = ([], tt)
+known_front (Some bytes) None front read = absurd read
+known_front (Some bytes) (Some rest) front read = (rest, read)
+
+-- one piece more is alike
+pub alike_further : (known old new : Option (List ℕ)) (bytes front left piece rest : List ℕ) → bytes ≡ front ++ left → left ≡ piece ++ rest
+    → Consumes known old front → Consumes old new piece → (more : List ℕ) × (bytes ≡ more ++ rest) × Consumes known new more
+alike_further known old new bytes front left piece rest begins goes_on read next = (
+  front ++ piece,
+  begins ∙ ap (λ behind. front ++ behind) goes_on ∙ sym (append_assoc front piece rest),
+  Consumes-trans known old new front piece read next,
+)
+
+-- or it is not
+pub others_there : (known old new : Option (List ℕ)) (bytes front left piece : List ℕ) → bytes ≡ front ++ left → ((rest : List ℕ) → left ≢ piece ++ rest)
+    → Consumes known old front → Consumes old new piece → AreTheseIn known bytes false
+others_there known old new bytes front left piece begins differs read next =
+    let all = known_front known new (front ++ piece) (Consumes-trans known old new front piece read next) in (
+      (front ++ piece) ++ all.0,
+      all.1,
+      (
+        (λ same. absurd (false≢true same)),
+        λ same. absurd (differs all.0 (append_cancel_left front left (piece ++ all.0) (sym begins ∙ sym same ∙ append_assoc front piece all.0))),
+      ),
+    )

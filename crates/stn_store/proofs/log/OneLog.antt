@@ -1,0 +1,100 @@
+-- Bytes have one meaning as a log.
+use Rattle.std.proofs.Common.{◌≡◌, ℕ, Bool, List, [], ◌∷◌, ◌++◌, length, Option, Some, None, Result, Ok, Err, inl, refl, sym, ap, subst, ◌∙◌, ⊎_elim, arith, append_assoc}
+use Rattle.std.specs.{Prelude.option_map, List.flat_map, List.AllByRecursion}
+use Rattle.std.proofs.lemmas.Bool.{false≢true}
+use Rattle.stn_wire.specs.{Frame.FrameContent, Frame.spelling, Frame.IsFrame, Front.Front, Front.whole, Front.faulty, Front.unfinished, Front.IsFront, declared.fault.WireFault.WireFault}
+use Rattle.stn_wire.proofs.Fronts.{whole_spelled}
+use Rattle.stn_store.specs.{Log.Log, Log.LogSoFar, Log.taken, Log.all_taken, Log.all_taken_by, Log.IsEnding, Log.IsAnswer, Log.IsRest, declared.log.fault.LoadFault.LoadFault}
+use Rattle.stn_store.specs.declared.log.fault.LoadFault.TheVariants.{Read, Bound, Frame, LogForm, Base, Take, Memory}
+
+not_unfinished : (frame : FrameContent) (n : ℕ) → whole frame n ≡ unfinished → ⊥
+not_unfinished frame n e = absurd cc
+
+not_faulty : (frame : FrameContent) (n : ℕ) (fault : WireFault) → whole frame n ≡ faulty fault → ⊥
+not_faulty frame n fault e = absurd cc
+
+apart : (fault : WireFault) → faulty fault ≡ unfinished → ⊥
+apart fault e = absurd cc
+
+one_fault : (f g : WireFault) → faulty f ≡ faulty g → f ≡ g
+one_fault f g e = cc
+
+one_some : {X : Type 0} (x y : X) → Some x ≡ Some y → x ≡ y
+one_some x y e = cc
+
+not_none : {X : Type 0} (x : X) → Some x ≡ None → ⊥
+not_none x e = absurd cc
+
+module _ (fronts : (bytes : List ℕ) (a b : Front) → IsFront bytes a → IsFront bytes b → a ≡ b)
+    (spellings : (f g : FrameContent) (x y : List ℕ) → IsFrame f → IsFrame g → spelling f ++ x ≡ spelling g ++ y → (f ≡ g) × (x ≡ y)) where
+  nothing : (bytes : List ℕ) → bytes ≡ [] → IsFront bytes unfinished
+  nothing bytes e = subst (λ (l : List ℕ). IsFront l unfinished) (sym e) (inl (omega arith))
+
+  -- an ending is after all whole frames
+  no_frame : (more : Bool) (log : Option LogSoFar) (frame : FrameContent) (tail : List ℕ) (meaning : Result Log LoadFault) → IsFrame frame → IsEnding more (spelling frame ++ tail) log meaning → ⊥
+  no_frame more log frame tail (Ok log') h e =
+      not_unfinished frame _ (fronts (spelling frame ++ tail) (whole frame (length (spelling frame))) unfinished (whole_spelled frame tail h) (nothing (spelling frame ++ tail) e.1))
+  no_frame more log frame tail (Err (Frame fault)) h e =
+      not_faulty frame _ fault (fronts (spelling frame ++ tail) (whole frame (length (spelling frame))) (faulty fault) (whole_spelled frame tail h) e)
+  no_frame more log frame tail (Err LogForm) h e =
+      not_unfinished frame _ (fronts (spelling frame ++ tail) (whole frame (length (spelling frame))) unfinished (whole_spelled frame tail h) e.1)
+  no_frame more log frame tail (Err Bound) h e =
+      not_unfinished frame _ (fronts (spelling frame ++ tail) (whole frame (length (spelling frame))) unfinished (whole_spelled frame tail h) e.1)
+  no_frame more log frame tail (Err Read) h e = e
+  no_frame more log frame tail (Err (Base fault)) h e = e
+  no_frame more log frame tail (Err (Take fault)) h e = e
+  no_frame more log frame tail (Err Memory) h e = e
+
+  -- a whole log is no other answer
+  whole_alone : (more : Bool) (log : Option LogSoFar) (behind : List ℕ) (one : Log) (meaning : Result Log LoadFault) → IsEnding more behind log (Ok one) → IsEnding more behind log meaning → Ok one ≡ meaning
+  whole_alone more log behind one (Ok other) p q = ap Ok (one_some one other (sym p.2 ∙ q.2))
+  whole_alone more log behind one (Err (Frame fault)) p q = absurd (apart fault (fronts behind (faulty fault) unfinished q (nothing behind p.1)))
+  whole_alone more log behind one (Err LogForm) p q = absurd (⊎_elim (λ none. not_none one (sym p.2 ∙ ap (option_map (λ (begun : LogSoFar). begun.log)) none)) (λ some. omega (arith, some, ap length p.1)) q.2)
+  whole_alone more log behind one (Err Bound) p q = absurd (false≢true (sym p.0 ∙ q.0))
+  whole_alone more log behind one (Err Read) p q = absurd q
+  whole_alone more log behind one (Err (Base fault)) p q = absurd q
+  whole_alone more log behind one (Err (Take fault)) p q = absurd q
+  whole_alone more log behind one (Err Memory) p q = absurd q
+
+  one_ending : (more : Bool) (log : Option LogSoFar) (behind : List ℕ) (a b : Result Log LoadFault) → IsEnding more behind log a → IsEnding more behind log b → a ≡ b
+  one_ending more log behind (Ok one) b p q = whole_alone more log behind one b p q
+  one_ending more log behind a (Ok one) p q = sym (whole_alone more log behind one a q p)
+  one_ending more log behind (Err (Frame f)) (Err (Frame g)) p q = ap (λ (fault : WireFault). Err (Frame fault)) (one_fault f g (fronts behind (faulty f) (faulty g) p q))
+  one_ending more log behind (Err (Frame f)) (Err LogForm) p q = absurd (apart f (fronts behind (faulty f) unfinished p q.1))
+  one_ending more log behind (Err (Frame f)) (Err Bound) p q = absurd (apart f (fronts behind (faulty f) unfinished p q.1))
+  one_ending more log behind (Err LogForm) (Err (Frame g)) p q = absurd (apart g (fronts behind (faulty g) unfinished q p.1))
+  one_ending more log behind (Err Bound) (Err (Frame g)) p q = absurd (apart g (fronts behind (faulty g) unfinished q p.1))
+  one_ending more log behind (Err LogForm) (Err LogForm) p q = refl
+  one_ending more log behind (Err Bound) (Err Bound) p q = refl
+  one_ending more log behind (Err LogForm) (Err Bound) p q = absurd (false≢true (sym p.0 ∙ q.0))
+  one_ending more log behind (Err Bound) (Err LogForm) p q = absurd (false≢true (sym q.0 ∙ p.0))
+  one_ending more log behind (Err Read) b p q = absurd p
+  one_ending more log behind (Err (Base fault)) b p q = absurd p
+  one_ending more log behind (Err (Take fault)) b p q = absurd p
+  one_ending more log behind (Err Memory) b p q = absurd p
+  one_ending more log behind a (Err Read) p q = absurd q
+  one_ending more log behind a (Err (Base fault)) p q = absurd q
+  one_ending more log behind a (Err (Take fault)) p q = absurd q
+  one_ending more log behind a (Err Memory) p q = absurd q
+
+  by_first : (more : Bool) (fs gs : List FrameContent) (behind left : List ℕ) (a b : Result Log LoadFault) (first : Result LogSoFar LoadFault)
+      → ((next : LogSoFar) → IsAnswer more behind (all_taken (Some next) fs) a → IsAnswer more left (all_taken (Some next) gs) b → a ≡ b)
+      → IsAnswer more behind (all_taken_by (λ log. all_taken log fs) first) a → IsAnswer more left (all_taken_by (λ log. all_taken log gs) first) b → a ≡ b
+  by_first more fs gs behind left a b (Ok next) later x y = later next x y
+  by_first more fs gs behind left a b (Err fault) later x y = x ∙ sym y
+
+  one_rest : (more : Bool) (fs gs : List FrameContent) (log : Option LogSoFar) (behind left : List ℕ) (a b : Result Log LoadFault) → AllByRecursion IsFrame fs → AllByRecursion IsFrame gs
+      → flat_map spelling fs ++ behind ≡ flat_map spelling gs ++ left → IsAnswer more behind (all_taken log fs) a → IsAnswer more left (all_taken log gs) b → a ≡ b
+  one_rest more [] [] log behind left a b p q e x y = one_ending more log behind a b x (subst (λ (l : List ℕ). IsEnding more l log b) (sym e) y)
+  one_rest more [] (g ∷ gs) log behind left a b p q e x y =
+      absurd (no_frame more log g (flat_map spelling gs ++ left) a q.0 (subst (λ (l : List ℕ). IsEnding more l log a) (e ∙ append_assoc (spelling g) (flat_map spelling gs) left) x))
+  one_rest more (f ∷ fs) [] log behind left a b p q e x y =
+      absurd (no_frame more log f (flat_map spelling fs ++ behind) b p.0 (subst (λ (l : List ℕ). IsEnding more l log b) (sym e ∙ append_assoc (spelling f) (flat_map spelling fs) behind) y))
+  one_rest more (f ∷ fs) (g ∷ gs) log behind left a b p q e x y =
+      let cut : spelling f ++ (flat_map spelling fs ++ behind) ≡ spelling g ++ (flat_map spelling gs ++ left) = sym (append_assoc (spelling f) (flat_map spelling fs) behind) ∙ (e ∙ append_assoc (spelling g) (flat_map spelling gs) left) in
+      let parts = spellings f g (flat_map spelling fs ++ behind) (flat_map spelling gs ++ left) p.0 q.0 cut in
+      by_first more fs gs behind left a b (taken log f) (λ next. one_rest more fs gs (Some next) behind left a b p.1 q.1 parts.1) x
+      (subst (λ (h : FrameContent). IsAnswer more left (all_taken_by (λ log. all_taken log gs) (taken log h)) b) (sym parts.0) y)
+
+  pub one_meaning : (more : Bool) (log : Option LogSoFar) (bytes : List ℕ) (a b : Result Log LoadFault) → IsRest more log bytes a → IsRest more log bytes b → a ≡ b
+  one_meaning more log bytes a b x y = one_rest more x.frames y.frames log x.behind y.behind a b x.each y.each (sym x.cut ∙ y.cut) x.answer y.answer

@@ -1,0 +1,277 @@
+-- A log that is read frame by frame.
+use Rattle.std.proofs.Common.{◌≡◌, ℕ, ◌+◌, ◌-◌, ◌<◌, ◌≤◌, Bool, true, false, ltb, List, [], ◌∷◌, ◌++◌, length, take, Option, Some, None, Result, Ok, Err, IfSome, inl, inr, refl, sym, ap, subst, ◌∙◌, arith, append_assoc, append-nil, length-append}
+use Rattle.std.specs.{Prelude.nat_lt, Prelude.is_some, Prelude.option_map, Io.KnownBytes.Consumes, Io.KnownBytes.IsAtEnd, List.flat_map, List.AllByRecursion}
+use Rattle.std.proofs.{KnownBytes.Consumes-nil, KnownBytes.Consumes-trans, Math.Seq.take-append-add, lemmas.List.take_all, lemmas.List.take_at, lemmas.Bool.false≢true, lemmas.Bool.Decides.nat_tests, lemmas.Grind.flat_map-append}
+use Rattle.stn_device.specs.Bytes.{most_bytes, ConsumesAtMost}
+use Rattle.stn_time.proofs.Each.{each_pushed}
+use Rattle.stn_wire.specs.{Frame.FrameContent, Frame.spelling, Frame.IsFrame, Front.IsFront, Front.faulty, Front.unfinished, declared.fault.WireFault.WireFault, Stream.IsNext, Stream.IsCounted, Stream.Held.Stream, declared.stream.fault.StreamFault.StreamFault}
+use Rattle.stn_wire.proofs.Fronts.{fault_more}
+use Rattle.stn_wire.specs.declared.stream.fault.StreamFault.TheVariants as stream
+use Rattle.stn_store.specs.{Log.Faults.of_stream, Log.Opening.opened_so_far, Log.Opening.closed_log, Log.Opening.IsRefused, declared.log.reading.Opened.Opened, declared.log.fault.LoadFault.LoadFault}
+use Rattle.stn_store.specs.Log.{Log, LogSoFar, log_held, taken, all_taken, all_taken_by, meaning_of, IsEnding, IsAnswer, IsRest, IsDecided, IsOpen}
+use Rattle.stn_store.specs.declared.log.fault.LoadFault.TheVariants.{Read, Bound, Frame, LogForm, Base, Take, Memory}
+
+is_more : (most n : ℕ) → most < n → ltb most n ≡ true
+is_more most n lt = grind (arith, nat_tests)
+
+not_more : (most n : ℕ) → n ≤ most → ltb most n ≡ false
+not_more most n le = grind (arith, nat_tests)
+
+-- a read that failed
+pub stream_read : (fault : StreamFault) → of_stream fault ≡ Read → fault ≡ stream.Read
+stream_read stream.Read is = refl
+stream_read stream.Bound is = absurd cc
+stream_read stream.Memory is = absurd cc
+
+-- ---- one frame
+
+-- no frame is taken any more
+bytes_end : (more : Bool) (log : Option LogSoFar) (bytes : List ℕ) (meaning : Result Log LoadFault) → IsEnding more bytes log meaning → IsRest more log bytes meaning
+bytes_end more log bytes meaning ending = record { frames = []; behind = bytes; each = tt; cut = refl; answer = ending }
+
+-- the frame in front is taken
+frame_taken : (more : Bool) (log : Option LogSoFar) (next : LogSoFar) (frame : FrameContent) (tail : List ℕ) → IsFrame frame → taken log frame ≡ Ok next
+    → (meaning : Result Log LoadFault) → IsRest more (Some next) tail meaning → IsRest more log (spelling frame ++ tail) meaning
+frame_taken more log next frame tail valid is meaning rest = record {
+  frames = frame ∷ rest.frames;
+  behind = rest.behind;
+  each = (valid, rest.each);
+  cut = ap (λ l. spelling frame ++ l) rest.cut ∙ sym (append_assoc (spelling frame) (flat_map spelling rest.frames) rest.behind);
+  answer = subst (λ (r : Result LogSoFar LoadFault). IsAnswer more rest.behind (all_taken_by (λ log. all_taken log rest.frames) r) meaning) (sym is) rest.answer;
+}
+
+-- the frame in front is refused
+frame_refused : (more : Bool) (log : Option LogSoFar) (frame : FrameContent) (tail : List ℕ) (fault : LoadFault) → IsFrame frame → taken log frame ≡ Err fault
+    → IsRest more log (spelling frame ++ tail) (Err fault)
+frame_refused more log frame tail fault valid is = record {
+  frames = frame ∷ [];
+  behind = tail;
+  each = (valid, tt);
+  cut = ap (λ l. l ++ tail) (sym (append-nil (spelling frame)));
+  answer = subst (λ (r : Result LogSoFar LoadFault). IsAnswer more tail (all_taken_by (λ log. all_taken log []) r) (Err fault)) (sym is) refl;
+}
+
+-- ---- frames, one after the other
+same_ok : (log last : Option LogSoFar) → all_taken log [] ≡ Ok last → log ≡ last
+same_ok log last e = cc
+
+-- more frames are taken by what the first one left
+later_taken : (first : Result LogSoFar LoadFault) (frames more : List FrameContent) (last : Option LogSoFar) (end : Result (Option LogSoFar) LoadFault)
+    → ((next : LogSoFar) → all_taken (Some next) frames ≡ Ok last → all_taken (Some next) (frames ++ more) ≡ end)
+    → all_taken_by (λ next. all_taken next frames) first ≡ Ok last → all_taken_by (λ next. all_taken next (frames ++ more)) first ≡ end
+later_taken (Ok next) frames more last end later came = later next came
+later_taken (Err fault) frames more last end later came = absurd cc
+
+one_more : (frames : List FrameContent) (log last : Option LogSoFar) (frame : FrameContent) (next : LogSoFar) → all_taken log frames ≡ Ok last → taken last frame ≡ Ok next → all_taken log (frames ++ frame ∷ []) ≡ Ok (Some next)
+one_more [] log last frame next came is = ap (all_taken_by (λ log. all_taken log [])) (ap (λ log. taken log frame) (same_ok log last came) ∙ is)
+one_more (f ∷ frames) log last frame next came is =
+    later_taken (taken log f) frames (frame ∷ []) last (Ok (Some next)) (λ log came. one_more frames (Some log) last frame next came is) came
+
+-- what stands after the first frame
+later_rest : (first : Result LogSoFar LoadFault) (more : Bool) (log : Option LogSoFar) (frame : FrameContent) (frames : List FrameContent) (last : Option LogSoFar) (tail : List ℕ) (meaning : Result Log LoadFault)
+    → IsFrame frame → taken log frame ≡ first → ((next : LogSoFar) → all_taken (Some next) frames ≡ Ok last → IsRest more (Some next) tail meaning)
+    → all_taken_by (λ next. all_taken next frames) first ≡ Ok last → IsRest more log (spelling frame ++ tail) meaning
+later_rest (Ok next) more log frame frames last tail meaning valid is later came = frame_taken more log next frame tail valid is meaning (later next came)
+later_rest (Err fault) more log frame frames last tail meaning valid is later came = absurd cc
+
+-- what bytes after frames that are all taken make of a log
+behind_frames : (frames : List FrameContent) (log last : Option LogSoFar) → AllByRecursion IsFrame frames → all_taken log frames ≡ Ok last
+    → (more : Bool) (tail : List ℕ) (meaning : Result Log LoadFault) → IsRest more last tail meaning → IsRest more log (flat_map spelling frames ++ tail) meaning
+behind_frames [] log last each came more tail meaning rest = subst (λ log. IsRest more log tail meaning) (sym (same_ok log last came)) rest
+behind_frames (frame ∷ frames) log last each came more tail meaning rest =
+    subst (λ l. IsRest more log l meaning) (sym (append_assoc (spelling frame) (flat_map spelling frames) tail))
+    (later_rest (taken log frame) more log frame frames last (flat_map spelling frames ++ tail) meaning each.0 refl (λ next came. behind_frames frames (Some next) last each.1 came more tail meaning rest) came)
+
+-- ---- how far a log was read: frames that were all taken, and what stands after them
+pub record Progress (before after : Option (List ℕ)) (log : Option LogSoFar) (rest : List ℕ) (count : ℕ) : Type 0 where
+  pub bytes : List ℕ
+  pub frames : List FrameContent
+  pub consumed : Consumes before after bytes
+  pub many : count ≡ length bytes
+  pub each : AllByRecursion IsFrame frames
+  pub cut : bytes ≡ flat_map spelling frames ++ rest
+  pub came : all_taken None frames ≡ Ok log
+
+pub begun : (before : Option (List ℕ)) (rest : List ℕ) (count : ℕ) → rest ≡ [] → count ≡ 0 → Progress before before None rest count
+begun before rest count none zero = record {
+  bytes = [];
+  frames = [];
+  consumed = Consumes-nil before;
+  many = zero;
+  each = tt;
+  cut = sym none;
+  came = refl;
+}
+
+module _ (before after : Option (List ℕ)) (log : Option LogSoFar) (rest : List ℕ) (count : ℕ) (p : Progress before after log rest count) where
+  abbrev given : List ℕ
+  given = flat_map spelling p.frames
+
+  leads : (more : Bool) (tail : List ℕ) (meaning : Result Log LoadFault) → IsRest more log tail meaning → IsRest more None (given ++ tail) meaning
+  leads = behind_frames p.frames None log p.each p.came
+
+  -- more bytes were read
+  pub read_on : (last : Option (List ℕ)) (more : List ℕ) → Consumes after last more → Progress before last log (rest ++ more) (count + length more)
+  read_on last more read = record {
+    bytes = p.bytes ++ more;
+    frames = p.frames;
+    consumed = Consumes-trans before after last p.bytes more p.consumed read;
+    many = omega (arith, p.many, length-append p.bytes more);
+    each = p.each;
+    cut = ap (λ l. l ++ more) p.cut ∙ append_assoc given rest more;
+    came = p.came;
+  }
+
+  used : count ≤ 16777216 + 1 → ConsumesAtMost before after (most_bytes + 1)
+  used few = (p.bytes, p.consumed, omega (arith, few, p.many))
+
+  pub used_within : count ≤ 16777216 → ConsumesAtMost before after (most_bytes + 1)
+  used_within few = used (omega (arith, few))
+
+  -- the frame in front is taken
+  pub next_taken : (frame : FrameContent) (later : List ℕ) → IsFrame frame → rest ≡ spelling frame ++ later → (now : ℕ) → now ≡ count → (next : LogSoFar) → taken log frame ≡ Ok next
+      → Progress before after (Some next) later now
+  next_taken frame later valid front now same next is = record {
+    bytes = p.bytes;
+    frames = p.frames ++ frame ∷ [];
+    consumed = p.consumed;
+    many = same ∙ p.many;
+    each = each_pushed IsFrame p.frames frame p.each valid;
+    cut = p.cut
+        ∙ (ap (λ l. given ++ l) (front ∙ ap (λ l. l ++ later) (sym (append-nil (spelling frame))))
+        ∙ (sym (append_assoc given (flat_map spelling (frame ∷ [])) later)
+        ∙ ap (λ l. l ++ later) (sym (flat_map-append spelling p.frames (frame ∷ [])))));
+    came = one_more p.frames None log frame next p.came is;
+  }
+
+  -- the same, of an option that holds what the frame made
+  pub next_held : (frame : FrameContent) (later : List ℕ) → IsFrame frame → rest ≡ spelling frame ++ later → (now : ℕ) → now ≡ count → (next : Option LogSoFar)
+      → is_some next ≡ true → IfSome next (λ held. taken log frame ≡ Ok held) → Progress before after next later now
+  next_held frame later valid front now same None there is = absurd (false≢true there)
+  next_held frame later valid front now same (Some next) there is = next_taken frame later valid front now same next is
+
+  -- the input ends after what was read
+  ends : count ≤ 16777216 → IsAtEnd after → (meaning : Result Log LoadFault) → IsEnding false rest log meaning → IsDecided before after meaning
+  ends few end meaning ending =
+      let long : length p.bytes ≤ most_bytes = omega (arith, few, p.many) in
+      let more : nat_lt most_bytes (length p.bytes) ≡ false = not_more most_bytes (length p.bytes) long in
+      let all : take most_bytes p.bytes ≡ given ++ rest = take_all most_bytes p.bytes long ∙ p.cut in (
+        p.bytes,
+        p.consumed,
+        inl (
+          end,
+          record {
+            said = subst (λ b. IsRest b None (take most_bytes p.bytes) meaning) (sym more)
+                (subst (λ l. IsRest false None l meaning) (sym all) (leads false rest meaning (bytes_end false log rest meaning ending)));
+          },
+        ),
+      )
+
+  -- what was read decides, whatever stands after it
+  decides : count ≤ 16777216 → (meaning : Result Log LoadFault) → ((more : Bool) (extra : List ℕ) → IsRest more log (rest ++ extra) meaning) → IsDecided before after meaning
+  decides few meaning rests = (
+    p.bytes,
+    p.consumed,
+    inr (λ extra.
+        let room = most_bytes - length p.bytes in
+        let full : length p.bytes + room ≡ most_bytes = omega (arith, few, p.many) in
+        let more = nat_lt most_bytes (length (p.bytes ++ extra)) in
+        let looked : take most_bytes (p.bytes ++ extra) ≡ given ++ (rest ++ take room extra) =
+        ap (λ n. take n (p.bytes ++ extra)) (sym full) ∙ (take-append-add p.bytes extra room ∙ (ap (λ l. l ++ take room extra) p.cut ∙ append_assoc given rest (take room extra))) in
+        record { said = subst (λ l. IsRest more None l meaning) (sym looked) (leads more (rest ++ take room extra) meaning (rests more (take room extra))) }),
+  )
+
+  -- the frame in front is refused
+  next_refused : count ≤ 16777216 → (frame : FrameContent) (later : List ℕ) → IsFrame frame → rest ≡ spelling frame ++ later → (fault : LoadFault) → taken log frame ≡ Err fault
+      → IsDecided before after (Err fault)
+  next_refused few frame later valid front fault is =
+      decides few (Err fault) (λ more extra.
+      subst (λ l. IsRest more log l (Err fault)) (sym (ap (λ l. l ++ extra) front ∙ append_assoc (spelling frame) later extra))
+      (frame_refused more log frame (later ++ extra) fault valid is))
+
+  pub refuses : count ≤ 16777216 → (frame : FrameContent) (later : List ℕ) → IsFrame frame → rest ≡ spelling frame ++ later → (fault : LoadFault)
+      → IsRefused (taken log frame) fault → IfSome (meaning_of (Err fault)) (IsDecided before after)
+  refuses few frame later valid front Read is = tt
+  refuses few frame later valid front Memory is = tt
+  refuses few frame later valid front Bound is = next_refused few frame later valid front _ is
+  refuses few frame later valid front (Frame fault) is = next_refused few frame later valid front _ is
+  refuses few frame later valid front LogForm is = next_refused few frame later valid front _ is
+  refuses few frame later valid front (Base fault) is = next_refused few frame later valid front _ is
+  refuses few frame later valid front (Take fault) is = next_refused few frame later valid front _ is
+
+  -- the rest shows a fault
+  pub shows_fault : count ≤ 16777216 → (fault : WireFault) → IsFront rest (faulty fault) → IsDecided before after (Err (Frame fault))
+  shows_fault few fault front =
+      decides few (Err (Frame fault)) (λ more extra. bytes_end more log (rest ++ extra) (Err (Frame fault)) (fault_more rest extra fault front))
+
+  -- the input ends between two frames, where a log was opened, or none
+  closes : {A : Type 0} → count ≤ 16777216 → IsAtEnd after → rest ≡ [] → (opened : Opened A) → log ≡ Some (opened_so_far opened) → IsDecided before after (Ok (log_held opened.plan))
+  closes few end none opened is = ends few end (Ok (log_held opened.plan)) (refl, none, ap (option_map (λ (begun : LogSoFar). begun.log)) is)
+
+  closes_empty : count ≤ 16777216 → IsAtEnd after → rest ≡ [] → log ≡ None → IsDecided before after (Err LogForm)
+  closes_empty few end none is = ends few end (Err LogForm) (refl, subst (λ l. IsFront l unfinished) (sym none) (inl (omega arith)), inl is)
+
+  -- the input ends between two frames
+  pub closed : {A : Type 0} → count ≤ 16777216 → IsAtEnd after → rest ≡ [] → (opened : Option (Opened A)) → log ≡ option_map opened_so_far opened → IsDecided before after (closed_log opened)
+  closed few end none None is = closes_empty few end none is
+  closed few end none (Some opened) is = closes few end none opened is
+
+  -- the input ends within a frame
+  pub cuts : count ≤ 16777216 → IsAtEnd after → IsFront rest unfinished → 0 < length rest → IsDecided before after (Err LogForm)
+  cuts few end front some = ends few end (Err LogForm) (refl, front, inr some)
+
+  -- a byte stands beyond the limit, and no whole frame before it
+  beyond : count ≡ 16777216 + 1 → (left : List ℕ) (byte : ℕ) → rest ≡ left ++ byte ∷ [] → IsFront left unfinished → IsDecided before after (Err Bound)
+  beyond many left byte e front = (
+    p.bytes,
+    p.consumed,
+    inr (λ extra.
+        let cut : p.bytes ≡ (given ++ left) ++ byte ∷ [] = p.cut ∙ (ap (λ l. given ++ l) e ∙ sym (append_assoc given left (byte ∷ []))) in
+        let full : length (given ++ left) ≡ most_bytes = omega (arith, many, p.many, ap length cut, length-append (given ++ left) (byte ∷ [])) in
+        let more : nat_lt most_bytes (length (p.bytes ++ extra)) ≡ true = is_more most_bytes (length (p.bytes ++ extra)) (omega (arith, many, p.many, length-append p.bytes extra)) in
+        let looked : take most_bytes (p.bytes ++ extra) ≡ given ++ left =
+        ap (λ l. take most_bytes (l ++ extra)) cut
+        ∙ (ap (take most_bytes) (append_assoc (given ++ left) (byte ∷ []) extra) ∙ take_at (given ++ left) ((byte ∷ []) ++ extra) most_bytes full) in
+        record {
+          said = subst (λ b. IsRest b None (take most_bytes (p.bytes ++ extra)) (Err Bound)) (sym more)
+              (subst (λ l. IsRest true None l (Err Bound)) (sym looked) (leads true left (Err Bound) (bytes_end true log left (Err Bound) (refl, front))));
+        }),
+  )
+
+  too_long : count ≡ 16777216 + 1 → IfSome before (λ input. most_bytes < length input)
+  too_long many = longer before after p.consumed
+    where
+      longer : (old new : Option (List ℕ)) → Consumes old new p.bytes → IfSome old (λ input. most_bytes < length input)
+      longer None new read = tt
+      longer (Some input) None read = absurd read
+      longer (Some input) (Some left) read = omega (arith, many, p.many, ap length read, length-append p.bytes left)
+
+  -- nothing more comes of the stream
+  module _ (A : Type 0) (now : Stream) where
+    pub stream_fails : (fault : StreamFault) → IsNext {A = A} rest now (Err fault) → IsCounted {A = A} count now (Err fault) → IfSome (meaning_of (Err (of_stream fault))) (IsDecided before after)
+    stream_fails stream.Read next counted = tt
+    stream_fails stream.Bound next counted = beyond counted next.0 next.1 next.2 next.3
+    stream_fails stream.Memory next counted = tt
+
+    pub stream_used : (fault : StreamFault) → IsCounted {A = A} count now (Err fault) → ConsumesAtMost before after (most_bytes + 1)
+    stream_used stream.Read counted = used (omega (arith, counted))
+    stream_used stream.Bound counted = used (omega (arith, counted))
+    stream_used stream.Memory counted = used (omega (arith, counted))
+
+    pub stream_open : (fault : StreamFault) → of_stream fault ≡ Read → IsNext {A = A} rest now (Err fault) → IsOpen before after
+    stream_open stream.Read is next = record {
+      frames = p.frames;
+      behind = rest;
+      log = log;
+      each = p.each;
+      read = subst (Consumes before after) p.cut p.consumed;
+      taken = p.came;
+      unfinished = next;
+    }
+    stream_open stream.Bound is next = absurd cc
+    stream_open stream.Memory is next = absurd cc
+
+    pub stream_bound : (fault : StreamFault) → of_stream fault ≡ Bound → IsCounted {A = A} count now (Err fault) → IfSome before (λ input. most_bytes < length input)
+    stream_bound stream.Read is counted = absurd cc
+    stream_bound stream.Bound is counted = too_long counted
+    stream_bound stream.Memory is counted = absurd cc

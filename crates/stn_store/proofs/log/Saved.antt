@@ -1,0 +1,96 @@
+-- What is saved says what a site holds.
+use Rattle.std.proofs.Common.{◌≡◌, ℕ, ◌+◌, ◌≤◌, Bool, false, ltb, List, [], ◌∷◌, ◌++◌, length, Option, Some, None, Result, Ok, refl, sym, ap, subst, ◌∙◌, arith, append-nil, length-append}
+use Rattle.std.specs.{Prelude.map, Prelude.nat_lt, Prelude.find, Bool.then_some, Set.distinct_count, FinMap.FinMap, FinMap.entries-from_sorted}
+use Rattle.stn_records.specs.{Record.same_records, Id.SiteCounter, Id.id_cmp, Id.lesser_of, declared.record.Record.Record, Maps.differ, Maps.dispute, Maps.with_entries}
+use Rattle.std.specs.FinMap as fin
+use Rattle.std.proofs.{lemmas.List.take_all, lemmas.Bool.Decides.nat_tests}
+use Rattle.stn_device.specs.Bytes.{most_bytes}
+use Rattle.stn_lift.specs.PlanSource.{PlanSource, events_of, base_of}
+use Rattle.stn_records.specs.Content.{most_known, Content, same_ids, with_ids, replaced_ids, known_ids, known_count, known_in_either, no_content, dispute_contents, joined_contents, IsSound}
+use Rattle.stn_records.proofs.Places.{nothing_sorted}
+use Rattle.stn_site.specs.{Bounds.RecordsName, Held.Held, Held.holding_state, Refusals.take_refusal, declared.faults.ReplicaFault.ReplicaFault, declared.faults.ReplicaFault.TheVariants.Full}
+use Rattle.stn_site.proofs.Refused.{agreed_take}
+use Rattle.stn_wire.specs.Spelling.{four}
+use Rattle.stn_wire.specs.Frame.{FrameContent, hello, records, body_of, spelling, IsFrame}
+use Rattle.stn_store.specs.Log.{Log, LogSoFar, log_held, so_far, log_text, opened, joined, taken, all_taken, all_taken_by, IsAnswer, IsLog}
+use Rattle.stn_store.specs.{declared.log.version.Version.TheVariants.New, declared.log.fault.LoadFault.LoadFault}
+
+-- a log doesn't say by how much work it came
+pub same_log : (one other : Held) → other.source ≡ one.source → other.state ≡ one.state → log_held other ≡ log_held one
+same_log one other from state = λ i. record { source = from i; state = state i }
+
+-- ---- a state is taken into one that holds nothing
+
+no_entries : (X : Type 0) → (let m : FinMap id_cmp X = fin.empty in fin.entries m) ≡ []
+no_entries X = ap fin.entries (sym (nothing_sorted X)) ∙ entries-from_sorted id_cmp [] tt
+
+no_keys : (X : Type 0) → (let m : FinMap id_cmp X = fin.empty in fin.keys m) ≡ []
+no_keys X = ap (map (λ (e : SiteCounter × X). e.0)) (no_entries X)
+
+no_values : (X : Type 0) → (let m : FinMap id_cmp X = fin.empty in fin.values m) ≡ []
+no_values X = ap (map (λ (e : SiteCounter × X). e.1)) (no_entries X)
+
+none_replaced : replaced_ids no_content ≡ []
+none_replaced = ap (λ (ids : List SiteCounter). fin.keys (with_ids no_content.tombstones ids)) (no_values SiteCounter) ∙ no_keys (Unit {0})
+
+none_known : known_ids no_content ≡ []
+none_known = λ i. no_keys Record i ++ none_replaced i
+
+joined_alone : (state : Content) → joined_contents no_content state ≡ state
+joined_alone state = λ i. record {
+  additions = with_entries state.additions (no_entries Record i);
+  tombstones = with_entries state.tombstones (no_entries (Unit {0}) i);
+  replacements = with_entries state.replacements (no_entries SiteCounter i);
+}
+
+none_disputed : {X : Type 0} (same : X → X → Bool) (m : FinMap id_cmp X) → dispute same fin.empty m ≡ None
+none_disputed {X} same m = let none : FinMap id_cmp X = fin.empty in ap (λ (ids : List SiteCounter). find (λ k. differ same (fin.get none k) (fin.get m k)) ids) (no_keys X)
+
+nothing_disputed : (state : Content) → dispute_contents no_content state ≡ None
+nothing_disputed state = λ i. lesser_of (none_disputed same_records state.additions i) (none_disputed same_ids state.replacements i)
+
+known_alone : (state : Content) → known_in_either no_content state ≡ known_count state
+known_alone state = ap (λ (ids : List SiteCounter). distinct_count same_ids (ids ++ known_ids state)) none_known
+
+not_more : (n most : ℕ) → n ≤ most → ltb most n ≡ false
+not_more n most le = grind (arith, nat_tests)
+
+pub nothing_against : (log : Log) (state : Content) → log.state ≡ no_content → RecordsName (events_of log.source) state → IsSound state → take_refusal (holding_state log.source log.state) state ≡ None
+nothing_against log state empty named sound =
+    let agreed : dispute_contents log.state state ≡ None = ap (λ (s : Content). dispute_contents s state) empty ∙ nothing_disputed state in
+    let few : known_in_either log.state state ≡ known_count state = ap (λ (s : Content). known_in_either s state) empty ∙ known_alone state in
+    agreed_take (holding_state log.source log.state) state named agreed
+    ∙ ap (λ (b : Bool). then_some b Full) (not_more (known_in_either log.state state) most_known (omega (arith, few, sound.limited)))
+
+-- ---- the two frames of a log
+
+spelled_length : (frame : FrameContent) → length (spelling frame) ≡ 4 + length (body_of frame)
+spelled_length frame = length-append (four (length (body_of frame))) (body_of frame)
+
+-- the source has a base
+abbrev pub HasBase : PlanSource → Type 0
+HasBase source = base_of source ≡ Ok source
+
+pub saved_log : (log : Log) → IsFrame (hello log.source) → IsFrame (records log.state) → HasBase log.source → RecordsName (events_of log.source) log.state → IsSound log.state
+    → IsLog (log_text log) (Ok log)
+saved_log log first second based named sound =
+    let h = hello log.source in
+    let r = records log.state in
+    let text = spelling h ++ spelling r in
+    let long : length text ≤ most_bytes = omega (arith, length-append (spelling h) (spelling r), spelled_length h, spelled_length r, first.fits, second.fits) in
+    let begun : Log = record { source = log.source; state = no_content } in
+    let opens : taken None h ≡ Ok (so_far New begun) = ap (opened New) based in
+    let takes : taken (Some (so_far New begun)) r ≡ Ok (so_far New log) =
+    ap (λ (o : Option ReplicaFault). joined New o begun log.state) (nothing_against begun log.state refl named sound) ∙ (λ i. Ok (so_far New (record { source = log.source; state = joined_alone log.state i }))) in
+    let all : all_taken None (h ∷ r ∷ []) ≡ Ok (Some (so_far New log)) =
+    ap (all_taken_by (λ next. all_taken next (r ∷ []))) opens ∙ ap (all_taken_by (λ next. all_taken next [])) takes in
+    let more : nat_lt most_bytes (length text) ≡ false = not_more (length text) most_bytes long in
+    record {
+      said = record {
+        frames = h ∷ r ∷ [];
+        behind = [];
+        each = (first, (second, tt));
+        cut = take_all most_bytes text long ∙ (ap (λ (l : List ℕ). spelling h ++ l) (sym (append-nil (spelling r))) ∙ sym (append-nil (spelling h ++ (spelling r ++ []))));
+        answer = subst (λ (o : Result (Option LogSoFar) LoadFault). IsAnswer (nat_lt most_bytes (length text)) [] o (Ok log)) (sym all) (more, refl, refl);
+      };
+    }

@@ -1,0 +1,122 @@
+use Rattle.std.proofs.Common.{refl, ap, Ok, Err, ◌∙◌}
+use Rattle.std.proofs.lemmas.Result.{err_from_is_err_and}
+use Rattle.stn_wire.specs.Frame.{content}
+use Rattle.stn_wire.specs.{Stream.Held.Stream, Stream.pending, Stream.wire_fault, declared.stream.fault.StreamFault.StreamFault}
+use Rattle.stn_wire.proofs.Streams.{measure_falls}
+use Rattle.stn_wire.specs.declared.stream.fault.StreamFault.TheVariants as stream
+use Rattle.stn_store.specs.{Log.Faults.of_stream, declared.log.fault.LoadFault.TheVariants.Read}
+use Rattle.stn_device.proofs.Known.{fault_or, not_err}
+use Rattle.stn_store.proofs.log.Answered.{fails_more, not_read, not_bound}
+use Rattle.stn_store.proofs.log.Progress.{begun, read_on, used_within, next_held, refuses, shows_fault, closed, cuts, stream_fails, stream_open, stream_used, stream_bound, stream_read}
+use Rattle.stn_store.proofs.log.reading.read_frames.Goals as goal
+
+pub frames-init : goal.frames-init
+frames-init g c = record {
+  reading = ap (λ (s : Stream). s.broken) c.requires.unread;
+  progress = rw c.requires.unopened (begun _ (pending c.args.frames.now) c.args.frames.now.count (ap pending c.requires.unread) (ap (λ (s : Stream). s.count) c.requires.unread));
+  site = rw c.requires.unopened tt;
+  kept = refl;
+}
+
+pub returns-in_err-frame : goal.returns-in_err-frame
+returns-in_err-frame g c =
+    let p = err_from_is_err_and c.from_residual.result c.from_residual.ensures.1 in
+    let gave = c.in_err-frame.ensures.gives in
+    let fault = c.in_err-frame.field-0.0 in
+    let i = c.frames.invariant in
+    let q = read_on _ _ _ _ _ i.progress _ gave.bytes gave.consumed in
+    rw (p.1, p.2) (record {
+      meaning = stream_fails _ _ _ _ _ q g.row.A.Denot c.next.new.self fault gave.next gave.counted;
+      closed = tt;
+      end = tt;
+      site = tt;
+      «open» = λ e. stream_open _ _ _ _ _ q g.row.A.Denot c.next.new.self fault (ap (fault_or Read) e) gave.next;
+      read = λ e. fails_more _ _ _ (c.in_err-frame.ensures.read (ap Err (stream_read fault (ap (fault_or Read) e)))) i.kept c.requires.reader_counts;
+      bound = λ e. stream_bound _ _ _ _ _ q g.row.A.Denot c.next.new.self fault (ap (fault_or Read) e) gave.counted;
+      kept = λ other. c.in_err-frame.ensures.kept (λ e. other (ap (λ (s : StreamFault). Err (of_stream s)) (ap (fault_or stream.Read) e))) ∙ i.kept;
+      used = stream_used _ _ _ _ _ q g.row.A.Denot c.next.new.self fault gave.counted;
+    })
+
+pub returns-in_err-taken-in-Frame : goal.returns-in_err-taken-in-Frame
+returns-in_err-taken-in-Frame g c =
+    let p = err_from_is_err_and c.from_residual-in_err-taken-in-Frame.result c.from_residual-in_err-taken-in-Frame.ensures.1 in
+    let gave = rw c.in-Frame.is at c.in_ok-frame.ensures.gives in
+    let fault = c.in_err-taken-in-Frame.field-0.0 in
+    let lost = c.in_err-taken-in-Frame.ensures in
+    let q = read_on _ _ _ _ _ c.frames.invariant.progress _ gave.bytes gave.consumed in
+    rw (p.1, p.2) (record {
+      meaning = refuses _ _ _ _ _ q gave.counted.1 (content c.in-Frame.frame) (pending c.next.new.self) gave.next.0 gave.next.1 fault lost.refused;
+      closed = tt;
+      end = tt;
+      site = tt;
+      «open» = λ e. absurd (lost.unread (ap Err (ap (fault_or Read) e)));
+      read = λ e. absurd (lost.unread (ap Err (ap (fault_or Read) e)));
+      bound = λ e. absurd (lost.bound (ap Err (ap (fault_or Read) e)));
+      kept = λ _. c.in_ok-frame.ensures.kept (not_err _ _) ∙ c.frames.invariant.kept;
+      used = used_within _ _ _ _ _ q gave.counted.1;
+    })
+
+pub frames-smaller : goal.frames-smaller
+frames-smaller g c =
+    let gave = rw c.in-Frame.is at c.in_ok-frame.ensures.gives in
+    measure_falls (pending c.frames.frames) gave.bytes (pending c.next.new.self) (content c.in-Frame.frame) gave.next.1 c.frames.frames.count c.next.new.self.count gave.counted.0 gave.counted.1
+
+pub frames-preserved : goal.frames-preserved
+frames-preserved g c =
+    let gave = rw c.in-Frame.is at c.in_ok-frame.ensures.gives in
+    let q = read_on _ _ _ _ _ c.frames.invariant.progress _ gave.bytes gave.consumed in
+    record {
+      reading = gave.next.2;
+      progress = next_held _ _ _ _ _ q (content c.in-Frame.frame) (pending c.next.new.self) gave.next.0 gave.next.1 c.next.new.self.count gave.counted.0 _ c.in_ok-taken-in-Frame.ensures.opened c.in_ok-taken-in-Frame.ensures.taken;
+      site = c.in_ok-taken-in-Frame.ensures.site;
+      kept = c.in_ok-frame.ensures.kept (not_err _ _) ∙ c.frames.invariant.kept;
+    }
+
+pub returns-in-Faulty : goal.returns-in-Faulty
+returns-in-Faulty g c =
+    let gave = rw c.in-Faulty.is at c.in_ok-frame.ensures.gives in
+    let q = read_on _ _ _ _ _ c.frames.invariant.progress _ gave.bytes gave.consumed in
+    rw c.from.ensures (record {
+      meaning = shows_fault _ _ _ _ _ q gave.counted.1 (wire_fault c.in-Faulty.fault) gave.next;
+      closed = tt;
+      end = tt;
+      site = tt;
+      «open» = λ e. absurd (not_read _ refl e);
+      read = λ e. absurd (not_read _ refl e);
+      bound = λ e. absurd (not_bound _ refl e);
+      kept = λ _. c.in_ok-frame.ensures.kept (not_err _ _) ∙ c.frames.invariant.kept;
+      used = used_within _ _ _ _ _ q gave.counted.1;
+    })
+
+pub returns-in-Cut : goal.returns-in-Cut
+returns-in-Cut g c =
+    let gave = rw c.in-Cut.is at c.in_ok-frame.ensures.gives in
+    let q = read_on _ _ _ _ _ c.frames.invariant.progress _ gave.bytes gave.consumed in
+    record {
+      meaning = cuts _ _ _ _ _ q gave.counted.1 (c.in_ok-frame.ensures.cut (ap Ok c.in-Cut.is)) gave.next.0 gave.next.1;
+      closed = tt;
+      end = tt;
+      site = tt;
+      «open» = λ e. absurd (not_read _ refl e);
+      read = λ e. absurd (not_read _ refl e);
+      bound = λ e. absurd (not_bound _ refl e);
+      kept = λ _. c.in_ok-frame.ensures.kept (not_err _ _) ∙ c.frames.invariant.kept;
+      used = used_within _ _ _ _ _ q gave.counted.1;
+    }
+
+pub returns-in-Closed : goal.returns-in-Closed
+returns-in-Closed g c =
+    let gave = rw c.in-Closed.is at c.in_ok-frame.ensures.gives in
+    let end = c.in_ok-frame.ensures.closed (ap Ok c.in-Closed.is) in
+    let q = read_on _ _ _ _ _ c.frames.invariant.progress _ gave.bytes gave.consumed in
+    record {
+      meaning = tt;
+      closed = closed _ _ _ _ _ q gave.counted.1 end gave.next c.frames.log refl;
+      end = end;
+      site = c.frames.invariant.site;
+      «open» = λ e. absurd (not_err _ _ e);
+      read = λ e. absurd (not_err _ _ e);
+      bound = λ e. absurd (not_err _ _ e);
+      kept = λ _. c.in_ok-frame.ensures.kept (not_err _ _) ∙ c.frames.invariant.kept;
+      used = used_within _ _ _ _ _ q gave.counted.1;
+    }

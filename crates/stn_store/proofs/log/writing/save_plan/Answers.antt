@@ -1,0 +1,52 @@
+use Rattle.std.proofs.Common.{◌≡◌, [], refl, sym, ap, subst, ◌∙◌}
+use Rattle.std.proofs.{KnownBytes.Appends-nil, KnownBytes.Keeps-refl, lemmas.Result.err_from_is_err_and}
+use Rattle.std.specs.Io.KnownBytes.{Appends}
+use Rattle.stn_device.specs.{Bytes.AppendsPart, Counted.counted_device}
+use Rattle.stn_store.specs.Log.{log_held, log_text}
+use Rattle.stn_store.specs.declared.log.fault.SaveFault.TheVariants.{Write, Memory}
+use Rattle.stn_device.proofs.Known.{fault_or, not_err}
+use Rattle.stn_store.proofs.log.Answered.{fails_more}
+use Rattle.stn_store.proofs.log.writing.save_plan.Goals as goal
+
+apart : Write ≡ Memory → ⊥
+apart is = cc
+
+pub returns-in_err-text : goal.returns-in_err-text
+returns-in_err-text g c =
+    let p = err_from_is_err_and c.from_residual.result c.from_residual.ensures.1 in
+    rw (p.1, p.2) (record {
+      written = tt;
+      loaded = tt;
+      part = ([], log_text (log_held c.args.plan.now), refl, Appends-nil _);
+      unwritten = λ _. Keeps-refl _;
+      write = λ e. absurd (apart (sym (ap (fault_or Write) e)));
+      kept = λ _. refl;
+    })
+
+pub returns-in_err-write_whole : goal.returns-in_err-write_whole
+returns-in_err-write_whole g c =
+    let p = err_from_is_err_and c.from_residual-in_err-write_whole.result c.from_residual-in_err-write_whole.ensures.1 in
+    let before = g.W.Write.contents (counted_device c.args.writer.now) in
+    let after = g.W.Write.contents (counted_device c.write_whole.new.writer) in
+    let lost = c.in_err-write_whole.ensures in
+    rw (p.1, p.2) (record {
+      written = tt;
+      loaded = tt;
+      part = subst (AppendsPart before after) (c.deref.ensures.value ∙ c.in_ok-text.ensures.text) lost.part;
+      unwritten = λ e. absurd (apart (ap (fault_or Write) e));
+      write = λ _. fails_more _ _ _ lost.failed refl c.requires.writer_counts;
+      kept = λ other. absurd (other refl);
+    })
+
+pub returns : goal.returns
+returns g c =
+    let before = g.W.Write.contents (counted_device c.args.writer.now) in
+    let after = g.W.Write.contents (counted_device c.write_whole.new.writer) in
+    record {
+      written = subst (Appends before after) (c.deref.ensures.value ∙ c.in_ok-text.ensures.text) c.in_ok-write_whole.ensures.written;
+      loaded = c.in_ok-text.ensures.loaded;
+      part = tt;
+      unwritten = λ e. absurd (not_err _ _ e);
+      write = λ e. absurd (not_err _ _ e);
+      kept = λ _. c.in_ok-write_whole.ensures.kept;
+    }

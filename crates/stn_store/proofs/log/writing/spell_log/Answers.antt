@@ -1,0 +1,20 @@
+use Rattle.std.proofs.Common.{subst, ◌∙◌}
+use Rattle.stn_lift.specs.PlanSource.{PlanSource}
+use Rattle.stn_records.specs.Content.{Content, IsSound}
+use Rattle.stn_wire.specs.Frame.{hello, records, IsFrame}
+use Rattle.stn_wire.proofs.States.{state_fits}
+use Rattle.stn_store.specs.Log.{log_held}
+use Rattle.stn_store.proofs.log.Saved.{HasBase, saved_log}
+use Rattle.stn_store.proofs.log.writing.spell_log.Goals as goal
+
+pub say-requires-2 : goal.say-requires-2
+say-requires-2 g c = state_fits c.records-records.result.now c.state-held.ensures.sound
+
+pub returns-clause-loaded : goal.returns-clause-loaded
+returns-clause-loaded g c =
+    let source = c.source.ensures.source ∙ c.base.ensures in
+    let state = c.records-records.ensures.value in
+    saved_log (log_held c.args.plan.now)
+    (subst (λ (s : PlanSource). IsFrame (hello s)) source c.in_ok-say.ensures.sound)
+    (subst (λ (s : Content). IsFrame (records s)) state c.in_ok-say-2.ensures.sound)
+    (subst HasBase c.base.ensures c.source.ensures.sound.based) c.records-records.ensures.named (subst IsSound state c.state-held.ensures.sound)

@@ -1,0 +1,13 @@
+//! Logs: what a site knows, as the bytes of a file.
+
+pub use fault::{LoadFault, SaveFault};
+pub use laws::one_log;
+pub use reading::{load, load_plan};
+pub use writing::{save, save_plan, spell_log};
+
+mod failures;
+mod fault;
+mod laws;
+mod reading;
+mod version;
+mod writing;

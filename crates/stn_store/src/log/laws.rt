@@ -1,0 +1,13 @@
+ghost use Rattle.std.specs.Prelude.{◌≡◌, ℕ, List, Result};
+ghost use Rattle.stn_store.specs.Log.{Log, IsLog};
+ghost use Rattle.stn_store.specs.declared.log.fault.LoadFault.{LoadFault};
+
+use stn_wire::{one_front, one_spelling};
+
+/// The law that bytes have one meaning as a log.
+pub fn one_log()
+    ensures { (input : List ℕ) (one other : Result Log LoadFault) → IsLog input one → IsLog input other → one ≡ other }
+{
+    one_front();
+    one_spelling();
+}

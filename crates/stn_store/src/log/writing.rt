@@ -1,0 +1,85 @@
+ghost use Rattle.std.specs.Prelude.{◌≡◌, ◌≢◌, ◌^◌, ◌-◌, ◌<◌, Ok, Err, IfOk, OnOk, OnErr, IsErrOf};
+ghost use Rattle.std.specs.Io.KnownBytes.{Appends, Keeps};
+ghost use Rattle.stn_device.specs.Counted.{counted_device, failure_count, KeepsCount};
+ghost use Rattle.stn_device.specs.Bytes.{AppendsPart};
+ghost use Rattle.stn_store.specs.Log.{log_held, log_text, IsLog};
+
+use crate::log::fault::SaveFault;
+use std::alloc::Allocator;
+use std::io::Write;
+use stn_device::{Counted, write_whole};
+use stn_replica::Replica;
+use stn_site::SitePlan;
+use stn_time::Memory;
+use stn_wire::{Said, say};
+
+/// Writes the log of a site's copy of a plan: what the plan is made from, and all that the site holds. The site is not in it.
+///
+/// Faults: `Write`, where a call of the writer failed or took nothing; then a front part of the log was written. `Memory`; then
+/// nothing was written.
+pub fn save_plan<W: Write, A: Allocator + Copy>(
+    alloc: A,
+    plan: &SitePlan<A>,
+    writer: &mut Counted<W>,
+) -> Result<(), SaveFault>
+    requires writer_counts { failure_count writer.old < 2 ^ 64 - 1 }
+
+    // The whole log was written.
+    ensures written { OnOk result (Appends (W.contents (counted_device writer.old))
+        (W.contents (counted_device writer.new)) (log_text (log_held plan.now))) }
+
+    // It says what the site holds.
+    ensures loaded { OnOk result (IsLog (log_text (log_held plan.now)) (Ok (log_held plan.now))) }
+
+    // What a fault leaves.
+    ensures part { OnErr result (AppendsPart (W.contents (counted_device writer.old))
+        (W.contents (counted_device writer.new)) (log_text (log_held plan.now))) }
+    ensures unwritten { IsErrOf result SaveFault.Memory
+        → Keeps (W.contents (counted_device writer.old)) (W.contents (counted_device writer.new)) }
+    ensures write { IsErrOf result SaveFault.Write → failure_count writer.old < failure_count writer.new }
+    ensures kept { result ≢ Err SaveFault.Write → KeepsCount writer.old writer.new }
+{
+    let text = spell_log(alloc, plan)?;
+    write_whole(writer, &text)?;
+    Ok(())
+}
+
+/// Writes the log of a replica: `save_plan` of its copy of the plan.
+pub fn save<W: Write, A: Allocator + Copy>(
+    alloc: A,
+    replica: &Replica<A>,
+    writer: &mut Counted<W>,
+) -> Result<(), SaveFault>
+    requires writer_counts { failure_count writer.old < 2 ^ 64 - 1 }
+
+    // The whole log was written.
+    ensures written { OnOk result (Appends (W.contents (counted_device writer.old))
+        (W.contents (counted_device writer.new)) (log_text (log_held replica.now))) }
+
+    // It says what the replica holds.
+    ensures loaded { OnOk result (IsLog (log_text (log_held replica.now)) (Ok (log_held replica.now))) }
+
+    // What a fault leaves.
+    ensures part { OnErr result (AppendsPart (W.contents (counted_device writer.old))
+        (W.contents (counted_device writer.new)) (log_text (log_held replica.now))) }
+    ensures unwritten { IsErrOf result SaveFault.Memory
+        → Keeps (W.contents (counted_device writer.old)) (W.contents (counted_device writer.new)) }
+    ensures write { IsErrOf result SaveFault.Write → failure_count writer.old < failure_count writer.new }
+    ensures kept { result ≢ Err SaveFault.Write → KeepsCount writer.old writer.new }
+{
+    save_plan(alloc, replica.plan(), writer)
+}
+
+/// The log of a site's copy of a plan, as `save_plan` writes it.
+pub fn spell_log<A: Allocator + Copy>(alloc: A, plan: &SitePlan<A>) -> Result<Vec<u8, A>, Memory>
+    ensures text { IfOk result (λ text. text.items ≡ log_text (log_held plan.now)) }
+    ensures loaded { OnOk result (IsLog (log_text (log_held plan.now)) (Ok (log_held plan.now))) }
+{
+    let mut text = Vec::new(alloc);
+    say(&Said::Hello(plan.base().source()), &mut text)?;
+    // Whatever is held is short enough for a frame.
+    let records = plan.records();
+    let _held = records.state();
+    say(&Said::Records(records), &mut text)?;
+    Ok(text)
+}

@@ -1,4 +1,0 @@
-pub mod Held
-pub mod Stream
-pub mod Pieces
-pub mod Failures

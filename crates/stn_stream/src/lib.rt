@@ -1,9 +1,0 @@
-//! Frames that are cut off a reader's bytes, piece by piece.
-#![tactic(auto)]
-
-pub use fault::{FrameFault, StreamFault};
-pub use reader::{FrameReader, Next};
-
-mod failures;
-mod fault;
-mod reader;

@@ -1,8 +1,0 @@
-use Rattle.std.proofs.Common.{sym}
-use Rattle.stn_tree.specs.{Trees.rows_from, Cursors.rows_at}
-use Rattle.stn_tree.proofs.Scanned.{one-list}
-use Rattle.stn_tree.proofs.scan.start.Goals as goal
-
-pub returns-clause-one : goal.returns-clause-one
-unfolding rows_at rows_from
-returns-clause-one c = rw c.new.ensures (one-list _ _ (sym c.in_ok-scan.ensures))

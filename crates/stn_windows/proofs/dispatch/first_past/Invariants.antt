@@ -1,7 +1,0 @@
-use Rattle.std.proofs.Common.{ℕ, ◌<◌, ◌≤ℤ◌}
-use Rattle.stn_matrix.specs.Table.{far_of}
-use Rattle.stn_windows.specs.Dispatch.{IsLeft}
-use Rattle.stn_windows.proofs.dispatch.first_past.Given as goal
-
-abbrev pub invariant-loop-number : goal.invariant-loop-number
-invariant-loop-number g l = (event : ℕ) → event < l.number → IsLeft l.done event → l.now ≤ℤ far_of l.matrix 0 event

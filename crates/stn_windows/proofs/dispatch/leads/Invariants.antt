@@ -1,7 +1,0 @@
-use Rattle.std.proofs.Common.{ℕ, ◌<◌, pos, ◌≤ℤ◌}
-use Rattle.stn_matrix.specs.Table.{far_of}
-use Rattle.stn_windows.specs.Dispatch.{IsLeft}
-use Rattle.stn_windows.proofs.dispatch.leads.Given as goal
-
-abbrev pub invariant-loop-number : goal.invariant-loop-number
-invariant-loop-number g l = (other : ℕ) → other < l.number → IsLeft l.done other → pos 0 ≤ℤ far_of l.matrix l.event other

@@ -1,0 +1,8 @@
+//! Frames that are cut off a reader's bytes, piece by piece.
+
+pub use fault::{FrameFault, StreamFault};
+pub use reader::{FrameReader, Next};
+
+mod failures;
+mod fault;
+mod reader;

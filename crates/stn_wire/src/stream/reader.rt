@@ -1,0 +1,166 @@
+// Frames read piece by piece: no more than one piece and one unfinished frame is kept.
+ghost use Rattle.std.specs.Prelude.{◌≡◌, ◌≢◌, ◌⊎◌, ◌<◌, ◌≤◌, length, [], false, Ok, Err, IfOk, IfErr, OnOk, IsErrOf};
+ghost use Rattle.std.specs.Io.KnownBytes.{Consumes, IsAtEnd};
+ghost use Rattle.stn_device.specs.Bytes.{most_bytes};
+ghost use Rattle.stn_device.specs.Counted.{counted_device, CountsFailure, KeepsCount};
+ghost use Rattle.stn_wire.specs.Stream.{unread, pending, IsReading, Gives};
+ghost use Rattle.stn_wire.specs.Stream.Pieces.{IsFed, IsFilled, IsBeyond};
+ghost use Rattle.stn_wire.specs.declared.stream.reader.Next.TheVariants.{Closed, Cut};
+ghost use Rattle.stn_wire.specs.declared.stream.fault.StreamFault.TheVariants.{Read};
+
+use crate::stream::fault::{FrameFault, StreamFault};
+use crate::{Feeder, Frame, WireFault};
+use std::alloc::Allocator;
+use std::io::Read;
+use std::marker::Model;
+use stn_device::{Counted, MOST_BYTES};
+
+// How many bytes one call of the reader is asked for at most.
+const PIECE: usize = 4096;
+
+/// What comes next in a stream.
+#[derive(Drop)]
+pub enum Next<A: Allocator> {
+    /// A frame.
+    Frame(Frame<A>),
+    /// Bytes that begin no frame.
+    Faulty(FrameFault),
+    /// The end, after the last frame.
+    Closed,
+    /// The end, within a frame.
+    Cut,
+}
+
+/// The frames of a reader.
+#[derive(Drop)]
+pub struct FrameReader<A: Allocator> {
+    feeder: Feeder<A>,
+    // What was read last, and from where on it was not taken yet.
+    piece: Vec<u8, A>,
+    at: usize,
+    // How many bytes were read.
+    taken: usize,
+}
+
+impl<A: Allocator> Model for FrameReader<A> {
+    ghost use Rattle.std.specs.Prelude.{◌++◌, ◌≤◌, drop, length};
+    ghost use Rattle.stn_device.specs.Bytes.{most_bytes};
+    ghost use Rattle.stn_wire.specs.Stream.Held.{Stream};
+
+    ghost Value = { Stream };
+
+    ghost view = { λ f. record { held = f.feeder.held; behind = drop f.at f.piece.items; count = f.taken; broken = f.feeder.broken } };
+
+    ghost invariant = { λ f. (f.at ≤ length f.piece.items) × (length (f.feeder.held ++ drop f.at f.piece.items) ≤ f.taken) × (f.taken ≤ most_bytes) };
+}
+
+impl<A: Allocator + Copy> FrameReader<A> {
+    /// Nothing is read yet.
+    pub fn new(alloc: A) -> FrameReader<A>
+        ensures { result ≡ unread }
+    {
+        FrameReader {
+            feeder: Feeder::new(alloc),
+            piece: Vec::new(alloc),
+            at: 0,
+            taken: 0,
+        }
+    }
+
+    /// What comes next. It asks the reader for more only where no whole frame is left of what was read.
+    pub fn next<R: Read>(&mut self, reader: &mut Counted<R>) -> Result<Next<A>, StreamFault>
+        requires { IsReading self.old }
+        ensures gives { Gives self.old self.new (R.remaining (counted_device reader.old)) (R.remaining (counted_device reader.new)) result }
+        ensures closed { result ≡ Ok Closed → IsAtEnd (R.remaining (counted_device reader.new)) }
+        ensures cut { result ≡ Ok Cut → IsAtEnd (R.remaining (counted_device reader.new)) }
+        ensures read { IsErrOf result Read → CountsFailure reader.old reader.new }
+        ensures kept { result ≢ Err Read → KeepsCount reader.old reader.new }
+    {
+        'pieces: loop {
+            match self.feed() {
+                Ok(Some(frame)) => return Ok(Next::Frame(frame)),
+                Ok(None) => {}
+                Err(WireFault::Length) => return Ok(Next::Faulty(FrameFault::Length)),
+                Err(WireFault::Kind) => return Ok(Next::Faulty(FrameFault::Kind)),
+                Err(WireFault::Body) => return Ok(Next::Faulty(FrameFault::Body)),
+                // The fault of an old frame is none of bytes.
+                Err(WireFault::Memory | WireFault::OldFrame) => return Err(StreamFault::Memory),
+            }
+            let more = self.fill(reader)?;
+            if !more {
+                return Ok(self.end());
+            }
+        }
+    }
+
+    // Takes what was read, up to the end of the first frame.
+    fn feed(&mut self) -> Result<Option<Frame<A>>, WireFault>
+        requires { IsReading self.old }
+        ensures fed { IsFed self.old self.new result }
+        ensures reading { OnOk result (IsReading self.new) }
+        ensures count { self.new.count ≡ self.old.count }
+        ensures few { self.new.count ≤ most_bytes }
+    {
+        let fed = self.feeder.feed(&self.piece[self.at..])?;
+        self.at += fed.used;
+        Ok(fed.frame)
+    }
+
+    // Reads the next piece, where all that was read is held. Whether there is one.
+    fn fill<R: Read>(&mut self, reader: &mut Counted<R>) -> Result<bool, StreamFault>
+        requires reading { IsReading self.old }
+        requires held { self.old.behind ≡ [] }
+        ensures filled { IsFilled self.old self.new (R.remaining (counted_device reader.old)) (R.remaining (counted_device reader.new)) result }
+        ensures reading { OnOk result (IsReading self.new) }
+        ensures few { OnOk result (self.new.count ≤ most_bytes) }
+        ensures read { IsErrOf result Read → CountsFailure reader.old reader.new }
+        ensures kept { result ≢ Err Read → KeepsCount reader.old reader.new }
+    {
+        let room = PIECE.min(MOST_BYTES - self.taken);
+        if room == 0 {
+            return look_beyond(reader);
+        }
+        let mut buffer = [0u8; PIECE];
+        match reader.read(&mut buffer[..room]) {
+            Ok(0) => Ok(false),
+            Ok(count) => {
+                self.at = 0;
+                self.piece.clear();
+                self.piece.extend_from_slice(&buffer[..count])?;
+                self.taken += count;
+                Ok(true)
+            }
+            Err(_) => Err(StreamFault::Read),
+        }
+    }
+
+    // The end, which came after what is held.
+    fn end(&self) -> Next<A>
+        requires { self.now.behind ≡ [] }
+        ensures closed { result ≡ Closed → pending self.now ≡ [] }
+        ensures cut { result ≡ Cut → 0 < length (pending self.now) }
+        ensures end { (result ≡ Closed) ⊎ (result ≡ Cut) }
+    {
+        if self.feeder.middle() {
+            Next::Cut
+        } else {
+            Next::Closed
+        }
+    }
+}
+
+// At the limit: no byte more, or the fault of one.
+fn look_beyond<R: Read>(reader: &mut Counted<R>) -> Result<bool, StreamFault>
+    ensures end { IfOk result (λ more. (more ≡ false) × Consumes (R.remaining (counted_device reader.old)) (R.remaining (counted_device reader.new)) []
+        × IsAtEnd (R.remaining (counted_device reader.new))) }
+    ensures fault { IfErr result (IsBeyond (R.remaining (counted_device reader.old)) (R.remaining (counted_device reader.new))) }
+    ensures read { IsErrOf result Read → CountsFailure reader.old reader.new }
+    ensures kept { result ≢ Err Read → KeepsCount reader.old reader.new }
+{
+    let mut beyond = [0u8; 1];
+    match reader.read(&mut beyond) {
+        Ok(0) => Ok(false),
+        Ok(_) => Err(StreamFault::Bound),
+        Err(_) => Err(StreamFault::Read),
+    }
+}
