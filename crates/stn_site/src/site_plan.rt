@@ -74,6 +74,18 @@ impl<A: Allocator + Copy> SitePlan<A> {
         Ok(SitePlan::new(self.alloc, site, base))
     }
 
+    /// The same copy of the plan again. The plan's base is shared.
+    pub fn copy(&self) -> Result<SitePlan<A>, Memory>
+        ensures { IfOk result (λ copy. copy ≡ self.now) }
+    {
+        Ok(SitePlan {
+            alloc: self.alloc,
+            site: self.site,
+            base: self.base.clone()?,
+            records: self.records.copy()?,
+        })
+    }
+
     /// Adds a bound, under the site's next id, which is returned. A bound that contradicts others is
     /// added like any other.
     ///
