@@ -3,7 +3,7 @@ ghost use Rattle.std.specs.Prelude.{◌≤◌};
 use crate::sweep::{Answer, Call, judged, requests};
 use std::alloc::Global;
 use stn_net::{Bound, Event};
-use stn_records::{BuryFault, Id, Mark, PartFault, Records, RecordsFault, Site, WithdrawFault};
+use stn_records::{Id, Mark, PartFault, Records, RecordsFault, Site};
 use stn_refusing::Refusing;
 use stn_time::Ms;
 
@@ -55,12 +55,12 @@ fn added(records: &mut Records<&Refusing<Global>>) -> (bool, bool) {
 
 fn withdrawn(records: &mut Records<&Refusing<Global>>) -> (bool, bool) {
     let answer = records.withdraw(id(1, 1));
-    (answer == Ok(()), answer == Err(WithdrawFault::Memory))
+    (answer == Ok(()), answer == Err(RecordsFault::Memory))
 }
 
 fn buried(records: &mut Records<&Refusing<Global>>) -> (bool, bool) {
     let answer = records.bury(id(3, 1));
-    (answer == Ok(()), answer == Err(BuryFault::Memory))
+    (answer == Ok(()), answer == Err(RecordsFault::Memory))
 }
 
 // Whether the call was accepted, or memory was lacking.

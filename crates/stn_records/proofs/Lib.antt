@@ -6,6 +6,7 @@ pub mod KnownIds
 pub mod Proper
 pub mod Limits
 pub mod Outcomes
+pub mod FirstCauses
 pub mod Amending
 pub mod Lists
 pub mod Places

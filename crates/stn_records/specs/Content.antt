@@ -167,11 +167,6 @@ with_amendment s id old bound = record s { additions = map.insert s.additions id
 abbrev pub one_amendment : SiteCounter → SiteCounter → Difference → Content
 one_amendment id old bound = with_amendment no_content id old bound
 
--- a value is there, and it is another
-abbrev pub HasAnother : {X : Type 0} → Option X → X → Type 0
-HasAnother None x = ⊥
-HasAnother (Some there) x = there ≢ x
-
 -- the records with the ids of the first list, with what they replace, and the tombstones of the second, alone
 abbrev pub part_of : Content → List SiteCounter → List SiteCounter → Content
 part_of s records tombstones = record {

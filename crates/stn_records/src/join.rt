@@ -1,5 +1,6 @@
 ghost use Rattle.std.specs.Prelude.{◌≡◌, true, Option, Some, Err, not, is_some, option_and_then, IfOk, OnOk, OnErr};
 ghost use Rattle.stn_records.specs.Id.{SiteCounter};
+ghost use Rattle.stn_records.specs.declared.join.JoinFault.TheVariants.{Memory};
 
 use crate::id::Id;
 use std::alloc::AllocError;
@@ -18,11 +19,9 @@ pub enum JoinFault {
 }
 
 impl From<AllocError> for JoinFault {
-    ghost use Rattle.stn_records.specs.declared.join.JoinFault.TheVariants.{Memory};
-
     ghost from_gives = { λ _ fault. fault ≡ Memory };
 
-    fn from(_fault: AllocError) -> JoinFault {
+    fn from(_refused: AllocError) -> JoinFault {
         JoinFault::Memory
     }
 }

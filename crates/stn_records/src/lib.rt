@@ -1,9 +1,7 @@
 //! What a site holds: bounds that were added, withdrawn and replaced, and the join of what two sites hold.
 #![tactic(auto)]
 
-pub use faults::{
-    AmendFault, BuryFault, CounterSpent, PartFault, RecordsFault, ReplaceFault, WithdrawFault,
-};
+pub use faults::{CounterSpent, PartFault, RecordsFault};
 pub use id::{Id, MOST_SITES, Site};
 pub use id_map::{Additions, Amendments, IdMap, Tombstones};
 pub use join::{Join, JoinFault};

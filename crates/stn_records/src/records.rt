@@ -1,14 +1,12 @@
-ghost use Rattle.std.specs.Prelude.{◌≡◌, ◌≢◌, cond, ◌+◌, ◌<◌, ◌≤◌, ◌↔◌, IsTrue, Some, None, true, false, map, slice_get, option_map, is_some, IfOk, IfErr, IfSome, IsOk, Err, IsErr, IsErrOf, OnOk, OnErr};
+ghost use Rattle.std.specs.Prelude.{◌≡◌, ◌≢◌, cond, ◌+◌, ◌<◌, ◌≤◌, ◌↔◌, IsTrue, Some, None, true, false, map, slice_get, option_map, unwrap_or, is_some, IfOk, IfErr, IfSome, IsOk, Err, IsErr, IsErrOf, OnOk, OnErr};
 ghost use Rattle.std.specs.FinMap as fin;
 ghost use Rattle.stn_records.specs.Id.{most_counter, SiteCounter, id_cmp};
 ghost use Rattle.stn_records.specs.Record.{IsProper};
-ghost use Rattle.stn_records.specs.Content.{most_known, Content, IsSound, IsPart, AllHeld, no_content, one_record, one_tombstone, one_amendment, with_record, with_tombstone, with_amendment, plain, is_known as is_known_in, is_live as is_live_in, is_replaced as is_replaced_in, AllProper, known_count, known_in_either, live_of, listed, next_counter as next_counter_of, part_of, replaced_set, dispute_contents, join_contents, taken as taken_of, HasAnother};
-ghost use Rattle.stn_records.specs.Refusals.{amend_refusal as amend_refusal_of, replace_refusal as replace_refusal_of, clashes as clashes_in, is_too_much};
+ghost use Rattle.stn_records.specs.Content.{most_known, Content, IsSound, IsPart, AllHeld, no_content, one_record, one_tombstone, one_amendment, with_record, with_tombstone, with_amendment, plain, is_known as is_known_in, is_live as is_live_in, is_replaced as is_replaced_in, AllProper, known_count, known_in_either, live_of, listed, next_counter as next_counter_of, part_of, replaced_set, dispute_contents, join_contents, taken as taken_of};
+ghost use Rattle.stn_records.specs.Refusals.{add_refusal, withdraw_refusal, bury_refusal, take_refusal, amend_refusal as amend_refusal_of, replace_refusal as replace_refusal_of, clashes as clashes_in, is_too_much};
 
 use crate::MOST_KNOWN;
-use crate::faults::{
-    AmendFault, BuryFault, CounterSpent, PartFault, RecordsFault, ReplaceFault, WithdrawFault,
-};
+use crate::faults::{CounterSpent, PartFault, RecordsFault};
 use crate::id::{Id, Site};
 use crate::id_map::{Additions, Amendments, Tombstones};
 use crate::map_value::MapValue;
@@ -102,9 +100,8 @@ impl<A: Allocator + Copy> Records<A> {
         ensures joined { OnOk result (join_contents self.old (one_record id (record { mark = mark; bound = bound })) ≡ Some self.new) }
         ensures again { fin.get self.old.additions id ≡ Some (record { mark = mark; bound = bound }) → IsOk result × (self.new ≡ self.old) }
 
-        ensures clash { (other : SiteCounter) → result ≡ Err (RecordsFault.Clash other) → other ≡ id }
-        ensures refused { IsErrOf result (RecordsFault.Clash id) ↔ HasAnother (fin.get self.old.additions id) (record { mark = mark; bound = bound }) }
-        ensures full { IsErrOf result RecordsFault.Full ↔ (is_known_in self.old id ≡ false) × (known_count self.old ≡ most_known) }
+        ensures accepted { OnOk result (add_refusal self.old id (record { mark = mark; bound = bound }) ≡ None) }
+        ensures fault { IfErr result (λ fault. fault ≡ unwrap_or (add_refusal self.old id (record { mark = mark; bound = bound })) RecordsFault.Memory) }
         ensures kept { OnErr result (self.new ≡ self.old) }
     {
         let added = Record { mark, bound };
@@ -131,16 +128,17 @@ impl<A: Allocator + Copy> Records<A> {
     /// Refused in this order: `Unknown`, where the id is not known; `Memory`. After a fault all is as
     /// before.
     #[tactic(auto, using(crate::proofs::Outcomes::known_by_tombstone, crate::proofs::Outcomes::no_room_needed, crate::proofs::OneItem::tombstone_joins, crate::proofs::OneItem::tombstone_again))]
-    pub fn withdraw(&mut self, id: Id) -> Result<(), WithdrawFault>
+    pub fn withdraw(&mut self, id: Id) -> Result<(), RecordsFault>
         ensures withdrawn { OnOk result (self.new ≡ with_tombstone self.old id) }
         ensures joined { OnOk result (join_contents self.old (one_tombstone id) ≡ Some self.new) }
         ensures again { fin.contains_key self.old.tombstones id ≡ true → IsOk result × (self.new ≡ self.old) }
 
-        ensures unknown { IsErrOf result WithdrawFault.Unknown ↔ (is_known_in self.old id ≡ false) }
+        ensures accepted { OnOk result (withdraw_refusal self.old id ≡ None) }
+        ensures fault { IfErr result (λ fault. fault ≡ unwrap_or (withdraw_refusal self.old id) RecordsFault.Memory) }
         ensures kept { OnErr result (self.new ≡ self.old) }
     {
         if !self.is_known(id) {
-            return Err(WithdrawFault::Unknown);
+            return Err(RecordsFault::Unknown);
         }
         self.put_tombstone(id)?;
         Ok(())
@@ -151,16 +149,17 @@ impl<A: Allocator + Copy> Records<A> {
     /// Refused in this order: `Full`, where the id is new and 4,096 are known; `Memory`. After a
     /// fault all is as before.
     #[tactic(auto, using(crate::proofs::Outcomes::known_by_tombstone, crate::proofs::Outcomes::room_left, crate::proofs::Outcomes::no_room_needed, crate::proofs::OneItem::tombstone_joins, crate::proofs::OneItem::tombstone_again))]
-    pub fn bury(&mut self, id: Id) -> Result<(), BuryFault>
+    pub fn bury(&mut self, id: Id) -> Result<(), RecordsFault>
         ensures withdrawn { OnOk result (self.new ≡ with_tombstone self.old id) }
         ensures joined { OnOk result (join_contents self.old (one_tombstone id) ≡ Some self.new) }
         ensures again { fin.contains_key self.old.tombstones id ≡ true → IsOk result × (self.new ≡ self.old) }
 
-        ensures full { IsErrOf result BuryFault.Full ↔ (is_known_in self.old id ≡ false) × (known_count self.old ≡ most_known) }
+        ensures accepted { OnOk result (bury_refusal self.old id ≡ None) }
+        ensures fault { IfErr result (λ fault. fault ≡ unwrap_or (bury_refusal self.old id) RecordsFault.Memory) }
         ensures kept { OnErr result (self.new ≡ self.old) }
     {
         if !self.is_known(id) && self.is_full() {
-            return Err(BuryFault::Full);
+            return Err(RecordsFault::Full);
         }
         self.put_tombstone(id)?;
         Ok(())
@@ -185,12 +184,13 @@ impl<A: Allocator + Copy> Records<A> {
     /// has another record or replaces another id; `Unknown`, where the old id is not known; `Full`,
     /// where more than 4,096 ids would be known; `Memory`. After a fault all is as before.
     #[tactic(auto, using(crate::proofs::Amending::amend_again, crate::proofs::Amending::amend_unrefused, crate::proofs::Amending::no_clash, crate::proofs::OneItem::amendment_joins, crate::proofs::OneItem::amendment_again))]
-    pub fn amend(&mut self, id: Id, old: Id, bound: Bound) -> Result<(), AmendFault>
+    pub fn amend(&mut self, id: Id, old: Id, bound: Bound) -> Result<(), RecordsFault>
         ensures amended { OnOk result (self.new ≡ with_amendment self.old id old bound) }
         ensures joined { OnOk result (join_contents self.old (one_amendment id old bound) ≡ Some self.new) }
         ensures again { fin.get self.old.additions id ≡ Some (plain bound) → fin.get self.old.replacements id ≡ Some old → IsOk result × (self.new ≡ self.old) }
 
-        ensures refused { (fault : AmendFault) → fault ≢ AmendFault.Memory → IsErrOf result fault ↔ (amend_refusal_of self.old id old bound ≡ Some fault) }
+        ensures accepted { OnOk result (amend_refusal_of self.old id old bound ≡ None) }
+        ensures fault { IfErr result (λ fault. fault ≡ unwrap_or (amend_refusal_of self.old id old bound) RecordsFault.Memory) }
         ensures kept { OnErr result (self.new ≡ self.old) }
     {
         if let Some(fault) = self.state.amend_refusal(id, old, bound) {
@@ -208,12 +208,13 @@ impl<A: Allocator + Copy> Records<A> {
     /// has another record or replaces another id; `Full`, where more than 4,096 ids would be known;
     /// `Memory`. After a fault all is as before.
     #[tactic(auto, using(crate::proofs::Amending::replace_again, crate::proofs::Amending::replace_unrefused, crate::proofs::Amending::no_clash, crate::proofs::OneItem::amendment_joins, crate::proofs::OneItem::amendment_again))]
-    pub fn replace(&mut self, id: Id, old: Id, bound: Bound) -> Result<(), ReplaceFault>
+    pub fn replace(&mut self, id: Id, old: Id, bound: Bound) -> Result<(), RecordsFault>
         ensures amended { OnOk result (self.new ≡ with_amendment self.old id old bound) }
         ensures joined { OnOk result (join_contents self.old (one_amendment id old bound) ≡ Some self.new) }
         ensures again { fin.get self.old.additions id ≡ Some (plain bound) → fin.get self.old.replacements id ≡ Some old → IsOk result × (self.new ≡ self.old) }
 
-        ensures refused { (fault : ReplaceFault) → fault ≢ ReplaceFault.Memory → IsErrOf result fault ↔ (replace_refusal_of self.old id old bound ≡ Some fault) }
+        ensures accepted { OnOk result (replace_refusal_of self.old id old bound ≡ None) }
+        ensures fault { IfErr result (λ fault. fault ≡ unwrap_or (replace_refusal_of self.old id old bound) RecordsFault.Memory) }
         ensures kept { OnErr result (self.new ≡ self.old) }
     {
         if let Some(fault) = self.state.replace_refusal(id, old, bound) {
@@ -242,8 +243,8 @@ impl<A: Allocator + Copy> Records<A> {
         ensures joined { IfOk result (λ all. join_contents self.now other.now ≡ Some all) }
         ensures taken { IfOk result (λ all. taken_of self.now other.now ≡ Some all) }
 
-        ensures clash { (id : SiteCounter) → (result ≡ Err (RecordsFault.Clash id)) ↔ (dispute_contents self.now other.now ≡ Some id) }
-        ensures full { IsErrOf result RecordsFault.Full ↔ (dispute_contents self.now other.now ≡ None) × (most_known < known_in_either self.now other.now) }
+        ensures accepted { OnOk result (take_refusal self.now other.now ≡ None) }
+        ensures fault { IfErr result (λ fault. fault ≡ unwrap_or (take_refusal self.now other.now) RecordsFault.Memory) }
         ensures refused { IfErr result (λ fault. fault ≢ RecordsFault.Memory → taken_of self.now other.now ≡ None) }
     {
         if let Some(id) = self.state.dispute(&other.state) {
@@ -264,8 +265,8 @@ impl<A: Allocator + Copy> Records<A> {
         ensures joined { OnOk result (join_contents self.old other.now ≡ Some self.new) }
         ensures taken { OnOk result (taken_of self.old other.now ≡ Some self.new) }
 
-        ensures clash { (id : SiteCounter) → (result ≡ Err (RecordsFault.Clash id)) ↔ (dispute_contents self.old other.now ≡ Some id) }
-        ensures full { IsErrOf result RecordsFault.Full ↔ (dispute_contents self.old other.now ≡ None) × (most_known < known_in_either self.old other.now) }
+        ensures accepted { OnOk result (take_refusal self.old other.now ≡ None) }
+        ensures fault { IfErr result (λ fault. fault ≡ unwrap_or (take_refusal self.old other.now) RecordsFault.Memory) }
         ensures refused { IfErr result (λ fault. fault ≢ RecordsFault.Memory → taken_of self.old other.now ≡ None) }
         ensures kept { OnErr result (self.new ≡ self.old) }
     {

@@ -7,7 +7,7 @@ ghost use Rattle.stn_records.specs.Refusals.{amend_refusal as amend_refusal_of, 
 ghost use Rattle.stn_records.specs.Content.{Content, no_content, dispute_contents, join_contents, joined_contents, is_known as is_known_in, is_replaced as is_replaced_in, known_count, part_of, replaced_set, with_amendment, with_record, with_tombstone, with_ids, plain, AllAmend, IsAmendment, IsPart};
 
 use crate::MOST_KNOWN;
-use crate::faults::{AmendFault, ReplaceFault};
+use crate::faults::RecordsFault;
 use crate::id::Id;
 use crate::id_map::{Additions, Amendments, Tombstones};
 use crate::join::{Join, JoinFault};
@@ -211,35 +211,35 @@ impl<A: Allocator + Copy> State<A> {
         })
     }
 
-    pub(crate) fn amend_refusal(&self, id: Id, old: Id, bound: Bound) -> Option<AmendFault>
+    pub(crate) fn amend_refusal(&self, id: Id, old: Id, bound: Bound) -> Option<RecordsFault>
         ensures { result ≡ amend_refusal_of self.now id old bound }
     {
         if id == old {
-            return Some(AmendFault::SelfReplace);
+            return Some(RecordsFault::SelfReplace);
         }
         if self.clashes(id, old, bound) {
-            return Some(AmendFault::Clash(id));
+            return Some(RecordsFault::Clash(id));
         }
         if !self.is_known(old) {
-            return Some(AmendFault::Unknown);
+            return Some(RecordsFault::Unknown);
         }
         if self.is_too_much_amended(id, old, bound) {
-            return Some(AmendFault::Full);
+            return Some(RecordsFault::Full);
         }
         None
     }
 
-    pub(crate) fn replace_refusal(&self, id: Id, old: Id, bound: Bound) -> Option<ReplaceFault>
+    pub(crate) fn replace_refusal(&self, id: Id, old: Id, bound: Bound) -> Option<RecordsFault>
         ensures { result ≡ replace_refusal_of self.now id old bound }
     {
         if id == old {
-            return Some(ReplaceFault::SelfReplace);
+            return Some(RecordsFault::SelfReplace);
         }
         if self.clashes(id, old, bound) {
-            return Some(ReplaceFault::Clash(id));
+            return Some(RecordsFault::Clash(id));
         }
         if self.is_too_much_amended(id, old, bound) {
-            return Some(ReplaceFault::Full);
+            return Some(RecordsFault::Full);
         }
         None
     }

@@ -1,20 +1,20 @@
 -- The first cause that refuses each call, from what its parts answer.
-use Rattle.std.proofs.Common.{◌≡◌, ◌≢◌, ℕ, ℤ, subst, ◌<◌, ◌≤◌, ◌<ℤ◌, ◌≤ℤ◌, int_lt, ⊎_elim, Bool, true, false, not, ◌&&◌, ◌↔◌, leb, ltb, Option, Some, None, is_some, Result, Ok, Err, refl, sym, ap, ◌∙◌, arith}
-use Rattle.std.specs.{Prelude.unwrap_or, Prelude.◌==◌, Prelude.option_map, Bool.Decides, Bool.then_some, Option.option_or, List.list_all, FinMap.get, FinMap.entries}
-use Rattle.std.proofs.{lemmas.Bool.false≢true, lemmas.Bool.false_from_ne_true, lemmas.Bool.true_from_ne_false, lemmas.Bool.Decides.nat_tests, lemmas.Bool.Decides.Decides-by_and, lemmas.Int.ints}
+use Rattle.std.proofs.Common.{◌≡◌, ◌≢◌, ℕ, ℤ, ◌<◌, ◌≤◌, ◌<ℤ◌, ◌≤ℤ◌, int_lt, inl, inr, ⊎_elim, Bool, true, false, not, ◌&&◌, leb, ltb, Option, Some, None, is_some, refl, sym, ap, ◌∙◌, arith}
+use Rattle.std.specs.{Prelude.unwrap_or, Prelude.◌==◌, Prelude.option_map, Bool.Decides, Bool.then_some, Option.option_or, List.list_all, FinMap.entries}
+use Rattle.std.proofs.{lemmas.Bool.false≢true, lemmas.Bool.cases_lt, lemmas.Bool.false_from_ne_true, lemmas.Bool.Decides.nat_tests, lemmas.Bool.Decides.Decides-by_and, lemmas.Int.ints}
 use Rattle.stn_net.specs.Difference.{Difference, NamesEvents, IsBoundWithin, IsFaultOf}
 use Rattle.stn_net.specs.declared.bound.BoundFault.{BoundFault}
 use Rattle.stn_net.specs.declared.bound.BoundFault.TheVariants.{NoEvent, SameEvent, Crossed}
 use Rattle.stn_net.specs.Windows.Rehearsal.{fixed_at}
 use Rattle.stn_lift.specs.PlanSource.{events_of}
-use Rattle.stn_records.specs.{Id.most_counter, Id.SiteCounter, declared.record.Record.Record, declared.faults.RecordsFault.RecordsFault, declared.faults.WithdrawFault.WithdrawFault}
+use Rattle.stn_records.specs.{Id.most_counter, Id.SiteCounter, declared.record.Record.Record, declared.faults.RecordsFault.RecordsFault}
 use Rattle.stn_records.specs.declared.faults.RecordsFault.TheVariants as records
-use Rattle.stn_records.specs.declared.faults.WithdrawFault.TheVariants as withdraw
-use Rattle.stn_records.specs.Content.{most_known, Content, HasAnother, is_known, known_count, known_in_either, next_counter, dispute_contents, taken}
+use Rattle.stn_records.specs.Refusals.{add_refusal as records_add, take_refusal as records_take, withdraw_refusal as records_withdraw}
+use Rattle.stn_records.specs.Content.{most_known, Content, is_known, known_count, known_in_either, next_counter, dispute_contents, taken}
 use Rattle.stn_site.specs.declared.faults.ReplicaFault.TheVariants.{Bound, CounterSpent, Full, Unknown, Clash, Memory}
-use Rattle.stn_site.specs.{Bounds.RecordsName, FaultsOf.of_records_fault, FaultsOf.of_withdraw_fault, Held.Held, Held.difference}
+use Rattle.stn_site.specs.{Bounds.RecordsName, FaultsOf.of_records_fault, declared.faults.ReplicaFault.ReplicaFault, Held.Held, Held.difference}
 use Rattle.stn_site.specs.Refusals.{names_events, bound_refusal, next_refusal, add_refusal, amend_refusal, done_refusal, withdraw_refusal, records_name, take_refusal}
-use Rattle.stn_records.proofs.{Outcomes.too_many, Holding.held_agrees}
+use Rattle.stn_records.proofs.{Outcomes.too_many, FirstCauses.same_number, FirstCauses.other_number, FirstCauses.less_true, FirstCauses.less_false, FirstCauses.add_new, FirstCauses.take_free, Holding.held_agrees}
 use Rattle.stn_site.proofs.Counts.{unknown_absent}
 
 -- the first of several causes stands, or another is asked for
@@ -32,55 +32,39 @@ stands test cause e = ap (λ b. then_some b cause) e
 passes : {X : Type 0} (test : Bool) (cause : X) → test ≡ false → then_some test cause ≡ None
 passes test cause e = ap (λ b. then_some b cause) e
 
--- a call that failed, and one that did not
-abbrev pub failed : (A : Type 0) → RecordsFault → Result A RecordsFault
-failed A fault = Err fault
+-- ---- what the records answer
+-- a fault of the records is the replica's, where their first causes are the same
+pub told : (cause : Option RecordsFault) (same : Option ReplicaFault) → option_map of_records_fault cause ≡ same
+    → (fault : RecordsFault) → fault ≡ unwrap_or cause records.Memory → of_records_fault fault ≡ unwrap_or same Memory
+told cause same e fault is = ap of_records_fault is ∙ moved cause ∙ ap (λ o. unwrap_or o Memory) e
+  where
+    moved : (o : Option RecordsFault) → of_records_fault (unwrap_or o records.Memory) ≡ unwrap_or (option_map of_records_fault o) Memory
+    moved None = refl
+    moved (Some x) = refl
 
-abbrev pub succeeded : (A : Type 0) → A → Result A RecordsFault
-succeeded A x = Ok x
+-- and where there is none, none stands against the replica
+pub let_through : (cause : Option RecordsFault) (same : Option ReplicaFault) → option_map of_records_fault cause ≡ same → cause ≡ None → same ≡ None
+let_through cause same e none = sym e ∙ ap (option_map of_records_fault) none
 
--- ---- numbers
-less_true : (a b : ℕ) → a < b → ltb a b ≡ true
-less_true a b h = grind (arith, nat_tests)
-
-less_false : (a b : ℕ) → b ≤ a → ltb a b ≡ false
-less_false a b h = grind (arith, nat_tests)
-
-same_number : (a b : ℕ) → a ≡ b → (a == b) ≡ true
-same_number a b e = grind (arith, nat_tests)
-
-other_number : (a b : ℕ) → a ≢ b → (a == b) ≡ false
-other_number a b e = grind (arith, nat_tests)
+mapped : (b : Bool) (fault : RecordsFault) → option_map of_records_fault (then_some b fault) ≡ then_some b (of_records_fault fault)
+mapped true fault = refl
+mapped false fault = refl
 
 -- ---- additions
 pub next_spent : (held : Held) → most_counter < next_counter held.state held.site → next_refusal held ≡ Some CounterSpent
 next_spent held past = first_stands (ltb most_counter (next_counter held.state held.site)) CounterSpent _ (less_true most_counter (next_counter held.state held.site) past)
 
-pub next_full : (held : Held) → next_counter held.state held.site ≤ most_counter → known_count held.state ≡ most_known → next_refusal held ≡ Some Full
-next_full held counter full =
-    first_passes (ltb most_counter (next_counter held.state held.site)) CounterSpent _ (less_false most_counter (next_counter held.state held.site) counter)
-    ∙ stands (known_count held.state == most_known) Full (same_number (known_count held.state) most_known full)
+-- where the counter is not spent, only room is asked for
+pub next_counted : (held : Held) → next_counter held.state held.site ≤ most_counter → next_refusal held ≡ then_some (known_count held.state == most_known) Full
+next_counted held counter = first_passes (ltb most_counter (next_counter held.state held.site)) CounterSpent _ (less_false most_counter (next_counter held.state held.site) counter)
 
-pub next_free : (held : Held) → next_counter held.state held.site ≤ most_counter → known_count held.state ≢ most_known → next_refusal held ≡ None
-next_free held counter room =
-    first_passes (ltb most_counter (next_counter held.state held.site)) CounterSpent _ (less_false most_counter (next_counter held.state held.site) counter)
-    ∙ passes (known_count held.state == most_known) Full (other_number (known_count held.state) most_known room)
-
--- a record under the site's next id is refused only for want of room or of memory
-pub next_fault : (held : Held) (one : Record) (id : SiteCounter) (fault : RecordsFault)
-    → next_counter held.state held.site ≤ most_counter → is_known held.state id ≡ false
-    → ((other : SiteCounter) → failed (Unit {0}) fault ≡ Err (records.Clash other) → other ≡ id)
-    → ((failed (Unit {0}) fault ≡ Err (records.Clash id)) ↔ HasAnother (get held.state.additions id) one)
-    → ((failed (Unit {0}) fault ≡ Err records.Full) ↔ (is_known held.state id ≡ false) × (known_count held.state ≡ most_known))
-    → of_records_fault fault ≡ unwrap_or (next_refusal held) Memory
-next_fault held one id (records.Clash other) counter unknown clash refused full =
-    absurd (subst (λ o. HasAnother o one) (unknown_absent held.state id unknown) (refused.0 (ap (λ k. Err (records.Clash k)) (clash other refl))))
-next_fault held one id records.Full counter unknown clash refused full = ap (λ o. unwrap_or o Memory) (sym (next_full held counter (full.0 refl).1))
-next_fault held one id records.Memory counter unknown clash refused full =
-    ap (λ o. unwrap_or o Memory) (sym (next_free held counter (λ e. other_fault (full.1 (unknown, e)))))
-  where
-    other_fault : failed (Unit {0}) records.Memory ≢ Err records.Full
-    other_fault e = cc
+-- a record under the site's next id is refused only for want of room
+pub next_added : (held : Held) (one : Record) (id : SiteCounter) → next_counter held.state held.site ≤ most_counter → is_known held.state id ≡ false
+    → option_map of_records_fault (records_add held.state id one) ≡ next_refusal held
+next_added held one id counter unknown =
+    ap (option_map of_records_fault)
+    (add_new held.state id one (unknown_absent held.state id unknown) ∙ ap (λ k. then_some (not k && (known_count held.state == most_known)) records.Full) unknown)
+    ∙ mapped (known_count held.state == most_known) records.Full ∙ sym (next_counted held counter)
 
 names_decides : (events : ℕ) (bound : Difference) → Decides (names_events events bound) (NamesEvents events bound)
 names_decides events bound = (λ e. record { from = (both bound.from bound.to events e).0; to = (both bound.from bound.to events e).1 }, λ named. all bound.from bound.to events named.from named.to)
@@ -188,82 +172,29 @@ pub agreed_take : (held : Held) (other : Content) → RecordsName (events_of hel
 agreed_take held other named agreed =
     named_take held other named ∙ ap (λ o. option_or (option_map Clash o) (then_some (ltb most_known (known_in_either held.state other)) Full)) agreed
 
--- where the join neither clashes nor is too large
-joinable : (held : Held) (other : Content) → RecordsName (events_of held.source) other
-    → ((id : SiteCounter) → dispute_contents held.state other ≢ Some id)
-    → ¬ ((dispute_contents held.state other ≡ None) × (most_known < known_in_either held.state other))
-    → take_refusal held other ≡ None
-joinable held other named clash full =
-    let agreed = none (dispute_contents held.state other) clash in
-    agreed_take held other named agreed ∙ passes (ltb most_known (known_in_either held.state other)) Full (within most_known (known_in_either held.state other) (λ past. full (agreed, past)))
+-- so what another site holds is refused by the records
+pub taken_in : (held : Held) (other : Content) → RecordsName (events_of held.source) other → option_map of_records_fault (records_take held.state other) ≡ take_refusal held other
+taken_in held other named =
+    alike (dispute_contents held.state other) (ltb most_known (known_in_either held.state other)) ∙ sym (named_take held other named)
   where
-    none : (o : Option SiteCounter) → ((id : SiteCounter) → o ≢ Some id) → o ≡ None
-    none None h = refl
-    none (Some id) h = absurd (h id refl)
-
-    within : (a b : ℕ) → ¬ (a < b) → ltb a b ≡ false
-    within a b h = let le : b ≤ a = omega arith in grind (arith, nat_tests)
-
-pub take_fault : (held : Held) (other : Content) (A : Type 0) (fault : RecordsFault) → RecordsName (events_of held.source) other
-    → ((id : SiteCounter) → (failed A fault ≡ Err (records.Clash id)) ↔ (dispute_contents held.state other ≡ Some id))
-    → ((failed A fault ≡ Err records.Full) ↔ (dispute_contents held.state other ≡ None) × (most_known < known_in_either held.state other))
-    → of_records_fault fault ≡ unwrap_or (take_refusal held other) Memory
-take_fault held other A (records.Clash id) named clash full =
-    sym (ap (λ o. unwrap_or o Memory) (named_take held other named
-    ∙ ap (λ o. option_or (option_map Clash o) (then_some (ltb most_known (known_in_either held.state other)) Full)) ((clash id).0 refl)))
-take_fault held other A records.Full named clash full =
-    sym (ap (λ o. unwrap_or o Memory) (agreed_take held other named (full.0 refl).0
-    ∙ stands (ltb most_known (known_in_either held.state other)) Full (less_true most_known (known_in_either held.state other) (full.0 refl).1)))
-take_fault held other A records.Memory named clash full =
-    sym (ap (λ o. unwrap_or o Memory) (joinable held other named (λ id e. other_clash id ((clash id).1 e)) (λ p. other_full (full.1 p))))
-  where
-    other_clash : (id : SiteCounter) → failed A records.Memory ≢ Err (records.Clash id)
-    other_clash id e = cc
-
-    other_full : failed A records.Memory ≢ Err records.Full
-    other_full e = cc
-
-pub can_take : (held : Held) (other : Content) (A : Type 0) (all : A) → RecordsName (events_of held.source) other
-    → ((id : SiteCounter) → (succeeded A all ≡ Err (records.Clash id)) ↔ (dispute_contents held.state other ≡ Some id))
-    → ((succeeded A all ≡ Err records.Full) ↔ (dispute_contents held.state other ≡ None) × (most_known < known_in_either held.state other))
-    → take_refusal held other ≡ None
-can_take held other A all named clash full = joinable held other named (λ id e. no_clash id ((clash id).1 e)) (λ p. no_full (full.1 p))
-  where
-    no_clash : (id : SiteCounter) → succeeded A all ≢ Err (records.Clash id)
-    no_clash id e = cc
-
-    no_full : succeeded A all ≢ Err records.Full
-    no_full e = cc
+    alike : (o : Option SiteCounter) (b : Bool) → option_map of_records_fault (option_or (option_map records.Clash o) (then_some b records.Full)) ≡ option_or (option_map Clash o) (then_some b Full)
+    alike None true = refl
+    alike None false = refl
+    alike (Some id) b = refl
 
 -- where all is held already, nothing stands against a take
 pub can_hold : (held : Held) (other : Content) → RecordsName (events_of held.source) other → taken held.state other ≡ Some held.state → take_refusal held other ≡ None
 can_hold held other named is =
     let agreed = held_agrees held.state other is in
-    joinable held other named
-    (λ id e. absurd (false≢true (ap is_some (sym agreed ∙ e))))
-    (λ p. absurd (false≢true (ap is_some (sym (too_many held.state other p.0 p.1) ∙ is))))
+    let few : known_in_either held.state other ≤ most_known = elim (cases_lt most_known (known_in_either held.state other)) [
+      | inl many ↦ absurd (false≢true (ap is_some (sym (too_many held.state other agreed many) ∙ is)))
+      | inr few ↦ few
+    ] in
+    let_through (records_take held.state other) (take_refusal held other) (taken_in held other named) (take_free held.state other agreed few)
 
 -- ---- withdrawals
-abbrev pub unwithdrawn : WithdrawFault → Result (Unit {0}) WithdrawFault
-unwithdrawn fault = Err fault
-
-abbrev pub withdrawn : Unit {0} → Result (Unit {0}) WithdrawFault
-withdrawn done = Ok done
-
-pub withdraw_fault : (held : Held) (id : SiteCounter) (fault : WithdrawFault) → ((unwithdrawn fault ≡ Err withdraw.Unknown) ↔ (is_known held.state id ≡ false))
-    → of_withdraw_fault fault ≡ unwrap_or (withdraw_refusal held id) Memory
-withdraw_fault held id withdraw.Unknown unknown = sym (ap (λ b. unwrap_or (then_some (not b) Unknown) Memory) (unknown.0 refl))
-withdraw_fault held id withdraw.Memory unknown =
-    sym (ap (λ b. unwrap_or (then_some (not b) Unknown) Memory) (true_from_ne_false (is_known held.state id) (λ e. other_fault (unknown.1 e))))
-  where
-    other_fault : unwithdrawn withdraw.Memory ≢ Err withdraw.Unknown
-    other_fault e = cc
-
-pub can_withdraw : (held : Held) (id : SiteCounter) (done : Unit {0}) → ((withdrawn done ≡ Err withdraw.Unknown) ↔ (is_known held.state id ≡ false)) → withdraw_refusal held id ≡ None
-can_withdraw held id done unknown = passes (not (is_known held.state id)) Unknown (ap not (true_from_ne_false (is_known held.state id) (λ e. no_fault (unknown.1 e))))
-  where
-    no_fault : withdrawn done ≢ Err withdraw.Unknown
-    no_fault e = cc
+pub withdrawn : (held : Held) (id : SiteCounter) → option_map of_records_fault (records_withdraw held.state id) ≡ withdraw_refusal held id
+withdrawn held id = mapped (not (is_known held.state id)) records.Unknown
 
 -- ---- what an accepted call tells
 pub or_none : {X : Type 0} (o p : Option X) → option_or o p ≡ None → (o ≡ None) × (p ≡ None)

@@ -1,8 +1,9 @@
 ghost use Rattle.std.specs.Prelude.{◌≡◌};
-ghost use Rattle.stn_site.specs.FaultsOf.{of_amend_fault, of_records_fault, of_withdraw_fault};
+ghost use Rattle.stn_site.specs.FaultsOf.{of_records_fault};
+ghost use Rattle.stn_site.specs.declared.faults.ReplicaFault.TheVariants as replica;
 
 use stn_net::BoundFault;
-use stn_records::{AmendFault, CounterSpent, Id, RecordsFault, WithdrawFault};
+use stn_records::{CounterSpent, Id, RecordsFault};
 use thiserror::Error;
 
 /// Why a replica refused a change. Each call gives those that it lists.
@@ -29,10 +30,7 @@ pub enum ReplicaFault {
 }
 
 impl From<BoundFault> for ReplicaFault {
-    ghost use Rattle.std.specs.Prelude.{◌≡◌};
-    ghost use Rattle.stn_site.specs.declared.faults.ReplicaFault.TheVariants.{Bound};
-
-    ghost from_gives = { λ fault made. made ≡ Bound fault };
+    ghost from_gives = { λ fault made. made ≡ replica.Bound fault };
 
     fn from(fault: BoundFault) -> ReplicaFault {
         ReplicaFault::Bound(fault)
@@ -40,10 +38,7 @@ impl From<BoundFault> for ReplicaFault {
 }
 
 impl From<CounterSpent> for ReplicaFault {
-    ghost use Rattle.std.specs.Prelude.{◌≡◌};
-    ghost use Rattle.stn_site.specs.declared.faults.ReplicaFault.TheVariants.{CounterSpent};
-
-    ghost from_gives = { λ _ made. made ≡ CounterSpent };
+    ghost from_gives = { λ _ made. made ≡ replica.CounterSpent };
 
     fn from(_spent: CounterSpent) -> ReplicaFault {
         ReplicaFault::CounterSpent
@@ -55,33 +50,10 @@ impl From<RecordsFault> for ReplicaFault {
 
     fn from(fault: RecordsFault) -> ReplicaFault {
         match fault {
+            RecordsFault::SelfReplace | RecordsFault::Unknown => ReplicaFault::Unknown,
             RecordsFault::Clash(id) => ReplicaFault::Clash(id),
             RecordsFault::Full => ReplicaFault::Full,
             RecordsFault::Memory => ReplicaFault::Memory,
-        }
-    }
-}
-
-impl From<AmendFault> for ReplicaFault {
-    ghost from_gives = { λ fault made. made ≡ of_amend_fault fault };
-
-    fn from(fault: AmendFault) -> ReplicaFault {
-        match fault {
-            AmendFault::SelfReplace | AmendFault::Unknown => ReplicaFault::Unknown,
-            AmendFault::Clash(id) => ReplicaFault::Clash(id),
-            AmendFault::Full => ReplicaFault::Full,
-            AmendFault::Memory => ReplicaFault::Memory,
-        }
-    }
-}
-
-impl From<WithdrawFault> for ReplicaFault {
-    ghost from_gives = { λ fault made. made ≡ of_withdraw_fault fault };
-
-    fn from(fault: WithdrawFault) -> ReplicaFault {
-        match fault {
-            WithdrawFault::Unknown => ReplicaFault::Unknown,
-            WithdrawFault::Memory => ReplicaFault::Memory,
         }
     }
 }

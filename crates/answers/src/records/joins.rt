@@ -1,5 +1,5 @@
 use crate::records::print::{
-    Said, append_entry, append_id, append_record, append_said, said, said_of_join,
+    Said, append_entry, append_id, append_record, append_said, said_of_join,
 };
 use crate::records::questions::append_new;
 use std::alloc::Global;
@@ -14,7 +14,7 @@ fn append_joined(
 ) -> Result<(), Memory> {
     match ours.joined(theirs) {
         Ok(all) => append_new(all, out),
-        Err(fault) => append_said(&said(&Err(fault)), out),
+        Err(fault) => append_said(&Err(fault), out),
     }
 }
 

@@ -1,5 +1,5 @@
 use stn_net::Bound;
-use stn_records::{AmendFault, Id, JoinFault, Mark, Record, RecordsFault, ReplaceFault};
+use stn_records::{Id, JoinFault, Mark, Record, RecordsFault};
 use stn_time::Memory;
 
 pub fn append_id(id: Id, out: &mut Vec<u8>) -> Result<(), Memory> {
@@ -44,33 +44,14 @@ pub fn append_number(number: usize, out: &mut Vec<u8>) -> Result<(), Memory> {
     out.extend_from_slice(text.as_bytes())
 }
 
-/// What a call that changes what a site holds says of it. An amendment has the faults of all of them.
-pub type Said = Result<(), AmendFault>;
-
-pub fn said(answer: &Result<(), RecordsFault>) -> Said {
-    match answer {
-        Ok(()) => Ok(()),
-        Err(RecordsFault::Clash(id)) => Err(AmendFault::Clash(*id)),
-        Err(RecordsFault::Full) => Err(AmendFault::Full),
-        Err(RecordsFault::Memory) => Err(AmendFault::Memory),
-    }
-}
-
-pub fn said_of_replacement(answer: &Result<(), ReplaceFault>) -> Said {
-    match answer {
-        Ok(()) => Ok(()),
-        Err(ReplaceFault::SelfReplace) => Err(AmendFault::SelfReplace),
-        Err(ReplaceFault::Clash(id)) => Err(AmendFault::Clash(*id)),
-        Err(ReplaceFault::Full) => Err(AmendFault::Full),
-        Err(ReplaceFault::Memory) => Err(AmendFault::Memory),
-    }
-}
+/// What a call that changes what a site holds says of it.
+pub type Said = Result<(), RecordsFault>;
 
 pub fn said_of_join(answer: &Result<(), JoinFault>) -> Said {
     match answer {
         Ok(()) => Ok(()),
-        Err(JoinFault::Clash(id)) => Err(AmendFault::Clash(*id)),
-        Err(JoinFault::Memory) => Err(AmendFault::Memory),
+        Err(JoinFault::Clash(id)) => Err(RecordsFault::Clash(*id)),
+        Err(JoinFault::Memory) => Err(RecordsFault::Memory),
     }
 }
 
@@ -82,10 +63,10 @@ fn append_clash(id: Id, out: &mut Vec<u8>) -> Result<(), Memory> {
 pub fn append_said(said: &Said, out: &mut Vec<u8>) -> Result<(), Memory> {
     match said {
         Ok(()) => out.extend_from_slice(b"ok"),
-        Err(AmendFault::SelfReplace) => out.extend_from_slice(b"self"),
-        Err(AmendFault::Clash(id)) => append_clash(*id, out),
-        Err(AmendFault::Unknown) => out.extend_from_slice(b"unknown"),
-        Err(AmendFault::Full) => out.extend_from_slice(b"full"),
-        Err(AmendFault::Memory) => out.extend_from_slice(b"memory"),
+        Err(RecordsFault::SelfReplace) => out.extend_from_slice(b"self"),
+        Err(RecordsFault::Clash(id)) => append_clash(*id, out),
+        Err(RecordsFault::Unknown) => out.extend_from_slice(b"unknown"),
+        Err(RecordsFault::Full) => out.extend_from_slice(b"full"),
+        Err(RecordsFault::Memory) => out.extend_from_slice(b"memory"),
     }
 }

@@ -1,7 +1,8 @@
-use Rattle.std.proofs.Common.{Some, is_some, refl, sym, ap, subst, ◌∙◌, arith}
-use Rattle.std.proofs.{lemmas.Bool.false≢true, lemmas.Result.err_from_is_err_and}
-use Rattle.stn_records.specs.{Content.IsSound, Content.dispute_contents, Content.joined_contents, ContentLaws.contents_undisputed}
-use Rattle.stn_records.proofs.Outcomes.{not_too_much, too_many, taken_is, joined_sound}
+use Rattle.std.proofs.Common.{Some, refl, sym, ap, subst, ◌∙◌}
+use Rattle.std.proofs.lemmas.Result.{err_from_is_err_and}
+use Rattle.std.specs.Prelude.{unwrap_or}
+use Rattle.stn_records.specs.{Content.IsSound, Content.dispute_contents, Content.joined_contents, ContentLaws.contents_undisputed, declared.faults.RecordsFault.TheVariants.Memory}
+use Rattle.stn_records.proofs.{FirstCauses.take_full, FirstCauses.take_free, Outcomes.not_too_much, Outcomes.too_many, Outcomes.taken_is, Outcomes.joined_sound}
 use Rattle.stn_records.proofs.records.Records.joined.Goals as goal
 
 pub returns-then-is_too_much_with : goal.returns-then-is_too_much_with
@@ -11,8 +12,8 @@ returns-then-is_too_much_with g c =
     record {
       joined = tt;
       taken = tt;
-      clash = λ id. (λ is. cc, λ found. absurd (false≢true (ap is_some (sym none ∙ found))));
-      full = (λ _. (none, many), λ _. refl);
+      accepted = tt;
+      fault = ap (λ o. unwrap_or o Memory) (sym (take_full c.args.self.now c.args.other.now none many));
       refused = λ _. too_many c.args.self.now c.args.other.now none many;
     }
 
@@ -24,8 +25,8 @@ returns-in_err-state g c =
     record {
       joined = rw returned.1 tt;
       taken = rw returned.1 tt;
-      clash = rw (returned.1, returned.2) (λ id. (λ is. cc, λ found. absurd (false≢true (ap is_some (sym none ∙ found)))));
-      full = rw (returned.1, returned.2) (λ is. cc, λ found. let many = found.1 in absurd (omega (arith, few, many)));
+      accepted = rw returned.1 tt;
+      fault = rw (returned.1, returned.2) (ap (λ o. unwrap_or o Memory) (sym (take_free c.args.self.now c.args.other.now none few)));
       refused = rw (returned.1, returned.2) (λ other. absurd (other refl));
     }
 
@@ -44,7 +45,7 @@ returns g c =
     record {
       joined = contents_undisputed c.args.self.now c.args.other.now none ∙ ap Some (sym all);
       taken = taken_is c.args.self.now c.args.other.now c.in_ok-state.state none few all;
-      clash = λ id. (λ is. cc, λ found. absurd (false≢true (ap is_some (sym none ∙ found))));
-      full = (λ is. cc, λ found. let many = found.1 in absurd (omega (arith, few, many)));
+      accepted = take_free c.args.self.now c.args.other.now none few;
+      fault = tt;
       refused = tt;
     }

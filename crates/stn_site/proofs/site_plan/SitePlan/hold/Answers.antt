@@ -3,9 +3,9 @@ use Rattle.std.proofs.lemmas.Result.{err_from_is_err_and}
 use Rattle.std.specs.{Rc.rc_value}
 use Rattle.stn_net.specs.Difference.{NamesEvents}
 use Rattle.stn_lift.specs.PlanSource.{events_of}
-use Rattle.stn_records.specs.{declared.record.Record.Record, Content.with_record}
-use Rattle.stn_site.specs.{Held.Held}
-use Rattle.stn_site.proofs.{Named.named_added, Refused.next_fault, Refused.next_free, Values.ok_not_err}
+use Rattle.stn_records.specs.{declared.record.Record.Record, Content.with_record, Refusals.add_refusal}
+use Rattle.stn_site.specs.{Held.Held, Refusals.next_refusal}
+use Rattle.stn_site.proofs.{Named.named_added, Refused.told, Refused.let_through, Refused.next_added}
 use Rattle.stn_site.proofs.site_plan.SitePlan.hold.Goals as goal
 
 pub invariant_of-self-2 : goal.invariant_of-self-2
@@ -22,12 +22,12 @@ returns-in_err-add g c =
     let held : Held = record { site = c.self.inside.site; source = rc_value c.self.inside.base; state = c.self.inside.records; steps = 0 } in
     let left = rw (← c.self.view_is) at c.in_ok-id.ensures.left in
     let unknown = rw (← c.self.view_is) at c.in_ok-id.ensures.unknown in
+    let one : Record = record { mark = c.args.mark; bound = c.args.bound } in
     record {
       leaves = rw p.1 tt;
       accepted = rw p.1 tt;
       fault = rw (p.1, p.2, ← c.self.view_is)
-          (next_fault held (record { mark = c.args.mark; bound = c.args.bound }) c.in_ok-id.id c.in_err-add.field-0.0 left unknown
-          c.in_err-add.ensures.clash c.in_err-add.ensures.refused c.in_err-add.ensures.full);
+          (told (add_refusal held.state c.in_ok-id.id one) (next_refusal held) (next_added held one c.in_ok-id.id left unknown) c.in_err-add.field-0.0 c.in_err-add.ensures.fault);
       kept = rw p.1 ((λ i. record { site = c.self.inside.site; source = rc_value c.self.inside.base; state = c.in_err-add.ensures.kept i; steps = 0 }) ∙ c.self.view_is);
     }
 
@@ -37,9 +37,10 @@ returns g c =
     let next = rw (← c.self.view_is) at c.in_ok-id.ensures.next in
     let left = rw (← c.self.view_is) at c.in_ok-id.ensures.left in
     let unknown = rw (← c.self.view_is) at c.in_ok-id.ensures.unknown in
+    let one : Record = record { mark = c.args.mark; bound = c.args.bound } in
     rw (← c.self.view_is) (record {
       leaves = record { site = refl; source = refl; state = (next, c.in_ok-add.ensures.added) };
-      accepted = next_free held left (λ e. ok_not_err (c.in_ok-add.ensures.full.1 (unknown, e)));
+      accepted = let_through (add_refusal held.state c.in_ok-id.id one) (next_refusal held) (next_added held one c.in_ok-id.id left unknown) c.in_ok-add.ensures.accepted;
       fault = tt;
       kept = tt;
     })

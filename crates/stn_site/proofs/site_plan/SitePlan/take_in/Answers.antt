@@ -2,10 +2,10 @@ use Rattle.std.proofs.Common.{◌≡◌, Some, refl, sym, ap, subst, ◌∙◌}
 use Rattle.std.proofs.{lemmas.Bool.false≢true, lemmas.Result.err_from_is_err_and}
 use Rattle.std.specs.{Rc.rc_value, Prelude.unwrap_or}
 use Rattle.stn_lift.specs.PlanSource.{events_of}
-use Rattle.stn_records.specs.Content.{IsPart, join_contents}
+use Rattle.stn_records.specs.{Content.IsPart, Content.join_contents, Refusals.take_refusal as records_take}
 use Rattle.stn_records.proofs.Holding.{joined_is}
-use Rattle.stn_site.specs.{Bounds.RecordsName, Held.Held, declared.faults.ReplicaFault.TheVariants.Memory}
-use Rattle.stn_site.proofs.{Named.named_held, Named.named_joined, Refused.take_fault, Refused.can_take, Refused.can_hold, Refused.unnamed_take}
+use Rattle.stn_site.specs.{Bounds.RecordsName, Held.Held, Refusals.take_refusal, declared.faults.ReplicaFault.TheVariants.Memory}
+use Rattle.stn_site.proofs.{Named.named_held, Named.named_joined, Refused.told, Refused.let_through, Refused.taken_in, Refused.can_hold, Refused.unnamed_take}
 use Rattle.stn_site.proofs.site_plan.SitePlan.take_in.Goals as goal
 
 pub returns-then-holds : goal.returns-then-holds
@@ -53,7 +53,7 @@ returns-in_err-records g c =
       before = rw p.1 tt;
       again = λ part. absurd (false≢true (c.if-holds.ensures.part.1 (subst (λ (h : Held). IsPart c.args.other.now h.state) (sym c.self.view_is) part)));
       accepted = rw p.1 tt;
-      fault = rw (p.1, p.2, ← c.self.view_is) (take_fault held c.args.other.now _ c.in_err-records.field-0.0 theirs c.in_err-records.ensures.clash c.in_err-records.ensures.full);
+      fault = rw (p.1, p.2, ← c.self.view_is) (told (records_take held.state c.args.other.now) (take_refusal held c.args.other.now) (taken_in held c.args.other.now theirs) c.in_err-records.field-0.0 c.in_err-records.ensures.fault);
       kept = rw p.1 refl;
     }
 
@@ -81,7 +81,7 @@ returns g c =
       );
       before = c.replace.ensures.value ∙ ap (λ (h : Held). h.state) c.self.view_is;
       again = λ part. absurd (false≢true (c.if-holds.ensures.part.1 (subst (λ (h : Held). IsPart c.args.other.now h.state) (sym c.self.view_is) part)));
-      accepted = rw (← c.self.view_is) (can_take held c.args.other.now _ c.in_ok-records.records theirs c.in_ok-records.ensures.clash c.in_ok-records.ensures.full);
+      accepted = rw (← c.self.view_is) (let_through (records_take held.state c.args.other.now) (take_refusal held c.args.other.now) (taken_in held c.args.other.now theirs) c.in_ok-records.ensures.accepted);
       fault = tt;
       kept = tt;
     }
