@@ -1,20 +1,9 @@
 use Rattle.std.proofs.Common.{List, All, sym, subst}
-use Rattle.std.proofs.lemmas.Result.{err_from_is_err_and}
 use Rattle.stn_net.specs.{Difference.Difference, Schedule.IsSchedule}
 use Rattle.stn_lift.specs.BaseBounds.{KeepsOrder}
 use Rattle.stn_lift.specs.PlanSource.{events_of, interfere_in_plan, planned_of}
 use Rattle.stn_loosen.specs.Loosened.{orders_of, Imply}
 use Rattle.stn_loosen.proofs.adding.loosened_site_plan.Goals as goal
-
-pub returns-in_err-records : goal.returns-in_err-records
-returns-in_err-records g c =
-    let p = err_from_is_err_and c.from_residual.result c.from_residual.ensures.1 in
-    rw (p.1, p.2) (record { site = tt; source = tt; records = tt; looser = tt; implied = tt; ordered = tt; fault = c.in_err-records.ensures.fault })
-
-pub returns-in_err-plan_with : goal.returns-in_err-plan_with
-returns-in_err-plan_with g c =
-    let p = err_from_is_err_and c.from_residual-in_err-plan_with.result c.from_residual-in_err-plan_with.ensures.1 in
-    rw (p.1, p.2) (record { site = tt; source = tt; records = tt; looser = tt; implied = tt; ordered = tt; fault = tt })
 
 pub returns : goal.returns
 returns g c =

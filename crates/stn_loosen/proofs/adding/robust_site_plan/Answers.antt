@@ -1,18 +1,7 @@
 use Rattle.std.proofs.Common.{ℕ, ℤ, List, sym, subst}
-use Rattle.std.proofs.lemmas.Result.{err_from_is_err_and}
 use Rattle.stn_net.specs.{Difference.Difference, Schedule.IsSchedule}
 use Rattle.stn_loosen.specs.{Loosened.loose_durations, Promise.Promises, Robust.loose_bounds}
 use Rattle.stn_loosen.proofs.adding.robust_site_plan.Goals as goal
-
-pub returns-in_err-records : goal.returns-in_err-records
-returns-in_err-records g c =
-    let p = err_from_is_err_and c.from_residual.result c.from_residual.ensures.1 in
-    rw (p.1, p.2) (record { site = tt; source = tt; records = tt; promise = tt; promised = tt; loosened = tt; fault = c.in_err-records.ensures.fault })
-
-pub returns-in_err-plan_with : goal.returns-in_err-plan_with
-returns-in_err-plan_with g c =
-    let p = err_from_is_err_and c.from_residual-in_err-plan_with.result c.from_residual-in_err-plan_with.ensures.1 in
-    rw (p.1, p.2) (record { site = tt; source = tt; records = tt; promise = tt; promised = tt; loosened = tt; fault = tt })
 
 pub returns : goal.returns
 returns g c =

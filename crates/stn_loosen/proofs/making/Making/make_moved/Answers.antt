@@ -29,18 +29,13 @@ loop-bound-init g c =
     c.in_ok-network.ensures ∙ rw (c.requires.horizon, c.events.ensures.value, c.deref.ensures.value) refl in
     moved_to_none c.args.durations.now c.args.bounds.now old.records.items old.matrix c.in_ok-network.network (searched_first old.records.items old.matrix c.in_ok-network.network c.requires.taken whole)
 
-pub returns-in_err-make_sides : goal.returns-in_err-make_sides
-returns-in_err-make_sides g c =
+pub returns-in_err-make_sides-clause-fault : goal.returns-in_err-make_sides-clause-fault
+returns-in_err-make_sides-clause-fault g c =
     let old = c.args.self.now in
     let sofar = c.loop-bound in
     let returned = err_from_is_err_and c.from_residual-in_err-make_sides.result c.from_residual-in_err-make_sides.ensures.1 in
-    let refused = moved_refused c.args.durations.now c.args.bounds.now old.records.items old.matrix sofar.bound-index sofar.self.records.items sofar.self.matrix sofar.network sofar.invariant c.bound-item.result
-    c.loop-bound-test.true c.bound-item.is c.in_err-make_sides.field-0.0 c.in_err-make_sides.ensures.fault in
-    record {
-      made = rw returned.1 tt;
-      possible = rw returned.1 tt;
-      fault = rw (returned.1, returned.2) refused;
-    }
+    rw (returned.1, returned.2) (moved_refused c.args.durations.now c.args.bounds.now old.records.items old.matrix sofar.bound-index sofar.self.records.items sofar.self.matrix sofar.network sofar.invariant c.bound-item.result
+    c.loop-bound-test.true c.bound-item.is c.in_err-make_sides.field-0.0 c.in_err-make_sides.ensures.fault)
 
 pub loop-bound-preserved : goal.loop-bound-preserved
 loop-bound-preserved g c =

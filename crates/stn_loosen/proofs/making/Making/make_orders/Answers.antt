@@ -1,4 +1,3 @@
-use Rattle.std.proofs.Common.{◌∙◌}
 use Rattle.std.proofs.lemmas.Result.{err_from_is_err_and}
 use Rattle.stn_loosen.proofs.Made.{order_possible, order_made, order_refused}
 use Rattle.stn_loosen.proofs.making.Making.make_orders.Goals as goal
@@ -9,20 +8,13 @@ make_order-requires-clause-possible g c =
     let sofar = c.loop-order in
     order_possible old.records.items c.args.orders.now old.matrix sofar.order-index sofar.self.records.items sofar.self.matrix sofar.invariant c.order-item.result c.loop-order-test.true c.order-item.is c.requires.possible
 
-pub returns-in_err-make_order : goal.returns-in_err-make_order
-returns-in_err-make_order g c =
+pub returns-in_err-make_order-clause-fault : goal.returns-in_err-make_order-clause-fault
+returns-in_err-make_order-clause-fault g c =
     let old = c.args.self.now in
     let sofar = c.loop-order in
     let returned = err_from_is_err_and c.from_residual.result c.from_residual.ensures.1 in
-    let refused = order_refused old.records.items c.args.orders.now old.matrix sofar.order-index sofar.self.records.items sofar.self.matrix sofar.invariant c.order-item.result c.loop-order-test.true c.order-item.is
-    c.in_err-make_order.field-0.0 c.in_err-make_order.ensures.fault in
-    record {
-      made = rw returned.1 tt;
-      taken = rw returned.1 tt;
-      few = rw returned.1 tt;
-      events = c.make_order.ensures.events ∙ sofar.invariant.events;
-      fault = rw (returned.1, returned.2) refused;
-    }
+    rw (returned.1, returned.2) (order_refused old.records.items c.args.orders.now old.matrix sofar.order-index sofar.self.records.items sofar.self.matrix sofar.invariant c.order-item.result c.loop-order-test.true c.order-item.is
+    c.in_err-make_order.field-0.0 c.in_err-make_order.ensures.fault)
 
 pub loop-order-preserved : goal.loop-order-preserved
 loop-order-preserved g c =

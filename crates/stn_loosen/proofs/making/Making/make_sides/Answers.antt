@@ -3,6 +3,7 @@ use Rattle.std.proofs.lemmas.Result.{on_ok_weaker, IfErr-weaker, err_from_is_err
 use Rattle.stn_net.specs.Difference.{Difference, NamesEvents}
 use Rattle.stn_loosen.specs.{Moved.moved_upper, Moved.moved_lower, Stepped.as_bound, Stepped.AreMadeBehind, Stepped.IsCauseBehind}
 use Rattle.stn_loosen.proofs.Sides.{upper_named, lower_named, made_behind, cause_behind, none_made}
+use Rattle.stn_loosen.proofs.making.Making.make_sides.Given.{Over}
 use Rattle.stn_loosen.proofs.making.Making.make_sides.Goals as goal
 
 pub make_side-requires-clause-named : goal.make_side-requires-clause-named
@@ -25,28 +26,29 @@ returns-in_err-make_side-clause-fault g c =
     let cause = cause_behind old.matrix.events old.records.items [] (upper ∷ []) (lower ∷ []) old.records.items (none_made old.matrix.events old.records.items) c.in_err-make_side.field-0.0 fault in
     rw (returned.1, returned.2) cause
 
+-- what the first call made
+first : (g : Over) (c : goal.After-make_side-2 g)
+    → AreMadeBehind c.args.self.now.matrix.events c.args.self.now.records.items (moved_upper c.args.durations.now c.args.bound.now ∷ []) c.make_side.new.self.records.items
+first g c =
+    let old = c.args.self.now in
+    subst (λ (b : Difference). AreMadeBehind old.matrix.events old.records.items (b ∷ []) c.make_side.new.self.records.items) c.moved_sides-upper.ensures.upper c.in_ok-make_side.ensures.made
+
 pub returns-clause-made : goal.returns-clause-made
 returns-clause-made g c =
     let old = c.args.self.now in
-    let upper = moved_upper c.args.durations.now c.args.bound.now in
     let lower = moved_lower c.args.durations.now c.args.bound.now in
-    let middle = c.make_side.new.self.records.items in
     let new = c.make_side-2.new.self.records.items in
-    let first = subst (λ (b : Difference). AreMadeBehind old.matrix.events old.records.items (b ∷ []) middle) c.moved_sides-upper.ensures.upper c.in_ok-make_side.ensures.made in
     on_ok_weaker c.make_side-2.result
-    (λ made. made_behind old.matrix.events old.records.items (upper ∷ []) (lower ∷ []) middle new first
-    (subst (λ n. AreMadeBehind n middle (lower ∷ []) new) c.make_side.ensures.events (subst (λ (b : Difference). AreMadeBehind c.make_side.new.self.matrix.events middle (b ∷ []) new) c.moved_sides-upper.ensures.lower made)))
+    (λ made. made_behind old.matrix.events old.records.items (moved_upper c.args.durations.now c.args.bound.now ∷ []) (lower ∷ []) c.make_side.new.self.records.items new (first g c)
+    (subst (λ n. AreMadeBehind n c.make_side.new.self.records.items (lower ∷ []) new) c.make_side.ensures.events (subst (λ (b : Difference). AreMadeBehind c.make_side.new.self.matrix.events c.make_side.new.self.records.items (b ∷ []) new) c.moved_sides-upper.ensures.lower made)))
     c.make_side-2.ensures.made
 
 pub returns-clause-fault : goal.returns-clause-fault
 returns-clause-fault g c =
     let old = c.args.self.now in
-    let upper = moved_upper c.args.durations.now c.args.bound.now in
     let lower = moved_lower c.args.durations.now c.args.bound.now in
-    let middle = c.make_side.new.self.records.items in
-    let first = subst (λ (b : Difference). AreMadeBehind old.matrix.events old.records.items (b ∷ []) middle) c.moved_sides-upper.ensures.upper c.in_ok-make_side.ensures.made in
-    IfErr-weaker c.make_side-2.result (IsCauseBehind c.make_side.new.self.matrix.events middle (as_bound c.moved_sides-upper.result.1 ∷ [])) (IsCauseBehind old.matrix.events old.records.items (upper ∷ lower ∷ []))
-    (λ fault cause. cause_behind old.matrix.events old.records.items (upper ∷ []) (lower ∷ []) [] middle first fault
-    (subst (λ n. IsCauseBehind n middle (lower ∷ []) fault) c.make_side.ensures.events
-    (subst (λ (b : Difference). IsCauseBehind c.make_side.new.self.matrix.events middle (b ∷ []) fault) c.moved_sides-upper.ensures.lower cause)))
+    IfErr-weaker c.make_side-2.result (IsCauseBehind c.make_side.new.self.matrix.events c.make_side.new.self.records.items (as_bound c.moved_sides-upper.result.1 ∷ [])) (IsCauseBehind old.matrix.events old.records.items (moved_upper c.args.durations.now c.args.bound.now ∷ lower ∷ []))
+    (λ fault cause. cause_behind old.matrix.events old.records.items (moved_upper c.args.durations.now c.args.bound.now ∷ []) (lower ∷ []) [] c.make_side.new.self.records.items (first g c) fault
+    (subst (λ n. IsCauseBehind n c.make_side.new.self.records.items (lower ∷ []) fault) c.make_side.ensures.events
+    (subst (λ (b : Difference). IsCauseBehind c.make_side.new.self.matrix.events c.make_side.new.self.records.items (b ∷ []) fault) c.moved_sides-upper.ensures.lower cause)))
     c.make_side-2.ensures.fault
