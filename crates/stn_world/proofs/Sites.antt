@@ -162,23 +162,6 @@ packet_there {packets = packets} world source replicas place number one is at th
     let within : place < length packets = omega arith in
     same ∙ (get_or_default packets place one no_content within ∙ (ap (λ (l : List Content). get_or l place no_content) (sym packets_are) ∙ ap (λ k. get_or world.packets k no_content) at))
 
--- a world with a packet more
-pub sent_there : {packets : List Content} (world : World) (source : PlanSource) (replicas : List Held) (part theirs : Content)
-    → world_of source replicas packets ≡ world → theirs ≡ part → world_of source replicas (packets ++ theirs ∷ []) ≡ send world part
-sent_there {packets = packets} world source replicas part theirs is same =
-    ap (λ (c : Content). world_of source replicas (packets ++ c ∷ [])) same ∙ ap (λ (w : World). send w part) is
-
-pub sound_sent : {packets : List Content} (world next : World) (source : PlanSource) (replicas : List Held) (theirs : Content)
-    → world_of source replicas packets ≡ world → IsSoundWorld source replicas packets → length world.packets < most_packets
-    → world_of source replicas (packets ++ theirs ∷ []) ≡ next → IsCoherent next → IsSoundWorld source replicas (packets ++ theirs ∷ [])
-sound_sent {packets = packets} world next source replicas theirs is sound room made coherent = record {
-  sites = sound.sites;
-  few =
-      let packets_are : length world.packets ≡ length packets = ap (λ (w : World). length w.packets) (sym is) in
-      omega (arith, length-append packets (theirs ∷ []), packets_are, room);
-  coherent = subst IsCoherent (sym made) coherent;
-}
-
 -- a replica of a list is of the plan that all of it are of
 pub first_source : (replicas : List Held) (source : PlanSource) (first : Held) → map (λ (replica : Held). replica.source) replicas ≡ replicate (length replicas) source
     → true ≡ ltb 0 (length replicas) → first ≡ get_or replicas 0 first → first.source ≡ source

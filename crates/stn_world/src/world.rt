@@ -121,8 +121,9 @@ impl<A: Allocator + Copy> World<A> {
         ensures step { IsStep self.old (added site (difference from to lo hi)) result self.new }
     {
         let place = self.place_of(site)?;
-        let id = self.replicas[place].add(from, to, lo, hi)?;
-        Ok(id)
+        self.replicas[place]
+            .add(from, to, lo, hi)
+            .map_err(WorldFault::from)
     }
 
     /// Records at a site at which time it executed an event, under that site's next id, which is
@@ -134,8 +135,9 @@ impl<A: Allocator + Copy> World<A> {
         ensures step { IsStep self.old (finished site event time) result self.new }
     {
         let place = self.place_of(site)?;
-        let id = self.replicas[place].done(event, time)?;
-        Ok(id)
+        self.replicas[place]
+            .done(event, time)
+            .map_err(WorldFault::from)
     }
 
     /// Amends at a site a record that it knows: adds a bound under that site's next id, which is returned,
@@ -156,8 +158,9 @@ impl<A: Allocator + Copy> World<A> {
         ensures step { IsStep self.old (amended site old (difference from to lo hi)) result self.new }
     {
         let place = self.place_of(site)?;
-        let id = self.replicas[place].amend(old, from, to, lo, hi)?;
-        Ok(id)
+        self.replicas[place]
+            .amend(old, from, to, lo, hi)
+            .map_err(WorldFault::from)
     }
 
     /// Withdraws at a site a record that it knows, for good; one that is withdrawn there already changes
@@ -170,8 +173,7 @@ impl<A: Allocator + Copy> World<A> {
         ensures again { HasSite self.old site → contains_key (content_at self.old site).tombstones id ≡ true → IsOk result × (self.new ≡ self.old) }
     {
         let place = self.place_of(site)?;
-        self.replicas[place].withdraw(id)?;
-        Ok(())
+        self.replicas[place].withdraw(id).map_err(WorldFault::from)
     }
 
     /// Takes in at a site all that another holds. If the site holds all of it already, as when it merges
@@ -242,8 +244,9 @@ impl<A: Allocator + Copy> World<A> {
     {
         let place = self.place_of(site)?;
         let from = self.packet_place(packet)?;
-        self.replicas[place].take(&self.packets[from])?;
-        Ok(())
+        self.replicas[place]
+            .take(&self.packets[from])
+            .map_err(WorldFault::from)
     }
 
     // The place of a site's replica.
