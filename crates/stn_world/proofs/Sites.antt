@@ -8,7 +8,7 @@ use Rattle.stn_records.specs.Content.{Content, IsPart, no_content, dispute_conte
 use Rattle.stn_records.specs.{ContentLaws.contents_dispute, ContentLaws.contents_undisputed, ContentLaws.contents_repeat, Id.SiteCounter, Id.most_sites}
 use Rattle.stn_site.specs.Held.{Held, next_id}
 use Rattle.stn_site.specs.Refusals.{take_refusal}
-use Rattle.stn_world.specs.World.{World, most_packets, HasSite, HasPacket, content_at, packet_at, held_at, next_id_at, with_content, send}
+use Rattle.stn_world.specs.World.{World, HasSite, HasPacket, content_at, packet_at, held_at, next_id_at, with_content}
 use Rattle.stn_world.specs.{Whole.IsSites, Whole.IsCoherent, Whole.IsSoundWorld, Sites.contents_of, Sites.world_of}
 use Rattle.stn_world.proofs.Whole.{coherent_at_first}
 
