@@ -2,8 +2,9 @@
 use Rattle.std.proofs.Common.{◌≡◌, ℕ, ◌+◌, ◌-◌, ◌<◌, ◌≤◌, ◌⊎◌, inl, inr, Bool, true, false, List, [], ◌∷◌, ◌++◌, length, take, drop, Option, Some, None, Result, Ok, Err, IfOk, IfErr, OnOk, is_err, refl, sym, ap, subst, ◌∙◌, arith, append_assoc, append-nil, length-append, take-append-drop, drop-drop}
 use Rattle.std.proofs.{Math.Seq.drop-append-add, KnownBytes.Consumes-trans, lemmas.Bool.false≢true, lemmas.List.drop_all}
 use Rattle.std.specs.Io.KnownBytes.{Consumes, IsAtEnd}
-use Rattle.stn_wire.specs.{Feeder.FeederState, Feeder.IsTaken, Feeder.IsFed as IsFedTo, Frame.FrameContent, Frame.content, Frame.spelling, Front.IsFront, Front.faulty, Front.whole, Front.unfinished, declared.fault.WireFault.WireFault, declared.frame.Frame.Frame, Stream.Held.Stream, Stream.pending, Stream.wire_fault, Stream.IsNext, Stream.Gives, Stream.Pieces.IsFed, Stream.Pieces.IsFilled, Stream.Pieces.IsBeyond, declared.stream.fault.FrameFault.FrameFault, declared.stream.reader.Next.Next, declared.stream.fault.StreamFault.StreamFault}
+use Rattle.stn_wire.specs.{Feeder.FeederState, Feeder.IsTaken, Feeder.IsFed as IsFedTo, Frame.FrameContent, Frame.content, Frame.spelling, Front.IsFront, Front.faulty, Front.whole, Front.unfinished, declared.fault.WireFault.WireFault, declared.frame.Frame.Frame, Stream.Held.Stream, Stream.pending, Stream.wire_fault, Stream.IsNext, Stream.Gives, Stream.Pieces.next_of_fault, Stream.Pieces.IsFed, Stream.Pieces.IsFilled, Stream.Pieces.IsBeyond, declared.stream.fault.FrameFault.FrameFault, declared.stream.reader.Next.Next, declared.stream.fault.StreamFault.StreamFault}
 use Rattle.stn_wire.specs.declared.fault.WireFault.TheVariants as wire
+use Rattle.stn_wire.specs.declared.stream.fault.FrameFault.TheVariants.{Length, Kind, Body}
 use Rattle.stn_wire.specs.declared.stream.reader.Next.TheVariants.{Frame as next_frame, Faulty, Closed, Cut}
 use Rattle.stn_wire.specs.declared.stream.fault.StreamFault.TheVariants.{Read, Bound, Memory}
 
@@ -27,11 +28,19 @@ pub always : {X E : Type 0} (answer : Result X E) (P : Type 0) → P → OnOk an
 always (Ok given) P p = p
 always (Err fault) P p = tt
 
--- whether an answer is the end
-abbrev pub is_end : {A : Type 0} → Result (Next A) StreamFault → Bool
-is_end (Ok Closed) = true
-is_end (Ok Cut) = true
-is_end answer = false
+-- whether an answer is neither the end nor a failed read
+abbrev pub goes_on : {A : Type 0} → Result (Next A) StreamFault → Bool
+goes_on (Ok Closed) = false
+goes_on (Ok Cut) = false
+goes_on (Err Read) = false
+goes_on answer = true
+
+pub fault_goes_on : (A : Type 0) (fault : WireFault) → goes_on (next_of_fault {A = A} fault) ≡ true
+fault_goes_on A wire.Length = refl
+fault_goes_on A wire.Kind = refl
+fault_goes_on A wire.Body = refl
+fault_goes_on A wire.OldFrame = refl
+fault_goes_on A wire.Memory = refl
 
 -- a frame was taken, and what stands after it is pending
 frame_taken : (held rest : List ℕ) (used : ℕ) (frame : FrameContent) → IsFront (held ++ rest) (whole frame (length held + used)) → held ++ rest ≡ spelling frame ++ drop used rest
@@ -77,16 +86,23 @@ module _ (first old new : Stream) (before after : Option (List ℕ)) (bytes : Li
     counted = (taken, omega (arith, few, taken));
   }
 
-  pub gives_fault : {A : Type 0} (fault : FrameFault) → IsFront (pending old) (faulty (wire_fault fault)) → Gives {A = A} first new before after (Ok (Faulty fault))
-  gives_fault fault front = record {
+  gives_faulty : {A : Type 0} (fault : FrameFault) → IsFront (pending old) (faulty (wire_fault fault)) → Gives {A = A} first new before after (Ok (Faulty fault))
+  gives_faulty fault front = record {
     bytes = bytes;
     consumed = read;
     next = subst (λ l. IsFront l (faulty (wire_fault fault))) held front;
     counted = (taken, omega (arith, few, taken));
   }
 
-  pub gives_memory : {A : Type 0} → Gives {A = A} first new before after (Err Memory)
+  gives_memory : {A : Type 0} → Gives {A = A} first new before after (Err Memory)
   gives_memory = record { bytes = bytes; consumed = read; next = tt; counted = omega (arith, few, taken) }
+
+  pub gives_fault : {A : Type 0} (fault : WireFault) → IsFed {A = A} old new (Err fault) → Gives {A = A} first new before after (next_of_fault fault)
+  gives_fault wire.Length fed = gives_faulty Length fed
+  gives_fault wire.Kind fed = gives_faulty Kind fed
+  gives_fault wire.Body fed = gives_faulty Body fed
+  gives_fault wire.OldFrame fed = gives_memory
+  gives_fault wire.Memory fed = gives_memory
 
 -- a read that gave nothing
 pub read_none : (before after : Option (List ℕ)) (buffer : List ℕ) (count : ℕ) → count ≡ 0 → Consumes before after (take count buffer) → Consumes before after []

@@ -3,8 +3,10 @@
 use Rattle.std.specs.Prelude.{◌≡◌, ℕ, ◌+◌, ◌<◌, ◌≤◌, List, [], ◌∷◌, ◌++◌, length, Bool, true, false, Option, Some, None, Result, Ok, Err, ⊤}
 use Rattle.std.specs.Io.KnownBytes.{Consumes, IsAtEnd}
 use Rattle.stn_device.specs.Bytes.{most_bytes}
-use Rattle.stn_wire.specs.{Frame.content, Frame.spelling, Frame.IsFrame, Front.IsFront, Front.faulty, Front.unfinished, declared.fault.WireFault.WireFault, declared.frame.Frame.Frame, Stream.Held.Stream, Stream.pending, declared.stream.fault.StreamFault.StreamFault}
+use Rattle.stn_wire.specs.{Frame.content, Frame.spelling, Frame.IsFrame, Front.IsFront, Front.faulty, Front.unfinished, declared.fault.WireFault.WireFault, declared.frame.Frame.Frame, Stream.Held.Stream, Stream.pending, declared.stream.reader.Next.Next, declared.stream.fault.StreamFault.StreamFault}
 use Rattle.stn_wire.specs.declared.fault.WireFault.TheVariants as wire
+use Rattle.stn_wire.specs.declared.stream.fault.FrameFault.TheVariants.{Length, Kind, Body}
+use Rattle.stn_wire.specs.declared.stream.reader.Next.TheVariants.{Faulty}
 use Rattle.stn_wire.specs.declared.stream.fault.StreamFault.TheVariants.{Read, Bound, Memory}
 
 -- what taking what was read answers: the first frame that it completes, and the bytes after it are pending; or none, and all of it is held
@@ -13,6 +15,13 @@ IsFed old new (Ok (Some given)) = IsFrame (content given) × (pending old ≡ sp
 IsFed old new (Ok None) = IsFront (pending old) unfinished × (pending new ≡ pending old) × (new.behind ≡ [])
 IsFed old new (Err wire.Memory) = ⊤
 IsFed old new (Err fault) = IsFront (pending old) (faulty fault)
+
+-- what comes next where that is a fault
+abbrev pub next_of_fault : {A : Type 0} → WireFault → Result (Next A) StreamFault
+next_of_fault wire.Length = Ok (Faulty Length)
+next_of_fault wire.Kind = Ok (Faulty Kind)
+next_of_fault wire.Body = Ok (Faulty Body)
+next_of_fault other = Err Memory
 
 -- what reading one piece more answers: whether there is one, which is pending after what was held; or a fault. Bound shows a
 -- byte beyond the limit

@@ -4,7 +4,7 @@ ghost use Rattle.std.specs.Io.KnownBytes.{Consumes, IsAtEnd};
 ghost use Rattle.stn_device.specs.Bytes.{most_bytes};
 ghost use Rattle.stn_device.specs.Counted.{counted_device, CountsFailure, KeepsCount};
 ghost use Rattle.stn_wire.specs.Stream.{unread, pending, IsReading, Gives};
-ghost use Rattle.stn_wire.specs.Stream.Pieces.{IsFed, IsFilled, IsBeyond};
+ghost use Rattle.stn_wire.specs.Stream.Pieces.{next_of_fault, IsFed, IsFilled, IsBeyond};
 ghost use Rattle.stn_wire.specs.declared.stream.reader.Next.TheVariants.{Closed, Cut};
 ghost use Rattle.stn_wire.specs.declared.stream.fault.StreamFault.TheVariants.{Read};
 
@@ -80,11 +80,7 @@ impl<A: Allocator + Copy> FrameReader<A> {
             match self.feed() {
                 Ok(Some(frame)) => return Ok(Next::Frame(frame)),
                 Ok(None) => {}
-                Err(WireFault::Length) => return Ok(Next::Faulty(FrameFault::Length)),
-                Err(WireFault::Kind) => return Ok(Next::Faulty(FrameFault::Kind)),
-                Err(WireFault::Body) => return Ok(Next::Faulty(FrameFault::Body)),
-                // The fault of an old frame is none of bytes.
-                Err(WireFault::Memory | WireFault::OldFrame) => return Err(StreamFault::Memory),
+                Err(fault) => return next_of_fault(fault),
             }
             let more = self.fill(reader)?;
             if !more {
@@ -146,6 +142,18 @@ impl<A: Allocator + Copy> FrameReader<A> {
         } else {
             Next::Closed
         }
+    }
+}
+
+// What comes next where taking what was read gave a fault. That of an old frame is none of bytes.
+fn next_of_fault<A: Allocator>(fault: WireFault) -> Result<Next<A>, StreamFault>
+    ensures { result ≡ next_of_fault fault }
+{
+    match fault {
+        WireFault::Length => Ok(Next::Faulty(FrameFault::Length)),
+        WireFault::Kind => Ok(Next::Faulty(FrameFault::Kind)),
+        WireFault::Body => Ok(Next::Faulty(FrameFault::Body)),
+        WireFault::OldFrame | WireFault::Memory => Err(StreamFault::Memory),
     }
 }
 

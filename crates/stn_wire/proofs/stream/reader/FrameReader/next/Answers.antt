@@ -1,9 +1,8 @@
 use Rattle.std.proofs.Common.{◌+◌, ◌-◌, ◌^◌, min, Err, [], refl, sym, ap, subst, ◌∙◌, append-nil, arith}
-use Rattle.std.proofs.{KnownBytes.Consumes-nil, lemmas.Bool.false≢true, lemmas.Result.err_from_is_err_and}
+use Rattle.std.proofs.{KnownBytes.Consumes-nil, lemmas.Bool.true≢false, lemmas.Result.err_from_is_err_and}
 use Rattle.stn_wire.specs.Front.{IsFront, unfinished}
 use Rattle.stn_wire.specs.{Stream.Held.Stream, declared.stream.fault.StreamFault.TheVariants.Read}
-use Rattle.stn_wire.specs.declared.stream.fault.FrameFault.TheVariants.{Length, Kind, Body}
-use Rattle.stn_wire.proofs.Streams.{fault_or, memory_unread, is_end, not_err, not_ok, gives_frame, gives_fault, gives_memory, filled_more, filled_end, filled_at_end, filled_smaller, fill_fails}
+use Rattle.stn_wire.proofs.Streams.{goes_on, fault_goes_on, fault_or, not_err, not_ok, gives_frame, gives_fault, filled_more, filled_end, filled_at_end, filled_smaller, fill_fails}
 use Rattle.stn_wire.proofs.stream.reader.FrameReader.next.Goals as goal
 
 pub pieces-init : goal.pieces-init
@@ -30,58 +29,22 @@ returns-in-Ok-Some g c =
     let i = c.pieces.invariant.bytes in
     record {
       gives = gives_frame c.args.self.now c.pieces.self c.feed.new.self _ _ i.0 i.1 i.2 (c.feed.ensures.count ∙ i.3) c.feed.ensures.few c.in-Ok-Some.frame fed c.in-Ok-Some.ensures.reading;
-      closed = λ e. absurd (false≢true (ap is_end e));
-      cut = λ e. absurd (false≢true (ap is_end e));
-      read = λ e. absurd (not_err _ _ e);
+      closed = λ e. absurd (true≢false (ap goes_on e));
+      cut = λ e. absurd (true≢false (ap goes_on e));
+      read = λ e. absurd (true≢false (ap goes_on e));
       kept = λ _. c.pieces.invariant.kept;
     }
 
-pub returns-in-Err-Length : goal.returns-in-Err-Length
-returns-in-Err-Length g c =
-    let fed = rw c.in-Err-Length.field-0-is at c.in-Err-Length.ensures.fed in
+pub returns-in-Err : goal.returns-in-Err
+returns-in-Err g c =
     let i = c.pieces.invariant.bytes in
-    record {
-      gives = gives_fault c.args.self.now c.pieces.self c.feed.new.self _ _ i.0 i.1 i.2 (c.feed.ensures.count ∙ i.3) c.feed.ensures.few Length fed;
-      closed = λ e. absurd (false≢true (ap is_end e));
-      cut = λ e. absurd (false≢true (ap is_end e));
-      read = λ e. absurd (not_err _ _ e);
+    rw c.next_of_fault.ensures (record {
+      gives = gives_fault c.args.self.now c.pieces.self c.feed.new.self _ _ i.0 i.1 i.2 (c.feed.ensures.count ∙ i.3) c.feed.ensures.few c.in-Err.fault c.in-Err.ensures.fed;
+      closed = λ e. absurd (true≢false (sym (fault_goes_on _ c.in-Err.fault) ∙ ap goes_on e));
+      cut = λ e. absurd (true≢false (sym (fault_goes_on _ c.in-Err.fault) ∙ ap goes_on e));
+      read = λ e. absurd (true≢false (sym (fault_goes_on _ c.in-Err.fault) ∙ ap goes_on e));
       kept = λ _. c.pieces.invariant.kept;
-    }
-
-pub returns-in-Err-Kind : goal.returns-in-Err-Kind
-returns-in-Err-Kind g c =
-    let fed = rw c.in-Err-Kind.field-0-is at c.in-Err-Kind.ensures.fed in
-    let i = c.pieces.invariant.bytes in
-    record {
-      gives = gives_fault c.args.self.now c.pieces.self c.feed.new.self _ _ i.0 i.1 i.2 (c.feed.ensures.count ∙ i.3) c.feed.ensures.few Kind fed;
-      closed = λ e. absurd (false≢true (ap is_end e));
-      cut = λ e. absurd (false≢true (ap is_end e));
-      read = λ e. absurd (not_err _ _ e);
-      kept = λ _. c.pieces.invariant.kept;
-    }
-
-pub returns-in-Err-Body : goal.returns-in-Err-Body
-returns-in-Err-Body g c =
-    let fed = rw c.in-Err-Body.field-0-is at c.in-Err-Body.ensures.fed in
-    let i = c.pieces.invariant.bytes in
-    record {
-      gives = gives_fault c.args.self.now c.pieces.self c.feed.new.self _ _ i.0 i.1 i.2 (c.feed.ensures.count ∙ i.3) c.feed.ensures.few Body fed;
-      closed = λ e. absurd (false≢true (ap is_end e));
-      cut = λ e. absurd (false≢true (ap is_end e));
-      read = λ e. absurd (not_err _ _ e);
-      kept = λ _. c.pieces.invariant.kept;
-    }
-
-pub returns-in-Err-Memory : goal.returns-in-Err-Memory
-returns-in-Err-Memory g c =
-    let i = c.pieces.invariant.bytes in
-    record {
-      gives = gives_memory c.args.self.now c.pieces.self c.feed.new.self _ _ i.0 i.1 i.2 (c.feed.ensures.count ∙ i.3) c.feed.ensures.few;
-      closed = λ e. absurd (not_ok _ _ e);
-      cut = λ e. absurd (not_ok _ _ e);
-      read = λ e. absurd (memory_unread (ap (fault_or Read) e));
-      kept = λ _. c.pieces.invariant.kept;
-    }
+    })
 
 pub returns-in_err-more : goal.returns-in_err-more
 returns-in_err-more g c =
