@@ -1,8 +1,6 @@
 // What a site makes of the replies, of which each request for memory and each read is refused in turn.
 use crate::calls::logs::{is_log, opened};
-use crate::calls::sweep::{
-    Failing, Kind, NOTHING, Outcome, begin_refusing, end_refusing, outcome_of, reader,
-};
+use crate::calls::sweep::{Failing, Kind, Outcome, Trial, outcome_of};
 use crate::calls::words::whole_frames;
 use std::alloc::Global;
 use stn_device::Counted;
@@ -35,13 +33,12 @@ struct Receiving {
 }
 
 fn received<'a>(
-    heap: &'a Refusing<Global>,
+    trial: &Trial<'a>,
     replica: &mut Replica<&'a Refusing<Global>>,
     replies: Replies,
-    failing: Failing,
 ) -> Receiving {
-    let mut input = Counted::new(reader(replies.bytes, failing));
-    let answer = match receive_replies(heap, &mut input, replica) {
+    let mut input = Counted::new(trial.reader(replies.bytes));
+    let answer = match receive_replies(trial.heap, &mut input, replica) {
         Ok(text) => Ok(text.as_slice() == text_of(replies.frames)),
         Err(fault) => Err(fault),
     };
@@ -62,22 +59,20 @@ fn log_before<'a>(replies: Replies<'a>, failing: Failing) -> &'a [u8] {
 
 // Whether the answer is right, and the replica holds what it must.
 fn is_received<'a>(
-    alloc: Global,
-    heap: &'a Refusing<Global>,
+    trial: &Trial<'a>,
     replica: &Replica<&'a Refusing<Global>>,
     replies: Replies,
     answer: Result<bool, ReplyFault>,
-    failing: Failing,
 ) -> bool {
+    let failing = trial.failing;
     match answer {
-        Ok(told) => told && is_log(alloc, heap, replica, replies.after),
+        Ok(told) => told && is_log(trial, replica, replies.after),
         Err(ReplyFault::Read) => {
-            failing.kind == Kind::Read && is_log(alloc, heap, replica, log_before(replies, failing))
+            failing.kind == Kind::Read && is_log(trial, replica, log_before(replies, failing))
         }
         Err(ReplyFault::Memory) => {
             failing.kind == Kind::Memory
-                && (is_log(alloc, heap, replica, replies.log)
-                    || is_log(alloc, heap, replica, replies.after))
+                && (is_log(trial, replica, replies.log) || is_log(trial, replica, replies.after))
         }
         Err(_) => false,
     }
@@ -85,41 +80,33 @@ fn is_received<'a>(
 
 // The same call then takes all.
 fn receives_then<'a>(
-    alloc: Global,
-    heap: &'a Refusing<Global>,
+    trial: &Trial<'a>,
     replica: &mut Replica<&'a Refusing<Global>>,
     replies: Replies,
 ) -> bool {
-    let receiving = received(heap, replica, replies, NOTHING);
-    receiving.answer == Ok(true) && is_log(alloc, heap, replica, replies.after)
+    let receiving = received(&trial.working(), replica, replies);
+    receiving.answer == Ok(true) && is_log(trial, replica, replies.after)
 }
 
 fn receive_failing<'a>(
-    alloc: Global,
-    heap: &'a Refusing<Global>,
+    trial: &Trial<'a>,
     replica: &mut Replica<&'a Refusing<Global>>,
     replies: Replies,
-    failing: Failing,
 ) -> Outcome {
-    begin_refusing(heap, failing);
-    let Receiving { answer, failed } = received(heap, replica, replies, failing);
-    let refused = end_refusing(heap, failing) || failed;
+    trial.begin();
+    let Receiving { answer, failed } = received(trial, replica, replies);
+    let refused = trial.end() || failed;
     let right = (refused || answer.is_ok())
-        && is_received(alloc, heap, replica, replies, answer, failing)
-        && receives_then(alloc, heap, replica, replies);
+        && is_received(trial, replica, replies, answer)
+        && receives_then(trial, replica, replies);
     outcome_of(refused, right)
 }
 
 /// Whether `receive_replies` takes these replies, and answers the refused call.
-pub fn receive_refused(
-    alloc: Global,
-    heap: &Refusing<Global>,
-    replies: Replies,
-    failing: Failing,
-) -> Outcome {
-    match opened(heap, replies.log) {
+pub fn receive_refused(trial: &Trial<'_>, replies: Replies) -> Outcome {
+    match opened(trial.heap, replies.log) {
         Ok(mut replica) => {
-            let outcome = receive_failing(alloc, heap, &mut replica, replies, failing);
+            let outcome = receive_failing(trial, &mut replica, replies);
             drop(replica);
             outcome
         }

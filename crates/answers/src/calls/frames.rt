@@ -1,5 +1,5 @@
 // Frames, of which each request for memory is refused in turn.
-use crate::calls::sweep::{Failing, Outcome, begin_refusing, end_refusing, outcome_of};
+use crate::calls::sweep::{Outcome, Trial, outcome_of};
 use std::alloc::Global;
 use stn_refusing::Refusing;
 use stn_wire::{Fed, Feeder, Frame, WireFault, decode, encode};
@@ -8,15 +8,14 @@ use stn_wire::{Fed, Feeder, Frame, WireFault, decode, encode};
 const PIECE: usize = 7;
 
 // Appends a frame, and again where memory ran out, after which nothing was appended.
-fn append<'a>(
-    heap: &'a Refusing<Global>,
+fn append(
+    trial: &Trial<'_>,
     frame: &Frame<Global>,
-    out: &mut Vec<u8, &'a Refusing<Global>>,
-    failing: Failing,
+    out: &mut Vec<u8, &Refusing<Global>>,
 ) -> Outcome {
-    begin_refusing(heap, failing);
+    trial.begin();
     let answer = encode(frame, out);
-    let refused = end_refusing(heap, failing);
+    let refused = trial.end();
     let right = match answer {
         Ok(()) => true,
         Err(WireFault::Memory) => out.as_slice() == b"before".as_slice()
@@ -27,15 +26,10 @@ fn append<'a>(
 }
 
 /// Whether `encode` of the frame appends these bytes, and answers the refused request.
-pub fn encode_refused(
-    heap: &Refusing<Global>,
-    frame: &Frame<Global>,
-    bytes: &[u8],
-    failing: Failing,
-) -> Outcome {
-    let mut out = Vec::new(heap);
+pub fn encode_refused(trial: &Trial<'_>, frame: &Frame<Global>, bytes: &[u8]) -> Outcome {
+    let mut out = Vec::new(trial.heap);
     let begun = out.extend_from_slice(b"before").is_ok();
-    let outcome = append(heap, frame, &mut out, failing);
+    let outcome = append(trial, frame, &mut out);
     if begun && out.strip_prefix(b"before") == Some(bytes) {
         outcome
     } else {
@@ -72,15 +66,10 @@ fn is_spelled(
 }
 
 // Whether the bytes are one frame, which is renewed as the wanted bytes; or lack of memory.
-fn is_read(
-    alloc: Global,
-    heap: &Refusing<Global>,
-    bytes: &[u8],
-    wanted: &[u8],
-) -> Result<bool, WireFault> {
-    match decode(heap, bytes)? {
+fn is_read(trial: &Trial<'_>, bytes: &[u8], wanted: &[u8]) -> Result<bool, WireFault> {
+    match decode(trial.heap, bytes)? {
         Some((frame, length)) => {
-            let spelled = is_spelled(alloc, frame, wanted)?;
+            let spelled = is_spelled(trial.alloc, frame, wanted)?;
             Ok(spelled && length == bytes.len())
         }
         None => Ok(false),
@@ -88,19 +77,13 @@ fn is_read(
 }
 
 /// Whether `decode` reads what is written as the wanted bytes, and answers the refused request.
-pub fn decode_refused(
-    alloc: Global,
-    heap: &Refusing<Global>,
-    bytes: &[u8],
-    wanted: &[u8],
-    failing: Failing,
-) -> Outcome {
-    begin_refusing(heap, failing);
-    let answer = is_read(alloc, heap, bytes, wanted);
-    let refused = end_refusing(heap, failing);
+pub fn decode_refused(trial: &Trial<'_>, bytes: &[u8], wanted: &[u8]) -> Outcome {
+    trial.begin();
+    let answer = is_read(trial, bytes, wanted);
+    let refused = trial.end();
     let right = match answer {
         Ok(read) => read,
-        Err(WireFault::Memory) => refused && is_read(alloc, heap, bytes, wanted) == Ok(true),
+        Err(WireFault::Memory) => refused && is_read(trial, bytes, wanted) == Ok(true),
         Err(_) => false,
     };
     outcome_of(refused, right)
@@ -142,31 +125,24 @@ fn stream(
 
 // Whether a stream is read as it must be.
 fn is_fed(
-    heap: &Refusing<Global>,
+    trial: &Trial<'_>,
     feeder: &mut Feeder<&Refusing<Global>>,
     bytes: &[u8],
     spelled: &mut Vec<u8>,
-    failing: Failing,
 ) -> Outcome {
-    begin_refusing(heap, failing);
+    trial.begin();
     let again = stream(feeder, bytes, spelled);
-    let refused = end_refusing(heap, failing);
+    let refused = trial.end();
     let told = again == Ok(0) || refused && again == Ok(1);
     outcome_of(refused, told && !feeder.middle())
 }
 
 /// Whether `Feeder::feed` of frames, in pieces, reads what is written as the wanted bytes, and answers the refused request: after
 /// lack of memory no byte was taken, and the same piece goes on.
-pub fn feed_refused(
-    alloc: Global,
-    heap: &Refusing<Global>,
-    bytes: &[u8],
-    wanted: &[u8],
-    failing: Failing,
-) -> Outcome {
-    let mut feeder = Feeder::new(heap);
-    let mut spelled = Vec::new(alloc);
-    let outcome = is_fed(heap, &mut feeder, bytes, &mut spelled, failing);
+pub fn feed_refused(trial: &Trial<'_>, bytes: &[u8], wanted: &[u8]) -> Outcome {
+    let mut feeder = Feeder::new(trial.heap);
+    let mut spelled = Vec::new(trial.alloc);
+    let outcome = is_fed(trial, &mut feeder, bytes, &mut spelled);
     drop(feeder);
     if spelled.as_slice() == wanted {
         outcome

@@ -1,7 +1,5 @@
 // Logs and requests, of which each request for memory, each read and each write is refused in turn.
-use crate::calls::sweep::{
-    Failing, Kind, NOTHING, Outcome, begin_refusing, end_refusing, outcome_of, reader, writer,
-};
+use crate::calls::sweep::{Kind, Outcome, Trial, outcome_of};
 use std::alloc::Global;
 use stn_device::Counted;
 use stn_records::Site;
@@ -24,6 +22,14 @@ pub fn opened<'a>(
 pub enum Output {
     Log,
     Requests,
+}
+
+/// What a call writes of the replica that a log opens, and the bytes that are wanted of it.
+#[derive(Clone, Copy)]
+pub struct Task<'a> {
+    pub output: Output,
+    pub log: &'a [u8],
+    pub wanted: &'a [u8],
 }
 
 /// What a call that writes answers.
@@ -59,16 +65,14 @@ pub struct Writing {
 }
 
 fn written<'a>(
-    alloc: Global,
-    heap: &'a Refusing<Global>,
+    trial: &Trial<'a>,
     replica: &Replica<&'a Refusing<Global>>,
     output: Output,
-    failing: Failing,
 ) -> Writing {
-    let mut device = Counted::new(writer(alloc, failing));
+    let mut device = Counted::new(trial.writer());
     let answer = match output {
-        Output::Log => of_save(save(heap, replica, &mut device)),
-        Output::Requests => of_send(send_requests(heap, replica, &mut device)),
+        Output::Log => of_save(save(trial.heap, replica, &mut device)),
+        Output::Requests => of_send(send_requests(trial.heap, replica, &mut device)),
     };
     Writing {
         answer,
@@ -78,12 +82,8 @@ fn written<'a>(
 }
 
 /// The log of a replica: all that it holds.
-pub fn saved<'a>(
-    alloc: Global,
-    heap: &'a Refusing<Global>,
-    replica: &Replica<&'a Refusing<Global>>,
-) -> Writing {
-    written(alloc, heap, replica, Output::Log, NOTHING)
+pub fn saved<'a>(trial: &Trial<'a>, replica: &Replica<&'a Refusing<Global>>) -> Writing {
+    written(&trial.working(), replica, Output::Log)
 }
 
 // Whether all of this is written.
@@ -92,26 +92,18 @@ fn is_all(writing: &Writing, wanted: &[u8]) -> bool {
 }
 
 /// Whether this is the log of a replica.
-pub fn is_log<'a>(
-    alloc: Global,
-    heap: &'a Refusing<Global>,
-    replica: &Replica<&'a Refusing<Global>>,
-    log: &[u8],
-) -> bool {
-    is_all(&saved(alloc, heap, replica), log)
+pub fn is_log<'a>(trial: &Trial<'a>, replica: &Replica<&'a Refusing<Global>>, log: &[u8]) -> bool {
+    is_all(&saved(trial, replica), log)
 }
 
-// Whether all of this is written of a replica, and the replica is then that of the log.
+// Whether all that is wanted is written, and the replica is then that of the log.
 fn writes_then<'a>(
-    alloc: Global,
-    heap: &'a Refusing<Global>,
+    trial: &Trial<'a>,
     replica: &Replica<&'a Refusing<Global>>,
-    output: Output,
-    log: &[u8],
-    wanted: &[u8],
+    task: Task<'_>,
 ) -> bool {
-    let writing = written(alloc, heap, replica, output, NOTHING);
-    is_all(&writing, wanted) && is_log(alloc, heap, replica, log)
+    let writing = written(&trial.working(), replica, task.output);
+    is_all(&writing, task.wanted) && is_log(trial, replica, task.log)
 }
 
 // Of a refused request for memory nothing was written; of a failed write a part was.
@@ -125,34 +117,22 @@ fn is_written(writing: &Writing, wanted: &[u8], refused: bool) -> bool {
 
 // The same call then writes all, and the replica is as before.
 fn write_failing<'a>(
-    alloc: Global,
-    heap: &'a Refusing<Global>,
+    trial: &Trial<'a>,
     replica: &Replica<&'a Refusing<Global>>,
-    output: Output,
-    log: &[u8],
-    wanted: &[u8],
-    failing: Failing,
+    task: Task<'_>,
 ) -> Outcome {
-    begin_refusing(heap, failing);
-    let writing = written(alloc, heap, replica, output, failing);
-    let refused = end_refusing(heap, failing);
-    let right = is_written(&writing, wanted, refused)
-        && writes_then(alloc, heap, replica, output, log, wanted);
+    trial.begin();
+    let writing = written(trial, replica, task.output);
+    let refused = trial.end();
+    let right = is_written(&writing, task.wanted, refused) && writes_then(trial, replica, task);
     outcome_of(refused || writing.failed, right)
 }
 
-/// Whether of the replica that this log opens the wanted bytes are written, and the refused call is answered.
-pub fn write_refused(
-    alloc: Global,
-    heap: &Refusing<Global>,
-    output: Output,
-    log: &[u8],
-    wanted: &[u8],
-    failing: Failing,
-) -> Outcome {
-    match opened(heap, log) {
+/// Whether of the replica that the log opens the wanted bytes are written, and the refused call is answered.
+pub fn write_refused(trial: &Trial<'_>, task: Task<'_>) -> Outcome {
+    match opened(trial.heap, task.log) {
         Ok(replica) => {
-            let outcome = write_failing(alloc, heap, &replica, output, log, wanted, failing);
+            let outcome = write_failing(trial, &replica, task);
             drop(replica);
             outcome
         }
@@ -170,15 +150,14 @@ fn is_fault(fault: LoadFault, refused: Option<Kind>) -> bool {
 
 // Whether the answer is right, and the log is that of the replica.
 fn is_loaded<'a>(
-    alloc: Global,
-    heap: &'a Refusing<Global>,
+    trial: &Trial<'a>,
     answer: Result<Replica<&'a Refusing<Global>>, LoadFault>,
     log: &[u8],
     refused: Option<Kind>,
 ) -> bool {
     match answer {
         Ok(replica) => {
-            let right = is_log(alloc, heap, &replica, log);
+            let right = is_log(trial, &replica, log);
             drop(replica);
             right
         }
@@ -186,32 +165,24 @@ fn is_loaded<'a>(
     }
 }
 
-fn load_failing(
-    alloc: Global,
-    heap: &Refusing<Global>,
-    log: &[u8],
-    wanted: &[u8],
-    failing: Failing,
-) -> Outcome {
-    let mut input = Counted::new(reader(log, failing));
-    begin_refusing(heap, failing);
-    let answer = load(heap, &mut input, Site::new(1).unwrap());
-    let refused = end_refusing(heap, failing) || input.failures() > 0;
-    let kind = if refused { Some(failing.kind) } else { None };
-    outcome_of(refused, is_loaded(alloc, heap, answer, wanted, kind))
+fn load_failing(trial: &Trial<'_>, log: &[u8], wanted: &[u8]) -> Outcome {
+    let mut input = Counted::new(trial.reader(log));
+    trial.begin();
+    let answer = load(trial.heap, &mut input, Site::new(1).unwrap());
+    let refused = trial.end() || input.failures() > 0;
+    let kind = if refused {
+        Some(trial.failing.kind)
+    } else {
+        None
+    };
+    outcome_of(refused, is_loaded(trial, answer, wanted, kind))
 }
 
 /// Whether `load` of this log opens a replica that saves the wanted log, and answers the refused call. The same call, over the
 /// same log, then opens the replica.
-pub fn load_refused(
-    alloc: Global,
-    heap: &Refusing<Global>,
-    log: &[u8],
-    wanted: &[u8],
-    failing: Failing,
-) -> Outcome {
-    let outcome = load_failing(alloc, heap, log, wanted, failing);
-    if load_failing(alloc, heap, log, wanted, NOTHING) == Outcome::Right {
+pub fn load_refused(trial: &Trial<'_>, log: &[u8], wanted: &[u8]) -> Outcome {
+    let outcome = load_failing(trial, log, wanted);
+    if load_failing(&trial.working(), log, wanted) == Outcome::Right {
         outcome
     } else {
         Outcome::Wrong

@@ -21,6 +21,7 @@ mod trials;
 mod words;
 
 use crate::calls::exchanges::Replies;
+use crate::calls::logs::{Output, Task};
 use crate::calls::sessions::{Talk, add_stages, end_of};
 use crate::calls::trials::{Call, Refused, asks, encodes, reads, serves, writes};
 use crate::calls::words::{frames_of, joined};
@@ -73,6 +74,16 @@ fn sweep_replies(alloc: Global, log: &[u8], rest: &[Vec<u8>]) -> io::Result<Opti
     Ok(reads(alloc, Call::Receive(replies)))
 }
 
+// A call that writes of the replica that the log opens.
+fn sweep_output(alloc: Global, output: Output, log: &[u8], wanted: &[u8]) -> Option<Refused> {
+    let task = Task {
+        output,
+        log,
+        wanted,
+    };
+    writes(alloc, Call::Write(task))
+}
+
 // A call that works on a log and frames.
 fn sweep_exchange(
     rt: &HostRuntime,
@@ -83,7 +94,7 @@ fn sweep_exchange(
     let bytes = joined(rt.alloc(), frames)?;
     match call {
         "serve" => sweep_session(rt, log, frames, &bytes),
-        "ask" => Ok(writes(rt.alloc(), Call::Ask(log, &bytes))),
+        "ask" => Ok(sweep_output(rt.alloc(), Output::Requests, log, &bytes)),
         "receive" => sweep_replies(rt.alloc(), log, frames),
         _ => Ok(None),
     }
@@ -102,7 +113,7 @@ fn sweep_bytes(
         "encode" => Ok(encodes(alloc, bytes)),
         "decode" => Ok(asks(alloc, Call::Decode(bytes, wanted))),
         "feed" => Ok(asks(alloc, Call::Feed(bytes, wanted))),
-        "save" => Ok(writes(alloc, Call::Save(bytes))),
+        "save" => Ok(sweep_output(alloc, Output::Log, bytes, bytes)),
         "load" => Ok(reads(alloc, Call::Load(bytes, wanted))),
         _ => match words.split_first() {
             Some((log, frames)) => sweep_exchange(rt, call, log, frames),

@@ -1,8 +1,6 @@
 // Sessions, of which each request for memory, each read and each write is refused in turn.
 use crate::calls::logs::{Answer, Writing, opened, saved};
-use crate::calls::sweep::{
-    Failing, Kind, NOTHING, Outcome, begin_refusing, end_refusing, outcome_of, reader, writer,
-};
+use crate::calls::sweep::{Failing, Kind, NOTHING, Outcome, Trial, outcome_of};
 use crate::calls::words::whole_frames;
 use std::alloc::Global;
 use stn_device::Counted;
@@ -36,49 +34,39 @@ pub struct Talk<'a> {
 }
 
 fn served<'a>(
-    alloc: Global,
-    heap: &'a Refusing<Global>,
+    trial: &Trial<'a>,
     replica: &mut Replica<&'a Refusing<Global>>,
     bytes: &[u8],
-    failing: Failing,
 ) -> Serving {
-    let mut input = Counted::new(reader(bytes, failing));
-    let mut output = Counted::new(writer(alloc, failing));
-    begin_refusing(heap, failing);
-    let answer = serve(heap, &mut input, &mut output, replica);
+    let mut input = Counted::new(trial.reader(bytes));
+    let mut output = Counted::new(trial.writer());
+    trial.begin();
+    let answer = serve(trial.heap, &mut input, &mut output, replica);
     Serving {
         answer,
-        refused: end_refusing(heap, failing),
+        refused: trial.end(),
         failed: input.failures() > 0 || output.failures() > 0,
         replies: output.into_inner().held,
     }
 }
 
 fn stage_of<'a>(
-    alloc: Global,
-    heap: &'a Refusing<Global>,
+    trial: &Trial<'a>,
     replica: &mut Replica<&'a Refusing<Global>>,
     bytes: &[u8],
-    failing: Failing,
 ) -> Stage {
-    let serving = served(alloc, heap, replica, bytes, failing);
+    let serving = served(trial, replica, bytes);
     Stage {
         serving,
-        log: saved(alloc, heap, replica),
+        log: saved(trial, replica),
     }
 }
 
 // Where the session of the replica that the log opens stands after these bytes.
-fn stage_after(
-    alloc: Global,
-    heap: &Refusing<Global>,
-    log: &[u8],
-    bytes: &[u8],
-    failing: Failing,
-) -> Option<Stage> {
-    match opened(heap, log) {
+fn stage_after(trial: &Trial<'_>, log: &[u8], bytes: &[u8]) -> Option<Stage> {
+    match opened(trial.heap, log) {
         Ok(mut replica) => {
-            let stage = stage_of(alloc, heap, &mut replica, bytes, failing);
+            let stage = stage_of(trial, &mut replica, bytes);
             drop(replica);
             Some(stage)
         }
@@ -88,7 +76,12 @@ fn stage_after(
 
 fn add_stage(alloc: Global, log: &[u8], bytes: &[u8], stages: &mut Vec<Stage>) -> bool {
     let heap = Refusing::new(alloc, 0);
-    match stage_after(alloc, &heap, log, bytes, NOTHING) {
+    let trial = Trial {
+        alloc,
+        heap: &heap,
+        failing: NOTHING,
+    };
+    match stage_after(&trial, log, bytes) {
         Some(stage) => stages.push(stage).is_ok(),
         None => false,
     }
@@ -187,14 +180,9 @@ fn outcome_at(talk: Talk, stage: &Stage, failing: Failing) -> Outcome {
 
 /// Whether the session answers the refused call: the fault is that of the call, and the replica holds what it held after the
 /// frames that were answered, or after one more; where a read failed, just the former.
-pub fn serve_refused(
-    alloc: Global,
-    heap: &Refusing<Global>,
-    talk: Talk,
-    failing: Failing,
-) -> Outcome {
-    match stage_after(alloc, heap, talk.log, talk.bytes, failing) {
-        Some(stage) => outcome_at(talk, &stage, failing),
+pub fn serve_refused(trial: &Trial<'_>, talk: Talk) -> Outcome {
+    match stage_after(trial, talk.log, talk.bytes) {
+        Some(stage) => outcome_at(talk, &stage, trial.failing),
         None => Outcome::Wrong,
     }
 }

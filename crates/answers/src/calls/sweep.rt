@@ -37,26 +37,6 @@ impl Failing {
     }
 }
 
-/// A reader that hands on one byte a call.
-pub fn reader(bytes: &[u8], failing: Failing) -> PieceReader<'_> {
-    PieceReader {
-        rest: bytes,
-        piece: 1,
-        calls: 0,
-        fails_at: failing.number_of(Kind::Read),
-    }
-}
-
-/// A writer that takes seven bytes a call.
-pub fn writer(alloc: Global, failing: Failing) -> PieceWriter {
-    PieceWriter {
-        held: Vec::new(alloc),
-        piece: if failing.kind == Kind::EachByte { 0 } else { 7 },
-        calls: 0,
-        fails_at: failing.number_of(Kind::Write),
-    }
-}
-
 /// What came of a call.
 #[derive(Clone, Copy, PartialEq)]
 pub enum Outcome {
@@ -76,14 +56,54 @@ pub fn outcome_of(refused: bool, right: bool) -> Outcome {
     }
 }
 
-/// Refuses the request for memory of this number, counted from here on.
-pub fn begin_refusing(heap: &Refusing<Global>, failing: Failing) {
-    heap.refuse(failing.number_of(Kind::Memory));
+/// Where a call is made of which one request for memory, one read or one write is refused.
+#[derive(Clone, Copy)]
+pub struct Trial<'a> {
+    pub alloc: Global,
+    pub heap: &'a Refusing<Global>,
+    pub failing: Failing,
 }
 
-/// Whether a request for memory was refused. From here on none is.
-pub fn end_refusing(heap: &Refusing<Global>, failing: Failing) -> bool {
-    let refused = failing.kind == Kind::Memory && !heap.is_waiting();
-    heap.refuse(0);
-    refused
+impl<'a> Trial<'a> {
+    /// The same where nothing is refused.
+    pub fn working(&self) -> Trial<'a> {
+        Trial {
+            alloc: self.alloc,
+            heap: self.heap,
+            failing: NOTHING,
+        }
+    }
+
+    /// A reader that hands on one byte a call.
+    pub fn reader<'b>(&self, bytes: &'b [u8]) -> PieceReader<'b> {
+        PieceReader {
+            rest: bytes,
+            piece: 1,
+            calls: 0,
+            fails_at: self.failing.number_of(Kind::Read),
+        }
+    }
+
+    /// A writer that takes seven bytes a call.
+    pub fn writer(&self) -> PieceWriter {
+        let stuck = self.failing.kind == Kind::EachByte;
+        PieceWriter {
+            held: Vec::new(self.alloc),
+            piece: if stuck { 0 } else { 7 },
+            calls: 0,
+            fails_at: self.failing.number_of(Kind::Write),
+        }
+    }
+
+    /// Refuses the request for memory of its number, counted from here on.
+    pub fn begin(&self) {
+        self.heap.refuse(self.failing.number_of(Kind::Memory));
+    }
+
+    /// Whether a request for memory was refused. From here on none is.
+    pub fn end(&self) -> bool {
+        let refused = self.failing.kind == Kind::Memory && !self.heap.is_waiting();
+        self.heap.refuse(0);
+        refused
+    }
 }

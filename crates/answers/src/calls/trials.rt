@@ -1,9 +1,9 @@
 // Calls, of which each request for memory, each read and each write is refused in turn.
 use crate::calls::exchanges::{Replies, receive_refused};
 use crate::calls::frames::{decode_refused, encode_refused, feed_refused};
-use crate::calls::logs::{Output, load_refused, write_refused};
+use crate::calls::logs::{Task, load_refused, write_refused};
 use crate::calls::sessions::{Talk, serve_refused};
-use crate::calls::sweep::{EACH_BYTE, Failing, Kind, Outcome};
+use crate::calls::sweep::{EACH_BYTE, Failing, Kind, Outcome, Trial};
 use std::alloc::Global;
 use stn_refusing::Refusing;
 use stn_wire::{Frame, decode};
@@ -22,37 +22,35 @@ pub enum Call<'a> {
     Feed(&'a [u8], &'a [u8]),
     /// `serve`.
     Serve(Talk<'a>),
-    /// `send_requests` of the replica that the log opens, as these bytes.
-    Ask(&'a [u8], &'a [u8]),
+    /// `save` or `send_requests`.
+    Write(Task<'a>),
     /// `receive_replies`.
     Receive(Replies<'a>),
-    /// `save` of the replica that the log opens.
-    Save(&'a [u8]),
     /// `load` of a log, saved again as the other log.
     Load(&'a [u8], &'a [u8]),
 }
 
 // What comes of a call. The allocator refuses nothing yet.
-fn outcome_with(alloc: Global, heap: &Refusing<Global>, call: Call, failing: Failing) -> Outcome {
+fn outcome_with(trial: &Trial<'_>, call: Call) -> Outcome {
     match call {
-        Call::Encode(frame, bytes) => encode_refused(heap, frame, bytes, failing),
-        Call::Decode(bytes, wanted) => decode_refused(alloc, heap, bytes, wanted, failing),
-        Call::Feed(bytes, wanted) => feed_refused(alloc, heap, bytes, wanted, failing),
-        Call::Serve(talk) => serve_refused(alloc, heap, talk, failing),
-        Call::Ask(log, requests) => {
-            write_refused(alloc, heap, Output::Requests, log, requests, failing)
-        }
-        Call::Receive(replies) => receive_refused(alloc, heap, replies, failing),
-        Call::Save(log) => write_refused(alloc, heap, Output::Log, log, log, failing),
-        Call::Load(log, wanted) => load_refused(alloc, heap, log, wanted, failing),
+        Call::Encode(frame, bytes) => encode_refused(trial, frame, bytes),
+        Call::Decode(bytes, wanted) => decode_refused(trial, bytes, wanted),
+        Call::Feed(bytes, wanted) => feed_refused(trial, bytes, wanted),
+        Call::Serve(talk) => serve_refused(trial, talk),
+        Call::Write(task) => write_refused(trial, task),
+        Call::Receive(replies) => receive_refused(trial, replies),
+        Call::Load(log, wanted) => load_refused(trial, log, wanted),
     }
 }
 
 fn outcome_of_call(alloc: Global, call: Call, failing: Failing) -> Outcome {
     let heap = Refusing::new(alloc, 0);
-    let outcome = outcome_with(alloc, &heap, call, failing);
-    drop(heap);
-    outcome
+    let trial = Trial {
+        alloc,
+        heap: &heap,
+        failing,
+    };
+    outcome_with(&trial, call)
 }
 
 /// How many requests for memory, reads and writes of a call were refused in turn, each of which was answered as it must be.

@@ -22,92 +22,83 @@ fn case_of(alloc: Global, kind: Kind, bytes: &[u8]) -> Case {
     }
 }
 
-// Counts what the bytes are, and adds its line to the digest.
-fn count_case(
-    alloc: Global,
+// How often each case came, and the digest of their lines.
+#[derive(Drop)]
+struct Count {
     kind: Kind,
-    bytes: &[u8],
-    tally: &mut Tally,
-    lines: &mut Md5,
-) -> Result<(), AllocError> {
-    let case = case_of(alloc, kind, bytes);
-    let line = format!(in alloc; "{case}\n")?;
-    tally.count(case);
-    lines.update(line.as_bytes());
-    Ok(())
+    tally: Tally,
+    lines: Md5,
 }
 
-// The bytes cut to each length from 0 on.
-fn count_cut(
-    alloc: Global,
-    kind: Kind,
-    bytes: &[u8],
-    tally: &mut Tally,
-    lines: &mut Md5,
-) -> Result<(), AllocError> {
-    for length in 0..=bytes.len() {
-        count_case(alloc, kind, &bytes[..length], tally, lines)?;
+impl Count {
+    // Counts what the bytes are.
+    fn add(&mut self, alloc: Global, bytes: &[u8]) -> Result<(), AllocError> {
+        let case = case_of(alloc, self.kind, bytes);
+        let line = format!(in alloc; "{case}\n")?;
+        self.tally.count(case);
+        self.lines.update(line.as_bytes());
+        Ok(())
     }
-    Ok(())
-}
 
-// The bytes where the byte at a place is each value.
-fn count_values(
-    kind: Kind,
-    bytes: &mut Vec<u8>,
-    place: usize,
-    tally: &mut Tally,
-    lines: &mut Md5,
-) -> Result<(), AllocError> {
-    let alloc = *bytes.allocator();
-    for value in 0..=255u8 {
-        if let Some(byte) = bytes.get_mut(place) {
-            *byte = value;
+    // The bytes cut to each length from 0 on.
+    fn add_cut(&mut self, alloc: Global, bytes: &[u8]) -> Result<(), AllocError> {
+        for length in 0..=bytes.len() {
+            self.add(alloc, &bytes[..length])?;
         }
-        count_case(alloc, kind, bytes, tally, lines)?;
+        Ok(())
     }
-    Ok(())
-}
 
-fn count_at(
-    alloc: Global,
-    kind: Kind,
-    bytes: &[u8],
-    place: usize,
-    tally: &mut Tally,
-    lines: &mut Md5,
-) -> Result<(), AllocError> {
-    let mut changed = Vec::from_slice(alloc, bytes)?;
-    count_values(kind, &mut changed, place, tally, lines)
-}
-
-// The bytes where each byte is each value.
-fn count_changed(
-    alloc: Global,
-    kind: Kind,
-    bytes: &[u8],
-    tally: &mut Tally,
-    lines: &mut Md5,
-) -> Result<(), AllocError> {
-    for place in 0..bytes.len() {
-        count_at(alloc, kind, bytes, place, tally, lines)?;
+    // The bytes where the byte at a place is each value.
+    fn add_values(&mut self, bytes: &mut Vec<u8>, place: usize) -> Result<(), AllocError> {
+        let alloc = *bytes.allocator();
+        for value in 0..=255u8 {
+            if let Some(byte) = bytes.get_mut(place) {
+                *byte = value;
+            }
+            self.add(alloc, bytes)?;
+        }
+        Ok(())
     }
-    Ok(())
+
+    fn add_at(&mut self, alloc: Global, bytes: &[u8], place: usize) -> Result<(), AllocError> {
+        let mut changed = Vec::from_slice(alloc, bytes)?;
+        self.add_values(&mut changed, place)
+    }
+
+    // The bytes where each byte is each value.
+    fn add_changed(&mut self, alloc: Global, bytes: &[u8]) -> Result<(), AllocError> {
+        for place in 0..bytes.len() {
+            self.add_at(alloc, bytes, place)?;
+        }
+        Ok(())
+    }
+
+    fn add_all(&mut self, alloc: Global, bytes: &[u8]) -> Result<(), AllocError> {
+        self.add_cut(alloc, bytes)?;
+        self.add_changed(alloc, bytes)
+    }
 }
 
-// Prints how often each case came, and the digest of their lines.
-fn print_counted(rt: &HostRuntime, name: &str, tally: &Tally, lines: Md5) -> io::Result<()> {
+// Prints what was counted.
+fn print_count(rt: &HostRuntime, name: &str, count: Count) -> io::Result<()> {
+    let Count {
+        kind: _,
+        tally,
+        lines,
+    } = count;
     print!(rt; "{name}: ")?;
-    print_tally(rt, tally)?;
+    print_tally(rt, &tally)?;
     let digest = hex::encode(rt.alloc(), lines.finalize())?;
     println!(rt; ", digest {digest}")
 }
 
 /// Prints what becomes of the bytes cut to each length from 0 on, and where each byte is each value.
 pub fn print_cases(rt: &HostRuntime, name: &str, kind: Kind, bytes: &[u8]) -> io::Result<()> {
-    let mut tally = NONE;
-    let mut lines = Md5::new();
-    count_cut(rt.alloc(), kind, bytes, &mut tally, &mut lines)?;
-    count_changed(rt.alloc(), kind, bytes, &mut tally, &mut lines)?;
-    print_counted(rt, name, &tally, lines)
+    let mut count = Count {
+        kind,
+        tally: NONE,
+        lines: Md5::new(),
+    };
+    count.add_all(rt.alloc(), bytes)?;
+    print_count(rt, name, count)
 }

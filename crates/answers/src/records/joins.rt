@@ -1,9 +1,7 @@
-use crate::records::print::{
-    Said, append_entry, append_id, append_record, append_said, said_of_join,
-};
+use crate::records::print::{Said, Shown, append_all, append_said, said_of_join};
 use crate::records::questions::append_new;
 use std::alloc::Global;
-use stn_records::{Additions, Amendments, Id, Join, Record, Records, State, Tombstones};
+use stn_records::{IdMap, Join, MapValue, Records, State};
 use stn_time::Memory;
 
 // What both sites hold, as a new value.
@@ -18,27 +16,6 @@ fn append_joined(
     }
 }
 
-fn append_additions(all: &[(Id, Record)], out: &mut Vec<u8>) -> Result<(), Memory> {
-    for &(id, record) in all {
-        append_record(id, record, out)?;
-    }
-    Ok(())
-}
-
-fn append_tombstones(all: &[(Id, ())], out: &mut Vec<u8>) -> Result<(), Memory> {
-    for &(id, _) in all {
-        append_id(id, out)?;
-    }
-    Ok(())
-}
-
-fn append_amendments(all: &[(Id, Id)], out: &mut Vec<u8>) -> Result<(), Memory> {
-    for &entry in all {
-        append_entry(entry, out)?;
-    }
-    Ok(())
-}
-
 // Takes in what each site holds, one after the other.
 fn take_both<T: Join>(all: &mut T, ours: &T, theirs: &T) -> Said {
     match all.take(ours) {
@@ -47,49 +24,27 @@ fn take_both<T: Join>(all: &mut T, ours: &T, theirs: &T) -> Said {
     }
 }
 
-// The additions of both, taken one after the other by none.
-fn join_additions(
-    ours: &State<Global>,
-    theirs: &State<Global>,
+// What two maps have, taken one after the other by none.
+fn join_maps<X: MapValue + Shown>(
+    ours: &IdMap<X, Global>,
+    theirs: &IdMap<X, Global>,
     out: &mut Vec<u8>,
 ) -> Result<(), Memory> {
-    let mut all = Additions::new(*out.allocator());
-    let said = take_both(&mut all, ours.additions(), theirs.additions());
+    let mut all = IdMap::new(*out.allocator());
+    let said = take_both(&mut all, ours, theirs);
     append_said(&said, out)?;
-    append_additions(all.entries(), out)
-}
-
-fn join_tombstones(
-    ours: &State<Global>,
-    theirs: &State<Global>,
-    out: &mut Vec<u8>,
-) -> Result<(), Memory> {
-    let mut all = Tombstones::new(*out.allocator());
-    let said = take_both(&mut all, ours.tombstones(), theirs.tombstones());
-    append_said(&said, out)?;
-    append_tombstones(all.entries(), out)
-}
-
-fn join_amendments(
-    ours: &State<Global>,
-    theirs: &State<Global>,
-    out: &mut Vec<u8>,
-) -> Result<(), Memory> {
-    let mut all = Amendments::new(*out.allocator());
-    let said = take_both(&mut all, ours.replacements(), theirs.replacements());
-    append_said(&said, out)?;
-    append_amendments(all.entries(), out)
+    append_all(all.entries(), out)
 }
 
 fn append_state(said: &Said, all: &State<Global>, out: &mut Vec<u8>) -> Result<(), Memory> {
     append_said(said, out)?;
-    append_additions(all.additions().entries(), out)?;
+    append_all(all.additions().entries(), out)?;
     out.extend_from_slice(b" -")?;
-    append_tombstones(all.tombstones().entries(), out)?;
+    append_all(all.tombstones().entries(), out)?;
     if !all.replacements().entries().is_empty() {
         out.extend_from_slice(b" -")?;
     }
-    append_amendments(all.replacements().entries(), out)
+    append_all(all.replacements().entries(), out)
 }
 
 fn join_states(
@@ -111,12 +66,13 @@ pub fn append_join(
     theirs: &Records<Global>,
     out: &mut Vec<u8>,
 ) -> Result<(), Memory> {
+    let (one, other) = (ours.state(), theirs.state());
     match call {
         "join" => append_joined(ours, theirs, out),
-        "join_additions" => join_additions(ours.state(), theirs.state(), out),
-        "join_tombstones" => join_tombstones(ours.state(), theirs.state(), out),
-        "join_amendments" => join_amendments(ours.state(), theirs.state(), out),
-        "join_states" => join_states(ours.state(), theirs.state(), out),
+        "join_additions" => join_maps(one.additions(), other.additions(), out),
+        "join_tombstones" => join_maps(one.tombstones(), other.tombstones(), out),
+        "join_amendments" => join_maps(one.replacements(), other.replacements(), out),
+        "join_states" => join_states(one, other, out),
         _ => out.extend_from_slice(b"no such call"),
     }
 }

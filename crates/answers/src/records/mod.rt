@@ -28,48 +28,6 @@ fn ask(
     }
 }
 
-fn begin_again(site: &mut Records<Global>, alloc: Global) {
-    *site = Records::new(alloc);
-}
-
-// Appends a line, after which both sites begin again.
-fn append_heading(
-    a: &mut Records<Global>,
-    b: &mut Records<Global>,
-    line: &str,
-    out: &mut Vec<u8>,
-) -> Result<(), Memory> {
-    begin_again(a, *out.allocator());
-    begin_again(b, *out.allocator());
-    out.extend_from_slice(line.as_bytes())
-}
-
-// Appends the answer to a line; a line that names no site is its own answer.
-fn append_answer(
-    a: &mut Records<Global>,
-    b: &mut Records<Global>,
-    line: &str,
-    out: &mut Vec<u8>,
-) -> Result<(), Memory> {
-    let mut words = line.split_whitespace();
-    match words::next_word(&mut words) {
-        "a" => ask(a, b, &mut words, out),
-        "b" => ask(b, a, &mut words, out),
-        _ => append_heading(a, b, line, out),
-    }
-}
-
-fn append_line(
-    a: &mut Records<Global>,
-    b: &mut Records<Global>,
-    line: &str,
-    out: &mut Vec<u8>,
-) -> Result<(), Memory> {
-    append_answer(a, b, line, out)?;
-    out.push(b'\n')?;
-    Ok(())
-}
-
 /// The records of two sites.
 #[derive(Drop)]
 pub struct Sites {
@@ -85,11 +43,33 @@ impl Sites {
             b: Records::new(alloc),
         }
     }
+
+    // Appends a line, after which both sites begin again.
+    fn append_heading(&mut self, line: &str, out: &mut Vec<u8>) -> Result<(), Memory> {
+        *self = Sites::new(*out.allocator());
+        out.extend_from_slice(line.as_bytes())
+    }
+
+    // Appends the answer to a line; a line that names no site is its own answer.
+    fn append_answer(&mut self, line: &str, out: &mut Vec<u8>) -> Result<(), Memory> {
+        let mut words = line.split_whitespace();
+        match words::next_word(&mut words) {
+            "a" => ask(&mut self.a, &self.b, &mut words, out),
+            "b" => ask(&mut self.b, &self.a, &mut words, out),
+            _ => self.append_heading(line, out),
+        }
+    }
+
+    fn append_line(&mut self, line: &str, out: &mut Vec<u8>) -> Result<(), Memory> {
+        self.append_answer(line, out)?;
+        out.push(b'\n')?;
+        Ok(())
+    }
 }
 
 /// Prints the answer to a line.
 pub fn answer(rt: &HostRuntime, sites: &mut Sites, line: &str) -> io::Result<()> {
     let mut out = Vec::new(rt.alloc());
-    append_line(&mut sites.a, &mut sites.b, line, &mut out)?;
+    sites.append_line(line, &mut out)?;
     io::writer(rt).write_all(&out)
 }

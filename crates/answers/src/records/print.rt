@@ -24,18 +24,42 @@ fn word_of_mark(mark: Mark) -> &'static [u8] {
     }
 }
 
-// A record as its id and its bound; `done` where it says that the event was run.
-pub fn append_record(id: Id, record: Record, out: &mut Vec<u8>) -> Result<(), Memory> {
-    append_id(id, out)?;
-    append_bound(record.bound, out)?;
-    out.extend_from_slice(word_of_mark(record.mark))
+/// What a map has of an id.
+pub trait Shown: Copy {
+    /// Appends it, after the id.
+    fn append(self, id: Id, out: &mut Vec<u8>) -> Result<(), Memory>;
 }
 
-// An entry of an amendment: the id of the new record, and the id that it replaces.
-pub fn append_entry(entry: (Id, Id), out: &mut Vec<u8>) -> Result<(), Memory> {
-    let (id, old) = entry;
-    append_id(id, out)?;
-    append_id(old, out)
+// A record as its bound; `done` where it says that the event was run.
+impl Shown for Record {
+    fn append(self, id: Id, out: &mut Vec<u8>) -> Result<(), Memory> {
+        append_id(id, out)?;
+        append_bound(self.bound, out)?;
+        out.extend_from_slice(word_of_mark(self.mark))
+    }
+}
+
+// The id that a new record replaces.
+impl Shown for Id {
+    fn append(self, id: Id, out: &mut Vec<u8>) -> Result<(), Memory> {
+        append_id(id, out)?;
+        append_id(self, out)
+    }
+}
+
+// A withdrawn or replaced id has nothing more.
+impl Shown for () {
+    fn append(self, id: Id, out: &mut Vec<u8>) -> Result<(), Memory> {
+        append_id(id, out)
+    }
+}
+
+/// Appends all that a map has.
+pub fn append_all<X: Shown>(all: &[(Id, X)], out: &mut Vec<u8>) -> Result<(), Memory> {
+    for &(id, value) in all {
+        value.append(id, out)?;
+    }
+    Ok(())
 }
 
 pub fn append_number(number: usize, out: &mut Vec<u8>) -> Result<(), Memory> {

@@ -1,5 +1,5 @@
 use crate::records::joins::append_join;
-use crate::records::print::{append_entry, append_id, append_number, append_record};
+use crate::records::print::{Shown, append_all, append_id, append_number};
 use crate::records::words::{next_id, next_place, next_site};
 use std::alloc::Global;
 use std::str::SplitWhitespace;
@@ -11,7 +11,7 @@ use stn_time::Memory;
 fn append_records(records: &Records<Global>, out: &mut Vec<u8>) -> Result<(), Memory> {
     for place in 0..=records.known() {
         if let Some((id, mark, bound)) = records.record_at(place) {
-            append_record(id, Record { mark, bound }, out)?;
+            Record { mark, bound }.append(id, out)?;
         }
     }
     Ok(())
@@ -31,11 +31,11 @@ fn append_withdrawn(records: &Records<Global>, out: &mut Vec<u8>) -> Result<(), 
 // After a dash the entries of amendments, where there are any.
 fn append_entries(records: &Records<Global>, out: &mut Vec<u8>) -> Result<(), Memory> {
     for place in 0..=records.known() {
-        if let Some(entry) = records.entry_at(place) {
+        if let Some((id, old)) = records.entry_at(place) {
             if place == 0 {
                 out.extend_from_slice(b" -")?;
             }
-            append_entry(entry, out)?;
+            old.append(id, out)?;
         }
     }
     Ok(())
@@ -58,10 +58,7 @@ pub fn append_new(records: Records<Global>, out: &mut Vec<u8>) -> Result<(), Mem
 
 fn append_replaced(replaced: &[(Id, ())], out: &mut Vec<u8>) -> Result<(), Memory> {
     out.extend_from_slice(b"replaced")?;
-    for &(id, _) in replaced {
-        append_id(id, out)?;
-    }
-    Ok(())
+    append_all(replaced, out)
 }
 
 fn next_entry(records: &Records<Global>, words: &mut SplitWhitespace<'_>) -> Option<(Id, Id)> {
@@ -72,7 +69,7 @@ fn next_entry(records: &Records<Global>, words: &mut SplitWhitespace<'_>) -> Opt
 fn append_entry_at(entry: Option<(Id, Id)>, out: &mut Vec<u8>) -> Result<(), Memory> {
     out.extend_from_slice(b"entry")?;
     match entry {
-        Some(entry) => append_entry(entry, out),
+        Some((id, old)) => old.append(id, out),
         None => out.extend_from_slice(b" none"),
     }
 }
@@ -80,7 +77,7 @@ fn append_entry_at(entry: Option<(Id, Id)>, out: &mut Vec<u8>) -> Result<(), Mem
 fn append_listed(live: &[(Id, Mark, Bound)], out: &mut Vec<u8>) -> Result<(), Memory> {
     out.extend_from_slice(b"live")?;
     for &(id, mark, bound) in live {
-        append_record(id, Record { mark, bound }, out)?;
+        Record { mark, bound }.append(id, out)?;
     }
     Ok(())
 }

@@ -36,9 +36,7 @@ fn serve_anew<R: Read, W: Write>(
     requires writer_counts { failure_count writer.old < 2 ^ 64 - 1 }
 {
     let mut replica = new_replica(alloc, Site::new(1).unwrap())?;
-    let served = serve(alloc, reader, writer, &mut replica);
-    drop(replica);
-    served
+    serve(alloc, reader, writer, &mut replica)
 }
 
 fn word_of_end(end: End) -> (&'static str, u8) {
