@@ -5,7 +5,7 @@ use std::process::Abort;
 use std::rc::Rc;
 use stn_command::{Choice, Outlook, Query, say};
 use stn_lift::{Base, Source};
-use stn_loosen::{LoosenFault, RobustFault, Tolerance, loosened_site_plan, robust_site_plan};
+use stn_loosen::{LoosenFault, Tolerance, loosened_site_plan, robust_site_plan};
 use stn_net::Event;
 use stn_questions::Question;
 use stn_records::Site;
@@ -212,14 +212,14 @@ fn loosened_plans(rt: HostRuntime) {
 }
 
 // Whether a site's copy holds the durations of both steps and when each may start at the latest, or memory was lacking.
-fn is_robust(robust: Result<SitePlan<&Refusing<Global>>, RobustFault>) -> (bool, bool) {
+fn is_robust(robust: Result<SitePlan<&Refusing<Global>>, LoosenFault>) -> (bool, bool) {
     match robust {
         Ok(copy) => {
             let right = copy.records().known() == 4;
             drop(copy);
             (right, false)
         }
-        Err(fault) => (false, fault == RobustFault::Memory),
+        Err(fault) => (false, fault == LoosenFault::Memory),
     }
 }
 

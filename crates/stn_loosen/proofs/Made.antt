@@ -8,7 +8,7 @@ use Rattle.stn_net.specs.Matrix.Table.{Table}
 use Rattle.stn_records.specs.Content.{most_known}
 use Rattle.stn_replica.proofs.Schedules.{schedule_before, met_behind, schedule_with}
 use Rattle.stn_loosen.specs.{Slack.Slack, Slack.loose, Loosened.Imply, Loosened.AreKept, Making.all_bounds, Making.AreTaken, Making.IsNext, Making.IsCauseOf, Making.IsCauseWith, declared.fault.LoosenFault.LoosenFault}
-use Rattle.stn_loosen.specs.declared.fault.LoosenFault.TheVariants.{Full, Memory}
+use Rattle.stn_loosen.specs.declared.fault.LoosenFault.TheVariants.{Full, NotRobust, Memory}
 use Rattle.stn_loosen.proofs.Kept.{AreKept-push, kept_hold}
 
 -- with a schedule of records and more, the records have one
@@ -109,4 +109,5 @@ module _ (old orders : List Difference) (first : Table) (place : ℕ) (records :
             (push.1 (λ implied. p.0 (subst (λ l. Imply l order) (sym whole) implied)));
         many = omega (arith, p.1, ap length sofar.made, length-append old sofar.kept, length-append sofar.kept (order ∷ []), length-append old (sofar.kept ++ order ∷ []));
       }
+  order_refused NotRobust none = none
   order_refused Memory p = tt

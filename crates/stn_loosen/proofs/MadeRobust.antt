@@ -4,8 +4,8 @@ use Rattle.std.proofs.Common.{◌≡◌, ℕ, List, ◌++◌, length, take, drop
 use Rattle.std.proofs.{lemmas.List.take_at, lemmas.List.drop_at, lemmas.List.length-map, lemmas.List.Elements.All-from_recursion}
 use Rattle.stn_net.specs.{Difference.Difference, Difference.NamesEvents, Horizon.horizon_bounds, Schedule.HasSchedule}
 use Rattle.stn_lift.specs.PlanSource.{PlanSource, events_of, IsSoundSource}
-use Rattle.stn_loosen.specs.{declared.fault.RobustFault.RobustFault, Slack.Slack, Slack.IsSlack, Slack.loose, Moved.moved_bounds, Robust.loose_bounds, Robust.HasPromise, Making.all_bounds, Stepped.AreSteps, Stepped.AreMadeBehind, Stepped.IsCauseBehind, Whole.IsMadeRobust, Whole.IsCauseAfter}
-use Rattle.stn_loosen.specs.declared.fault.RobustFault.TheVariants.{Full, NotRobust, Memory}
+use Rattle.stn_loosen.specs.{declared.fault.LoosenFault.LoosenFault, Slack.Slack, Slack.IsSlack, Slack.loose, Moved.moved_bounds, Robust.loose_bounds, Robust.HasPromise, Making.all_bounds, Stepped.AreSteps, Stepped.AreMadeBehind, Stepped.IsCauseBehind, Whole.IsMadeRobust, Whole.IsCauseAfter}
+use Rattle.stn_loosen.specs.declared.fault.LoosenFault.TheVariants.{Full, NotRobust, Memory}
 use Rattle.stn_loosen.specs.Loosened.{durations_of, AreKept, AreLoosened, bounds_with, loose_durations}
 use Rattle.stn_loosen.proofs.{Steps.source_steps, Robustness.sources_moved, Robustness.moved_possible, Robustness.records_promise, Settings.IsMetIn, Settings.each_weaker}
 
@@ -63,7 +63,7 @@ module _ {source : PlanSource} {slack : Slack} {loosened : List Difference} {eve
       let made_of = made_robust records made in
       (records_promise source p.sound slack p.slack_is records made_of.are_robust).1 (subst (λ n. HasSchedule (all_bounds n records)) p.same possible)
 
-  pub cause_after : (fault : RobustFault) → IsCauseBehind events loosened (moved_bounds durations bounds) fault → IsCauseAfter source slack fault
+  pub cause_after : (fault : LoosenFault) → IsCauseBehind events loosened (moved_bounds durations bounds) fault → IsCauseAfter source slack fault
   cause_after Full none = none
   cause_after NotRobust none = λ promise.
       let s = moved_possible source p.sound slack p.slack_is p.are.orders loosened p.are.sorted.same p.are.made promise in

@@ -9,8 +9,8 @@ use Rattle.stn_net.specs.{Difference.Difference, Difference.NamesEvents, Horizon
 use Rattle.stn_net.specs.Matrix.Table.{Table}
 use Rattle.stn_conflict.specs.{Distances.TellsWithin, Listing.Listing}
 use Rattle.stn_replica.proofs.Schedules.{schedule_before, met_behind, schedule_with}
-use Rattle.stn_loosen.specs.{Loosened.Imply, Loosened.AreKept, Making.all_bounds, Making.IsSearched, declared.fault.RobustFault.RobustFault, Moved.moved_upper, Moved.moved_lower, Moved.moved_bounds, declared.span.Span.Span, Promise.setting_of}
-use Rattle.stn_loosen.specs.declared.fault.RobustFault.TheVariants.{Full, NotRobust, Memory}
+use Rattle.stn_loosen.specs.{Loosened.Imply, Loosened.AreKept, Making.all_bounds, Making.IsSearched, declared.fault.LoosenFault.LoosenFault, Moved.moved_upper, Moved.moved_lower, Moved.moved_bounds, declared.span.Span.Span, Promise.setting_of}
+use Rattle.stn_loosen.specs.declared.fault.LoosenFault.TheVariants.{Full, NotRobust, Memory}
 use Rattle.stn_loosen.specs.Stepped.{as_bound, AreSteps, IsOpen, IsBoundOf, AreMadeBehind, IsCauseBehind, IsCauseIn}
 use Rattle.stn_loosen.proofs.{Steps.earlier_start, Kept.kept_hold, Looser.within, Made.front_schedule}
 
@@ -69,7 +69,7 @@ module _ (records : List Difference) (table : Table) (network : Listing) (search
       (omega (arith, events, named.from), omega (arith, events, named.to))
 
 -- where there is no schedule now, there is none with more
-pub cause_now : (records others : List Difference) (table : Table) (network : Listing) → IsSearched records table network → (fault : RobustFault) → IsCauseIn network.bounds fault
+pub cause_now : (records others : List Difference) (table : Table) (network : Listing) → IsSearched records table network → (fault : LoosenFault) → IsCauseIn network.bounds fault
     → IsCauseBehind table.events records others fault
 cause_now records others table network searched Full p = p
 cause_now records others table network searched NotRobust p = λ s.
@@ -105,7 +105,7 @@ module _ (events : ℕ) (old : List Difference) where
             (schedule_with (all_bounds events middle) second time there (All-from_recursion (Meets time) second more.0)),
       )
 
-  pub cause_behind : (first second others middle : List Difference) → AreMadeBehind events old first middle → (fault : RobustFault) → IsCauseBehind events middle second fault → IsCauseBehind events old (first ++ (second ++ others)) fault
+  pub cause_behind : (first second others middle : List Difference) → AreMadeBehind events old first middle → (fault : LoosenFault) → IsCauseBehind events middle second fault → IsCauseBehind events old (first ++ (second ++ others)) fault
   cause_behind first second others middle made Full p = p
   cause_behind first second others middle made NotRobust p = impossible_behind first second others middle made p
   cause_behind first second others middle made Memory p = tt
@@ -172,7 +172,7 @@ module _ (durations bounds old : List Difference) (first : Table) where
 
   -- all bounds were looked at, and the records have no schedule
   pub moved_refused_last : (records : List Difference) (table : Table) (network : Listing) → IsMovedTo durations bounds old first (length bounds) records table network
-      → (fault : RobustFault) → IsCauseIn network.bounds fault → IsCauseBehind first.events old (moved_bounds durations bounds) fault
+      → (fault : LoosenFault) → IsCauseIn network.bounds fault → IsCauseBehind first.events old (moved_bounds durations bounds) fault
   moved_refused_last records table network sofar fault cause =
       let now : IsCauseBehind first.events records [] fault = subst (λ n. IsCauseBehind n records [] fault) sofar.events (cause_now records [] table network sofar.searched fault cause) in
       let made : AreMadeBehind first.events old (moved_bounds durations bounds) records =
@@ -198,7 +198,7 @@ module _ (durations bounds old : List Difference) (first : Table) where
       events = events ∙ sofar.events;
     }
 
-    pub moved_refused : (fault : RobustFault) → IsCauseBehind table.events records (moved_bounds durations (bound ∷ [])) fault → IsCauseBehind first.events old (moved_bounds durations bounds) fault
+    pub moved_refused : (fault : LoosenFault) → IsCauseBehind table.events records (moved_bounds durations (bound ∷ [])) fault → IsCauseBehind first.events old (moved_bounds durations bounds) fault
     moved_refused fault cause =
         let parts : bounds ≡ take place bounds ++ (bound ∷ [] ++ drop (place + 1) bounds) =
         sym (take-append-drop (place + 1) bounds) ∙ ap (λ l. l ++ drop (place + 1) bounds) next ∙ append_assoc (take place bounds) (bound ∷ []) (drop (place + 1) bounds) in

@@ -6,7 +6,7 @@ use Rattle.stn_net.specs.{Difference.Difference, Difference.NamesEvents, Schedul
 use Rattle.stn_lift.specs.PlanSource.{PlanSource, events_of, planned_of, IsSoundSource}
 use Rattle.stn_records.specs.Content.{most_known}
 use Rattle.stn_loosen.specs.{declared.fault.LoosenFault.LoosenFault, Slack.Slack, Slack.IsSlack, Faults.IsCause, Making.all_bounds, Making.IsCauseWith}
-use Rattle.stn_loosen.specs.declared.fault.LoosenFault.TheVariants.{Full, Memory}
+use Rattle.stn_loosen.specs.declared.fault.LoosenFault.TheVariants.{Full, NotRobust, Memory}
 use Rattle.stn_loosen.specs.Loosened.{durations_of, orders_of, AreNearestFirst, AreKept, bounds_with, loose_durations, AreMadeOf}
 use Rattle.stn_loosen.proofs.{Looser.loose_schedule, Looser.orders_met, Looser.orders_named, ThreeParts.few_durations}
 
@@ -52,4 +52,5 @@ module _ (source : PlanSource) (slack : Slack) (orders : List Difference) (event
     made = record { kept = p.kept; whole = ap (λ l. l ++ p.kept) durations; chosen = subst (λ l. AreKept l p.first p.kept) front p.chosen };
     many = p.many;
   }
+  cause_of sorted NotRobust none = none
   cause_of sorted Memory p = tt

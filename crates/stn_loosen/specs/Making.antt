@@ -4,7 +4,7 @@ use Rattle.stn_net.specs.{Difference.Difference, Horizon.horizon_bounds, Schedul
 use Rattle.stn_conflict.specs.Listing.{Listing}
 use Rattle.stn_records.specs.Content.{most_known}
 use Rattle.stn_loosen.specs.{declared.fault.LoosenFault.LoosenFault, Loosened.Imply, Loosened.AreKept}
-use Rattle.stn_loosen.specs.declared.fault.LoosenFault.TheVariants.{Full, Memory}
+use Rattle.stn_loosen.specs.declared.fault.LoosenFault.TheVariants.{Full, NotRobust, Memory}
 
 -- the horizon bounds of so many events, and then the bounds of records
 abbrev pub all_bounds : ℕ → List Difference → List Difference
@@ -27,6 +27,7 @@ pub record IsSearched (records : List Difference) (table : Table) (network : Lis
 -- why no more is made than so many records
 abbrev pub IsCauseAt : ℕ → LoosenFault → Type 0
 IsCauseAt made Full = made ≡ most_known
+IsCauseAt made NotRobust = ⊥
 IsCauseAt made Memory = Unit {0}
 
 -- what becomes of records at one more order: it is implied, and nothing is made, or it is made
@@ -37,6 +38,7 @@ IsNext events old order new =
 -- why it can't be made: it is needed, and there are as many records as may be
 abbrev pub IsCauseOf : ℕ → List Difference → Difference → LoosenFault → Type 0
 IsCauseOf events old order Full = ¬ Imply (all_bounds events old) order × (length old ≡ most_known)
+IsCauseOf events old order NotRobust = ⊥
 IsCauseOf events old order Memory = Unit {0}
 
 -- the orders kept of the first ones, and what was made before, are too many
@@ -50,4 +52,5 @@ pub record AreTooManyWith (events : ℕ) (before orders : List Difference) : Typ
 
 abbrev pub IsCauseWith : ℕ → List Difference → List Difference → LoosenFault → Type 0
 IsCauseWith events before orders Full = AreTooManyWith events before orders
+IsCauseWith events before orders NotRobust = ⊥
 IsCauseWith events before orders Memory = Unit {0}

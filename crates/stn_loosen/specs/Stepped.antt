@@ -2,8 +2,8 @@
 use Rattle.std.specs.Prelude.{◌≡◌, ◌⊎◌, ℕ, ◌+◌, ◌*◌, pos, neg_ℤ, ◌≤ℤ◌, ◌++◌, List, [], ◌∷◌}
 use Rattle.stn_time.specs.Time.{horizon, IsWithinHorizon}
 use Rattle.stn_net.specs.{Difference.Difference, Difference.IsBoundWithin, Schedule.HasSchedule}
-use Rattle.stn_loosen.specs.{declared.span.Span.Span, declared.fault.RobustFault.RobustFault, Loosened.AreKept, Making.all_bounds}
-use Rattle.stn_loosen.specs.declared.fault.RobustFault.TheVariants.{Full, NotRobust, Memory}
+use Rattle.stn_loosen.specs.{declared.span.Span.Span, declared.fault.LoosenFault.LoosenFault, Loosened.AreKept, Making.all_bounds}
+use Rattle.stn_loosen.specs.declared.fault.LoosenFault.TheVariants.{Full, NotRobust, Memory}
 
 -- the durations of steps one after the other, after so many others
 abbrev pub AreSteps : ℕ → List Difference → Type 0
@@ -36,13 +36,13 @@ abbrev pub AreMadeBehind : ℕ → List Difference → List Difference → List 
 AreMadeBehind events old sides new = (kept : List Difference) × (new ≡ old ++ kept) × AreKept (all_bounds events old) sides kept
 
 -- why the sides can't be made: with them there is no schedule
-abbrev pub IsCauseBehind : ℕ → List Difference → List Difference → RobustFault → Type 0
+abbrev pub IsCauseBehind : ℕ → List Difference → List Difference → LoosenFault → Type 0
 IsCauseBehind events old sides Full = ⊥
 IsCauseBehind events old sides NotRobust = ¬ HasSchedule (all_bounds events (old ++ sides))
 IsCauseBehind events old sides Memory = Unit {0}
 
 -- why no more is asked of these bounds
-abbrev pub IsCauseIn : List Difference → RobustFault → Type 0
+abbrev pub IsCauseIn : List Difference → LoosenFault → Type 0
 IsCauseIn bounds Full = ⊥
 IsCauseIn bounds NotRobust = ¬ HasSchedule bounds
 IsCauseIn bounds Memory = Unit {0}

@@ -2,8 +2,8 @@
 use Rattle.std.specs.Prelude.{◌≡◌, List}
 use Rattle.stn_net.specs.Difference.{Difference}
 use Rattle.stn_lift.specs.PlanSource.{PlanSource}
-use Rattle.stn_loosen.specs.{declared.fault.RobustFault.RobustFault, Slack.Slack, Robust.HasPromise, Robust.AreRobust}
-use Rattle.stn_loosen.specs.declared.fault.RobustFault.TheVariants.{Full, NotRobust, Memory}
+use Rattle.stn_loosen.specs.{declared.fault.LoosenFault.LoosenFault, Slack.Slack, Robust.HasPromise, Robust.AreRobust}
+use Rattle.stn_loosen.specs.declared.fault.LoosenFault.TheVariants.{Full, NotRobust, Memory}
 
 -- these are the records of the robust plan after those of the loosened one
 pub record IsMadeRobust (source : PlanSource) (slack : Slack) (loosened records : List Difference) : Type 0 where
@@ -11,7 +11,7 @@ pub record IsMadeRobust (source : PlanSource) (slack : Slack) (loosened records 
   pub behind : are_robust.loosened ≡ loosened
 
 -- why the bounds on starts can't be made
-abbrev pub IsCauseAfter : PlanSource → Slack → RobustFault → Type 0
+abbrev pub IsCauseAfter : PlanSource → Slack → LoosenFault → Type 0
 IsCauseAfter source slack Full = ⊥
 IsCauseAfter source slack NotRobust = ¬ HasPromise source slack
 IsCauseAfter source slack Memory = Unit {0}

@@ -11,7 +11,7 @@ ghost use Rattle.stn_loosen.specs.Robust.{loose_bounds, HasPromise, AreFewRobust
 ghost use Rattle.stn_loosen.specs.Faults.{IsCause, IsRobustCause};
 ghost use Rattle.stn_loosen.specs.Numbered.{Holds, HoldsSome};
 
-use crate::fault::{LoosenFault, RobustFault};
+use crate::fault::LoosenFault;
 use crate::plan::loosened;
 use crate::promise::robust;
 use crate::tolerance::Tolerance;
@@ -60,7 +60,7 @@ pub fn robust_site_plan<A: Allocator + Copy>(
     site: Site,
     base: &Base<A>,
     tolerance: Tolerance,
-) -> Result<SitePlan<A>, RobustFault>
+) -> Result<SitePlan<A>, LoosenFault>
     ensures site { IfOk result (λ plan. plan.site ≡ site) }
     ensures source { IfOk result (λ plan. plan.source ≡ bare (steps_of base.now)) }
     ensures records { IfOk result (λ plan. HoldsSome (AreFewRobust base.now tolerance) site plan.state) }

@@ -1,7 +1,7 @@
 ghost use Rattle.std.specs.Prelude.{◌≡◌};
-ghost use Rattle.stn_loosen.specs.Failures.{loosen_failure, robust_failure};
+ghost use Rattle.stn_loosen.specs.Failures.{loosen_failure};
 
-use crate::fault::{LoosenFault, RobustFault};
+use crate::fault::LoosenFault;
 use stn_refusal::{Code, Failure, Fault};
 
 impl From<LoosenFault> for Failure {
@@ -10,19 +10,8 @@ impl From<LoosenFault> for Failure {
     fn from(fault: LoosenFault) -> Failure {
         match fault {
             LoosenFault::Full => Failure::refused(Code::Full),
+            LoosenFault::NotRobust => Failure::refused(Code::NotRobust),
             LoosenFault::Memory => Failure::Failed(Fault::Memory),
-        }
-    }
-}
-
-impl From<RobustFault> for Failure {
-    ghost from_gives = { λ fault given. given ≡ robust_failure fault };
-
-    fn from(fault: RobustFault) -> Failure {
-        match fault {
-            RobustFault::Full => Failure::refused(Code::Full),
-            RobustFault::NotRobust => Failure::refused(Code::NotRobust),
-            RobustFault::Memory => Failure::Failed(Fault::Memory),
         }
     }
 }

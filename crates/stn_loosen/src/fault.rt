@@ -1,43 +1,13 @@
+ghost use Rattle.std.specs.Prelude.{◌≡◌};
+ghost use Rattle.stn_loosen.specs.declared.fault.LoosenFault.TheVariants.{Memory};
+
 use std::alloc::{AllocError, AllocFailed};
 use thiserror::Error;
 
-/// Why a plan was not loosened. The faults come in this order.
+/// Why a plan was not loosened, or not made robust. Where it would have too many records, this comes before `NotRobust` if the loosened
+/// plan has too many, and after it if only the robust plan has.
 #[derive(Clone, Copy, Debug, PartialEq, Eq, Error)]
 pub enum LoosenFault {
-    /// More than 4,096 records would be made.
-    #[error("too many records")]
-    Full,
-    /// Memory ran out.
-    #[error("out of memory")]
-    Memory,
-}
-
-impl From<AllocError> for LoosenFault {
-    ghost use Rattle.std.specs.Prelude.{◌≡◌};
-    ghost use Rattle.stn_loosen.specs.declared.fault.LoosenFault.TheVariants.{Memory};
-
-    ghost from_gives = { λ _ fault. fault ≡ Memory };
-
-    fn from(_fault: AllocError) -> LoosenFault {
-        LoosenFault::Memory
-    }
-}
-
-impl<T: Drop> From<AllocFailed<T>> for LoosenFault {
-    ghost use Rattle.std.specs.Prelude.{◌≡◌};
-    ghost use Rattle.stn_loosen.specs.declared.fault.LoosenFault.TheVariants.{Memory};
-
-    ghost from_gives = { λ _ fault. fault ≡ Memory };
-
-    fn from(_refused: AllocFailed<T>) -> LoosenFault {
-        LoosenFault::Memory
-    }
-}
-
-/// Why a plan was not made robust. Where it would have too many records, this comes before `NotRobust` if the loosened plan has too many,
-/// and after it if only the robust plan has.
-#[derive(Clone, Copy, Debug, PartialEq, Eq, Error)]
-pub enum RobustFault {
     /// More than 4,096 records would be made.
     #[error("too many records")]
     Full,
@@ -49,38 +19,18 @@ pub enum RobustFault {
     Memory,
 }
 
-impl From<AllocError> for RobustFault {
-    ghost use Rattle.std.specs.Prelude.{◌≡◌};
-    ghost use Rattle.stn_loosen.specs.declared.fault.RobustFault.TheVariants.{Memory};
-
+impl From<AllocError> for LoosenFault {
     ghost from_gives = { λ _ fault. fault ≡ Memory };
 
-    fn from(_fault: AllocError) -> RobustFault {
-        RobustFault::Memory
+    fn from(_refused: AllocError) -> LoosenFault {
+        LoosenFault::Memory
     }
 }
 
-impl<T: Drop> From<AllocFailed<T>> for RobustFault {
-    ghost use Rattle.std.specs.Prelude.{◌≡◌};
-    ghost use Rattle.stn_loosen.specs.declared.fault.RobustFault.TheVariants.{Memory};
-
+impl<T: Drop> From<AllocFailed<T>> for LoosenFault {
     ghost from_gives = { λ _ fault. fault ≡ Memory };
 
-    fn from(_refused: AllocFailed<T>) -> RobustFault {
-        RobustFault::Memory
-    }
-}
-
-impl From<LoosenFault> for RobustFault {
-    ghost use Rattle.std.specs.Prelude.{◌≡◌};
-    ghost use Rattle.stn_loosen.specs.Faults.{of_loosening};
-
-    ghost from_gives = { λ fault given. given ≡ of_loosening fault };
-
-    fn from(fault: LoosenFault) -> RobustFault {
-        match fault {
-            LoosenFault::Full => RobustFault::Full,
-            LoosenFault::Memory => RobustFault::Memory,
-        }
+    fn from(_refused: AllocFailed<T>) -> LoosenFault {
+        LoosenFault::Memory
     }
 }

@@ -2,7 +2,7 @@
 #![tactic(auto)]
 
 pub use adding::{loosened_site_plan, robust_site_plan};
-pub use fault::{LoosenFault, RobustFault};
+pub use fault::LoosenFault;
 pub use laws::{
     ends_have_their_durations, one_loosened_plan, one_robust_plan,
     promises_are_schedules_of_starts, robust_plans_promise, robust_runs_complete,

@@ -14,7 +14,7 @@ ghost use Rattle.stn_loosen.specs.Moved.{moved_bounds};
 ghost use Rattle.stn_loosen.specs.Stepped.{AreSteps, as_bound, IsInReach, IsOpen, AreMadeBehind, IsCauseBehind, IsCauseIn};
 ghost use Rattle.stn_loosen.specs.Making.{all_bounds, AreTaken, IsShown, IsSearched, IsNext, IsCauseAt, IsCauseOf, IsCauseWith};
 
-use crate::fault::{LoosenFault, RobustFault};
+use crate::fault::LoosenFault;
 use crate::span::{Span, moved_sides};
 use crate::tolerance::Tolerance;
 use std::alloc::Allocator;
@@ -141,7 +141,7 @@ impl<A: Allocator + Copy> Making<A> {
         horizon: &[Bound],
         durations: &[Bound],
         bounds: &[Bound],
-    ) -> Result<(), RobustFault>
+    ) -> Result<(), LoosenFault>
         requires taken { AreTaken self.old.records.items self.old.matrix }
         requires horizon { horizon.now ≡ horizon_bounds self.old.matrix.events }
         requires steps { AreSteps 0 durations.now }
@@ -165,7 +165,7 @@ impl<A: Allocator + Copy> Making<A> {
         network: &mut Network<A>,
         durations: &[Bound],
         bound: &Bound,
-    ) -> Result<(), RobustFault>
+    ) -> Result<(), LoosenFault>
         requires searched { IsSearched self.old.records.items self.old.matrix network.old }
         requires steps { AreSteps 0 durations.now }
         requires named { NamesEvents self.old.matrix.events bound.now }
@@ -180,7 +180,7 @@ impl<A: Allocator + Copy> Making<A> {
     }
 
     // Makes the side of a bound, where it is not implied.
-    fn make_side(&mut self, network: &mut Network<A>, side: &Span) -> Result<(), RobustFault>
+    fn make_side(&mut self, network: &mut Network<A>, side: &Span) -> Result<(), LoosenFault>
         requires searched { IsSearched self.old.records.items self.old.matrix network.old }
         requires named { NamesEvents self.old.matrix.events (as_bound side.now) }
         requires open { IsOpen (as_bound side.now) }
@@ -194,7 +194,7 @@ impl<A: Allocator + Copy> Making<A> {
             return Ok(());
         }
         let Some(bound) = side.bound(self.matrix.events()) else {
-            return Err(RobustFault::NotRobust);
+            return Err(LoosenFault::NotRobust);
         };
         self.records.push(bound)?;
         network.push(bound)?;
@@ -203,7 +203,7 @@ impl<A: Allocator + Copy> Making<A> {
 
     // Whether the bounds so far imply another with an open side, which the horizon implies: where those of the matrix imply it, all do; else
     // the network tells of the other side.
-    fn implies(&self, network: &mut Network<A>, side: &Span) -> Result<bool, RobustFault>
+    fn implies(&self, network: &mut Network<A>, side: &Span) -> Result<bool, LoosenFault>
         requires searched { IsSearched self.now.records.items self.now.matrix network.old }
         requires named { NamesEvents self.now.matrix.events (as_bound side.now) }
         requires open { IsOpen (as_bound side.now) }
@@ -230,7 +230,7 @@ fn is_within<A: Allocator + Copy>(
     from: Event,
     to: Event,
     most: i64,
-) -> Result<bool, RobustFault>
+) -> Result<bool, LoosenFault>
     requires from { from ≤ network.old.events }
     requires to { to ≤ network.old.events }
     ensures told { IfOk result (TellsWithin network.old.bounds from to most) }
@@ -239,6 +239,6 @@ fn is_within<A: Allocator + Copy>(
 {
     match network.is_within(from, to, most)? {
         Some(within) => Ok(within),
-        None => Err(RobustFault::NotRobust),
+        None => Err(LoosenFault::NotRobust),
     }
 }

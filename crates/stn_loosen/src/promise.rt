@@ -10,7 +10,7 @@ ghost use Rattle.stn_loosen.specs.Faults.{IsRobustCause};
 ghost use Rattle.stn_loosen.specs.Making.{AreTaken};
 ghost use Rattle.stn_loosen.specs.Whole.{IsMadeRobust, IsCauseAfter};
 
-use crate::fault::RobustFault;
+use crate::fault::LoosenFault;
 use crate::making::Making;
 use crate::parts::{durations_of, horizon_of};
 use crate::plan::make_loosened;
@@ -30,7 +30,7 @@ pub fn robust<A: Allocator + Copy>(
     alloc: A,
     base: &Base<A>,
     tolerance: Tolerance,
-) -> Result<Vec<Bound, A>, RobustFault>
+) -> Result<Vec<Bound, A>, LoosenFault>
     ensures records { IfOk result (λ records. AreRobust base.now tolerance records.items) }
     ensures few { IfOk result (λ records. length records.items ≤ most_known) }
 
@@ -49,7 +49,7 @@ pub fn robust<A: Allocator + Copy>(
     let mut making = make_loosened(alloc, base, tolerance)?;
     make_robust(alloc, base, tolerance, &mut making)?;
     if making.records.len() > MOST_KNOWN {
-        return Err(RobustFault::Full);
+        return Err(LoosenFault::Full);
     }
     Ok(making.records)
 }
@@ -60,7 +60,7 @@ fn make_robust<A: Allocator + Copy>(
     base: &Base<A>,
     tolerance: Tolerance,
     making: &mut Making<A>,
-) -> Result<(), RobustFault>
+) -> Result<(), LoosenFault>
     requires sound { IsSoundSource base.now }
     requires loosened { AreLoosened base.now tolerance making.old.records.items }
     requires taken { AreTaken making.old.records.items making.old.matrix }

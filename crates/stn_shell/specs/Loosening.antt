@@ -13,9 +13,8 @@ use Rattle.stn_loosen.specs.Loosened.{loose_durations, AreFewLoosened, AreTooMan
 use Rattle.stn_loosen.specs.Promise.{Promises}
 use Rattle.stn_loosen.specs.Robust.{loose_bounds, HasPromise, AreFewRobust, AreTooManyRobust}
 use Rattle.stn_loosen.specs.Numbered.{HoldsSome}
-use Rattle.stn_loosen.specs.Failures.{loosen_failure, robust_failure}
-use Rattle.stn_loosen.specs.declared.fault.LoosenFault.TheVariants as loosening
-use Rattle.stn_loosen.specs.declared.fault.RobustFault.TheVariants as robust
+use Rattle.stn_loosen.specs.Failures.{loosen_failure}
+use Rattle.stn_loosen.specs.declared.fault.LoosenFault.TheVariants.{Full, NotRobust}
 use Rattle.stn_refusal.specs.declared.failure.Failure.{Failure}
 
 -- a site holds, over the bare plan of as many steps, the loosened plan of a source that has a base: its records. Each schedule of the
@@ -43,15 +42,15 @@ HoldsLoosened true source slack site state = IsRobust source slack site state
 
 -- a loosened plan that would have more records than a site may know refuses the command
 abbrev pub IsLoosenedRefusal : PlanSource → Slack → Option Failure → Type 0
-IsLoosenedRefusal source slack cause = (AreTooMany source slack × (cause ≡ Some (loosen_failure loosening.Full)))
+IsLoosenedRefusal source slack cause = (AreTooMany source slack × (cause ≡ Some (loosen_failure Full)))
     ⊎ (((records : List Difference) × AreFewLoosened source slack records) × (cause ≡ None))
 
 -- of a robust plan: so does a loosened plan with too many; then one without a promise; then a robust plan with too many
 abbrev pub IsRobustRefusal : PlanSource → Slack → Option Failure → Type 0
-IsRobustRefusal source slack cause = (AreTooMany source slack × (cause ≡ Some (robust_failure robust.Full)))
+IsRobustRefusal source slack cause = (AreTooMany source slack × (cause ≡ Some (loosen_failure Full)))
     ⊎ (((records : List Difference) × AreFewLoosened source slack records) × (¬ HasPromise source slack)
-    × (cause ≡ Some (robust_failure robust.NotRobust)))
-    ⊎ (HasPromise source slack × AreTooManyRobust source slack × (cause ≡ Some (robust_failure robust.Full)))
+    × (cause ≡ Some (loosen_failure NotRobust)))
+    ⊎ (HasPromise source slack × AreTooManyRobust source slack × (cause ≡ Some (loosen_failure Full)))
     ⊎ (HasPromise source slack × ((records : List Difference) × AreFewRobust source slack records) × (cause ≡ None))
 
 -- a source without a base comes before

@@ -2,13 +2,14 @@ use Rattle.std.proofs.Common.{ℕ, List, length, inl, inr, refl, sym, ◌∙◌,
 use Rattle.std.proofs.{lemmas.Bool.false≢true, lemmas.Result.on_ok_weaker, lemmas.Result.IfErr-weaker}
 use Rattle.stn_net.specs.Difference.{Difference}
 use Rattle.stn_loosen.specs.{declared.fault.LoosenFault.LoosenFault, Loosened.Imply, Making.all_bounds, Making.IsShown, Making.IsCauseAt, Making.IsCauseOf}
-use Rattle.stn_loosen.specs.declared.fault.LoosenFault.TheVariants.{Full, Memory}
+use Rattle.stn_loosen.specs.declared.fault.LoosenFault.TheVariants.{Full, NotRobust, Memory}
 use Rattle.stn_loosen.proofs.Implied.{shown_taken}
 use Rattle.stn_loosen.proofs.making.Making.make_order.Goals as goal
 
 -- an order that is needed, and can't be made
 needed : (events : ℕ) (old : List Difference) (order : Difference) → (Imply (all_bounds events old) order → ⊥) → (fault : LoosenFault) → IsCauseAt (length old) fault → IsCauseOf events old order fault
 needed events old order new Full full = (new, full)
+needed events old order new NotRobust none = none
 needed events old order new Memory none = tt
 
 pub returns-then-shows-clause-made : goal.returns-then-shows-clause-made
