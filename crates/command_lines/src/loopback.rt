@@ -7,7 +7,7 @@ ghost use Rattle.stn_device.specs.Counted.{failure_count};
 mod changing;
 mod untrusted;
 
-use crate::{cut_word, print_digits};
+use crate::{bytes_of, cut_word, print_digits};
 use std::alloc::Global;
 use std::io::{Error, Read, Write};
 use std::net::{Shutdown, TcpListener, TcpStream};
@@ -17,7 +17,7 @@ use stn_device::Counted;
 use stn_line::SiteLog;
 use stn_records::Site;
 use stn_replica::Replica;
-use stn_session::{receive_replies, send_requests, serve};
+use stn_session::{ReplyFault, receive_replies, send_requests, serve};
 use stn_shell::{Peer, Service, execute, meet, send_on, serve_on};
 use stn_store::{FileStore, load};
 
@@ -88,27 +88,55 @@ fn add(rt: &HostRuntime, from: &str, to: &str, lo: &str, hi: &str) -> io::Result
     command(rt, &["stn", "add", "near.log", "1", from, to, lo, hi])
 }
 
-// A connection to the listener.
-fn connect(rt: &HostRuntime, listener: &TcpListener) -> io::Result<TcpStream> {
-    TcpStream::connect(rt, listener.local_addr()?)
+// What a scenario works with: the runtime, and the listener to which its other ends connect.
+#[derive(Clone, Copy)]
+struct Scene<'a> {
+    rt: &'a HostRuntime,
+    listener: &'a TcpListener,
 }
 
-// A connection on which these bytes wait.
-fn begin(rt: &HostRuntime, listener: &TcpListener, bytes: &[u8]) -> io::Result<TcpStream> {
-    let stream = connect(rt, listener)?;
-    (&stream).write_all(bytes)?;
-    Ok(stream)
-}
+impl Scene<'_> {
+    // A connection to the listener.
+    fn connect(&self) -> io::Result<TcpStream> {
+        TcpStream::connect(self.rt, self.listener.local_addr()?)
+    }
 
-// A connection on which the requests of a replica wait.
-fn ask(
-    rt: &HostRuntime,
-    listener: &TcpListener,
-    replica: &Replica<Global>,
-) -> io::Result<TcpStream> {
-    let stream = connect(rt, listener)?;
-    send_all(rt.alloc(), &stream, replica)?;
-    Ok(stream)
+    // A connection on which these bytes wait.
+    fn begin(&self, bytes: &[u8]) -> io::Result<TcpStream> {
+        let stream = self.connect()?;
+        (&stream).write_all(bytes)?;
+        Ok(stream)
+    }
+
+    // A connection on which the requests of a replica wait.
+    fn ask(&self, replica: &Replica<Global>) -> io::Result<TcpStream> {
+        let stream = self.connect()?;
+        send_all(self.rt.alloc(), &stream, replica)?;
+        Ok(stream)
+    }
+
+    // Serves the connections that wait by a log of site 1, and prints the status.
+    fn serve_waiting(&self, count: u16, log: &str) -> io::Result<()> {
+        let mut replica = load_log(self.rt, log, first_site())?;
+        self.serve_log(count, log, &mut replica)
+    }
+
+    // The same for a replica that was loaded before.
+    fn serve_log(&self, count: u16, log: &str, replica: &mut Replica<Global>) -> io::Result<()> {
+        let mut service = Service {
+            clock: self.rt,
+            listener: self.listener,
+            limit: Duration::from_millis(LIMIT),
+        };
+        let log = SiteLog {
+            name: log,
+            site: first_site(),
+        };
+        print_status(
+            self.rt,
+            status_of_serving(self.rt, &mut service, count, &log, replica),
+        )
+    }
 }
 
 fn send_all(alloc: Global, stream: &TcpStream, replica: &Replica<Global>) -> io::Result<()> {
@@ -119,22 +147,32 @@ fn send_all(alloc: Global, stream: &TcpStream, replica: &Replica<Global>) -> io:
     }
 }
 
-// Takes in the replies, and prints their text and what the replica then reports.
-fn receive(rt: &HostRuntime, stream: &TcpStream, replica: &mut Replica<Global>) -> io::Result<()> {
-    receive_text(rt, stream, replica)?;
-    print_report(rt, replica)
-}
-
-fn receive_text(
-    rt: &HostRuntime,
+// What a replica makes of the replies.
+fn take_replies(
+    alloc: Global,
     stream: &TcpStream,
     replica: &mut Replica<Global>,
-) -> io::Result<()> {
+) -> Result<Vec<u8>, ReplyFault> {
     let mut reader = Counted::new(stream);
-    match receive_replies(rt.alloc(), &mut reader, replica) {
-        Ok(text) => print_text(rt, &text),
+    receive_replies(alloc, &mut reader, replica)
+}
+
+// The text of the replies, which are taken in.
+fn replied(
+    alloc: Global,
+    stream: &TcpStream,
+    replica: &mut Replica<Global>,
+) -> io::Result<Vec<u8>> {
+    match take_replies(alloc, stream, replica) {
+        Ok(text) => Ok(text),
         Err(_) => Err(Error::other("replies are not taken")),
     }
+}
+
+// Takes in the replies, and prints their text and what the replica then reports.
+fn receive(rt: &HostRuntime, stream: &TcpStream, replica: &mut Replica<Global>) -> io::Result<()> {
+    print_text(rt, &replied(rt.alloc(), stream, replica)?)?;
+    print_report(rt, replica)
 }
 
 fn print_report(rt: &HostRuntime, replica: &Replica<Global>) -> io::Result<()> {
@@ -148,51 +186,21 @@ fn print_text(rt: &HostRuntime, text: &[u8]) -> io::Result<()> {
 }
 
 // A session over a connection whose other end stays.
-fn session(rt: &HostRuntime, listener: &TcpListener) -> io::Result<()> {
-    let mut replica = far_replica(rt)?;
-    let answer = ask_and_receive(rt, listener, &mut replica);
-    drop(replica);
-    answer
-}
-
-fn ask_and_receive(
-    rt: &HostRuntime,
-    listener: &TcpListener,
-    replica: &mut Replica<Global>,
-) -> io::Result<()> {
-    let other = ask(rt, listener, replica)?;
-    let answer = serve_and_receive(rt, listener, &other, replica);
-    drop(other);
-    answer
-}
-
-fn serve_and_receive(
-    rt: &HostRuntime,
-    listener: &TcpListener,
-    other: &TcpStream,
-    replica: &mut Replica<Global>,
-) -> io::Result<()> {
-    serve_next(rt, listener)?;
-    receive(rt, other, replica)
+fn session(scene: &Scene<'_>, replica: &mut Replica<Global>) -> io::Result<()> {
+    let other = scene.ask(replica)?;
+    serve_next(scene)?;
+    receive(scene.rt, &other, replica)
 }
 
 // Serves the next connection as far as the requests go.
-fn serve_next(rt: &HostRuntime, listener: &TcpListener) -> io::Result<()> {
-    let mut replica = near_replica(rt)?;
-    let answer = accept_requested(rt, listener, &mut replica);
-    drop(replica);
-    answer
+fn serve_next(scene: &Scene<'_>) -> io::Result<()> {
+    let mut replica = near_replica(scene.rt)?;
+    accept_requested(scene, &mut replica)
 }
 
-fn accept_requested(
-    rt: &HostRuntime,
-    listener: &TcpListener,
-    replica: &mut Replica<Global>,
-) -> io::Result<()> {
-    let (stream, _) = listener.accept()?;
-    let answer = serve_requested(rt, &stream, replica);
-    drop(stream);
-    answer
+fn accept_requested(scene: &Scene<'_>, replica: &mut Replica<Global>) -> io::Result<()> {
+    let (stream, _) = scene.listener.accept()?;
+    serve_requested(scene.rt, &stream, replica)
 }
 
 fn serve_requested(
@@ -206,42 +214,6 @@ fn serve_requested(
         Ok(served) => println!(rt; "{} frames, {:?}", served.frames, served.end),
         Err(_) => Err(Error::other("a session is broken")),
     }
-}
-
-// Serves the connections that wait by a log of site 1, and prints the status.
-fn serve_waiting(
-    rt: &HostRuntime,
-    listener: &TcpListener,
-    count: u16,
-    log: &str,
-) -> io::Result<()> {
-    let mut replica = load_log(rt, log, first_site())?;
-    let answer = serve_log(rt, listener, count, log, &mut replica);
-    drop(replica);
-    answer
-}
-
-// The same for a replica that was loaded before.
-fn serve_log(
-    rt: &HostRuntime,
-    listener: &TcpListener,
-    count: u16,
-    log: &str,
-    replica: &mut Replica<Global>,
-) -> io::Result<()> {
-    let mut service = Service {
-        clock: rt,
-        listener,
-        limit: Duration::from_millis(LIMIT),
-    };
-    let log = SiteLog {
-        name: log,
-        site: first_site(),
-    };
-    print_status(
-        rt,
-        status_of_serving(rt, &mut service, count, &log, replica),
-    )
 }
 
 fn status_of_serving(
@@ -266,48 +238,29 @@ fn status_of_serving(
 }
 
 // A connection whose requests end in bytes that are no frame.
-fn serve_refused(rt: &HostRuntime, listener: &TcpListener) -> io::Result<()> {
-    let mut replica = far_replica(rt)?;
-    let answer = ask_refused(rt, listener, &mut replica);
-    drop(replica);
-    answer
-}
-
-fn ask_refused(
-    rt: &HostRuntime,
-    listener: &TcpListener,
-    replica: &mut Replica<Global>,
-) -> io::Result<()> {
-    let other = ask(rt, listener, replica)?;
-    let answer = break_and_receive(rt, listener, &other, replica);
-    drop(other);
-    answer
-}
-
-fn break_and_receive(
-    rt: &HostRuntime,
-    listener: &TcpListener,
-    other: &TcpStream,
-    replica: &mut Replica<Global>,
-) -> io::Result<()> {
-    let mut writer = other;
-    writer.write_all(&[0, 4, 0, 1])?;
-    serve_waiting(rt, listener, 1, "near.log")?;
-    receive(rt, other, replica)
+fn serve_refused(scene: &Scene<'_>, replica: &mut Replica<Global>) -> io::Result<()> {
+    let other = scene.ask(replica)?;
+    (&other).write_all(&[0, 4, 0, 1])?;
+    scene.serve_waiting(1, "near.log")?;
+    receive(scene.rt, &other, replica)
 }
 
 // A connection that ends within a frame, and one that says nothing.
-fn serve_broken(rt: &HostRuntime, listener: &TcpListener) -> io::Result<()> {
-    drop(begin(rt, listener, &[0, 0, 0, 4, 7])?);
-    drop(connect(rt, listener)?);
-    serve_waiting(rt, listener, 2, "near.log")
+fn serve_broken(scene: &Scene<'_>) -> io::Result<()> {
+    drop(scene.begin(&[0, 0, 0, 4, 7])?);
+    drop(scene.connect()?);
+    scene.serve_waiting(2, "near.log")
 }
 
 // Sends over a connection on which the replies of a site with two records wait.
-fn send(rt: &HostRuntime, listener: &TcpListener) -> io::Result<()> {
-    let replies = replies_of_two(rt.alloc())?;
-    send_waiting(rt, listener, &replies)?;
-    command(rt, &["stn", "report", "far.log", "2"])
+fn send(scene: &Scene<'_>, replica: &mut Replica<Global>) -> io::Result<()> {
+    send_two(scene, replica)?;
+    command(scene.rt, &["stn", "report", "far.log", "2"])
+}
+
+fn send_two(scene: &Scene<'_>, replica: &mut Replica<Global>) -> io::Result<()> {
+    let replies = replies_of_two(scene.rt.alloc())?;
+    send_waiting(scene, &replies, replica)
 }
 
 fn replies_of_two(alloc: Global) -> io::Result<Vec<u8>> {
@@ -316,26 +269,26 @@ fn replies_of_two(alloc: Global) -> io::Result<Vec<u8>> {
     Ok(replies)
 }
 
-// Sends requests, and says that nothing more comes.
-fn send_bytes(rt: &HostRuntime, listener: &TcpListener, digits: &str) -> io::Result<TcpStream> {
-    let stream = connect(rt, listener)?;
-    write_digits(rt, &stream, digits)?;
+// Writes these bytes, and says that nothing more comes.
+fn write_all_of(stream: &TcpStream, bytes: &[u8]) -> io::Result<()> {
+    let mut writer = stream;
+    writer.write_all(bytes)?;
+    stream.shutdown(Shutdown::Write)
+}
+
+// Sends the requests that these digits spell, and says that nothing more comes.
+fn send_bytes(scene: &Scene<'_>, digits: &str) -> io::Result<TcpStream> {
+    let bytes = bytes_of(scene.rt.alloc(), digits)?;
+    let stream = scene.begin(&bytes)?;
+    stream.shutdown(Shutdown::Write)?;
     Ok(stream)
 }
 
-// Writes the bytes that these digits spell, and says that nothing more comes.
-fn write_digits(rt: &HostRuntime, stream: &TcpStream, digits: &str) -> io::Result<()> {
-    match hex::decode(rt.alloc(), digits) {
-        Ok(bytes) => write_all_of(stream, &bytes),
-        Err(_) => Err(Error::other("no digits")),
-    }
-}
-
 // Serves requests after which nothing more comes, and prints the replies.
-fn serve_request(rt: &HostRuntime, listener: &TcpListener, digits: &str) -> io::Result<()> {
-    let other = send_bytes(rt, listener, digits)?;
-    serve_waiting(rt, listener, 1, "near.log")?;
-    print_replies(rt, &other)
+fn serve_request(scene: &Scene<'_>, digits: &str) -> io::Result<()> {
+    let other = send_bytes(scene, digits)?;
+    scene.serve_waiting(1, "near.log")?;
+    print_replies(scene.rt, &other)
 }
 
 fn print_replies(rt: &HostRuntime, other: &TcpStream) -> io::Result<()> {
@@ -356,17 +309,15 @@ const BEFORE_ASKING: [u8; 42] = [
 ];
 
 // These, and 100 times ASK, from a site that goes away before it is answered.
-fn serve_gone(rt: &HostRuntime, listener: &TcpListener) -> io::Result<()> {
-    ask_and_go(rt, listener)?;
-    serve_waiting(rt, listener, 1, "near.log")?;
-    command(rt, &["stn", "report", "near.log", "1"])
+fn serve_gone(scene: &Scene<'_>) -> io::Result<()> {
+    ask_and_go(scene)?;
+    scene.serve_waiting(1, "near.log")?;
+    command(scene.rt, &["stn", "report", "near.log", "1"])
 }
 
-fn ask_and_go(rt: &HostRuntime, listener: &TcpListener) -> io::Result<()> {
-    let stream = begin(rt, listener, &BEFORE_ASKING)?;
-    let answer = ask_often(&stream);
-    drop(stream);
-    answer
+fn ask_and_go(scene: &Scene<'_>) -> io::Result<()> {
+    let stream = scene.begin(&BEFORE_ASKING)?;
+    ask_often(&stream)
 }
 
 fn ask_often(stream: &TcpStream) -> io::Result<()> {
@@ -378,55 +329,39 @@ fn ask_often(stream: &TcpStream) -> io::Result<()> {
 }
 
 // A session after which the log can't be saved.
-fn serve_unsaved(rt: &HostRuntime, listener: &TcpListener) -> io::Result<()> {
-    drop(connect(rt, listener)?);
-    serve_unlockable(rt, listener)
+fn serve_unsaved(scene: &Scene<'_>) -> io::Result<()> {
+    drop(scene.connect()?);
+    serve_unlockable(scene)
 }
 
 // Serves while nobody can lock the log, which may be locked again afterwards.
-fn serve_unlockable(rt: &HostRuntime, listener: &TcpListener) -> io::Result<()> {
-    fs::remove_file(rt, "near.log.lock")?;
-    fs::create_dir(rt, "near.log.lock")?;
-    serve_waiting(rt, listener, 1, "near.log")?;
-    fs::remove_dir(rt, "near.log.lock")?;
-    fs::write(rt, "near.log.lock", b"")
+fn serve_unlockable(scene: &Scene<'_>) -> io::Result<()> {
+    fs::remove_file(scene.rt, "near.log.lock")?;
+    fs::create_dir(scene.rt, "near.log.lock")?;
+    scene.serve_waiting(1, "near.log")?;
+    fs::remove_dir(scene.rt, "near.log.lock")?;
+    fs::write(scene.rt, "near.log.lock", b"")
 }
 
 // Requests whose records can't be saved: prints the replies, after which the log is as before.
-fn serve_unsaved_records(rt: &HostRuntime, listener: &TcpListener, digits: &str) -> io::Result<()> {
-    let before = fs::read(rt, "near.log")?;
-    let other = send_bytes(rt, listener, digits)?;
-    serve_unlockable(rt, listener)?;
-    print_replies(rt, &other)?;
-    is_as_before(rt, "near.log", &before)
+fn serve_unsaved_records(scene: &Scene<'_>, digits: &str) -> io::Result<()> {
+    let before = fs::read(scene.rt, "near.log")?;
+    let other = send_bytes(scene, digits)?;
+    serve_unlockable(scene)?;
+    print_replies(scene.rt, &other)?;
+    is_as_before(scene.rt, "near.log", &before)
 }
 
 // Sends over a connection on which these replies wait.
-fn send_waiting(rt: &HostRuntime, listener: &TcpListener, replies: &[u8]) -> io::Result<()> {
-    let mut replica = far_replica(rt)?;
-    let answer = send_replica(rt, listener, replies, &mut replica);
-    drop(replica);
-    answer
-}
-
-// The same for a replica that was loaded before.
-fn send_replica(
-    rt: &HostRuntime,
-    listener: &TcpListener,
+fn send_waiting(
+    scene: &Scene<'_>,
     replies: &[u8],
     replica: &mut Replica<Global>,
 ) -> io::Result<()> {
-    let stream = connect(rt, listener)?;
-    let (other, _) = listener.accept()?;
+    let stream = scene.connect()?;
+    let (other, _) = scene.listener.accept()?;
     write_all_of(&other, replies)?;
-    send_over(rt, stream, replica)
-}
-
-// Writes these bytes, and says that nothing more comes.
-fn write_all_of(stream: &TcpStream, bytes: &[u8]) -> io::Result<()> {
-    let mut writer = stream;
-    writer.write_all(bytes)?;
-    stream.shutdown(Shutdown::Write)
+    send_over(scene.rt, stream, replica)
 }
 
 // Sends over a connection, and prints the status.
@@ -462,26 +397,15 @@ fn status_of_sending(
 }
 
 // Sends where these replies wait, which are refused; then the log is as before.
-fn send_refused(rt: &HostRuntime, listener: &TcpListener, digits: &str) -> io::Result<()> {
-    let before = fs::read(rt, "far.log")?;
-    send_in_vain(rt, listener, digits, &before)
+fn send_refused(scene: &Scene<'_>, digits: &str, replica: &mut Replica<Global>) -> io::Result<()> {
+    let before = fs::read(scene.rt, "far.log")?;
+    send_digits(scene, digits, replica)?;
+    is_as_before(scene.rt, "far.log", &before)
 }
 
-fn send_in_vain(
-    rt: &HostRuntime,
-    listener: &TcpListener,
-    digits: &str,
-    before: &[u8],
-) -> io::Result<()> {
-    send_digits(rt, listener, digits)?;
-    is_as_before(rt, "far.log", before)
-}
-
-fn send_digits(rt: &HostRuntime, listener: &TcpListener, digits: &str) -> io::Result<()> {
-    match hex::decode(rt.alloc(), digits) {
-        Ok(replies) => send_waiting(rt, listener, &replies),
-        Err(_) => Err(Error::other("no digits")),
-    }
+fn send_digits(scene: &Scene<'_>, digits: &str, replica: &mut Replica<Global>) -> io::Result<()> {
+    let replies = bytes_of(scene.rt.alloc(), digits)?;
+    send_waiting(scene, &replies, replica)
 }
 
 fn is_as_before(rt: &HostRuntime, log: &str, before: &[u8]) -> io::Result<()> {
@@ -493,15 +417,11 @@ fn is_as_before(rt: &HostRuntime, log: &str, before: &[u8]) -> io::Result<()> {
 }
 
 // An address at which another listens, and one at which nobody does; after either no log was saved.
-fn reach_nothing(rt: &HostRuntime, listener: &TcpListener) -> io::Result<()> {
-    let before = fs::read(rt, "near.log")?;
-    try_addresses(rt, listener, &before)
-}
-
-fn try_addresses(rt: &HostRuntime, listener: &TcpListener, before: &[u8]) -> io::Result<()> {
-    serve_at_taken(rt, listener)?;
-    send_to_free(rt)?;
-    is_as_before(rt, "near.log", before)
+fn reach_nothing(scene: &Scene<'_>) -> io::Result<()> {
+    let before = fs::read(scene.rt, "near.log")?;
+    serve_at_taken(scene)?;
+    send_to_free(scene.rt)?;
+    is_as_before(scene.rt, "near.log", &before)
 }
 
 fn address_of(alloc: Global, listener: &TcpListener) -> io::Result<String> {
@@ -509,9 +429,9 @@ fn address_of(alloc: Global, listener: &TcpListener) -> io::Result<String> {
     Ok(format!(in alloc; "{address}")?)
 }
 
-fn serve_at_taken(rt: &HostRuntime, listener: &TcpListener) -> io::Result<()> {
-    let taken = address_of(rt.alloc(), listener)?;
-    command(rt, &["stn", "serve", "near.log", "1", &taken, "1"])
+fn serve_at_taken(scene: &Scene<'_>) -> io::Result<()> {
+    let taken = address_of(scene.rt.alloc(), scene.listener)?;
+    command(scene.rt, &["stn", "serve", "near.log", "1", &taken, "1"])
 }
 
 fn send_to_free(rt: &HostRuntime) -> io::Result<()> {
@@ -521,9 +441,7 @@ fn send_to_free(rt: &HostRuntime) -> io::Result<()> {
 
 fn free_address(rt: &HostRuntime) -> io::Result<String> {
     let other = TcpListener::bind(rt, "127.0.0.1:0")?;
-    let address = address_of(rt.alloc(), &other);
-    drop(other);
-    address
+    address_of(rt.alloc(), &other)
 }
 
 fn make_logs(rt: &HostRuntime) -> io::Result<()> {
@@ -540,25 +458,28 @@ fn find_nothing(rt: &HostRuntime) -> io::Result<()> {
     command(rt, &["stn", "serve", "none.log", "1", "127.0.0.1:0", "1"])
 }
 
-// Over one connection after the other, each of which the other end has made.
-fn serve_and_send(
-    rt: &HostRuntime,
-    listener: &TcpListener,
-    scenario: &str,
-    digits: &str,
-) -> io::Result<()> {
+// What site 2 asks or sends.
+fn ask_or_send(scene: &Scene<'_>, scenario: &str, digits: &str) -> io::Result<()> {
+    let mut replica = far_replica(scene.rt)?;
     match scenario {
-        "session" => session(rt, listener),
-        "refused" => serve_refused(rt, listener),
-        "cut" => serve_broken(rt, listener),
-        "send" => send(rt, listener),
-        "request" => serve_request(rt, listener, digits),
-        "replies" => send_refused(rt, listener, digits),
-        "gone" => serve_gone(rt, listener),
-        "unsaved" => serve_unsaved(rt, listener),
-        "unsaved-records" => serve_unsaved_records(rt, listener, digits),
-        "addresses" => reach_nothing(rt, listener),
-        _ => untrusted::serve_or_send(rt, listener, scenario),
+        "session" => session(scene, &mut replica),
+        "refused" => serve_refused(scene, &mut replica),
+        "send" => send(scene, &mut replica),
+        _ => send_refused(scene, digits, &mut replica),
+    }
+}
+
+// Over one connection after the other, each of which the other end has made.
+fn serve_and_send(scene: &Scene<'_>, scenario: &str, digits: &str) -> io::Result<()> {
+    match scenario {
+        "session" | "refused" | "send" | "replies" => ask_or_send(scene, scenario, digits),
+        "cut" => serve_broken(scene),
+        "request" => serve_request(scene, digits),
+        "gone" => serve_gone(scene),
+        "unsaved" => serve_unsaved(scene),
+        "unsaved-records" => serve_unsaved_records(scene, digits),
+        "addresses" => reach_nothing(scene),
+        _ => untrusted::serve_or_send(scene, scenario),
     }
 }
 
@@ -566,9 +487,13 @@ fn serve_and_send(
 pub fn run_scenario(rt: &HostRuntime, scenario: &str, words: &str) -> io::Result<()> {
     let listener = TcpListener::bind(rt, "127.0.0.1:0")?;
     let (digits, _) = cut_word(words);
+    let scene = Scene {
+        rt,
+        listener: &listener,
+    };
     match scenario {
         "logs" => make_logs(rt),
         "nowhere" => find_nothing(rt),
-        _ => serve_and_send(rt, &listener, scenario, digits),
+        _ => serve_and_send(&scene, scenario, digits),
     }
 }

@@ -127,12 +127,18 @@ fn append(rt: &HostRuntime, name: &str, count: u32, bytes: &[u8]) -> io::Result<
     write_often(&mut file, count, bytes)
 }
 
+// The bytes that digits spell.
+fn bytes_of(alloc: Global, digits: &str) -> io::Result<Vec<u8>> {
+    match hex::decode(alloc, digits) {
+        Ok(bytes) => Ok(bytes),
+        Err(_) => Err(Error::other("no digits")),
+    }
+}
+
 fn append_bytes(rt: &HostRuntime, name: &str, words: &str) -> io::Result<()> {
     let (count, digits) = cut_word(words);
-    match hex::decode(rt.alloc(), digits) {
-        Ok(bytes) => append(rt, name, count.parse().unwrap_or(0), &bytes),
-        Err(_) => Err(Error::other("no bytes")),
-    }
+    let bytes = bytes_of(rt.alloc(), digits)?;
+    append(rt, name, count.parse().unwrap_or(0), &bytes)
 }
 
 fn append_line(line: &str, text: &mut Vec<u8>) -> Result<(), AllocError> {

@@ -1,5 +1,6 @@
 //! Sessions and exchanges in memory: what the other site says is given, and what it is told is printed.
 
+use crate::bytes_of;
 use std::alloc::Global;
 use std::io;
 use std::io::Error;
@@ -122,9 +123,7 @@ pub fn serve_saying(
     digits: &str,
     zeros: usize,
 ) -> io::Result<()> {
-    let Ok(mut bytes) = hex::decode(rt.alloc(), digits) else {
-        return Err(Error::other("no digits"));
-    };
+    let mut bytes = bytes_of(rt.alloc(), digits)?;
     bytes.resize(bytes.len().saturating_add(zeros), 0)?;
     drop(serve_both(rt, store, name, &bytes, b"")?);
     Ok(())

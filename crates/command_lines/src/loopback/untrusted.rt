@@ -1,6 +1,7 @@
 // Peers that keep a site waiting, each with an honest one after it.
 use super::{
-    BEFORE_ASKING, ask, begin, changing, command, far_replica, load_log, second_site, serve_waiting,
+    BEFORE_ASKING, Scene, changing, command, far_replica, load_log, replied, second_site,
+    take_replies,
 };
 use std::alloc::{AllocError, Global};
 use std::io;
@@ -10,119 +11,89 @@ use std::time::Duration;
 use stn_device::Counted;
 use stn_net::Event;
 use stn_replica::Replica;
-use stn_session::{ReplyFault, receive_replies, send_requests};
+use stn_session::{ReplyFault, send_requests};
 use stn_time::Ms;
 
 /// A peer that says nothing, one that stops within a frame, one that stops after its records and one that reads no reports; one that
 /// is refused before it has said all; and an address that doesn't answer.
-pub fn serve_or_send(rt: &HostRuntime, listener: &TcpListener, scenario: &str) -> io::Result<()> {
+pub fn serve_or_send(scene: &Scene<'_>, scenario: &str) -> io::Result<()> {
     match scenario {
-        "silent" => serve_after(rt, listener, b""),
-        "stopped" => serve_after(rt, listener, &[0, 0, 0, 4, 7]),
-        "silent-after-records" => serve_records(rt, listener),
-        "reads-nothing" => serve_unread(rt, listener),
-        "refused-early" => serve_other_plan(rt, listener),
-        "no-answer" => reach_no_answer(rt),
-        _ => changing::serve_or_send(rt, listener, scenario),
+        "silent" => serve_after(scene, b""),
+        "stopped" => serve_after(scene, &[0, 0, 0, 4, 7]),
+        "silent-after-records" => serve_records(scene),
+        "reads-nothing" => serve_unread(scene),
+        "refused-early" => serve_other_plan(scene),
+        "no-answer" => reach_no_answer(scene.rt),
+        _ => changing::serve_or_send(scene, scenario),
     }
 }
 
 // A connection with the requests of a replica, and nothing after them.
-fn ask_alone(
-    rt: &HostRuntime,
-    listener: &TcpListener,
-    replica: &Replica<Global>,
-) -> io::Result<TcpStream> {
-    let stream = ask(rt, listener, replica)?;
+fn ask_alone(scene: &Scene<'_>, replica: &Replica<Global>) -> io::Result<TcpStream> {
+    let stream = scene.ask(replica)?;
     stream.shutdown(Shutdown::Write)?;
     Ok(stream)
 }
 
-// Prints the first line of the text that a site replies.
-fn print_first_line(
-    rt: &HostRuntime,
-    stream: &TcpStream,
-    replica: &mut Replica<Global>,
-) -> io::Result<()> {
-    let mut reader = Counted::new(stream);
-    match receive_replies(rt.alloc(), &mut reader, replica) {
-        Ok(text) => print_first_line_of(rt, &text),
-        Err(_) => Err(Error::other("replies are not taken")),
-    }
-}
-
-fn print_first_line_of(rt: &HostRuntime, text: &[u8]) -> io::Result<()> {
+fn print_first_line(rt: &HostRuntime, text: &[u8]) -> io::Result<()> {
     let text = String::from_utf8_lossy(rt.alloc(), text)?;
     println!(rt; "{}", text.lines().next().unwrap_or(""))
 }
 
 // A peer that says this and no more, and the honest one.
-fn serve_after(rt: &HostRuntime, listener: &TcpListener, said: &[u8]) -> io::Result<()> {
-    let mut honest = far_replica(rt)?;
-    let answer = serve_both(rt, listener, "near.log", said, &mut honest);
-    drop(honest);
-    answer
+fn serve_after(scene: &Scene<'_>, said: &[u8]) -> io::Result<()> {
+    let mut honest = far_replica(scene.rt)?;
+    serve_both(scene, "near.log", said, &mut honest)
 }
 
 fn serve_both(
-    rt: &HostRuntime,
-    listener: &TcpListener,
+    scene: &Scene<'_>,
     log: &str,
     said: &[u8],
     honest: &mut Replica<Global>,
 ) -> io::Result<()> {
-    let silent = begin(rt, listener, said)?;
-    let answer = serve_honest(rt, listener, log, honest);
+    let silent = scene.begin(said)?;
+    let answer = serve_honest(scene, log, honest);
     drop(silent);
     answer
 }
 
-// Serves the peer that waits, and an honest one.
-fn serve_honest(
-    rt: &HostRuntime,
-    listener: &TcpListener,
-    log: &str,
-    honest: &mut Replica<Global>,
-) -> io::Result<()> {
-    let asking = ask_alone(rt, listener, honest)?;
-    serve_waiting(rt, listener, 2, log)?;
-    print_first_line(rt, &asking, honest)
+// Serves the peer that waits, and an honest one, of whose replies it prints the first line.
+fn serve_honest(scene: &Scene<'_>, log: &str, honest: &mut Replica<Global>) -> io::Result<()> {
+    let asking = ask_alone(scene, honest)?;
+    scene.serve_waiting(2, log)?;
+    let text = replied(scene.rt.alloc(), &asking, honest)?;
+    print_first_line(scene.rt, &text)
 }
 
 // A peer that hands on its record and then says nothing: the record is kept.
-fn serve_records(rt: &HostRuntime, listener: &TcpListener) -> io::Result<()> {
-    command(rt, &["stn", "bare", "silent.log", "1", "1"])?;
-    serve_silent(rt, listener)?;
-    command(rt, &["stn", "report", "silent.log", "1"])
+fn serve_records(scene: &Scene<'_>) -> io::Result<()> {
+    command(scene.rt, &["stn", "bare", "silent.log", "1", "1"])?;
+    serve_silent(scene)?;
+    command(scene.rt, &["stn", "report", "silent.log", "1"])
 }
 
-fn serve_silent(rt: &HostRuntime, listener: &TcpListener) -> io::Result<()> {
-    let silent = begin(rt, listener, &BEFORE_ASKING)?;
-    let answer = serve_waiting(rt, listener, 1, "silent.log");
+fn serve_silent(scene: &Scene<'_>) -> io::Result<()> {
+    let silent = scene.begin(&BEFORE_ASKING)?;
+    let answer = scene.serve_waiting(1, "silent.log");
     drop(silent);
     answer
 }
 
 // A peer that asks for 800 reports of 256 steps and reads none of them: more bytes than a connection holds.
-fn serve_unread(rt: &HostRuntime, listener: &TcpListener) -> io::Result<()> {
-    command(rt, &["stn", "bare", "large.log", "1", "256"])?;
-    let mut honest = large_replica(rt)?;
-    let answer = serve_asking_on(rt, listener, &mut honest);
-    drop(honest);
-    answer
+fn serve_unread(scene: &Scene<'_>) -> io::Result<()> {
+    command(scene.rt, &["stn", "bare", "large.log", "1", "256"])?;
+    let mut honest = large_replica(scene.rt)?;
+    serve_asking_on(scene, &mut honest)
 }
 
 fn large_replica(rt: &HostRuntime) -> io::Result<Replica<Global>> {
     load_log(rt, "large.log", second_site())
 }
 
-fn serve_asking_on(
-    rt: &HostRuntime,
-    listener: &TcpListener,
-    honest: &mut Replica<Global>,
-) -> io::Result<()> {
-    let requests = asking_on(rt, honest)?;
-    serve_both(rt, listener, "large.log", &requests, honest)
+fn serve_asking_on(scene: &Scene<'_>, honest: &mut Replica<Global>) -> io::Result<()> {
+    let requests = asking_on(scene.rt, honest)?;
+    serve_both(scene, "large.log", &requests, honest)
 }
 
 // The requests of a replica, and ASK, which ends them, many times more.
@@ -145,33 +116,16 @@ fn append_asks(bytes: &mut Vec<u8>) -> Result<(), AllocError> {
 }
 
 // A site of another plan with 400 records: it has more to say after it is refused, and is told why.
-fn serve_other_plan(rt: &HostRuntime, listener: &TcpListener) -> io::Result<()> {
-    let mut other = large_replica(rt)?;
-    let answer = ask_of_other_plan(rt, listener, &mut other);
-    drop(other);
-    answer
+fn serve_other_plan(scene: &Scene<'_>) -> io::Result<()> {
+    let mut other = large_replica(scene.rt)?;
+    ask_of_other_plan(scene, &mut other)
 }
 
-fn ask_of_other_plan(
-    rt: &HostRuntime,
-    listener: &TcpListener,
-    other: &mut Replica<Global>,
-) -> io::Result<()> {
+fn ask_of_other_plan(scene: &Scene<'_>, other: &mut Replica<Global>) -> io::Result<()> {
     add_all(other)?;
-    let stream = ask(rt, listener, other)?;
-    let answer = serve_refusing(rt, listener, &stream, other);
-    drop(stream);
-    answer
-}
-
-fn serve_refusing(
-    rt: &HostRuntime,
-    listener: &TcpListener,
-    stream: &TcpStream,
-    other: &mut Replica<Global>,
-) -> io::Result<()> {
-    serve_waiting(rt, listener, 1, "near.log")?;
-    print_refusal(rt, stream, other)
+    let stream = scene.ask(other)?;
+    scene.serve_waiting(1, "near.log")?;
+    print_refusal(scene.rt, &stream, other)
 }
 
 fn print_refusal(
@@ -179,8 +133,7 @@ fn print_refusal(
     stream: &TcpStream,
     replica: &mut Replica<Global>,
 ) -> io::Result<()> {
-    let mut reader = Counted::new(stream);
-    match receive_replies(rt.alloc(), &mut reader, replica) {
+    match take_replies(rt.alloc(), stream, replica) {
         Err(ReplyFault::Refused(code)) => println!(rt; "Refused({code})"),
         _ => Err(Error::other("no refusal")),
     }
