@@ -2,26 +2,4 @@
 #![tactic(auto)]
 
 #[cfg(test)]
-mod commands;
-#[cfg(test)]
-mod conflict;
-#[cfg(test)]
-mod devices;
-#[cfg(test)]
-mod events;
-#[cfg(test)]
-mod frames;
-#[cfg(test)]
-mod guards;
-#[cfg(test)]
-mod logs;
-#[cfg(test)]
-mod readers;
-#[cfg(test)]
-mod records;
-#[cfg(test)]
-mod refusals;
-#[cfg(test)]
-mod requests;
-#[cfg(test)]
-mod sweep;
+mod tests;

@@ -1,6 +1,6 @@
 ghost use Rattle.std.specs.Prelude.{◌≤◌};
 
-use crate::sweep::{Answer, Call, judged, requests};
+use crate::tests::sweep::{Answer, Call, judged, requests};
 use std::alloc::Global;
 use stn_net::{Bound, Event};
 use stn_records::{Id, Mark, PartFault, Records, RecordsFault, Site};

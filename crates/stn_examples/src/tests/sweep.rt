@@ -1,9 +1,11 @@
-use crate::commands::{Asked, loosen_refused, robust_refused, say_refused};
-use crate::conflict::cycle_refused;
-use crate::guards::guard_refused;
-use crate::logs::{Done, line_refused};
-use crate::readers::{domain_refused, plan_refused};
-use crate::records::{Change, Reading, change_refused, print_refused, read_refused, take_refused};
+use crate::tests::commands::{Asked, loosen_refused, say_refused};
+use crate::tests::conflict::cycle_refused;
+use crate::tests::guards::guard_refused;
+use crate::tests::logs::{Done, line_refused};
+use crate::tests::readers::{domain_refused, plan_refused};
+use crate::tests::records::{
+    Change, Reading, change_refused, print_refused, read_refused, take_refused,
+};
 use std::alloc::Global;
 use std::process::Abort;
 use stn_refusing::Refusing;
@@ -49,8 +51,7 @@ pub enum Call<'a> {
     Reading(Reading),
     Print,
     Say(Asked, bool),
-    Loosen,
-    Robust,
+    Loosen(bool),
     Guard,
     Line(Done<'a>),
 }
@@ -67,8 +68,7 @@ fn answer_with(heap: &Refusing<Global>, number: u64, call: Call<'_>) -> Answer {
         Call::Reading(reading) => read_refused(heap, number, reading),
         Call::Print => print_refused(heap, number),
         Call::Say(asked, conflict) => say_refused(heap, number, asked, conflict),
-        Call::Loosen => loosen_refused(heap, number),
-        Call::Robust => robust_refused(heap, number),
+        Call::Loosen(robust) => loosen_refused(heap, number, robust),
         Call::Guard => guard_refused(heap, number),
         Call::Line(done) => line_refused(heap, number, done),
     }

@@ -1,4 +1,4 @@
-use crate::sweep::{Answer, Call, judged, requests};
+use crate::tests::sweep::{Answer, Call, judged, requests};
 use std::alloc::Global;
 use stn_lift::{Plan, PlanFault};
 use stn_pddl::{Domain, DomainFault};

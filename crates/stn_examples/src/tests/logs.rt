@@ -1,6 +1,6 @@
 // Commands on logs over a store in memory, each of whose requests for memory is refused in turn.
-use crate::commands::{DOMAIN, PLAN};
-use crate::sweep::{Answer, Call, judged, requests};
+use crate::tests::commands::{DOMAIN, PLAN};
+use crate::tests::sweep::{Answer, Call, judged, requests};
 use std::alloc::{Allocator, Global};
 use std::process::Abort;
 use stn_line::{Line, line};

@@ -1,5 +1,5 @@
 // Guards of small plans, worked out by hand.
-use crate::sweep::{Answer, Call, judged, requests};
+use crate::tests::sweep::{Answer, Call, judged, requests};
 use std::alloc::{Allocator, Global};
 use std::rc::Rc;
 use stn_guard::{OwnedSteps, add_guard};
@@ -172,15 +172,25 @@ fn meet(one: &mut SitePlan<Global>, other: &mut SitePlan<Global>) -> Option<bool
     Some(windows.is_some() && others.is_some())
 }
 
+// One executes its event and meets the other, which then executes its own.
+fn act_in_turn(
+    one: &mut SitePlan<Global>,
+    first: (u16, i64),
+    other: &mut SitePlan<Global>,
+    last: (u16, i64),
+) -> Option<bool> {
+    execute(one, first.0, first.1)?;
+    let met = meet(one, other)?;
+    execute(other, last.0, last.1)?;
+    let met_again = meet(one, other)?;
+    Some(met && met_again)
+}
+
 // Site 1 ends its step at the first moment that the guard leaves it, and meets site 2, which then starts its own at the last:
 // four seconds later, as many as there may be.
 fn first_site_acts_first(alloc: Global) -> Option<bool> {
     let (mut first, mut second) = two_guarded_sites(alloc)?;
-    execute(&mut first, 2, 5_000)?;
-    let met = meet(&mut first, &mut second)?;
-    execute(&mut second, 3, 9_000)?;
-    let met_again = meet(&mut first, &mut second)?;
-    Some(met && met_again)
+    act_in_turn(&mut first, (2, 5_000), &mut second, (3, 9_000))
 }
 
 #[test]
@@ -192,11 +202,7 @@ fn the_end_is_known_before_the_start(rt: HostRuntime) {
 // at that same moment.
 fn second_site_acts_first(alloc: Global) -> Option<bool> {
     let (mut first, mut second) = two_guarded_sites(alloc)?;
-    execute(&mut second, 3, 7_000)?;
-    let met = meet(&mut first, &mut second)?;
-    execute(&mut first, 2, 7_000)?;
-    let met_again = meet(&mut first, &mut second)?;
-    Some(met && met_again)
+    act_in_turn(&mut second, (3, 7_000), &mut first, (2, 7_000))
 }
 
 #[test]

@@ -1,6 +1,6 @@
 ghost use Rattle.stn_net.specs.Difference.{NamesEvents};
 
-use crate::sweep::{Answer, Call, judged, requests};
+use crate::tests::sweep::{Answer, Call, judged, requests};
 use std::alloc::Global;
 use stn_conflict::{Cycle, Link, Side, cycle};
 use stn_lift::Base;

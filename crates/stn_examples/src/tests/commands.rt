@@ -1,5 +1,5 @@
 // What commands on logs ask, and the loosened and the robust plan, while a request for memory is refused.
-use crate::sweep::{Answer, Call, judged, requests};
+use crate::tests::sweep::{Answer, Call, judged, requests};
 use std::alloc::Global;
 use std::process::Abort;
 use std::rc::Rc;
@@ -180,11 +180,27 @@ fn loose_base(heap: &Refusing<Global>) -> Option<Base<&Refusing<Global>>> {
     base.ok()
 }
 
-// Whether a site's copy holds the durations of both steps, or memory was lacking.
-fn is_loosened(loosened: Result<SitePlan<&Refusing<Global>>, LoosenFault>) -> (bool, bool) {
-    match loosened {
+// The loosened plan, or the robust one.
+fn made<'a>(
+    heap: &'a Refusing<Global>,
+    base: &Base<&'a Refusing<Global>>,
+    robust: bool,
+) -> Result<SitePlan<&'a Refusing<Global>>, LoosenFault> {
+    let site = Site::new(1).unwrap();
+    let second = Ms::new(1_000).unwrap();
+    let tolerance = Tolerance::new(second, second).unwrap();
+    if robust {
+        robust_site_plan(heap, site, base, tolerance)
+    } else {
+        loosened_site_plan(heap, site, base, tolerance)
+    }
+}
+
+// Whether a site's copy holds so many records, or memory was lacking.
+fn is_made(made: Result<SitePlan<&Refusing<Global>>, LoosenFault>, known: usize) -> (bool, bool) {
+    match made {
         Ok(copy) => {
-            let right = copy.records().known() == 2;
+            let right = copy.records().known() == known;
             drop(copy);
             (right, false)
         }
@@ -192,52 +208,25 @@ fn is_loosened(loosened: Result<SitePlan<&Refusing<Global>>, LoosenFault>) -> (b
     }
 }
 
-/// What a plan is loosened to while a request is refused.
-pub fn loosen_refused(heap: &Refusing<Global>, number: u64) -> Answer {
+/// What a plan is loosened to while a request is refused: the durations of both steps; in the robust plan also when each may start at
+/// the latest.
+pub fn loosen_refused(heap: &Refusing<Global>, number: u64, robust: bool) -> Answer {
     let Some(base) = loose_base(heap) else {
         return Answer::Wrong;
     };
-    let second = Ms::new(1_000).unwrap();
-    let tolerance = Tolerance::new(second, second).unwrap();
     heap.refuse(number);
-    let loosened = loosened_site_plan(heap, Site::new(1).unwrap(), &base, tolerance);
+    let made = made(heap, &base, robust);
     drop(base);
-    let (right, memory) = is_loosened(loosened);
+    let (right, memory) = is_made(made, if robust { 4 } else { 2 });
     judged(heap, right, memory)
 }
 
 #[test]
 fn loosened_plans(rt: HostRuntime) {
-    assert!(rt; requests(&rt, rt.alloc(), Call::Loosen) > 3);
-}
-
-// Whether a site's copy holds the durations of both steps and when each may start at the latest, or memory was lacking.
-fn is_robust(robust: Result<SitePlan<&Refusing<Global>>, LoosenFault>) -> (bool, bool) {
-    match robust {
-        Ok(copy) => {
-            let right = copy.records().known() == 4;
-            drop(copy);
-            (right, false)
-        }
-        Err(fault) => (false, fault == LoosenFault::Memory),
-    }
-}
-
-/// What the robust plan is while a request is refused.
-pub fn robust_refused(heap: &Refusing<Global>, number: u64) -> Answer {
-    let Some(base) = loose_base(heap) else {
-        return Answer::Wrong;
-    };
-    let second = Ms::new(1_000).unwrap();
-    let tolerance = Tolerance::new(second, second).unwrap();
-    heap.refuse(number);
-    let robust = robust_site_plan(heap, Site::new(1).unwrap(), &base, tolerance);
-    drop(base);
-    let (right, memory) = is_robust(robust);
-    judged(heap, right, memory)
+    assert!(rt; requests(&rt, rt.alloc(), Call::Loosen(false)) > 3);
 }
 
 #[test]
 fn robust_plans(rt: HostRuntime) {
-    assert!(rt; requests(&rt, rt.alloc(), Call::Robust) > 3);
+    assert!(rt; requests(&rt, rt.alloc(), Call::Loosen(true)) > 3);
 }

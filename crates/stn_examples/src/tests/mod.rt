@@ -1,0 +1,12 @@
+mod commands;
+mod conflict;
+mod devices;
+mod events;
+mod frames;
+mod guards;
+mod logs;
+mod readers;
+mod records;
+mod refusals;
+mod requests;
+mod sweep;
