@@ -264,49 +264,12 @@ fn foresee<A: Allocator + Copy>(
 ) -> Result<Vec<u8, A>, Failure>
     ensures { Foresees outlook now (done_or_others own.now replica.now.source replica.now.state) replica.now result }
 {
+    let mut text = Vec::new(replica.alloc());
     match outlook {
-        Outlook::Next => next(replica, now, own),
-        Outlook::Ready => ready(replica, now, own),
-        Outlook::Rehearse => rehearse(replica, now, own),
+        Outlook::Next => append_next(replica, now, own, &mut text)?,
+        Outlook::Ready => print_ready_among(replica, now, own, &mut text)?,
+        Outlook::Rehearse => append_rest(replica, now, own, &mut text)?,
     }
-}
-
-// Which own event comes next from a time on.
-fn next<A: Allocator + Copy>(
-    replica: &Replica<A>,
-    now: Ms,
-    own: &Own<'_>,
-) -> Result<Vec<u8, A>, Failure>
-    ensures { Foresees outlook.Next now (done_or_others own.now replica.now.source replica.now.state) replica.now result }
-{
-    let mut text = Vec::new(replica.alloc());
-    append_next(replica, now, own, &mut text)?;
-    Ok(text)
-}
-
-// Which own events may run from a time on.
-fn ready<A: Allocator + Copy>(
-    replica: &Replica<A>,
-    now: Ms,
-    own: &Own<'_>,
-) -> Result<Vec<u8, A>, Failure>
-    ensures { Foresees outlook.Ready now (done_or_others own.now replica.now.source replica.now.state) replica.now result }
-{
-    let mut text = Vec::new(replica.alloc());
-    print_ready_among(replica, now, own, &mut text)?;
-    Ok(text)
-}
-
-// The rest of the own events from a time on.
-fn rehearse<A: Allocator + Copy>(
-    replica: &Replica<A>,
-    now: Ms,
-    own: &Own<'_>,
-) -> Result<Vec<u8, A>, Failure>
-    ensures { Foresees outlook.Rehearse now (done_or_others own.now replica.now.source replica.now.state) replica.now result }
-{
-    let mut text = Vec::new(replica.alloc());
-    append_rest(replica, now, own, &mut text)?;
     Ok(text)
 }
 
