@@ -1,15 +1,13 @@
 -- What is asked of a plan depends on the live records alone.
-use Rattle.std.proofs.Common.{◌≡◌, inl, inr, ⊎_elim, ℕ, ℤ, neg_ℤ, ◌+◌, Bool, List, ◌++◌, codes, length, map, ap, subst, ◌∙◌}
+use Rattle.std.proofs.Common.{◌≡◌, inl, inr, ⊎_elim, ℕ, ℤ, neg_ℤ, ◌+◌, Bool, List, ◌++◌, codes, length, map, refl, ap, subst, ◌∙◌}
 use Rattle.std.specs.List.{flat_map, range_with_len}
 use Rattle.stn_time.specs.Text.{printed}
 use Rattle.stn_net.specs.{Difference.Difference, Schedule.HasSchedule}
-use Rattle.stn_net.specs.Windows.Window.{IsWindow}
 use Rattle.stn_lift.specs.PlanSource.{PlanSource, base_bounds, events_of}
 use Rattle.stn_records.specs.{Id.SiteCounter, declared.record.Record.Record, Content.Content, Content.live_of}
 use Rattle.stn_conflict.specs.{declared.links.Link.Link, Arcs.weight_of, Named.IsWay}
 use Rattle.stn_site.specs.{Bounds.bounds_of, Lines.line, Lines.window_line, Lines.link_line, Report.says_done}
-use Rattle.stn_questions.specs.Repair.Ranges.{IsRange}
-use Rattle.stn_questions.specs.{declared.asked.Question.Question, Bounds.listed_line, Ready.IsReadyWith, Ready.IsReadyText, Why.end_text, Why.range_line, Why.IsWhyPart, Why.IsApartPart, Answer.IsAnswer, Answer.AsksOfPlan}
+use Rattle.stn_questions.specs.{declared.asked.Question.Question, Bounds.listed_line, Ready.IsReadyWith, Ready.IsReadyText, Why.end_text, Why.IsReasonPart, Answer.IsAnswer, Answer.AsksOfPlan}
 use Rattle.stn_questions.specs.declared.asked.Question.TheVariants.{Records, Steps, Bounds, Why, WhyApart}
 use Rattle.stn_questions.proofs.picture.OnePicture.{same_conflict}
 
@@ -34,36 +32,21 @@ module _ (source : PlanSource) (s t : Content) (live : live_of s ≡ live_of t) 
   same_end : (word : List ℕ) (time : ℤ) (links : List Link) → end_text source s word time links ≡ end_text source t word time links
   same_end word time links = λ i. line (word ++ codes " " ++ printed time) ++ flat_map (link_line (base_bounds source) (ids_of (live i)) (bounds_of (live i))) links
 
-  same_why : (event : ℕ) (text : List ℕ) → IsWhyPart source s event text → IsWhyPart source t event text
-  same_why event text p = record {
-    possible = subst (λ (records : Entries). HasSchedule (bounds_with source records)) live p.possible;
-    earliest = p.earliest;
-    latest = p.latest;
-    window = subst (λ (records : Entries). IsWindow (bounds_with source records) event p.earliest p.latest) live p.window;
-    to_origin = p.to_origin;
-    from_origin = p.from_origin;
-    way_to_origin = subst (λ (records : Entries). IsWay (bounds_with source records) event 0 p.to_origin) live p.way_to_origin;
-    way_from_origin = subst (λ (records : Entries). IsWay (bounds_with source records) 0 event p.from_origin) live p.way_from_origin;
-    holds_earliest = p.holds_earliest ∙ ap (λ (records : Entries). neg_ℤ (weight_of (bounds_with source records) p.to_origin)) live;
-    holds_latest = p.holds_latest ∙ ap (λ (records : Entries). weight_of (bounds_with source records) p.from_origin) live;
-    whole = p.whole ∙ (λ i. window_line event p.earliest p.latest (says_done (live i) event)
-        ++ (same_end (codes "earliest") p.earliest p.to_origin i ++ same_end (codes "latest") p.latest p.from_origin i));
-  }
-
-  same_apart : (from to : ℕ) (text : List ℕ) → IsApartPart source s from to text → IsApartPart source t from to text
-  same_apart from to text p = record {
+  same_reason : (from to : ℕ) (AreEnds : List Difference → ℤ → ℤ → Type 0) (one other : ℤ → ℤ → List ℕ) (low high text : List ℕ)
+      → IsReasonPart source s from to AreEnds one low high text → ((least greatest : ℤ) → one least greatest ≡ other least greatest)
+      → IsReasonPart source t from to AreEnds other low high text
+  same_reason from to AreEnds one other low high text p heading = record {
     possible = subst (λ (records : Entries). HasSchedule (bounds_with source records)) live p.possible;
     least = p.least;
     greatest = p.greatest;
-    range = subst (λ (records : Entries). IsRange (bounds_with source records) from to p.least p.greatest) live p.range;
+    ends = subst (λ (records : Entries). AreEnds (bounds_with source records) p.least p.greatest) live p.ends;
     back = p.back;
     onward = p.onward;
     way_back = subst (λ (records : Entries). IsWay (bounds_with source records) to from p.back) live p.way_back;
     way_onward = subst (λ (records : Entries). IsWay (bounds_with source records) from to p.onward) live p.way_onward;
     holds_least = p.holds_least ∙ ap (λ (records : Entries). neg_ℤ (weight_of (bounds_with source records) p.back)) live;
     holds_greatest = p.holds_greatest ∙ ap (λ (records : Entries). weight_of (bounds_with source records) p.onward) live;
-    whole = p.whole ∙ (λ i. range_line from to p.least p.greatest
-        ++ (same_end (codes "least") p.least p.back i ++ same_end (codes "greatest") p.greatest p.onward i));
+    whole = p.whole ∙ (λ i. heading p.least p.greatest i ++ (same_end low p.least p.back i ++ same_end high p.greatest p.onward i));
   }
 
   -- states with the same live records have the same answers, but of their records
@@ -72,5 +55,5 @@ module _ (source : PlanSource) (s t : Content) (live : live_of s ≡ live_of t) 
   counted_answer Steps text asks p = p
   counted_answer Bounds text asks p =
       p ∙ (λ i. flat_map (listed_line (base_bounds source) (ids_of (live i)) (bounds_of (live i))) (range_with_len 0 (length (bounds_with source (live i)))))
-  counted_answer (Why event) text asks p = ⊎_elim (λ why. inl (same_why event text why)) (λ conflict. inr (same_conflict source s t live text conflict)) p
-  counted_answer (WhyApart from to) text asks p = ⊎_elim (λ apart. inl (same_apart from to text apart)) (λ conflict. inr (same_conflict source s t live text conflict)) p
+  counted_answer (Why event) text asks p = ⊎_elim (λ why. inl (same_reason 0 event _ _ _ _ _ text why (λ least greatest. ap (λ (records : Entries). window_line event least greatest (says_done records event)) live))) (λ conflict. inr (same_conflict source s t live text conflict)) p
+  counted_answer (WhyApart from to) text asks p = ⊎_elim (λ apart. inl (same_reason from to _ _ _ _ _ text apart (λ least greatest. refl))) (λ conflict. inr (same_conflict source s t live text conflict)) p

@@ -9,6 +9,8 @@ use Rattle.std.proofs.lemmas.List.{get_or_append_left, get_or_push, length_push,
 use Rattle.std.proofs.lemmas.List.Elements.{All-push}
 use Rattle.stn_time.specs.Time.{horizon}
 use Rattle.stn_net.specs.{Difference.Difference, Difference.NamesEvents, Horizon.horizon_bound, Horizon.horizon_bounds, Schedule.HasSchedule, Matrix.Tightest.IsTightest, Matrix.Closed.IsClosed, Matrix.Closed.IsWidest, Matrix.Way.shorter, Matrix.Way.narrower, Matrix.Way.HasRoom}
+use Rattle.stn_net.specs.Windows.Window.{IsWindow}
+use Rattle.stn_net.proofs.WindowEnds.{window_of_ends}
 use Rattle.stn_net.proofs.Horizons.{length-horizon_bounds}
 use Rattle.stn_net.proofs.Tightest.{IsTight, row_is_schedule}
 use Rattle.stn_net.proofs.Closure.{narrower-closed, narrower-tight, schedule_before, schedule_last}
@@ -43,6 +45,13 @@ tightest_found bounds events far found x y xs ys =
       bound = λ time is. found.tight.sound time is x y xs ys;
       attained = ((λ z. far x z -ℤ far x 0), row_is_schedule bounds events far found.named found.closed found.tight x xs, omega (arith, ints));
     }
+
+-- the window of each event
+pub window_found : (bounds : List Difference) (events : ℕ) (far : ℕ → ℕ → ℤ) → AreFound bounds events far → (event : ℕ) → event ≤ events
+    → IsWindow bounds event (neg_ℤ (far event 0)) (far 0 event)
+window_found bounds events far found event within =
+    let none : 0 ≤ events = omega arith in
+    window_of_ends bounds event (far event 0) (far 0 event) (tightest_found bounds events far found event 0 within none) (tightest_found bounds events far found 0 event none within)
 
 -- ---- chains
 chain-append : (bounds : List Difference) (links others : List Link) (x y z : ℕ) → IsChain bounds links x y → IsChain bounds others y z → IsChain bounds (links ++ others) x z

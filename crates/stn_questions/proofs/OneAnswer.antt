@@ -1,16 +1,18 @@
 -- A plan and a state have one answer to each question.
-use Rattle.std.proofs.Common.{◌≡◌, ℕ, ℤ, Bool, List, ◌++◌, codes, refl, sym, ap, subst, ◌∙◌, ◌⊎◌, ⊎_elim, inr}
+use Rattle.std.proofs.Common.{◌≡◌, ℕ, ℤ, Bool, List, ◌++◌, refl, sym, ap, subst, ◌∙◌, ◌⊎◌, ⊎_elim, inr}
 use Rattle.std.proofs.lemmas.List.{append_cancel_left}
 use Rattle.std.specs.List.{flat_map}
 use Rattle.stn_net.specs.{Difference.Difference, Schedule.HasSchedule, declared.windows.answers.Next.Next, Windows.Dispatch.IsNext}
 use Rattle.stn_net.specs.declared.windows.answers.Next.TheVariants.{Run, AllDone, Overdue}
+use Rattle.stn_net.specs.Windows.Window.{IsWindow}
 use Rattle.stn_net.proofs.WindowEnds.{one_window}
 use Rattle.stn_lift.specs.PlanSource.{PlanSource}
 use Rattle.stn_records.specs.Content.{Content}
 use Rattle.stn_conflict.specs.{declared.links.Link.Link, Arcs.IsNegativeCycle, Named.IsWay}
-use Rattle.stn_site.specs.{Bounds.all_bounds, Report.done_events, Report.is_done, Report.IsConflictPart, Report.IsReport, Report.heading, Lines.window_line}
+use Rattle.stn_site.specs.{Bounds.all_bounds, Report.done_events, Report.IsConflictPart, Report.IsReport, Report.heading}
+use Rattle.stn_questions.specs.Repair.Ranges.{IsRange}
 use Rattle.stn_questions.proofs.Ranges.{one_range}
-use Rattle.stn_questions.specs.{Ready.ready_line, Ready.IsReadyAnswer, Ready.IsReadyText, Why.end_text, Why.range_line, Why.IsWhyPart, Why.IsApartPart, declared.asked.Question.Question, Records.record_line, Records.IsRecordsText, Answer.IsAnswer}
+use Rattle.stn_questions.specs.{Ready.ready_line, Ready.IsReadyAnswer, Ready.IsReadyText, Why.end_text, Why.IsReasonPart, Why.IsWhyPart, Why.IsApartPart, declared.asked.Question.Question, Records.record_line, Records.IsRecordsText, Answer.IsAnswer}
 use Rattle.stn_questions.specs.declared.asked.Question.TheVariants.{Records, Steps, Bounds, Why, WhyApart}
 use Rattle.stn_questions.proofs.{KnownOnce.one_known, OneReady.one_list}
 
@@ -55,26 +57,18 @@ one_conflict unique source state text other p q =
     (unique source state (heading source state ++ text) (heading source state ++ other)
     (record { rest = text; part = inr p; whole = refl }) (record { rest = other; part = inr q; whole = refl }))
 
-one_part : OneWay → (source : PlanSource) (state : Content) (event : ℕ) (text other : List ℕ) → IsWhyPart source state event text → IsWhyPart source state event other → text ≡ other
-one_part unique source state event text other p q =
+-- the reasons are one text where there is one pair of ends
+one_part : OneWay → (source : PlanSource) (state : Content) (from to : ℕ) (AreEnds : List Difference → ℤ → ℤ → Type 0) (heading : ℤ → ℤ → List ℕ) (low high : List ℕ)
+    → ((least greatest first last : ℤ) → HasSchedule (all_bounds source state) → AreEnds (all_bounds source state) least greatest
+    → AreEnds (all_bounds source state) first last → (least ≡ first) × (greatest ≡ last))
+    → (text other : List ℕ) → IsReasonPart source state from to AreEnds heading low high text → IsReasonPart source state from to AreEnds heading low high other → text ≡ other
+one_part unique source state from to AreEnds heading low high pair text other p q =
     let bounds = all_bounds source state in
-    let ends = one_window bounds event p.earliest p.latest q.earliest q.latest p.possible p.window q.window in
-    let back = unique bounds event 0 p.to_origin q.to_origin p.way_to_origin q.way_to_origin in
-    let forth = unique bounds 0 event p.from_origin q.from_origin p.way_from_origin q.way_from_origin in
-    p.whole
-    ∙ (λ i. window_line event (ends.0 i) (ends.1 i) (is_done state event)
-    ++ (end_text source state (codes "earliest") (ends.0 i) (back i) ++ end_text source state (codes "latest") (ends.1 i) (forth i)))
-    ∙ sym q.whole
-
-one_apart : OneWay → (source : PlanSource) (state : Content) (from to : ℕ) (text other : List ℕ) → IsApartPart source state from to text → IsApartPart source state from to other → text ≡ other
-one_apart unique source state from to text other p q =
-    let bounds = all_bounds source state in
-    let ends = one_range bounds from to p.least p.greatest q.least q.greatest p.possible p.range q.range in
+    let ends = pair p.least p.greatest q.least q.greatest p.possible p.ends q.ends in
     let back = unique bounds to from p.back q.back p.way_back q.way_back in
     let forth = unique bounds from to p.onward q.onward p.way_onward q.way_onward in
     p.whole
-    ∙ (λ i. range_line from to (ends.0 i) (ends.1 i)
-    ++ (end_text source state (codes "least") (ends.0 i) (back i) ++ end_text source state (codes "greatest") (ends.1 i) (forth i)))
+    ∙ (λ i. heading (ends.0 i) (ends.1 i) ++ (end_text source state low (ends.0 i) (back i) ++ end_text source state high (ends.1 i) (forth i)))
     ∙ sym q.whole
 
 -- a text that says the reasons where there is a schedule, and else the conflict, is one text where that of the reasons is
@@ -101,9 +95,9 @@ one_answer reports ways refutes source state Records text other p q = one_text s
 one_answer reports ways refutes source state Steps text other p q = p ∙ sym q
 one_answer reports ways refutes source state Bounds text other p q = p ∙ sym q
 one_answer reports ways refutes source state (Why event) text other p q =
-    one_or_conflict reports refutes source state (IsWhyPart source state event) text other (λ said part. part.possible) (one_part ways source state event text other) p q
+    one_or_conflict reports refutes source state (IsWhyPart source state event) text other (λ said part. part.possible) (one_part ways source state 0 event (λ bounds. IsWindow bounds event) _ _ _ (one_window (all_bounds source state) event) text other) p q
 one_answer reports ways refutes source state (WhyApart from to) text other p q =
-    one_or_conflict reports refutes source state (IsApartPart source state from to) text other (λ said part. part.possible) (one_apart ways source state from to text other) p q
+    one_or_conflict reports refutes source state (IsApartPart source state from to) text other (λ said part. part.possible) (one_part ways source state from to (λ bounds. IsRange bounds from to) _ _ _ (one_range (all_bounds source state) from to) text other) p q
 
 -- equal plans and equal states have the same answer
 pub same_answer : ((source : PlanSource) → (state : Content) → (question : Question) → (text other : List ℕ) → IsAnswer source state question text → IsAnswer source state question other → text ≡ other)

@@ -1,20 +1,23 @@
 -- Each plan and each state have an answer to each question about events that the plan has.
-use Rattle.std.proofs.Common.{◌≡◌, inl, inr, ℕ, ℤ, ◌≤◌, ◌<◌, true, ◌||◌, List, [], ◌∷◌, ◌++◌, codes, neg_ℤ, map, Ordering, Less, Equal, Greater, refl, sym, ap, ◌∙◌, arith}
+use Rattle.std.proofs.Common.{◌≡◌, inl, inr, ℕ, ℤ, ◌⊎◌, ◌≤◌, ◌<◌, true, ◌||◌, List, [], ◌∷◌, ◌++◌, neg_ℤ, map, Ordering, Less, Equal, Greater, refl, sym, ap, ◌∙◌, arith}
 use Rattle.std.specs.{List.AllByRecursion, List.flat_map, List.Sorted.IsStrictlySortedBy, Ordering.is_lt, Set.is_member, FinMap.is_sorted, FinMap.contains_key-keys, FinMap.Entries.below_all}
 use Rattle.std.specs.FinMap as fin
 use Rattle.std.proofs.lemmas.Bool.{cases_lt, and_parts, false≢true}
 use Rattle.std.proofs.lemmas.Map.Views.{Contains-from_any, list_any-from_Contains}
+use Rattle.stn_net.specs.{Difference.Difference, Matrix.Tightest.IsTightest}
+use Rattle.stn_net.specs.Windows.Window.{IsWindow}
 use Rattle.stn_net.proofs.WindowEnds.{window_of_ends}
 use Rattle.stn_lift.specs.PlanSource.{PlanSource, events_of}
 use Rattle.stn_records.specs.{Id.SiteCounter, Id.id_cmp, Id.same_ids, Content.Content, Content.IdSet, Content.with_ids, Content.replaced_set, Content.is_known}
 use Rattle.stn_records.proofs.{Entries.in_order, Replaced.with_ids_member}
 use Rattle.stn_conflict.specs.{declared.links.Link.Link, Arcs.weight_of, Named.IsWay}
 use Rattle.stn_conflict.proofs.CycleSums.{weight_of_way}
-use Rattle.stn_site.specs.{Bounds.all_bounds, Lines.window_line, Report.is_done}
+use Rattle.stn_site.specs.{Bounds.all_bounds, Report.IsConflictPart}
+use Rattle.stn_questions.specs.Repair.Ranges.{IsRange}
 use Rattle.stn_questions.proofs.Ranges.{range_of_ends}
 use Rattle.stn_questions.specs.{declared.asked.Question.Question, Answer.IsAnswer, Answer.AsksOfNoEvent, Records.AreKnown, Records.record_line, Steps.steps_text, Bounds.bounds_text}
 use Rattle.stn_questions.specs.declared.asked.Question.TheVariants.{Records, Steps, Bounds, Why, WhyApart}
-use Rattle.stn_questions.specs.Why.{end_text, range_line, IsWhyText, IsApartText}
+use Rattle.stn_questions.specs.Why.{end_text, IsReasonPart}
 use Rattle.stn_questions.proofs.{Found.AreFound, Found.possible_found, Found.tightest_found, Levels.some_way, SomeReport.IsSoundState, SomeReport.differences, SomeReport.some_conflict, KnownOnce.laws, KnownOnce.same_is}
 
 -- ---- the known ids
@@ -66,36 +69,11 @@ module _ (source : PlanSource) (state : Content) (sound : IsSoundState source st
       let there = tightest_found (all_bounds source state) (events_of source) far found from to from_within to_within in
       (links, way, weight_of_way (all_bounds source state) from to links _ _ here there way)
 
-  some_why : (event : ℕ) → event ≤ events_of source → (text : List ℕ) × IsWhyText source state event text
-  some_why event within =
-      elim (differences source state sound) [
-        | inr (place, far, first) ↦ (let (text, conflict) = some_conflict source state sound place far first in (text, inr conflict))
-        | inl (far, found) ↦
-            let none : 0 ≤ events_of source = omega arith in
-            let (back, way_back, holds_back) = way_between far found event 0 within none in
-            let (forth, way_forth, holds_forth) = way_between far found 0 event none within in
-            let early = tightest_found (all_bounds source state) (events_of source) far found event 0 within none in
-            let late = tightest_found (all_bounds source state) (events_of source) far found 0 event none within in (
-              window_line event (neg_ℤ (far event 0)) (far 0 event) (is_done state event)
-                  ++ (end_text source state (codes "earliest") (neg_ℤ (far event 0)) back ++ end_text source state (codes "latest") (far 0 event) forth),
-              inl (record {
-                possible = possible_found (all_bounds source state) (events_of source) far found;
-                earliest = neg_ℤ (far event 0);
-                latest = far 0 event;
-                window = window_of_ends (all_bounds source state) event (far event 0) (far 0 event) early late;
-                to_origin = back;
-                from_origin = forth;
-                way_to_origin = way_back;
-                way_from_origin = way_forth;
-                holds_earliest = ap neg_ℤ (sym holds_back);
-                holds_latest = sym holds_forth;
-                whole = refl;
-              }),
-            )
-      ]
-
-  some_apart : (from to : ℕ) → from ≤ events_of source → to ≤ events_of source → (text : List ℕ) × IsApartText source state from to text
-  some_apart from to from_within to_within =
+  some_reason : (from to : ℕ) → from ≤ events_of source → to ≤ events_of source → (AreEnds : List Difference → ℤ → ℤ → Type 0) (heading : ℤ → ℤ → List ℕ) (low high : List ℕ)
+      → ((back forth : ℤ) → IsTightest (all_bounds source state) to from back → IsTightest (all_bounds source state) from to forth
+      → AreEnds (all_bounds source state) (neg_ℤ back) forth)
+      → (text : List ℕ) × (IsReasonPart source state from to AreEnds heading low high text ⊎ IsConflictPart source state text)
+  some_reason from to from_within to_within AreEnds heading low high ends_of =
       elim (differences source state sound) [
         | inr (place, far, first) ↦ (let (text, conflict) = some_conflict source state sound place far first in (text, inr conflict))
         | inl (far, found) ↦
@@ -103,13 +81,13 @@ module _ (source : PlanSource) (state : Content) (sound : IsSoundState source st
             let (forth, way_forth, holds_forth) = way_between far found from to from_within to_within in
             let early = tightest_found (all_bounds source state) (events_of source) far found to from to_within from_within in
             let late = tightest_found (all_bounds source state) (events_of source) far found from to from_within to_within in (
-              range_line from to (neg_ℤ (far to from)) (far from to)
-                  ++ (end_text source state (codes "least") (neg_ℤ (far to from)) back ++ end_text source state (codes "greatest") (far from to) forth),
+              heading (neg_ℤ (far to from)) (far from to)
+                  ++ (end_text source state low (neg_ℤ (far to from)) back ++ end_text source state high (far from to) forth),
               inl (record {
                 possible = possible_found (all_bounds source state) (events_of source) far found;
                 least = neg_ℤ (far to from);
                 greatest = far from to;
-                range = range_of_ends (all_bounds source state) from to (far to from) (far from to) early late;
+                ends = ends_of (far to from) (far from to) early late;
                 back = back;
                 onward = forth;
                 way_back = way_back;
@@ -128,5 +106,8 @@ module _ (source : PlanSource) (state : Content) (sound : IsSoundState source st
   some_answer Records there = (let (ids, known) = some_known state in (flat_map (record_line state) ids, record { ids = ids; known = known; lines = refl }))
   some_answer Steps there = (steps_text source, refl)
   some_answer Bounds there = (bounds_text source state, refl)
-  some_answer (Why event) there = some_why event (within_plan event there)
-  some_answer (WhyApart from to) there = some_apart from to (within_plan from (λ past. there (inl past))) (within_plan to (λ past. there (inr past)))
+  some_answer (Why event) there =
+      let none : 0 ≤ events_of source = omega arith in
+      some_reason 0 event none (within_plan event there) (λ bounds. IsWindow bounds event) _ _ _ (window_of_ends (all_bounds source state) event)
+  some_answer (WhyApart from to) there =
+      some_reason from to (within_plan from (λ past. there (inl past))) (within_plan to (λ past. there (inr past))) (λ bounds. IsRange bounds from to) _ _ _ (range_of_ends (all_bounds source state) from to)

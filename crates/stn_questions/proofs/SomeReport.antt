@@ -5,13 +5,12 @@ use Rattle.std.specs.List.{flat_map}
 use Rattle.std.proofs.lemmas.Int.{ints}
 use Rattle.std.proofs.lemmas.List.Elements.{All-append}
 use Rattle.stn_net.specs.{Difference.Difference, Difference.IsBoundWithin}
-use Rattle.stn_net.proofs.WindowEnds.{window_of_ends}
 use Rattle.stn_lift.specs.PlanSource.{PlanSource, events_of, base_bounds, IsSoundSource}
 use Rattle.stn_records.specs.Content.{Content}
 use Rattle.stn_conflict.specs.Arcs.{weight_of}
 use Rattle.stn_conflict.proofs.Known.{known_within, known_first}
 use Rattle.stn_site.specs.{Bounds.all_bounds, Bounds.live_bounds, Names.live_ids, Lines.line, Lines.window_line, Lines.conflict_line, Lines.link_line, Report.is_done, Report.heading, Report.IsWindowLines, Report.IsConflictPart, Report.IsReport}
-use Rattle.stn_questions.proofs.Found.{AreFound, IsFirstRefused, IsInOrder, possible_found, tightest_found, found_or_refused}
+use Rattle.stn_questions.proofs.Found.{AreFound, IsFirstRefused, IsInOrder, possible_found, window_found, found_or_refused}
 use Rattle.stn_questions.proofs.Cycles.{some_cycle}
 
 -- a window for each of the first events
@@ -19,13 +18,9 @@ some_windows : (bounds : List Difference) (events : ℕ) (far : ℕ → ℕ → 
     → (text : List ℕ) × IsWindowLines bounds done n text
 some_windows bounds events far done found zero within = ([], refl)
 some_windows bounds events far done found (suc n) within =
-    let (before, lines) = some_windows bounds events far done found n (omega arith) in
-    let earliest = neg_ℤ (far (suc n) 0) in
-    let latest = far 0 (suc n) in
-    let early = tightest_found bounds events far found (suc n) 0 within (omega arith) in
-    let late = tightest_found bounds events far found 0 (suc n) (omega arith) within in (
+    let (before, lines) = some_windows bounds events far done found n (omega arith) in (
       before ++ window_line (suc n) (neg_ℤ (far (suc n) 0)) (far 0 (suc n)) (done (suc n)),
-      (before, neg_ℤ (far (suc n) 0), far 0 (suc n), lines, window_of_ends bounds (suc n) (far (suc n) 0) (far 0 (suc n)) early late, refl),
+      (before, neg_ℤ (far (suc n) 0), far 0 (suc n), lines, window_found bounds events far found (suc n) within, refl),
     )
 
 -- the plan has a base, and each bound of a live record is one of the plan

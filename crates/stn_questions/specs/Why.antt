@@ -2,7 +2,7 @@
 use Rattle.std.specs.Prelude.{◌≡◌, ◌⊎◌, ◌<◌, ℕ, ℤ, neg_ℤ, ◌+◌, List, ◌++◌, codes}
 use Rattle.std.specs.List.{flat_map}
 use Rattle.stn_time.specs.Text.{printed}
-use Rattle.stn_net.specs.{Event.event_text, Schedule.HasSchedule}
+use Rattle.stn_net.specs.{Difference.Difference, Event.event_text, Schedule.HasSchedule}
 use Rattle.stn_net.specs.Windows.Window.{IsWindow}
 use Rattle.stn_lift.specs.PlanSource.{PlanSource, base_bounds, events_of}
 use Rattle.stn_records.specs.Content.{Content}
@@ -20,21 +20,34 @@ pub record HoldEnds {A : Type 0} (source : PlanSource) (state : Content) (from t
   pub onward : IsWayOf (all_bounds source state) to from (events_of source + 1) ends.onward.links.items ends.onward.sum
   pub back : IsWayOf (all_bounds source state) from to (events_of source + 1) ends.back.links.items ends.back.sum
 
--- the text is the line of the event's window, and then for each end of it the way of bounds that holds it: the negated sum of the way
--- from the event to the origin is the earliest time, and the sum of the way from the origin to the event the latest
-pub record IsWhyPart (source : PlanSource) (state : Content) (event : ℕ) (text : List ℕ) : Type 0 where
+-- both ends, each after its word
+abbrev pub ends_text : {A : Type 0} → PlanSource → Content → List ℕ → List ℕ → BothWays A → List ℕ
+ends_text source state low high ends =
+    end_text source state low (neg_ℤ ends.onward.sum) ends.onward.links.items ++ end_text source state high ends.back.sum ends.back.links.items
+
+-- the text is a line of the least and the greatest time from one event to another, as `AreEnds` defines them by all bounds, and then for
+-- each of both, after a word, the way of bounds that holds it: the negated sum of the way from `to` to `from` is the least time, and the
+-- sum of the way from `from` to `to` the greatest
+pub record IsReasonPart (source : PlanSource) (state : Content) (from to : ℕ) (AreEnds : List Difference → ℤ → ℤ → Type 0)
+    (heading : ℤ → ℤ → List ℕ) (least_word greatest_word text : List ℕ) : Type 0 where
   pub possible : HasSchedule (all_bounds source state)
-  pub earliest : ℤ
-  pub latest : ℤ
-  pub window : IsWindow (all_bounds source state) event earliest latest
-  pub to_origin : List Link
-  pub from_origin : List Link
-  pub way_to_origin : IsWay (all_bounds source state) event 0 to_origin
-  pub way_from_origin : IsWay (all_bounds source state) 0 event from_origin
-  pub holds_earliest : earliest ≡ neg_ℤ (weight_of (all_bounds source state) to_origin)
-  pub holds_latest : latest ≡ weight_of (all_bounds source state) from_origin
-  pub whole : text ≡ window_line event earliest latest (is_done state event)
-      ++ (end_text source state (codes "earliest") earliest to_origin ++ end_text source state (codes "latest") latest from_origin)
+  pub least : ℤ
+  pub greatest : ℤ
+  pub ends : AreEnds (all_bounds source state) least greatest
+  pub back : List Link
+  pub onward : List Link
+  pub way_back : IsWay (all_bounds source state) to from back
+  pub way_onward : IsWay (all_bounds source state) from to onward
+  pub holds_least : least ≡ neg_ℤ (weight_of (all_bounds source state) back)
+  pub holds_greatest : greatest ≡ weight_of (all_bounds source state) onward
+  pub whole : text ≡ heading least greatest
+      ++ (end_text source state least_word least back ++ end_text source state greatest_word greatest onward)
+
+-- of an event: the line of its window, whose ends are its least and its greatest time after the origin
+abbrev pub IsWhyPart : PlanSource → Content → ℕ → List ℕ → Type 0
+IsWhyPart source state event =
+    IsReasonPart source state 0 event (λ bounds. IsWindow bounds event) (λ earliest latest. window_line event earliest latest (is_done state event))
+    (codes "earliest") (codes "latest")
 
 -- the text that `why` prints of an event of the plan: why its window ends where it does, or the conflict
 abbrev pub IsWhyText : PlanSource → Content → ℕ → List ℕ → Type 0
@@ -44,22 +57,10 @@ IsWhyText source state event text = IsWhyPart source state event text ⊎ IsConf
 abbrev pub range_line : ℕ → ℕ → ℤ → ℤ → List ℕ
 range_line from to least greatest = line (event_text from ++ codes " " ++ event_text to ++ codes " " ++ times_text least greatest)
 
--- the text is the line of the least and the greatest time from one event to the other over all schedules, and then for each of both
--- the way of bounds that holds it: the negated sum of the way from `to` to `from` is the least time, and the sum of the way from
--- `from` to `to` the greatest
-pub record IsApartPart (source : PlanSource) (state : Content) (from to : ℕ) (text : List ℕ) : Type 0 where
-  pub possible : HasSchedule (all_bounds source state)
-  pub least : ℤ
-  pub greatest : ℤ
-  pub range : IsRange (all_bounds source state) from to least greatest
-  pub back : List Link
-  pub onward : List Link
-  pub way_back : IsWay (all_bounds source state) to from back
-  pub way_onward : IsWay (all_bounds source state) from to onward
-  pub holds_least : least ≡ neg_ℤ (weight_of (all_bounds source state) back)
-  pub holds_greatest : greatest ≡ weight_of (all_bounds source state) onward
-  pub whole : text ≡ range_line from to least greatest
-      ++ (end_text source state (codes "least") least back ++ end_text source state (codes "greatest") greatest onward)
+-- of two events: the line of their range
+abbrev pub IsApartPart : PlanSource → Content → ℕ → ℕ → List ℕ → Type 0
+IsApartPart source state from to =
+    IsReasonPart source state from to (λ bounds. IsRange bounds from to) (range_line from to) (codes "least") (codes "greatest")
 
 -- the text that `why` prints of two events of the plan: why they come no closer and no further apart, or the conflict
 abbrev pub IsApartText : PlanSource → Content → ℕ → ℕ → List ℕ → Type 0

@@ -2,7 +2,7 @@ ghost use Rattle.std.specs.Prelude.{◌≡◌, ◌↔◌, ◌≤◌, ◌++◌, �
 ghost use Rattle.stn_lift.specs.PlanSource.{events_of};
 ghost use Rattle.stn_questions.specs.Why.{range_line, HoldEnds, IsApartPart, IsApartText, NamesNoEvent};
 
-use crate::ends::{append_end, ends_of};
+use crate::ends::{append_ends, ends_of, times_of};
 use crate::why::WhyFault;
 use std::alloc::Allocator;
 use stn_conflict::BothWays;
@@ -69,16 +69,15 @@ fn text_of<A: Allocator + Copy>(
     requires { HoldEnds plan.now.source plan.now.state from to ends.now }
     ensures { IfOk result (λ text. IsApartPart plan.now.source plan.now.state from to text.items) }
 {
-    let least = Ms::new(-ends.onward.sum).unwrap();
-    let greatest = Ms::new(ends.back.sum).unwrap();
+    let (least, greatest) = times_of(ends);
     let mut text = Vec::new(plan.alloc());
     append_range(&mut text, from, to, least, greatest)?;
-    append_end(plan, b"least", least, &ends.onward.links, &mut text)?;
-    append_end(plan, b"greatest", greatest, &ends.back.links, &mut text)?;
+    append_ends(plan, b"least", b"greatest", ends, &mut text)?;
     Ok(text)
 }
 
-fn append_range<B: Allocator>(
+// Appends the line of two events and the least and the greatest time from the one to the other.
+pub(crate) fn append_range<B: Allocator>(
     out: &mut Vec<u8, B>,
     from: Event,
     to: Event,

@@ -1,12 +1,13 @@
-ghost use Rattle.std.specs.Prelude.{◌≡◌, ◌<◌, ◌≤◌, ◌++◌, length, codes, All, IfOk, OnOk, MatchOption};
+ghost use Rattle.std.specs.Prelude.{◌≡◌, ◌<◌, ◌≤◌, ◌++◌, neg_ℤ, length, codes, All, IfOk, OnOk, MatchOption};
 ghost use Rattle.std.specs.List.{flat_map};
 ghost use Rattle.stn_time.specs.Text.{printed};
+ghost use Rattle.stn_time.specs.Time.{IsWithinHorizon};
 ghost use Rattle.stn_net.specs.Schedule.{HasSchedule};
 ghost use Rattle.stn_lift.specs.PlanSource.{events_of, base_bounds};
 ghost use Rattle.stn_site.specs.Bounds.{all_bounds, live_bounds};
 ghost use Rattle.stn_site.specs.Names.{live_ids};
 ghost use Rattle.stn_site.specs.Lines.{line, link_line};
-ghost use Rattle.stn_questions.specs.Why.{HoldEnds, end_text};
+ghost use Rattle.stn_questions.specs.Why.{HoldEnds, end_text, ends_text};
 
 use std::alloc::Allocator;
 use stn_conflict::{BothWays, Link, both_ways};
@@ -31,8 +32,39 @@ pub fn ends_of<A: Allocator + Copy>(
     both_ways(plan.alloc(), base.events(), base.bounds(), &live, to, from)
 }
 
-// Appends such an end: its time after a word, and the links of the way that holds it.
-pub fn append_end<A: Allocator + Copy>(
+// The least and the greatest time that the ways hold.
+pub fn times_of<A: Allocator>(ends: &BothWays<A>) -> (Ms, Ms)
+    requires onward { IsWithinHorizon ends.now.onward.sum }
+    requires back { IsWithinHorizon ends.now.back.sum }
+    ensures { (result.0 ≡ neg_ℤ ends.now.onward.sum) × (result.1 ≡ ends.now.back.sum) }
+{
+    let least = Ms::new(-ends.onward.sum).unwrap();
+    let greatest = Ms::new(ends.back.sum).unwrap();
+    (least, greatest)
+}
+
+// Appends both ends, each after its word.
+pub fn append_ends<A: Allocator + Copy>(
+    plan: &SitePlan<A>,
+    least_word: &[u8],
+    greatest_word: &[u8],
+    ends: &BothWays<A>,
+    out: &mut Vec<u8, A>,
+) -> Result<(), Memory>
+    requires least { IsWithinHorizon ends.now.onward.sum }
+    requires greatest { IsWithinHorizon ends.now.back.sum }
+    requires onward { All (λ link. link.place < length (all_bounds plan.now.source plan.now.state)) ends.now.onward.links.items }
+    requires back { All (λ link. link.place < length (all_bounds plan.now.source plan.now.state)) ends.now.back.links.items }
+    ensures { OnOk result (out.new.items ≡ out.old.items
+        ++ ends_text plan.now.source plan.now.state least_word.now greatest_word.now ends.now) }
+{
+    let (least, greatest) = times_of(ends);
+    append_end(plan, least_word, least, &ends.onward.links, out)?;
+    append_end(plan, greatest_word, greatest, &ends.back.links, out)
+}
+
+// Appends an end: its time after a word, and the links of the way that holds it.
+fn append_end<A: Allocator + Copy>(
     plan: &SitePlan<A>,
     word: &[u8],
     time: Ms,

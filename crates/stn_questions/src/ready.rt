@@ -1,10 +1,9 @@
-ghost use Rattle.std.specs.Prelude.{◌≡◌, ℕ, ℤ, ◌+◌, ◌≤ℤ◌, ◌==◌, ◌++◌, List, length, All, Some, count_by, codes, IfOk, OnOk, OnErr};
+ghost use Rattle.std.specs.Prelude.{◌≡◌, ℕ, ◌+◌, ◌++◌, List, length, codes, IfOk, OnOk, OnErr};
 ghost use Rattle.std.specs.List.{flat_map};
 ghost use Rattle.stn_net.specs.Difference.{Difference};
 ghost use Rattle.stn_net.specs.Event.{event_text};
 ghost use Rattle.stn_net.specs.Schedule.{HasSchedule};
 ghost use Rattle.stn_net.specs.Matrix.Tightest.{IsExact};
-ghost use Rattle.stn_net.specs.Windows.Dispatch.{IsReady, AreReadyTimes};
 ghost use Rattle.stn_site.specs.Bounds.{all_bounds};
 ghost use Rattle.stn_site.specs.Lines.{line};
 ghost use Rattle.stn_replica.specs.Own.{done_or_others};
@@ -131,24 +130,6 @@ fn ready_events<A: Allocator + Copy>(
     requires { length done.now ≡ matrix.now.events + 1 }
     ensures { IfOk result (λ ready. (bounds : List Difference) → IsExact bounds matrix.now → AreReadyEvents bounds done.now now ready.items) }
 {
-    let mut ready = ready_by_number(alloc, matrix, done, now)?;
-    ready.sort_unstable();
-    Ok(ready)
-}
-
-// The events that are ready from now on, in the order of their numbers.
-fn ready_by_number<A: Allocator + Copy>(
-    alloc: A,
-    matrix: &Matrix<A>,
-    done: &[bool],
-    now: Ms,
-) -> Result<Vec<ReadyEvent, A>, Memory>
-    requires { length done.now ≡ matrix.now.events + 1 }
-    ensures times { IfOk result (λ ready. (bounds : List Difference) → IsExact bounds matrix.now
-        → All (λ one. AreReadyTimes bounds done.now now one.event (Some (one.first, one.last))) ready.items) }
-    ensures once { IfOk result (λ ready. (bounds : List Difference) → IsExact bounds matrix.now
-        → (event : ℕ) → (time : ℤ) → now ≤ℤ time → IsReady bounds done.now event time → count_by (λ one. one.event == event) ready.items ≡ 1) }
-{
     let mut ready = Vec::new(alloc);
     for before in 0..matrix.events() {
         let event = Event::new(before + 1).unwrap();
@@ -160,6 +141,7 @@ fn ready_by_number<A: Allocator + Copy>(
             })?;
         }
     }
+    ready.sort_unstable();
     Ok(ready)
 }
 

@@ -3,12 +3,12 @@ ghost use Rattle.stn_lift.specs.PlanSource.{events_of};
 ghost use Rattle.stn_questions.specs.Why.{HoldEnds, IsWhyPart, IsWhyText};
 ghost use Rattle.stn_questions.specs.declared.why.WhyFault.TheVariants.{Memory as want_of_memory};
 
-use crate::ends::{append_end, ends_of};
+use crate::ends::{append_ends, ends_of, times_of};
 use std::alloc::{AllocError, Allocator};
 use stn_conflict::BothWays;
 use stn_net::Event;
 use stn_site::{SitePlan, append_window_line};
-use stn_time::{Memory, Ms};
+use stn_time::Memory;
 use thiserror::Error;
 
 /// Why a question about an event, or about two, has no answer.
@@ -88,11 +88,9 @@ fn text_of<A: Allocator + Copy>(
 {
     let flags = plan.done_flags();
     let done = flags[usize::from(event.number())];
-    let earliest = Ms::new(-ends.onward.sum).unwrap();
-    let latest = Ms::new(ends.back.sum).unwrap();
+    let (earliest, latest) = times_of(ends);
     let mut text = Vec::new(plan.alloc());
     append_window_line(&mut text, event, earliest, latest, done)?;
-    append_end(plan, b"earliest", earliest, &ends.onward.links, &mut text)?;
-    append_end(plan, b"latest", latest, &ends.back.links, &mut text)?;
+    append_ends(plan, b"earliest", b"latest", ends, &mut text)?;
     Ok(text)
 }

@@ -1,16 +1,15 @@
 -- What `repairs` prints.
 use Rattle.std.specs.Prelude.{◌≡◌, ◌⊎◌, ℕ, List, ◌++◌, codes}
 use Rattle.std.specs.List.{flat_map}
-use Rattle.stn_net.specs.{Difference.Difference, Event.event_text, Schedule.HasSchedule}
+use Rattle.stn_net.specs.{Difference.Difference, Schedule.HasSchedule}
 use Rattle.stn_lift.specs.PlanSource.{PlanSource, base_bounds}
 use Rattle.stn_records.specs.{Id.SiteCounter, Id.id_text, declared.record.Record.Record, Content.Content, Content.live_of}
-use Rattle.stn_site.specs.{Bounds.bounds_of, Lines.line, Lines.times_text}
-use Rattle.stn_questions.specs.{declared.repair.Repair.Repair, Repair.Repairs.AreRepairs, Repair.Dropped.AreDropped}
+use Rattle.stn_site.specs.{Bounds.bounds_of, Lines.line}
+use Rattle.stn_questions.specs.{declared.repair.Repair.Repair, Repair.Repairs.AreRepairs, Repair.Dropped.AreDropped, Why.range_line}
 
 -- `<id> <from> <to> <least> <greatest>`
 abbrev pub repair_line : Repair → List ℕ
-repair_line repair =
-    line (id_text repair.id ++ codes " " ++ event_text repair.from ++ codes " " ++ event_text repair.to ++ codes " " ++ times_text repair.least repair.greatest)
+repair_line repair = id_text repair.id ++ codes " " ++ range_line repair.from repair.to repair.least repair.greatest
 
 -- ` <id>`
 abbrev pub listed_id : SiteCounter → List ℕ

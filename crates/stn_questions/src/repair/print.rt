@@ -6,6 +6,7 @@ ghost use Rattle.stn_conflict.specs.Arcs.{IsNegativeCycle};
 ghost use Rattle.stn_site.specs.Bounds.{bounds_of};
 ghost use Rattle.stn_questions.specs.Repair.Text.{listed_id, repair_line, drop_line, SaysRepairs, SaysWhatMends, IsRepairsText};
 
+use crate::apart::append_range;
 use crate::repair::Repair;
 use crate::repair::dropped::dropped_ids;
 use crate::repair::live::{bounds_of, live_records};
@@ -85,14 +86,7 @@ fn append_repair<B: Allocator>(repair: Repair, out: &mut Vec<u8, B>) -> Result<(
 {
     repair.id.print(out)?;
     out.extend_from_slice(b" ")?;
-    repair.from.print(out)?;
-    out.extend_from_slice(b" ")?;
-    repair.to.print(out)?;
-    out.extend_from_slice(b" ")?;
-    repair.least.print(out)?;
-    out.extend_from_slice(b" ")?;
-    repair.greatest.print(out)?;
-    out.extend_from_slice(b"\n")
+    append_range(out, repair.from, repair.to, repair.least, repair.greatest)
 }
 
 // Appends the line of the dropped records.

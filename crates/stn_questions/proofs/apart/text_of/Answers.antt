@@ -1,22 +1,17 @@
-use Rattle.std.proofs.Common.{◌≡◌, ◌++◌, neg_ℤ, ap, ◌∙◌, arith}
-use Rattle.std.proofs.lemmas.Int.{ints}
-use Rattle.stn_questions.specs.Why.{range_line}
-use Rattle.stn_questions.proofs.Reasons.{apart_part}
+use Rattle.std.proofs.Common.{◌++◌, ◌∙◌}
+use Rattle.stn_site.specs.Bounds.{all_bounds}
+use Rattle.stn_questions.specs.{Repair.Ranges.IsRange, Why.range_line}
+use Rattle.stn_questions.proofs.{Ranges.range_of_ends, Reasons.reason_part}
 use Rattle.stn_questions.proofs.apart.text_of.Goals as goal
 
 pub returns : goal.returns
 returns g c =
+    let source = c.args.plan.now.source in
+    let state = c.args.plan.now.state in
+    let from = c.args.from in
+    let to = c.args.to in
     let ends = c.args.ends.now in
-    let least = c.unwrap-least.result in
-    let greatest = c.unwrap-greatest.result in
-    let (low, high) = c.requires.onward.within in
-    let least_is = rw c.unwrap-least.ensures at c.new.ensures.value in
-    let less : least ≡ neg_ℤ ends.onward.sum = omega (arith, ints, least_is, low, high) in
-    let (last_low, last_high) = c.requires.back.within in
-    let greatest_is = rw c.unwrap-greatest.ensures at c.new-2.ensures.value in
-    let more : greatest ≡ ends.back.sum = omega (arith, ints, greatest_is, last_low, last_high) in
-    apart_part c.args.plan.now.source c.args.plan.now.state c.args.from c.args.to ends least greatest
-    c.append_range.new.out.items c.append_end.new.out.items c.append_end-2.new.out.items
-    c.requires less more
-    (c.in_ok-append_range.ensures ∙ ap (λ text. text ++ range_line c.args.from c.args.to least greatest) c.new-text.ensures.items)
-    (rw c.deref.ensures.value at c.in_ok-append_end.ensures) (rw c.deref-2.ensures.value at c.in_ok-append_end-2.ensures)
+    reason_part source state from to (λ bounds. IsRange bounds from to) (range_line from to) _ _ ends c.append_range.new.out.items c.append_ends.new.out.items
+    c.requires (range_of_ends (all_bounds source state) from to ends.onward.sum ends.back.sum c.requires.onward.tightest c.requires.back.tightest)
+    (c.in_ok-append_range.ensures ∙ (λ i. c.new-text.ensures.items i ++ range_line from to (c.times_of-least.ensures.0 i) (c.times_of-least.ensures.1 i)))
+    c.in_ok-append_ends.ensures

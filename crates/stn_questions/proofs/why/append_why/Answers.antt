@@ -1,12 +1,14 @@
-use Rattle.std.proofs.Common.{◌++◌, ◌∙◌, ap, inl, inr}
+use Rattle.std.proofs.Common.{inl, inr}
 use Rattle.std.proofs.lemmas.Result.{IfOk-weaker}
-use Rattle.stn_site.proofs.Printing.{appended_ok, kept_err}
+use Rattle.stn_site.proofs.Printing.{kept_err}
+use Rattle.stn_questions.specs.Why.{IsWhyText}
+use Rattle.stn_questions.proofs.Reasons.{reasons_appended}
 use Rattle.stn_questions.proofs.why.append_why.Goals as goal
 
 pub returns-in_ok-text-in-Some : goal.returns-in_ok-text-in-Some
 returns-in_ok-text-in-Some g c = record {
-  printed = IfOk-weaker c.extend_from_slice.result _ _ (λ _ ended. (c.in_ok-text-in-Some.text.items, inl c.in_ok-text-in-Some.ensures, ended ∙ ap (λ text. c.args.out.now.items ++ text) c.deref.ensures.value))
-      (appended_ok c.extend_from_slice.result c.extend_from_slice.new.self.items c.args.out.now.items c.deref.result.now c.extend_from_slice.ensures.items);
+  printed = reasons_appended c.extend_from_slice.result _ _ _ c.in_ok-text-in-Some.text.items (IsWhyText c.args.plan.now.source c.args.plan.now.state c.args.event)
+      (inl c.in_ok-text-in-Some.ensures) c.deref.ensures.value c.extend_from_slice.ensures.items;
   kept = kept_err c.extend_from_slice.result c.extend_from_slice.new.self.items c.args.out.now.items c.deref.result.now c.extend_from_slice.ensures.items;
 }
 

@@ -3,7 +3,7 @@ use Rattle.std.specs.List.{count_by}
 use Rattle.stn_net.specs.Difference.{Difference}
 use Rattle.stn_net.specs.Matrix.Tightest.{IsExact}
 use Rattle.stn_net.specs.Windows.Dispatch.{IsReady, AreReadyTimes}
-use Rattle.stn_questions.proofs.ready.ready_by_number.Given as goal
+use Rattle.stn_questions.proofs.ready.ready_events.Given as goal
 
 abbrev pub invariant-loop-before : goal.invariant-loop-before
 invariant-loop-before g l = record {
