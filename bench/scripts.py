@@ -1,5 +1,6 @@
 #!/usr/bin/env python3
-"""Prints what the program script_outputs is to print, by the formats alone (docs/FORMATS.md).
+"""Prints what the program script_outputs is to print, by the formats alone (docs/FORMATS.md), with - for the numbers of requests and
+of writes, which are the program's own.
 
 usage: cd crates/script_outputs; ../../bench/scripts.py $(cat args) < stdin > stdout
        bench/scripts.py - < SCRIPT        the output of one script
@@ -19,7 +20,8 @@ MOST_SITES = 64
 MOST_COUNTER = 65_535
 MOST_IDS = 4096
 MOST_PACKETS = 256
-MOST_SWEPT = 1024
+MOST_SWEPT = 4096
+MOST_SCRIPT = 16_777_216
 
 
 @dataclass(frozen=True)
@@ -618,7 +620,8 @@ def print_run(text, is_swept):
     output = "".join(line + "\n" for line in script.printed)
     print(f"{output}ran {script.commands} refused {script.refused}")
     if is_swept and max(len(text), len(output)) <= MOST_SWEPT:
-        print("each fault is answered")
+        # A read hands on 16 bytes, and the last one none.
+        print(f"answers each of - requests, {-(-len(text) // 16) + 1} reads and - writes that were refused")
 
 
 def as_taken(site):
@@ -679,6 +682,9 @@ def print_part(heading, text):
     print(heading)
     if heading.startswith("@ "):
         print_ring()
+    elif heading.startswith("! "):
+        print("the script is too long" if int(text) > MOST_SCRIPT else "ran 0 refused 0")
+        print("answers each of - requests that were refused")
     else:
         print_run(text, True)
 
@@ -689,7 +695,7 @@ def main():
         script.run()
         print("\n".join(script.printed))
         return
-    for part in re.split(rb"\n(?=[=~@] )", sys.stdin.buffer.read().removesuffix(b"\n")):
+    for part in re.split(rb"\n(?=[=~@!] )", sys.stdin.buffer.read().removesuffix(b"\n")):
         heading, _, text = part.partition(b"\n")
         print_part(heading.decode(), text + b"\n")
     for name in sys.argv[1:]:

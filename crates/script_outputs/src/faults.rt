@@ -5,11 +5,11 @@ use stn_refusing::{PieceReader, PieceWriter, Refusing};
 // More than a script asks for that is looked at here.
 const MOST_CALLS: u64 = 10_000;
 
-// A script, and what a run of it counts and writes where nothing is refused.
+// A script, and what a run of it answers and writes where nothing is refused.
 #[derive(Drop)]
 pub struct Worked<'a> {
     pub script: &'a [u8],
-    pub ran: Ran,
+    pub answer: Result<Ran, RunFault>,
     pub text: &'a [u8],
 }
 
@@ -65,7 +65,7 @@ fn attempt(alloc: Global, script: &[u8], trial: Trial) -> Outcome {
 
 // Whether the run answered as with memory and devices that work.
 fn is_right(worked: &Worked, outcome: &Outcome) -> bool {
-    outcome.answer == Ok(worked.ran) && outcome.text.as_slice() == worked.text
+    outcome.answer == worked.answer && outcome.text.as_slice() == worked.text
 }
 
 // Whether a run of which a call was refused said so, and wrote no more than the beginning of what it writes else.
@@ -127,6 +127,12 @@ fn count_refused(alloc: Global, worked: &Worked, fault: RunFault) -> Option<u64>
     None
 }
 
+/// How many requests for memory of a script were refused in turn, each of which was answered with the fault and left the beginning of
+/// the output. None where one was not.
+pub fn sweep_requests(alloc: Global, worked: &Worked) -> Option<u64> {
+    count_refused(alloc, worked, RunFault::Memory)
+}
+
 /// The refused calls of a script: each request for memory, and each read and each write of 16 bytes, is answered with its fault, and
 /// leaves the beginning of the output. None where one is not, or the script has another output in pieces of one byte.
 pub fn sweep(alloc: Global, worked: &Worked) -> Option<Refused> {
@@ -135,7 +141,7 @@ pub fn sweep(alloc: Global, worked: &Worked) -> Option<Refused> {
         return None;
     }
     Some(Refused {
-        requests: count_refused(alloc, worked, RunFault::Memory)?,
+        requests: sweep_requests(alloc, worked)?,
         reads: count_refused(alloc, worked, RunFault::Read)?,
         writes: count_refused(alloc, worked, RunFault::Write)?,
     })

@@ -1,7 +1,10 @@
 //! For tests: runs scripts and prints what each prints and what its run counts, after a line `= <name>`: first those of
 //! its input, each after such a line, and then those of the files that its arguments name. Of each script of its input
-//! that has at most 1,024 bytes and prints at most so many it then has each request for memory, each read and each write
+//! that has at most 4,096 bytes and prints at most so many it then has each request for memory, each read and each write
 //! refused in turn, and prints how many were, if each was answered as it must be.
+//!
+//! After a line `! <name>` stands a number: of a script of so many line feeds it prints what its run counts, or why it ended, and
+//! has each request for memory refused in turn.
 //!
 //! What sites report is compared after lines with another mark:
 //!
@@ -18,7 +21,7 @@ mod fresh;
 mod output;
 mod ring;
 
-use crate::faults::{Refused, Worked, sweep};
+use crate::faults::{Refused, Worked, sweep, sweep_requests};
 use crate::fresh::compare;
 use crate::ring::merge_in_ring;
 use std::alloc::AllocError;
@@ -28,7 +31,7 @@ use std::{env, fs, io};
 use stn_exec::{Counted, Ran, RunFault, run};
 
 // The most bytes of a script, and of its output, of which every call is refused in turn.
-const MOST_SWEPT: usize = 1024;
+const MOST_SWEPT: usize = 4096;
 
 // Prints how many calls of a script were refused in turn, if each was answered as it must be, where neither the script nor what it
 // prints is long.
@@ -68,7 +71,7 @@ fn print_run(
     io::writer(rt).write_all(text)?;
     print_answer(rt, answer)?;
     match answer {
-        Ok(ran) => print_sweep(rt, &Worked { script, ran, text }),
+        Ok(_) => print_sweep(rt, &Worked { script, answer, text }),
         Err(_) => Ok(()),
     }
 }
@@ -78,6 +81,26 @@ fn run_row(rt: &HostRuntime, script: &[u8]) -> io::Result<()> {
     let mut output = Counted::new(Vec::new(rt.alloc()));
     let answer = run(rt.alloc(), &mut input, &mut output);
     print_run(rt, script, &output.into_inner(), answer)
+}
+
+// Runs a script of so many line feeds, and prints what it counts, or why it ended, and how many of its requests for memory were
+// refused in turn, if each was answered as it must be.
+fn run_lines(rt: &HostRuntime, count: usize) -> io::Result<()> {
+    let script = vec![in rt.alloc(); b'\n'; count]?;
+    let mut input = Counted::new(script.as_slice());
+    let mut output = Counted::new(Vec::new(rt.alloc()));
+    let answer = run(rt.alloc(), &mut input, &mut output);
+    let text = output.into_inner();
+    print_answer(rt, answer)?;
+    let worked = Worked {
+        script: &script,
+        answer,
+        text: &text,
+    };
+    match sweep_requests(rt.alloc(), &worked) {
+        Some(requests) => println!(rt; "answers each of {requests} requests that were refused"),
+        None => println!(rt; "a refused call is not answered"),
+    }
 }
 
 // Runs the script of a file, and prints what it prints and counts, after its name.
@@ -101,13 +124,15 @@ fn do_heading(rt: &HostRuntime, heading: &str, script: &str) -> io::Result<()> {
     println!(rt; "{heading}")?;
     if heading.starts_with('@') {
         merge_in_ring(rt)
+    } else if heading.starts_with('!') {
+        run_lines(rt, script.trim().parse::<usize>().unwrap_or(0))
     } else {
         run_row(rt, script.as_bytes())
     }
 }
 
 fn is_heading(row: &str) -> bool {
-    row.starts_with("= ") || row.starts_with("~ ") || row.starts_with("@ ")
+    row.starts_with("= ") || row.starts_with("~ ") || row.starts_with("@ ") || row.starts_with("! ")
 }
 
 // Begins with a heading, after doing what the last one says.

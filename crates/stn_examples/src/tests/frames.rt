@@ -1,5 +1,7 @@
+use crate::tests::sweep::{Answer, Call, judged, requests};
 use std::alloc::{AllocError, Global};
 use stn_lift::Source;
+use stn_refusing::Refusing;
 use stn_wire::{Fed, Feeder, Frame, WireFault, encode};
 
 fn name_of(frame: &Option<Frame<Global>>) -> &'static str {
@@ -91,4 +93,25 @@ fn spelled_text(alloc: Global, length: usize) -> Result<(Option<WireFault>, usiz
 fn longest_body(rt: HostRuntime) {
     assert!(rt; spelled_text(rt.alloc(), 262_143) == Ok((None, 262_148)));
     assert!(rt; spelled_text(rt.alloc(), 262_144) == Ok((Some(WireFault::Length), 0)));
+}
+
+/// What comes of spelling the longest TEXT while a request is refused.
+pub fn text_refused(heap: &Refusing<Global>, number: u64) -> Answer {
+    let Ok(text) = vec![in heap; b'x'; 262_143] else {
+        return Answer::Wrong;
+    };
+    let frame = Frame::Text(text);
+    let mut out = Vec::new(heap);
+    heap.refuse(number);
+    let spelled = encode(&frame, &mut out);
+    let length = out.len();
+    drop(frame);
+    drop(out);
+    let right = spelled == Ok(()) && length == 262_148;
+    judged(heap, right, spelled == Err(WireFault::Memory) && length == 0)
+}
+
+#[test]
+fn longest_text_without_memory(rt: HostRuntime) {
+    assert!(rt; requests(&rt, rt.alloc(), Call::Text) > 0);
 }

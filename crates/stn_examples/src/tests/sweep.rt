@@ -1,5 +1,6 @@
 use crate::tests::commands::{Asked, loosen_refused, say_refused};
 use crate::tests::conflict::cycle_refused;
+use crate::tests::frames::text_refused;
 use crate::tests::guards::guard_refused;
 use crate::tests::logs::{Done, line_refused};
 use crate::tests::readers::{domain_refused, plan_refused};
@@ -54,6 +55,7 @@ pub enum Call<'a> {
     Loosen(bool),
     Guard,
     Line(Done<'a>),
+    Text,
 }
 
 // What the call answers while the request of this number is refused. The allocator refuses nothing yet: each of these functions
@@ -71,6 +73,7 @@ fn answer_with(heap: &Refusing<Global>, number: u64, call: Call<'_>) -> Answer {
         Call::Loosen(robust) => loosen_refused(heap, number, robust),
         Call::Guard => guard_refused(heap, number),
         Call::Line(done) => line_refused(heap, number, done),
+        Call::Text => text_refused(heap, number),
     }
 }
 
