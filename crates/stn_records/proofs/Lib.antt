@@ -12,6 +12,7 @@ pub mod Lists
 pub mod Places
 pub mod Disputes
 pub mod Holding
+pub mod Live
 pub mod Counts
 pub mod Counters
 pub mod Dots

@@ -1,6 +1,6 @@
 -- For proofs alone: no public clause cites these words.
 -- Lists of entries in the order of their ids.
-use Rattle.std.specs.Prelude.{◌≡◌, ℕ, ◌<◌, ◌≤◌, Bool, false, List, [], ◌∷◌, length, insert, slice_index_or, Option, Some, None, slice_get, find as first_such, if◌then◌else◌}
+use Rattle.std.specs.Prelude.{◌≡◌, ℕ, ◌<◌, ◌≤◌, Bool, false, not, List, [], ◌∷◌, length, filter, insert, slice_index_or, Option, Some, None, is_some, slice_get, find as first_such, if◌then◌else◌}
 use Rattle.std.specs.{List.list_all, declared.cmp.Ordering.Ordering, Ordering.eq_by_cmp, FinMap.find, FinMap.put, FinMap.Entries.by_order, Map.keys_of}
 use Rattle.stn_records.specs.{Id.SiteCounter, Id.id_cmp, Maps.differ}
 
@@ -15,6 +15,10 @@ is_there same (Some there) one = same there one
 
 abbrev pub has_entries : {X : Type 0} → (X → X → Bool) → List (SiteCounter × X) → List (SiteCounter × X) → Bool
 has_entries same ours theirs = list_all (λ entry. is_there same (find id_cmp entry.0 ours) entry.1) theirs
+
+-- the entries of ours whose ids theirs lacks
+abbrev pub without_ids : {X Y : Type 0} → List (SiteCounter × X) → List (SiteCounter × Y) → List (SiteCounter × X)
+without_ids ours theirs = filter (λ entry. not (is_some (find id_cmp entry.0 theirs))) ours
 
 -- the entry at the place has the id
 pub record IsPlaceOf {X : Type 0} (entries : List (SiteCounter × X)) (id : SiteCounter) (place : ℕ) : Type 0 where

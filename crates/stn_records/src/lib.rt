@@ -8,6 +8,7 @@ pub use join::{Join, JoinFault};
 pub use laws::{
     counts_same, maps_by_items_alone, states_by_items_alone, takes_agree, tombstones_agree,
 };
+pub use live_records::LiveRecords;
 pub use map_value::MapValue;
 pub use record::{Mark, Record};
 pub use records::Records;
@@ -19,6 +20,7 @@ mod id;
 mod id_map;
 mod join;
 mod laws;
+mod live_records;
 mod map_value;
 mod record;
 mod records;

@@ -9,6 +9,7 @@ use crate::MOST_KNOWN;
 use crate::faults::{CounterSpent, PartFault, RecordsFault};
 use crate::id::{Id, Site};
 use crate::id_map::{Additions, Amendments, Tombstones};
+use crate::live_records::LiveRecords;
 use crate::map_value::MapValue;
 use crate::record::{Mark, Record};
 use crate::sorted::{count_ids, greatest_counter};
@@ -315,16 +316,22 @@ impl<A: Allocator + Copy> Records<A> {
         })
     }
 
+    /// The live records, in order of id, one after another.
+    pub fn live_records(&self) -> LiveRecords<'_>
+        ensures live { result ≡ live_of self.now }
+        ensures sound { IsSound self.now }
+    {
+        LiveRecords::among(self.added(), self.replaced())
+    }
+
     /// The live records, in order of id.
     pub fn live(&self) -> Result<Vec<(Id, Mark, Bound), A>, Memory>
         ensures live { IfOk result (λ all. all.items ≡ map listed (live_of self.now)) }
         ensures sound { IsSound self.now }
     {
         let mut all = Vec::new(self.state.additions().allocator());
-        for &(id, held) in self.added() {
-            if !self.is_replaced(id) {
-                all.push((id, held.mark, held.bound))?;
-            }
+        for (id, held) in self.live_records() {
+            all.push((id, held.mark, held.bound))?;
         }
         Ok(all)
     }
