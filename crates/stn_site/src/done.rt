@@ -28,8 +28,8 @@ fn done_flags<A: Allocator + Copy>(records: &Records<A>) -> [bool; EVENT_FLAGS]
     ensures fixed { AllProper records.now.additions }
 {
     let mut flags = [false; EVENT_FLAGS];
-    for &(id, record) in records.state().additions().entries() {
-        if is_done_mark(record.mark) && records.is_live(id) {
+    for (_, record) in records.live_records() {
+        if is_done_mark(record.mark) {
             flags[usize::from(record.bound.to().number())] = true;
         }
     }

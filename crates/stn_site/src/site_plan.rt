@@ -301,9 +301,8 @@ fn first_broken_record<A: Allocator + Copy>(records: &Records<A>, times: &[Ms]) 
     ensures none { IfNone result (All (Meets (times_of times.now)) (live_bounds records.now)) }
     ensures found { IfSome result (IsFirstBrokenRecord records.now (times_of times.now)) }
 {
-    for &(id, record) in records.state().additions().entries() {
-        let live = records.is_live(id);
-        if live && is_broken(record.bound, times) {
+    for (id, record) in records.live_records() {
+        if is_broken(record.bound, times) {
             return Some(id);
         }
     }

@@ -1,11 +1,10 @@
-use Rattle.std.proofs.Common.{◌≡◌, ℕ, ◌≤◌, false, length, slice_index_or}
+use Rattle.std.proofs.Common.{◌≡◌, ℕ, ◌≤◌, ◌||◌, false, length, slice_index_or}
 use Rattle.stn_net.specs.Event.{most_events}
-use Rattle.stn_site.specs.Report.{says_done}
-use Rattle.stn_site.proofs.Walk.{live_seen}
+use Rattle.stn_site.specs.Report.{is_done, says_done}
 use Rattle.stn_site.proofs.done.done_flags.Given as goal
 
-abbrev pub invariant-loop-id : goal.invariant-loop-id
-invariant-loop-id g l = record {
+abbrev pub invariant-loop-record : goal.invariant-loop-record
+invariant-loop-record g l = record {
   one_each : length l.flags ≡ 513;
-  done : (event : ℕ) → event ≤ most_events → slice_index_or l.flags event false ≡ says_done (live_seen l.records l.id-index) event;
+  done : (event : ℕ) → event ≤ most_events → (says_done l.record-iterator event || slice_index_or l.flags event false) ≡ is_done l.records event;
 }

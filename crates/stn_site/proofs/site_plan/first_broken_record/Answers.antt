@@ -1,39 +1,21 @@
-use Rattle.std.proofs.Common.{◌≡◌, ◌+◌, [], ◌∷◌, ◌++◌, not, filter, take, subst, All}
-use Rattle.std.specs.FinMap.{entries}
-use Rattle.stn_records.specs.Content.{is_replaced}
+use Rattle.std.proofs.Common.{[], ◌∷◌, ◌++◌, sym, ap, ◌∙◌, append_assoc}
 use Rattle.stn_net.specs.Schedule.{Meets, times_of}
-use Rattle.stn_site.specs.Bounds.{bounds_of}
-use Rattle.stn_site.proofs.{Places.walked_are, Places.one_more_seen, Places.all_seen, Walk.seen_live, Walk.seen_dead, Walk.found_record}
+use Rattle.stn_site.proofs.Walk.{next_timed, seen_met, found_record}
 use Rattle.stn_site.proofs.site_plan.first_broken_record.Goals as goal
-use Rattle.stn_site.proofs.site_plan.first_broken_record.Goals.{else-live-via-then-live+else-is_broken, else-live-via-else-live}
+
+pub is_broken-requires-clause-named : goal.is_broken-requires-clause-named
+is_broken-requires-clause-named g c =
+    next_timed c.args.records.now c.args.times.now c.loop-id.yielded c.next.new.self (c.in-Some.id, c.in-Some.record)
+    (c.loop-id.invariant.parts ∙ ap (λ ahead. c.loop-id.yielded ++ ahead) c.in-Some.ensures.steps) c.requires.named
 
 pub returns-then-is_broken-clause-found : goal.returns-then-is_broken-clause-found
 returns-then-is_broken-clause-found g c =
-    found_record c.args.records.now (times_of c.args.times.now) c.loop-id.id-index c.loop-id-item.result
-    (one_more_seen (entries c.args.records.now.additions) c.entries-id-items.result.now c.loop-id.id-index c.loop-id-item.result
-    (walked_are c.args.records.now c.state.result.now c.additions.result.now c.entries-id-items.result.now c.entries-id-items.ensures.value c.additions.ensures c.state.ensures.value)
-    c.loop-id-test.true c.loop-id-item.is)
-    (cc) c.loop-id.invariant (c.is_broken.ensures.broken c.if-is_broken.true)
+    found_record c.args.records.now (times_of c.args.times.now) c.loop-id.yielded c.next.new.self (c.in-Some.id, c.in-Some.record)
+    (c.loop-id.invariant.parts ∙ ap (λ ahead. c.loop-id.yielded ++ ahead) c.in-Some.ensures.steps)
+    c.loop-id.invariant.met (c.is_broken.ensures.broken c.if-is_broken.true)
 
 pub loop-id-preserved : goal.loop-id-preserved
-loop-id-preserved g c =
-    let records = entries c.args.records.now.additions in
-    let more : take (c.loop-id.id-index + 1) records ≡ take c.loop-id.id-index records ++ c.loop-id-item.result ∷ [] =
-    one_more_seen (entries c.args.records.now.additions) c.entries-id-items.result.now c.loop-id.id-index c.loop-id-item.result
-    (walked_are c.args.records.now c.state.result.now c.additions.result.now c.entries-id-items.result.now c.entries-id-items.ensures.value c.additions.ensures c.state.ensures.value)
-    c.loop-id-test.true c.loop-id-item.is in
-    elim c.else-live.branch [
-      | else-live-via-then-live+else-is_broken w ↦
-          seen_live (Meets (times_of c.args.times.now)) c.args.records.now c.loop-id.id-index c.loop-id-item.result more
-          (cc) c.loop-id.invariant (w.is_broken.ensures.met w.if-is_broken.false)
-      | else-live-via-else-live w ↦
-          seen_dead (Meets (times_of c.args.times.now)) c.args.records.now c.loop-id.id-index c.loop-id-item.result more
-          (cc) c.loop-id.invariant
-    ]
-
-pub returns-clause-none : goal.returns-clause-none
-returns-clause-none g c =
-    subst (λ records. All (Meets (times_of c.args.times.now)) (bounds_of (filter (λ entry. not (is_replaced c.args.records.now entry.0)) records)))
-    (all_seen (entries c.args.records.now.additions) c.entries-id-items.result.now c.loop-id.id-index
-    (walked_are c.args.records.now c.state.result.now c.additions.result.now c.entries-id-items.result.now c.entries-id-items.ensures.value c.additions.ensures c.state.ensures.value)
-    c.loop-id-test.false) c.loop-id.invariant
+loop-id-preserved g c = record {
+  parts = c.loop-id.invariant.parts ∙ ap (λ ahead. c.loop-id.yielded ++ ahead) c.in-Some.ensures.steps ∙ sym (append_assoc c.loop-id.yielded ((c.in-Some.id, c.in-Some.record) ∷ []) c.next.new.self);
+  met = seen_met (Meets (times_of c.args.times.now)) c.loop-id.yielded (c.in-Some.id, c.in-Some.record) c.loop-id.invariant.met (c.is_broken.ensures.met c.if-is_broken.false);
+}
