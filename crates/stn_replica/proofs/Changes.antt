@@ -8,7 +8,7 @@ use Rattle.stn_records.specs.{Id.SiteCounter, Id.id_cmp, declared.record.Record.
 use Rattle.stn_records.specs.Content.{Content, addition, is_live, is_replaced, is_known, no_content, plain, replaced_set, with_amendment, with_record, with_tombstone, join_contents}
 use Rattle.stn_records.proofs.Replaced.{replaced_by_withdrawal, inserted_key, replaced_withdrawn, replaced_amended}
 use Rattle.stn_site.specs.Bounds.{bounds_of, live_bounds}
-use Rattle.stn_replica.specs.{Invariant.IsSettled, Work.is_risen, Work.risen, Work.KeepsLive, Walk.Extends}
+use Rattle.stn_replica.specs.{Invariant.IsSettled, Work.is_risen, Work.risen, Work.KeepsLive, Work.Extends}
 use Rattle.stn_site.proofs.{Counts.unknown_absent, Counts.unknown_unreplaced, Named.same_id, Named.itself, Named.value_of, Named.get_added, Named.live_named, Named.none_named}
 use Rattle.stn_replica.proofs.Live.{RisenHold, keeps_unless_replaced, falls_where_replaced, left_true, live_from_bounds, bounds_from_live, risen_from_bounds, old_hold, risen_hold, new_hold, nothing_live}
 use Rattle.stn_replica.proofs.Schedules.{schedule_before, met_behind, schedule_with, settled_same_schedules}

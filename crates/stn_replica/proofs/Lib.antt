@@ -1,10 +1,10 @@
-pub mod Ahead
 pub mod CatchingUp
 pub mod Changes
 pub mod Live
 pub mod Opening
 pub mod AllOwn
 pub mod Rest
+pub mod Rising
 pub mod Schedules
 pub mod Sound
 pub mod Tightening

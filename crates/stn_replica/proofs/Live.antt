@@ -5,10 +5,10 @@ use Rattle.std.proofs.{lemmas.Bool.false≢true, lemmas.List.Elements.All-from_r
 use Rattle.stn_net.specs.{Difference.Difference, Difference.NamesEvents, Schedule.HasSchedule, Schedule.Meets}
 use Rattle.stn_net.specs.Matrix.Table.{Table}
 use Rattle.stn_records.specs.{Id.SiteCounter, Id.id_cmp, declared.record.Record.Record, ContentLaws.ids_total, ContentLaws.ids_exact}
-use Rattle.stn_records.specs.Content.{Content, addition, IsPart, is_live, is_replaced, live_of, no_content, replaced_set}
+use Rattle.stn_records.specs.Content.{Content, addition, IsPart, is_live, is_replaced, live_of, no_content}
 use Rattle.stn_site.proofs.Named.{records_from_bounds, bounds_from_records}
 use Rattle.stn_site.specs.Bounds.{bounds_of, live_bounds}
-use Rattle.stn_replica.specs.{Invariant.IsSettled, Work.is_risen, Work.risen, Work.KeepsLive, Work.GainsLive, Work.Grows, Walk.Extends}
+use Rattle.stn_replica.specs.{Invariant.IsSettled, Work.is_risen, Work.risen, Work.KeepsLive, Work.Grows, Work.Extends}
 use Rattle.stn_records.proofs.Gets.{entries_from_get, get_from_entries}
 use Rattle.stn_replica.proofs.Schedules.{schedule_before, met_behind, schedule_with, settled_same_schedules}
 
@@ -80,7 +80,7 @@ and_false : (a : Bool) → (a && false) ≡ false
 and_false true = refl
 and_false false = refl
 
-there_where_live : (o : Option Record) (b : Bool) → (is_some o && b) ≡ true → (r : Record) × (o ≡ Some r)
+pub there_where_live : (o : Option Record) (b : Bool) → (is_some o && b) ≡ true → (r : Record) × (o ≡ Some r)
 there_where_live None b e = absurd (false≢true e)
 there_where_live (Some r) b e = (r, refl)
 
@@ -137,10 +137,6 @@ conflict_stays base old new extends keeps none s =
     let all = live_from_bounds (Meets s.0) new (met_behind base (live_bounds new) s.0 s.1) in
     none (s.0, schedule_with base (live_bounds old) s.0 (schedule_before base (live_bounds new) s.0 s.1) (bounds_from_live (Meets s.0) old (old_hold (Meets s.0) old new extends keeps all)))
 
--- each record that was added is found
-pub added_there : (s : Content) → All (λ (entry : Entry). contains_key s.additions entry.0 ≡ true) (entries s.additions)
-added_there s = entries_from_get ids_total ids_exact s.additions (λ entry. contains_key s.additions entry.0 ≡ true) (λ id r there. ap is_some there)
-
 -- where no id that is replaced now was live, each record that was live still is
 pub keeps_unless_replaced : (old new : Content) → Extends old new → ((id : SiteCounter) → is_replaced new id ≡ true → is_live old id ≡ false) → KeepsLive old new
 keeps_unless_replaced old new extends dead id live =
@@ -149,28 +145,6 @@ keeps_unless_replaced old new extends dead id live =
       | true ↦ λ e. absurd (false≢true (sym (dead id e) ∙ live))
       | false ↦ λ e. ap (λ o. is_some o && true) (extends id there.0 there.1)
     ] refl
-
--- each id that is replaced is found
-pub replaced_there : (s : Content) → All (λ (entry : SiteCounter × Unit {0}). is_replaced s entry.0 ≡ true) (entries (replaced_set s))
-replaced_there s = entries_from_get ids_total ids_exact (replaced_set s) (λ entry. is_replaced s entry.0 ≡ true) (λ id u there. ap is_some there)
-
--- so where none of those that are replaced now was live, each record that was live still is
-pub keeps_where_dead : (old new : Content) → Extends old new → All (λ (entry : SiteCounter × Unit {0}). is_live old entry.0 ≡ false) (entries (replaced_set new)) → KeepsLive old new
-keeps_where_dead old new extends dead =
-    keeps_unless_replaced old new extends (λ id e.
-    let there = there_is (get (replaced_set new) id) e in
-    get_from_entries ids_total ids_exact (replaced_set new) (λ entry. is_live old entry.0 ≡ false) dead id there.0 there.1)
-  where
-    there_is : {X : Type 0} (o : Option X) → is_some o ≡ true → (x : X) × (o ≡ Some x)
-    there_is None e = absurd (false≢true e)
-    there_is (Some x) e = (x, refl)
-
--- where none of the records has become live, no record has
-pub none_gained : (old new : Content) → All (λ (entry : Entry). is_risen old new entry.0 ≡ false) (entries new.additions) → ¬ GainsLive old new
-none_gained old new none gains =
-    let now = left_true (is_live new gains.0) (not (is_live old gains.0)) gains.1 in
-    let there = there_where_live (get new.additions gains.0) (not (is_replaced new gains.0)) now in
-    false≢true (sym (get_from_entries ids_total ids_exact new.additions (λ entry. is_risen old new entry.0 ≡ false) none gains.0 there.0 there.1) ∙ gains.1)
 
 -- a state has the records of its parts
 pub extends_part : (part whole old new : Content) → old ≡ part → new ≡ whole → IsPart part whole → Extends old new

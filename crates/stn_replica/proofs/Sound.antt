@@ -5,7 +5,7 @@ use Rattle.stn_net.specs.{Difference.Difference, Difference.NamesEvents, Schedul
 use Rattle.stn_lift.specs.PlanSource.{PlanSource, base_bounds, events_of}
 use Rattle.stn_records.specs.{Id.SiteCounter, declared.record.Record.Record, Content.Content, Content.is_live, Content.no_content, Content.with_tombstone, Content.join_contents}
 use Rattle.stn_site.specs.{Bounds.all_bounds, Bounds.live_bounds, Bounds.bounds_of, Bounds.RecordsName, Held.Held}
-use Rattle.stn_replica.specs.{Invariant.IsSettled, Invariant.IsSoundReplica, Walk.Extends, Work.risen, Work.KeepsLive, Work.SparesWork}
+use Rattle.stn_replica.specs.{Invariant.IsSettled, Invariant.IsSoundReplica, Work.Extends, Work.risen, Work.KeepsLive, Work.SparesWork}
 use Rattle.stn_site.proofs.Named.{named_joined, none_named, live_named}
 use Rattle.stn_replica.proofs.Changes.{IsGrown, one_risen, settled_added, withdrawn_dead, same_live, settled_at_first}
 use Rattle.stn_replica.proofs.Live.{settled_alike, settled_grown, conflict_stays}

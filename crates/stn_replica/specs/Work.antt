@@ -1,5 +1,5 @@
-use Rattle.std.specs.Prelude.{◌≡◌, ◌+◌, ◌≤◌, min, Bool, true, not, ◌&&◌, List, length, filter}
-use Rattle.std.specs.FinMap.{entries}
+use Rattle.std.specs.Prelude.{◌≡◌, ◌+◌, ◌≤◌, min, Bool, true, not, ◌&&◌, List, length, filter, Some}
+use Rattle.std.specs.FinMap.{entries, get}
 use Rattle.stn_net.specs.Schedule.{HasSchedule}
 use Rattle.stn_records.specs.{Id.SiteCounter, declared.record.Record.Record, Content.Content, Content.IsPart, Content.is_live}
 use Rattle.stn_site.specs.{Bounds.all_bounds, Held.Held}
@@ -11,6 +11,10 @@ is_risen old new id = is_live new id && not (is_live old id)
 -- the records that have become live, in order of id
 abbrev pub risen : Content → Content → List (SiteCounter × Record)
 risen old new = filter (λ entry. is_risen old new entry.0) (entries new.additions)
+
+-- each record of the old state is one of the new
+abbrev pub Extends : Content → Content → Type 0
+Extends old new = (id : SiteCounter) (r : Record) → get old.additions id ≡ Some r → get new.additions id ≡ Some r
 
 -- no live record has stopped being live
 abbrev pub KeepsLive : Content → Content → Type 0

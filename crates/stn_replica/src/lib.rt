@@ -8,7 +8,6 @@ pub use site_matrix::matrix_of;
 pub use stn_site::{BoundName, ReplicaFault};
 
 mod closest;
-mod cursors;
 mod dispatch;
 mod follower;
 mod matrices;
@@ -16,4 +15,5 @@ mod own;
 mod plan_matrix;
 mod replica;
 mod report;
+mod risen;
 mod site_matrix;

@@ -1,4 +1,4 @@
-ghost use Rattle.std.specs.Prelude.{◌≡◌, ◌+◌, ◌≤◌, ◌++◌, ◌↔◌, ◌&&◌, not, List, [], ◌∷◌, length, Some, IsTrue, IfOk};
+ghost use Rattle.std.specs.Prelude.{◌≡◌, ◌+◌, ◌≤◌, ◌++◌, ◌↔◌, List, [], ◌∷◌, length, Some, IsTrue, IfOk};
 ghost use Rattle.std.specs.FinMap.{get, contains_key};
 ghost use Rattle.stn_net.specs.Difference.{Difference};
 ghost use Rattle.stn_net.specs.Matrix.Tightest.{IsExact};
@@ -6,12 +6,11 @@ ghost use Rattle.stn_lift.specs.PlanSource.{PlanSource, base_bounds, events_of};
 ghost use Rattle.stn_records.specs.declared.record.Record.{Record};
 ghost use Rattle.stn_site.specs.Bounds.{bounds_of, live_bounds, RecordsName};
 ghost use Rattle.stn_replica.specs.Invariant.{IsSettled, IsSoundReplica};
-ghost use Rattle.stn_replica.specs.Work.{risen, KeepsLive, Grows, GainsLive};
-ghost use Rattle.stn_replica.specs.Walk.{has_live, Extends};
+ghost use Rattle.stn_replica.specs.Work.{risen, Extends, KeepsLive, Grows, GainsLive};
 
 use crate::closest::closest_first;
-use crate::cursors::{LiveWalk, begins_with, from_id};
 use crate::plan_matrix::PlanMatrix;
+use crate::risen::Risen;
 use std::alloc::Allocator;
 use stn_lift::Base;
 use stn_net::Matrix;
@@ -60,10 +59,8 @@ pub fn tighten_live<A: Allocator + Copy>(matrix: &mut Matrix<A>, records: &Recor
     ensures events { matrix.new.events ≡ matrix.old.events }
     ensures counted { matrix.new.steps ≤ u64.MAX }
 {
-    let mut replaced = records.replaced();
-    for &(id, record) in records.state().additions().entries() {
-        replaced = from_id(replaced, id);
-        if !begins_with(replaced, id) && !matrix.tighten(record.bound) {
+    for (_, record) in records.live_records() {
+        if !matrix.tighten(record.bound) {
             return false;
         }
     }
@@ -86,12 +83,8 @@ fn tighten_risen<A: Allocator + Copy>(
     ensures least { matrix.old.steps ≤ matrix.new.steps }
     ensures most { matrix.new.steps ≤ matrix.old.steps + length (risen before.now after.now) }
 {
-    let mut old = LiveWalk::of(before);
-    let mut new = LiveWalk::of(after);
-    for &(id, record) in after.state().additions().entries() {
-        old = old.from_id(id);
-        new = new.from_id(id);
-        if has_risen(old, new, id) && !matrix.tighten(record.bound) {
+    for (_, record) in Risen::between(before, after) {
+        if !matrix.tighten(record.bound) {
             return false;
         }
     }
@@ -153,39 +146,17 @@ pub fn has_grown<A: Allocator + Copy>(before: &Records<A>, after: &Records<A>) -
 }
 
 // Whether some record has become live.
+#[tactic(auto, using(crate::proofs::Rising::gains_first))]
 pub fn gains_live<A: Allocator + Copy>(before: &Records<A>, after: &Records<A>) -> bool
     ensures { IsTrue result ↔ GainsLive before.now after.now }
 {
-    let mut old = LiveWalk::of(before);
-    let mut new = LiveWalk::of(after);
-    for &(id, _) in after.state().additions().entries() {
-        old = old.from_id(id);
-        new = new.from_id(id);
-        if has_risen(old, new, id) {
-            return true;
-        }
-    }
-    false
+    Risen::between(before, after).next().is_some()
 }
 
-// Whether the record of an id has become live, by walks that are there.
-fn has_risen(old: LiveWalk<'_>, new: LiveWalk<'_>, id: Id) -> bool
-    ensures { result ≡ (has_live id new.entry && not (has_live id old.entry)) }
-{
-    new.has(id) && !old.has(id)
-}
-
-// Whether each record that was live still is: none of those that are replaced now was.
+// Whether each record that was live still is.
+#[tactic(auto, using(crate::proofs::Rising::keeps_where_none_back))]
 fn keeps_live<A: Allocator + Copy>(before: &Records<A>, after: &Records<A>) -> bool
-    requires { Extends before.now after.now }
     ensures { IsTrue result ↔ KeepsLive before.now after.now }
 {
-    let mut old = LiveWalk::of(before);
-    for &(id, _) in after.replaced() {
-        old = old.from_id(id);
-        if old.has(id) {
-            return false;
-        }
-    }
-    true
+    !gains_live(after, before)
 }

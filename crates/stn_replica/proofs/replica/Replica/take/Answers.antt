@@ -3,7 +3,7 @@ use Rattle.std.proofs.lemmas.Bool.{false≢true}
 use Rattle.std.specs.Prelude.{MatchOption}
 use Rattle.stn_records.specs.Content.{Content, IsPart}
 use Rattle.stn_site.specs.Held.{Held}
-use Rattle.stn_replica.specs.Walk.{Extends}
+use Rattle.stn_replica.specs.Work.{Extends}
 use Rattle.stn_replica.proofs.{Changes.extends_joined, replica.Replica.take.Goals.in-Some, replica.Replica.take.Goals.in_default}
 use Rattle.stn_replica.proofs.replica.Replica.take.Goals as goal
 
