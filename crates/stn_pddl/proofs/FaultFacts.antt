@@ -2,7 +2,7 @@
 use Rattle.std.proofs.Common.{ℕ, Bool, true, false, cond, ◌==◌, ◌&&◌, List, [], ◌∷◌, ◌++◌, is_some, Option, Some, None, Result, Ok, Err, ℤ, pos, int_lt, position, codes}
 use Rattle.std.specs.List.{list_any}
 use Rattle.stn_time.specs.{declared.reading.TimeFault.TimeFault, TimeOf.time_of}
-use Rattle.stn_pddl.specs.{Tree.Names.is_same_word, Tree.Trees.Trees, Tree.Trees.End, Tree.Trees.Word, Tree.Trees.Group, Tree.Trees.how_many, declared.fault.DomainFault.DomainFault, declared.action.Label.Label, declared.action.Label.TheVariants.OverAll, declared.action.Side.Side, declared.word.Head.Head, declared.word.Item.Item, declared.word.Field.Field, declared.word.Key.Key, declared.word.Section.Section, Atoms.parameter_at, Atoms.term, Atoms.terms, Atoms.atom, Atoms.equality, Domains.part, Domains.parts}
+use Rattle.stn_pddl.specs.{Tree.Names.is_same_word, Tree.Trees.Trees, Tree.Trees.End, Tree.Trees.Word, Tree.Trees.Group, Tree.Trees.how_many, declared.fault.DomainFault.DomainFault, declared.action.Label.Label, declared.action.Side.Side, declared.word.Head.Head, declared.word.Item.Item, declared.word.Field.Field, declared.word.Key.Key, declared.word.Section.Section, Atoms.parameter_at, Atoms.term, Atoms.terms, Atoms.atom, Atoms.equality, Domains.part, Domains.parts}
 use Rattle.stn_pddl.specs.declared.fault.DomainFault.TheVariants.{TooLong, Syntax, TooDeep, Unsupported, Number, Twice, Variable, Memory}
 use Rattle.stn_pddl.specs.declared.action.Side.TheVariants.{Condition, Effect}
 use Rattle.stn_pddl.specs.declared.word.Head.TheVariants as head
@@ -12,7 +12,7 @@ use Rattle.stn_pddl.specs.declared.word.Section.TheVariants as section
 use Rattle.stn_text.specs.Faults.{◌>>=◌}
 use Rattle.stn_pddl.specs.Words.{is_name, is_variable, is_key, head_of, item_of, key_of, section_of}
 use Rattle.stn_pddl.specs.Schemas.{TermSchema, ActionSchema, Constant, bare_action, with_literal}
-use Rattle.stn_pddl.specs.Conditions.{is_effect, equal_tree, negated_head, negated_tree, negated_first, negation, plain_head, plain_row, plain_tree, labelled, start_of, end_of, at_tree, over_tree, timed_head, timed_row, timed_tree, equal_at}
+use Rattle.stn_pddl.specs.Conditions.{Meaning, row, tree, is_effect, equal_tree, negated_head, negated_tree, negated_first, negation, plain_head, label_of, one_labelled, labelled, timed_head, equal_at}
 use Rattle.stn_pddl.specs.Fields.{Listing, Values, no_values, parameters, parameters_behind_type, not_negative, constant, duration, value_of, with_value, fields, field_value}
 use Rattle.stn_pddl.specs.Actions.{timed_value, action_of_lists, action_of_values, named_action, is_taken, action}
 
@@ -96,82 +96,57 @@ module _ (label : Label) (a : ActionSchema) where
       first (Word at word next) = tt
       first (Group at children next) = negated-forms at children
 
-  plain-by : (line : ℕ) (word : List ℕ) (rest : Trees) → OfForms (plain_row label rest a) → (k : Head) → OfForms (plain_head (plain_row label rest a) label line word rest a k)
-  plain-by line word rest row head.And = row
-  plain-by line word rest row head.Not = negation-forms line rest
-  plain-by line word rest row head.Equal = equal-forms line rest
-  plain-by line word rest row head.OtherLogic = tt
-  plain-by line word rest row head.NoName = tt
-  plain-by line word rest row head.At = atom-forms false word rest
-  plain-by line word rest row head.Over = atom-forms false word rest
-  plain-by line word rest row head.Name = atom-forms false word rest
+-- a meaning has the faults of the forms where the conjunction has
+abbrev OfFormsEach : Meaning → Type 0
+OfFormsEach meaning = (conjunction : Result ActionSchema DomainFault) (line : ℕ) (word : List ℕ) (rest : Trees) (a : ActionSchema) → OfForms conjunction → (k : Head) → OfForms (meaning conjunction line word rest a k)
 
 mutual
-  unfolding plain_row plain_tree
+  unfolding row tree
 
-  plain_row-forms : (label : Label) (trees : Trees) (a : ActionSchema) → OfForms (plain_row label trees a)
-  plain_row-forms label End a = tt
-  plain_row-forms label (Word line word next) a = tt
-  plain_row-forms label (Group line children next) a =
-      forms-then (plain_tree label line children a) (λ found. plain_row label next found) (plain_tree-forms label line children a) (λ found. plain_row-forms label next found)
+  row-forms : (meaning : Meaning) → OfFormsEach meaning → (trees : Trees) (a : ActionSchema) → OfForms (row meaning trees a)
+  row-forms meaning each End a = tt
+  row-forms meaning each (Word line word next) a = tt
+  row-forms meaning each (Group line children next) a =
+      forms-then (tree meaning line children a) (λ found. row meaning next found) (tree-forms meaning each line children a) (λ found. row-forms meaning each next found)
 
-  plain_tree-forms : (label : Label) (line : ℕ) (trees : Trees) (a : ActionSchema) → OfForms (plain_tree label line trees a)
-  plain_tree-forms label line End a = tt
-  plain_tree-forms label line (Group at children next) a = tt
-  plain_tree-forms label line (Word at word rest) a = plain-by label a line word rest (plain_row-forms label rest a) (head_of word)
+  tree-forms : (meaning : Meaning) → OfFormsEach meaning → (line : ℕ) (trees : Trees) (a : ActionSchema) → OfForms (tree meaning line trees a)
+  tree-forms meaning each line End a = tt
+  tree-forms meaning each line (Group at children next) a = tt
+  tree-forms meaning each line (Word at word rest) a = each (row meaning rest a) line word rest a (row-forms meaning each rest a) (head_of word)
 
-module _ (side : Side) (a : ActionSchema) where
-  labelled-forms : (label : Label) (line : ℕ) (rest : Trees) → OfForms (labelled label line rest a)
-  unfolding labelled
-  labelled-forms label line rest = forms-either (how_many rest == 1) (plain_row label rest a) (Err (Syntax line)) (plain_row-forms label rest a) tt
+plain-forms : (label : Label) → OfFormsEach (plain_head label)
+plain-forms label conjunction line word rest a all head.And = all
+plain-forms label conjunction line word rest a all head.Not = negation-forms label a line rest
+plain-forms label conjunction line word rest a all head.Equal = equal-forms label a line rest
+plain-forms label conjunction line word rest a all head.OtherLogic = tt
+plain-forms label conjunction line word rest a all head.NoName = tt
+plain-forms label conjunction line word rest a all head.At = atom-forms label a false word rest
+plain-forms label conjunction line word rest a all head.Over = atom-forms label a false word rest
+plain-forms label conjunction line word rest a all head.Name = atom-forms label a false word rest
 
-  at-forms : (line : ℕ) (rest : Trees) → OfForms (at_tree side line rest a)
-  unfolding at_tree
-  at-forms line End = tt
-  at-forms line (Group at children next) = tt
-  at-forms line (Word at word rest) = by (is_same_word word (codes "start")) (is_same_word word (codes "end"))
-    where
-      by : (s e : Bool) → OfForms (cond s (labelled (start_of side) line rest a) (cond e (labelled (end_of side) line rest a) (Err (Syntax line))))
-      by true e = labelled-forms (start_of side) line rest
-      by false true = labelled-forms (end_of side) line rest
-      by false false = tt
-
-over-forms : (side : Side) (line : ℕ) (rest : Trees) (a : ActionSchema) → OfForms (over_tree side line rest a)
-unfolding over_tree
-over-forms Effect line rest a = tt
-over-forms Condition line End a = tt
-over-forms Condition line (Group at children next) a = tt
-over-forms Condition line (Word at word rest) a =
-    forms-either (is_same_word word (codes "all")) (labelled OverAll line rest a) (Err (Syntax line)) (labelled-forms Condition a OverAll line rest) tt
+labelled-forms : (side : Side) (time : Head) (line : ℕ) (rest : Trees) (a : ActionSchema) → OfForms (labelled side time line rest a)
+unfolding labelled
+labelled-forms side time line End a = tt
+labelled-forms side time line (Group at children next) a = tt
+labelled-forms side time line (Word at word rest) a = by (label_of side time word)
+  where
+    by : (found : Option Label) → OfForms (one_labelled found line rest a)
+    by None = tt
+    by (Some label) = forms-either (how_many rest == 1) (row (plain_head label) rest a) (Err (Syntax line)) (row-forms (plain_head label) (plain-forms label) rest a) tt
 
 equal_at-forms : (side : Side) (line : ℕ) → IsFormFault (equal_at side line)
 equal_at-forms Condition line = tt
 equal_at-forms Effect line = tt
 
-module _ (side : Side) (a : ActionSchema) where
-  timed-by : (line : ℕ) (rest : Trees) → OfForms (timed_row side rest a) → (k : Head) → OfForms (timed_head (timed_row side rest a) side line rest a k)
-  timed-by line rest row head.And = row
-  timed-by line rest row head.At = at-forms side a line rest
-  timed-by line rest row head.Over = over-forms side line rest a
-  timed-by line rest row head.OtherLogic = tt
-  timed-by line rest row head.Equal = equal_at-forms side line
-  timed-by line rest row head.Not = tt
-  timed-by line rest row head.NoName = tt
-  timed-by line rest row head.Name = tt
-
-mutual
-  unfolding timed_row timed_tree
-
-  timed_row-forms : (side : Side) (trees : Trees) (a : ActionSchema) → OfForms (timed_row side trees a)
-  timed_row-forms side End a = tt
-  timed_row-forms side (Word line word next) a = tt
-  timed_row-forms side (Group line children next) a =
-      forms-then (timed_tree side line children a) (λ found. timed_row side next found) (timed_tree-forms side line children a) (λ found. timed_row-forms side next found)
-
-  timed_tree-forms : (side : Side) (line : ℕ) (trees : Trees) (a : ActionSchema) → OfForms (timed_tree side line trees a)
-  timed_tree-forms side line End a = tt
-  timed_tree-forms side line (Group at children next) a = tt
-  timed_tree-forms side line (Word at word rest) a = timed-by side a line rest (timed_row-forms side rest a) (head_of word)
+timed-forms : (side : Side) → OfFormsEach (timed_head side)
+timed-forms side conjunction line word rest a all head.And = all
+timed-forms side conjunction line word rest a all head.At = labelled-forms side head.At line rest a
+timed-forms side conjunction line word rest a all head.Over = labelled-forms side head.Over line rest a
+timed-forms side conjunction line word rest a all head.OtherLogic = tt
+timed-forms side conjunction line word rest a all head.Equal = equal_at-forms side line
+timed-forms side conjunction line word rest a all head.Not = tt
+timed-forms side conjunction line word rest a all head.NoName = tt
+timed-forms side conjunction line word rest a all head.Name = tt
 
 module _ (word : List ℕ) (line : ℕ) (next : Trees) (before : List (List ℕ)) where
   parameter-by : ((names : List (List ℕ)) → OfForms (parameters next names)) → OfForms (parameters_behind_type line next before) → (k : Item) → OfForms (elim k as (λ _. Result (List (List ℕ)) DomainFault) [
@@ -232,7 +207,7 @@ mutual
 value-forms : (side : Side) (value : Option Listing) (a : ActionSchema) → OfForms (timed_value side value a)
 unfolding timed_value
 value-forms side None a = tt
-value-forms side (Some listing) a = timed_tree-forms side listing.line listing.children a
+value-forms side (Some listing) a = tree-forms (timed_head side) (timed-forms side) listing.line listing.children a
 
 lists-forms : (name : List ℕ) (listed timed : Listing) (values : Values) → OfForms (action_of_lists name listed timed values)
 unfolding action_of_lists

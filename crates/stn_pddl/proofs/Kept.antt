@@ -1,16 +1,15 @@
 -- What reading conditions and effects keeps of an action.
-use Rattle.std.proofs.Common.{◌≡◌, ℕ, ◌<◌, Bool, true, false, cond, nat_lt, List, [], ◌∷◌, ◌++◌, length, Option, Some, None, Result, Ok, Err, refl, ◌∙◌, subst, arith, position, codes}
+use Rattle.std.proofs.Common.{◌≡◌, ℕ, ◌<◌, Bool, true, false, cond, nat_lt, List, [], ◌∷◌, ◌++◌, length, Option, Some, None, Result, Ok, Err, refl, ◌∙◌, subst, arith, position}
 use Rattle.std.specs.List.{AllByRecursion, position_or_len}
 use Rattle.std.proofs.lemmas.Bool.{ltb-true}
 use Rattle.stn_time.proofs.Each.{each_pushed}
 use Rattle.stn_pddl.specs.{Tree.Names.is_same_word, Tree.Trees.Trees, Tree.Trees.End, Tree.Trees.Word, Tree.Trees.Group, declared.fault.DomainFault.DomainFault, declared.action.Label.Label, declared.action.Side.Side, declared.word.Head.Head, Words.is_variable, Words.is_key, Words.head_of, Atoms.parameter_at, Atoms.term, Atoms.terms, Atoms.atom, Atoms.equality, Sound.IsSoundTerm, Sound.IsSoundAtom, Sound.HasSoundAtoms}
 use Rattle.stn_pddl.specs.declared.fault.DomainFault.TheVariants.{Syntax, Unsupported}
 use Rattle.stn_pddl.specs.declared.action.Label.TheVariants.{StartCondition, OverAll, EndCondition, StartEffect, EndEffect}
-use Rattle.stn_pddl.specs.declared.action.Side.TheVariants.{Condition, Effect}
 use Rattle.stn_pddl.specs.declared.word.Head.TheVariants as head
 use Rattle.stn_text.specs.Faults.{◌>>=◌}
 use Rattle.stn_pddl.specs.Schemas.{TermSchema, AtomSchema, ActionSchema, Constant, with_literal}
-use Rattle.stn_pddl.specs.Conditions.{equal_tree, negated_head, negated_tree, negated_first, negation, plain_head, plain_row, plain_tree, labelled, start_of, end_of, at_tree, over_tree, timed_head, timed_row, timed_tree, equal_at}
+use Rattle.stn_pddl.specs.Conditions.{Meaning, row, tree, equal_tree, negated_head, negated_tree, negated_first, negation, plain_head, label_of, one_labelled, labelled, timed_head, equal_at}
 
 -- the action after has the name, the parameters and the duration of the one before, and sound atoms where that has them
 pub record Keeps (before after : ActionSchema) : Type 0 where
@@ -127,75 +126,54 @@ module _ (a b : ActionSchema) where
       first (Word at word next) h = refused (Syntax at) b h
       first (Group at children next) h = negated-keeps label at children h
 
-  plain-by : (label : Label) (line : ℕ) (word : List ℕ) (rest : Trees) → (plain_row label rest a ≡ Ok b → Keeps a b) → (k : Head) → plain_head (plain_row label rest a) label line word rest a k ≡ Ok b → Keeps a b
-  plain-by label line word rest row head.And h = row h
-  plain-by label line word rest row head.Not h = negation-keeps label line rest h
-  plain-by label line word rest row head.Equal h = equal-keeps label line rest h
-  plain-by label line word rest row head.OtherLogic h = refused (Unsupported line) b h
-  plain-by label line word rest row head.NoName h = refused (Syntax line) b h
-  plain-by label line word rest row head.At h = atom-keeps label false word rest h
-  plain-by label line word rest row head.Over h = atom-keeps label false word rest h
-  plain-by label line word rest row head.Name h = atom-keeps label false word rest h
+-- a meaning keeps of an action what the conjunction keeps
+abbrev KeepsEach : Meaning → Type 0
+KeepsEach meaning = (conjunction : Result ActionSchema DomainFault) (line : ℕ) (word : List ℕ) (rest : Trees) (a b : ActionSchema) → (conjunction ≡ Ok b → Keeps a b) → (k : Head) → meaning conjunction line word rest a k ≡ Ok b → Keeps a b
 
 mutual
-  unfolding plain_row plain_tree
+  unfolding row tree
 
-  pub plain_row-keeps : (label : Label) (trees : Trees) (a b : ActionSchema) → plain_row label trees a ≡ Ok b → Keeps a b
-  plain_row-keeps label End a b is = subst (Keeps a) (ok_same _ _ is) (same a)
-  plain_row-keeps label (Word line word next) a b is = refused (Syntax line) b is
-  plain_row-keeps label (Group line children next) a b is =
-      let step = bind_ok (plain_tree label line children a) (λ found. plain_row label next found) b is in
-      chained (plain_tree-keeps label line children a step.0 step.1) (plain_row-keeps label next step.0 b step.2)
+  row-keeps : (meaning : Meaning) → KeepsEach meaning → (trees : Trees) (a b : ActionSchema) → row meaning trees a ≡ Ok b → Keeps a b
+  row-keeps meaning each End a b is = subst (Keeps a) (ok_same _ _ is) (same a)
+  row-keeps meaning each (Word line word next) a b is = refused (Syntax line) b is
+  row-keeps meaning each (Group line children next) a b is =
+      let step = bind_ok (tree meaning line children a) (λ found. row meaning next found) b is in
+      chained (tree-keeps meaning each line children a step.0 step.1) (row-keeps meaning each next step.0 b step.2)
 
-  plain_tree-keeps : (label : Label) (line : ℕ) (trees : Trees) (a b : ActionSchema) → plain_tree label line trees a ≡ Ok b → Keeps a b
-  plain_tree-keeps label line End a b is = subst (Keeps a) (ok_same _ _ is) (same a)
-  plain_tree-keeps label line (Group at children next) a b is = refused (Syntax line) b is
-  plain_tree-keeps label line (Word at word rest) a b is = plain-by a b label line word rest (plain_row-keeps label rest a b) (head_of word) is
+  tree-keeps : (meaning : Meaning) → KeepsEach meaning → (line : ℕ) (trees : Trees) (a b : ActionSchema) → tree meaning line trees a ≡ Ok b → Keeps a b
+  tree-keeps meaning each line End a b is = subst (Keeps a) (ok_same _ _ is) (same a)
+  tree-keeps meaning each line (Group at children next) a b is = refused (Syntax line) b is
+  tree-keeps meaning each line (Word at word rest) a b is = each (row meaning rest a) line word rest a b (row-keeps meaning each rest a b) (head_of word) is
 
-module _ (a b : ActionSchema) where
-  labelled-keeps : (label : Label) (line : ℕ) (rest : Trees) → labelled label line rest a ≡ Ok b → Keeps a b
-  unfolding labelled
-  labelled-keeps label line rest is = plain_row-keeps label rest a b (guard_ok _ _ (Syntax line) b is)
+plain-keeps : (label : Label) → KeepsEach (plain_head label)
+plain-keeps label conjunction line word rest a b all head.And h = all h
+plain-keeps label conjunction line word rest a b all head.Not h = negation-keeps a b label line rest h
+plain-keeps label conjunction line word rest a b all head.Equal h = equal-keeps a b label line rest h
+plain-keeps label conjunction line word rest a b all head.OtherLogic h = refused (Unsupported line) b h
+plain-keeps label conjunction line word rest a b all head.NoName h = refused (Syntax line) b h
+plain-keeps label conjunction line word rest a b all head.At h = atom-keeps a b label false word rest h
+plain-keeps label conjunction line word rest a b all head.Over h = atom-keeps a b label false word rest h
+plain-keeps label conjunction line word rest a b all head.Name h = atom-keeps a b label false word rest h
 
-  at-keeps : (side : Side) (line : ℕ) (rest : Trees) → at_tree side line rest a ≡ Ok b → Keeps a b
-  unfolding at_tree
-  at-keeps side line End is = refused (Syntax line) b is
-  at-keeps side line (Group at children next) is = refused (Syntax line) b is
-  at-keeps side line (Word at word rest) is = by (is_same_word word (codes "start")) (is_same_word word (codes "end")) is
-    where
-      by : (s e : Bool) → cond s (labelled (start_of side) line rest a) (cond e (labelled (end_of side) line rest a) (Err (Syntax line))) ≡ Ok b → Keeps a b
-      by true e h = labelled-keeps (start_of side) line rest h
-      by false true h = labelled-keeps (end_of side) line rest h
-      by false false h = refused (Syntax line) b h
+labelled-keeps : (side : Side) (time : Head) (line : ℕ) (rest : Trees) (a b : ActionSchema) → labelled side time line rest a ≡ Ok b → Keeps a b
+unfolding labelled
+labelled-keeps side time line End a b is = refused (Syntax line) b is
+labelled-keeps side time line (Group at children next) a b is = refused (Syntax line) b is
+labelled-keeps side time line (Word at word rest) a b is = by (label_of side time word) is
+  where
+    by : (found : Option Label) → one_labelled found line rest a ≡ Ok b → Keeps a b
+    by None h = refused (Syntax line) b h
+    by (Some label) h = row-keeps (plain_head label) (plain-keeps label) rest a b (guard_ok _ _ (Syntax line) b h)
 
-  over-keeps : (side : Side) (line : ℕ) (rest : Trees) → over_tree side line rest a ≡ Ok b → Keeps a b
-  unfolding over_tree
-  over-keeps Effect line rest is = refused (Syntax line) b is
-  over-keeps Condition line End is = refused (Syntax line) b is
-  over-keeps Condition line (Group at children next) is = refused (Syntax line) b is
-  over-keeps Condition line (Word at word rest) is = labelled-keeps OverAll line rest (guard_ok (is_same_word word (codes "all")) _ (Syntax line) b is)
+timed-each : (side : Side) → KeepsEach (timed_head side)
+timed-each side conjunction line word rest a b all head.And h = all h
+timed-each side conjunction line word rest a b all head.At h = labelled-keeps side head.At line rest a b h
+timed-each side conjunction line word rest a b all head.Over h = labelled-keeps side head.Over line rest a b h
+timed-each side conjunction line word rest a b all head.OtherLogic h = refused (Unsupported line) b h
+timed-each side conjunction line word rest a b all head.Equal h = refused (equal_at side line) b h
+timed-each side conjunction line word rest a b all head.Not h = refused (Syntax line) b h
+timed-each side conjunction line word rest a b all head.NoName h = refused (Syntax line) b h
+timed-each side conjunction line word rest a b all head.Name h = refused (Syntax line) b h
 
-  timed-by : (side : Side) (line : ℕ) (rest : Trees) → (timed_row side rest a ≡ Ok b → Keeps a b) → (k : Head) → timed_head (timed_row side rest a) side line rest a k ≡ Ok b → Keeps a b
-  timed-by side line rest row head.And h = row h
-  timed-by side line rest row head.At h = at-keeps side line rest h
-  timed-by side line rest row head.Over h = over-keeps side line rest h
-  timed-by side line rest row head.OtherLogic h = refused (Unsupported line) b h
-  timed-by side line rest row head.Equal h = refused (equal_at side line) b h
-  timed-by side line rest row head.Not h = refused (Syntax line) b h
-  timed-by side line rest row head.NoName h = refused (Syntax line) b h
-  timed-by side line rest row head.Name h = refused (Syntax line) b h
-
-mutual
-  unfolding timed_row timed_tree
-
-  timed_row-keeps : (side : Side) (trees : Trees) (a b : ActionSchema) → timed_row side trees a ≡ Ok b → Keeps a b
-  timed_row-keeps side End a b is = subst (Keeps a) (ok_same _ _ is) (same a)
-  timed_row-keeps side (Word line word next) a b is = refused (Syntax line) b is
-  timed_row-keeps side (Group line children next) a b is =
-      let step = bind_ok (timed_tree side line children a) (λ found. timed_row side next found) b is in
-      chained (timed_tree-keeps side line children a step.0 step.1) (timed_row-keeps side next step.0 b step.2)
-
-  pub timed_tree-keeps : (side : Side) (line : ℕ) (trees : Trees) (a b : ActionSchema) → timed_tree side line trees a ≡ Ok b → Keeps a b
-  timed_tree-keeps side line End a b is = subst (Keeps a) (ok_same _ _ is) (same a)
-  timed_tree-keeps side line (Group at children next) a b is = refused (Syntax line) b is
-  timed_tree-keeps side line (Word at word rest) a b is = timed-by a b side line rest (timed_row-keeps side rest a b) (head_of word) is
+pub timed-keeps : (side : Side) (line : ℕ) (trees : Trees) (a b : ActionSchema) → tree (timed_head side) line trees a ≡ Ok b → Keeps a b
+timed-keeps side = tree-keeps (timed_head side) (timed-each side)

@@ -8,7 +8,7 @@ use Rattle.stn_pddl.specs.declared.action.Label.TheVariants.{StartCondition, Ove
 use Rattle.stn_pddl.specs.declared.action.Side.TheVariants.{Condition, Effect}
 use Rattle.stn_pddl.specs.declared.word.Head.TheVariants as head
 use Rattle.stn_pddl.specs.Schemas.{TermSchema, AtomSchema, ActionSchema, Constant, with_literal}
-use Rattle.stn_pddl.specs.Conditions.{is_effect, equal_tree, negated_head, negated_tree, negated_first, negation, plain_head, plain_row, plain_tree, labelled, start_of, end_of, at_tree, over_tree, timed_head, timed_row, timed_tree}
+use Rattle.stn_pddl.specs.Conditions.{Meaning, row, tree, is_effect, equal_tree, negated_head, negated_tree, negated_first, negation, plain_head, label_of, one_labelled, labelled, start_of, end_of, timed_head}
 use Rattle.stn_pddl.proofs.SmallWords.{same_first, same_variable, same_key, same_position, same_head}
 
 -- the same fault, or what a function makes of the value
@@ -123,85 +123,73 @@ module _ (label : Label) (a : ActionSchema) where
       mapped-either action_in_small (eqb (how_many rest) 1) (eqb (how_many (in_small rest)) 1) (negated_first label line rest a) (Err (Syntax line))
       (negated_first label line (in_small rest) (action_in_small a)) (Err (Syntax line)) (ap (λ n. eqb n 1) (same_many rest)) (small_first line rest) refl
 
-small_plain_by : (label : Label) (a : ActionSchema) (line : ℕ) (word : List ℕ) (rest : Trees)
-    → plain_row label (in_small rest) (action_in_small a) ≡ mapped action_in_small (plain_row label rest a)
-    → (k : Head) → plain_head (plain_row label (in_small rest) (action_in_small a)) label line (folded word) (in_small rest) (action_in_small a) k ≡ mapped action_in_small (plain_head (plain_row label rest a) label line word rest a k)
-small_plain_by label a line word rest row head.And = row
-small_plain_by label a line word rest row head.Not = small_negation label a line rest
-small_plain_by label a line word rest row head.Equal = small_equal label a line rest
-small_plain_by label a line word rest row head.OtherLogic = refl
-small_plain_by label a line word rest row head.NoName = refl
-small_plain_by label a line word rest row head.At = small_atom label a false word rest
-small_plain_by label a line word rest row head.Over = small_atom label a false word rest
-small_plain_by label a line word rest row head.Name = small_atom label a false word rest
+-- a meaning says of the small letters what it says of the letters, in small letters, where the conjunction does
+abbrev SmallEach : Meaning → Type 0
+SmallEach meaning = (one other : Result ActionSchema DomainFault) (line : ℕ) (word : List ℕ) (rest : Trees) (a : ActionSchema) → other ≡ mapped action_in_small one
+    → (k : Head) → meaning other line (folded word) (in_small rest) (action_in_small a) k ≡ mapped action_in_small (meaning one line word rest a k)
 
 mutual
-  unfolding plain_row plain_tree in_small
+  unfolding row tree in_small
 
-  small_plain_row : (label : Label) (trees : Trees) (a : ActionSchema) → plain_row label (in_small trees) (action_in_small a) ≡ mapped action_in_small (plain_row label trees a)
-  small_plain_row label End a = refl
-  small_plain_row label (Word line word next) a = refl
-  small_plain_row label (Group line children next) a =
-      mapped-then action_in_small action_in_small (plain_tree label line (in_small children) (action_in_small a)) (plain_tree label line children a) (λ found. plain_row label (in_small next) found) (λ found. plain_row label next found)
-      (small_plain_tree label line children a) (λ found. small_plain_row label next found)
+  small_row : (meaning : Meaning) → SmallEach meaning → (trees : Trees) (a : ActionSchema) → row meaning (in_small trees) (action_in_small a) ≡ mapped action_in_small (row meaning trees a)
+  small_row meaning each End a = refl
+  small_row meaning each (Word line word next) a = refl
+  small_row meaning each (Group line children next) a =
+      mapped-then action_in_small action_in_small (tree meaning line (in_small children) (action_in_small a)) (tree meaning line children a) (λ found. row meaning (in_small next) found) (λ found. row meaning next found)
+      (small_tree meaning each line children a) (λ found. small_row meaning each next found)
 
-  small_plain_tree : (label : Label) (line : ℕ) (trees : Trees) (a : ActionSchema) → plain_tree label line (in_small trees) (action_in_small a) ≡ mapped action_in_small (plain_tree label line trees a)
-  small_plain_tree label line End a = refl
-  small_plain_tree label line (Group at children next) a = refl
-  small_plain_tree label line (Word at word rest) a =
-      ap (plain_head (plain_row label (in_small rest) (action_in_small a)) label line (folded word) (in_small rest) (action_in_small a)) (same_head word) ∙ small_plain_by label a line word rest (small_plain_row label rest a) (head_of word)
+  small_tree : (meaning : Meaning) → SmallEach meaning → (line : ℕ) (trees : Trees) (a : ActionSchema) → tree meaning line (in_small trees) (action_in_small a) ≡ mapped action_in_small (tree meaning line trees a)
+  small_tree meaning each line End a = refl
+  small_tree meaning each line (Group at children next) a = refl
+  small_tree meaning each line (Word at word rest) a =
+      ap (meaning (row meaning (in_small rest) (action_in_small a)) line (folded word) (in_small rest) (action_in_small a)) (same_head word)
+      ∙ each (row meaning rest a) (row meaning (in_small rest) (action_in_small a)) line word rest a (small_row meaning each rest a) (head_of word)
 
-small_labelled : (label : Label) (line : ℕ) (rest : Trees) (a : ActionSchema) → labelled label line (in_small rest) (action_in_small a) ≡ mapped action_in_small (labelled label line rest a)
-unfolding labelled
-small_labelled label line rest a =
-    mapped-either action_in_small (eqb (how_many rest) 1) (eqb (how_many (in_small rest)) 1) (plain_row label rest a) (Err (Syntax line))
-    (plain_row label (in_small rest) (action_in_small a)) (Err (Syntax line)) (ap (λ n. eqb n 1) (same_many rest)) (small_plain_row label rest a) refl
+small_plain : (label : Label) → SmallEach (plain_head label)
+small_plain label one other line word rest a all head.And = all
+small_plain label one other line word rest a all head.Not = small_negation label a line rest
+small_plain label one other line word rest a all head.Equal = small_equal label a line rest
+small_plain label one other line word rest a all head.OtherLogic = refl
+small_plain label one other line word rest a all head.NoName = refl
+small_plain label one other line word rest a all head.At = small_atom label a false word rest
+small_plain label one other line word rest a all head.Over = small_atom label a false word rest
+small_plain label one other line word rest a all head.Name = small_atom label a false word rest
 
-small_at : (side : Side) (line : ℕ) (rest : Trees) (a : ActionSchema) → at_tree side line (in_small rest) (action_in_small a) ≡ mapped action_in_small (at_tree side line rest a)
-unfolding at_tree in_small
-small_at side line End a = refl
-small_at side line (Group at children next) a = refl
-small_at side line (Word at word rest) a =
-    let ends = cond (is_same_word word (codes "end")) (labelled (end_of side) line rest a) (Err (Syntax line)) in
-    let other_ends = cond (is_same_word (folded word) (codes "end")) (labelled (end_of side) line (in_small rest) (action_in_small a)) (Err (Syntax line)) in
-    mapped-either action_in_small (is_same_word word (codes "start")) (is_same_word (folded word) (codes "start")) (labelled (start_of side) line rest a) ends
-    (labelled (start_of side) line (in_small rest) (action_in_small a)) other_ends (same_first word (codes "start")) (small_labelled (start_of side) line rest a)
-    (mapped-either action_in_small (is_same_word word (codes "end")) (is_same_word (folded word) (codes "end")) (labelled (end_of side) line rest a) (Err (Syntax line))
-    (labelled (end_of side) line (in_small rest) (action_in_small a)) (Err (Syntax line)) (same_first word (codes "end")) (small_labelled (end_of side) line rest a) refl)
+small_label : (side : Side) (time : Head) (word : List ℕ) → label_of side time (folded word) ≡ label_of side time word
+small_label side head.At word =
+    ap (λ t. cond t (Some (start_of side)) (cond (is_same_word (folded word) (codes "end")) (Some (end_of side)) None)) (same_first word (codes "start"))
+    ∙ ap (λ t. cond (is_same_word word (codes "start")) (Some (start_of side)) (cond t (Some (end_of side)) None)) (same_first word (codes "end"))
+small_label Condition head.Over word = ap (λ t. cond t (Some OverAll) None) (same_first word (codes "all"))
+small_label Effect head.Over word = refl
+small_label side head.And word = refl
+small_label side head.Not word = refl
+small_label side head.Equal word = refl
+small_label side head.OtherLogic word = refl
+small_label side head.NoName word = refl
+small_label side head.Name word = refl
 
-small_over : (side : Side) (line : ℕ) (rest : Trees) (a : ActionSchema) → over_tree side line (in_small rest) (action_in_small a) ≡ mapped action_in_small (over_tree side line rest a)
-unfolding over_tree in_small
-small_over Effect line rest a = refl
-small_over Condition line End a = refl
-small_over Condition line (Group at children next) a = refl
-small_over Condition line (Word at word rest) a =
-    mapped-either action_in_small (is_same_word word (codes "all")) (is_same_word (folded word) (codes "all")) (labelled OverAll line rest a) (Err (Syntax line))
-    (labelled OverAll line (in_small rest) (action_in_small a)) (Err (Syntax line)) (same_first word (codes "all")) (small_labelled OverAll line rest a) refl
+small_one : (found : Option Label) (line : ℕ) (rest : Trees) (a : ActionSchema) → one_labelled found line (in_small rest) (action_in_small a) ≡ mapped action_in_small (one_labelled found line rest a)
+small_one None line rest a = refl
+small_one (Some label) line rest a =
+    mapped-either action_in_small (eqb (how_many rest) 1) (eqb (how_many (in_small rest)) 1) (row (plain_head label) rest a) (Err (Syntax line))
+    (row (plain_head label) (in_small rest) (action_in_small a)) (Err (Syntax line)) (ap (λ n. eqb n 1) (same_many rest)) (small_row (plain_head label) (small_plain label) rest a) refl
 
-small_timed_by : (side : Side) (a : ActionSchema) (line : ℕ) (rest : Trees)
-    → timed_row side (in_small rest) (action_in_small a) ≡ mapped action_in_small (timed_row side rest a)
-    → (k : Head) → timed_head (timed_row side (in_small rest) (action_in_small a)) side line (in_small rest) (action_in_small a) k ≡ mapped action_in_small (timed_head (timed_row side rest a) side line rest a k)
-small_timed_by side a line rest row head.And = row
-small_timed_by side a line rest row head.At = small_at side line rest a
-small_timed_by side a line rest row head.Over = small_over side line rest a
-small_timed_by side a line rest row head.OtherLogic = refl
-small_timed_by side a line rest row head.Equal = refl
-small_timed_by side a line rest row head.Not = refl
-small_timed_by side a line rest row head.NoName = refl
-small_timed_by side a line rest row head.Name = refl
+small_labelled : (side : Side) (time : Head) (line : ℕ) (rest : Trees) (a : ActionSchema) → labelled side time line (in_small rest) (action_in_small a) ≡ mapped action_in_small (labelled side time line rest a)
+unfolding labelled in_small
+small_labelled side time line End a = refl
+small_labelled side time line (Group at children next) a = refl
+small_labelled side time line (Word at word rest) a =
+    ap (λ found. one_labelled found line (in_small rest) (action_in_small a)) (small_label side time word) ∙ small_one (label_of side time word) line rest a
 
-mutual
-  unfolding timed_row timed_tree in_small
+small_timed : (side : Side) → SmallEach (timed_head side)
+small_timed side one other line word rest a all head.And = all
+small_timed side one other line word rest a all head.At = small_labelled side head.At line rest a
+small_timed side one other line word rest a all head.Over = small_labelled side head.Over line rest a
+small_timed side one other line word rest a all head.OtherLogic = refl
+small_timed side one other line word rest a all head.Equal = refl
+small_timed side one other line word rest a all head.Not = refl
+small_timed side one other line word rest a all head.NoName = refl
+small_timed side one other line word rest a all head.Name = refl
 
-  small_timed_row : (side : Side) (trees : Trees) (a : ActionSchema) → timed_row side (in_small trees) (action_in_small a) ≡ mapped action_in_small (timed_row side trees a)
-  small_timed_row side End a = refl
-  small_timed_row side (Word line word next) a = refl
-  small_timed_row side (Group line children next) a =
-      mapped-then action_in_small action_in_small (timed_tree side line (in_small children) (action_in_small a)) (timed_tree side line children a) (λ found. timed_row side (in_small next) found) (λ found. timed_row side next found)
-      (small_timed_tree side line children a) (λ found. small_timed_row side next found)
-
-  pub small_timed_tree : (side : Side) (line : ℕ) (trees : Trees) (a : ActionSchema) → timed_tree side line (in_small trees) (action_in_small a) ≡ mapped action_in_small (timed_tree side line trees a)
-  small_timed_tree side line End a = refl
-  small_timed_tree side line (Group at children next) a = refl
-  small_timed_tree side line (Word at word rest) a =
-      ap (timed_head (timed_row side (in_small rest) (action_in_small a)) side line (in_small rest) (action_in_small a)) (same_head word) ∙ small_timed_by side a line rest (small_timed_row side rest a) (head_of word)
+pub small_timed_tree : (side : Side) (line : ℕ) (trees : Trees) (a : ActionSchema) → tree (timed_head side) line (in_small trees) (action_in_small a) ≡ mapped action_in_small (tree (timed_head side) line trees a)
+small_timed_tree side = small_tree (timed_head side) (small_timed side)

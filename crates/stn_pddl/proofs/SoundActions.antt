@@ -12,7 +12,7 @@ use Rattle.stn_text.specs.Faults.{◌>>=◌, Gives}
 use Rattle.stn_pddl.specs.Fields.{Listing, Values, no_values, parameters, duration, constant, not_negative, fields}
 use Rattle.stn_pddl.specs.Actions.{timed_value, action_of_lists, action_of_values, named_action, is_taken, action}
 use Rattle.stn_pddl.specs.Domains.{part, parts, root, domain_of_tree, domain_of_bytes, domain_of, action_named}
-use Rattle.stn_pddl.proofs.Kept.{Keeps, bind_ok, guard_ok, unless_ok, ok_same, timed_tree-keeps}
+use Rattle.stn_pddl.proofs.Kept.{Keeps, bind_ok, guard_ok, unless_ok, ok_same, timed-keeps}
 
 refused : {A B : Type 0} (e : DomainFault) (y : A) → Err e ≡ Ok y → B
 refused e y is = cc
@@ -20,7 +20,7 @@ refused e y is = cc
 value-keeps : (side : Side) (value : Option Listing) (a b : ActionSchema) → timed_value side value a ≡ Ok b → Keeps a b
 unfolding timed_value
 value-keeps side None a b is = subst (Keeps a) (ok_same _ _ is) (record { name = refl; parameters = refl; duration = refl; atoms = λ h. h })
-value-keeps side (Some listing) a b is = timed_tree-keeps side listing.line listing.children a b is
+value-keeps side (Some listing) a b is = timed-keeps side listing.line listing.children a b is
 
 not-negative : (n : ℤ) → int_lt n (pos 0) ≡ false → pos 0 ≤ℤ n
 not-negative (pos n) h = omega (arith, ints)

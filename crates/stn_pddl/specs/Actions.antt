@@ -1,7 +1,7 @@
 -- A durative action.
 use Rattle.std.specs.Prelude.{ℕ, Bool, List, [], Option, Some, None, Result, Ok, Err, if◌then◌else◌}
 use Rattle.std.specs.List.{list_any}
-use Rattle.stn_pddl.specs.{Tree.Names.is_same_word, Tree.Trees.Trees, Tree.Trees.End, Tree.Trees.Word, Tree.Trees.Group, declared.fault.DomainFault.DomainFault, declared.action.Side.Side, Words.is_name, Schemas.ActionSchema, Schemas.bare_action, Conditions.timed_tree}
+use Rattle.stn_pddl.specs.{Tree.Names.is_same_word, Tree.Trees.Trees, Tree.Trees.End, Tree.Trees.Word, Tree.Trees.Group, declared.fault.DomainFault.DomainFault, declared.action.Side.Side, Words.is_name, Schemas.ActionSchema, Schemas.bare_action, Conditions.tree, Conditions.timed_head}
 use Rattle.stn_pddl.specs.declared.fault.DomainFault.TheVariants.{Syntax, Twice}
 use Rattle.stn_pddl.specs.declared.action.Side.TheVariants.{Condition, Effect}
 use Rattle.stn_text.specs.Faults.{◌>>=◌}
@@ -10,7 +10,7 @@ use Rattle.stn_pddl.specs.Fields.{Listing, Values, no_values, parameters, durati
 -- a value of `:condition` or `:effect`; one that is missing is empty
 unfoldable pub timed_value : Side → Option Listing → ActionSchema → Result ActionSchema DomainFault
 timed_value side None action = Ok action
-timed_value side (Some listing) action = timed_tree side listing.line listing.children action
+timed_value side (Some listing) action = tree (timed_head side) listing.line listing.children action
 
 -- the values in their order: parameters, duration, condition, effect
 unfoldable pub action_of_lists : List ℕ → Listing → Listing → Values → Result ActionSchema DomainFault

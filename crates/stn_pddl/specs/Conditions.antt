@@ -1,11 +1,32 @@
 -- Conditions and effects: trees with times, and the plain trees in them.
-use Rattle.std.specs.Prelude.{ℕ, List, Bool, true, false, Result, Ok, Err, ◌==◌, if◌then◌else◌, codes}
-use Rattle.stn_pddl.specs.{Tree.Names.is_same_word, Tree.Trees.Trees, Tree.Trees.End, Tree.Trees.Word, Tree.Trees.Group, Tree.Trees.how_many, declared.fault.DomainFault.DomainFault, declared.action.Label.Label, declared.action.Side.Side, declared.word.Head.Head, Words.head_of, Schemas.ActionSchema, Atoms.atom, Atoms.equality}
+use Rattle.std.specs.Prelude.{ℕ, List, Bool, true, false, Option, Some, None, Result, Ok, Err, ◌==◌, if◌then◌else◌, codes}
+use Rattle.stn_pddl.specs.{Tree.Names.is_same_word, Tree.Trees.Trees, Tree.Trees.End, Tree.Trees.Word, Tree.Trees.Group, Tree.Trees.how_many, declared.fault.DomainFault.DomainFault, declared.action.Label.Label, declared.action.Side.Side, declared.action.Form.Form, declared.word.Head.Head, Words.head_of, Schemas.ActionSchema, Atoms.atom, Atoms.equality}
 use Rattle.stn_pddl.specs.declared.fault.DomainFault.TheVariants.{Syntax, Unsupported}
 use Rattle.stn_pddl.specs.declared.action.Label.TheVariants.{StartCondition, OverAll, EndCondition, StartEffect, EndEffect}
 use Rattle.stn_pddl.specs.declared.action.Side.TheVariants.{Condition, Effect}
+use Rattle.stn_pddl.specs.declared.action.Form.TheVariants.{Plain, Timed}
 use Rattle.stn_pddl.specs.declared.word.Head.TheVariants as head
 use Rattle.stn_text.specs.Faults.{◌>>=◌}
+
+-- what a list on a line means by its head and the trees behind it, given what these mean as a conjunction
+abbrev pub Meaning : Type 0
+Meaning = Result ActionSchema DomainFault → ℕ → List ℕ → Trees → ActionSchema → Head → Result ActionSchema DomainFault
+
+-- a conjunction of the lists in a row, and one list: `()` is nothing
+unfoldable mutual
+  pub row : Meaning → Trees → ActionSchema → Result ActionSchema DomainFault
+  row meaning End action = Ok action
+  row meaning (Word line word next) action = Err (Syntax line)
+  row meaning (Group line children next) action = tree meaning line children action >>= λ found. row meaning next found
+
+  pub tree : Meaning → ℕ → Trees → ActionSchema → Result ActionSchema DomainFault
+  tree meaning line End action = Ok action
+  tree meaning line (Group at children next) action = Err (Syntax line)
+  tree meaning line (Word at word rest) action = meaning (row meaning rest action) line word rest action (head_of word)
+
+-- a list from its head on
+abbrev pub headed : Meaning → ℕ → List ℕ → Trees → ActionSchema → Result ActionSchema DomainFault
+headed meaning line word rest action = meaning (row meaning rest action) line word rest action (head_of word)
 
 abbrev pub is_effect : Label → Bool
 is_effect StartCondition = false
@@ -47,10 +68,10 @@ negated_first label line (Group at children next) action = negated_tree label at
 unfoldable pub negation : Label → ℕ → Trees → ActionSchema → Result ActionSchema DomainFault
 negation label line rest action = if how_many rest == 1 then negated_first label line rest action else Err (Syntax line)
 
--- a list as a plain tree, by its head; the trees after `and` mean `row`
-abbrev pub plain_head : Result ActionSchema DomainFault → Label → ℕ → List ℕ → Trees → ActionSchema → Head → Result ActionSchema DomainFault
-plain_head row label line word rest action k = elim k as (λ _. Result ActionSchema DomainFault) [
-  | head.And ↦ row
+-- a literal, or a conjunction of literals, all with one label
+abbrev pub plain_head : Label → Meaning
+plain_head label conjunction line word rest action k = elim k as (λ _. Result ActionSchema DomainFault) [
+  | head.And ↦ conjunction
   | head.Not ↦ negation label line rest action
   | head.Equal ↦ equal_tree label line rest action
   | head.OtherLogic ↦ Err (Unsupported line)
@@ -60,18 +81,6 @@ plain_head row label line word rest action k = elim k as (λ _. Result ActionSch
   | head.Name ↦ atom label false word rest action
 ]
 
--- plain trees in a row, and a list as a plain tree: `()` is nothing
-unfoldable mutual
-  pub plain_row : Label → Trees → ActionSchema → Result ActionSchema DomainFault
-  plain_row label End action = Ok action
-  plain_row label (Word line word next) action = Err (Syntax line)
-  plain_row label (Group line children next) action = plain_tree label line children action >>= λ found. plain_row label next found
-
-  pub plain_tree : Label → ℕ → Trees → ActionSchema → Result ActionSchema DomainFault
-  plain_tree label line End action = Ok action
-  plain_tree label line (Group at children next) action = Err (Syntax line)
-  plain_tree label line (Word at word rest) action = plain_head (plain_row label rest action) label line word rest action (head_of word)
-
 abbrev pub start_of : Side → Label
 start_of Condition = StartCondition
 start_of Effect = StartEffect
@@ -80,37 +89,36 @@ abbrev pub end_of : Side → Label
 end_of Condition = EndCondition
 end_of Effect = EndEffect
 
--- exactly one plain tree with this label
-unfoldable pub labelled : Label → ℕ → Trees → ActionSchema → Result ActionSchema DomainFault
-labelled label line rest action = if how_many rest == 1 then plain_row label rest action else Err (Syntax line)
+-- `at start`, `at end`, and in conditions `over all`
+abbrev pub label_of : Side → Head → List ℕ → Option Label
+label_of side head.At word =
+    if is_same_word word (codes "start") then Some (start_of side)
+    else (if is_same_word word (codes "end") then Some (end_of side) else None)
+label_of Condition head.Over word = if is_same_word word (codes "all") then Some OverAll else None
+label_of side other word = None
 
--- after `at` stands `start` or `end`
-unfoldable pub at_tree : Side → ℕ → Trees → ActionSchema → Result ActionSchema DomainFault
-at_tree side line End action = Err (Syntax line)
-at_tree side line (Group at children next) action = Err (Syntax line)
-at_tree side line (Word at word rest) action =
-    if is_same_word word (codes "start") then labelled (start_of side) line rest action
-    else (if is_same_word word (codes "end") then labelled (end_of side) line rest action else Err (Syntax line))
+-- exactly one tree with this label
+abbrev pub one_labelled : Option Label → ℕ → Trees → ActionSchema → Result ActionSchema DomainFault
+one_labelled None line rest action = Err (Syntax line)
+one_labelled (Some label) line rest action = if how_many rest == 1 then row (plain_head label) rest action else Err (Syntax line)
 
--- after `over`, in conditions alone, stands `all`
-unfoldable pub over_tree : Side → ℕ → Trees → ActionSchema → Result ActionSchema DomainFault
-over_tree Effect line rest action = Err (Syntax line)
-over_tree Condition line End action = Err (Syntax line)
-over_tree Condition line (Group at children next) action = Err (Syntax line)
-over_tree Condition line (Word at word rest) action =
-    if is_same_word word (codes "all") then labelled OverAll line rest action else Err (Syntax line)
+-- behind `at` or `over` stand the word that gives the label, and the tree that has it
+unfoldable pub labelled : Side → Head → ℕ → Trees → ActionSchema → Result ActionSchema DomainFault
+labelled side time line End action = Err (Syntax line)
+labelled side time line (Group at children next) action = Err (Syntax line)
+labelled side time line (Word at word rest) action = one_labelled (label_of side time word) line rest action
 
 -- an equality around times: of another logic in effects, else without a meaning
 abbrev pub equal_at : Side → ℕ → DomainFault
 equal_at Condition line = Syntax line
 equal_at Effect line = Unsupported line
 
--- a list as a tree with times, by its head; the trees after `and` mean `row`
-abbrev pub timed_head : Result ActionSchema DomainFault → Side → ℕ → Trees → ActionSchema → Head → Result ActionSchema DomainFault
-timed_head row side line rest action k = elim k as (λ _. Result ActionSchema DomainFault) [
-  | head.And ↦ row
-  | head.At ↦ at_tree side line rest action
-  | head.Over ↦ over_tree side line rest action
+-- a literal or a conjunction behind its time, or a conjunction of such
+abbrev pub timed_head : Side → Meaning
+timed_head side conjunction line word rest action k = elim k as (λ _. Result ActionSchema DomainFault) [
+  | head.And ↦ conjunction
+  | head.At ↦ labelled side head.At line rest action
+  | head.Over ↦ labelled side head.Over line rest action
   | head.OtherLogic ↦ Err (Unsupported line)
   | head.Equal ↦ Err (equal_at side line)
   | head.Not ↦ Err (Syntax line)
@@ -118,14 +126,7 @@ timed_head row side line rest action k = elim k as (λ _. Result ActionSchema Do
   | head.Name ↦ Err (Syntax line)
 ]
 
--- trees with times in a row, and a list as a tree with times: `()` is nothing
-unfoldable mutual
-  pub timed_row : Side → Trees → ActionSchema → Result ActionSchema DomainFault
-  timed_row side End action = Ok action
-  timed_row side (Word line word next) action = Err (Syntax line)
-  timed_row side (Group line children next) action = timed_tree side line children action >>= λ found. timed_row side next found
-
-  pub timed_tree : Side → ℕ → Trees → ActionSchema → Result ActionSchema DomainFault
-  timed_tree side line End action = Ok action
-  timed_tree side line (Group at children next) action = Err (Syntax line)
-  timed_tree side line (Word at word rest) action = timed_head (timed_row side rest action) side line rest action (head_of word)
+-- whether one label holds for all, or each has its time
+abbrev pub meaning_of : Form → Meaning
+meaning_of (Plain label) = plain_head label
+meaning_of (Timed side) = timed_head side

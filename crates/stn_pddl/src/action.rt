@@ -6,7 +6,7 @@ ghost use Rattle.stn_pddl.specs.Views.{action_schema, atom_schema, word_of};
 
 use crate::tree::Name;
 use indexmap::IndexSet;
-use std::alloc::{AllocFailed, Allocator};
+use std::alloc::{AllocError, Allocator};
 use std::hash::{BuildHasherDefault, FoldHasher};
 use stn_time::Ms;
 
@@ -73,6 +73,13 @@ pub enum Label {
     EndEffect,
 }
 
+/// Whether the literals of a conjunction have one label, or each its own.
+#[derive(Clone, Copy)]
+pub enum Form {
+    Plain(Label),
+    Timed(Side),
+}
+
 impl<'a, A: Allocator + Copy> Action<'a, A> {
     /// An action without parameters, conditions and effects, of no duration.
     #[tactic(auto, unfolding(crate::specs::Views::action_schema))]
@@ -100,17 +107,18 @@ impl<'a, A: Allocator + Copy> Action<'a, A> {
         label: Label,
         negated: bool,
         atom: Atom<'a, A>,
-    ) -> Result<(), AllocFailed<Atom<'a, A>>>
+    ) -> Result<(), AllocError>
         ensures { IfOk result (λ _. action_schema self.new ≡ with_literal label negated (atom_schema atom.entry) (action_schema self.old)) }
     {
         match label {
-            Label::StartCondition => self.start_needs.push(atom),
-            Label::OverAll => self.all_needs.push(atom),
-            Label::EndCondition => self.end_needs.push(atom),
-            Label::StartEffect if negated => self.start_deletes.push(atom),
-            Label::StartEffect => self.start_adds.push(atom),
-            Label::EndEffect if negated => self.end_deletes.push(atom),
-            Label::EndEffect => self.end_adds.push(atom),
+            Label::StartCondition => self.start_needs.push(atom)?,
+            Label::OverAll => self.all_needs.push(atom)?,
+            Label::EndCondition => self.end_needs.push(atom)?,
+            Label::StartEffect if negated => self.start_deletes.push(atom)?,
+            Label::StartEffect => self.start_adds.push(atom)?,
+            Label::EndEffect if negated => self.end_deletes.push(atom)?,
+            Label::EndEffect => self.end_adds.push(atom)?,
         }
+        Ok(())
     }
 }

@@ -11,7 +11,7 @@ use crate::action::{Action, Atom, Label, Names, Term};
 use crate::fault::DomainFault;
 use crate::tree::{Child, Cursor, Name};
 use crate::word::{is_key, is_variable};
-use std::alloc::Allocator;
+use std::alloc::{AllocError, Allocator};
 
 /// A term that is a word on a line.
 #[tactic(auto, unfolding(crate::specs::Atoms::term))]
@@ -53,7 +53,8 @@ fn read_terms<'a, A: Allocator + Copy>(
             Child::End(behind) => return Ok((terms, behind)),
             Child::Group(line, _) => return Err(DomainFault::Unsupported(line)),
             Child::Word(line, word, rest) => {
-                terms.push(read_term(parameters, line, word)?)?;
+                let term = read_term(parameters, line, word)?;
+                terms.push(term).map_err(AllocError::from)?;
                 cursor = rest;
             }
         }
@@ -65,7 +66,6 @@ impl<'a, A: Allocator + Copy> Action<'a, A> {
     #[tactic(auto, unfolding(crate::specs::Atoms::atom, crate::specs::Views::action_schema))]
     pub(crate) fn read_atom(
         &mut self,
-        alloc: A,
         label: Label,
         negated: bool,
         predicate: &'a [u8],
@@ -75,7 +75,7 @@ impl<'a, A: Allocator + Copy> Action<'a, A> {
             (spec.atom label negated predicate.now (row_at children.entry) (action_schema self.old)) }
         ensures passed { IfOk result (IsPast children.entry) }
     {
-        let (terms, rest) = read_terms(alloc, &self.parameters, children)?;
+        let (terms, rest) = read_terms(*self.start_needs.allocator(), &self.parameters, children)?;
         let predicate = Name { bytes: predicate };
         self.push_literal(label, negated, Atom { predicate, terms })?;
         Ok(rest)
@@ -85,7 +85,6 @@ impl<'a, A: Allocator + Copy> Action<'a, A> {
     #[tactic(auto, using(crate::proofs::Steps::fails_first), unfolding(crate::specs::Atoms::equality, crate::specs::Views::action_schema))]
     pub(crate) fn read_equality(
         &self,
-        alloc: A,
         line: u32,
         children: Cursor<'a>,
     ) -> Result<Cursor<'a>, DomainFault>
@@ -96,7 +95,7 @@ impl<'a, A: Allocator + Copy> Action<'a, A> {
         if children.count_children() != 2 {
             return Err(DomainFault::Syntax(line));
         }
-        let (_, rest) = read_terms(alloc, &self.parameters, children)?;
+        let (_, rest) = read_terms(*self.start_needs.allocator(), &self.parameters, children)?;
         Ok(rest)
     }
 }

@@ -1,17 +1,26 @@
-//! Conditions and effects with their times.
+//! Conditions and effects: conjunctions of literals with their times.
 
-ghost use Rattle.std.specs.Prelude.{◌≡◌, IfOk};
+ghost use Rattle.std.specs.Prelude.{◌≡◌, IfOk, true};
 ghost use Rattle.stn_text.specs.Faults.{Gives};
 ghost use Rattle.stn_pddl.specs.Tree.Cursors.{row_at, IsPast};
 ghost use Rattle.stn_pddl.specs.Faults.{is_memory};
 ghost use Rattle.stn_pddl.specs.Views.{action_schema};
 ghost use Rattle.stn_pddl.specs.Conditions as spec;
 
-use crate::action::{Action, Label, Side};
+use crate::action::{Action, Form, Label, Side};
 use crate::fault::DomainFault;
 use crate::tree::{Child, Cursor, is_same_word};
 use crate::word::{Head, head_of};
 use std::alloc::Allocator;
+
+fn is_effect(label: Label) -> bool
+    ensures { result ≡ spec.is_effect label }
+{
+    match label {
+        Label::StartCondition | Label::OverAll | Label::EndCondition => false,
+        Label::StartEffect | Label::EndEffect => true,
+    }
+}
 
 fn start_of(side: Side) -> Label
     ensures { result ≡ spec.start_of side }
@@ -31,6 +40,18 @@ fn end_of(side: Side) -> Label
     }
 }
 
+/// The label that `at` or `over` gives with the word behind it.
+fn label_of(side: Side, head: Head, word: &[u8]) -> Option<Label>
+    ensures { result ≡ spec.label_of side head word.now }
+{
+    match (head, side) {
+        (Head::At, _) if is_same_word(word, b"start") => Some(start_of(side)),
+        (Head::At, _) if is_same_word(word, b"end") => Some(end_of(side)),
+        (Head::Over, Side::Condition) if is_same_word(word, b"all") => Some(Label::OverAll),
+        _ => None,
+    }
+}
+
 fn equal_at(side: Side, line: u32) -> DomainFault
     ensures { result ≡ spec.equal_at side line }
 {
@@ -41,93 +62,146 @@ fn equal_at(side: Side, line: u32) -> DomainFault
 }
 
 impl<'a, A: Allocator + Copy> Action<'a, A> {
-    /// Takes up exactly one plain tree, in a list on a line.
-    #[tactic(auto, unfolding(crate::specs::Conditions::labelled))]
-    fn read_labelled(
+    /// An equality on a line, which effects don't have.
+    fn read_equal_tree(
+        &self,
+        label: Label,
+        line: u32,
+        children: Cursor<'a>,
+    ) -> Result<Cursor<'a>, DomainFault>
+        ensures given { Gives is_memory (λ _. action_schema self.now) result
+            (spec.equal_tree label line (row_at children.entry) (action_schema self.now)) }
+        ensures passed { IfOk result (IsPast children.entry) }
+    {
+        if is_effect(label) {
+            return Err(DomainFault::Unsupported(line));
+        }
+        self.read_equality(line, children)
+    }
+
+    /// The list after `not`, on its own line.
+    #[tactic(auto, using(crate::proofs::tree::Cursors::behind_rest), unfolding(crate::specs::Conditions::negated_tree))]
+    fn read_negated_tree(
         &mut self,
-        alloc: A,
         label: Label,
         line: u32,
         children: Cursor<'a>,
     ) -> Result<Cursor<'a>, DomainFault>
         ensures given { Gives is_memory (λ _. action_schema self.new) result
-            (spec.labelled label line (row_at children.entry) (action_schema self.old)) }
+            (spec.negated_tree label line (row_at children.entry) (action_schema self.old)) }
+        ensures passed { IfOk result (IsPast children.entry) }
+    {
+        let Child::Word(_, word, rest) = children.next_child() else {
+            return Err(DomainFault::Syntax(line));
+        };
+        match head_of(word) {
+            Head::And | Head::Not | Head::OtherLogic => Err(DomainFault::Unsupported(line)),
+            Head::Equal => self.read_equal_tree(label, line, rest),
+            Head::NoName => Err(DomainFault::Syntax(line)),
+            Head::At | Head::Over | Head::Name => self.read_atom(label, true, word, rest),
+        }
+    }
+
+    /// What stands after `not`, in a list on a line.
+    #[tactic(auto, unfolding(crate::specs::Conditions::negation))]
+    fn read_negation(
+        &mut self,
+        label: Label,
+        line: u32,
+        children: Cursor<'a>,
+    ) -> Result<Cursor<'a>, DomainFault>
+        ensures given { Gives is_memory (λ _. action_schema self.new) result
+            (spec.negation label line (row_at children.entry) (action_schema self.old)) }
         ensures passed { IfOk result (IsPast children.entry) }
     {
         if children.count_children() != 1 {
             return Err(DomainFault::Syntax(line));
         }
-        self.read_plain_row(alloc, label, children)
-    }
-
-    /// What stands after `at`, in a list on a line.
-    #[tactic(auto, using(crate::proofs::tree::Cursors::behind_rest), unfolding(crate::specs::Conditions::at_tree))]
-    fn read_at_tree(
-        &mut self,
-        alloc: A,
-        side: Side,
-        line: u32,
-        children: Cursor<'a>,
-    ) -> Result<Cursor<'a>, DomainFault>
-        ensures given { Gives is_memory (λ _. action_schema self.new) result
-            (spec.at_tree side line (row_at children.entry) (action_schema self.old)) }
-        ensures passed { IfOk result (IsPast children.entry) }
-    {
         match children.next_child() {
             Child::End(_) => Err(DomainFault::Syntax(line)),
-            Child::Group(_, _) => Err(DomainFault::Syntax(line)),
-            Child::Word(_, word, rest) => {
-                if is_same_word(word, b"start") {
-                    self.read_labelled(alloc, start_of(side), line, rest)
-                } else if is_same_word(word, b"end") {
-                    self.read_labelled(alloc, end_of(side), line, rest)
-                } else {
-                    Err(DomainFault::Syntax(line))
-                }
+            Child::Word(at, _, _) => Err(DomainFault::Syntax(at)),
+            Child::Group(at, inside) => {
+                let rest = self.read_negated_tree(label, at, inside)?;
+                Ok(rest.skip())
             }
         }
     }
 
-    /// What stands after `over`, in a list on a line.
-    #[tactic(auto, using(crate::proofs::tree::Cursors::behind_rest), unfolding(crate::specs::Conditions::over_tree))]
-    fn read_over_tree(
+    /// Takes up a list on a line whose literals have one label, from its head on, and gives the place after the list.
+    #[cycle(conditions)]
+    fn read_plain(
         &mut self,
-        alloc: A,
+        label: Label,
+        line: u32,
+        word: &'a [u8],
+        rest: Cursor<'a>,
+    ) -> Result<Cursor<'a>, DomainFault>
+        ensures given { Gives is_memory (λ _. action_schema self.new) result
+            (spec.headed (spec.plain_head label) line word.now (row_at rest.entry) (action_schema self.old)) }
+        ensures passed { IfOk result (IsPast rest.entry) }
+    {
+        match head_of(word) {
+            Head::And => self.read_row(Form::Plain(label), rest),
+            Head::Not => self.read_negation(label, line, rest),
+            Head::Equal => self.read_equal_tree(label, line, rest),
+            Head::OtherLogic => Err(DomainFault::Unsupported(line)),
+            Head::NoName => Err(DomainFault::Syntax(line)),
+            Head::At | Head::Over | Head::Name => self.read_atom(label, false, word, rest),
+        }
+    }
+
+    /// Takes up what stands behind `at` or `over`, in a list on a line: a word that gives a label, and the tree that has it.
+    #[cycle(conditions)]
+    #[tactic(auto, using(crate::proofs::tree::Cursors::behind_rest), unfolding(crate::specs::Conditions::labelled))]
+    fn read_labelled(
+        &mut self,
         side: Side,
+        head: Head,
         line: u32,
         children: Cursor<'a>,
     ) -> Result<Cursor<'a>, DomainFault>
         ensures given { Gives is_memory (λ _. action_schema self.new) result
-            (spec.over_tree side line (row_at children.entry) (action_schema self.old)) }
+            (spec.labelled side head line (row_at children.entry) (action_schema self.old)) }
         ensures passed { IfOk result (IsPast children.entry) }
     {
-        match side {
-            Side::Effect => Err(DomainFault::Syntax(line)),
-            Side::Condition => match children.next_child() {
-                Child::End(_) => Err(DomainFault::Syntax(line)),
-                Child::Group(_, _) => Err(DomainFault::Syntax(line)),
-                Child::Word(_, word, rest) => {
-                    if is_same_word(word, b"all") {
-                        self.read_labelled(alloc, Label::OverAll, line, rest)
-                    } else {
-                        Err(DomainFault::Syntax(line))
-                    }
-                }
-            },
+        let Child::Word(_, word, rest) = children.next_child() else {
+            return Err(DomainFault::Syntax(line));
+        };
+        match label_of(side, head, word) {
+            Some(label) if rest.count_children() == 1 => self.read_row(Form::Plain(label), rest),
+            _ => Err(DomainFault::Syntax(line)),
         }
     }
 
-    /// Takes up the trees of a row with their times, and gives the place after the row.
-    #[cycle(timed)]
-    #[tactic(auto, using(crate::proofs::Steps::fails_first), unfolding(crate::specs::Conditions::timed_row))]
-    fn read_timed_row(
+    /// Takes up a list on a line whose literals have each its time, from its head on, and gives the place after the list.
+    #[cycle(conditions)]
+    fn read_timed(
         &mut self,
-        alloc: A,
         side: Side,
-        children: Cursor<'a>,
+        line: u32,
+        word: &'a [u8],
+        rest: Cursor<'a>,
     ) -> Result<Cursor<'a>, DomainFault>
         ensures given { Gives is_memory (λ _. action_schema self.new) result
-            (spec.timed_row side (row_at children.entry) (action_schema self.old)) }
+            (spec.headed (spec.timed_head side) line word.now (row_at rest.entry) (action_schema self.old)) }
+        ensures passed { IfOk result (IsPast rest.entry) }
+    {
+        match head_of(word) {
+            Head::And => self.read_row(Form::Timed(side), rest),
+            Head::At => self.read_labelled(side, Head::At, line, rest),
+            Head::Over => self.read_labelled(side, Head::Over, line, rest),
+            Head::OtherLogic => Err(DomainFault::Unsupported(line)),
+            Head::Equal => Err(equal_at(side, line)),
+            Head::Not | Head::NoName | Head::Name => Err(DomainFault::Syntax(line)),
+        }
+    }
+
+    /// Takes up the lists of a row, and gives the place after the row.
+    #[cycle(conditions)]
+    #[tactic(auto, using(crate::proofs::Steps::fails_first), unfolding(crate::specs::Conditions::row))]
+    fn read_row(&mut self, form: Form, children: Cursor<'a>) -> Result<Cursor<'a>, DomainFault>
+        ensures given { Gives is_memory (λ _. action_schema self.new) result
+            (spec.row (spec.meaning_of form) (row_at children.entry) (action_schema self.old)) }
         ensures passed { IfOk result (IsPast children.entry) }
     {
         let mut cursor = children;
@@ -136,36 +210,31 @@ impl<'a, A: Allocator + Copy> Action<'a, A> {
                 Child::End(behind) => return Ok(behind),
                 Child::Word(line, _, _) => return Err(DomainFault::Syntax(line)),
                 Child::Group(line, inside) => {
-                    cursor = self.read_timed_tree(alloc, side, line, inside)?;
+                    cursor = self.read_tree(form, line, inside)?;
                 }
             }
         }
     }
 
-    /// Takes up a list on a line as a condition or an effect with its times, and gives the place after the list.
-    #[cycle(timed)]
-    #[tactic(auto, using(crate::proofs::tree::Cursors::behind_rest), unfolding(crate::specs::Conditions::timed_tree))]
-    pub(crate) fn read_timed_tree(
+    /// Takes up a list on a line, and gives the place after the list.
+    #[cycle(conditions)]
+    #[tactic(auto, using(crate::proofs::tree::Cursors::behind_rest), unfolding(crate::specs::Conditions::tree))]
+    pub(crate) fn read_tree(
         &mut self,
-        alloc: A,
-        side: Side,
+        form: Form,
         line: u32,
         children: Cursor<'a>,
     ) -> Result<Cursor<'a>, DomainFault>
         ensures given { Gives is_memory (λ _. action_schema self.new) result
-            (spec.timed_tree side line (row_at children.entry) (action_schema self.old)) }
+            (spec.tree (spec.meaning_of form) line (row_at children.entry) (action_schema self.old)) }
         ensures passed { IfOk result (IsPast children.entry) }
     {
         match children.next_child() {
             Child::End(behind) => Ok(behind),
             Child::Group(_, _) => Err(DomainFault::Syntax(line)),
-            Child::Word(_, word, rest) => match head_of(word) {
-                Head::And => self.read_timed_row(alloc, side, rest),
-                Head::At => self.read_at_tree(alloc, side, line, rest),
-                Head::Over => self.read_over_tree(alloc, side, line, rest),
-                Head::OtherLogic => Err(DomainFault::Unsupported(line)),
-                Head::Equal => Err(equal_at(side, line)),
-                Head::Not | Head::NoName | Head::Name => Err(DomainFault::Syntax(line)),
+            Child::Word(_, word, rest) => match form {
+                Form::Plain(label) => self.read_plain(label, line, word, rest),
+                Form::Timed(side) => self.read_timed(side, line, word, rest),
             },
         }
     }

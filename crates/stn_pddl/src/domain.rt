@@ -15,7 +15,7 @@ ghost use Rattle.stn_pddl.specs.Views.{action_schema, word_of};
 ghost use Rattle.stn_pddl.specs.declared.action.Side.TheVariants.{Condition, Effect};
 ghost use Rattle.stn_pddl.specs.FieldViews.{listing_of, values_of};
 
-use crate::action::{Action, Side};
+use crate::action::{Action, Form, Side};
 use crate::actions::Actions;
 use crate::fault::DomainFault;
 use crate::fields::{Listing, Values, read_duration, read_parameters};
@@ -46,7 +46,6 @@ impl<'a, A: Allocator> Model for Domain<'a, A> {
 /// Takes up the value of `:condition` or `:effect`, where there is one.
 #[tactic(auto, unfolding(crate::specs::Actions::timed_value))]
 fn read_timed_value<'a, A: Allocator + Copy>(
-    alloc: A,
     side: Side,
     value: Option<Listing<'a>>,
     action: &mut Action<'a, A>,
@@ -55,14 +54,13 @@ fn read_timed_value<'a, A: Allocator + Copy>(
         (rule.timed_value side (option_map listing_of value.entry) (action_schema action.old)) }
 {
     if let Some(listing) = value {
-        action.read_timed_tree(alloc, side, listing.line, listing.inside)?;
+        action.read_tree(Form::Timed(side), listing.line, listing.inside)?;
     }
     Ok(())
 }
 
 /// Takes up the values of `:condition` and `:effect`.
 fn read_sides<'a, A: Allocator + Copy>(
-    alloc: A,
     values: Values<'a>,
     action: &mut Action<'a, A>,
 ) -> Result<(), DomainFault>
@@ -70,14 +68,13 @@ fn read_sides<'a, A: Allocator + Copy>(
         (rule.timed_value Condition (values_of values.entry).condition (action_schema action.old)
         and_then rule.timed_value Effect (values_of values.entry).effect) }
 {
-    read_timed_value(alloc, Side::Condition, values.condition, action)?;
-    read_timed_value(alloc, Side::Effect, values.effect, action)
+    read_timed_value(Side::Condition, values.condition, action)?;
+    read_timed_value(Side::Effect, values.effect, action)
 }
 
 /// Takes up the values of an action that has none, in their order.
 #[tactic(auto, using(crate::proofs::Steps::fails_first), unfolding(crate::specs::Views::action_schema, crate::specs::Actions::action_of_lists))]
 fn read_values<'a, A: Allocator + Copy>(
-    alloc: A,
     parameters: Listing<'a>,
     duration: Listing<'a>,
     values: Values<'a>,
@@ -89,13 +86,12 @@ fn read_values<'a, A: Allocator + Copy>(
 {
     read_parameters(parameters.inside, &mut action.parameters)?;
     action.duration = read_duration(duration.line, duration.inside)?;
-    read_sides(alloc, values, action)
+    read_sides(values, action)
 }
 
 /// Takes up the fields of an action that has none, on a line.
 #[tactic(auto, unfolding(crate::specs::Actions::named_action))]
 fn read_fields<'a, A: Allocator + Copy>(
-    alloc: A,
     line: u32,
     children: Cursor<'a>,
     action: &mut Action<'a, A>,
@@ -111,7 +107,7 @@ fn read_fields<'a, A: Allocator + Copy>(
     let Some(duration) = values.duration else {
         return Err(DomainFault::Syntax(line));
     };
-    read_values(alloc, parameters, duration, values, action)
+    read_values(parameters, duration, values, action)
 }
 
 /// The name of an action on a line, which no earlier one has, and the place after it.
@@ -126,20 +122,17 @@ fn read_name<'a, A: Allocator + Copy>(
     ensures new { IfOk result (λ found. rule.is_taken (word_of found.0) earlier.now ≡ false) }
     ensures fault { IfErr result (λ fault. rule.action line (row_at children.entry) earlier.now ≡ Err fault) }
 {
-    match children.next_child() {
-        Child::End(_) => Err(DomainFault::Syntax(line)),
-        Child::Group(_, _) => Err(DomainFault::Syntax(line)),
-        Child::Word(at, word, rest) => {
-            if !is_name(word) {
-                return Err(DomainFault::Syntax(line));
-            }
-            let name = Name { bytes: word };
-            if earlier.is_taken(name) {
-                return Err(DomainFault::Twice(at));
-            }
-            Ok((name, rest))
-        }
+    let Child::Word(at, word, rest) = children.next_child() else {
+        return Err(DomainFault::Syntax(line));
+    };
+    if !is_name(word) {
+        return Err(DomainFault::Syntax(line));
     }
+    let name = Name { bytes: word };
+    if earlier.is_taken(name) {
+        return Err(DomainFault::Twice(at));
+    }
+    Ok((name, rest))
 }
 
 /// An action on a line, from what stands after its head.
@@ -155,7 +148,7 @@ fn read_action<'a, A: Allocator + Copy>(
 {
     let (name, rest) = read_name(line, children, earlier)?;
     let mut action = Action::bare(alloc, name);
-    read_fields(alloc, line, rest, &mut action).and(Ok(action))
+    read_fields(line, rest, &mut action).and(Ok(action))
 }
 
 /// One part of a domain, a list on a line.
@@ -168,19 +161,18 @@ fn read_part<'a, A: Allocator + Copy>(
 ) -> Result<(), DomainFault>
     ensures { Gives is_memory (λ _. actions.new) result (part line (row_at children.entry) actions.old) }
 {
-    match children.next_child() {
-        Child::End(_) => Err(DomainFault::Syntax(line)),
-        Child::Group(_, _) => Err(DomainFault::Syntax(line)),
-        Child::Word(_, word, rest) => match section_of(word) {
-            Section::Skipped => Ok(()),
-            Section::Action => {
-                let action = read_action(alloc, line, rest, actions)?;
-                actions.push(action)?;
-                Ok(())
-            }
-            Section::Unknown => Err(DomainFault::Unsupported(line)),
-            Section::NoSection => Err(DomainFault::Syntax(line)),
-        },
+    let Child::Word(_, word, rest) = children.next_child() else {
+        return Err(DomainFault::Syntax(line));
+    };
+    match section_of(word) {
+        Section::Skipped => Ok(()),
+        Section::Action => {
+            let action = read_action(alloc, line, rest, actions)?;
+            actions.push(action)?;
+            Ok(())
+        }
+        Section::Unknown => Err(DomainFault::Unsupported(line)),
+        Section::NoSection => Err(DomainFault::Syntax(line)),
     }
 }
 

@@ -5,7 +5,7 @@ ghost use Rattle.stn_pddl.specs.declared.fault.DomainFault.TheVariants.{Memory};
 ghost use Rattle.stn_pddl.specs.Faults.{of_tree};
 
 use crate::tree::TreeFault;
-use std::alloc::{AllocError, AllocFailed};
+use std::alloc::AllocError;
 use thiserror::Error;
 
 /// The first fault of a text, with its line, counted from 1.
@@ -53,14 +53,6 @@ impl From<AllocError> for DomainFault {
     ghost from_gives = { λ _ e. e ≡ Memory };
 
     fn from(_e: AllocError) -> DomainFault {
-        DomainFault::Memory
-    }
-}
-
-impl<T: Drop> From<AllocFailed<T>> for DomainFault {
-    ghost from_gives = { λ _ e. e ≡ Memory };
-
-    fn from(_e: AllocFailed<T>) -> DomainFault {
         DomainFault::Memory
     }
 }

@@ -30,7 +30,9 @@ pub fn read_parameters<'a, A: Allocator + Copy>(
             Child::Group(line, _) => return Err(DomainFault::Syntax(line)),
             Child::Word(line, word, rest) => match item_of(word) {
                 Item::Parameter => {
-                    let (_, is_new) = names.insert_full(Name { bytes: word })?;
+                    let Ok((_, is_new)) = names.insert_full(Name { bytes: word }) else {
+                        return Err(DomainFault::Memory);
+                    };
                     if !is_new {
                         return Err(DomainFault::Twice(line));
                     }

@@ -10,7 +10,6 @@ mod failures;
 mod fault;
 mod fields;
 mod laws;
-mod plain;
 pub mod tree;
 mod word;
 

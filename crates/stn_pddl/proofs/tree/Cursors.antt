@@ -1,7 +1,6 @@
 -- Bytes left at a cursor.
 use Rattle.std.proofs.Common.{◌≡◌, ℕ, zero, suc, Result, Ok, Err, IfOk, ◌<◌, arith, ◌∙◌}
 use Rattle.stn_pddl.specs.{declared.tree.cursor.Cursor.Cursor, Tree.Cursors.IsPast, Tree.Cursors.behind_at, Tree.Cursors.left_at, Tree.Trees.Rows, Tree.Trees.behind}
-use Rattle.stn_pddl.specs.declared.tree.cursor.Child.TheVariants as child
 
 -- after so many more rows
 unfoldable pub further : ℕ → Rows → Rows

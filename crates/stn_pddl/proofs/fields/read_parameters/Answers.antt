@@ -17,11 +17,11 @@ kept was old now more is e = rw is at e
 pub returns-then-not-is_new : goal.returns-then-not-is_new
 returns-then-not-is_new g c =
     sym c.parameters.invariant ∙ parameter-twice c.in-Word.line c.in-Word.word.now _ _ c.parameters.names.keys c.in-Word.ensures.first.0 (sym c.item_of.ensures ∙ c.in-Parameter.is)
-    (told _ _ c.in_ok-is_new-in-Parameter.ensures.added c.if-not-is_new.true)
+    (told _ _ c.in-Ok.ensures.added c.if-not-is_new.true)
 
 pub parameters-preserved-in-Parameter : goal.parameters-preserved-in-Parameter
 parameters-preserved-in-Parameter g c =
-    let new = untold _ _ c.in_ok-is_new-in-Parameter.ensures.added c.if-not-is_new.false in
+    let new = untold _ _ c.in-Ok.ensures.added c.if-not-is_new.false in
     parameter-new c.in-Word.line c.in-Word.word.now _ _ c.parameters.names.keys c.in-Word.ensures.first.0 (sym c.item_of.ensures ∙ c.in-Parameter.is) (record { bytes = c.in-Word.word }) _ refl new
-    (kept _ _ _ _ new c.in_ok-is_new-in-Parameter.ensures.keys)
+    (kept _ _ _ _ new c.in-Ok.ensures.keys)
     ∙ c.parameters.invariant
