@@ -3,7 +3,7 @@ use Rattle.std.specs.Prelude.{int_le, is_none, IfSome, IfNone}
 use Rattle.std.proofs.{lemmas.Bool.cases_lt, lemmas.Bool.false≢true, lemmas.Int.ints, lemmas.Int.by_lt_z}
 use Rattle.stn_net.specs.Difference.{Difference}
 use Rattle.stn_net.specs.{Matrix.Table.Table, Matrix.Table.far_of, Matrix.Tightest.IsExact}
-use Rattle.stn_net.specs.Windows.Dispatch.{IsLeft, IsReady, IsFirstReady, HasTimeFrom, IsOverdue}
+use Rattle.stn_net.specs.Windows.Dispatch.{IsLeft, IsReady, IsFirstReady, ComesFirst, HasTimeFrom, IsOverdue}
 use Rattle.stn_net.specs.Windows.Leading.{earliest, Leads, NonePast, CanLead, IsFirstPast, IsLeastLeader, IsEarliestBelow, IsEarliestSoFar, earlier_of}
 use Rattle.stn_net.proofs.Readiness.{left_within, exact_triangle, exact_itself, ready_now, ready_can_lead, ready_none_past}
 
@@ -117,19 +117,25 @@ first_of_all far done number event time same left at none = record {
       ];
 }
 
--- the first below a number stays it, where the event of that number is no earlier
-first_stays : (far : ℕ → ℕ → ℤ) (done : List Bool) (number event : ℕ) (run : ℤ × ℕ) (time : ℤ) → event ≡ number → time ≡ earliest far event
-    → IsLeft done event → IsEarliestBelow far done number run → run.0 ≤ℤ time → IsEarliestBelow far done (number + 1) run
-first_stays far done number event run time same at left first no_later = record {
+-- a run that is the first below a number is the first below the next, where it comes before an event of that number that is left
+one_further : (far : ℕ → ℕ → ℤ) (done : List Bool) (number : ℕ) (run : ℤ × ℕ) → IsEarliestBelow far done number run
+    → (IsLeft done number → ComesFirst run.0 run.1 (earliest far number) number) → IsEarliestBelow far done (number + 1) run
+one_further far done number run first next = record {
   left = first.left;
   at = first.at;
   below = omega (arith, first.below);
   first = λ other within is_left.
       elim (cases_lt other number) [
         | inl before ↦ first.first other before is_left
-        | inr here ↦ let is : other ≡ event = omega arith in rw is (omega (arith, ints), λ _. omega arith)
+        | inr here ↦ let is : other ≡ number = omega arith in rw is (next (rw (← is) is_left))
       ];
 }
+
+-- it stays the first, where the event of that number is no earlier
+first_stays : (far : ℕ → ℕ → ℤ) (done : List Bool) (number event : ℕ) (run : ℤ × ℕ) (time : ℤ) → event ≡ number → time ≡ earliest far event
+    → IsEarliestBelow far done number run → run.0 ≤ℤ time → IsEarliestBelow far done (number + 1) run
+first_stays far done number event run time same at first no_later =
+    one_further far done number run first (λ _. rw (← same) (omega (arith, ints), λ _. omega (arith, first.below)))
 
 -- and gives way, where that event is earlier
 first_gives_way : (far : ℕ → ℕ → ℤ) (done : List Bool) (number event : ℕ) (run : ℤ × ℕ) (time : ℤ) → event ≡ number → time ≡ earliest far event
@@ -152,7 +158,7 @@ one_more_run far done number event None time same left at none = first_of_all fa
 one_more_run far done number event (Some run) time same left at first =
     by_lt_z time run.0
     (λ before. rw (earlier_takes run (time, event) before) (first_gives_way far done number event run time same at left first before))
-    (λ no_later. rw (earlier_keeps run (time, event) no_later) (first_stays far done number event run time same at left first no_later))
+    (λ no_later. rw (earlier_keeps run (time, event) no_later) (first_stays far done number event run time same at first no_later))
 
 -- a look at one more event that is not left changes nothing
 pub same_first : (far : ℕ → ℕ → ℤ) (done : List Bool) (number event : ℕ) (first : Option (ℤ × ℕ)) → event ≡ number → ¬ IsLeft done event
@@ -162,16 +168,7 @@ same_first far done number event None same not_left none = λ other within is_le
       | inl before ↦ none other before is_left
       | inr here ↦ let is : other ≡ event = omega arith in not_left (rw (← is) is_left)
     ]
-same_first far done number event (Some run) same not_left first = record {
-  left = first.left;
-  at = first.at;
-  below = omega (arith, first.below);
-  first = λ other within is_left.
-      elim (cases_lt other number) [
-        | inl before ↦ first.first other before is_left
-        | inr here ↦ let is : other ≡ event = omega arith in absurd (not_left (rw (← is) is_left))
-      ];
-}
+same_first far done number event (Some run) same not_left first = one_further far done number run first (λ is_left. absurd (not_left (rw same is_left)))
 
 -- no event below the next number can lead, where none below the number can and that of the number can't
 pub one_more_behind : (far : ℕ → ℕ → ℤ) (done : List Bool) (now : ℤ) (number event : ℕ) → event ≡ number → ¬ CanLead far done now event

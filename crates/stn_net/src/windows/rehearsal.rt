@@ -1,8 +1,9 @@
-ghost use Rattle.std.specs.Prelude.{◌≡◌, ◌+◌, ◌∷◌, [], ◌++◌, true, List, length, slice_set, IfOk, OnOk, IfErr};
+ghost use Rattle.std.specs.Prelude.{◌≡◌, ◌≢◌, ◌+◌, ◌∷◌, [], ◌++◌, true, ℕ, List, length, slice_set, IfOk, OnOk, IfErr};
 ghost use Rattle.stn_net.specs.Difference.{Difference};
 ghost use Rattle.stn_net.specs.Schedule.{HasSchedule};
 ghost use Rattle.stn_net.specs.Matrix.Tightest.{IsExact};
-ghost use Rattle.stn_net.specs.Windows.Dispatch.{IsLeft, CanWaitUntil};
+ghost use Rattle.stn_net.specs.Windows.Dispatch.{IsLeft, IsNext, NamesLeft, CanWaitUntil};
+ghost use Rattle.stn_net.specs.declared.windows.answers.Next.TheVariants.{Overdue};
 ghost use Rattle.stn_net.specs.Windows.Rehearsal.{fixed_at, IsRehearsal, NeverFalls, RunsEachOnce, HasScheduleThrough, IsRehearseFault};
 
 use crate::windows::answers::{Next, RehearseFault};
@@ -36,17 +37,37 @@ pub fn rehearse<A: Allocator + Copy>(
     ensures fault { IfErr result (λ fault. (bounds : List Difference) → IsExact bounds matrix.now
         → IsRehearseFault bounds done.now now fault) }
 {
-    let mut answer = next(matrix, done, now);
-    if let Next::Overdue(event) = answer {
+    let first = next(matrix, done, now);
+    if let Next::Overdue(event) = first {
         return Err(RehearseFault::Overdue(event));
     }
+    let runs = rehearse_from(alloc, matrix, done, now, first)?;
+    Ok(runs)
+}
+
+// The rest of the plan from what comes next, which is no overdue event.
+fn rehearse_from<A: Allocator + Copy>(
+    alloc: A,
+    matrix: &Matrix<A>,
+    done: &[bool],
+    now: Ms,
+    first: Next,
+) -> Result<Vec<(Ms, Event), A>, Memory>
+    requires one_each { length done.now ≡ matrix.now.events + 1 }
+    requires next { (bounds : List Difference) → IsExact bounds matrix.now → IsNext bounds done.now now first }
+    requires left { NamesLeft done.now first }
+    requires in_time { (event : ℕ) → first ≢ Overdue event }
+    ensures { IfOk result (λ runs. (bounds : List Difference) → IsExact bounds matrix.now
+        → IsRehearsal bounds done.now now runs.items) }
+{
     let mut tightened = Matrix::bare(alloc, matrix.events())?;
     tightened.copy_from(matrix);
     let mut finished = Vec::from_slice(alloc, done)?;
     let mut runs = Vec::new(alloc);
+    let mut answer = first;
     // Once an event has run, none is overdue: the schedule that has it first shows it.
     while let Next::Run(time, event) = answer {
-        append(&mut runs, (time, event))?;
+        runs.push((time, event))?;
         fix(&mut tightened, &mut finished, time, event);
         answer = next(&tightened, &finished, time);
     }
@@ -65,12 +86,4 @@ fn fix<A: Allocator>(matrix: &mut Matrix<A>, done: &mut [bool], time: Ms, event:
     let bound = Bound::new(matrix.events(), Event::origin(), event, time, time).unwrap();
     let _fits = matrix.tighten(bound);
     done[usize::from(event.number())] = true;
-}
-
-// Appends a run; if memory runs out, it appends nothing.
-fn append<A: Allocator>(runs: &mut Vec<(Ms, Event), A>, run: (Ms, Event)) -> Result<(), Memory>
-    ensures { OnOk result (runs.new.items ≡ runs.old.items ++ run ∷ []) }
-{
-    runs.push(run)?;
-    Ok(())
 }

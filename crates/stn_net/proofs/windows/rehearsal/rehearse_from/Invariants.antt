@@ -4,7 +4,7 @@ use Rattle.stn_net.specs.Difference.{Difference}
 use Rattle.stn_net.specs.Matrix.Tightest.{IsExact}
 use Rattle.stn_net.specs.Windows.Dispatch.{NamesLeft}
 use Rattle.stn_net.proofs.UnderWay.{IsUnderWay}
-use Rattle.stn_net.proofs.windows.rehearsal.rehearse.Given as goal
+use Rattle.stn_net.proofs.windows.rehearsal.rehearse_from.Given as goal
 
 abbrev pub invariant-loop-answer : goal.invariant-loop-answer
 invariant-loop-answer g l = record {
