@@ -6,7 +6,7 @@ ghost use Rattle.stn_lift.specs.declared.fault.BaseFault.TheVariants as base;
 ghost use Rattle.stn_lift.specs.declared.fault.LiftFault.TheVariants as lifting;
 
 use crate::plan::PlanFault;
-use std::alloc::{AllocError, AllocFailed};
+use std::alloc::AllocError;
 use stn_pddl::DomainFault;
 use thiserror::Error;
 
@@ -39,14 +39,6 @@ impl From<AllocError> for LiftFault {
     }
 }
 
-impl<T: Drop> From<AllocFailed<T>> for LiftFault {
-    ghost from_gives = { λ _ fault. fault ≡ lifting.Memory };
-
-    fn from(_refused: AllocFailed<T>) -> LiftFault {
-        LiftFault::Memory
-    }
-}
-
 /// Why a source has no base: of two texts the domain's faults come first, then the plan's, then those of the plan's steps in the
 /// domain. Lack of memory is always `Memory`, wherever it came.
 #[derive(Clone, Copy, Debug, PartialEq, Eq, Error)]
@@ -72,14 +64,6 @@ impl From<AllocError> for BaseFault {
     ghost from_gives = { λ _ fault. fault ≡ base.Memory };
 
     fn from(_refused: AllocError) -> BaseFault {
-        BaseFault::Memory
-    }
-}
-
-impl<T: Drop> From<AllocFailed<T>> for BaseFault {
-    ghost from_gives = { λ _ fault. fault ≡ base.Memory };
-
-    fn from(_refused: AllocFailed<T>) -> BaseFault {
         BaseFault::Memory
     }
 }

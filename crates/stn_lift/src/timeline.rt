@@ -9,7 +9,7 @@ ghost use Rattle.stn_pddl.specs.Sound.{IsSound, HasSoundAtoms, IsSoundAtom};
 ghost use Rattle.stn_pddl.specs.Views.{action_schema, atoms_schema};
 ghost use Rattle.stn_lift.specs.Plan.Steps.{IsTimely};
 ghost use Rattle.stn_lift.specs.Plan.Views.{planned_step, word_of};
-ghost use Rattle.stn_lift.specs.Footprints.{start_of, end_of, ground};
+ghost use Rattle.stn_lift.specs.Footprints.{ground};
 ghost use Rattle.stn_lift.specs.Numbering.{Extends, IsNumbered, IsUnambiguous};
 ghost use Rattle.stn_lift.specs.Views.{numbers_of};
 ghost use Rattle.stn_lift.specs.Activities.{Activity, is_memory, differs, activity, activity_of, activities};
@@ -110,50 +110,6 @@ fn footprint<'a, A: Allocator + Copy>(
     })
 }
 
-// The footprint of the start of a step.
-#[tactic(auto, unfolding(stn_pddl::specs::Views::action_schema))]
-fn start_of<'a, A: Allocator + Copy>(
-    atoms: &mut Atoms<'a, A>,
-    args: &[&'a [u8]],
-    action: &Action<'a, A>,
-) -> Result<Footprint<A>, AllocError>
-    requires arity { length args.now ≡ length (action_schema action.now).parameters }
-    requires sound { HasSoundAtoms (action_schema action.now) }
-    ensures numbered { IfOk result (λ footprint. IsNumbered atoms.new (numbers_of footprint) (start_of (action_schema action.now) (map word_of args.now))) }
-    ensures kept { OnOk result (Extends atoms.old atoms.new) }
-    ensures unambiguous { OnOk result (IsUnambiguous atoms.new) }
-{
-    footprint(
-        atoms,
-        args,
-        (&action.start_needs, &action.all_needs),
-        &action.start_adds,
-        &action.start_deletes,
-    )
-}
-
-// The footprint of the end of a step.
-#[tactic(auto, unfolding(stn_pddl::specs::Views::action_schema))]
-fn end_of<'a, A: Allocator + Copy>(
-    atoms: &mut Atoms<'a, A>,
-    args: &[&'a [u8]],
-    action: &Action<'a, A>,
-) -> Result<Footprint<A>, AllocError>
-    requires arity { length args.now ≡ length (action_schema action.now).parameters }
-    requires sound { HasSoundAtoms (action_schema action.now) }
-    ensures numbered { IfOk result (λ footprint. IsNumbered atoms.new (numbers_of footprint) (end_of (action_schema action.now) (map word_of args.now))) }
-    ensures kept { OnOk result (Extends atoms.old atoms.new) }
-    ensures unambiguous { OnOk result (IsUnambiguous atoms.new) }
-{
-    footprint(
-        atoms,
-        args,
-        (&action.end_needs, &action.all_needs),
-        &action.end_adds,
-        &action.end_deletes,
-    )
-}
-
 impl<A: Allocator + Copy> Timeline<A> {
     // No steps: the origin alone, at 0.
     fn new(alloc: A) -> Result<Timeline<A>, AllocError>
@@ -215,9 +171,21 @@ impl<A: Allocator + Copy> Timeline<A> {
             self.new.durations.items self.new.times.items (map numbers_of self.new.footprints.items)) }
     {
         self.append_times(step.time, action.duration)?;
-        let start = start_of(atoms, &step.args, action)?;
+        let start = footprint(
+            atoms,
+            &step.args,
+            (&action.start_needs, &action.all_needs),
+            &action.start_adds,
+            &action.start_deletes,
+        )?;
         self.append_footprint(start)?;
-        let end = end_of(atoms, &step.args, action)?;
+        let end = footprint(
+            atoms,
+            &step.args,
+            (&action.end_needs, &action.all_needs),
+            &action.end_adds,
+            &action.end_deletes,
+        )?;
         self.append_footprint(end)?;
         Ok(())
     }

@@ -11,7 +11,7 @@ ghost use Rattle.stn_lift.specs.Plan.Views.{names_of, word_of, form_in, planned_
 use crate::plan::bytes::Mark;
 use crate::plan::fault::PlanFault;
 use crate::plan::tokens::{Token, Tokens};
-use std::alloc::Allocator;
+use std::alloc::{AllocError, Allocator};
 use stn_time::Ms;
 
 /// One step of a plan: an action that starts at a time.
@@ -50,7 +50,7 @@ fn read_args<'a, A: Allocator + Copy>(
     let mut args = Vec::new(alloc);
     loop {
         match tokens.next_token() {
-            Some(Token::Word(word)) => args.push(word)?,
+            Some(Token::Word(word)) => args.push(word).map_err(AllocError::from)?,
             Some(Token::Mark(Mark::Close)) => return Ok(args),
             _ => return Err(PlanFault::Syntax(line)),
         }

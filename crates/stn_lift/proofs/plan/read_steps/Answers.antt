@@ -1,4 +1,4 @@
-use Rattle.std.proofs.Common.{◌∙◌, ap, sym, map, Some, None, Ok}
+use Rattle.std.proofs.Common.{◌≡◌, ◌∙◌, ◌++◌, ◌∷◌, [], ap, sym, map, Some, None, Ok, rules}
 use Rattle.std.specs.Option.{option_map}
 use Rattle.std.proofs.{lemmas.List.append-nil, lemmas.List.map-append, lemmas.Result.err_from_is_err_and}
 use Rattle.stn_lift.specs.Plan.Views.{planned_step}
@@ -12,16 +12,17 @@ returns-in_err-step g c =
     rw (returned.1, returned.2, ← c.loop-number.invariant)
     (steps_fail steps c.loop-number.lines c.next_line.new.self (c.in-Some.number, c.in-Some.line.now) c.in_err-step.field-0.0 c.in-Some.ensures c.in_err-step.ensures)
 
-pub returns-in_err-push : goal.returns-in_err-push
-returns-in_err-push g c =
-    let returned = err_from_is_err_and c.from_residual-in_err-push.result c.from_residual-in_err-push.ensures.1 in
+pub returns-in_err-map_err : goal.returns-in_err-map_err
+returns-in_err-map_err g c =
+    let returned = err_from_is_err_and c.from_residual-in_err-map_err.result c.from_residual-in_err-map_err.ensures.1 in
     rw (returned.1, returned.2) tt
 
 pub loop-number-preserved-in-Continue-branch-3 : goal.loop-number-preserved-in-Continue-branch-3
 loop-number-preserved-in-Continue-branch-3 g c =
     let steps = c.loop-number.steps.items in
+    let pushed : c.push.new.self.items ≡ steps ++ c.in-Some-2.step ∷ [] = search rules in
     steps_more (map planned_step steps) _ c.loop-number.lines c.next_line.new.self (c.in-Some.number, c.in-Some.line.now) (Some (planned_step c.in-Some-2.step)) c.in-Some.ensures
-    (c.in_ok-step.ensures ∙ ap (λ found. Ok (option_map planned_step found)) c.in-Some-2.is) (ap (map planned_step) c.in_ok-push.ensures.items ∙ map-append planned_step steps _)
+    (c.in_ok-step.ensures ∙ ap (λ found. Ok (option_map planned_step found)) c.in-Some-2.is) (ap (map planned_step) pushed ∙ map-append planned_step steps _)
     ∙ c.loop-number.invariant
 
 pub loop-number-preserved : goal.loop-number-preserved

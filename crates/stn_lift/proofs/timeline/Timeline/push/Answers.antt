@@ -1,4 +1,4 @@
-use Rattle.std.proofs.Common.{◌∙◌, ◌++◌, ◌∷◌, map, subst, ap, []}
+use Rattle.std.proofs.Common.{◌∙◌, ◌++◌, ◌∷◌, map, ap, []}
 use Rattle.stn_pddl.specs.Views.{action_schema}
 use Rattle.stn_lift.specs.Plan.Views.{planned_step, word_of}
 use Rattle.stn_lift.specs.{Footprints.start_of, Footprints.end_of, Numbering.IsNumbered, Activities.activity, Views.numbers_of}
@@ -9,9 +9,12 @@ pub returns : goal.returns
 unfolding action_schema
 returns g c = λ steps was.
     let step = activity (planned_step c.args.step.now) (action_schema c.args.action.now) in
-    let start = subst (λ args. IsNumbered c.start_of.new.atoms (numbers_of c.in_ok-start.start) (start_of (action_schema c.args.action.now) (map word_of args))) c.deref.ensures.value c.in_ok-start.ensures.numbered in
-    let end = subst (λ args. IsNumbered c.end_of.new.atoms (numbers_of c.in_ok-end.end) (end_of (action_schema c.args.action.now) (map word_of args))) c.deref-2.ensures.value c.in_ok-end.ensures.numbered in
-    timeline_pushed c.args.atoms.now c.start_of.new.atoms c.end_of.new.atoms steps step _ _ _ _ _ _ (numbers_of c.in_ok-start.start) (numbers_of c.in_ok-end.end)
+    let args = map word_of c.args.step.now.args.items in
+    let start : IsNumbered c.footprint.new.atoms (numbers_of c.in_ok-start.start) (start_of (action_schema c.args.action.now) args) =
+    rw (c.deref.ensures.value, c.deref-2.ensures.value, c.deref-3.ensures.value, c.deref-4.ensures.value, c.deref-5.ensures.value) at c.in_ok-start.ensures.numbered in
+    let end : IsNumbered c.footprint-2.new.atoms (numbers_of c.in_ok-end.end) (end_of (action_schema c.args.action.now) args) =
+    rw (c.deref-6.ensures.value, c.deref-7.ensures.value, c.deref-8.ensures.value, c.deref-9.ensures.value, c.deref-10.ensures.value) at c.in_ok-end.ensures.numbered in
+    timeline_pushed c.args.atoms.now c.footprint.new.atoms c.footprint-2.new.atoms steps step _ _ _ _ _ _ (numbers_of c.in_ok-start.start) (numbers_of c.in_ok-end.end)
     c.in_ok-start.ensures.kept c.in_ok-end.ensures.kept c.in_ok-end.ensures.unambiguous start end
     (record { time = c.requires.timely.time; duration = c.requires.sound.duration; last = c.requires.last })
     (c.in_ok-append_footprint-2.ensures.durations ∙ c.in_ok-append_footprint.ensures.durations ∙ c.in_ok-append_times.ensures.durations)
