@@ -8,7 +8,7 @@ use Rattle.clap.specs.declared.builder.action.ArgAction.TheVariants.{Append, Set
 use Rattle.clap.specs.declared.builder.value_parser.ValueParser.TheVariants.{String, Unsigned}
 use Rattle.clap.specs.declared.builder.value_parser.ValueParser.TheVariants as parser
 use Rattle.stn_line.specs.Commands.{commands, program, stn}
-use Rattle.stn_line.specs.Given.{Each, HasWords, HasWordsAmong, HoldsWord, HoldsWords, IsGiven}
+use Rattle.stn_line.specs.Given.{Each, HasWords, HasWordsAmong, HoldsWord, HoldsWords, IsGiven, IsOneOf}
 use Rattle.stn_line.proofs.{Values.at_value, Values.entered_is, Fits.IsPlainIn, Fits.ReadsPlainly, Fits.command_given}
 
 pub stn_simple : is_simple stn ≡ true
@@ -154,14 +154,8 @@ stn_given words none = some_weaker (subcommand_of stn words) (λ p. HasWordsAmon
     (λ command. HoldsWords p.1 command.rules) (λ command. words_hold p.1 command.rules))
     (command_given stn words is_required all_plain none)
 
--- the name is one of these
-IsOneOf : Text → List Text → Type 0
-IsOneOf name [] = ⊥
-IsOneOf name (n ∷ rest) = (name ≡ n) ⊎ IsOneOf name rest
-
 is_one_of : (P : Shape → Type 0) (commands : List Shape) (name : Text) → IsSomeAnd (find (λ command. bytes_eq command.name name) commands) P
     → IsOneOf name (map (λ command. command.name) commands)
-unfolding IsOneOf
 is_one_of P [] name has = absurd has
 is_one_of P (s ∷ rest) name has = go (bytes_eq s.name name) refl has (is_one_of P rest name)
   where
@@ -171,20 +165,18 @@ is_one_of P (s ∷ rest) name has = go (bytes_eq s.name name) refl has (is_one_o
     go true t has more = inl (sym ((bytes_eq-Decides s.name name).0 t))
     go false t has more = inr (more has)
 
--- what is none of the others is the last
-is_last : (names : List Text) (last name : Text) → IsOneOf name (names ++ last ∷ []) → Each (λ n. name ≢ n) names → name ≡ last
-unfolding IsOneOf
-is_last [] last name (inl is) none = is
-is_last [] last name (inr is) none = absurd is
-is_last (n ∷ names) last name (inl is) none = absurd (none.0 is)
-is_last (n ∷ names) last name (inr is) none = is_last names last name is none.1
+-- what is none of the first is one of the rest
+is_rest : (names rest : List Text) (name : Text) → IsOneOf name (names ++ rest) → Each (λ n. name ≢ n) names → IsOneOf name rest
+is_rest [] rest name is none = is
+is_rest (n ∷ names) rest name (inl is) none = absurd (none.0 is)
+is_rest (n ∷ names) rest name (inr is) none = is_rest names rest name is none.1
 
--- the commands before `send`, the last
+-- the commands before the last two, `serve` and `send`
 abbrev pub others : List Text
-others = codes "run" ∷ codes "bare" ∷ codes "init" ∷ codes "loosen" ∷ codes "add" ∷ codes "amend" ∷ codes "withdraw" ∷ codes "done" ∷ codes "merge" ∷ codes "guard" ∷ codes "report" ∷ codes "next" ∷ codes "ready" ∷ codes "why" ∷ codes "repairs" ∷ codes "records" ∷ codes "steps" ∷ codes "bounds" ∷ codes "check" ∷ codes "rehearse" ∷ codes "draw" ∷ codes "explain" ∷ codes "shell" ∷ codes "serve" ∷ []
+others = codes "run" ∷ codes "bare" ∷ codes "init" ∷ codes "loosen" ∷ codes "add" ∷ codes "amend" ∷ codes "withdraw" ∷ codes "done" ∷ codes "merge" ∷ codes "guard" ∷ codes "report" ∷ codes "next" ∷ codes "ready" ∷ codes "why" ∷ codes "repairs" ∷ codes "records" ∷ codes "steps" ∷ codes "bounds" ∷ codes "check" ∷ codes "rehearse" ∷ codes "draw" ∷ codes "explain" ∷ codes "shell" ∷ []
 
-pub is_send : (name : Text) (rows : List Row) → HasWords name rows → Each (λ n. name ≢ n) others → name ≡ codes "send"
-is_send name rows has none = is_last others (codes "send") name (is_one_of (λ command. HoldsWords rows command.rules) (built (program commands)).subs name has) none
+pub is_last : (name : Text) (rows : List Row) → HasWords name rows → Each (λ n. name ≢ n) others → IsOneOf name (codes "serve" ∷ codes "send" ∷ [])
+is_last name rows has none = is_rest others (codes "serve" ∷ codes "send" ∷ []) name (is_one_of (λ command. HoldsWords rows command.rules) (built (program commands)).subs name has) none
 
 -- what the matches of the entered command hold, by its name
 pub entered_has : (m : ArgMatches) (r : Option (Bor Text × Bor ArgMatches)) (x : Bor Text × Bor ArgMatches) → option_map (λ p. p.0.now) r ≡ subcommand_name_of m

@@ -1,6 +1,6 @@
 -- For proofs alone: no public clause cites these words.
 -- What the words of an accepted command hold.
-use Rattle.std.specs.Prelude.{◌≡◌, Bool, true, false, List, [], ◌∷◌, Option, Some, IsSomeAnd, IfSome, ℕ, ⊤, find}
+use Rattle.std.specs.Prelude.{◌≡◌, ◌⊎◌, Bool, true, false, List, [], ◌∷◌, Option, Some, IsSomeAnd, IfSome, ℕ, ⊤, find}
 use Rattle.std.specs.Str.{bytes_eq}
 use Rattle.clap.specs.{Facts.parser_of_value, declared.builder.value_parser.ValueParser.ValueParser}
 use Rattle.clap.specs.Words.{Accepts, IsUnsignedIn, Row, Rule, Shape, Text, built, first_of}
@@ -11,6 +11,11 @@ use Rattle.stn_line.specs.Commands.{commands, program}
 abbrev pub Each : {X : Type 0} → (X → Type 0) → List X → Type 0
 Each P [] = ⊤
 Each P (x ∷ xs) = P x × Each P xs
+
+-- the name is one of these
+abbrev pub IsOneOf : Text → List Text → Type 0
+IsOneOf name [] = ⊥
+IsOneOf name (other ∷ others) = (name ≡ other) ⊎ IsOneOf name others
 
 -- where the argument is required, it has a value; and a value that it has is one that it takes
 pub record IsGiven (rows : List Row) (rule : Rule) : Type 0 where

@@ -1,8 +1,8 @@
-ghost use Rattle.std.specs.Prelude.{◌≡◌, ◌≤◌, IfErr, IfOk, IsSomeAnd, [], ℕ, codes, map};
+ghost use Rattle.std.specs.Prelude.{◌≡◌, ◌≤◌, ◌∷◌, IfErr, IfOk, IsSomeAnd, [], ℕ, codes, map};
 ghost use Rattle.clap.specs.Words.{fault_of, found_of, rows_of, subcommand_of, subcommand_rows_of};
 ghost use Rattle.stn_line.specs.Commands.{most_read_steps, most_seconds, stn as program};
 ghost use Rattle.stn_records.specs.Id.{most_sites};
-ghost use Rattle.stn_line.specs.Given.{HasWords, IsThere, IsNumberThere, IsNumberWhereGiven};
+ghost use Rattle.stn_line.specs.Given.{HasWords, IsOneOf, IsThere, IsNumberThere, IsNumberWhereGiven};
 ghost use Rattle.stn_line.specs.Lines.{IsFaultOf, IsChoice, IsFlag, IsLineOf, IsNumber, IsOnLog, IsOption, IsSeconds, IsWord, IsWords};
 
 use crate::commands::stn;
@@ -46,251 +46,182 @@ fn command<'a>(alloc: Global, name: &str, words: &ArgMatches<'a>) -> Result<Line
 {
     match name {
         "run" => Ok(Line::Run),
-        "bare" => Ok(bare(words)),
-        "init" => Ok(init(words)),
-        "loosen" => Ok(loosen(words)),
-        "add" => Ok(add(words)),
-        "amend" => Ok(amend(words)),
-        "withdraw" => Ok(withdraw(words)),
-        "done" => Ok(done(words)),
-        "merge" => Ok(merge(words)),
-        "guard" => guard(alloc, words),
-        "report" => Ok(Line::Report {
-            log: site_log(words),
+        "explain" => Ok(Line::Explain {
+            code: option(words, "CODE"),
         }),
-        "next" => Ok(next(words)),
-        "ready" => Ok(ready(words)),
-        "why" => Ok(why(words)),
-        "repairs" => Ok(Line::Repairs {
-            log: site_log(words),
+        "bare" | "init" | "loosen" => Ok(making(name, words)),
+        "add" | "amend" | "withdraw" | "done" | "merge" => Ok(changing(name, words)),
+        "guard" | "check" => listing(alloc, name, words),
+        "report" | "repairs" | "records" | "bounds" | "shell" => Ok(telling(name, words)),
+        "next" | "ready" | "rehearse" => Ok(choosing(name, words)),
+        "why" | "steps" | "draw" => Ok(naming(name, words)),
+        _ => Ok(talking(name, words)),
+    }
+}
+
+// A command that makes a log.
+fn making<'a>(name: &str, words: &ArgMatches<'a>) -> Line<'a>
+    requires named { IsOneOf name.now (codes "bare" ∷ codes "init" ∷ codes "loosen" ∷ []) }
+    requires words { HasWords name.now (rows_of (found_of words.now)) }
+    ensures { IsLineOf result name.now (rows_of (found_of words.now)) }
+{
+    let log = site_log(words);
+    match name {
+        "bare" => Line::Bare {
+            log,
+            steps: number(words, "STEPS"),
+        },
+        "init" => Line::Init {
+            log,
+            domain: word(words, "DOMAIN"),
+            plan: word(words, "PLAN"),
+        },
+        _ => Line::Loosen {
+            log,
+            domain: word(words, "DOMAIN"),
+            plan: word(words, "PLAN"),
+            early: option(words, "early"),
+            late: option(words, "late"),
+            robust: flag(words, "robust"),
+        },
+    }
+}
+
+// A command that changes what a log holds, by words of which each has its place.
+fn changing<'a>(name: &str, words: &ArgMatches<'a>) -> Line<'a>
+    requires named { IsOneOf name.now (codes "add" ∷ codes "amend" ∷ codes "withdraw" ∷ codes "done" ∷ codes "merge" ∷ []) }
+    requires words { HasWords name.now (rows_of (found_of words.now)) }
+    ensures { IsLineOf result name.now (rows_of (found_of words.now)) }
+{
+    let log = site_log(words);
+    match name {
+        "add" => Line::Add {
+            log,
+            from: word(words, "FROM"),
+            to: word(words, "TO"),
+            lo: option(words, "lo"),
+            hi: option(words, "hi"),
+        },
+        "amend" => Line::Amend {
+            log,
+            id: word(words, "ID"),
+            from: word(words, "FROM"),
+            to: word(words, "TO"),
+            lo: option(words, "lo"),
+            hi: option(words, "hi"),
+        },
+        "withdraw" => Line::Withdraw {
+            log,
+            id: word(words, "ID"),
+        },
+        "done" => Line::Done {
+            log,
+            event: word(words, "EVENT"),
+            time: word(words, "TIME"),
+        },
+        _ => Line::Merge {
+            log,
+            other: word(words, "OTHER"),
+        },
+    }
+}
+
+// A command with any number of words of one kind.
+fn listing<'a>(alloc: Global, name: &str, words: &ArgMatches<'a>) -> Result<Line<'a>, AllocError>
+    requires named { IsOneOf name.now (codes "guard" ∷ codes "check" ∷ []) }
+    requires words { HasWords name.now (rows_of (found_of words.now)) }
+    ensures { IfOk result (λ line. IsLineOf line name.now (rows_of (found_of words.now))) }
+{
+    let log = site_log(words);
+    match name {
+        "guard" => Ok(Line::Guard {
+            log,
+            owned: all_words(alloc, words, "own")?,
         }),
-        "records" => Ok(Line::Records {
-            log: site_log(words),
+        _ => Ok(Line::Check {
+            log,
+            times: all_words(alloc, words, "TIME")?,
         }),
-        "steps" => Ok(steps(words)),
-        "bounds" => Ok(Line::Bounds {
-            log: site_log(words),
-        }),
-        "check" => check(alloc, words),
-        "rehearse" => Ok(rehearse(words)),
-        "draw" => Ok(draw(words)),
-        "explain" => Ok(explain(words)),
-        "shell" => Ok(Line::Shell {
-            log: site_log(words),
-        }),
-        "serve" => Ok(serve(words)),
-        _ => Ok(send(words)),
     }
 }
 
-fn bare<'a>(words: &ArgMatches<'a>) -> Line<'a>
-    requires { HasWords (codes "bare") (rows_of (found_of words.now)) }
-    ensures { IsLineOf result (codes "bare") (rows_of (found_of words.now)) }
+// A command of no words beside the log and its site.
+fn telling<'a>(name: &str, words: &ArgMatches<'a>) -> Line<'a>
+    requires named { IsOneOf name.now (codes "report" ∷ codes "repairs" ∷ codes "records" ∷ codes "bounds" ∷ codes "shell" ∷ []) }
+    requires words { HasWords name.now (rows_of (found_of words.now)) }
+    ensures { IsLineOf result name.now (rows_of (found_of words.now)) }
 {
-    Line::Bare {
-        log: site_log(words),
-        steps: number(words, "STEPS"),
+    let log = site_log(words);
+    match name {
+        "report" => Line::Report { log },
+        "repairs" => Line::Repairs { log },
+        "records" => Line::Records { log },
+        "bounds" => Line::Bounds { log },
+        _ => Line::Shell { log },
     }
 }
 
-fn init<'a>(words: &ArgMatches<'a>) -> Line<'a>
-    requires { HasWords (codes "init") (rows_of (found_of words.now)) }
-    ensures { IsLineOf result (codes "init") (rows_of (found_of words.now)) }
+// A question about events from a time on.
+fn choosing<'a>(name: &str, words: &ArgMatches<'a>) -> Line<'a>
+    requires named { IsOneOf name.now (codes "next" ∷ codes "ready" ∷ codes "rehearse" ∷ []) }
+    requires words { HasWords name.now (rows_of (found_of words.now)) }
+    ensures { IsLineOf result name.now (rows_of (found_of words.now)) }
 {
-    Line::Init {
-        log: site_log(words),
-        domain: word(words, "DOMAIN"),
-        plan: word(words, "PLAN"),
+    let log = site_log(words);
+    let now = word(words, "NOW");
+    let choice = choice(words);
+    match name {
+        "next" => Line::Next { log, now, choice },
+        "ready" => Line::Ready { log, now, choice },
+        _ => Line::Rehearse { log, now, choice },
     }
 }
 
-fn loosen<'a>(words: &ArgMatches<'a>) -> Line<'a>
-    requires { HasWords (codes "loosen") (rows_of (found_of words.now)) }
-    ensures { IsLineOf result (codes "loosen") (rows_of (found_of words.now)) }
+// A question about an event, or about the steps by their names.
+fn naming<'a>(name: &str, words: &ArgMatches<'a>) -> Line<'a>
+    requires named { IsOneOf name.now (codes "why" ∷ codes "steps" ∷ codes "draw" ∷ []) }
+    requires words { HasWords name.now (rows_of (found_of words.now)) }
+    ensures { IsLineOf result name.now (rows_of (found_of words.now)) }
 {
-    Line::Loosen {
-        log: site_log(words),
-        domain: word(words, "DOMAIN"),
-        plan: word(words, "PLAN"),
-        early: option(words, "early"),
-        late: option(words, "late"),
-        robust: flag(words, "robust"),
+    let log = site_log(words);
+    match name {
+        "why" => Line::Why {
+            log,
+            event: word(words, "EVENT"),
+            to: option(words, "TO"),
+        },
+        "steps" => Line::Steps {
+            log,
+            plan: option(words, "plan"),
+        },
+        _ => Line::Draw {
+            log,
+            plan: option(words, "plan"),
+        },
     }
 }
 
-fn add<'a>(words: &ArgMatches<'a>) -> Line<'a>
-    requires { HasWords (codes "add") (rows_of (found_of words.now)) }
-    ensures { IsLineOf result (codes "add") (rows_of (found_of words.now)) }
+// A command that serves or reaches another site.
+fn talking<'a>(name: &str, words: &ArgMatches<'a>) -> Line<'a>
+    requires named { IsOneOf name.now (codes "serve" ∷ codes "send" ∷ []) }
+    requires words { HasWords name.now (rows_of (found_of words.now)) }
+    ensures { IsLineOf result name.now (rows_of (found_of words.now)) }
 {
-    Line::Add {
-        log: site_log(words),
-        from: word(words, "FROM"),
-        to: word(words, "TO"),
-        lo: option(words, "lo"),
-        hi: option(words, "hi"),
-    }
-}
-
-fn amend<'a>(words: &ArgMatches<'a>) -> Line<'a>
-    requires { HasWords (codes "amend") (rows_of (found_of words.now)) }
-    ensures { IsLineOf result (codes "amend") (rows_of (found_of words.now)) }
-{
-    Line::Amend {
-        log: site_log(words),
-        id: word(words, "ID"),
-        from: word(words, "FROM"),
-        to: word(words, "TO"),
-        lo: option(words, "lo"),
-        hi: option(words, "hi"),
-    }
-}
-
-fn withdraw<'a>(words: &ArgMatches<'a>) -> Line<'a>
-    requires { HasWords (codes "withdraw") (rows_of (found_of words.now)) }
-    ensures { IsLineOf result (codes "withdraw") (rows_of (found_of words.now)) }
-{
-    Line::Withdraw {
-        log: site_log(words),
-        id: word(words, "ID"),
-    }
-}
-
-fn done<'a>(words: &ArgMatches<'a>) -> Line<'a>
-    requires { HasWords (codes "done") (rows_of (found_of words.now)) }
-    ensures { IsLineOf result (codes "done") (rows_of (found_of words.now)) }
-{
-    Line::Done {
-        log: site_log(words),
-        event: word(words, "EVENT"),
-        time: word(words, "TIME"),
-    }
-}
-
-fn merge<'a>(words: &ArgMatches<'a>) -> Line<'a>
-    requires { HasWords (codes "merge") (rows_of (found_of words.now)) }
-    ensures { IsLineOf result (codes "merge") (rows_of (found_of words.now)) }
-{
-    Line::Merge {
-        log: site_log(words),
-        other: word(words, "OTHER"),
-    }
-}
-
-fn guard<'a>(alloc: Global, words: &ArgMatches<'a>) -> Result<Line<'a>, AllocError>
-    requires { HasWords (codes "guard") (rows_of (found_of words.now)) }
-    ensures { IfOk result (λ line. IsLineOf line (codes "guard") (rows_of (found_of words.now))) }
-{
-    let owned = all_words(alloc, words, "own")?;
-    Ok(Line::Guard {
-        log: site_log(words),
-        owned,
-    })
-}
-
-fn next<'a>(words: &ArgMatches<'a>) -> Line<'a>
-    requires { HasWords (codes "next") (rows_of (found_of words.now)) }
-    ensures { IsLineOf result (codes "next") (rows_of (found_of words.now)) }
-{
-    Line::Next {
-        log: site_log(words),
-        now: word(words, "NOW"),
-        choice: choice(words),
-    }
-}
-
-fn ready<'a>(words: &ArgMatches<'a>) -> Line<'a>
-    requires { HasWords (codes "ready") (rows_of (found_of words.now)) }
-    ensures { IsLineOf result (codes "ready") (rows_of (found_of words.now)) }
-{
-    Line::Ready {
-        log: site_log(words),
-        now: word(words, "NOW"),
-        choice: choice(words),
-    }
-}
-
-fn why<'a>(words: &ArgMatches<'a>) -> Line<'a>
-    requires { HasWords (codes "why") (rows_of (found_of words.now)) }
-    ensures { IsLineOf result (codes "why") (rows_of (found_of words.now)) }
-{
-    Line::Why {
-        log: site_log(words),
-        event: word(words, "EVENT"),
-        to: option(words, "TO"),
-    }
-}
-
-fn steps<'a>(words: &ArgMatches<'a>) -> Line<'a>
-    requires { HasWords (codes "steps") (rows_of (found_of words.now)) }
-    ensures { IsLineOf result (codes "steps") (rows_of (found_of words.now)) }
-{
-    Line::Steps {
-        log: site_log(words),
-        plan: option(words, "plan"),
-    }
-}
-
-fn check<'a>(alloc: Global, words: &ArgMatches<'a>) -> Result<Line<'a>, AllocError>
-    requires { HasWords (codes "check") (rows_of (found_of words.now)) }
-    ensures { IfOk result (λ line. IsLineOf line (codes "check") (rows_of (found_of words.now))) }
-{
-    let times = all_words(alloc, words, "TIME")?;
-    Ok(Line::Check {
-        log: site_log(words),
-        times,
-    })
-}
-
-fn rehearse<'a>(words: &ArgMatches<'a>) -> Line<'a>
-    requires { HasWords (codes "rehearse") (rows_of (found_of words.now)) }
-    ensures { IsLineOf result (codes "rehearse") (rows_of (found_of words.now)) }
-{
-    Line::Rehearse {
-        log: site_log(words),
-        now: word(words, "NOW"),
-        choice: choice(words),
-    }
-}
-
-fn draw<'a>(words: &ArgMatches<'a>) -> Line<'a>
-    requires { HasWords (codes "draw") (rows_of (found_of words.now)) }
-    ensures { IsLineOf result (codes "draw") (rows_of (found_of words.now)) }
-{
-    Line::Draw {
-        log: site_log(words),
-        plan: option(words, "plan"),
-    }
-}
-
-fn explain<'a>(words: &ArgMatches<'a>) -> Line<'a>
-    requires { HasWords (codes "explain") (rows_of (found_of words.now)) }
-    ensures { IsLineOf result (codes "explain") (rows_of (found_of words.now)) }
-{
-    Line::Explain {
-        code: option(words, "CODE"),
-    }
-}
-
-fn serve<'a>(words: &ArgMatches<'a>) -> Line<'a>
-    requires { HasWords (codes "serve") (rows_of (found_of words.now)) }
-    ensures { IsLineOf result (codes "serve") (rows_of (found_of words.now)) }
-{
-    Line::Serve {
-        log: site_log(words),
-        address: word(words, "ADDR"),
-        count: number(words, "COUNT"),
-        seconds: seconds(words),
-    }
-}
-
-fn send<'a>(words: &ArgMatches<'a>) -> Line<'a>
-    requires { HasWords (codes "send") (rows_of (found_of words.now)) }
-    ensures { IsLineOf result (codes "send") (rows_of (found_of words.now)) }
-{
-    Line::Send {
-        log: site_log(words),
-        address: word(words, "ADDR"),
-        seconds: seconds(words),
+    let log = site_log(words);
+    let address = word(words, "ADDR");
+    let seconds = seconds(words);
+    match name {
+        "serve" => Line::Serve {
+            log,
+            address,
+            count: number(words, "COUNT"),
+            seconds,
+        },
+        _ => Line::Send {
+            log,
+            address,
+            seconds,
+        },
     }
 }
 
