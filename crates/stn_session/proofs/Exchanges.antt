@@ -12,10 +12,8 @@ use Rattle.stn_wire.specs.Frame.{FrameContent, content, same, records, text, spe
 use Rattle.stn_wire.specs.declared.frame.Frame.{Frame as WireFrame}
 use Rattle.stn_wire.specs.Stream.Held.{Stream}
 use Rattle.stn_wire.specs.declared.stream.fault.FrameFault.{FrameFault}
-use Rattle.stn_wire.specs.declared.stream.fault.StreamFault.{StreamFault}
-use Rattle.stn_wire.specs.declared.stream.fault.StreamFault.TheVariants as stream
-use Rattle.stn_wire.specs.Stream.{unread, pending, Gives}
-use Rattle.stn_session.specs.Exchange.{Stage, greeting, handing, telling, told, failed, Reception, at_stage, expecting, greeted_by, handed, told_by, staged, reply_fault, IsWaiting, IsReception, IsReceived, seen}
+use Rattle.stn_wire.specs.Stream.{unread, pending}
+use Rattle.stn_session.specs.Exchange.{Stage, greeting, handing, telling, told, failed, Reception, at_stage, expecting, greeted_by, handed, told_by, staged, IsWaiting, IsReception, IsReceived, seen}
 use Rattle.stn_session.specs.Turns.{Finds, Came, Leads}
 use Rattle.stn_session.specs.declared.exchange.ReplyFault.{ReplyFault}
 use Rattle.stn_session.specs.declared.exchange.ReplyFault.TheVariants.{Frame, Reply, Read, Memory}
@@ -142,18 +140,8 @@ records_answered source first before mid after old new state p frame f theirs no
     next_taken source first before mid after old new handing state p frame f tt now kept fault (⊎_elim inl (λ e. inr (ap (handed source state) is ∙ e)) why)
 
 -- ---- which faults come from where
-pub stream_read : (fault : StreamFault) → reply_fault fault ≡ Read → fault ≡ stream.Read
-stream_read stream.Read is = refl
-stream_read stream.Bound is = absurd cc
-stream_read stream.Memory is = absurd cc
-
 pub frame_unread : (fault : FrameFault) → Frame fault ≡ Read → ⊥
 frame_unread fault is = cc
 
 pub reply_unread : Reply ≡ Read → ⊥
 reply_unread is = cc
-
-pub stream_lost : {A : Type 0} (old new : Stream) (before after : Option (List ℕ)) (fault : StreamFault) → Gives {A = A} old new before after (Err fault) → Finds {A = A} old new before after (Err (reply_fault fault))
-stream_lost old new before after stream.Read gave = record { bytes = gave.bytes; consumed = gave.consumed; found = (gave.counted, gave.next) }
-stream_lost old new before after stream.Bound gave = record { bytes = gave.bytes; consumed = gave.consumed; found = (gave.counted, gave.next) }
-stream_lost old new before after stream.Memory gave = record { bytes = gave.bytes; consumed = gave.consumed; found = gave.counted }

@@ -191,11 +191,13 @@ module _ {P : Type 0} {Keeps : Content → P → P → Type 0} {place kept : P} 
     refuses code is wrote =
         subst (λ k. IsKept Keeps first before last old then state place kept (record { frames = count; end = Refused k })) (sym is) (fault_answered (subst (λ k. Appends new then (spelling (refused k))) is wrote))
 
-    pub refusal_fails : (code : ℕ) → code ≡ frame_code fault → (broken : ServeFault) → WroteRefused code new then (Err broken) → IsKeptBroken Keeps first before last old then state place kept broken
-    refusal_fails code is Write part = fault_cut_off (subst (λ k. AppendsPart new then (spelling (refused k))) is part)
-    refusal_fails code is Memory none = breaks_with then state kept Memory (few_all few, writes_same old new then p.session.replies p.written none, inl p.state_is) refl
-    refusal_fails code is Read none = absurd none
-    refusal_fails code is Bound none = absurd none
+    pub refusal_fails : (Fails : Content → P → P → Failure → Type 0) (code : ℕ) → code ≡ frame_code fault → (broken : KeepingFault) → WroteRefused code new then (Err broken)
+        → IsCutShort Keeps Fails first before last old then state place kept broken
+    refusal_fails Fails code is (keeping.Serve Write) part = fault_cut_off (subst (λ k. AppendsPart new then (spelling (refused k))) is part)
+    refusal_fails Fails code is (keeping.Serve Memory) none = breaks_with then state kept Memory (few_all few, writes_same old new then p.session.replies p.written none, inl p.state_is) refl
+    refusal_fails Fails code is (keeping.Serve Read) none = absurd none
+    refusal_fails Fails code is (keeping.Serve Bound) none = absurd none
+    refusal_fails Fails code is (keeping.Keep failure) none = absurd none
 
   -- a frame is answered, or not
   module _ (few : taken + length more ≤ 16777216) (frame : FrameContent) (later : List ℕ) (is : IsFrame frame) (front : rest ++ more ≡ spelling frame ++ later) (then : Option (List ℕ)) (now : Content) where
@@ -352,8 +354,9 @@ answer_unread Keeps Fails given old new before after place kept (keeping.Serve W
 answer_unread Keeps Fails given old new before after place kept (keeping.Serve Memory) wrote is = cc
 answer_unread Keeps Fails given old new before after place kept (keeping.Keep failure) wrote is = cc
 
-pub refusal_unread : (code : ℕ) (old new : Option (List ℕ)) (fault : ServeFault) → WroteRefused code old new (Err fault) → fault ≡ Read → ⊥
-refusal_unread code old new Read none is = none
-refusal_unread code old new Bound none is = none
-refusal_unread code old new Write wrote is = cc
-refusal_unread code old new Memory wrote is = cc
+pub refusal_unread : (code : ℕ) (old new : Option (List ℕ)) (fault : KeepingFault) → WroteRefused code old new (Err fault) → fault ≡ keeping.Serve Read → ⊥
+refusal_unread code old new (keeping.Serve Read) none is = none
+refusal_unread code old new (keeping.Serve Bound) none is = none
+refusal_unread code old new (keeping.Serve Write) wrote is = cc
+refusal_unread code old new (keeping.Serve Memory) wrote is = cc
+refusal_unread code old new (keeping.Keep failure) none is = none

@@ -11,8 +11,6 @@ use Rattle.stn_wire.specs.Frame.{FrameContent, old_hello, old_records, hello, re
 use Rattle.stn_wire.specs.Front.{IsFront, faulty, unfinished}
 use Rattle.stn_site.specs.Held.{holding_state}
 use Rattle.stn_wire.specs.Stream.{wire_fault}
-use Rattle.stn_wire.specs.declared.stream.fault.StreamFault.{StreamFault}
-use Rattle.stn_wire.specs.declared.stream.fault.StreamFault.TheVariants as stream
 use Rattle.stn_session.specs.declared.exchange.ReplyFault.{ReplyFault}
 use Rattle.stn_session.specs.declared.exchange.ReplyFault.TheVariants.{Refused, Frame, Reply, Replica, Read, Bound, Memory}
 
@@ -125,9 +123,3 @@ pub record IsReceived (source : PlanSource) (first : Content) (before after : Op
   pub came : reception ≡ replied source (expecting first) frames
   pub is : IsReception reception rest (length bytes) after answer
   pub left : state ≡ reception.state
-
--- a fault of the stream is one of the replies
-abbrev pub reply_fault : StreamFault → ReplyFault
-reply_fault stream.Read = Read
-reply_fault stream.Bound = Bound
-reply_fault stream.Memory = Memory

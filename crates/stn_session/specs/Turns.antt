@@ -59,10 +59,10 @@ WroteKept Keeps Fails answer old new before after place kept (Err (keeping.Keep 
     Appends old new [] × (after ≡ answer.state) × (after ≢ before) × Fails after place kept failure
 
 -- REFUSED with the code was written, or a front part of it, or nothing
-abbrev pub WroteRefused : ℕ → Option (List ℕ) → Option (List ℕ) → Result (Unit {0}) ServeFault → Type 0
+abbrev pub WroteRefused : ℕ → Option (List ℕ) → Option (List ℕ) → Result (Unit {0}) KeepingFault → Type 0
 WroteRefused code old new (Ok done) = Appends old new (spelling (refused code))
-WroteRefused code old new (Err serve.Write) = AppendsPart old new (spelling (refused code))
-WroteRefused code old new (Err serve.Memory) = Appends old new []
+WroteRefused code old new (Err (keeping.Serve serve.Write)) = AppendsPart old new (spelling (refused code))
+WroteRefused code old new (Err (keeping.Serve serve.Memory)) = Appends old new []
 WroteRefused code old new (Err other) = ⊥
 
 -- the next frame of the bytes, after which the rest is pending; or why there is none

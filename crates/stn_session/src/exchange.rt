@@ -7,7 +7,7 @@ ghost use Rattle.stn_lift.specs.PlanSource.{PlanSource};
 ghost use Rattle.stn_records.specs.Content.{Content};
 ghost use Rattle.stn_wire.specs.Frame.{content, same, records, text};
 ghost use Rattle.stn_wire.specs.Stream.{unread, pending, IsReading};
-ghost use Rattle.stn_session.specs.Exchange.{request_bytes, at_stage, greeting, handing, telling, failed, greeted_by, handed, told_by, unexpected, reply_fault, IsReceived, seen};
+ghost use Rattle.stn_session.specs.Exchange.{request_bytes, at_stage, greeting, handing, telling, failed, greeted_by, handed, told_by, unexpected, IsReceived, seen};
 ghost use Rattle.stn_session.specs.Turns.{Finds, Came, Leads};
 ghost use Rattle.stn_session.specs.declared.exchange.SendFault.TheVariants as send;
 ghost use Rattle.stn_session.specs.declared.exchange.ReplyFault.TheVariants.{Read, Memory};
@@ -109,18 +109,6 @@ pub enum ReplyFault {
     /// Memory was refused.
     #[error("out of memory")]
     Memory,
-}
-
-impl From<StreamFault> for ReplyFault {
-    ghost from_gives = { λ fault made. made ≡ reply_fault fault };
-
-    fn from(fault: StreamFault) -> ReplyFault {
-        match fault {
-            StreamFault::Read => ReplyFault::Read,
-            StreamFault::Bound => ReplyFault::Bound,
-            StreamFault::Memory => ReplyFault::Memory,
-        }
-    }
 }
 
 /// Reads the replies to what `send_requests` wrote, SAME, RECORDS and TEXT, takes in the records, and
@@ -232,11 +220,14 @@ fn next_reply<R: Read, A: Allocator + Copy>(
     ensures read { IsErrOf result Read → CountsFailure reader.old reader.new }
     ensures kept { result ≢ Err Read → KeepsCount reader.old reader.new }
 {
-    match frames.next(reader)? {
-        Next::Frame(frame) => Ok(frame),
-        Next::Faulty(fault) => Err(ReplyFault::Frame(fault)),
-        Next::Closed => Err(ReplyFault::Reply),
-        Next::Cut => Err(ReplyFault::Reply),
+    match frames.next(reader) {
+        Ok(Next::Frame(frame)) => Ok(frame),
+        Ok(Next::Faulty(fault)) => Err(ReplyFault::Frame(fault)),
+        Ok(Next::Closed) => Err(ReplyFault::Reply),
+        Ok(Next::Cut) => Err(ReplyFault::Reply),
+        Err(StreamFault::Read) => Err(ReplyFault::Read),
+        Err(StreamFault::Bound) => Err(ReplyFault::Bound),
+        Err(StreamFault::Memory) => Err(ReplyFault::Memory),
     }
 }
 

@@ -53,34 +53,6 @@ pub enum ServeFault {
     Memory,
 }
 
-impl From<AllocError> for ServeFault {
-    ghost from_gives = { λ _ fault. fault ≡ Memory };
-
-    fn from(_refused: AllocError) -> ServeFault {
-        ServeFault::Memory
-    }
-}
-
-impl From<WriteFault> for ServeFault {
-    ghost from_gives = { λ _ fault. fault ≡ Write };
-
-    fn from(_fault: WriteFault) -> ServeFault {
-        ServeFault::Write
-    }
-}
-
-impl From<StreamFault> for ServeFault {
-    ghost from_gives = { λ fault made. made ≡ serve_fault fault };
-
-    fn from(fault: StreamFault) -> ServeFault {
-        match fault {
-            StreamFault::Read => ServeFault::Read,
-            StreamFault::Bound => ServeFault::Bound,
-            StreamFault::Memory => ServeFault::Memory,
-        }
-    }
-}
-
 /// Why a session that keeps what it takes in broke off.
 #[derive(Clone, Copy, Debug, PartialEq, Eq, Error)]
 pub enum KeepingFault {
@@ -90,14 +62,6 @@ pub enum KeepingFault {
     /// A state could not be kept.
     #[error("a state could not be kept")]
     Keep(Failure),
-}
-
-impl From<ServeFault> for KeepingFault {
-    ghost from_gives = { λ fault made. made ≡ Serve fault };
-
-    fn from(fault: ServeFault) -> KeepingFault {
-        KeepingFault::Serve(fault)
-    }
 }
 
 impl From<AllocError> for KeepingFault {
@@ -120,7 +84,11 @@ impl From<StreamFault> for KeepingFault {
     ghost from_gives = { λ fault made. made ≡ Serve (serve_fault fault) };
 
     fn from(fault: StreamFault) -> KeepingFault {
-        KeepingFault::Serve(ServeFault::from(fault))
+        KeepingFault::Serve(match fault {
+            StreamFault::Read => ServeFault::Read,
+            StreamFault::Bound => ServeFault::Bound,
+            StreamFault::Memory => ServeFault::Memory,
+        })
     }
 }
 
@@ -179,10 +147,10 @@ fn refuse<W: Write, A: Allocator + Copy>(
     alloc: A,
     code: u8,
     writer: &mut Counted<W>,
-) -> Result<(), ServeFault>
+) -> Result<(), KeepingFault>
     ensures wrote { WroteRefused code (W.contents (counted_device writer.old)) (W.contents (counted_device writer.new)) result }
-    ensures write { IsErrOf result Write → CountsFailure writer.old writer.new }
-    ensures kept { result ≢ Err Write → KeepsCount writer.old writer.new }
+    ensures write { IsErrOf result (Serve Write) → CountsFailure writer.old writer.new }
+    ensures kept { result ≢ Err (Serve Write) → KeepsCount writer.old writer.new }
 {
     let mut out = Vec::new(alloc);
     append_refused(code, &mut out)?;

@@ -35,8 +35,10 @@ fn serve_anew<R: Read, W: Write>(
     requires reader_counts { failure_count reader.old < 2 ^ 64 - 1 }
     requires writer_counts { failure_count writer.old < 2 ^ 64 - 1 }
 {
-    let mut replica = new_replica(alloc, Site::new(1).unwrap())?;
-    serve(alloc, reader, writer, &mut replica)
+    match new_replica(alloc, Site::new(1).unwrap()) {
+        Ok(mut replica) => serve(alloc, reader, writer, &mut replica),
+        Err(_) => Err(ServeFault::Memory),
+    }
 }
 
 fn word_of_end(end: End) -> (&'static str, u8) {

@@ -4,7 +4,6 @@ use Rattle.std.proofs.lemmas.Grind.{common_steps}
 use Rattle.std.proofs.lemmas.Result.{err_from_is_err_and}
 use Rattle.std.specs.Io.KnownBytes.{Appends}
 use Rattle.stn_device.specs.Bytes.{AppendsPart}
-use Rattle.stn_device.specs.Counted.{counted_device}
 use Rattle.stn_session.specs.Exchange.{request_bytes}
 use Rattle.stn_session.specs.declared.exchange.SendFault.TheVariants.{Write, Memory}
 use Rattle.stn_device.proofs.Known.{fault_or, not_err}
@@ -28,12 +27,10 @@ returns-in_err-append_requests g c =
 pub returns-in_err-write_whole : goal.returns-in_err-write_whole
 returns-in_err-write_whole g c =
     let p = err_from_is_err_and c.from_residual-in_err-write_whole.result c.from_residual-in_err-write_whole.ensures.1 in
-    let before = g.W.Write.contents (counted_device c.args.writer.now) in
-    let after = g.W.Write.contents (counted_device c.write_whole.new.writer) in
     let printed : c.deref.result.now ≡ request_bytes c.args.replica.now.source c.args.replica.now.state = grind (arith, common_steps) in
     rw (p.1, p.2) (record {
       sent = tt;
-      part = subst (AppendsPart before after) printed c.in_err-write_whole.ensures.part;
+      part = subst (AppendsPart _ _) printed c.in_err-write_whole.ensures.part;
       unwritten = λ e. absurd (apart (ap (fault_or Write) e));
       write = λ _. fails_more _ _ _ c.in_err-write_whole.ensures.failed refl c.requires;
       kept = λ other. absurd (other refl);
@@ -41,11 +38,9 @@ returns-in_err-write_whole g c =
 
 pub returns : goal.returns
 returns g c =
-    let before = g.W.Write.contents (counted_device c.args.writer.now) in
-    let after = g.W.Write.contents (counted_device c.write_whole.new.writer) in
     let printed : c.deref.result.now ≡ request_bytes c.args.replica.now.source c.args.replica.now.state = grind (arith, common_steps) in
     record {
-      sent = subst (Appends before after) printed c.in_ok-write_whole.ensures.written;
+      sent = subst (Appends _ _) printed c.in_ok-write_whole.ensures.written;
       part = tt;
       unwritten = λ e. absurd (not_err _ _ e);
       write = λ e. absurd (not_err _ _ e);

@@ -7,7 +7,6 @@ use Rattle.stn_lift.specs.PlanSource.{PlanSource}
 use Rattle.stn_refusal.specs.declared.failure.Failure.{Failure}
 use Rattle.stn_session.specs.Turns.{KeepsTurn}
 use Rattle.stn_device.specs.Bytes.{AppendsPart}
-use Rattle.stn_device.specs.Counted.{counted_device}
 use Rattle.stn_session.specs.declared.session.KeepingFault.TheVariants.{Serve, Keep}
 use Rattle.stn_session.specs.declared.session.ServeFault.TheVariants.{Write, Memory}
 use Rattle.stn_device.proofs.Known.{fault_or, not_err}
@@ -53,15 +52,13 @@ returns-in_err-keep_turn g c =
 pub returns-in_err-write_whole : goal.returns-in_err-write_whole
 returns-in_err-write_whole g c =
     let p = err_from_is_err_and c.from_residual-in_err-write_whole.result c.from_residual-in_err-write_whole.ensures.1 in
-    let before = g.W.Write.contents (counted_device c.args.writer.now) in
-    let after = g.W.Write.contents (counted_device c.write_whole.new.writer) in
     let answered = c.in_ok-turn.ensures.answered in
     let printed : c.deref.result.now ≡ answered.bytes = grind (arith, common_steps, answered.appended) in
     rw (p.1, p.2) (record {
       source = c.in_ok-turn.ensures.source;
       site = c.in_ok-turn.ensures.site;
       wrote = (
-        (answered.bytes, answered.replied, subst (AppendsPart before after) printed c.in_err-write_whole.ensures.part, answered.left),
+        (answered.bytes, answered.replied, subst (AppendsPart _ _) printed c.in_err-write_whole.ensures.part, answered.left),
         turn_kept (g.K.Keeper.keeps c.args.keeper.now c.args.replica.now.source) c.args.replica.now.state c.reply_to.new.replica.state c.args.place.now c.keep_turn.new.place
             c.in_ok-turn.turn.changed answered.changed (subst (λ (s : PlanSource). KeepsTurn (g.K.Keeper.keeps c.args.keeper.now s c.reply_to.new.replica.state c.args.place.now c.keep_turn.new.place)
             c.args.place.now c.keep_turn.new.place c.in_ok-turn.turn.changed) c.in_ok-turn.ensures.source c.in_ok-keep_turn.ensures.kept),
@@ -72,15 +69,13 @@ returns-in_err-write_whole g c =
 
 pub returns : goal.returns
 returns g c =
-    let before = g.W.Write.contents (counted_device c.args.writer.now) in
-    let after = g.W.Write.contents (counted_device c.write_whole.new.writer) in
     let answered = c.in_ok-turn.ensures.answered in
     let printed : c.deref.result.now ≡ answered.bytes = grind (arith, common_steps, answered.appended) in
     record {
       source = c.in_ok-turn.ensures.source;
       site = c.in_ok-turn.ensures.site;
       wrote = (
-        (answered.bytes, answered.replied, subst (Appends before after) printed c.in_ok-write_whole.ensures.written, answered.left, answered.greeted, answered.ended),
+        (answered.bytes, answered.replied, subst (Appends _ _) printed c.in_ok-write_whole.ensures.written, answered.left, answered.greeted, answered.ended),
         turn_kept (g.K.Keeper.keeps c.args.keeper.now c.args.replica.now.source) c.args.replica.now.state c.reply_to.new.replica.state c.args.place.now c.keep_turn.new.place
             c.in_ok-turn.turn.changed answered.changed (subst (λ (s : PlanSource). KeepsTurn (g.K.Keeper.keeps c.args.keeper.now s c.reply_to.new.replica.state c.args.place.now c.keep_turn.new.place)
             c.args.place.now c.keep_turn.new.place c.in_ok-turn.turn.changed) c.in_ok-turn.ensures.source c.in_ok-keep_turn.ensures.kept),

@@ -12,7 +12,6 @@ use Rattle.stn_session.specs.Serving.{serve_fault}
 use Rattle.stn_session.specs.Keeping.{KeepsChange}
 use Rattle.stn_session.specs.Turns.{WroteKept}
 use Rattle.stn_session.specs.declared.session.KeepingFault.TheVariants.{Serve}
-use Rattle.stn_session.specs.declared.session.ServeFault.{ServeFault}
 use Rattle.stn_session.specs.declared.session.ServeFault.TheVariants.{Read, Memory}
 use Rattle.stn_device.proofs.Known.{fault_or, not_err}
 use Rattle.stn_session.proofs.Answered.{serve_fault_or, fails_more}
@@ -127,13 +126,13 @@ returns-in_err-refuse-in-Faulty g c =
     rw (p.1, p.2) (record {
       served = tt;
       end = tt;
-      broken = refusal_fails i.progress _ gave.bytes gave.consumed gave.counted.1 c.in-Faulty.fault gave.next _ c.code-code.result c.code-code.ensures fault lost.wrote;
+      broken = refusal_fails i.progress _ gave.bytes gave.consumed gave.counted.1 c.in-Faulty.fault gave.next _ (g.K.Keeper.fails c.args.keeper.now c.args.replica.now.source) c.code-code.result c.code-code.ensures fault lost.wrote;
       source = i.source;
       site = i.site;
-      read = λ e. absurd (refusal_unread _ _ _ fault lost.wrote (ap (serve_fault_or Memory) e));
-      write = λ e. fails_more _ _ _ (lost.write (ap Err (ap (serve_fault_or Memory) e))) i.writer_kept c.requires.writer_counts;
+      read = λ e. absurd (refusal_unread _ _ _ fault lost.wrote (ap (fault_or (Serve Read)) e));
+      write = λ e. fails_more _ _ _ (lost.write (ap Err (ap (fault_or (Serve Read)) e))) i.writer_kept c.requires.writer_counts;
       reader_kept = λ _. c.in_ok-frame.ensures.kept (not_err _ _) ∙ i.reader_kept;
-      writer_kept = λ other. lost.kept (λ e. other (ap (λ (f : ServeFault). Err (Serve f)) (ap (fault_or Read) e))) ∙ i.writer_kept;
+      writer_kept = λ other. lost.kept (λ e. other (ap Err (ap (fault_or (Serve Read)) e))) ∙ i.writer_kept;
     })
 
 pub returns-in-Faulty : goal.returns-in-Faulty
