@@ -11,7 +11,7 @@ use Rattle.stn_world.specs.Steps.{Step, sent, step_refusal, send_refusal, after,
 use Rattle.stn_world.proofs.Accepted.{site_decides}
 use Rattle.stn_command.specs.{declared.changes.Change.Change, declared.changes.Made.Made, Change.made_by, Query.Query, Query.IsSaid, Query.IsQueryRefusal}
 use Rattle.stn_command.proofs.Alike.{said_alike, refused_alike}
-use Rattle.stn_exec.specs.{declared.answer.Answer.Answer, Answer.answer_text, Command.Action, Command.sites_command, Output.IsAnswerText, Output.Declines, Saying.IsEffect, Saying.IsDone}
+use Rattle.stn_exec.specs.{declared.answer.Answer.Answer, Answer.answer_text, Command.Action, Command.sites_command, Output.IsAnswerText, Output.Declines, Saying.IsEffect, Saying.IsDone, Saying.call_answer, Saying.sent_answer}
 use Rattle.stn_exec.specs.declared.answer.Answer.TheVariants as answer
 use Rattle.stn_exec.specs.Effect.{Effect, said, declined, refusing, answered, called, sending, change_step, changing, telling, action_effect, command_effect}
 
@@ -39,6 +39,14 @@ pub accepted_call : (T : Type 0) (value : T) (old new : World) (step : Step) (ma
 accepted_call T value old new step made effect is seen =
     ap (λ (w : World). record { world = w; reply = said made }) is.1 ∙ (sym (ap (answered old (after old step) made) is.0) ∙ seen)
 
+-- what a step answers that makes nothing
+pub call_effect : (old new : World) (step : Step) (made : Answer) (call : Result (Unit {0}) WorldFault) (outcome : Result Answer Failure) (effect : Effect)
+    → IsStep old step call new → outcome ≡ call_answer call made → called old step made ≡ effect → IsEffect outcome new effect
+call_effect old new step made (Ok done) outcome effect is same seen =
+    subst (λ (o : Result Answer Failure). IsEffect o new effect) (sym same) (accepted_call (Unit {0}) done old new step made effect is seen)
+call_effect old new step made (Err fault) outcome effect is same seen =
+    subst (λ (o : Result Answer Failure). IsEffect o new effect) (sym same) (refused_call (Unit {0}) old new step made fault (world_failure fault) effect is refl seen)
+
 -- ---- changes
 -- words that can't be read
 pub unread : (world : World) (site : ℕ) (read : Result Change Failure) (cause failure : Failure) → Err cause ≡ read → failure ≡ cause
@@ -62,19 +70,16 @@ made_change old new site read asked made is by step =
     (ap (λ (one : Made). called old (change_step site asked) (answer.Changed one)) by ∙ ap (changing old site) is)
 
 -- ---- sendings
-pub accepted_sending : (old new : World) (site number : ℕ) (part : Content) (held : Bool)
-    → IsSending old (sent site part) (send_refusal old site held) (Ok number) new
-    → record { world = new; reply = said (answer.Sent number) } ≡ sending old site part held
-accepted_sending old new site number part held step =
-    ap (λ (w : World). record { world = w; reply = said (answer.Sent number) }) step.2
+pub sending_effect : (old new : World) (site : ℕ) (part : Content) (held : Bool) (call : Result ℕ WorldFault) (outcome : Result Answer Failure)
+    → IsSending old (sent site part) (send_refusal old site held) call new → outcome ≡ sent_answer call → IsEffect outcome new (sending old site part held)
+sending_effect old new site part held (Ok number) outcome step same =
+    subst (λ (o : Result Answer Failure). IsEffect o new (sending old site part held)) (sym same)
+    (ap (λ (w : World). record { world = w; reply = said (answer.Sent number) }) step.2
     ∙ (ap (λ (n : ℕ). record { world = after old (sent site part); reply = said (answer.Sent n) }) step.3
-    ∙ sym (ap (answered old (after old (sent site part)) (answer.Sent (length old.packets + 1))) step.0))
-
-pub refused_sending : (old new : World) (site : ℕ) (part : Content) (held : Bool) (fault : WorldFault) (failure : Failure)
-    → IsSending old (sent site part) (send_refusal old site held) (Err fault) new → failure ≡ world_failure fault
-    → IsEffect (Err failure) new (sending old site part held)
-refused_sending old new site part held fault failure step gives =
-    refused_answer old new (after old (sent site part)) (answer.Sent (length old.packets + 1)) (send_refusal old site held) fault failure _ step.0 step.1 gives refl
+    ∙ sym (ap (answered old (after old (sent site part)) (answer.Sent (length old.packets + 1))) step.0)))
+sending_effect old new site part held (Err fault) outcome step same =
+    subst (λ (o : Result Answer Failure). IsEffect o new (sending old site part held)) (sym same)
+    (refused_answer old new (after old (sent site part)) (answer.Sent (length old.packets + 1)) (send_refusal old site held) fault (world_failure fault) _ step.0 step.1 refl refl)
 
 -- ---- a site that is there, and one that is not
 pub there_effect : (world : World) (site : ℕ) (action : Action) → HasSite world site → action_effect world site action ≡ command_effect world (sites_command site action)

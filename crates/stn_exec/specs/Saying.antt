@@ -2,13 +2,24 @@
 -- What a call answered or why it was declined, and how that was appended.
 use Rattle.std.specs.Prelude.{◌≡◌, ◌⊎◌, ℕ, List, ◌++◌, Result, Ok, Err}
 use Rattle.stn_refusal.specs.{declared.failure.Failure.Failure, Refusals.out_of_memory}
-use Rattle.stn_world.specs.World.{World}
+use Rattle.stn_world.specs.{declared.faults.WorldFault.WorldFault, Failures.world_failure, World.World}
+use Rattle.stn_exec.specs.declared.answer.Answer.TheVariants.{Sent}
 use Rattle.stn_exec.specs.{declared.answer.Answer.Answer, Effect.Effect, Effect.said, Effect.declined, Output.IsAnswerText, Output.Declines}
 
 -- a call left the world, and its answer, or why there is none, is the effect's reply; or memory ran out
 abbrev pub IsEffect : Result Answer Failure → World → Effect → Type 0
 IsEffect (Ok answer) world effect = record { world = world; reply = said answer } ≡ effect
 IsEffect (Err failure) world effect = (failure ≡ out_of_memory) ⊎ (record { world = world; reply = declined failure } ≡ effect)
+
+-- what a call of the world answers: what is said where it was accepted, or why it was refused
+abbrev pub call_answer : Result (Unit {0}) WorldFault → Answer → Result Answer Failure
+call_answer (Ok done) made = Ok made
+call_answer (Err fault) made = Err (world_failure fault)
+
+-- so of one that sends a packet
+abbrev pub sent_answer : Result ℕ WorldFault → Result Answer Failure
+sent_answer (Ok number) = Ok (Sent number)
+sent_answer (Err fault) = Err (world_failure fault)
 
 -- the effect's world is left, and its answer was appended; or nothing was, and the failure is why there is no answer; or memory ran out
 abbrev pub IsDone : World → List ℕ → List ℕ → Effect → Result (Unit {0}) Failure → Type 0

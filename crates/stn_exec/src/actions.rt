@@ -4,10 +4,10 @@ ghost use Rattle.stn_world.specs.World.{HasSite, content_at, next_id_at};
 ghost use Rattle.stn_world.specs.Steps.{IsStep};
 ghost use Rattle.stn_command.specs.Change.{made_by};
 ghost use Rattle.stn_command.specs.Query.{seen_query as asked_of};
-ghost use Rattle.stn_exec.specs.Command.{change, merge, send_all, send, send_items, deliver, query};
+ghost use Rattle.stn_exec.specs.Command.{change, send_items, query};
 ghost use Rattle.stn_exec.specs.Effect.{change_step, telling, action_effect};
 ghost use Rattle.stn_exec.specs.Running.{seen_change, seen_query};
-ghost use Rattle.stn_exec.specs.Saying.{IsEffect, IsDone};
+ghost use Rattle.stn_exec.specs.Saying.{IsEffect, IsDone, call_answer, sent_answer};
 
 use crate::answer::Answer;
 use crate::command::{ChangeWords, QueryWords, read_records, read_tombstones};
@@ -60,26 +60,6 @@ fn change_at<A: Allocator + Copy>(
     }
 }
 
-/// Takes in at a site all that another holds.
-pub fn merge<A: Allocator + Copy>(
-    world: &mut World<A>,
-    site: u32,
-    other: u32,
-) -> Result<Answer, Failure>
-    ensures { IsEffect result world.new (action_effect world.old site (merge other)) }
-{
-    world.merge(site, other)?;
-    Ok(Answer::Merged)
-}
-
-/// Sends all that a site holds.
-pub fn send_all<A: Allocator + Copy>(world: &mut World<A>, site: u32) -> Result<Answer, Failure>
-    ensures { IsEffect result world.new (action_effect world.old site send_all) }
-{
-    let number = world.send_all(site)?;
-    Ok(Answer::Sent(number))
-}
-
 /// Sends the records of a site that the words of a line name, with the ids that they replace, and the
 /// withdrawn ids that they name.
 pub fn send<A: Allocator + Copy>(
@@ -92,31 +72,27 @@ pub fn send<A: Allocator + Copy>(
 {
     let records = read_records(alloc, items)?;
     let tombstones = read_tombstones(alloc, items)?;
-    send_part(world, site, &records, &tombstones)
+    sent(world.send(site, &records, &tombstones))
 }
 
-fn send_part<A: Allocator + Copy>(
-    world: &mut World<A>,
-    site: u32,
-    records: &[Id],
-    tombstones: &[Id],
-) -> Result<Answer, Failure>
-    ensures { IsEffect result world.new (action_effect world.old site (send records.now tombstones.now)) }
+/// What a call that sends answers.
+pub fn sent(call: Result<u16, WorldFault>) -> Result<Answer, Failure>
+    ensures { result ≡ sent_answer call }
 {
-    let number = world.send(site, records, tombstones)?;
-    Ok(Answer::Sent(number))
+    match call {
+        Ok(number) => Ok(Answer::Sent(number)),
+        Err(fault) => Err(Failure::from(fault)),
+    }
 }
 
-/// Takes in at a site all that a packet holds.
-pub fn deliver<A: Allocator + Copy>(
-    world: &mut World<A>,
-    site: u32,
-    packet: u32,
-) -> Result<Answer, Failure>
-    ensures { IsEffect result world.new (action_effect world.old site (deliver packet)) }
+/// What a call that makes nothing answers.
+pub fn answered(call: Result<(), WorldFault>, answer: Answer) -> Result<Answer, Failure>
+    ensures { result ≡ call_answer call answer }
 {
-    world.deliver(site, packet)?;
-    Ok(Answer::Delivered)
+    match call {
+        Ok(()) => Ok(answer),
+        Err(fault) => Err(Failure::from(fault)),
+    }
 }
 
 /// Appends what a site that is there says to a query, whose times are words of a line.

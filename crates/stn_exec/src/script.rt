@@ -12,7 +12,7 @@ ghost use Rattle.stn_exec.specs.Saying.{IsDone, Does};
 ghost use Rattle.stn_exec.specs.Script.{line_effect, line_outcome, lines_outcome, started, script_outcome, last_line};
 ghost use Rattle.stn_exec.specs.declared.script.RunFault.TheVariants.{Read, Write, Bound, Memory};
 
-use crate::actions::{change, deliver, merge, send, send_all, tell};
+use crate::actions::{answered, change, send, sent, tell};
 use crate::answer::Answer;
 use crate::command::{Action, Command, read_command};
 use crate::heading::{open, opening_word};
@@ -190,10 +190,17 @@ fn do_action<A: Allocator + Copy>(
 {
     match action {
         Action::Change(words) => print_answer(change(world, site, words), out),
-        Action::Merge(other) => print_answer(merge(world, site, *other), out),
-        Action::SendAll => print_answer(send_all(world, site), out),
+        Action::Merge(other) => {
+            print_answer(answered(world.merge(site, *other), Answer::Merged), out)
+        }
+        Action::SendAll => print_answer(sent(world.send_all(site)), out),
         Action::Send(items) => print_answer(send(alloc, world, site, items), out),
-        Action::Deliver(packet) => print_answer(deliver(world, site, *packet), out),
+        Action::Deliver(packet) => {
+            print_answer(
+                answered(world.deliver(site, *packet), Answer::Delivered),
+                out,
+            )
+        }
         Action::Query(words) => tell(alloc, world, site, words, out),
     }
 }
