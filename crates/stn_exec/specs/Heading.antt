@@ -39,3 +39,13 @@ pub record IsOpened (heading : Result Start Failure) (world : World) (rest : Res
 -- memory ran out, or the failure is the one wanted
 abbrev pub IsHeadingFailure : {T : Type 0} → Result T Failure → Failure → Type 0
 IsHeadingFailure wanted failure = (failure ≡ out_of_memory) ⊎ (wanted ≡ Err failure)
+
+-- the base that was made is the one wanted, or the failure is
+abbrev pub IsMade : Result PlanSource Failure → Result PlanSource Failure → Type 0
+IsMade wanted (Ok base) = wanted ≡ Ok base
+IsMade wanted (Err failure) = IsHeadingFailure wanted failure
+
+-- so of a base with what stands after its part of the heading
+abbrev pub IsRead : Result Based Failure → Result (PlanSource × Rest) Failure → Type 0
+IsRead wanted (Ok read) = wanted ≡ Ok (seen_base read.0 read.1)
+IsRead wanted (Err failure) = IsHeadingFailure wanted failure

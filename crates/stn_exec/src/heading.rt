@@ -3,7 +3,7 @@ ghost use Rattle.std.specs.Option.{option_map};
 ghost use Rattle.stn_text.specs.Lines.{lines_of, words_of};
 ghost use Rattle.stn_lift.specs.PlanSource.{bare, files, plan_source, base_of};
 ghost use Rattle.stn_exec.specs.Blocks.{is_alone, block_from};
-ghost use Rattle.stn_exec.specs.Heading.{seen_found, seen_part, seen_block, seen_base, result_seen, IsOpened, IsHeadingFailure};
+ghost use Rattle.stn_exec.specs.Heading.{seen_found, seen_part, seen_block, result_seen, IsOpened, IsHeadingFailure, IsMade, IsRead};
 ghost use Rattle.stn_exec.specs.Script.{is_skipped, next_line, heading_number, part_of, refusing_fault, block_at, named_block, bare_part, files_part, based, heading_of};
 
 use std::alloc::Allocator;
@@ -82,9 +82,8 @@ fn read_base<A: Allocator + Copy>(
     script: &[u8],
 ) -> Result<(Base<A>, Rest<'_>), Failure>
     requires { length script.now < 2 ^ 31 }
-    ensures base { IfOk result (λ read. based last (lines_of script.now) ≡ Ok (seen_base read.0 read.1)) }
+    ensures read { IsRead (based last (lines_of script.now)) result }
     ensures within { IfOk result (λ read. read.1.number + length read.1.text.now ≤ length script.now + 1) }
-    ensures refused { IfErr result (IsHeadingFailure (based last (lines_of script.now))) }
 {
     match find_line(1, script) {
         Some(found) => {
@@ -104,9 +103,8 @@ fn read_bare<A: Allocator + Copy>(
     found: FoundLine<'_>,
 ) -> Result<(Base<A>, Rest<'_>), Failure>
     requires { found.number + 1 + length found.behind.now < 2 ^ 32 }
-    ensures base { IfOk result (λ read. bare_part (seen_found found.entry) ≡ Ok (seen_base read.0 read.1)) }
+    ensures read { IsRead (bare_part (seen_found found.entry)) result }
     ensures within { IfOk result (λ read. read.1.number + length read.1.text.now ≤ found.entry.number + 1 + length found.entry.behind.now) }
-    ensures refused { IfErr result (IsHeadingFailure (bare_part (seen_found found.entry))) }
 {
     match read_value(b"steps", found.word, found.rest) {
         Some(steps) => {
@@ -123,8 +121,7 @@ fn read_bare<A: Allocator + Copy>(
 
 // The base of a bare plan of so many steps.
 fn bare_base<A: Allocator + Copy>(alloc: A, steps: u16) -> Result<Base<A>, Failure>
-    ensures made { IfOk result (λ base. refusing_fault (base_of (bare steps)) ≡ Ok base) }
-    ensures refused { IfErr result (IsHeadingFailure (refusing_fault (base_of (bare steps)))) }
+    ensures { IsMade (refusing_fault (base_of (bare steps))) result }
 {
     make_base(alloc, &Source::Bare(steps))
 }
@@ -136,9 +133,8 @@ fn read_files<A: Allocator + Copy>(
     found: FoundLine<'_>,
 ) -> Result<(Base<A>, Rest<'_>), Failure>
     requires { found.number + 1 + length found.behind.now < 2 ^ 32 }
-    ensures base { IfOk result (λ read. files_part last (seen_found found.entry) ≡ Ok (seen_base read.0 read.1)) }
+    ensures read { IsRead (files_part last (seen_found found.entry)) result }
     ensures within { IfOk result (λ read. read.1.number + length read.1.text.now ≤ found.entry.number + 1 + length found.entry.behind.now) }
-    ensures refused { IfErr result (IsHeadingFailure (files_part last (seen_found found.entry))) }
 {
     let domain = read_block(last, found.number + 1, found.behind)?;
     let plan = read_named_block(last, b"plan", domain.behind.number, domain.behind.text)?;
@@ -152,8 +148,7 @@ fn base_of_files<A: Allocator + Copy>(
     domain: &[u8],
     plan: &[u8],
 ) -> Result<Base<A>, Failure>
-    ensures made { IfOk result (λ base. refusing_fault (base_of (files domain.now plan.now)) ≡ Ok base) }
-    ensures refused { IfErr result (IsHeadingFailure (refusing_fault (base_of (files domain.now plan.now)))) }
+    ensures { IsMade (refusing_fault (base_of (files domain.now plan.now))) result }
 {
     let domain = Vec::from_slice(alloc, domain)?;
     let plan = Vec::from_slice(alloc, plan)?;
@@ -162,8 +157,7 @@ fn base_of_files<A: Allocator + Copy>(
 
 // The base of a source.
 fn make_base<A: Allocator + Copy>(alloc: A, source: &Source<A>) -> Result<Base<A>, Failure>
-    ensures made { IfOk result (λ base. refusing_fault (base_of (plan_source source.now)) ≡ Ok base) }
-    ensures refused { IfErr result (IsHeadingFailure (refusing_fault (base_of (plan_source source.now)))) }
+    ensures { IsMade (refusing_fault (base_of (plan_source source.now))) result }
 {
     Ok(Base::from_source(alloc, source)?)
 }

@@ -1,4 +1,4 @@
-use Rattle.std.proofs.Common.{◌≡◌, ◌≤◌, ◌+◌, inl, inr, refl, sym, ap, ◌∙◌, arith}
+use Rattle.std.proofs.Common.{◌≡◌, ◌≤◌, ◌+◌, inr, refl, sym, ap, ◌∙◌, arith}
 use Rattle.std.proofs.lemmas.Result.{err_from_is_err_and}
 use Rattle.stn_lift.specs.PlanSource.{PlanSource}
 use Rattle.stn_text.specs.Lines.{lines_of}
@@ -10,13 +10,13 @@ use Rattle.stn_exec.proofs.heading.open.Goals as goal
 pub returns-in_err-base-clause-refused : goal.returns-in_err-base-clause-refused
 returns-in_err-base-clause-refused g c =
     let returned = err_from_is_err_and c.from_residual.result c.from_residual.ensures.1 in
-    rw (returned.1, returned.2) (fails_first (based c.args.last (lines_of c.args.script.now)) (with_sites c.args.last) c.in_err-base.field-0.0 c.in_err-base.ensures.refused)
+    rw (returned.1, returned.2) (fails_first (based c.args.last (lines_of c.args.script.now)) (with_sites c.args.last) c.in_err-base.field-0.0 c.in_err-base.ensures.read)
 
 pub returns-in_err-sites-clause-refused : goal.returns-in_err-sites-clause-refused
 returns-in_err-sites-clause-refused g c =
     let returned = err_from_is_err_and c.from_residual-in_err-sites.result c.from_residual-in_err-sites.ensures.1 in
     rw (returned.1, returned.2) (inr (heading-fault c.args.last (lines_of c.args.script.now) (seen_base c.in_ok-base.base c.in_ok-base.behind) c.in_err-sites.field-0.0
-    c.in_ok-base.ensures.base (sym c.in_err-sites.ensures.part)))
+    c.in_ok-base.ensures.read (sym c.in_err-sites.ensures.part)))
 
 pub returns-in-Ok : goal.returns-in-Ok
 returns-in-Ok g c =
@@ -27,7 +27,7 @@ returns-in-Ok g c =
     record {
       opened = record {
         start = record { source = c.in_ok-base.base; sites = sites.value; number = sites.found.number + 1; lines = lines_of sites.found.behind.now };
-        read = heading-made c.args.last (lines_of c.args.script.now) (seen_base c.in_ok-base.base c.in_ok-base.behind) (seen_part sites) c.in_ok-base.ensures.base (sym c.in_ok-sites.ensures.part) (sites_of-some sites.value least most);
+        read = heading-made c.args.last (lines_of c.args.script.now) (seen_base c.in_ok-base.base c.in_ok-base.behind) (seen_part sites) c.in_ok-base.ensures.read (sym c.in_ok-sites.ensures.part) (sites_of-some sites.value least most);
         opening = c.in-Ok.ensures.opening ∙ (ap (λ (s : PlanSource). opening_world s c.saturated.result) c.in_ok-new.ensures.ok ∙ ap (opening_world c.in_ok-base.base) same);
         number = refl;
         lines = refl;
@@ -43,6 +43,6 @@ returns-in-Err g c =
       opened = tt;
       within = tt;
       refused = heading-unopened c.args.last (lines_of c.args.script.now) (seen_base c.in_ok-base.base c.in_ok-base.behind) (seen_part sites) c.saturated.result c.in-Err.fault c.from.result
-          c.in_ok-base.ensures.base (sym c.in_ok-sites.ensures.part)
+          c.in_ok-base.ensures.read (sym c.in_ok-sites.ensures.part)
           (λ least most. record { least = omega (arith, least, c.saturated.ensures); most = omega (arith, most, c.saturated.ensures) }) c.in-Err.ensures.fault c.from.ensures;
     }
