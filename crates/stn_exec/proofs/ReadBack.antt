@@ -1,5 +1,5 @@
 -- The printed line of a bound is read by an addition as the bound.
-use Rattle.std.proofs.Common.{◌≡◌, ◌≢◌, ℕ, suc, ◌+◌, ◌-◌, ◌*◌, ◌/◌, ◌%◌, ◌<◌, ◌≤◌, ◌^◌, Bool, true, false, ◌==◌, ◌&&◌, cond, not, List, [], ◌∷◌, ◌++◌, length, ℤ, pos, negsuc, neg_ℤ, Option, Some, None, Result, Ok, Err, codes, decimal, refl, sym, ap, ◌∙◌, subst, arith, append_assoc, bytes_eq}
+use Rattle.std.proofs.Common.{◌≡◌, ℕ, ◌+◌, ◌-◌, ◌*◌, ◌/◌, ◌%◌, ◌<◌, ◌≤◌, ◌^◌, Bool, true, false, ◌==◌, cond, not, List, [], ◌∷◌, ◌++◌, length, ℤ, pos, negsuc, neg_ℤ, Option, Some, None, Ok, Err, codes, decimal, refl, sym, ap, ◌∙◌, arith, append_assoc, bytes_eq}
 use Rattle.std.specs.{Prelude.unsigned_abs, Prelude.filter, Prelude.option_map, Char.is_ascii_digit, Fmt.sign_text, Int.is_negative, List.list_all, List.slice_split, List.onto_first, Ordering.int_eq, Str.all_ascii_digits, Str.Parse.digits_value}
 use Rattle.std.specs.FinMap as map
 use Rattle.std.proofs.lemmas.Bool.{eqb-true, eqb-false, and_parts, and_from}
@@ -13,7 +13,7 @@ use Rattle.stn_records.specs.{Id.SiteCounter, Id.IsId, Id.id_text, Record.is_don
 use Rattle.stn_site.specs.{declared.names.BoundName.BoundName, Lines.line, Lines.done_text, Names.name_text}
 use Rattle.stn_site.specs.declared.names.BoundName.TheVariants as kind
 use Rattle.stn_questions.specs.{Bounds.lower_text, Bounds.upper_text, Bounds.bound_text, Bounds.named_line, Records.held_text, Records.amends_text, Records.word_where, Records.is_amended, Records.record_line}
-use Rattle.stn_command.specs.Words.{event_of, and_then, spelled, time_read}
+use Rattle.stn_command.specs.Words.{event_of, spelled}
 use Rattle.stn_command.proofs.Events.{event_below-some}
 use Rattle.stn_exec.specs.{Command.bound_words, Effect.side_of, Effect.bound_read, ReadBack.IsReadable, ReadBack.IsName, ReadBack.ReadsBack}
 

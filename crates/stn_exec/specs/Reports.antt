@@ -72,3 +72,10 @@ pub record PrintsAt {script : List ℕ} (at : LineOf script) (output text : List
   pub here : IsOutput (line_outcome (at.start.number + length at.before) (world_at at) (words_of at.line)).replies text
   pub behind : IsOutput (lines_outcome (at.start.number + length at.before + 1) (line_outcome (at.start.number + length at.before) (world_at at) (words_of at.line)).world at.behind).replies last
   pub whole : output ≡ first ++ (text ++ last)
+
+-- two lines, of one script or of two, that ask the same of sites of one plan print the same bytes, where the sites took the same
+abbrev pub PrintSame : ((script : List ℕ) → LineOf script → ℕ → Type 0) → (World → List Step → ℕ → World → List Step → ℕ → Type 0) → Type 0
+PrintSame Asks TookSame = (script other output last text last_text : List ℕ) (at : LineOf script) (there : LineOf other) (site others : ℕ)
+    → Asks script at site → Asks other there others → at.start.source ≡ there.start.source
+    → TookSame (first_world at) (steps_before at) site (first_world there) (steps_before there) others
+    → PrintsAt at output text → PrintsAt there last last_text → text ≡ last_text

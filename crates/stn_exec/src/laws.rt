@@ -18,7 +18,7 @@ ghost use Rattle.stn_world.specs.Steps.{run, TookAt, TookSameAt, TookSameItemsAt
 ghost use Rattle.stn_exec.specs.ReadBack.{IsName, IsReadable, ReadsBack};
 ghost use Rattle.stn_exec.specs.Output.{IsOutput, CountsRefusals};
 ghost use Rattle.stn_exec.specs.Script.{Start, heading_of, last_line, script_outcome};
-ghost use Rattle.stn_exec.specs.Reports.{steps_of_lines, LineOf, first_world, steps_before, world_at, ReportsSite, AsksSite, AsksReady, PrintsAt};
+ghost use Rattle.stn_exec.specs.Reports.{steps_of_lines, LineOf, first_world, steps_before, world_at, ReportsSite, AsksSite, AsksReady, PrintsAt, PrintSame};
 
 use stn_command::{every_query_has_an_answer, one_said};
 use stn_questions::{one_answer, one_ready_text};
@@ -75,14 +75,8 @@ pub fn scripts_are_runs()
 pub fn questions_are_answered()
     ensures answer { (script output text : List ℕ) (at : LineOf script) (site : ℕ) (question : Question) → AsksSite at site question → PrintsAt at output text
         → IsAnswer at.start.source (content_at (world_at at) site) question text }
-    ensures items { (script other output last text last_text : List ℕ) (at : LineOf script) (there : LineOf other) (site others : ℕ) (question : Question)
-        → AsksSite at site question → AsksSite there others question → at.start.source ≡ there.start.source
-        → TookSameItemsAt (first_world at) (steps_before at) site (first_world there) (steps_before there) others
-        → PrintsAt at output text → PrintsAt there last last_text → text ≡ last_text }
-    ensures plan { (script other output last text last_text : List ℕ) (at : LineOf script) (there : LineOf other) (site others : ℕ) (question : Question)
-        → AsksOfPlan question → AsksSite at site question → AsksSite there others question → at.start.source ≡ there.start.source
-        → TookSameAt (first_world at) (steps_before at) site (first_world there) (steps_before there) others
-        → PrintsAt at output text → PrintsAt there last last_text → text ≡ last_text }
+    ensures items { (question : Question) → PrintSame (λ _ at site. AsksSite at site question) TookSameItemsAt }
+    ensures plan { (question : Question) → AsksOfPlan question → PrintSame (λ _ at site. AsksSite at site question) TookSameAt }
 {
     sites_took_same_same_bytes();
     one_answer();
@@ -95,10 +89,7 @@ pub fn questions_are_answered()
 pub fn ready_is_answered()
     ensures text { (script output text : List ℕ) (at : LineOf script) (site : ℕ) (now : ℤ) → AsksReady at site now → PrintsAt at output text
         → IsReadyText at.start.source (content_at (world_at at) site) now text }
-    ensures bytes { (script other output last text last_text : List ℕ) (at : LineOf script) (there : LineOf other) (site others : ℕ) (now : ℤ)
-        → AsksReady at site now → AsksReady there others now → at.start.source ≡ there.start.source
-        → TookSameAt (first_world at) (steps_before at) site (first_world there) (steps_before there) others
-        → PrintsAt at output text → PrintsAt there last last_text → text ≡ last_text }
+    ensures bytes { (now : ℤ) → PrintSame (λ _ at site. AsksReady at site now) TookSameAt }
 {
     sites_took_same_same_bytes();
     one_ready_text();

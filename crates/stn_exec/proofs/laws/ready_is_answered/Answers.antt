@@ -11,7 +11,7 @@ pub returns-clause-text : goal.returns-clause-text
 returns-clause-text c = ready_said
 
 pub returns-clause-bytes : goal.returns-clause-bytes
-returns-clause-bytes c = λ script other output last text last_text at there site others now one two plan same p q.
+returns-clause-bytes c = λ now script other output last text last_text at there site others one two plan same p q.
     let alike = same_counts (λ source sites others ours theirs site other here there took.
     (c.sites_took_same_same_bytes.ensures.bytes source sites others ours theirs site other here there took).0)
     script other at there site others one.there two.there plan same in
