@@ -7,7 +7,8 @@ use Rattle.stn_records.specs.Content.{Content}
 use Rattle.stn_site.specs.{Bounds.all_bounds, Report.is_done}
 use Rattle.stn_questions.proofs.{Found.AreFound, Found.possible_found, Found.tightest_found, SomeReport.IsSoundState, SomeReport.differences, SomeReport.some_conflict}
 use Rattle.stn_questions.specs.{declared.picture.span.Span.Span, Picture.Axis.gap_of, Picture.Spans.AreSpans}
-use Rattle.stn_questions.specs.Picture.{rows_end, windows_text, cycle_height, cycle_text, IsPicture}
+use Rattle.stn_questions.specs.Picture.Places.{rows_end, cycle_height}
+use Rattle.stn_questions.specs.Picture.{windows_text, cycle_text, IsPicture}
 
 -- a span for each of the first events
 some_spans : (bounds : List Difference) (events : ℕ) (far : ℕ → ℕ → ℤ) (done : ℕ → Bool) → AreFound bounds events far → (n : ℕ) → n ≤ events

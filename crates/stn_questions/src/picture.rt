@@ -7,16 +7,20 @@ ghost use Rattle.stn_site.specs.Report.{is_done};
 ghost use Rattle.stn_site.specs.Windows.{AreWindows};
 ghost use Rattle.stn_questions.specs.Picture.Axis.{gap_of};
 ghost use Rattle.stn_questions.specs.Picture.Spans.{AreSpans};
-ghost use Rattle.stn_questions.specs.Picture.{rows_end, windows_text, cycle_text, IsPicture, IsWindowsPicture, IsCyclePicture};
+ghost use Rattle.stn_questions.specs.Picture.Places.{rows_end};
+ghost use Rattle.stn_questions.specs.Picture.{windows_text, cycle_text, IsPicture, IsWindowsPicture, IsCyclePicture};
 
 mod axis;
 mod escape;
 mod laws;
+mod memory;
+mod places;
 mod seconds;
 mod span;
 mod windows;
 
-use crate::picture::axis::{gap_of, later};
+use crate::picture::axis::gap_of;
+use crate::picture::places::{LABELS_BASE, ROW_HEIGHT, cycle_height, rows_end};
 use crate::picture::windows::{
     append_bars, append_cycle, append_ends, append_head, append_labels, append_marks,
 };
@@ -74,7 +78,7 @@ fn cycle_of<A: Allocator + Copy>(plan: &SitePlan<A>, steps: &[u8]) -> Result<Vec
 {
     let mut conflict = Vec::new(plan.alloc());
     plan.report_conflict(&mut conflict)?;
-    let height = later(10 * u64::from(plan.base().events()), conflict.len() as u64) + 100;
+    let height = cycle_height(plan.base().events(), &conflict);
     let mut text = Vec::new(plan.alloc());
     append_cycle(&mut text, height, steps, &conflict)?;
     Ok(text)
@@ -89,7 +93,7 @@ fn windows_of<A: Allocator + Copy>(
     ensures { IfOk result (λ text. text.items
         ≡ windows_text (rows_end (events_of plan.now.source)) (gap_of spans.now) steps.now spans.now) }
 {
-    let height = 20 * u64::from(plan.base().events()) + 30;
+    let height = rows_end(plan.base().events());
     let mut text = Vec::new(plan.alloc());
     append_windows(&mut text, height, steps, spans)?;
     Ok(text)
@@ -106,7 +110,7 @@ fn append_windows<B: Allocator>(
 {
     let gap = gap_of(spans);
     append_head(out, height)?;
-    append_labels(out, 50, b"</tspan><tspan x='800' dy='40'>", steps)?;
+    append_labels(out, LABELS_BASE, 2 * ROW_HEIGHT, steps)?;
     append_marks(out, height, gap)?;
     append_bars(out, height, gap, spans)?;
     append_ends(out, gap, spans)?;

@@ -1,10 +1,9 @@
 -- What is drawn grows by one event.
-use Rattle.std.proofs.Common.{◌≡◌, ℕ, ℤ, suc, ◌+◌, ◌<◌, Bool, List, [], ◌∷◌, ◌++◌, length, take, get_or, refl, sym, ap, subst, ◌∙◌, add-one, append_assoc, arith}
-use Rattle.std.proofs.{lemmas.Bool.Decides.nat_tests, lemmas.List.append-nil, lemmas.List.take_more, lemmas.List.Concat.flat_map-append}
-use Rattle.std.specs.List.{flat_map}
+use Rattle.std.proofs.Common.{◌≡◌, ℕ, ℤ, suc, ◌+◌, ◌<◌, Bool, List, [], ◌∷◌, ◌++◌, length, take, get_or, refl, sym, ap, subst, ◌∙◌, add-one, arith}
+use Rattle.std.proofs.{lemmas.Bool.Decides.nat_tests, lemmas.List.take_more}
 use Rattle.stn_net.specs.{Difference.Difference, Schedule.HasSchedule}
 use Rattle.stn_net.specs.Windows.Window.{IsWindow}
-use Rattle.stn_questions.specs.{declared.picture.span.Span.Span, Picture.Axis.later, Picture.Axis.furthest, Picture.Axis.reach, Picture.Axis.gap_of, Picture.Spans.AreSpans, Picture.rows_end, Picture.windows_text, Picture.IsWindowsPicture}
+use Rattle.stn_questions.specs.{declared.picture.span.Span.Span, Picture.Axis.later, Picture.Axis.furthest, Picture.Axis.reach, Picture.Axis.gap_of, Picture.Places.rows_end, Picture.Spans.AreSpans, Picture.windows_text, Picture.IsWindowsPicture}
 use Rattle.stn_lift.specs.PlanSource.{PlanSource, events_of}
 use Rattle.stn_records.specs.Content.{Content}
 use Rattle.stn_site.specs.{Bounds.all_bounds, Report.is_done}
@@ -27,16 +26,6 @@ pub furthest_more : (spans : List Span) (place time : ℕ) (span : Span) → pla
 furthest_more spans place time span within is was =
     ap (λ seen. later seen (reach span)) was ∙ sym (furthest_push 0 (take place spans) span)
     ∙ sym (ap (furthest 0) (take_more spans place span within ∙ ap (λ y. take place spans ++ y ∷ []) (sym is)))
-
--- the text of one item more
-pub text_grown : {X : Type 0} (f : X → List ℕ) (items : List X) (place : ℕ) (item : X) (front old new : List ℕ) → place < length items → item ≡ get_or items place item
-    → old ≡ front ++ flat_map f (take place items) → new ≡ old ++ f item → new ≡ front ++ flat_map f (take (place + 1) items)
-text_grown f items place item front old new within is was grown =
-    grown ∙ ap (λ text. text ++ f item) was ∙ append_assoc front (flat_map f (take place items)) (f item)
-    ∙ ap (λ text. front ++ text) (sym (
-    ap (flat_map f) (take_more items place item within ∙ ap (λ y. take place items ++ y ∷ []) (sym is))
-    ∙ flat_map-append f (take place items) (item ∷ [])
-    ∙ ap (λ last. flat_map f (take place items) ++ last) (append-nil (f item))))
 
 -- the picture of bounds with a schedule
 pub windows_picture : (steps : List ℕ) (source : PlanSource) (state : Content) (spans seen : List Span) (text : List ℕ)

@@ -29,13 +29,27 @@ pub further : {T E : Type 0} (result : Result T E) (front seen piece text end : 
 further (Ok value) front seen piece text end first second same = then front seen piece first second ∙ same
 further (Err fault) front seen piece text end first second same = tt
 
--- the pieces of a bar, and those of the words beside it, in one text
-pub bar_joined : (front fill earliest top last more : List ℕ)
-    → front ++ (codes "<path fill='" ++ ((fill ++ (codes "' d='M" ++ (earliest ++ (codes " " ++ (top ++ (codes "H" ++ (last ++ (codes "h" ++ (more ++ (codes "e-2v10H" ++ earliest)))))))))) ++ codes "z'/>\n"))
-    ≡ front ++ (codes "<path fill='" ++ fill ++ codes "' d='M" ++ earliest ++ codes " " ++ top ++ codes "H" ++ last ++ codes "h" ++ more ++ codes "e-2v10H" ++ earliest ++ codes "z'/>\n")
-bar_joined front fill earliest top last more = simp append_assoc
+-- a text that was written to memory, in one piece
+pub written : {T E F : Type 0} (result : Result T E) (write : Result T F) (end text other : List ℕ) → MatchResult result (λ _. IsOk write) (λ _. IsErr write)
+    → OnOk write (end ≡ text) → text ≡ other → OnOk result (end ≡ other)
+written (Ok value) (Ok other) end text whole was holds same = holds ∙ same
+written (Ok value) (Err fault) end text whole was holds same = absurd (true≢false (sym was))
+written (Err fault) write end text whole was holds same = tt
 
-pub ends_joined : (front base window cut : List ℕ)
-    → front ++ (codes "<text x='535' y='" ++ (base ++ codes "'>") ++ window ++ (cut ++ codes "</text>\n"))
-    ≡ front ++ (codes "<text x='535' y='" ++ base ++ codes "'>" ++ window ++ cut ++ codes "</text>\n")
-ends_joined front base window cut = simp append_assoc
+-- the pieces of a bar, in one text
+pub bar_joined : (front fill earliest top end past height : List ℕ)
+    → front ++ (codes "<path fill='" ++ ((fill ++ (codes "' d='M" ++ (earliest ++ (codes " " ++ (top ++ (codes "H" ++ (end ++ (codes "h" ++ (past ++ (codes "e-2v" ++ height)))))))))) ++ (codes "H" ++ (earliest ++ codes "z'/>\n"))))
+    ≡ front ++ (codes "<path fill='" ++ fill ++ codes "' d='M" ++ earliest ++ codes " " ++ top ++ codes "H" ++ end ++ codes "h" ++ past ++ codes "e-2v" ++ height ++ codes "H" ++ earliest ++ codes "z'/>\n")
+bar_joined front fill earliest top end past height = simp append_assoc
+
+-- those of the words beside it
+pub ends_joined : (front left base window cut : List ℕ)
+    → front ++ (codes "<text x='" ++ (left ++ (codes "' y='" ++ (base ++ codes "'>"))) ++ window ++ (cut ++ codes "</text>\n"))
+    ≡ front ++ (codes "<text x='" ++ left ++ codes "' y='" ++ base ++ codes "'>" ++ window ++ cut ++ codes "</text>\n")
+ends_joined front left base window cut = simp append_assoc
+
+-- those of a text of several lines
+pub lines_joined : (front base left lines : List ℕ)
+    → front ++ (codes "<text y='" ++ (base ++ (codes "'><tspan x='" ++ (left ++ codes "'>"))) ++ lines)
+    ≡ front ++ (codes "<text y='" ++ base ++ codes "'><tspan x='" ++ left ++ codes "'>" ++ lines)
+lines_joined front base left lines = simp append_assoc

@@ -9,7 +9,8 @@ use Rattle.stn_records.specs.{Id.SiteCounter, declared.record.Record.Record, Con
 use Rattle.stn_conflict.specs.{declared.links.Link.Link, Arcs.weight_of, Arcs.IsNegativeCycle, Named.IsNamedCycle}
 use Rattle.stn_site.specs.{Bounds.bounds_of, Bounds.all_bounds, Lines.conflict_line, Lines.link_line, Report.says_done, Report.is_done, Report.IsConflictPart, Report.IsReport, Report.heading}
 use Rattle.stn_questions.specs.{declared.picture.span.Span.Span, Picture.Axis.gap_of, Picture.Spans.AreSpans}
-use Rattle.stn_questions.specs.Picture.{rows_end, windows_text, cycle_height, cycle_text, IsWindowsPicture, IsCyclePicture, IsPicture}
+use Rattle.stn_questions.specs.Picture.Places.{rows_end, cycle_height}
+use Rattle.stn_questions.specs.Picture.{windows_text, cycle_text, IsWindowsPicture, IsCyclePicture, IsPicture}
 
 abbrev Entries : Type 0
 Entries = List (SiteCounter × Record)

@@ -22,10 +22,14 @@ abbrev pub furthest : ℕ → List Span → ℕ
 furthest time [] = time
 furthest time (span ∷ spans) = furthest (later time (reach span)) spans
 
--- how many whole seconds lie between two marks
-abbrev pub gap_of : List Span → ℕ
-gap_of spans = furthest 0 spans / 5000 + 1
+-- the line has six marks, with a gap between each two
+abbrev pub gaps : ℕ
+gaps = 5
 
--- the second at which the line ends: it has five gaps
+-- how many whole seconds a gap has
+abbrev pub gap_of : List Span → ℕ
+gap_of spans = furthest 0 spans / (1000 * gaps) + 1
+
+-- the second at which the line ends
 abbrev pub line_end : ℕ → ℕ
-line_end gap = 5 * gap
+line_end gap = gaps * gap

@@ -7,12 +7,15 @@ use stn_time::Ms;
 // The milliseconds of half a year.
 const HALF_YEAR: u64 = 182 * 86_400_000 + 43_200_000;
 
-/// How many whole seconds lie between two marks on the line of time, which has five such gaps.
+/// The line of time has six marks, with a gap between each two.
+pub const GAPS: u64 = 5;
+
+/// How many whole seconds a gap has.
 pub fn gap_of(spans: &[Span]) -> u64
     ensures value { result ≡ gap_of spans.now }
     ensures small { result < 2 ^ 40 }
 {
-    furthest(spans) / 5000 + 1
+    furthest(spans) / (1000 * GAPS) + 1
 }
 
 fn furthest(spans: &[Span]) -> u64
@@ -65,5 +68,5 @@ pub fn line_end(gap: u64) -> u64
     requires { gap < 2 ^ 40 }
     ensures { result ≡ line_end gap }
 {
-    5 * gap
+    GAPS * gap
 }

@@ -7,7 +7,8 @@ ghost use Rattle.stn_site.specs.Calls.{Accepted, CameBy, TookSame, TookSameItems
 ghost use Rattle.stn_questions.specs.declared.picture.span.Span.{Span};
 ghost use Rattle.stn_questions.specs.Picture.Axis.{gap_of, is_open, line_end};
 ghost use Rattle.stn_questions.specs.Picture.Escape.{are_named, escaped, is_plain};
-ghost use Rattle.stn_questions.specs.Picture.{IsPicture, bar_top, is_cut, label_base, row_top, words_base};
+ghost use Rattle.stn_questions.specs.Picture.Places.{bar_height, bar_top, label_base, row_height, row_top, words_base};
+ghost use Rattle.stn_questions.specs.Picture.{IsPicture, is_cut};
 
 use stn_conflict::negative_cycle_is_conflict;
 use stn_records::counts_same;
@@ -50,11 +51,11 @@ pub fn lines_are_escaped()
         → (list_all is_plain (flat_map (escaped row) line) ≡ true) × (are_named (flat_map (escaped row) line) ≡ true) }
 {}
 
-/// The law that the bars, the words and the label of each step stand in the step's own forty pixels, which begin where
+/// The law that the bars, the words and the label of each step stand in the step's own two rows, which begin where
 /// the row of its start does.
 pub fn steps_have_rows()
-    ensures bars { (step : ℕ) → 1 ≤ step → (row_top (2 * step - 1) ≤ bar_top (2 * step - 1)) × (bar_top (2 * step) + 10 ≤ row_top (2 * step - 1) + 40) }
-    ensures words { (step : ℕ) → 1 ≤ step → (row_top (2 * step - 1) ≤ words_base (2 * step - 1)) × (words_base (2 * step) ≤ row_top (2 * step - 1) + 40) }
-    ensures label { (step : ℕ) → 1 ≤ step → (row_top (2 * step - 1) ≤ label_base step) × (label_base step ≤ row_top (2 * step - 1) + 40) }
-    ensures labels { (step : ℕ) → 1 ≤ step → label_base step ≡ label_base 1 + 40 * (step - 1) }
+    ensures bars { (step : ℕ) → 1 ≤ step → (row_top (2 * step - 1) ≤ bar_top (2 * step - 1)) × (bar_top (2 * step) + bar_height ≤ row_top (2 * step - 1) + 2 * row_height) }
+    ensures words { (step : ℕ) → 1 ≤ step → (row_top (2 * step - 1) ≤ words_base (2 * step - 1)) × (words_base (2 * step) ≤ row_top (2 * step - 1) + 2 * row_height) }
+    ensures label { (step : ℕ) → 1 ≤ step → (row_top (2 * step - 1) ≤ label_base step) × (label_base step ≤ row_top (2 * step - 1) + 2 * row_height) }
+    ensures labels { (step : ℕ) → 1 ≤ step → label_base step ≡ label_base 1 + 2 * row_height * (step - 1) }
 {}

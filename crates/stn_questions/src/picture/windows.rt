@@ -1,31 +1,26 @@
-ghost use Rattle.std.specs.Prelude.{◌≡◌, ◌+◌, ◌*◌, ◌≤◌, ◌<◌, ◌++◌, ◌^◌, Some, OnOk, MatchResult};
-ghost use Rattle.std.specs.Result.{IsOk, IsErr};
+ghost use Rattle.std.specs.Prelude.{◌≡◌, ◌+◌, ◌*◌, ◌≤◌, ◌<◌, ◌++◌, ◌^◌, Some, OnOk};
 ghost use Rattle.std.specs.List.{flat_map, range_with_len};
+ghost use Rattle.stn_questions.specs.Picture.Axis.{gaps};
 ghost use Rattle.stn_questions.specs.Picture.Ends.{end_text};
-ghost use Rattle.stn_questions.specs.Picture.{bar_top, words_base, head_text, labels_text, mark_left, time_text, mark_text, colour, is_cut, bar_end, bar_text, bars_text, cut_text, ends_text, cycle_text};
+ghost use Rattle.stn_questions.specs.Picture.{head_text, labels_text, time_text, mark_text, colour, is_cut, bar_end, bar_text, bars_text, cut_text, ends_text, next_line, lines_text, cycle_text};
 
-use crate::picture::axis::{line_end, size};
-use crate::picture::escape::append_escaped;
+use crate::picture::axis::{GAPS, line_end, size};
+use crate::picture::escape::{NextLine, append_escaped};
+use crate::picture::memory::in_memory;
+use crate::picture::places::{
+    BAR_HEIGHT, BAR_PAST, BARS_WIDTH, ENDS_LEFT, FIRST_BASE, FIRST_LEFT, LINE_LEFT, LINK_LEFT,
+    PICTURE_WIDTH, REPEAT_HEIGHT, ROW_HEIGHT, STEPS_LEFT, TIME_APART, bar_top, mark_left,
+    time_base, words_base,
+};
 use crate::picture::seconds::Seconds;
 use crate::picture::span::Span;
-use std::alloc::{AllocError, Allocator};
+use std::alloc::Allocator;
 use std::fmt;
-use std::io::{self, Write};
-use stn_net::Event;
+use std::io::Write;
 use stn_site::append_window_line;
 use stn_time::{Memory, Ms};
 
 // After an error, a part of a text may stand in the output.
-
-// What a write to memory gives: it fails only where memory runs out.
-fn in_memory(written: io::Result<()>) -> Result<(), Memory>
-    ensures { MatchResult result (λ _. IsOk written) (λ _. IsErr written) }
-{
-    match written {
-        Ok(()) => Ok(()),
-        Err(_) => Err(AllocError),
-    }
-}
 
 /// Appends the head of a picture of so many pixels' height.
 pub fn append_head<B: Allocator>(out: &mut Vec<u8, B>, height: u64) -> Result<(), Memory>
@@ -33,32 +28,49 @@ pub fn append_head<B: Allocator>(out: &mut Vec<u8, B>, height: u64) -> Result<()
 {
     in_memory(write!(
         out,
-        "<svg xmlns='http://www.w3.org/2000/svg' viewBox='0 0 1300 {height}' font-family='sans-serif' font-size='12'>\n<rect width='100%' height='100%' fill='#fff'/>\n"
+        "<svg xmlns='http://www.w3.org/2000/svg' viewBox='0 0 {PICTURE_WIDTH} {height}' font-family='sans-serif' font-size='12'>\n<rect width='100%' height='100%' fill='#fff'/>\n"
     ))
 }
 
-/// Appends the lines of the steps: the first on a line of so many pixels' height, and each so many pixels `apart` from
-/// the one before it.
+/// Appends the lines of the steps: the first on the line that is given, and each further one so far below.
 pub fn append_labels<B: Allocator>(
     out: &mut Vec<u8, B>,
     first: u64,
-    apart: &[u8],
+    apart: u64,
     steps: &[u8],
 ) -> Result<(), Memory>
-    ensures { OnOk result (out.new.items ≡ out.old.items ++ labels_text first apart.now steps.now) }
+    ensures { OnOk result (out.new.items ≡ out.old.items ++ labels_text first apart steps.now) }
 {
-    in_memory(write!(out, "<text y='{first}'><tspan x='800'>"))?;
-    append_escaped(out, apart, steps)?;
+    let next = NextLine {
+        left: STEPS_LEFT,
+        apart,
+        mark: "",
+    };
+    append_lines(out, STEPS_LEFT, first, next, steps)?;
     out.extend_from_slice(b"</tspan></text>\n")
 }
 
-/// Appends the six marks of the line of time.
+// Appends the lines of a text, of which the first stands there.
+fn append_lines<B: Allocator>(
+    out: &mut Vec<u8, B>,
+    left: u64,
+    base: u64,
+    next: NextLine,
+    text: &[u8],
+) -> Result<(), Memory>
+    ensures { OnOk result (out.new.items ≡ out.old.items ++ lines_text left base (next_line next.left next.apart next.mark.now) text.now) }
+{
+    in_memory(write!(out, "<text y='{base}'><tspan x='{left}'>"))?;
+    append_escaped(out, next, text)
+}
+
+/// Appends the marks of the line of time.
 pub fn append_marks<B: Allocator>(out: &mut Vec<u8, B>, height: u64, gap: u64) -> Result<(), Memory>
     requires gap { gap < 2 ^ 40 }
     requires height { height < 2 ^ 40 }
-    ensures { OnOk result (out.new.items ≡ out.old.items ++ flat_map (mark_text height gap) (range_with_len 0 6)) }
+    ensures { OnOk result (out.new.items ≡ out.old.items ++ flat_map (mark_text height gap) (range_with_len 0 (gaps + 1))) }
 {
-    for number in 0..6 {
+    for number in 0..GAPS + 1 {
         append_mark(out, height, gap, number)?;
     }
     Ok(())
@@ -72,12 +84,12 @@ fn append_mark<B: Allocator>(
 ) -> Result<(), Memory>
     requires gap { gap < 2 ^ 40 }
     requires height { height < 2 ^ 40 }
-    requires number { number < 6 }
+    requires number { number ≤ gaps }
     ensures { OnOk result (out.new.items ≡ out.old.items ++ mark_text height gap number) }
 {
     let left = mark_left(number);
     in_memory(write!(out, "<path stroke='#ccc' d='M{left} 0V{height}'/>\n"))?;
-    append_times(out, height / 800 + 1, gap, number)
+    append_times(out, height / REPEAT_HEIGHT + 1, gap, number)
 }
 
 // Appends the time at a mark so many times, one below the other.
@@ -89,7 +101,7 @@ fn append_times<B: Allocator>(
 ) -> Result<(), Memory>
     requires gap { gap < 2 ^ 40 }
     requires repeats { repeats ≤ 2 ^ 40 }
-    requires number { number < 6 }
+    requires number { number ≤ gaps }
     ensures { OnOk result (out.new.items ≡ out.old.items ++ flat_map (time_text gap number) (range_with_len 0 repeats)) }
 {
     for repeat in 0..repeats {
@@ -105,27 +117,20 @@ fn append_time<B: Allocator>(
     repeat: u64,
 ) -> Result<(), Memory>
     requires gap { gap < 2 ^ 40 }
-    requires number { number < 6 }
+    requires number { number ≤ gaps }
     requires repeat { repeat < 2 ^ 40 }
     ensures { OnOk result (out.new.items ≡ out.old.items ++ time_text gap number repeat) }
 {
     let left = mark_left(number);
-    let base = 800 * repeat + 28;
+    let base = time_base(repeat);
     let time = gap * number;
     in_memory(write!(
         out,
-        "<text x='{left}' y='{base}' dx='-3' font-size='10' text-anchor='end'>{time} s</text>\n"
+        "<text x='{left}' y='{base}' dx='-{TIME_APART}' font-size='10' text-anchor='end'>{time} s</text>\n"
     ))
 }
 
-fn mark_left(number: u64) -> u64
-    requires { number < 6 }
-    ensures { result ≡ mark_left number }
-{
-    20 + 100 * number
-}
-
-/// Appends the bars of the windows, on a line of time of five gaps.
+/// Appends the bars of the windows.
 pub fn append_bars<B: Allocator>(
     out: &mut Vec<u8, B>,
     height: u64,
@@ -135,10 +140,10 @@ pub fn append_bars<B: Allocator>(
     requires { gap < 2 ^ 40 }
     ensures { OnOk result (out.new.items ≡ out.old.items ++ bars_text height gap spans.now) }
 {
-    let width = 505 * gap;
+    let width = BARS_WIDTH * gap;
     in_memory(write!(
         out,
-        "<svg x='20' width='505' height='{height}' viewBox='0 0 {width}e-2 {height}' preserveAspectRatio='none'>\n"
+        "<svg x='{LINE_LEFT}' width='{BARS_WIDTH}' height='{height}' viewBox='0 0 {width}e-2 {height}' preserveAspectRatio='none'>\n"
     ))?;
     append_each_bar(out, gap, spans)?;
     out.extend_from_slice(b"</svg>\n")
@@ -166,10 +171,10 @@ fn append_bar<B: Allocator>(out: &mut Vec<u8, B>, gap: u64, span: Span) -> Resul
     let earliest = Seconds(span.earliest);
     let top = bar_top(span.event);
     let end = bar_end(gap, span.latest);
-    let more = 3 * gap;
+    let past = BAR_PAST * gap;
     in_memory(write!(
         out,
-        "<path fill='{fill}' d='M{earliest} {top}H{end}h{more}e-2v10H{earliest}z'/>\n"
+        "<path fill='{fill}' d='M{earliest} {top}H{end}h{past}e-2v{BAR_HEIGHT}H{earliest}z'/>\n"
     ))
 }
 
@@ -218,13 +223,6 @@ fn colour(done: bool) -> &'static str
     if done { "#555" } else { "#48a" }
 }
 
-// Where the bar of an event begins, from the top.
-fn bar_top(event: Event) -> u64
-    ensures { result ≡ bar_top event }
-{
-    20 * u64::from(event.number()) + 11
-}
-
 /// Appends the ends of each window in numbers, as in the report.
 pub fn append_ends<B: Allocator>(
     out: &mut Vec<u8, B>,
@@ -246,16 +244,9 @@ fn append_end<B: Allocator>(out: &mut Vec<u8, B>, gap: u64, span: Span) -> Resul
 {
     let base = words_base(span.event);
     let cut = cut_text(gap, span.latest);
-    in_memory(write!(out, "<text x='535' y='{base}'>"))?;
+    in_memory(write!(out, "<text x='{ENDS_LEFT}' y='{base}'>"))?;
     append_window_line(out, span.event, span.earliest, span.latest, span.done)?;
     in_memory(write!(out, "{cut}</text>\n"))
-}
-
-// On which line the words of an event stand, from the top.
-fn words_base(event: Event) -> u64
-    ensures { result ≡ words_base event }
-{
-    20 * u64::from(event.number()) + 20
 }
 
 fn cut_text(gap: u64, latest: Ms) -> &'static str
@@ -279,8 +270,12 @@ pub fn append_cycle<B: Allocator>(
     ensures { OnOk result (out.new.items ≡ out.old.items ++ cycle_text height steps.now conflict.now) }
 {
     append_head(out, height)?;
-    append_labels(out, 30, b"</tspan><tspan x='800' dy='20'>", steps)?;
-    out.extend_from_slice(b"<text y='30'><tspan x='10'>")?;
-    append_escaped(out, b"</tspan><tspan x='20' dy='20'>&#8595; ", conflict)?;
+    append_labels(out, FIRST_BASE, ROW_HEIGHT, steps)?;
+    let next = NextLine {
+        left: LINK_LEFT,
+        apart: ROW_HEIGHT,
+        mark: "&#8595; ",
+    };
+    append_lines(out, FIRST_LEFT, FIRST_BASE, next, conflict)?;
     out.extend_from_slice(b"the first again</tspan></text>\n</svg>\n")
 }
