@@ -121,9 +121,8 @@ impl<A: Allocator + Copy> World<A> {
         ensures step { IsStep self.old (added site (difference from to lo hi)) result self.new }
     {
         let place = self.place_of(site)?;
-        self.replicas[place]
-            .add(from, to, lo, hi)
-            .map_err(WorldFault::from)
+        let replica = &mut self.replicas[place];
+        replica.add(from, to, lo, hi).map_err(WorldFault::from)
     }
 
     /// Records at a site at which time it executed an event, under that site's next id, which is
@@ -135,9 +134,8 @@ impl<A: Allocator + Copy> World<A> {
         ensures step { IsStep self.old (finished site event time) result self.new }
     {
         let place = self.place_of(site)?;
-        self.replicas[place]
-            .done(event, time)
-            .map_err(WorldFault::from)
+        let replica = &mut self.replicas[place];
+        replica.done(event, time).map_err(WorldFault::from)
     }
 
     /// Amends at a site a record that it knows: adds a bound under that site's next id, which is returned,

@@ -6,8 +6,8 @@ use Rattle.stn_world.proofs.Calls.{IsPlaced, IsTaken, add_taken}
 use Rattle.stn_world.proofs.world.World.add.Given.{Over}
 use Rattle.stn_world.proofs.world.World.add.Goals as goal
 
-placed : (g : Over) (c : goal.After-map_err g) → IsPlaced c.args.self.now (rc_value c.self.inside.base) c.self.inside.replicas.items c.self.inside.packets.items c.in_ok-place.place c.args.site c.index_mut.result.now
-placed g c = record { is = c.self.view_is; sound = c.self.invariant; at = c.in_ok-place.ensures.place; there = c.in_ok-place.ensures.there; same = c.index_mut.ensures.value }
+placed : (g : Over) (c : goal.After-map_err g) → IsPlaced c.args.self.now (rc_value c.self.inside.base) c.self.inside.replicas.items c.self.inside.packets.items c.in_ok-place.place c.args.site c.index_mut-replica.result.now
+placed g c = record { is = c.self.view_is; sound = c.self.invariant; at = c.in_ok-place.ensures.place; there = c.in_ok-place.ensures.there; same = c.index_mut-replica.ensures.value }
 
 taken : (g : Over) (c : goal.After-map_err g)
     → IsTaken c.args.self.now (rc_value c.self.inside.base) (set c.self.inside.replicas.items c.in_ok-place.place c.add.new.self) c.self.inside.packets.items (added c.args.site (difference c.args.from c.args.to c.args.lo c.args.hi)) (λ id. id ≡ next_id_at c.args.self.now c.args.site) c.map_err.result
