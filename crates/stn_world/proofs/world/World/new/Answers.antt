@@ -8,6 +8,7 @@ use Rattle.stn_world.specs.Sites.{contents_of}
 use Rattle.stn_world.specs.Whole.{IsSoundWorld}
 use Rattle.stn_world.proofs.Sites.{IsStarted, started_more, started_sound}
 use Rattle.stn_world.proofs.world.World.new.Goals as goal
+use Rattle.stn_world.proofs.world.World.new.Goals.{then-sites-lt1-via-then-sites-lt1, then-sites-lt1-via-else-sites-lt1+then-sites-gt-MOST_SITES}
 
 pub loop-before-preserved : goal.loop-before-preserved
 loop-before-preserved g c =
@@ -42,3 +43,9 @@ pub returns-in_err-push-clause-fault : goal.returns-in_err-push-clause-fault
 returns-in_err-push-clause-fault g c =
     let p = err_from_is_err_and c.from_residual-in_err-push.result c.from_residual-in_err-push.ensures.1 in
     rw (p.1, p.2) (record { least = omega (arith, c.if-sites-lt1.false); most = omega (arith, c.if-sites-gt-MOST_SITES.false) })
+
+pub returns-then-sites-lt1-clause-fault : goal.returns-then-sites-lt1-clause-fault
+returns-then-sites-lt1-clause-fault g c = λ is. elim c.then-sites-lt1.branch [
+  | then-sites-lt1-via-then-sites-lt1 w ↦ omega (arith, is.least, w.if-sites-lt1.true)
+  | then-sites-lt1-via-else-sites-lt1+then-sites-gt-MOST_SITES w ↦ omega (arith, is.most, w.if-sites-gt-MOST_SITES.true)
+]
