@@ -5,17 +5,16 @@ use Rattle.stn_time.specs.Text.{printed}
 use Rattle.stn_net.specs.{Difference.Difference, Schedule.HasSchedule}
 use Rattle.stn_lift.specs.PlanSource.{PlanSource, base_bounds, events_of}
 use Rattle.stn_records.specs.{Id.SiteCounter, declared.record.Record.Record, Content.Content, Content.live_of}
-use Rattle.stn_conflict.specs.{declared.links.Link.Link, Arcs.weight_of, Named.IsWay}
-use Rattle.stn_site.specs.{Bounds.bounds_of, Lines.line, Lines.window_line, Lines.link_line, Report.says_done}
+use Rattle.stn_conflict.specs.{declared.links.Link.Link, Arcs.weight_of, Arcs.IsNegativeCycle, Named.IsNamedCycle, Named.IsWay}
+use Rattle.stn_site.specs.{Bounds.bounds_of, Lines.line, Lines.window_line, Lines.conflict_line, Lines.link_line, Report.says_done, Report.IsConflictPart}
 use Rattle.stn_questions.specs.{declared.asked.Question.Question, Bounds.listed_line, Ready.IsReadyWith, Ready.IsReadyText, Why.end_text, Why.IsReasonPart, Answer.IsAnswer, Answer.AsksOfPlan}
 use Rattle.stn_questions.specs.declared.asked.Question.TheVariants.{Records, Steps, Bounds, Why, WhyApart}
-use Rattle.stn_questions.proofs.picture.OnePicture.{same_conflict}
 
-abbrev Entries : Type 0
+abbrev pub Entries : Type 0
 Entries = List (SiteCounter × Record)
 
 -- all bounds, and the flags of the events that are done, by the live records
-abbrev bounds_with : PlanSource → Entries → List Difference
+abbrev pub bounds_with : PlanSource → Entries → List Difference
 bounds_with source records = base_bounds source ++ bounds_of records
 
 abbrev done_with : PlanSource → Entries → List Bool
@@ -25,6 +24,16 @@ abbrev ids_of : Entries → List SiteCounter
 ids_of records = map (λ entry. entry.0) records
 
 module _ (source : PlanSource) (s t : Content) (live : live_of s ≡ live_of t) where
+  -- states with the same live records have the same conflict
+  pub same_conflict : (text : List ℕ) → IsConflictPart source s text → IsConflictPart source t text
+  same_conflict text p = record {
+    links = p.links;
+    named = subst (λ (records : Entries). IsNamedCycle (bounds_with source records) p.links) live p.named;
+    negative = subst (λ (records : Entries). IsNegativeCycle (bounds_with source records) p.links) live p.negative;
+    whole = p.whole ∙ (λ i. conflict_line (weight_of (bounds_with source (live i)) p.links)
+        ++ flat_map (link_line (base_bounds source) (ids_of (live i)) (bounds_of (live i))) p.links);
+  }
+
   -- states with the same live records have the same events ready
   pub same_ready : (now : ℤ) (text : List ℕ) → IsReadyText source s now text → IsReadyText source t now text
   same_ready now text p = subst (λ (records : Entries). IsReadyWith (bounds_with source records) (done_with source records) now text) live p
@@ -55,5 +64,5 @@ module _ (source : PlanSource) (s t : Content) (live : live_of s ≡ live_of t) 
   counted_answer Steps text asks p = p
   counted_answer Bounds text asks p =
       p ∙ (λ i. flat_map (listed_line (base_bounds source) (ids_of (live i)) (bounds_of (live i))) (range_with_len 0 (length (bounds_with source (live i)))))
-  counted_answer (Why event) text asks p = ⊎_elim (λ why. inl (same_reason 0 event _ _ _ _ _ text why (λ least greatest. ap (λ (records : Entries). window_line event least greatest (says_done records event)) live))) (λ conflict. inr (same_conflict source s t live text conflict)) p
-  counted_answer (WhyApart from to) text asks p = ⊎_elim (λ apart. inl (same_reason from to _ _ _ _ _ text apart (λ least greatest. refl))) (λ conflict. inr (same_conflict source s t live text conflict)) p
+  counted_answer (Why event) text asks p = ⊎_elim (λ why. inl (same_reason 0 event _ _ _ _ _ text why (λ least greatest. ap (λ (records : Entries). window_line event least greatest (says_done records event)) live))) (λ conflict. inr (same_conflict text conflict)) p
+  counted_answer (WhyApart from to) text asks p = ⊎_elim (λ apart. inl (same_reason from to _ _ _ _ _ text apart (λ least greatest. refl))) (λ conflict. inr (same_conflict text conflict)) p

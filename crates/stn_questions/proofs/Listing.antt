@@ -27,14 +27,6 @@ range_grown f a n next more front old new e is was grown =
     grown ∙ ap (λ text. text ++ f next) was ∙ append_assoc front (flat_map f (range_with_len a n)) (f next)
     ∙ ap (λ text. front ++ text) (sym (range_more f a n next e)) ∙ ap (λ k. front ++ flat_map f (range_with_len a k)) (sym is)
 
--- a list that has grown by what one element more gives
-pub listed_grown : {X Y : Type 0} (f : X → Y) (xs : List X) (place : ℕ) (x : X) (front old new : List Y) → place < length xs → x ≡ get_or xs place x
-    → old ≡ front ++ map f (take place xs) → new ≡ old ++ f x ∷ [] → new ≡ front ++ map f (take (place + 1) xs)
-listed_grown f xs place x front old new within is was grown =
-    grown ∙ ap (λ some. some ++ f x ∷ []) was ∙ append_assoc front (map f (take place xs)) (f x ∷ [])
-    ∙ ap (λ more. front ++ more)
-    (sym (ap (map f) (take_more xs place x within ∙ ap (λ y. take place xs ++ y ∷ []) (sym is)) ∙ map-append f (take place xs) (x ∷ [])))
-
 -- a text that has grown by the text of one element more
 pub lines_grown : {X : Type 0} (f : X → List ℕ) (xs : List X) (place : ℕ) (x : X) (front old new : List ℕ) → place < length xs → x ≡ get_or xs place x
     → old ≡ front ++ flat_map f (take place xs) → new ≡ old ++ f x → new ≡ front ++ flat_map f (take (place + 1) xs)

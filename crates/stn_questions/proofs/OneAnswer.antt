@@ -1,44 +1,36 @@
 -- A plan and a state have one answer to each question.
-use Rattle.std.proofs.Common.{◌≡◌, ℕ, ℤ, Bool, List, ◌++◌, refl, sym, ap, subst, ◌∙◌, ◌⊎◌, ⊎_elim, inr}
+use Rattle.std.proofs.Common.{◌≡◌, ℕ, ℤ, Bool, List, ◌++◌, refl, sym, ap, subst, ◌∙◌, ◌⊎◌, ⊎_elim, inl, inr}
 use Rattle.std.proofs.lemmas.List.{append_cancel_left}
 use Rattle.std.specs.List.{flat_map}
-use Rattle.stn_net.specs.{Difference.Difference, Schedule.HasSchedule, declared.windows.answers.Next.Next, Windows.Dispatch.IsNext}
+use Rattle.stn_net.specs.{Difference.Difference, Schedule.HasSchedule, declared.windows.answers.Next.Next}
 use Rattle.stn_net.specs.declared.windows.answers.Next.TheVariants.{Run, AllDone, Overdue}
 use Rattle.stn_net.specs.Windows.Window.{IsWindow}
-use Rattle.stn_net.proofs.WindowEnds.{one_window}
+use Rattle.stn_net.proofs.{OneAnswer.one_next, WindowEnds.one_window}
 use Rattle.stn_lift.specs.PlanSource.{PlanSource}
 use Rattle.stn_records.specs.Content.{Content}
 use Rattle.stn_conflict.specs.{declared.links.Link.Link, Arcs.IsNegativeCycle, Named.IsWay}
-use Rattle.stn_site.specs.{Bounds.all_bounds, Report.done_events, Report.IsConflictPart, Report.IsReport, Report.heading}
+use Rattle.stn_site.specs.{Bounds.all_bounds, Report.IsConflictPart, Report.IsReport, Report.heading}
 use Rattle.stn_questions.specs.Repair.Ranges.{IsRange}
 use Rattle.stn_questions.proofs.Ranges.{one_range}
-use Rattle.stn_questions.specs.{Ready.ready_line, Ready.IsReadyAnswer, Ready.IsReadyText, Why.end_text, Why.IsReasonPart, Why.IsWhyPart, Why.IsApartPart, declared.asked.Question.Question, Records.record_line, Records.IsRecordsText, Answer.IsAnswer}
+use Rattle.stn_questions.specs.{Ready.ready_line, Ready.IsReadyAnswer, Ready.IsReadyWith, Why.end_text, Why.IsReasonPart, Why.IsWhyPart, Why.IsApartPart, declared.asked.Question.Question, Records.record_line, Records.IsRecordsText, Answer.IsAnswer}
 use Rattle.stn_questions.specs.declared.asked.Question.TheVariants.{Records, Steps, Bounds, Why, WhyApart}
 use Rattle.stn_questions.proofs.{KnownOnce.one_known, OneReady.one_list}
 
--- what one law says of the answers that say what comes next
-abbrev pub OneNext : Type 0
-OneNext = (bounds : List Difference) → (done : List Bool) → (now : ℤ) → (one other : Next) → IsNext bounds done now one → IsNext bounds done now other → one ≡ other
-
-one_said : (bounds : List Difference) (done : List Bool) (now : ℤ) (answer : Next) (text other : List ℕ) → IsReadyAnswer bounds done now answer text → IsReadyAnswer bounds done now answer other → text ≡ other
-one_said bounds done now (Run time event) text other p q =
+one_ready_answer : (bounds : List Difference) (done : List Bool) (now : ℤ) (answer : Next) (text other : List ℕ) → IsReadyAnswer bounds done now answer text
+    → IsReadyAnswer bounds done now answer other → text ≡ other
+one_ready_answer bounds done now (Run time event) text other p q =
     p.lines ∙ ap (flat_map ready_line) (one_list bounds done now p.ready q.ready p.events q.events) ∙ sym q.lines
-one_said bounds done now AllDone text other p q = p ∙ sym q
-one_said bounds done now (Overdue event) text other p q = p ∙ sym q
+one_ready_answer bounds done now AllDone text other p q = p ∙ sym q
+one_ready_answer bounds done now (Overdue event) text other p q = p ∙ sym q
 
 -- one text says which events are ready
-pub one_ready : OneNext → (source : PlanSource) (state : Content) (now : ℤ) (text other : List ℕ) → IsReadyText source state now text → IsReadyText source state now other → text ≡ other
-one_ready unique source state now text other p q =
-    ⊎_elim
-    (λ mine. ⊎_elim
-    (λ theirs.
-    let bounds = all_bounds source state in
-    let done = done_events source state in
-    let same : mine.answer ≡ theirs.answer = unique bounds done now mine.answer theirs.answer mine.next theirs.next in
-    one_said bounds done now theirs.answer text other (subst (λ answer. IsReadyAnswer bounds done now answer text) same mine.said) theirs.said)
-    (λ theirs. absurd (theirs.conflict mine.possible)) q)
-    (λ mine. ⊎_elim (λ theirs. absurd (mine.conflict theirs.possible)) (λ theirs. mine.said ∙ sym theirs.said) q)
-    p
+pub one_ready_text : (bounds : List Difference) (done : List Bool) (now : ℤ) (text other : List ℕ) → IsReadyWith bounds done now text → IsReadyWith bounds done now other → text ≡ other
+one_ready_text bounds done now text other (inl p) (inl q) =
+    let same : p.answer ≡ q.answer = one_next bounds done now p.answer q.answer p.next q.next in
+    one_ready_answer bounds done now q.answer text other (subst (λ answer. IsReadyAnswer bounds done now answer text) same p.said) q.said
+one_ready_text bounds done now text other (inl p) (inr q) = absurd (q.conflict p.possible)
+one_ready_text bounds done now text other (inr p) (inl q) = absurd (p.conflict q.possible)
+one_ready_text bounds done now text other (inr p) (inr q) = p.said ∙ sym q.said
 
 -- what other laws say of reports, of ways and of negative cycles
 abbrev pub OneReport : Type 0
@@ -51,7 +43,7 @@ abbrev pub Refutes : Type 0
 Refutes = (bounds : List Difference) → (links : List Link) → IsNegativeCycle bounds links → ¬ HasSchedule bounds
 
 -- a report has one conflict
-one_conflict : OneReport → (source : PlanSource) (state : Content) (text other : List ℕ) → IsConflictPart source state text → IsConflictPart source state other → text ≡ other
+pub one_conflict : OneReport → (source : PlanSource) (state : Content) (text other : List ℕ) → IsConflictPart source state text → IsConflictPart source state other → text ≡ other
 one_conflict unique source state text other p q =
     append_cancel_left (heading source state) text other
     (unique source state (heading source state ++ text) (heading source state ++ other)

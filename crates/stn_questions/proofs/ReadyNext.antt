@@ -3,12 +3,12 @@ use Rattle.std.proofs.Common.{◌≡◌, ◌⊎◌, ℕ, ℤ, ◌+ℤ◌, ◌-�
 use Rattle.std.proofs.lemmas.Int.{ints, clamps}
 use Rattle.std.specs.{Cmp.int_ranks, Int.int_min, List.flat_map, Ordering.MatchOrdering, Ordering.int_cmp}
 use Rattle.stn_net.specs.{Difference.Difference, Schedule.IsSchedule, declared.windows.answers.Next.TheVariants.Run, Windows.Dispatch.LeavesNoneBefore, Windows.Dispatch.IsReady, Windows.Dispatch.IsFirstReady}
-use Rattle.stn_net.proofs.WindowEnds.{lesser_schedule}
+use Rattle.stn_net.proofs.{OneAnswer.one_next, WindowEnds.lesser_schedule}
 use Rattle.stn_lift.specs.PlanSource.{PlanSource}
 use Rattle.stn_records.specs.Content.{Content}
 use Rattle.stn_site.specs.{Bounds.all_bounds, Report.done_events}
 use Rattle.stn_questions.specs.{declared.ready_event.ReadyEvent.ReadyEvent, Ready.AreReadyEvents, Ready.AreReadyLines, Ready.IsReadyAnswer, Ready.IsReadyText, Ready.ready_line, Ready.BeginsWithNext}
-use Rattle.stn_questions.proofs.{OneAnswer.OneNext, OneReady.stands, OneReady.first_before, ReadyLists.HasTimes}
+use Rattle.stn_questions.proofs.{OneReady.stands, OneReady.first_before, ReadyLists.HasTimes}
 
 at_or_after : (a b : ℤ) → (a ≤ℤ b) ⊎ (b <ℤ a)
 at_or_after a b = by (int_cmp a b) (int_ranks a b)
@@ -76,13 +76,13 @@ module _ (bounds : List Difference) (done : List Bool) (now : ℤ) where
       )
 
 -- the text begins with what comes next
-pub begins_with_next : OneNext → (source : PlanSource) (state : Content) (now time : ℤ) (event : ℕ) (text : List ℕ)
+pub begins_with_next : (source : PlanSource) (state : Content) (now time : ℤ) (event : ℕ) (text : List ℕ)
     → IsFirstReady (all_bounds source state) (done_events source state) now time event → IsReadyText source state now text → BeginsWithNext time event text
-begins_with_next unique source state now time event text next p = ⊎_elim
+begins_with_next source state now time event text next p = ⊎_elim
     (λ says.
     let bounds = all_bounds source state in
     let done = done_events source state in
-    let same = unique bounds done now says.answer (Run time event) says.next next in
+    let same = one_next bounds done now says.answer (Run time event) says.next next in
     let lines : AreReadyLines bounds done now text = subst (λ answer. IsReadyAnswer bounds done now answer text) same says.said in
     let list = next_first bounds done now time event lines.ready next lines.events in
     record { last = list.0; others = list.1; lines = lines.lines ∙ ap (flat_map ready_line) list.2; until = list.3 })

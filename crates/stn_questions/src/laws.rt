@@ -17,7 +17,6 @@ ghost use Rattle.stn_questions.specs.Answer.{AsksOfNoEvent, AsksOfPlan, IsAnswer
 ghost use Rattle.stn_questions.specs.Ready.{BeginsWithNext, IsReadyText, IsReadyWith};
 
 use stn_conflict::{negative_cycle_is_conflict, one_way};
-use stn_net::next_unique;
 use stn_records::counts_same;
 use stn_site::{one_report, took_same_same_bytes};
 
@@ -70,18 +69,14 @@ pub fn every_state_has_a_ready_text()
 pub fn one_ready_text()
     ensures { (source : PlanSource) → (state : Content) → (now : ℤ) → (text other : List ℕ)
         → IsReadyText source state now text → IsReadyText source state now other → text ≡ other }
-{
-    next_unique();
-}
+{}
 
 /// The law that where an event comes next, the first line of those that may run says so, with its time,
 /// and that all of them may run until the same time.
 pub fn ready_begins_with_next()
     ensures { (source : PlanSource) → (state : Content) → (now time : ℤ) → (event : ℕ) → (text : List ℕ)
         → IsNext (all_bounds source state) (done_events source state) now (Run time event) → IsReadyText source state now text → BeginsWithNext time event text }
-{
-    next_unique();
-}
+{}
 
 /// The law that replicas of one plan that took the same, by whatever calls, in any order, more than once
 /// or merged in any grouping, give the same answers: to each question where they took the same items, and

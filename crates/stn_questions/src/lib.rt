@@ -16,7 +16,7 @@ pub use picture::{
     Span, bars_are_on_the_line, lines_are_escaped, one_picture, print_picture, same_pictures,
     steps_have_rows,
 };
-pub use ready::{print_ready, print_ready_among};
+pub use ready::print_ready_among;
 pub use ready_event::ReadyEvent;
 pub use records::print_records;
 pub use repair::{

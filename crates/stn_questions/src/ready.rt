@@ -7,7 +7,7 @@ ghost use Rattle.stn_net.specs.Matrix.Tightest.{IsExact};
 ghost use Rattle.stn_site.specs.Bounds.{all_bounds};
 ghost use Rattle.stn_site.specs.Lines.{line};
 ghost use Rattle.stn_replica.specs.Own.{done_or_others};
-ghost use Rattle.stn_questions.specs.Ready.{AreReadyEvents, AreReadyLines, IsReadyAnswer, IsReadyText, IsReadyWith, ready_line};
+ghost use Rattle.stn_questions.specs.Ready.{AreReadyEvents, AreReadyLines, IsReadyAnswer, IsReadyWith, ready_line};
 
 use crate::ready_event::ReadyEvent;
 use std::alloc::Allocator;
@@ -15,32 +15,11 @@ use stn_net::{Event, Matrix, Next, ready_times};
 use stn_replica::{Own, Replica, flags_among, flags_of};
 use stn_time::{Memory, Ms};
 
-/// Appends which events may run from now on: a line for each event that may run at some time from now
-/// on, with the first and the last such time, by first time and then by number. Where all bounds have
-/// no schedule, that is `conflict`; where every event is done, `all done`; and where no event may run
-/// any more, `overdue` and the event that `next` names. If memory runs out, it appends nothing.
-pub fn print_ready<A: Allocator + Copy, B: Allocator>(
-    replica: &Replica<A>,
-    now: Ms,
-    out: &mut Vec<u8, B>,
-) -> Result<(), Memory>
-    ensures printed { OnOk result ((text : List ℕ) × IsReadyText replica.now.source replica.now.state now text × (out.new.items ≡ out.old.items ++ text)) }
-    ensures kept { OnErr result (out.new.items ≡ out.old.items) }
-{
-    let all = [replica.all_steps()];
-    print_ready_among(
-        replica,
-        now,
-        &Own {
-            steps: &all,
-            starts: false,
-        },
-        out,
-    )
-}
-
-/// Appends the same where of the events that are not done only the site's own count as left: the others are not waited for,
-/// and have no lines; `all done` says that every event of its own is done.
+/// Appends which of a site's own events may run from now on: a line for each that may run at some time
+/// from now on, with the first and the last such time, by first time and then by number. The others are
+/// not waited for, and have no lines. Where all bounds have no schedule, that is `conflict`; where every
+/// own event is done, `all done`; and where no own event may run any more, `overdue` and the event that
+/// `next_among` names. If memory runs out, it appends nothing.
 pub fn print_ready_among<A: Allocator + Copy, B: Allocator>(
     replica: &Replica<A>,
     now: Ms,

@@ -37,32 +37,31 @@ fn known_ids<A: Allocator + Copy>(alloc: A, records: &Records<A>) -> Result<Vec<
     ensures { IfOk result (λ ids. AreKnown records.now ids.items) }
 {
     let state = records.state();
-    let mut ids = Vec::new(alloc);
-    append_ids(state.additions().entries(), &mut ids)?;
-    append_ids(state.tombstones().entries(), &mut ids)?;
-    append_replaced(state.replacements().entries(), &mut ids)?;
+    let mut ids = listed_ids(
+        alloc,
+        state.additions().entries(),
+        state.tombstones().entries(),
+        state.replacements().entries(),
+    )?;
     ids.sort_unstable();
     ids.dedup();
     Ok(ids)
 }
 
-fn append_ids<X, A: Allocator>(entries: &[(Id, X)], ids: &mut Vec<Id, A>) -> Result<(), Memory>
-    ensures { OnOk result (ids.new.items ≡ ids.old.items ++ map (λ entry. entry.0) entries.now) }
+// The ids of the records, the withdrawn ids, and those that records replace.
+fn listed_ids<A: Allocator>(
+    alloc: A,
+    added: &[(Id, Record)],
+    withdrawn: &[(Id, ())],
+    replacing: &[(Id, Id)],
+) -> Result<Vec<Id, A>, Memory>
+    ensures { IfOk result (λ ids. ids.items
+        ≡ map (λ entry. entry.0) added.now ++ map (λ entry. entry.0) withdrawn.now ++ map (λ entry. entry.1) replacing.now) }
 {
-    for entry in entries {
-        ids.push(entry.0)?;
-    }
-    Ok(())
-}
-
-// Appends the ids that records replace.
-fn append_replaced<A: Allocator>(entries: &[(Id, Id)], ids: &mut Vec<Id, A>) -> Result<(), Memory>
-    ensures { OnOk result (ids.new.items ≡ ids.old.items ++ map (λ entry. entry.1) entries.now) }
-{
-    for entry in entries {
-        ids.push(entry.1)?;
-    }
-    Ok(())
+    let added = added.iter().map(|entry| entry.0);
+    let withdrawn = withdrawn.iter().map(|entry| entry.0);
+    let replaced = replacing.iter().map(|entry| entry.1);
+    added.chain(withdrawn).chain(replaced).collect(alloc)
 }
 
 fn append_lines<A: Allocator + Copy, B: Allocator>(

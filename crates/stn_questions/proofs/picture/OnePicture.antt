@@ -1,25 +1,14 @@
 -- A plan and its live records have one picture.
-use Rattle.std.proofs.Common.{◌≡◌, ℕ, zero, suc, Bool, List, [], ◌∷◌, ◌++◌, map, refl, sym, ap, subst, ◌∙◌, ⊎_elim, inl, inr}
-use Rattle.std.proofs.lemmas.List.{append_cancel_left}
-use Rattle.std.specs.List.{flat_map}
+use Rattle.std.proofs.Common.{◌≡◌, ℕ, zero, suc, Bool, List, [], ◌∷◌, ◌++◌, sym, ap, subst, ◌∙◌, ⊎_elim, inl, inr}
 use Rattle.stn_net.specs.{Difference.Difference, Schedule.HasSchedule}
 use Rattle.stn_net.proofs.WindowEnds.{one_window}
-use Rattle.stn_lift.specs.PlanSource.{PlanSource, base_bounds, events_of}
-use Rattle.stn_records.specs.{Id.SiteCounter, declared.record.Record.Record, Content.Content, Content.live_of}
-use Rattle.stn_conflict.specs.{declared.links.Link.Link, Arcs.weight_of, Arcs.IsNegativeCycle, Named.IsNamedCycle}
-use Rattle.stn_site.specs.{Bounds.bounds_of, Bounds.all_bounds, Lines.conflict_line, Lines.link_line, Report.says_done, Report.is_done, Report.IsConflictPart, Report.IsReport, Report.heading}
+use Rattle.stn_lift.specs.PlanSource.{PlanSource, events_of}
+use Rattle.stn_records.specs.{Content.Content, Content.live_of}
+use Rattle.stn_site.specs.{Bounds.all_bounds, Report.says_done, Report.is_done}
 use Rattle.stn_questions.specs.{declared.picture.span.Span.Span, Picture.Axis.gap_of, Picture.Spans.AreSpans}
 use Rattle.stn_questions.specs.Picture.Places.{rows_end, cycle_height}
 use Rattle.stn_questions.specs.Picture.{windows_text, cycle_text, IsWindowsPicture, IsCyclePicture, IsPicture}
-
-abbrev Entries : Type 0
-Entries = List (SiteCounter × Record)
-
-abbrev bounds_with : PlanSource → Entries → List Difference
-bounds_with source records = base_bounds source ++ bounds_of records
-
-abbrev ids_of : Entries → List SiteCounter
-ids_of records = map (λ entry. entry.0) records
+use Rattle.stn_questions.proofs.{Counted.Entries, Counted.bounds_with, Counted.same_conflict, OneAnswer.OneReport, OneAnswer.Refutes, OneAnswer.one_conflict}
 
 -- one list of spans
 one_spans : (bounds : List Difference) (done : ℕ → Bool) (n : ℕ) (spans others : List Span) → HasSchedule bounds → AreSpans bounds done n spans → AreSpans bounds done n others → spans ≡ others
@@ -28,18 +17,6 @@ one_spans bounds done (suc n) spans others possible p q =
     let before = one_spans bounds done n p.0 q.0 possible p.3 q.3 in
     let ends = one_window bounds (suc n) p.1 p.2 q.1 q.2 possible p.4 q.4 in
     p.5 ∙ (λ i. before i ++ record { event = suc n; earliest = ends.0 i; latest = ends.1 i; done = done (suc n) } ∷ []) ∙ sym q.5
-
-abbrev pub OneReport : Type 0
-OneReport = (source : PlanSource) → (state : Content) → (text other : List ℕ) → IsReport source state text → IsReport source state other → text ≡ other
-
-abbrev pub Refutes : Type 0
-Refutes = (bounds : List Difference) → (links : List Link) → IsNegativeCycle bounds links → ¬ HasSchedule bounds
-
-one_conflict : OneReport → (source : PlanSource) (state : Content) (text other : List ℕ) → IsConflictPart source state text → IsConflictPart source state other → text ≡ other
-one_conflict unique source state text other p q =
-    append_cancel_left (heading source state) text other
-    (unique source state (heading source state ++ text) (heading source state ++ other)
-    (record { rest = text; part = inr p; whole = refl }) (record { rest = other; part = inr q; whole = refl }))
 
 -- a plan and a state have one picture with given lines of the steps
 pub one_picture : OneReport → Refutes → (steps : List ℕ) (source : PlanSource) (state : Content) (text other : List ℕ) → IsPicture steps source state text → IsPicture steps source state other → text ≡ other
@@ -59,16 +36,6 @@ one_picture reports refutes steps source state text other p q =
     p
 
 module _ (source : PlanSource) (s t : Content) (live : live_of s ≡ live_of t) where
-  -- states with the same live records have the same conflict
-  pub same_conflict : (text : List ℕ) → IsConflictPart source s text → IsConflictPart source t text
-  same_conflict text p = record {
-    links = p.links;
-    named = subst (λ (records : Entries). IsNamedCycle (bounds_with source records) p.links) live p.named;
-    negative = subst (λ (records : Entries). IsNegativeCycle (bounds_with source records) p.links) live p.negative;
-    whole = p.whole ∙ (λ i. conflict_line (weight_of (bounds_with source (live i)) p.links)
-        ++ flat_map (link_line (base_bounds source) (ids_of (live i)) (bounds_of (live i))) p.links);
-  }
-
   -- states with the same live records have the same picture
   pub counted_picture : (steps text : List ℕ) → IsPicture steps source s text → IsPicture steps source t text
   counted_picture steps text p = ⊎_elim
@@ -78,5 +45,5 @@ module _ (source : PlanSource) (s t : Content) (live : live_of s ≡ live_of t) 
         windows = subst (λ (records : Entries). AreSpans (bounds_with source records) (says_done records) (events_of source) drawn.spans) live drawn.windows;
         whole = drawn.whole;
       }))
-      (λ (drawn : IsCyclePicture steps source s text). inr (record { conflict = drawn.conflict; part = same_conflict drawn.conflict drawn.part; whole = drawn.whole }))
+      (λ (drawn : IsCyclePicture steps source s text). inr (record { conflict = drawn.conflict; part = same_conflict source s t live drawn.conflict drawn.part; whole = drawn.whole }))
       p

@@ -9,13 +9,12 @@ pub returns : goal.returns
 returns g c =
     let state = c.args.records.now in
     let sorted = c.sort_unstable.new.self.items in
-    let listed = c.append_replaced.new.ids.items in
+    let listed = c.in_ok-ids.ids.items in
     let held : c.state-state.result.now ≡ state = c.state-state.ensures.value in
     let added : c.entries.result.now ≡ entries state.additions = c.entries.ensures.value ∙ ap entries (c.additions.ensures ∙ ap (λ (s : Content). s.additions) held) in
     let gone : c.entries-2.result.now ≡ entries state.tombstones = c.entries-2.ensures.value ∙ ap entries (c.tombstones.ensures ∙ ap (λ (s : Content). s.tombstones) held) in
     let old : c.entries-3.result.now ≡ entries state.replacements = c.entries-3.ensures.value ∙ ap entries (c.replacements.ensures ∙ ap (λ (s : Content). s.replacements) held) in
-    let first = c.in_ok-append_ids.ensures ∙ (λ i. c.new-ids.ensures.items i ++ map (λ (e : SiteCounter × Record). e.0) (added i)) in
-    let second = c.in_ok-append_ids-2.ensures ∙ (λ i. first i ++ map (λ (e : SiteCounter × Unit {0}). e.0) (gone i)) in
-    let all : listed ≡ listed_ids state = c.in_ok-append_replaced.ensures ∙ (λ i. second i ++ map (λ (e : SiteCounter × SiteCounter). e.1) (old i)) in
+    let all : listed ≡ listed_ids state = c.in_ok-ids.ensures
+    ∙ (λ i. map (λ (e : SiteCounter × Record). e.0) (added i) ++ map (λ (e : SiteCounter × Unit {0}). e.0) (gone i) ++ map (λ (e : SiteCounter × SiteCounter). e.1) (old i)) in
     known_once state listed sorted c.dedup.new.self.items all c.sort_unstable.ensures.permutation c.sort_unstable.ensures.sorted
     (dedup_is same_numbers sorted c.dedup.new.self.items c.dedup.ensures.filtered)

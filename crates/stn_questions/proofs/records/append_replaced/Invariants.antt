@@ -1,5 +1,0 @@
-use Rattle.std.proofs.Common.{◌≡◌, ◌++◌, map, take}
-use Rattle.stn_questions.proofs.records.append_replaced.Given as goal
-
-abbrev pub invariant-loop-entry : goal.invariant-loop-entry
-invariant-loop-entry g l = l.ids.items ≡ l.initial.ids.items ++ map (λ entry. entry.1) (take l.entry-index l.entries)
