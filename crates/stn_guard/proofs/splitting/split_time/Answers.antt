@@ -1,92 +1,45 @@
 use Rattle.std.proofs.Common.{◌≡◌, ℤ, pos, neg_ℤ, ◌+ℤ◌, ◌≤ℤ◌, to_z, of_z, w64, ap, ◌∙◌, arith}
 use Rattle.std.specs.Int.{int_min, int_max, int_div_euclid}
 use Rattle.std.proofs.lemmas.Int.{ints, clamps}
+use Rattle.stn_time.specs.Time.{IsWithinHorizon}
 use Rattle.stn_guard.proofs.Split.{half_of}
 use Rattle.stn_guard.proofs.splitting.split_time.Goals as goal
 
-pub overflow_add-least : goal.overflow_add-least
-overflow_add-least c = omega (
-  arith,
-  ints,
-  clamps,
-  c.max-least.ensures.value,
-  c.min-greatest.ensures.value,
-  c.get-weight.ensures.within.0,
-  c.get-weight.ensures.within.1,
-  c.get.ensures.within.0,
-  c.get.ensures.within.1,
-  c.get-2.ensures.within.0,
-  c.get-2.ensures.within.1,
-  c.get-3.ensures.within.0,
-  c.get-3.ensures.within.1,
-  c.get-4.ensures.within.0,
-  c.get-4.ensures.within.1,
-)
+-- what 64 bits hold of a number
+abbrev held : ℤ → ℤ
+held z = to_z w64 (of_z w64 z)
 
 -- the number lies within twice the horizon, on either side of zero
 abbrev IsTwice : ℤ → Type 0
 IsTwice z = (neg_ℤ (pos 63072000000) ≤ℤ z) × (z ≤ℤ pos 63072000000)
 
-twice_sum : (a b : ℤ) → IsTwice a → IsTwice b → (neg_ℤ (pos 126144000000) ≤ℤ (a +ℤ b)) × ((a +ℤ b) ≤ℤ pos 126144000000)
-twice_sum a b p q = (omega (arith, ints, p.0, q.0), omega (arith, ints, p.1, q.1))
+module _ (result one other by : ℤ) (a : IsWithinHorizon one) (b : IsWithinHorizon other) (c : IsWithinHorizon by) where
+  later : result ≡ int_max (held one) (held (held other +ℤ held by)) → (result ≡ int_max one (other +ℤ by)) × IsTwice result
+  later is = (omega (arith, ints, clamps), (omega (arith, ints, clamps), omega (arith, ints, clamps)))
 
-same_sum : (a b : ℤ) → IsTwice a → IsTwice b → to_z w64 (of_z w64 (to_z w64 (of_z w64 a) +ℤ to_z w64 (of_z w64 b))) ≡ (a +ℤ b)
-same_sum a b p q =
-    let first : to_z w64 (of_z w64 a) ≡ a = omega (arith, ints, p.0, p.1) in
-    let second : to_z w64 (of_z w64 b) ≡ b = omega (arith, ints, q.0, q.1) in
-    let within = twice_sum a b p q in
-    let sum : to_z w64 (of_z w64 (a +ℤ b)) ≡ (a +ℤ b) = omega (arith, ints, within.0, within.1) in
-    rw (first, second) sum
+  earlier : result ≡ int_min (held one) (held (held other +ℤ held by)) → (result ≡ int_min one (other +ℤ by)) × IsTwice result
+  earlier is = (omega (arith, ints, clamps), (omega (arith, ints, clamps), omega (arith, ints, clamps)))
 
-half_same : (z sum half : ℤ) → half ≡ int_div_euclid z (pos 2) → z ≡ sum → half ≡ int_div_euclid sum (pos 2)
-half_same z sum half e same = e ∙ ap (λ s. int_div_euclid s (pos 2)) same
-
--- half of a number that lies within four times the horizon fits
-half_fits : (z half : ℤ) → half ≡ int_div_euclid z (pos 2) → (neg_ℤ (pos 126144000000) ≤ℤ z) × (z ≤ℤ pos 126144000000) → to_z w64 (of_z w64 half) ≡ half
-half_fits z half e within = fits half (int_div_euclid z (pos 2)) e (half_of z)
+half : (result a b : ℤ) → IsTwice a → IsTwice b → result ≡ int_div_euclid (held (held a +ℤ held b)) (pos 2) → held result ≡ int_div_euclid (a +ℤ b) (pos 2)
+half result a b p q is =
+    let sum : held (held a +ℤ held b) ≡ (a +ℤ b) = omega (arith, ints) in
+    let here : result ≡ int_div_euclid (a +ℤ b) (pos 2) = is ∙ ap (λ s. int_div_euclid s (pos 2)) sum in
+    fits result (int_div_euclid (a +ℤ b) (pos 2)) here (half_of (a +ℤ b)) ∙ here
   where
-    fits : (one other : ℤ) → one ≡ other → ((other +ℤ other) ≤ℤ z) × (z ≤ℤ ((other +ℤ other) +ℤ pos 1)) → to_z w64 (of_z w64 one) ≡ one
-    fits one other same near = omega (arith, ints, same, near.0, near.1, within.0, within.1)
+    fits : (one other : ℤ) → one ≡ other → ((other +ℤ other) ≤ℤ (a +ℤ b)) × ((a +ℤ b) ≤ℤ ((other +ℤ other) +ℤ pos 1)) → held one ≡ one
+    fits one other same near = omega (arith, ints)
+
+pub overflow_add-least : goal.overflow_add-least
+overflow_add-least c =
+    let least = later c.max-least.result c.get.result c.get-2.result c.get-weight.result c.get.ensures.within c.get-2.ensures.within c.get-weight.ensures.within c.max-least.ensures.value in
+    let greatest = earlier c.min-greatest.result c.get-3.result c.get-4.result c.get-weight.result c.get-3.ensures.within c.get-4.ensures.within c.get-weight.ensures.within c.min-greatest.ensures.value in
+    omega (arith, ints)
 
 pub returns-clause-time : goal.returns-clause-time
 returns-clause-time c =
-    let arc = c.args.arc.now in
-    let from = c.args.from.now in
-    let to = c.args.to.now in
-    let least : c.max-least.result ≡ int_max to.0 (from.0 +ℤ arc.weight) = omega (
-      arith,
-      ints,
-      clamps,
-      c.max-least.ensures.value,
-      c.get-weight.ensures.value,
-      c.get.ensures.value,
-      c.get-2.ensures.value,
-      c.get-weight.ensures.within.0,
-      c.get-weight.ensures.within.1,
-      c.get.ensures.within.0,
-      c.get.ensures.within.1,
-      c.get-2.ensures.within.0,
-      c.get-2.ensures.within.1,
-    ) in
-    let greatest : c.min-greatest.result ≡ int_min to.1 (from.1 +ℤ arc.weight) = omega (
-      arith,
-      ints,
-      clamps,
-      c.min-greatest.ensures.value,
-      c.get-weight.ensures.value,
-      c.get-3.ensures.value,
-      c.get-4.ensures.value,
-      c.get-weight.ensures.within.0,
-      c.get-weight.ensures.within.1,
-      c.get-3.ensures.within.0,
-      c.get-3.ensures.within.1,
-      c.get-4.ensures.within.0,
-      c.get-4.ensures.within.1,
-    ) in
-    let max : IsTwice c.max-least.result = (omega (arith, ints, clamps, c.max-least.ensures.value, c.get-weight.ensures.within.0, c.get-weight.ensures.within.1, c.get.ensures.within.0, c.get.ensures.within.1, c.get-2.ensures.within.0, c.get-2.ensures.within.1), omega (arith, ints, clamps, c.max-least.ensures.value, c.get-weight.ensures.within.0, c.get-weight.ensures.within.1, c.get.ensures.within.0, c.get.ensures.within.1, c.get-2.ensures.within.0, c.get-2.ensures.within.1)) in
-    let min : IsTwice c.min-greatest.result = (omega (arith, ints, clamps, c.min-greatest.ensures.value, c.get-weight.ensures.within.0, c.get-weight.ensures.within.1, c.get-3.ensures.within.0, c.get-3.ensures.within.1, c.get-4.ensures.within.0, c.get-4.ensures.within.1), omega (arith, ints, clamps, c.min-greatest.ensures.value, c.get-weight.ensures.within.0, c.get-weight.ensures.within.1, c.get-3.ensures.within.0, c.get-3.ensures.within.1, c.get-4.ensures.within.0, c.get-4.ensures.within.1)) in
-    let sum_within = twice_sum c.max-least.result c.min-greatest.result max min in
-    let here : c.div_euclid.result ≡ int_div_euclid (c.max-least.result +ℤ c.min-greatest.result) (pos 2) =
-    half_same _ (c.max-least.result +ℤ c.min-greatest.result) c.div_euclid.result c.div_euclid.ensures (same_sum c.max-least.result c.min-greatest.result max min) in
-    half_fits (c.max-least.result +ℤ c.min-greatest.result) c.div_euclid.result here sum_within ∙ here
-    ∙ ap (λ l. int_div_euclid (l +ℤ c.min-greatest.result) (pos 2)) least ∙ ap (λ m. int_div_euclid (int_max to.0 (from.0 +ℤ arc.weight) +ℤ m) (pos 2)) greatest
+    let least = later c.max-least.result c.get.result c.get-2.result c.get-weight.result c.get.ensures.within c.get-2.ensures.within c.get-weight.ensures.within c.max-least.ensures.value in
+    let greatest = earlier c.min-greatest.result c.get-3.result c.get-4.result c.get-weight.result c.get-3.ensures.within c.get-4.ensures.within c.get-weight.ensures.within c.min-greatest.ensures.value in
+    let weight = c.get-weight.ensures.value in
+    half c.div_euclid.result c.max-least.result c.min-greatest.result least.1 greatest.1 c.div_euclid.ensures
+    ∙ (λ i. int_div_euclid (least.0 i +ℤ greatest.0 i) (pos 2))
+    ∙ (λ i. int_div_euclid (int_max (c.get.ensures.value i) (c.get-2.ensures.value i +ℤ weight i) +ℤ int_min (c.get-3.ensures.value i) (c.get-4.ensures.value i +ℤ weight i)) (pos 2))
