@@ -1,15 +1,13 @@
--- What comes next and what is ready has one text, and a rehearsal has one, or one cause that refuses it.
+-- What comes next has one text, and a rehearsal has one, or one cause that refuses it.
 use Rattle.std.proofs.Common.{◌≡◌, ◌⊎◌, inl, inr, ℕ, ◌≤◌, ℤ, Bool, List, ◌++◌, append_assoc, length, take, take_all, Result, Ok, Err, OnOk, refl, sym, ap, subst, ◌∙◌}
 use Rattle.std.specs.{Prelude.if◌then◌else◌, Prelude.is_ok, List.flat_map, Prelude.codes}
-use Rattle.stn_net.specs.{Difference.Difference, Schedule.HasSchedule, declared.windows.answers.Next.Next, declared.windows.answers.RehearseFault.RehearseFault, Windows.Rehearsal.IsRehearseFault}
+use Rattle.stn_net.specs.{Schedule.HasSchedule, declared.windows.answers.Next.Next, declared.windows.answers.RehearseFault.RehearseFault, Windows.Rehearsal.IsRehearseFault}
 use Rattle.stn_net.specs.declared.windows.answers.Next.TheVariants.{Run, AllDone, Overdue}
 use Rattle.stn_net.specs.declared.windows.answers.RehearseFault.TheVariants as rehearse_fault
 use Rattle.stn_net.proofs.OneAnswer.{one_next, one_rehearsal}
 use Rattle.stn_lift.specs.PlanSource.{PlanSource}
 use Rattle.stn_records.specs.Content.{Content}
 use Rattle.stn_site.specs.{Bounds.all_bounds, Lines.line}
-use Rattle.stn_questions.specs.Ready.{ready_line, IsReadyAnswer, IsReadyWith}
-use Rattle.stn_questions.proofs.OneReady.{one_list}
 use Rattle.stn_command.specs.Dispatch.{next_text, IsNextText, run_line, runs_text, SaysRuns, IsRestText, IsOverdueAt, IsRefusedRehearsal}
 
 pub one_next_text : (source : PlanSource) (state : Content) (done : List Bool) (now : ℤ) (text other : List ℕ) → IsNextText source state done now text → IsNextText source state done now other → text ≡ other
@@ -34,21 +32,6 @@ one_rest_text source state done now text other (inl p) (inl q) =
 one_rest_text source state done now text other (inl p) (inr q) = absurd (q.conflict (p.rest.times, p.rest.schedule))
 one_rest_text source state done now text other (inr p) (inl q) = absurd (p.conflict (q.rest.times, q.rest.schedule))
 one_rest_text source state done now text other (inr p) (inr q) = p.said ∙ sym q.said
-
-one_ready_answer : (bounds : List Difference) (done : List Bool) (now : ℤ) (answer : Next) (text other : List ℕ) → IsReadyAnswer bounds done now answer text
-    → IsReadyAnswer bounds done now answer other → text ≡ other
-one_ready_answer bounds done now (Run time event) text other p q =
-    p.lines ∙ ap (flat_map ready_line) (one_list bounds done now p.ready q.ready p.events q.events) ∙ sym q.lines
-one_ready_answer bounds done now AllDone text other p q = p ∙ sym q
-one_ready_answer bounds done now (Overdue event) text other p q = p ∙ sym q
-
-pub one_ready_text : (bounds : List Difference) (done : List Bool) (now : ℤ) (text other : List ℕ) → IsReadyWith bounds done now text → IsReadyWith bounds done now other → text ≡ other
-one_ready_text bounds done now text other (inl p) (inl q) =
-    let same : p.answer ≡ q.answer = one_next bounds done now p.answer q.answer p.next q.next in
-    one_ready_answer bounds done now q.answer text other (subst (λ answer. IsReadyAnswer bounds done now answer text) same p.said) q.said
-one_ready_text bounds done now text other (inl p) (inr q) = absurd (q.conflict p.possible)
-one_ready_text bounds done now text other (inr p) (inl q) = absurd (p.conflict q.possible)
-one_ready_text bounds done now text other (inr p) (inr q) = p.said ∙ sym q.said
 
 -- the lines of all runs, and the last line
 pub runs_ended : {T E : Type 0} (result : Result T E) (runs : List (ℤ × ℕ)) (place : ℕ) (old lines new : List ℕ) → length runs ≤ place

@@ -3,6 +3,7 @@ mod Ids
 pub mod Foresight
 pub mod OneSaid
 pub mod Alike
+pub mod EachRead
 mod Chosen
 mod StepWords
 mod SomeRepairs

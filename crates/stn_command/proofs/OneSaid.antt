@@ -14,7 +14,8 @@ use Rattle.stn_command.specs.declared.queries.Outlook.TheVariants as outlook
 use Rattle.stn_command.specs.{Named.IsNamed, declared.names.Shown.Shown}
 use Rattle.stn_command.specs.declared.names.Shown.TheVariants as shown
 use Rattle.stn_net.specs.{Failures.bound_failure, declared.bound.BoundFault.TheVariants.NoEvent}
-use Rattle.stn_command.proofs.Foresight.{one_next_text, one_ready_text, one_rest_text, one_overdue}
+use Rattle.stn_questions.proofs.OneAnswer.{one_ready_text}
+use Rattle.stn_command.proofs.Foresight.{one_next_text, one_rest_text, one_overdue}
 
 one_foreseen : (outlook : Outlook) (held : Held) (done : List Bool) (now : ℤ) (text other : List ℕ) → IsForeseen outlook held done now text → IsForeseen outlook held done now other → text ≡ other
 one_foreseen outlook.Next held done now text other p q = one_next_text held.source held.state done now text other p q

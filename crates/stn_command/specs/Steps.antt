@@ -1,12 +1,12 @@
 -- The steps that words name, and those that words give to sites.
-use Rattle.std.specs.Prelude.{ℕ, ◌==◌, Bool, ◌&&◌, nat_le, nat_lt, if◌then◌else◌, List, [], ◌∷◌, ◌++◌, length, map, Option, Some, None, Result, Ok, Err}
+use Rattle.std.specs.Prelude.{ℕ, ◌==◌, Bool, ◌&&◌, nat_le, nat_lt, if◌then◌else◌, List, [], ◌∷◌, ◌++◌, length, map, Option, Some, None, unwrap_or, Result, Ok, Err}
 use Rattle.std.specs.List.{slice_split, position_or_len, before_first, after_first, list_any}
 use Rattle.stn_text.specs.Numbers.{number_of}
 use Rattle.stn_records.specs.Id.{most_sites}
 use Rattle.stn_refusal.specs.declared.failure.Failure.{Failure}
 use Rattle.stn_replica.specs.declared.own.StepRange.{StepRange}
 use Rattle.stn_guard.specs.declared.owners.OwnedSteps.{OwnedSteps}
-use Rattle.stn_command.specs.Words.{and_then, named, no_such_word}
+use Rattle.stn_command.specs.Words.{and_then, each_read, named, no_such_word}
 
 -- the number of one to five digits that a word is
 abbrev pub digits_read : List ℕ → Result ℕ Failure
@@ -21,21 +21,17 @@ around mark word = if nat_lt (position_or_len (λ byte. byte == mark) word) (len
 abbrev pub steps_between : ℕ → ℕ → Result StepRange Failure
 steps_between first last = if nat_le 1 first && nat_le first last then Ok (record { first = first; last = last }) else Err no_such_word
 
--- a step, or the first and the last with `-` between
-abbrev pub range_of : List ℕ → Option (List ℕ × List ℕ) → Result StepRange Failure
-range_of word None = and_then (digits_read word) (λ step. steps_between step step)
-range_of word (Some ends) = and_then (digits_read ends.0) (λ first. and_then (digits_read ends.1) (λ last. steps_between first last))
+-- the steps from one number to another
+abbrev pub range_of : List ℕ × List ℕ → Result StepRange Failure
+range_of ends = and_then (digits_read ends.0) (λ first. and_then (digits_read ends.1) (λ last. steps_between first last))
 
+-- the first and the last step with `-` between, or one step
 unfoldable pub range_read : List ℕ → Result StepRange Failure
-range_read word = range_of word (around 45 word)
-
-abbrev pub ranges_read : List (List ℕ) → Result (List StepRange) Failure
-ranges_read [] = Ok []
-ranges_read (word ∷ words) = and_then (range_read word) (λ range. and_then (ranges_read words) (λ ranges. Ok (range ∷ ranges)))
+range_read word = range_of (unwrap_or (around 45 word) (word, word))
 
 -- steps and ranges with `,` between
 unfoldable pub steps_read : List ℕ → Result (List StepRange) Failure
-steps_read word = ranges_read (slice_split (λ byte. byte == 44) word)
+steps_read word = each_read range_read (slice_split (λ byte. byte == 44) word)
 
 -- the number of a site
 abbrev pub site_read : List ℕ → Result ℕ Failure

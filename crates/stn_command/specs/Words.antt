@@ -40,10 +40,14 @@ spelled (Err fault) = Err (time_failure fault)
 abbrev pub time_read : List ℕ → Result ℤ Failure
 time_read word = spelled (time_of word)
 
--- the times that words spell, or the first fault
+-- what each of the words says, or the first fault
+abbrev pub each_read : {X : Type 0} → (List ℕ → Result X Failure) → List (List ℕ) → Result (List X) Failure
+each_read read [] = Ok []
+each_read read (word ∷ words) = and_then (read word) (λ value. and_then (each_read read words) (λ values. Ok (value ∷ values)))
+
+-- the times that words spell
 abbrev pub times_read : List (List ℕ) → Result (List ℤ) Failure
-times_read [] = Ok []
-times_read (word ∷ words) = and_then (time_read word) (λ time. and_then (times_read words) (λ times. Ok (time ∷ times)))
+times_read words = each_read time_read words
 
 -- words that are not of the form that a command wants, where no line of a script is to be named
 abbrev pub no_such_word : Failure

@@ -243,16 +243,11 @@ fn of_all<A: Allocator + Copy>(
 ) -> Result<Vec<u8, A>, Failure>
     ensures { Foresees outlook now (done_events replica.now.source replica.now.state) replica.now result }
 {
-    let all = [replica.all_steps()];
-    foresee(
-        replica,
-        outlook,
-        now,
-        &Own {
-            steps: &all,
-            starts: false,
-        },
-    )
+    let all = Choice {
+        steps: None,
+        starts: false,
+    };
+    of_chosen(replica, outlook, now, &all)
 }
 
 // What a replica says of a site's own events.

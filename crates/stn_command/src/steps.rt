@@ -4,6 +4,7 @@ ghost use Rattle.std.specs.Prelude.{◌≡◌, ◌⊎◌, ◌<◌, ◌==◌, Ok,
 ghost use Rattle.std.specs.List.{slice_split};
 ghost use Rattle.stn_refusal.specs.Refusals.{out_of_memory};
 ghost use Rattle.stn_command.specs.Steps as named;
+ghost use Rattle.stn_command.specs.Words.{each_read};
 
 use crate::words::no_such_word;
 use std::alloc::{AllocError, Allocator};
@@ -53,8 +54,8 @@ pub fn read_owned<A: Allocator + Copy>(
 
 // The ranges that words name.
 fn read_ranges<A: Allocator>(alloc: A, words: &[&str]) -> Result<Vec<StepRange, A>, Failure>
-    ensures { MatchResult result (λ ranges. named.ranges_read (map (λ word. word.now) words.now) ≡ Ok ranges.items)
-        (λ failure. (failure ≡ out_of_memory) ⊎ (named.ranges_read (map (λ word. word.now) words.now) ≡ Err failure)) }
+    ensures { MatchResult result (λ ranges. each_read named.range_read (map (λ word. word.now) words.now) ≡ Ok ranges.items)
+        (λ failure. (failure ≡ out_of_memory) ⊎ (each_read named.range_read (map (λ word. word.now) words.now) ≡ Err failure)) }
 {
     let mut ranges = Vec::new(alloc);
     'words: for word in words {
@@ -137,21 +138,14 @@ fn share_step(one: &StepRange, other: &StepRange) -> bool
     one.first <= other.last && other.first <= one.last
 }
 
-// The range that a word names: a number, or two with `-` between.
+// The range that a word names: two numbers with `-` between, or one.
 fn read_range(word: &str) -> Result<StepRange, Failure>
     ensures { result ≡ named.range_read word.now }
 {
-    match around(word, '-') {
-        Some((first, last)) => {
-            let first = read_digits(first)?;
-            let last = read_digits(last)?;
-            steps_between(first, last)
-        }
-        None => {
-            let step = read_digits(word)?;
-            steps_between(step, step)
-        }
-    }
+    let (first, last) = around(word, '-').unwrap_or((word, word));
+    let first = read_digits(first)?;
+    let last = read_digits(last)?;
+    steps_between(first, last)
 }
 
 // The steps from the first to the last.

@@ -1,11 +1,10 @@
-use Rattle.std.proofs.Common.{false, [], ◌∷◌, refl, subst}
-use Rattle.stn_replica.proofs.AllOwn.{all_own}
-use Rattle.stn_command.specs.Query.{Foresees}
+use Rattle.std.proofs.Common.{◌≡◌, false, None, rules, subst}
+use Rattle.stn_site.specs.Report.{done_events}
+use Rattle.stn_command.specs.{Dispatch.done_or_not_chosen, Query.Foresees}
 use Rattle.stn_command.proofs.queries.of_all.Goals as goal
 
 pub returns : goal.returns
 returns g c =
     let replica = c.args.replica.now in
-    subst (λ done. Foresees c.args.outlook c.args.now done replica c.foresee.result)
-    (all_own (record { steps = record { ref_ptr = (0, 0); now = c.all_steps.result ∷ [] }; starts = false }) c.all_steps.result replica.source replica.state refl refl
-    c.all_steps.ensures.first c.all_steps.ensures.last) c.foresee.ensures
+    let all : done_or_not_chosen (record { steps = None; starts = false }) replica.source replica.state ≡ done_events replica.source replica.state = search rules in
+    subst (λ done. Foresees c.args.outlook c.args.now done replica c.of_chosen.result) all c.of_chosen.ensures

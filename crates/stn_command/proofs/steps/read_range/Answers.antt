@@ -1,37 +1,31 @@
-use Rattle.std.proofs.Common.{option_map, refl, sym, ap, ◌∙◌}
+use Rattle.std.proofs.Common.{◌≡◌, ℕ, List, Option, Some, None, unwrap_or, option_map, refl, sym, ap, ◌∙◌}
 use Rattle.std.proofs.lemmas.Result.{err_from_is_err_and}
-use Rattle.stn_command.specs.Steps.{range_read}
+use Rattle.std.specs.Borrow.{Bor}
+use Rattle.stn_command.specs.Steps.{around, range_of, range_read}
 use Rattle.stn_command.proofs.steps.read_range.Goals as goal
 
-pub returns-in_err-first-in-Some : goal.returns-in_err-first-in-Some
+abbrev seen : Bor (List ℕ) × Bor (List ℕ) → List ℕ × List ℕ
+seen ends = (ends.0.now, ends.1.now)
+
+seen_ends : (found : Option (Bor (List ℕ) × Bor (List ℕ))) (ends : Bor (List ℕ) × Bor (List ℕ)) → seen (unwrap_or found ends) ≡ unwrap_or (option_map seen found) (seen ends)
+seen_ends None ends = refl
+seen_ends (Some parts) ends = refl
+
+-- the range is that between the two ends
+between : (found : Option (Bor (List ℕ) × Bor (List ℕ))) (word : Bor (List ℕ)) (ends : Bor (List ℕ) × Bor (List ℕ)) → ends ≡ unwrap_or found (word, word)
+    → option_map seen found ≡ around 45 word.now → range_read word.now ≡ range_of (seen ends)
 unfolding range_read
-returns-in_err-first-in-Some c =
+between found word ends is cut = sym (ap range_of (ap seen is ∙ seen_ends found (word, word) ∙ ap (λ parts. unwrap_or parts (word.now, word.now)) cut))
+
+pub returns-in_err-first : goal.returns-in_err-first
+returns-in_err-first c =
     let p = err_from_is_err_and c.from_residual.result c.from_residual.ensures.1 in
-    let cut = sym c.around.ensures ∙ ap (option_map (λ parts. (parts.0.now, parts.1.now))) c.in-Some.is in
-    rw (p.1, p.2, cut, ← c.in_err-first-in-Some.ensures) refl
+    rw (p.1, p.2, between c.around.result c.args.word c.unwrap_or.result c.unwrap_or.ensures c.around.ensures, ← c.in_err-first.ensures) refl
 
-pub returns-in_err-last-in-Some : goal.returns-in_err-last-in-Some
-unfolding range_read
-returns-in_err-last-in-Some c =
-    let p = err_from_is_err_and c.from_residual-in_err-last-in-Some.result c.from_residual-in_err-last-in-Some.ensures.1 in
-    let cut = sym c.around.ensures ∙ ap (option_map (λ parts. (parts.0.now, parts.1.now))) c.in-Some.is in
-    rw (p.1, p.2, cut, ← c.in_ok-first-in-Some.ensures, ← c.in_err-last-in-Some.ensures) refl
+pub returns-in_err-last : goal.returns-in_err-last
+returns-in_err-last c =
+    let p = err_from_is_err_and c.from_residual-in_err-last.result c.from_residual-in_err-last.ensures.1 in
+    rw (p.1, p.2, between c.around.result c.args.word c.unwrap_or.result c.unwrap_or.ensures c.around.ensures, ← c.in_ok-first.ensures, ← c.in_err-last.ensures) refl
 
-pub returns-in_ok-last-in-Some : goal.returns-in_ok-last-in-Some
-unfolding range_read
-returns-in_ok-last-in-Some c =
-    let cut = sym c.around.ensures ∙ ap (option_map (λ parts. (parts.0.now, parts.1.now))) c.in-Some.is in
-    rw (cut, ← c.in_ok-first-in-Some.ensures, ← c.in_ok-last-in-Some.ensures) c.steps_between.ensures
-
-pub returns-in_err-step-in-None : goal.returns-in_err-step-in-None
-unfolding range_read
-returns-in_err-step-in-None c =
-    let p = err_from_is_err_and c.from_residual-in_err-step-in-None.result c.from_residual-in_err-step-in-None.ensures.1 in
-    let cut = sym c.around.ensures ∙ ap (option_map (λ parts. (parts.0.now, parts.1.now))) c.in-None.is in
-    rw (p.1, p.2, cut, ← c.in_err-step-in-None.ensures) refl
-
-pub returns-in_ok-step-in-None : goal.returns-in_ok-step-in-None
-unfolding range_read
-returns-in_ok-step-in-None c =
-    let cut = sym c.around.ensures ∙ ap (option_map (λ parts. (parts.0.now, parts.1.now))) c.in-None.is in
-    rw (cut, ← c.in_ok-step-in-None.ensures) c.steps_between-in-None.ensures
+pub returns : goal.returns
+returns c = rw (between c.around.result c.args.word c.unwrap_or.result c.unwrap_or.ensures c.around.ensures, ← c.in_ok-first.ensures, ← c.in_ok-last.ensures) c.steps_between.ensures
