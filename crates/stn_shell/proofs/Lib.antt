@@ -2,7 +2,6 @@ pub mod Served
 pub mod Turns
 pub mod Joined
 mod Failed
-mod Readings
 mod Ended
 mod Made
 mod OnLog
