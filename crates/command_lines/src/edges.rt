@@ -85,5 +85,6 @@ pub fn save_by_link<S: Store<Global>>(
     let held = store.hold(link).map_err(failed)?;
     fs::remove_file(rt, link)?;
     symlink(rt, other, link)?;
-    store.save(&held, &plan).map_err(failed)
+    store.save(&held, &plan).map_err(failed)?;
+    Ok(())
 }

@@ -32,9 +32,9 @@ use Rattle.stn_refusal.specs.declared.failure.Failure.{Failure}
 use Rattle.stn_line.specs.declared.words.Line.{Line}
 use Rattle.stn_line.specs.declared.words.Line.TheVariants.{Bare, Init, Loosen, Explain}
 use Rattle.stn_store.specs.Store.{Entry, Holds, IsThere, Spells, Means, Opens, IsUnopened}
-use Rattle.stn_shell.specs.Words.{Asked, change, merge, guard, named_by, query, asked_of, slack_read}
+use Rattle.stn_shell.specs.Words.{Asked, Update, change, merge, guard, update, named_by, query, asked_of, slack_read}
 use Rattle.stn_shell.specs.Loosening.{IsLoosenedRefusal, IsRobustRefusal, WithBase, IsLooseningRefusal}
-use Rattle.stn_shell.specs.Refusals.{WithWords, WhereFree, WhereBare, WithText, WithLog, IsBaseRefusal, IsMergeRefusal, IsUnguarded, IsUnnamed, IsExplainRefusal, IsAskedRefusal, IsRefusalOf}
+use Rattle.stn_shell.specs.Refusals.{WithWords, WhereFree, WhereBare, WithText, WithLog, IsBaseRefusal, IsMergeRefusal, IsUnguarded, IsUnnamed, IsExplainRefusal, IsUpdateRefusal, IsAskedRefusal, IsRefusalOf}
 
 -- at most one cause is named
 abbrev IsOne : (Option Failure → Type 0) → Type 0
@@ -177,6 +177,12 @@ guard_at_rest owned held cause p = (p.0, at_rest p.0 p.1, p.2)
     at_rest refusal (conflict there none is) = conflict there none is
     at_rest refusal (guarded there possible one is_one is) = guarded there possible one is_one is
 
+update_at_rest : (entries : Option (List Entry)) (asked : Update) (held : Held) (cause : Option Failure) → IsUpdateRefusal entries asked held cause
+    → IsUpdateRefusal entries asked (idle held) cause
+update_at_rest entries (change asked) held cause p = p ∙ ap (option_map replica_failure) (change_at_rest held asked)
+update_at_rest entries (merge other) held cause p = p
+update_at_rest entries (guard owned) held cause p = guard_at_rest owned held cause p
+
 -- at most one refusal of names
 where_bare : (source : PlanSource) (Goes : Option Failure → Type 0) → IsOne Goes → IsOne (WhereBare source Goes)
 where_bare (bare steps) Goes one cause other p q = one cause other p q
@@ -191,12 +197,13 @@ module _ (logs : (bytes : List ℕ) (one other : Result Log LoadFault) → IsLog
     (queries : (asked : Query) (held : Held) (cause other : Option Failure) → IsQueryRefusal asked held cause → IsQueryRefusal asked held other → cause ≡ other)
     (robusts : (source : PlanSource) (slack : Slack) (one other : List Difference) → AreRobust source slack one → AreRobust source slack other → one ≡ other)
     (many : (source : PlanSource) (slack : Slack) → AreTooMany source slack → (records : List Difference) → ¬ AreFewLoosened source slack records) where
+  one_update : (entries : List Entry) (asked : Update) (held : Held) → IsOne (IsUpdateRefusal (Some entries) asked held)
+  one_update entries (change asked) held = λ cause other p q. p ∙ sym q
+  one_update entries (merge other) held = with_log entries other logs held.site (IsMergeRefusal held) (λ theirs cause p. p) (one_merge held)
+  one_update entries (guard owned) held = one_unguarded guards owned held
+
   one_asked : (entries : List Entry) (asked : Asked) → IsOne (IsAskedRefusal (Some entries) asked)
-  one_asked entries (change log asked) = with_log entries log.name.now logs log.site (λ held cause. cause ≡ option_map replica_failure (change_refusal held asked))
-      (λ held cause p. p ∙ ap (option_map replica_failure) (change_at_rest held asked)) (λ held cause other p q. p ∙ sym q)
-  one_asked entries (merge log other) = with_log entries log.name.now logs log.site (λ ours. WithLog (Some entries) other log.site (IsMergeRefusal ours)) (λ ours cause p. p)
-      (λ ours. with_log entries other logs log.site (IsMergeRefusal ours) (λ theirs cause p. p) (one_merge ours))
-  one_asked entries (guard log owned) = with_log entries log.name.now logs log.site (IsUnguarded owned) (guard_at_rest owned) (one_unguarded guards owned)
+  one_asked entries (update log asked) = with_log entries log.name.now logs log.site (IsUpdateRefusal (Some entries) asked) (update_at_rest (Some entries) asked) (one_update entries asked)
   one_asked entries (named_by log what plan) = with_log entries log.name.now logs log.site (IsUnnamed (Some entries) plan) (λ held cause p. p) (one_unnamed entries plan)
   one_asked entries (query log asked) = with_log entries log.name.now logs log.site (IsQueryRefusal asked) (query_at_rest asked) (queries asked)
 

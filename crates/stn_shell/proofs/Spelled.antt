@@ -30,13 +30,13 @@ pub this_text : {A : Type 0} (text : Option (Vec ℕ A)) (bytes : Vec ℕ A) (he
 this_text text bytes held is said = rw is at said
 
 -- a log that has them says it
-pub opened_by : (entries : Option (List Entry)) (name bytes : List ℕ) (site : ℕ) (held known : Held) (has : Bool) → held ≡ known
-    → IsLog bytes (Ok (log_held held)) → held.site ≡ site → Has entries name bytes has → has ≡ true → Opens entries name site known
-opened_by entries name bytes site held known has seen said own told same = subst (λ (one : Held). Opens entries name site one) seen (record {
+pub opened_by : (entries : Option (List Entry)) (name bytes : List ℕ) (site : ℕ) (held : Held) (has : Bool)
+    → IsLog bytes (Ok (log_held held)) × (held.site ≡ site) → Has entries name bytes has → has ≡ true → Opens entries name site held
+opened_by entries name bytes site held has said told same = record {
   said = record {
     bytes = told.0;
     there = told.1;
-    meant = subst (λ (found : List ℕ). IsLog found (Ok (log_held held))) (sym (told.2.0 same)) said;
+    meant = subst (λ (found : List ℕ). IsLog found (Ok (log_held held))) (sym (told.2.0 same)) said.0;
   };
-  own = own;
-})
+  own = said.1;
+}

@@ -4,17 +4,16 @@ use Rattle.std.specs.Borrow.{Bor}
 use Rattle.stn_lift.specs.PlanSource.{PlanSource, bare, files, base_of, steps_of}
 use Rattle.stn_records.specs.Content.{Content, no_content}
 use Rattle.stn_records.specs.Id.{SiteCounter}
-use Rattle.stn_site.specs.Calls.{took}
+use Rattle.stn_site.specs.Calls.{Leaves, took}
 use Rattle.stn_site.specs.Held.{Held}
 use Rattle.stn_command.specs.Change.{change_call, made_by, made_text}
 use Rattle.stn_command.specs.Query.{Query, IsSaid}
 use Rattle.stn_command.specs.Guarding.{IsGuarded}
 use Rattle.stn_command.specs.Named.{IsNamed}
 use Rattle.stn_command.specs.declared.names.Shown.{Shown}
-use Rattle.stn_guard.specs.declared.owners.OwnedSteps.{OwnedSteps}
 use Rattle.stn_command.specs.declared.changes.Change.{Change}
-use Rattle.stn_store.specs.Store.{Entry, IsThere, Spells, Opens, saved_too, Changes}
-use Rattle.stn_shell.specs.Words.{Asked, change, guard, merge, named_by, query, asked_of, slack_read}
+use Rattle.stn_store.specs.{Log.log_held, Store.Entry, Store.IsThere, Store.Spells, Store.Opens, Store.saved_too}
+use Rattle.stn_shell.specs.Words.{Asked, Update, change, guard, merge, update, named_by, query, asked_of, slack_read}
 use Rattle.stn_loosen.specs.Slack.{Slack}
 use Rattle.stn_shell.specs.Loosening.{HoldsLoosened}
 use Rattle.stn_line.specs.Explanations.Explained.{IsExplained}
@@ -58,27 +57,33 @@ pub record IsLoosenedOfTexts (old new : Option (List Entry)) (log : SiteLog) (do
   pub second : Spells old plan steps
   pub made : IsMadeLoose old new log (files actions steps) slack robust text
 
--- a log that was changed and saved, and the line that says so
-pub record IsChanged (old new : Option (List Entry)) (log : SiteLog) (asked : Change) (text : List ℕ) : Type 0 where
+-- a change was made, and the line that says so
+pub record IsChanged (asked : Change) (before after : Held) (text : List ℕ) : Type 0 where
   pub id : SiteCounter
-  pub change : Changes old new log.name.now log.site (change_call asked id)
+  pub left : Leaves before (change_call asked id) after
   pub line : text ≡ made_text (made_by asked id)
 
--- all that another log of the same plan says, taken in and saved
-pub record IsMerged (old new : Option (List Entry)) (log : SiteLog) (other text : List ℕ) : Type 0 where
+-- all that another log of the same plan says was taken in, and the line that says so
+pub record IsMerged (entries : Option (List Entry)) (other : List ℕ) (before after : Held) (text : List ℕ) : Type 0 where
   pub theirs : Held
-  pub opened : Opens old other log.site theirs
-  pub change : Changes old new log.name.now log.site (took theirs.state)
-  pub same : change.before.source ≡ theirs.source
+  pub opened : Opens entries other before.site theirs
+  pub same : before.source ≡ theirs.source
+  pub left : Leaves before (took theirs.state) after
   pub line : text ≡ codes "merged" ++ 10 ∷ []
 
--- the guard of what a log says, added and saved, and the text that says so; in a conflict what is saved is what the log says
-pub record IsGuardAdded (old new : Option (List Entry)) (log : SiteLog) (owned : List OwnedSteps) (text : List ℕ) : Type 0 where
+-- what an update makes of what a site holds, and the text that says so; a guard in a conflict makes the same of it
+abbrev pub Updates : Option (List Entry) → Update → Held → Held → List ℕ → Type 0
+Updates entries (change asked) before after text = IsChanged asked before after text
+Updates entries (merge other) before after text = IsMerged entries other before after text
+Updates entries (guard owned) before after text = IsGuarded owned before after text
+
+-- what a log says was updated, and the log saved with what that made of it, once and nothing else
+pub record IsUpdated (old new : Option (List Entry)) (log : SiteLog) (asked : Update) (text : List ℕ) : Type 0 where
   pub before : Held
   pub after : Held
   pub opened : Opens old log.name.now log.site before
-  pub guarded : IsGuarded owned before after text
-  pub saved : new ≡ saved_too old log.name.now (record { source = after.source; state = after.state })
+  pub updated : Updates old asked before after text
+  pub saved : new ≡ saved_too old log.name.now (log_held after)
 
 -- what is shown of a log by the names of a plan's file; both stay
 pub record IsShown (old new : Option (List Entry)) (log : SiteLog) (what : Shown) (plan text : List ℕ) : Type 0 where
@@ -98,9 +103,7 @@ pub record IsTold (old new : Option (List Entry)) (log : SiteLog) (asked : Query
 
 -- what a command does to a log that is there, and the text that it answers
 abbrev pub IsDone : Option (List Entry) → Option (List Entry) → Asked → List ℕ → Type 0
-IsDone old new (change log asked) text = IsChanged old new log asked text
-IsDone old new (merge log other) text = IsMerged old new log other text
-IsDone old new (guard log owned) text = IsGuardAdded old new log owned text
+IsDone old new (update log asked) text = IsUpdated old new log asked text
 IsDone old new (named_by log what plan) text = IsShown old new log what plan text
 IsDone old new (query log asked) text = IsTold old new log asked text
 

@@ -2,9 +2,10 @@
 use Rattle.std.specs.Prelude.{◌≡◌, ◌⊎◌, ℕ, false, List, Option, Some, None}
 use Rattle.stn_lift.specs.PlanSource.{PlanSource, files}
 use Rattle.stn_records.specs.Content.{Content}
-use Rattle.stn_shell.specs.Commands.{IsAnswered, IsDone}
-use Rattle.stn_shell.specs.Refusals.{IsRefusalOf, IsAskedRefusal}
-use Rattle.stn_shell.specs.Words.{Asked}
+use Rattle.stn_site.specs.Held.{Held}
+use Rattle.stn_shell.specs.Commands.{IsAnswered, IsDone, Updates}
+use Rattle.stn_shell.specs.Refusals.{IsRefusalOf, IsAskedRefusal, IsUpdateRefusal}
+use Rattle.stn_shell.specs.Words.{Asked, Update}
 use Rattle.stn_store.specs.Store.{Entry, IsThere, IsMissing, IsTaken, IsLack, Spells, saved_too}
 use Rattle.stn_refusal.specs.declared.failure.Failure.{Failure}
 use Rattle.stn_refusal.specs.declared.failure.Fault.{Fault}
@@ -19,6 +20,11 @@ pub record Succeeds (old new : Option (List Entry)) (line : Line) (text : List �
 pub record Completes (old new : Option (List Entry)) (asked : Asked) (text : List ℕ) : Type 0 where
   pub done : IsDone old new asked text
   pub accepted : IsAskedRefusal old asked None
+
+-- an update was made of what a site holds, and nothing refuses it
+pub record MakesUpdate (entries : Option (List Entry)) (asked : Update) (before after : Held) (text : List ℕ) : Type 0 where
+  pub updated : Updates entries asked before after text
+  pub accepted : IsUpdateRefusal entries asked before None
 
 -- a call that was not done, and what refuses it; nothing was saved
 pub record IsUndone (Refuses : Option Failure → Type 0) (Fails : Fault → Type 0) (old new : Option (List Entry)) (failure : Failure) : Type 0 where

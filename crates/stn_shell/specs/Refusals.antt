@@ -15,7 +15,7 @@ use Rattle.stn_site.specs.declared.faults.ReplicaFault.{ReplicaFault}
 use Rattle.stn_command.specs.Words.{no_such_word}
 use Rattle.stn_command.specs.Named.{names_refusal}
 use Rattle.stn_store.specs.Store.{Entry, log_there, IsThere, Spells, Opens, IsMissing, IsUnopened}
-use Rattle.stn_shell.specs.Words.{Asked, change, guard, merge, named_by, query, asked_of, slack_read}
+use Rattle.stn_shell.specs.Words.{Asked, Update, change, guard, merge, update, named_by, query, asked_of, slack_read}
 use Rattle.stn_line.specs.Explanations.Explained.{NamesNothing}
 use Rattle.stn_line.specs.declared.words.Line.{Line}
 use Rattle.stn_line.specs.declared.words.Line.TheVariants.{Bare, Init, Loosen, Explain}
@@ -80,11 +80,15 @@ IsExplainRefusal code cause = (NamesNothing (option_map (λ word. word.now) code
 abbrev pub IsUnnamed : Option (List Entry) → List ℕ → Held → Option Failure → Type 0
 IsUnnamed entries plan held cause = WhereBare held.source (WithText entries plan (λ names refusal. refusal ≡ names_refusal held names)) cause
 
--- why what a command asks of a log is refused: the log; then the change, the other log, the guard, the names or the query
+-- why an update of what a log says is refused: the change, the other log, or the guard
+abbrev pub IsUpdateRefusal : Option (List Entry) → Update → Held → Option Failure → Type 0
+IsUpdateRefusal entries (change asked) held cause = cause ≡ option_map replica_failure (change_refusal held asked)
+IsUpdateRefusal entries (merge other) held cause = WithLog entries other held.site (IsMergeRefusal held) cause
+IsUpdateRefusal entries (guard owned) held cause = IsUnguarded owned held cause
+
+-- why what a command asks of a log is refused: the log; then the update, the names or the query
 abbrev pub IsAskedRefusal : Option (List Entry) → Asked → Option Failure → Type 0
-IsAskedRefusal entries (change log asked) = WithLog entries log.name.now log.site (λ held cause. cause ≡ option_map replica_failure (change_refusal held asked))
-IsAskedRefusal entries (merge log other) = WithLog entries log.name.now log.site (λ ours. WithLog entries other log.site (IsMergeRefusal ours))
-IsAskedRefusal entries (guard log owned) = WithLog entries log.name.now log.site (IsUnguarded owned)
+IsAskedRefusal entries (update log asked) = WithLog entries log.name.now log.site (IsUpdateRefusal entries asked)
 IsAskedRefusal entries (named_by log what plan) = WithLog entries log.name.now log.site (IsUnnamed entries plan)
 IsAskedRefusal entries (query log asked) = WithLog entries log.name.now log.site (IsQueryRefusal asked)
 

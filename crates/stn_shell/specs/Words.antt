@@ -25,21 +25,29 @@ use Rattle.stn_line.specs.declared.words.Line.TheVariants.{Add, Amend, Withdraw,
 use Rattle.stn_refusal.specs.declared.failure.Failure.{Failure}
 use Rattle.stn_shell.specs.declared.words.Asked.{Asked as AskedOfCode}
 use Rattle.stn_shell.specs.declared.words.Asked.TheVariants as code
+use Rattle.stn_shell.specs.declared.words.Update.{Update as UpdateOfCode}
+use Rattle.stn_shell.specs.declared.words.Update.TheVariants as updating
 
--- what a command asks of a log that is there, all its words read: a change, to take in all that another log says, to add the guard of what it
--- says, to show its steps by the names of a plan's file, or a query
+-- what updates a log: a change, to take in all that another log says, or to add the guard of what it says
+pub data Update : Type 0 where
+  change : (asked : Change) → Update
+  merge : (other : List ℕ) → Update
+  guard : (owned : List OwnedSteps) → Update
+
+-- what a command asks of a log that is there, all its words read: an update, to show its steps by the names of a plan's file, or a query
 pub data Asked : Type 0 where
-  change : (log : SiteLog) (asked : Change) → Asked
-  merge : (log : SiteLog) (other : List ℕ) → Asked
-  guard : (log : SiteLog) (owned : List OwnedSteps) → Asked
+  update : (log : SiteLog) (asked : Update) → Asked
   named_by : (log : SiteLog) (what : Shown) (plan : List ℕ) → Asked
   query : (log : SiteLog) (asked : Query) → Asked
 
--- the same, as the code has it
+-- the same, as the code has them
+abbrev pub seen_update : {A : Type 0} → UpdateOfCode A → Update
+seen_update (updating.Change asked) = change asked
+seen_update (updating.Merge other) = merge other.now
+seen_update (updating.Guard owned) = guard owned.items
+
 abbrev pub seen_asked : {A : Type 0} → AskedOfCode A → Asked
-seen_asked (code.Change log asked) = change log.now asked
-seen_asked (code.Merge log other) = merge log.now other.now
-seen_asked (code.Guard log owned) = guard log.now owned.items
+seen_asked (code.Update log asked) = update log.now (seen_update asked)
 seen_asked (code.Among log outlook now chosen starts) =
     query log.now (among outlook now (record { steps = option_map (λ all. all.items) chosen; starts = starts }))
 seen_asked (code.Named log what plan) = named_by log.now what plan.now
@@ -114,12 +122,12 @@ query_of other = Err no_such_word
 
 -- what a command asks of a log that is there
 abbrev pub asked_of : Line → Result Asked Failure
-asked_of (Add log from to lo hi) = and_then (bound_read from.now to.now lo hi) (λ bound. Ok (change log (made.Add bound)))
+asked_of (Add log from to lo hi) = and_then (bound_read from.now to.now lo hi) (λ bound. Ok (update log (change (made.Add bound))))
 asked_of (Amend log id from to lo hi) =
-    and_then (id_read id.now) (λ old. and_then (bound_read from.now to.now lo hi) (λ bound. Ok (change log (made.Amend old bound))))
-asked_of (Withdraw log id) = and_then (id_read id.now) (λ which. Ok (change log (made.Withdraw which)))
+    and_then (id_read id.now) (λ old. and_then (bound_read from.now to.now lo hi) (λ bound. Ok (update log (change (made.Amend old bound)))))
+asked_of (Withdraw log id) = and_then (id_read id.now) (λ which. Ok (update log (change (made.Withdraw which))))
 asked_of (Done log event time) =
-    and_then (event_read event.now) (λ which. and_then (time_read time.now) (λ when. Ok (change log (made.Done which when))))
-asked_of (Merge log other) = Ok (merge log other.now)
-asked_of (Guard log owned) = and_then (all_owned (map (λ word. word.now) owned.items)) (λ all. Ok (guard log all))
+    and_then (event_read event.now) (λ which. and_then (time_read time.now) (λ when. Ok (update log (change (made.Done which when)))))
+asked_of (Merge log other) = Ok (update log (merge other.now))
+asked_of (Guard log owned) = and_then (all_owned (map (λ word. word.now) owned.items)) (λ all. Ok (update log (guard all)))
 asked_of line = query_of line

@@ -2,11 +2,9 @@
 
 ghost use Rattle.std.specs.Prelude.{◌≡◌, ◌⊎◌, ℕ, false, List, None, Some, option_map, IfOk, IfErr, IsOkAnd, MatchResult};
 ghost use Rattle.stn_lift.specs.PlanSource.{plan_source};
-ghost use Rattle.stn_command.specs.Change.{made_text};
-ghost use Rattle.stn_command.specs.Guarding.{guard_text};
 ghost use Rattle.stn_command.specs.Named.{IsNamed};
 ghost use Rattle.stn_command.specs.Query.{seen_query, seen_choice};
-ghost use Rattle.stn_shell.specs.Words.{asked_of, change, guard, merge, named_by, query};
+ghost use Rattle.stn_shell.specs.Words.{asked_of, seen_update, update, named_by, query};
 ghost use Rattle.stn_shell.specs.Commands.{IsDone, IsMade, IsMadeLoose, IsNewLog};
 ghost use Rattle.stn_shell.specs.Endings.{Completes, Succeeds, IsUndone, SavesNew, IsUnsaved, IsUnmade, IsOfTexts, MissesText};
 ghost use Rattle.stn_shell.specs.Loosening.{IsLooseningRefusal};
@@ -14,25 +12,20 @@ ghost use Rattle.stn_shell.specs.Refusals.{IsRefusalOf, IsAskedRefusal, IsBaseRe
 ghost use Rattle.stn_store.specs.Store.{IsThere, Spells, IsMissing, IsTaken, IsUnopened, IsLack, Opens};
 ghost use Rattle.stn_line.specs.declared.words.Line.TheVariants as of;
 
-use crate::changes::{copied, opened, take_in};
+use crate::changes::{copied, make_update, opened};
 use crate::explaining::explain;
 use crate::keeping::Kept;
 use crate::loosening::loosen;
-use crate::words::{Asked, read_asked, read_tolerance};
+use crate::words::{Asked, Update, read_asked, read_tolerance};
 use std::alloc::Allocator;
-use stn_command::{
-    Change, Choice, Made, Query, Shown, make_change, no_such_word, print_guard, say_named,
-};
-use stn_guard::{OwnedSteps, add_guard};
+use stn_command::{Choice, Query, Shown, no_such_word, say_named};
 use stn_lift::Source;
 use stn_line::{Line, SiteLog};
 use stn_loosen::Tolerance;
-use stn_records::Id;
 use stn_refusal::{Code, Failure, Fault};
 use stn_replica::StepRange;
 use stn_site::SitePlan;
 use stn_store::Store;
-use stn_time::Memory;
 
 // A log that is held, and what it says.
 #[derive(Drop)]
@@ -52,7 +45,10 @@ pub fn answer<S: Store<A>, A: Allocator + Copy>(
         (λ text. Succeeds (S.entries store.old) (S.entries store.new) line.now text.items)
         (IsUndone (IsRefusalOf (S.entries store.old) line.now) S.fails (S.entries store.old) (S.entries store.new)) }
 {
-    answer_with(alloc, store, &mut Kept::nothing(), line)
+    let mut kept = Kept::nothing();
+    let answer = answer_with(alloc, store, &mut kept, line);
+    drop(kept);
+    answer
 }
 
 /// Does a command on a log as `answer` does, and keeps what is worth keeping for the next one.
@@ -77,7 +73,7 @@ pub fn answer_with<S: Store<A>, A: Allocator + Copy>(
             late,
             robust,
         } => loosen_texts(alloc, store, log, *domain, *plan, *early, *late, *robust),
-        Line::Explain { code } => explain_word(alloc, store, *code),
+        Line::Explain { code } => explain(alloc, *code),
         _ => do_asked(alloc, store, kept, line),
     }
 }
@@ -96,9 +92,7 @@ fn do_asked<S: Store<A>, A: Allocator + Copy>(
 {
     let asked = read_asked(alloc, line)?;
     match asked {
-        Asked::Change(log, asked) => change_log(alloc, store, kept, log, &asked),
-        Asked::Merge(log, other) => merge_log(alloc, store, kept, log, other),
-        Asked::Guard(log, owned) => guard_log(alloc, store, kept, log, &owned),
+        Asked::Update(log, asked) => update_log(alloc, store, kept, log, &asked),
         Asked::Check(log, times) => say_of(store, kept, log, &Query::Check(&times)),
         Asked::Among(log, outlook, now, steps, starts) => {
             let choice = choice_of(&steps, starts);
@@ -268,9 +262,10 @@ fn hold_log<S: Store<A>, A: Allocator + Copy>(store: &S, name: &str) -> Result<S
     }
 }
 
-// Holds a log that is there, and loads it. No other program changes it until what is held is dropped.
+// Holds a log that is there: it, and what it says. No other program changes it until what is held is dropped.
 fn open_log<S: Store<A>, A: Allocator + Copy>(
     store: &S,
+    kept: &mut Kept<A>,
     log: &SiteLog<'_>,
 ) -> Result<OpenLog<S::Held, A>, Failure>
     ensures named { IfOk result (λ found. S.held_name found.held ≡ log.now.name.now) }
@@ -278,89 +273,26 @@ fn open_log<S: Store<A>, A: Allocator + Copy>(
     ensures failed { IfErr result (λ failure. IsUnopened (S.entries store.now) log.now.name.now failure ⊎ IsLack S.fails failure) }
 {
     let held = hold_log(store, log.name)?;
-    let plan = store.load_held(&held, log.site)?;
+    let plan = kept.load_held(store, &held, log.site)?;
     Ok(OpenLog { held, plan })
 }
 
-// Changes a log that is there.
-fn change_log<S: Store<A>, A: Allocator + Copy>(
+// Updates a log that is there.
+fn update_log<S: Store<A>, A: Allocator + Copy>(
     alloc: A,
     store: &mut S,
     kept: &mut Kept<A>,
     log: &SiteLog<'_>,
-    asked: &Change,
+    asked: &Update<'_, A>,
 ) -> Result<Vec<u8, A>, Failure>
     ensures { MatchResult result
-        (λ text. Completes (S.entries store.old) (S.entries store.new) (change log.now asked.now) text.items)
-        (IsUndone (IsAskedRefusal (S.entries store.old) (change log.now asked.now)) S.fails (S.entries store.old) (S.entries store.new)) }
+        (λ text. Completes (S.entries store.old) (S.entries store.new) (update log.now (seen_update asked.now)) text.items)
+        (IsUndone (IsAskedRefusal (S.entries store.old) (update log.now (seen_update asked.now))) S.fails (S.entries store.old) (S.entries store.new)) }
 {
-    let mut ours = open_log(store, log)?;
-    let made = make_change(&mut ours.plan, asked)?;
-    let text = line_of(alloc, made)?;
-    store.save(&ours.held, &ours.plan)?;
-    kept.learn(ours.plan);
-    Ok(text)
-}
-
-// The line that says what was made.
-fn line_of<A: Allocator>(alloc: A, made: Made) -> Result<Vec<u8, A>, Memory>
-    ensures { IfOk result (λ text. text.items ≡ made_text made) }
-{
-    let mut text = Vec::new(alloc);
-    made.print(&mut text)?;
-    Ok(text)
-}
-
-// Takes in all that another log of the same plan says.
-fn merge_log<S: Store<A>, A: Allocator + Copy>(
-    alloc: A,
-    store: &mut S,
-    kept: &mut Kept<A>,
-    log: &SiteLog<'_>,
-    other: &str,
-) -> Result<Vec<u8, A>, Failure>
-    ensures { MatchResult result
-        (λ text. Completes (S.entries store.old) (S.entries store.new) (merge log.now other.now) text.items)
-        (IsUndone (IsAskedRefusal (S.entries store.old) (merge log.now other.now)) S.fails (S.entries store.old) (S.entries store.new)) }
-{
-    let mut ours = open_log(store, log)?;
-    let theirs = store.load(other, log.site)?;
-    take_in(&mut ours.plan, &theirs)?;
-    let text = copied(alloc, b"merged\n")?;
-    store.save(&ours.held, &ours.plan)?;
-    kept.learn(ours.plan);
-    Ok(text)
-}
-
-// Adds the guard of what a log says.
-fn guard_log<S: Store<A>, A: Allocator + Copy>(
-    alloc: A,
-    store: &mut S,
-    kept: &mut Kept<A>,
-    log: &SiteLog<'_>,
-    owned: &[OwnedSteps],
-) -> Result<Vec<u8, A>, Failure>
-    ensures { MatchResult result
-        (λ text. Completes (S.entries store.old) (S.entries store.new) (guard log.now owned.now) text.items)
-        (IsUndone (IsAskedRefusal (S.entries store.old) (guard log.now owned.now)) S.fails (S.entries store.old) (S.entries store.new)) }
-{
-    let mut ours = open_log(store, log)?;
-    let ids = add_guard(&mut ours.plan, owned)?;
-    let text = lines_of(alloc, &ids)?;
-    store.save(&ours.held, &ours.plan)?;
-    kept.learn(ours.plan);
-    Ok(text)
-}
-
-// The lines that say which records a guard has.
-fn lines_of<A: Allocator>(alloc: A, ids: &Option<Vec<Id, A>>) -> Result<Vec<u8, A>, Memory>
-    ensures { IfOk result (λ text. text.items ≡ guard_text (option_map (λ all. all.items) ids.now)) }
-{
-    let mut text = Vec::new(alloc);
-    match ids {
-        Some(ids) => print_guard(Some(ids), &mut text)?,
-        None => print_guard(None, &mut text)?,
-    }
+    let mut ours = open_log(store, kept, log)?;
+    let text = make_update(alloc, store, &mut ours.plan, asked)?;
+    let saved = store.save(&ours.held, &ours.plan)?;
+    kept.learn(ours.plan, saved);
     Ok(text)
 }
 
@@ -432,17 +364,4 @@ fn show_by_names<S: Store<A>, A: Allocator + Copy>(
             say_named(ours, shown, &names)
         }
     }
-}
-
-// Explains a refusal or a fault. Nothing of the store is read.
-fn explain_word<S: Store<A>, A: Allocator + Copy>(
-    alloc: A,
-    store: &S,
-    code: Option<&str>,
-) -> Result<Vec<u8, A>, Failure>
-    ensures { MatchResult result
-        (λ text. Succeeds (S.entries store.now) (S.entries store.now) (of.Explain code.entry) text.items)
-        (IsUndone (IsRefusalOf (S.entries store.now) (of.Explain code.entry)) S.fails (S.entries store.now) (S.entries store.now)) }
-{
-    explain(alloc, code)
 }

@@ -4,6 +4,8 @@ ghost use Rattle.std.specs.Prelude.{◌≡◌, OnOk, OnErr, IfErr};
 ghost use Rattle.stn_shell.specs.Joining.{JoinsLog, IsUntaken, SavesJoin, KeepsIn, FailsIn, IsUnkept};
 ghost use Rattle.stn_site.specs.Calls.{Leaves, took};
 ghost use Rattle.stn_shell.specs.Refusals.{IsMergeFailure};
+ghost use Rattle.stn_store.specs.Log.{log_held};
+ghost use Rattle.stn_store.specs.Store.{IsLack, saved_too};
 
 use crate::changes::{find_same, take_in as take_in_plan};
 use std::alloc::Allocator;
@@ -51,7 +53,7 @@ pub fn save_join<S: Store<A>, A: Allocator + Copy>(
 {
     let held = store.hold(log.name)?;
     take_held(store, log, &held, replica)?;
-    store.save(&held, replica.plan())
+    save(store, &held, replica.plan())
 }
 
 // Takes in what a log says that is held.
@@ -76,6 +78,20 @@ fn take_held<S: Store<A>, A: Allocator + Copy>(
     } else {
         Ok(())
     }
+}
+
+// Saves a site's copy of a plan as the log that is held.
+fn save<S: Store<A>, A: Allocator + Copy>(
+    store: &mut S,
+    held: &S::Held,
+    plan: &SitePlan<A>,
+) -> Result<(), Failure>
+    ensures saved { OnOk result (S.entries store.new ≡ saved_too (S.entries store.old) (S.held_name held.now) (log_held plan.now)) }
+    ensures kept { OnErr result (S.entries store.new ≡ S.entries store.old) }
+    ensures failed { IfErr result (IsLack S.fails) }
+{
+    store.save(held, plan)?;
+    Ok(())
 }
 
 // Takes all that another copy of the same plan holds. A refusal changes nothing.
@@ -103,9 +119,9 @@ pub fn keep_join<S: Store<A>, A: Allocator + Copy>(
     if store.is_there(log.name)? {
         let mut said = store.load_held(&lock, log.site)?;
         take_in_plan(&mut said, replica.plan())?;
-        store.save(&lock, &said)
+        save(store, &lock, &said)
     } else {
-        store.save(&lock, replica.plan())
+        save(store, &lock, replica.plan())
     }
 }
 

@@ -1,8 +1,9 @@
 //! What a shell keeps from one line of its input to the next.
 
-ghost use Rattle.std.specs.Prelude.{◌≡◌, ◌⊎◌, true, None, Some, IfOk, IfErr, MatchResult};
+ghost use Rattle.std.specs.Prelude.{◌≡◌, ◌⊎◌, true, None, Some, Ok, IfSome, IfOk, IfErr, MatchResult};
 ghost use Rattle.stn_command.specs.Query.{seen_query, IsSaid, IsQueryRefusal, Says};
 ghost use Rattle.stn_refusal.specs.Refusals.{out_of_memory};
+ghost use Rattle.stn_store.specs.Log.{log_held, IsLog};
 ghost use Rattle.stn_store.specs.Store.{Opens, IsMissing, IsUnopened, IsLack};
 ghost use Rattle.stn_shell.specs.Keeping.{held_by};
 
@@ -10,6 +11,7 @@ use std::alloc::Allocator;
 use std::marker::Model;
 use stn_command::{Query, append_said, say_without_matrix};
 use stn_line::SiteLog;
+use stn_records::Site;
 use stn_refusal::Failure;
 use stn_replica::{Follower, Replica};
 use stn_site::SitePlan;
@@ -68,10 +70,13 @@ fn followed_to<A: Allocator + Copy>(
     ensures state { IfOk result (λ follower. follower.latest.state ≡ plan.state) }
 {
     match earlier {
-        Some(mut follower) => {
-            follower.follow(plan)?;
-            Ok(follower)
-        }
+        Some(mut follower) => match follower.follow(plan) {
+            Ok(()) => Ok(follower),
+            Err(error) => {
+                drop(follower);
+                Err(error)
+            }
+        },
         None => Follower::of(plan),
     }
 }
@@ -101,13 +106,15 @@ impl<A: Allocator> Model for Known<A> {
 }
 
 impl<A: Allocator + Copy> Known<A> {
-    // What a log says by this copy of its plan. What followed an earlier one may follow it.
-    fn of(plan: SitePlan<A>, follower: Option<Follower<A>>) -> Known<A>
+    // What a log says by this copy of its plan, and the bytes that say it, where they are known. What followed an earlier copy may
+    // follow it.
+    fn of(plan: SitePlan<A>, text: Option<Vec<u8, A>>, follower: Option<Follower<A>>) -> Known<A>
+        requires { IfSome text (λ bytes. IsLog bytes.items (Ok (log_held plan))) }
         ensures { result ≡ plan }
     {
         Known {
             copy: PlanCopy::New(plan, follower),
-            text: None,
+            text,
         }
     }
 
@@ -120,32 +127,53 @@ impl<A: Allocator + Copy> Known<A> {
         self.copy.plan()
     }
 
-    // The same, with the bytes that say it.
-    fn spelled(self) -> Result<Known<A>, Memory>
-        ensures { IfOk result (λ known. known ≡ self) }
+    // Spells the bytes that say it, where they are not known yet.
+    fn spell(&mut self) -> Result<(), Memory>
+        ensures { self.new ≡ self.old }
     {
-        let Known { copy, text } = self;
-        match text {
-            Some(text) => Ok(Known {
-                copy,
-                text: Some(text),
-            }),
-            None => {
-                let plan = copy.plan();
-                let text = Some(spell_log(plan.alloc(), plan)?);
-                Ok(Known { copy, text })
-            }
+        if self.text.is_none() {
+            let plan = self.copy.plan();
+            self.text = Some(spell_log(plan.alloc(), plan)?);
+        }
+        Ok(())
+    }
+
+    // The bytes that say it, where they are known, of a copy of this site.
+    fn text_at(&self, site: Site) -> Option<&[u8]>
+        ensures { IfSome result (λ text. IsLog text.now (Ok (log_held self.now)) × (self.now.site ≡ site)) }
+    {
+        match &self.text {
+            Some(text) if self.copy.plan().site() == site => Some(text),
+            _ => None,
         }
     }
 
     // Whether it is what a log says, as far as its bytes are those that were spelled.
-    fn is_of<S: Store<A>>(&self, store: &S, log: &SiteLog<'_>) -> Result<bool, Failure>
-        ensures same { IfOk result (λ same. same ≡ true → Opens (S.entries store.now) log.now.name.now log.now.site self.now) }
+    fn is_of<S: Store<A>>(&mut self, store: &S, log: &SiteLog<'_>) -> Result<bool, Failure>
+        ensures same { IfOk result (λ same. same ≡ true → Opens (S.entries store.now) log.now.name.now log.now.site self.new) }
         ensures failed { IfErr result (λ failure. IsMissing (S.entries store.now) log.now.name.now failure ⊎ IsLack S.fails failure) }
     {
-        match &self.text {
-            Some(text) if self.copy.plan().site() == log.site => store.has(log.name, text),
-            _ => Ok(false),
+        self.spell()?;
+        match self.text_at(log.site) {
+            Some(text) => store.has(log.name, text),
+            None => Ok(false),
+        }
+    }
+
+    // The same of the log that is held.
+    fn is_held<S: Store<A>>(
+        &mut self,
+        store: &S,
+        held: &S::Held,
+        site: Site,
+    ) -> Result<bool, Failure>
+        ensures same { IfOk result (λ same. same ≡ true → Opens (S.entries store.now) (S.held_name held.now) site self.new) }
+        ensures failed { IfErr result (λ failure. IsMissing (S.entries store.now) (S.held_name held.now) failure ⊎ IsLack S.fails failure) }
+    {
+        self.spell()?;
+        match self.text_at(site) {
+            Some(text) => store.has_held(held, text),
+            None => Ok(false),
         }
     }
 
@@ -178,31 +206,57 @@ impl<A: Allocator + Copy> Kept<A> {
         ensures failed { IfErr result (λ failure. IsUnopened (S.entries store.now) log.now.name.now failure ⊎ IsLack S.fails failure) }
     {
         let follower = match self.known.take() {
-            Some(known) => {
-                let known = known.spelled()?;
-                if known.is_of(store, log)? {
-                    return Ok(known);
+            Some(mut known) => match known.is_of(store, log) {
+                Ok(true) => return Ok(known),
+                Ok(false) => known.into_follower(),
+                Err(failure) => {
+                    drop(known);
+                    return Err(failure);
                 }
-                known.into_follower()
-            }
+            },
             None => None,
         };
-        let plan = store.load(log.name, log.site)?;
-        Ok(Known::of(plan, follower))
+        match store.load(log.name, log.site) {
+            Ok(plan) => Ok(Known::of(plan, None, follower)),
+            Err(failure) => {
+                drop(follower);
+                Err(failure)
+            }
+        }
+    }
+
+    /// A site's copy of a plan by the log that is held: a copy of what is known, or loaded where the bytes are not those that say this.
+    pub fn load_held<S: Store<A>>(
+        &mut self,
+        store: &S,
+        held: &S::Held,
+        site: Site,
+    ) -> Result<SitePlan<A>, Failure>
+        ensures opened { IfOk result (λ plan. Opens (S.entries store.now) (S.held_name held.now) site plan) }
+        ensures failed { IfErr result (λ failure. IsUnopened (S.entries store.now) (S.held_name held.now) failure ⊎ IsLack S.fails failure) }
+    {
+        if let Some(known) = &mut self.known {
+            if known.is_held(store, held, site)? {
+                return Ok(known.plan().copy()?);
+            }
+        }
+        store.load_held(held, site)
     }
 
     /// Keeps what is known.
     pub fn keep(&mut self, known: Known<A>) {
-        self.known = Some(known);
+        drop(self.known.replace(known));
     }
 
-    /// Keeps what was saved.
-    pub fn learn(&mut self, plan: SitePlan<A>) {
+    /// Keeps what was saved, and the bytes that say it.
+    pub fn learn(&mut self, plan: SitePlan<A>, text: Vec<u8, A>)
+        requires { IsLog text.items (Ok (log_held plan)) }
+    {
         let follower = match self.known.take() {
             Some(known) => known.into_follower(),
             None => None,
         };
-        self.known = Some(Known::of(plan, follower));
+        self.keep(Known::of(plan, Some(text), follower));
     }
 
     /// What is said to a query about what is known, which is kept. Where that has all that a kept replica has, with each record live

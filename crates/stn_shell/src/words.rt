@@ -20,15 +20,22 @@ use stn_refusal::Failure;
 use stn_replica::StepRange;
 use stn_time::{HORIZON, Ms};
 
+/// What updates a log.
+#[derive(Drop)]
+pub enum Update<'a, A: Allocator> {
+    /// Makes a change.
+    Change(Change),
+    /// Takes in all that another log says.
+    Merge(&'a str),
+    /// Adds the guard of what the log says, where these steps belong to their sites.
+    Guard(Vec<OwnedSteps, A>),
+}
+
 /// What a command asks of a log that is there, all its words read.
 #[derive(Drop)]
 pub enum Asked<'l, 'a, A: Allocator> {
-    /// Makes a change.
-    Change(&'l SiteLog<'a>, Change),
-    /// Takes in all that another log says.
-    Merge(&'l SiteLog<'a>, &'a str),
-    /// Adds the guard of what the log says, where these steps belong to their sites.
-    Guard(&'l SiteLog<'a>, Vec<OwnedSteps, A>),
+    /// Updates it.
+    Update(&'l SiteLog<'a>, Update<'a, A>),
     /// Checks times, one for each event.
     Check(&'l SiteLog<'a>, Vec<Ms, A>),
     /// Asks of chosen events, from a time on: those of these steps, or of all where none are given; or their starts alone.
@@ -56,7 +63,7 @@ pub fn read_asked<'l, 'a, A: Allocator + Copy>(
             hi,
         } => {
             let bound = read_bound(*from, *to, *lo, *hi)?;
-            Ok(Asked::Change(log, Change::Add(bound)))
+            Ok(Asked::Update(log, Update::Change(Change::Add(bound))))
         }
         Line::Amend {
             log,
@@ -68,21 +75,21 @@ pub fn read_asked<'l, 'a, A: Allocator + Copy>(
         } => {
             let old = read_id(*id)?;
             let bound = read_bound(*from, *to, *lo, *hi)?;
-            Ok(Asked::Change(log, Change::Amend(old, bound)))
+            Ok(Asked::Update(log, Update::Change(Change::Amend(old, bound))))
         }
         Line::Withdraw { log, id } => {
             let id = read_id(*id)?;
-            Ok(Asked::Change(log, Change::Withdraw(id)))
+            Ok(Asked::Update(log, Update::Change(Change::Withdraw(id))))
         }
         Line::Done { log, event, time } => {
             let event = read_event(*event)?;
             let time = read_time(time.as_bytes())?;
-            Ok(Asked::Change(log, Change::Done(event, time)))
+            Ok(Asked::Update(log, Update::Change(Change::Done(event, time))))
         }
-        Line::Merge { log, other } => Ok(Asked::Merge(log, *other)),
+        Line::Merge { log, other } => Ok(Asked::Update(log, Update::Merge(*other))),
         Line::Guard { log, owned } => {
             let owned = read_owned(alloc, owned)?;
-            Ok(Asked::Guard(log, owned))
+            Ok(Asked::Update(log, Update::Guard(owned)))
         }
         _ => read_query(alloc, line),
     }

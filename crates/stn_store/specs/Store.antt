@@ -2,7 +2,7 @@
 use Rattle.std.specs.Prelude.{◌≡◌, ◌⊎◌, ◌↔◌, ℕ, ◌+◌, Bool, true, List, [], ◌∷◌, ◌++◌, take, Option, Some, None, is_some, option_map, Result, Ok, Err, ⊤}
 use Rattle.std.specs.{Bool.then_some, Option.option_or, Str.bytes_eq}
 use Rattle.stn_text.specs.Bytes.{most_text}
-use Rattle.stn_site.specs.{Calls.Accepted, Calls.Leaves, Held.Held}
+use Rattle.stn_site.specs.Held.{Held}
 use Rattle.stn_store.specs.{Log.Log, Log.log_held, Log.log_text, Log.IsLog, declared.log.fault.LoadFault.LoadFault, Log.Failures.load_failure}
 use Rattle.stn_refusal.specs.{declared.code.Code.TheVariants.LogThere, declared.failure.Failure.Failure, declared.failure.Fault.Fault, Refusals.refused}
 use Rattle.stn_refusal.specs.declared.failure.Failure.TheVariants.{Refused, Failed}
@@ -71,11 +71,3 @@ IsLack Fails (Refused refusal) = ⊥
 -- a log was saved, in place of what stood under its name
 abbrev pub saved_too : Option (List Entry) → List ℕ → Log → Option (List Entry)
 saved_too entries name log = option_map (λ all. all ++ record { name = name; bytes = log_text log } ∷ []) entries
-
--- a call that was accepted over what a log says, and the log saved with what the call left, once and nothing else
-pub record Changes (old new : Option (List Entry)) (name : List ℕ) (site : ℕ) (call : Accepted) : Type 0 where
-  pub before : Held
-  pub after : Held
-  pub opened : Opens old name site before
-  pub left : Leaves before call after
-  pub saved : new ≡ saved_too old name (log_held after)

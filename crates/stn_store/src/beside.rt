@@ -3,16 +3,13 @@
 ghost use Rattle.std.specs.Prelude.{IfErr, ⊤};
 ghost use Rattle.stn_store.specs.Store.{IsLack};
 
-use crate::log::save_plan;
 use crate::place::NEW_MODE;
-use std::alloc::Global;
 use std::fs::{self, File, Metadata, OpenOptions};
 use std::io::{self, ErrorKind};
 use std::os::unix::fs::{MetadataExt, OpenOptionsExt, fchown};
 use std::rt::Files;
-use stn_device::Counted;
+use stn_device::{Counted, write_whole};
 use stn_refusal::{Failure, Fault};
-use stn_site::SitePlan;
 
 // Who may read and write a file until it is given the mode of another one.
 const OWN_MODE: u32 = 0o600;
@@ -56,19 +53,19 @@ pub fn make_beside<T: Files + AllocGlobal>(
     Err(Failure::Failed(Fault::File))
 }
 
-/// Writes the log of a site's plan beside the one that is there, with its mode and, where the system lets it, its owner, and
+/// Writes a log beside the one that is there, with its mode and, where the system lets it, its owner, and
 /// waits until the device has it: the path. Where that can't be, no file is left.
 pub fn write_beside<T: Files<File = File> + AllocGlobal>(
     rt: &T,
     log: &str,
     old: Option<&Metadata>,
-    plan: &SitePlan<Global>,
+    text: &[u8],
 ) -> Result<String, Failure>
     ensures { IfErr result (IsLack (λ _. ⊤)) }
 {
     let mode = if old.is_some() { OWN_MODE } else { NEW_MODE };
     let (path, file) = make_beside(rt, log, mode)?;
-    match fill(rt.alloc(), file, old, plan) {
+    match fill(file, old, text) {
         Ok(()) => Ok(path),
         Err(failure) => {
             let _ = fs::remove_file(rt, path.as_str());
@@ -77,21 +74,25 @@ pub fn write_beside<T: Files<File = File> + AllocGlobal>(
     }
 }
 
-// Writes the log of a site's plan into a file.
-fn fill(
-    alloc: Global,
-    file: File,
-    old: Option<&Metadata>,
-    plan: &SitePlan<Global>,
-) -> Result<(), Failure>
+// Writes a log into a file.
+fn fill(file: File, old: Option<&Metadata>, text: &[u8]) -> Result<(), Failure>
     ensures { IfErr result (IsLack (λ _. ⊤)) }
 {
     if let Some(old) = old {
         of_files(keep(&file, old))?;
     }
     let mut writer = Counted::new(file);
-    save_plan(alloc, plan, &mut writer)?;
-    match writer.into_inner().sync_all() {
+    match write_whole(&mut writer, text) {
+        Ok(()) => force(&writer.into_inner()),
+        Err(_) => Err(Failure::Failed(Fault::Write)),
+    }
+}
+
+/// Waits until the device has what was written to a file, or the names of a folder. The log is saved by then.
+pub fn force(file: &File) -> Result<(), Failure>
+    ensures { IfErr result (IsLack (λ _. ⊤)) }
+{
+    match file.sync_all() {
         Ok(()) => Ok(()),
         Err(_) => Err(Failure::Failed(Fault::Write)),
     }

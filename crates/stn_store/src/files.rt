@@ -5,6 +5,7 @@ ghost use Rattle.stn_store.specs.Store.{IsLack};
 
 use crate::beside::of_files;
 use crate::lock::{Lock, can_lock};
+use crate::log::spell_log;
 use crate::place::{Place, resolve};
 use crate::reading::{are_these, read_log, read_text};
 use crate::store::Store;
@@ -80,6 +81,10 @@ impl<T: Files<File = File> + AllocGlobal> Store<Global> for FileStore<'_, T> {
         are_these(of_files(fs::open(self.rt, path))?, bytes)
     }
 
+    fn has_held(&self, held: &HeldFile, bytes: &[u8]) -> Result<bool, Failure> {
+        are_these(held.place.open(self.rt)?, bytes)
+    }
+
     fn load(&self, path: &str, site: Site) -> Result<SitePlan<Global>, Failure> {
         read_log(self.rt.alloc(), of_files(fs::open(self.rt, path))?, site)
     }
@@ -93,12 +98,15 @@ impl<T: Files<File = File> + AllocGlobal> Store<Global> for FileStore<'_, T> {
     }
 
     fn save_new(&mut self, held: &HeldFile, plan: &SitePlan<Global>) -> Result<(), Failure> {
-        let made = held.place.make(self.rt, plan);
+        let text = spell_log(self.rt.alloc(), plan)?;
+        let made = held.place.make(self.rt, &text);
         held.place.fit(self.rt, &held.lock);
         made
     }
 
-    fn save(&mut self, held: &HeldFile, plan: &SitePlan<Global>) -> Result<(), Failure> {
-        held.place.replace(self.rt, &held.lock, plan)
+    fn save(&mut self, held: &HeldFile, plan: &SitePlan<Global>) -> Result<Vec<u8>, Failure> {
+        let text = spell_log(self.rt.alloc(), plan)?;
+        held.place.replace(self.rt, &held.lock, &text)?;
+        Ok(text)
     }
 }

@@ -3,7 +3,7 @@
 pub use fault::{LoadFault, SaveFault};
 pub use laws::one_log;
 pub use reading::{load, load_plan};
-pub use writing::{save, save_plan, spell_log};
+pub use writing::{save, spell_log};
 
 mod failures;
 mod fault;

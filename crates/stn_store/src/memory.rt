@@ -103,6 +103,10 @@ impl<A: Allocator + Copy> Store<A> for MemoryStore<A> {
         }
     }
 
+    fn has_held(&self, held: &HeldName<A>, bytes: &[u8]) -> Result<bool, Failure> {
+        self.has(held.name.as_str(), bytes)
+    }
+
     fn load(&self, name: &str, site: Site) -> Result<SitePlan<A>, Failure> {
         match self.get(name) {
             Some(bytes) => read_log(self.alloc, bytes, site),
@@ -125,12 +129,13 @@ impl<A: Allocator + Copy> Store<A> for MemoryStore<A> {
         if self.get(held.name.as_str()).is_some() {
             return Err(Failure::refused(Code::LogThere));
         }
-        self.save(held, plan)
+        self.save(held, plan)?;
+        Ok(())
     }
 
-    fn save(&mut self, held: &HeldName<A>, plan: &SitePlan<A>) -> Result<(), Failure> {
+    fn save(&mut self, held: &HeldName<A>, plan: &SitePlan<A>) -> Result<Vec<u8, A>, Failure> {
         let text = spell_log(self.alloc, plan)?;
-        self.put(held.name.as_str(), text)?;
-        Ok(())
+        self.put(held.name.as_str(), text.clone()?)?;
+        Ok(text)
     }
 }

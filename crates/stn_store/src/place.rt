@@ -4,17 +4,15 @@ ghost use Rattle.std.specs.Prelude.{◌≡◌, ◌⊎◌, IfErr, ⊤};
 ghost use Rattle.stn_store.specs.Store.{log_there};
 ghost use Rattle.stn_store.specs.Store.{IsLack};
 
-use crate::beside::{make_beside, of_files, write_beside};
+use crate::beside::{force, make_beside, of_files, write_beside};
 use crate::lock::Lock;
 use crate::same::{has_name, is_free};
-use std::alloc::Global;
 use std::fs::{self, File, Metadata, OpenOptions};
 use std::io::{self, Error, ErrorKind};
 use std::os::unix::fs::MetadataExt;
 use std::path::Path;
 use std::rt::Files;
 use stn_refusal::{Code, Failure, Fault};
-use stn_site::SitePlan;
 
 /// Who may read and write a new log; the system takes away what the umask says.
 pub const NEW_MODE: u32 = 0o666;
@@ -119,17 +117,17 @@ impl Place {
         of_files(fs::remove_file(rt, path.as_str()))
     }
 
-    /// Saves the log of a site's plan where nothing is.
+    /// Saves a log where nothing is.
     pub fn make<T: Files<File = File> + AllocGlobal>(
         &self,
         rt: &T,
-        plan: &SitePlan<Global>,
+        text: &[u8],
     ) -> Result<(), Failure>
         ensures { IfErr result (λ failure. (failure ≡ log_there) ⊎ IsLack (λ _. ⊤) failure) }
     {
         let folder = self.open_folder(rt)?;
         of_files(folder.sync_all())?;
-        let beside = write_beside(rt, self.path.as_str(), None, plan)?;
+        let beside = write_beside(rt, self.path.as_str(), None, text)?;
         let linked = fs::hard_link(rt, beside.as_str(), self.path.as_str());
         let _ = fs::remove_file(rt, beside.as_str());
         match linked {
@@ -141,18 +139,18 @@ impl Place {
         }
     }
 
-    /// Saves the log of a site's plan in place of the file that was found.
+    /// Saves a log in place of the file that was found.
     pub fn replace<T: Files<File = File> + AllocGlobal>(
         &self,
         rt: &T,
         lock: &Lock,
-        plan: &SitePlan<Global>,
+        text: &[u8],
     ) -> Result<(), Failure>
         ensures { IfErr result (IsLack (λ _. ⊤)) }
     {
         let folder = self.open_folder(rt)?;
         let found = self.found()?;
-        let beside = write_beside(rt, self.path.as_str(), found.as_ref(), plan)?;
+        let beside = write_beside(rt, self.path.as_str(), found.as_ref(), text)?;
         match self.take_name(rt, lock, &folder, beside.as_str()) {
             Ok(()) => force(&folder),
             Err(_) => {
@@ -187,15 +185,5 @@ impl Place {
             _ => ".",
         };
         of_files(fs::open(rt, folder))
-    }
-}
-
-// Waits until the device has the names of a folder. The log is saved by then.
-fn force(folder: &File) -> Result<(), Failure>
-    ensures { IfErr result (IsLack (λ _. ⊤)) }
-{
-    match folder.sync_all() {
-        Ok(()) => Ok(()),
-        Err(_) => Err(Failure::Failed(Fault::Write)),
     }
 }

@@ -1,7 +1,7 @@
 //! Where commands find logs and texts, and leave logs.
 
-ghost use Rattle.std.specs.Prelude.{◌≡◌, ◌⊎◌, ℕ, false, List, Option, OnOk, OnErr, IfOk, IfErr};
-ghost use Rattle.stn_store.specs.Log.{log_held};
+ghost use Rattle.std.specs.Prelude.{◌≡◌, ◌⊎◌, ℕ, false, List, Option, Ok, OnOk, OnErr, IfOk, IfErr};
+ghost use Rattle.stn_store.specs.Log.{log_held, IsLog};
 ghost use Rattle.stn_store.specs.Store.{Entry, IsThere, Has, Opens, IsUnopened, Spells, IsMissing, IsTaken, IsLack, saved_too};
 ghost use Rattle.stn_refusal.specs.declared.failure.Fault.{Fault};
 
@@ -44,6 +44,11 @@ pub trait Store<A: Allocator + Copy> {
         ensures told { IfOk result (λ has. Has (entries self.now) name.now bytes.now has) }
         ensures failed { IfErr result (λ failure. IsMissing (entries self.now) name.now failure ⊎ IsLack fails failure) };
 
+    /// Whether the bytes of the log that is held are these.
+    fn has_held(&self, held: &Self::Held, bytes: &[u8]) -> Result<bool, Failure>
+        ensures told { IfOk result (λ has. Has (entries self.now) (held_name held.now) bytes.now has) }
+        ensures failed { IfErr result (λ failure. IsMissing (entries self.now) (held_name held.now) failure ⊎ IsLack fails failure) };
+
     /// A site's copy of a plan by its log.
     fn load(&self, name: &str, site: Site) -> Result<SitePlan<A>, Failure>
         ensures opened { IfOk result (λ plan. Opens (entries self.now) name.now site plan) }
@@ -66,8 +71,9 @@ pub trait Store<A: Allocator + Copy> {
         ensures kept { OnErr result (entries self.new ≡ entries self.old) }
         ensures failed { IfErr result (λ failure. IsTaken (entries self.old) (held_name held.now) failure ⊎ IsLack fails failure) };
 
-    /// Saves a site's copy of a plan as the log that is held. Where it can't be, the old one stays.
-    fn save(&mut self, held: &Self::Held, plan: &SitePlan<A>) -> Result<(), Failure>
+    /// Saves a site's copy of a plan as the log that is held: the bytes that were saved. Where it can't be, the old one stays.
+    fn save(&mut self, held: &Self::Held, plan: &SitePlan<A>) -> Result<Vec<u8, A>, Failure>
+        ensures spelled { IfOk result (λ text. IsLog text.items (Ok (log_held plan.now))) }
         ensures saved { OnOk result (entries self.new ≡ saved_too (entries self.old) (held_name held.now) (log_held plan.now)) }
         ensures kept { OnErr result (entries self.new ≡ entries self.old) }
         ensures failed { IfErr result (IsLack fails) };

@@ -13,38 +13,10 @@ use stn_site::SitePlan;
 use stn_time::Memory;
 use stn_wire::{Said, say};
 
-/// Writes the log of a site's copy of a plan: what the plan is made from, and all that the site holds. The site is not in it.
+/// Writes the log of a replica: what its plan is made from, and all that the site holds. The site is not in it.
 ///
 /// Faults: `Write`, where a call of the writer failed or took nothing; then a front part of the log was written. `Memory`; then
 /// nothing was written.
-pub fn save_plan<W: Write, A: Allocator + Copy>(
-    alloc: A,
-    plan: &SitePlan<A>,
-    writer: &mut Counted<W>,
-) -> Result<(), SaveFault>
-    requires writer_counts { failure_count writer.old < 2 ^ 64 - 1 }
-
-    // The whole log was written.
-    ensures written { OnOk result (Appends (W.contents (counted_device writer.old))
-        (W.contents (counted_device writer.new)) (log_text (log_held plan.now))) }
-
-    // It says what the site holds.
-    ensures loaded { OnOk result (IsLog (log_text (log_held plan.now)) (Ok (log_held plan.now))) }
-
-    // What a fault leaves.
-    ensures part { OnErr result (AppendsPart (W.contents (counted_device writer.old))
-        (W.contents (counted_device writer.new)) (log_text (log_held plan.now))) }
-    ensures unwritten { IsErrOf result SaveFault.Memory
-        → Keeps (W.contents (counted_device writer.old)) (W.contents (counted_device writer.new)) }
-    ensures write { IsErrOf result SaveFault.Write → failure_count writer.old < failure_count writer.new }
-    ensures kept { result ≢ Err SaveFault.Write → KeepsCount writer.old writer.new }
-{
-    let text = spell_log(alloc, plan)?;
-    write_whole(writer, &text)?;
-    Ok(())
-}
-
-/// Writes the log of a replica: `save_plan` of its copy of the plan.
 pub fn save<W: Write, A: Allocator + Copy>(
     alloc: A,
     replica: &Replica<A>,
@@ -67,10 +39,12 @@ pub fn save<W: Write, A: Allocator + Copy>(
     ensures write { IsErrOf result SaveFault.Write → failure_count writer.old < failure_count writer.new }
     ensures kept { result ≢ Err SaveFault.Write → KeepsCount writer.old writer.new }
 {
-    save_plan(alloc, replica.plan(), writer)
+    let text = spell_log(alloc, replica.plan())?;
+    write_whole(writer, &text)?;
+    Ok(())
 }
 
-/// The log of a site's copy of a plan, as `save_plan` writes it.
+/// The log of a site's copy of a plan.
 pub fn spell_log<A: Allocator + Copy>(alloc: A, plan: &SitePlan<A>) -> Result<Vec<u8, A>, Memory>
     ensures text { IfOk result (λ text. text.items ≡ log_text (log_held plan.now)) }
     ensures loaded { OnOk result (IsLog (log_text (log_held plan.now)) (Ok (log_held plan.now))) }

@@ -1,4 +1,4 @@
-use Rattle.stn_shell.proofs.OfLogs.{succeeded}
+use Rattle.stn_shell.proofs.{Ended.explained, OfLogs.succeeded}
 use Rattle.stn_shell.proofs.commands.answer_with.Goals as goal
 
 pub returns-in-Bare : goal.returns-in-Bare
@@ -11,7 +11,7 @@ pub returns-in-Loosen : goal.returns-in-Loosen
 returns-in-Loosen g c = rw c.in-Loosen.is c.loosen_texts.ensures
 
 pub returns-in-Explain : goal.returns-in-Explain
-returns-in-Explain g c = rw c.in-Explain.is c.explain_word.ensures
+returns-in-Explain g c = rw c.in-Explain.is (explained c.explain.result (g.S.Store.entries c.args.store.now) c.in-Explain.code g.S.Store.fails c.explain.ensures)
 
 pub returns-in_default : goal.returns-in_default
 returns-in_default g c = succeeded c.do_asked.result _ _ c.args.line.now _

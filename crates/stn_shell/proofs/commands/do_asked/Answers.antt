@@ -10,21 +10,13 @@ returns-in_err-asked g c =
     let p = err_from_is_err_and c.from_residual.result c.from_residual.ensures.1 in
     rw (p.1, p.2) (record { cause = ⊎_elim (λ memory. inr (lack_of_memory _ _ memory)) (λ wrong. inl (rw wrong refl)) c.in_err-asked.ensures; unsaved = refl })
 
-pub returns-in-Change : goal.returns-in-Change
-returns-in-Change g c =
-    completed c.change_log.result _ _ _ _ _ (c.in_ok-asked.ensures ∙ ap (λ asked. Ok (seen_asked asked)) c.in-Change.is) c.change_log.ensures
-
-pub returns-in-Merge : goal.returns-in-Merge
-returns-in-Merge g c =
-    completed c.merge_log.result _ _ _ _ _ (c.in_ok-asked.ensures ∙ ap (λ asked. Ok (seen_asked asked)) c.in-Merge.is) c.merge_log.ensures
-
-pub returns-in-Guard : goal.returns-in-Guard
-returns-in-Guard g c =
-    completed c.guard_log.result _ _ _ _ _ (c.in_ok-asked.ensures ∙ ap (λ asked. Ok (seen_asked asked)) c.in-Guard.is) (rw c.deref.ensures.value at c.guard_log.ensures)
+pub returns-in-Update : goal.returns-in-Update
+returns-in-Update g c =
+    completed c.update_log.result _ _ _ _ _ (c.in_ok-asked.ensures ∙ ap (λ asked. Ok (seen_asked asked)) c.in-Update.is) c.update_log.ensures
 
 pub returns-in-Check : goal.returns-in-Check
 returns-in-Check g c =
-    completed c.say_of.result _ _ _ _ _ (c.in_ok-asked.ensures ∙ ap (λ asked. Ok (seen_asked asked)) c.in-Check.is) (rw c.deref-in-Check.ensures.value at c.say_of.ensures)
+    completed c.say_of.result _ _ _ _ _ (c.in_ok-asked.ensures ∙ ap (λ asked. Ok (seen_asked asked)) c.in-Check.is) (rw c.deref.ensures.value at c.say_of.ensures)
 
 pub returns-in-Among : goal.returns-in-Among
 returns-in-Among g c =
