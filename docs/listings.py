@@ -281,13 +281,14 @@ def functions_of(crate):
 
 
 def other_names():
-    """What else counts as a name: a crate, a type, a trait, a constant, what a trait says of its types, and a definition."""
+    """What else counts as a name: a crate, a type, a trait, a constant, what a trait says of its types, a definition, and a command."""
     names = {word for line in lines_of(TOP / "crates.txt") if not line.startswith("#") for word in line.replace(":", "").split()}
     for path in CRATES.rglob("src/**/*.rt"):
         text = path.read_text(encoding="utf-8")
         names.update(re.findall(r"^pub (?:struct|enum|trait|type|const) (\w+)|^ +ghost (\w+):", text, re.M))
     for path in CRATES.rglob("specs/**/*.antt"):
         names.update(re.findall(r"^(?:abbrev |unfoldable )?pub (?:record |data )?(\w+)", path.read_text(encoding="utf-8"), re.M))
+    names.update(re.findall(r'^        name: "(\w+)",', (CRATES / "stn_line/src/commands.rt").read_text(encoding="utf-8"), re.M))
     return {word for name in names for word in ([name] if isinstance(name, str) else name) if word}
 
 
