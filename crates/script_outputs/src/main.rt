@@ -71,7 +71,14 @@ fn print_run(
     io::writer(rt).write_all(text)?;
     print_answer(rt, answer)?;
     match answer {
-        Ok(_) => print_sweep(rt, &Worked { script, answer, text }),
+        Ok(_) => print_sweep(
+            rt,
+            &Worked {
+                script,
+                answer,
+                text,
+            },
+        ),
         Err(_) => Ok(()),
     }
 }

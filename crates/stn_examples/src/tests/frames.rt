@@ -108,7 +108,11 @@ pub fn text_refused(heap: &Refusing<Global>, number: u64) -> Answer {
     drop(frame);
     drop(out);
     let right = spelled == Ok(()) && length == 262_148;
-    judged(heap, right, spelled == Err(WireFault::Memory) && length == 0)
+    judged(
+        heap,
+        right,
+        spelled == Err(WireFault::Memory) && length == 0,
+    )
 }
 
 #[test]
