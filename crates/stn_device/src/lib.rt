@@ -13,6 +13,5 @@ mod callers;
 mod connection;
 mod counted;
 mod deadline;
-mod failures;
 mod partner;
 mod whole;

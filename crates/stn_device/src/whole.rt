@@ -3,10 +3,12 @@ ghost use Rattle.std.specs.Io.KnownBytes.{Appends, Consumes, IsAtEnd};
 ghost use Rattle.stn_device.specs.Counted.{counted_device, CountsFailure, KeepsCount};
 ghost use Rattle.stn_device.specs.Bytes.{ConsumesAtMost, AppendsPart, UsesUpTo};
 ghost use Rattle.stn_device.specs.declared.whole.ReadFault.TheVariants.{Memory};
+ghost use Rattle.stn_device.specs.Failures.{read_failure};
 
 use crate::counted::Counted;
 use std::alloc::{AllocError, Allocator};
 use std::io::{Read, Write};
+use stn_refusal::{Failure, Fault};
 use thiserror::Error;
 
 /// How many bytes of a script, a session, a log or a stream of replies are read at most.
@@ -34,6 +36,18 @@ impl From<AllocError> for ReadFault {
 
     fn from(_error: AllocError) -> ReadFault {
         ReadFault::Memory
+    }
+}
+
+impl From<ReadFault> for Failure {
+    ghost from_gives = { λ fault given. given ≡ read_failure fault };
+
+    fn from(fault: ReadFault) -> Failure {
+        match fault {
+            ReadFault::Read => Failure::Failed(Fault::Read),
+            ReadFault::Bound => Failure::Failed(Fault::Bound),
+            ReadFault::Memory => Failure::Failed(Fault::Memory),
+        }
     }
 }
 

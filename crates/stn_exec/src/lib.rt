@@ -12,7 +12,6 @@ pub use stn_world::World;
 mod actions;
 mod answer;
 mod command;
-mod failures;
 mod heading;
 mod laws;
 mod reading;

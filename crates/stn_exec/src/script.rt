@@ -11,6 +11,7 @@ ghost use Rattle.stn_exec.specs.Running.{seen_action, seen_command, IsReplied, I
 ghost use Rattle.stn_exec.specs.Saying.{IsDone, Does};
 ghost use Rattle.stn_exec.specs.Script.{line_effect, line_outcome, lines_outcome, started, script_outcome, last_line};
 ghost use Rattle.stn_exec.specs.declared.script.RunFault.TheVariants.{Read, Write, Bound, Memory};
+ghost use Rattle.stn_exec.specs.Failures.{run_failure};
 
 use crate::actions::{answered, change, send, sent, tell};
 use crate::answer::Answer;
@@ -19,7 +20,7 @@ use crate::heading::{open, opening_word};
 use std::alloc::{AllocError, Allocator};
 use std::io::{Read, Write};
 use stn_device::{Counted, MOST_BYTES, ReadFault, WriteFault, read_whole, write_whole};
-use stn_refusal::{Code, Failure, Refusal};
+use stn_refusal::{Code, Failure, Fault, Refusal};
 use stn_text::first_line;
 use stn_time::Memory;
 use stn_world::World;
@@ -63,6 +64,19 @@ impl From<WriteFault> for RunFault {
 
     fn from(_fault: WriteFault) -> RunFault {
         RunFault::Write
+    }
+}
+
+impl From<RunFault> for Failure {
+    ghost from_gives = { λ fault given. given ≡ run_failure fault };
+
+    fn from(fault: RunFault) -> Failure {
+        match fault {
+            RunFault::Read => Failure::Failed(Fault::Read),
+            RunFault::Write => Failure::Failed(Fault::Write),
+            RunFault::Bound => Failure::Failed(Fault::Bound),
+            RunFault::Memory => Failure::Failed(Fault::Memory),
+        }
     }
 }
 

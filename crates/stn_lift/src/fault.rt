@@ -4,10 +4,12 @@ ghost use Rattle.std.specs.Prelude.{◌≡◌};
 ghost use Rattle.stn_lift.specs.Faults.{of_domain, of_plan, of_lifting};
 ghost use Rattle.stn_lift.specs.declared.fault.BaseFault.TheVariants as base;
 ghost use Rattle.stn_lift.specs.declared.fault.LiftFault.TheVariants as lifting;
+ghost use Rattle.stn_lift.specs.Failures.{lift_failure, base_failure};
 
 use crate::plan::PlanFault;
 use std::alloc::AllocError;
 use stn_pddl::DomainFault;
+use stn_refusal::{Code, Failure, Fault};
 use thiserror::Error;
 
 /// Why a plan has no base in a domain. The first step with a cause decides, by the first of its causes in this order.
@@ -36,6 +38,26 @@ impl From<AllocError> for LiftFault {
 
     fn from(_refused: AllocError) -> LiftFault {
         LiftFault::Memory
+    }
+}
+
+impl From<LiftFault> for Failure {
+    ghost from_gives = { λ fault given. given ≡ lift_failure fault };
+
+    fn from(fault: LiftFault) -> Failure {
+        match fault {
+            LiftFault::UnknownAction(step) => Failure::refused_at(
+                Code::UnknownAction,
+                u32::from(step),
+            ),
+            LiftFault::Arity(step) => Failure::refused_at(Code::Arity, u32::from(step)),
+            LiftFault::DurationDiffers(step) => Failure::refused_at(
+                Code::DurationDiffers,
+                u32::from(step),
+            ),
+            LiftFault::PastHorizon(step) => Failure::refused_at(Code::PastHorizon, u32::from(step)),
+            LiftFault::Memory => Failure::Failed(Fault::Memory),
+        }
     }
 }
 
@@ -97,6 +119,20 @@ impl From<LiftFault> for BaseFault {
         match fault {
             LiftFault::Memory => BaseFault::Memory,
             _ => BaseFault::Lift(fault),
+        }
+    }
+}
+
+impl From<BaseFault> for Failure {
+    ghost from_gives = { λ fault given. given ≡ base_failure fault };
+
+    fn from(fault: BaseFault) -> Failure {
+        match fault {
+            BaseFault::Domain(fault) => Failure::from(fault),
+            BaseFault::Plan(fault) => Failure::from(fault),
+            BaseFault::Lift(fault) => Failure::from(fault),
+            BaseFault::TooManySteps => Failure::refused(Code::BareTooManySteps),
+            BaseFault::Memory => Failure::Failed(Fault::Memory),
         }
     }
 }

@@ -10,7 +10,6 @@ pub use source::Source;
 mod atoms;
 mod base;
 mod bounds;
-mod failures;
 mod fault;
 mod footprint;
 mod laws;

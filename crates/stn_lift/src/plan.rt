@@ -6,7 +6,6 @@ ghost use Rattle.stn_lift.specs.Plan.Faults.{IsCause};
 ghost use Rattle.stn_lift.specs.Plan.Views.{planned_step};
 
 mod bytes;
-mod failures;
 mod fault;
 mod lines;
 mod step;

@@ -3,7 +3,6 @@
 pub use printing::{ExplainFault, print_explained};
 pub use subject::{Subject, fault_word};
 
-mod failures;
 mod printing;
 mod subject;
 mod table;

@@ -1,7 +1,9 @@
 ghost use Rattle.std.specs.Prelude.{◌≡◌};
 ghost use Rattle.stn_loosen.specs.declared.fault.LoosenFault.TheVariants.{Memory};
+ghost use Rattle.stn_loosen.specs.Failures.{loosen_failure};
 
 use std::alloc::{AllocError, AllocFailed};
+use stn_refusal::{Code, Failure, Fault};
 use thiserror::Error;
 
 /// Why a plan was not loosened, or not made robust. Where it would have too many records, this comes before `NotRobust` if the loosened
@@ -32,5 +34,17 @@ impl<T: Drop> From<AllocFailed<T>> for LoosenFault {
 
     fn from(_refused: AllocFailed<T>) -> LoosenFault {
         LoosenFault::Memory
+    }
+}
+
+impl From<LoosenFault> for Failure {
+    ghost from_gives = { λ fault given. given ≡ loosen_failure fault };
+
+    fn from(fault: LoosenFault) -> Failure {
+        match fault {
+            LoosenFault::Full => Failure::refused(Code::Full),
+            LoosenFault::NotRobust => Failure::refused(Code::NotRobust),
+            LoosenFault::Memory => Failure::Failed(Fault::Memory),
+        }
     }
 }

@@ -13,7 +13,6 @@ pub use promise::robust;
 pub use tolerance::Tolerance;
 
 mod adding;
-mod failures;
 mod fault;
 mod laws;
 mod making;

@@ -1,9 +1,11 @@
 ghost use Rattle.std.specs.Prelude.{◌≡◌, ◌≢◌, ◌<◌, ◌≤◌, ◌≤ℤ◌, IfOk, IfErr};
 ghost use Rattle.stn_net.specs.Difference.{Difference, IsFaultOf, IsBoundWithin};
 ghost use Rattle.stn_net.specs.Horizon.{horizon_bound};
+ghost use Rattle.stn_net.specs.Failures.{bound_failure};
 
 use crate::event::Event;
 use std::marker::Model;
+use stn_refusal::{Code, Failure};
 use stn_time::{HORIZON, Ms};
 use thiserror::Error;
 
@@ -19,6 +21,18 @@ pub enum BoundFault {
     /// The lower side lies above the upper.
     #[error("the lower side lies above the upper")]
     Crossed,
+}
+
+impl From<BoundFault> for Failure {
+    ghost from_gives = { λ fault given. given ≡ bound_failure fault };
+
+    fn from(fault: BoundFault) -> Failure {
+        match fault {
+            BoundFault::NoEvent => Failure::refused(Code::NoEvent),
+            BoundFault::SameEvent => Failure::refused(Code::SameEvent),
+            BoundFault::Crossed => Failure::refused(Code::Crossed),
+        }
+    }
 }
 
 /// A bound on the difference of two events' times: `lo <= time of to - time of from <= hi`

@@ -13,7 +13,6 @@ pub use windows::{
 
 mod bound;
 mod event;
-mod failures;
 mod matrix;
 mod schedule;
 mod windows;

@@ -13,6 +13,5 @@ pub use rehearsal::rehearse;
 mod answers;
 mod dispatch;
 mod ends;
-mod failures;
 mod laws;
 mod rehearsal;

@@ -6,7 +6,6 @@ mod actions;
 mod atom;
 mod condition;
 mod domain;
-mod failures;
 mod fault;
 mod fields;
 mod laws;

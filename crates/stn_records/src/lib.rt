@@ -14,7 +14,6 @@ pub use record::{Mark, Record};
 pub use records::Records;
 pub use state::State;
 
-mod failures;
 mod faults;
 mod id;
 mod id_map;

@@ -11,12 +11,14 @@ ghost use Rattle.stn_session.specs.Exchange.{request_bytes, at_stage, greeting, 
 ghost use Rattle.stn_session.specs.Turns.{Finds, Came, Leads};
 ghost use Rattle.stn_session.specs.declared.exchange.SendFault.TheVariants as send;
 ghost use Rattle.stn_session.specs.declared.exchange.ReplyFault.TheVariants.{Read, Memory};
+ghost use Rattle.stn_session.specs.Failures.{send_failure, reply_failure};
 
 use crate::replies::append_state;
 use std::alloc::{AllocError, Allocator};
 use std::io::{Read, Write};
 use stn_device::{Counted, WriteFault, write_whole};
 use stn_records::Records;
+use stn_refusal::{Code, Failure, Fault};
 use stn_replica::Replica;
 use stn_site::ReplicaFault;
 use stn_wire::{Frame, FrameFault, FrameReader, Next, Said, StreamFault, say};
@@ -46,6 +48,17 @@ impl From<WriteFault> for SendFault {
 
     fn from(_fault: WriteFault) -> SendFault {
         SendFault::Write
+    }
+}
+
+impl From<SendFault> for Failure {
+    ghost from_gives = { λ fault given. given ≡ send_failure fault };
+
+    fn from(fault: SendFault) -> Failure {
+        match fault {
+            SendFault::Write => Failure::Failed(Fault::Write),
+            SendFault::Memory => Failure::Failed(Fault::Memory),
+        }
     }
 }
 
@@ -109,6 +122,22 @@ pub enum ReplyFault {
     /// Memory was refused.
     #[error("out of memory")]
     Memory,
+}
+
+impl From<ReplyFault> for Failure {
+    ghost from_gives = { λ fault given. given ≡ reply_failure fault };
+
+    fn from(fault: ReplyFault) -> Failure {
+        match fault {
+            ReplyFault::Refused(number) => Failure::refused_with(number),
+            ReplyFault::Frame(fault) => Failure::from(fault),
+            ReplyFault::Reply => Failure::refused(Code::Reply),
+            ReplyFault::Replica(fault) => Failure::from(fault),
+            ReplyFault::Read => Failure::Failed(Fault::Read),
+            ReplyFault::Bound => Failure::Failed(Fault::Bound),
+            ReplyFault::Memory => Failure::Failed(Fault::Memory),
+        }
+    }
 }
 
 /// Reads the replies to what `send_requests` wrote, SAME, RECORDS and TEXT, takes in the records, and

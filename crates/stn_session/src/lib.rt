@@ -11,7 +11,6 @@ pub use stn_device::{Counted, MOST_BYTES};
 pub use stn_wire::FrameFault;
 
 mod exchange;
-mod failures;
 mod keeper;
 mod laws;
 mod reception;

@@ -1,9 +1,11 @@
 ghost use Rattle.std.specs.Prelude.{◌≡◌};
 ghost use Rattle.stn_site.specs.FaultsOf.{of_records_fault};
 ghost use Rattle.stn_site.specs.declared.faults.ReplicaFault.TheVariants as replica;
+ghost use Rattle.stn_site.specs.Failures.{replica_failure};
 
 use stn_net::BoundFault;
 use stn_records::{CounterSpent, Id, RecordsFault};
+use stn_refusal::{Code, Failure, Fault};
 use thiserror::Error;
 
 /// Why a replica refused a change. Each call gives those that it lists.
@@ -54,6 +56,25 @@ impl From<RecordsFault> for ReplicaFault {
             RecordsFault::Clash(id) => ReplicaFault::Clash(id),
             RecordsFault::Full => ReplicaFault::Full,
             RecordsFault::Memory => ReplicaFault::Memory,
+        }
+    }
+}
+
+impl From<ReplicaFault> for Failure {
+    ghost from_gives = { λ fault given. given ≡ replica_failure fault };
+
+    fn from(fault: ReplicaFault) -> Failure {
+        match fault {
+            ReplicaFault::Bound(fault) => Failure::from(fault),
+            ReplicaFault::CounterSpent => Failure::refused(Code::CounterSpent),
+            ReplicaFault::Full => Failure::refused(Code::Full),
+            ReplicaFault::Unknown => Failure::refused(Code::Unknown),
+            ReplicaFault::Clash(id) => Failure::refused_for(
+                Code::Clash,
+                id.site().number(),
+                id.counter(),
+            ),
+            ReplicaFault::Memory => Failure::Failed(Fault::Memory),
         }
     }
 }

@@ -12,7 +12,6 @@ pub use report::append_link_lines;
 pub use site_plan::SitePlan;
 
 mod done;
-mod failures;
 mod faults;
 mod laws;
 mod lines;

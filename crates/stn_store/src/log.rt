@@ -5,7 +5,6 @@ pub use laws::one_log;
 pub use reading::{load, load_plan};
 pub use writing::{save, spell_log};
 
-mod failures;
 mod fault;
 mod laws;
 mod reading;

@@ -6,7 +6,6 @@ pub use printing::print_millis;
 pub use reading::TimeFault;
 pub use std::alloc::AllocError as Memory;
 
-mod failures;
 mod millis;
 mod printing;
 mod reading;

@@ -7,8 +7,10 @@ ghost use Rattle.stn_time.specs.Text.{IsOutOfRange, IsTimeForm, IsTooFine, Spell
 ghost use Rattle.stn_time.specs.TimeOf.{fraction_of, is_numeral, parts_of, time_of, time_of_found};
 ghost use Rattle.stn_time.specs.Near.{IsNear};
 ghost use Rattle.stn_time.specs.Time.{IsWithinHorizon};
+ghost use Rattle.stn_time.specs.Failures.{time_failure};
 
 use crate::millis::{HORIZON, Ms};
+use stn_refusal::{Code, Failure};
 use thiserror::Error;
 
 /// Why a text is no time, in the order in which the faults are looked for.
@@ -23,6 +25,18 @@ pub enum TimeFault {
     /// The time lies beyond `HORIZON`, on either side of zero.
     #[error("a time beyond the horizon")]
     OutOfRange,
+}
+
+impl From<TimeFault> for Failure {
+    ghost from_gives = { λ fault given. given ≡ time_failure fault };
+
+    fn from(fault: TimeFault) -> Failure {
+        match fault {
+            TimeFault::Malformed => Failure::refused(Code::Malformed),
+            TimeFault::TooFine => Failure::refused(Code::TooFine),
+            TimeFault::OutOfRange => Failure::refused(Code::OutOfRange),
+        }
+    }
 }
 
 /// The least number of whole seconds beyond the horizon.

@@ -1,7 +1,9 @@
 ghost use Rattle.std.specs.Prelude.{◌≡◌};
 ghost use Rattle.stn_wire.specs.declared.fault.WireFault.TheVariants.{Memory};
+ghost use Rattle.stn_wire.specs.Failures.{wire_failure};
 
 use std::alloc::AllocError;
+use stn_refusal::{Code, Failure, Fault};
 use thiserror::Error;
 
 /// Why some bytes begin no frame, or a frame was not spelled.
@@ -29,5 +31,19 @@ impl From<AllocError> for WireFault {
 
     fn from(_refused: AllocError) -> WireFault {
         WireFault::Memory
+    }
+}
+
+impl From<WireFault> for Failure {
+    ghost from_gives = { λ fault given. given ≡ wire_failure fault };
+
+    fn from(fault: WireFault) -> Failure {
+        match fault {
+            WireFault::Length => Failure::refused(Code::FrameLength),
+            WireFault::Kind => Failure::refused(Code::FrameKind),
+            WireFault::Body => Failure::refused(Code::FrameBody),
+            WireFault::OldFrame => Failure::refused(Code::OldFrame),
+            WireFault::Memory => Failure::Failed(Fault::Memory),
+        }
     }
 }

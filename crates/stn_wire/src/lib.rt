@@ -12,7 +12,6 @@ pub use stream::{FrameFault, FrameReader, Next, StreamFault};
 
 mod body;
 mod encoding;
-mod failures;
 mod fault;
 mod feeder;
 mod fields;

@@ -3,6 +3,5 @@
 pub use fault::{FrameFault, StreamFault};
 pub use reader::{FrameReader, Next};
 
-mod failures;
 mod fault;
 mod reader;

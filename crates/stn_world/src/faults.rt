@@ -1,9 +1,11 @@
 ghost use Rattle.std.specs.Prelude.{◌≡◌};
 ghost use Rattle.stn_world.specs.Faults.{of_replica_fault, of_part_fault};
 ghost use Rattle.stn_world.specs.declared.faults.SitesFault.TheVariants.{Memory};
+ghost use Rattle.stn_world.specs.Failures.{sites_failure, world_failure};
 
 use std::alloc::{AllocError, AllocFailed};
 use stn_records::PartFault;
+use stn_refusal::{Code, Failure, Fault};
 use stn_site::ReplicaFault;
 use thiserror::Error;
 
@@ -31,6 +33,17 @@ impl<T: Drop> From<AllocFailed<T>> for SitesFault {
 
     fn from(_failed: AllocFailed<T>) -> SitesFault {
         SitesFault::Memory
+    }
+}
+
+impl From<SitesFault> for Failure {
+    ghost from_gives = { λ fault given. given ≡ sites_failure fault };
+
+    fn from(fault: SitesFault) -> Failure {
+        match fault {
+            SitesFault::NoSite => Failure::refused(Code::NoSite),
+            SitesFault::Memory => Failure::Failed(Fault::Memory),
+        }
     }
 }
 
@@ -93,5 +106,19 @@ impl<T: Drop> From<AllocFailed<T>> for WorldFault {
 
     fn from(_failed: AllocFailed<T>) -> WorldFault {
         WorldFault::Memory
+    }
+}
+
+impl From<WorldFault> for Failure {
+    ghost from_gives = { λ fault given. given ≡ world_failure fault };
+
+    fn from(fault: WorldFault) -> Failure {
+        match fault {
+            WorldFault::NoSite => Failure::refused(Code::NoSite),
+            WorldFault::TooManyPackets => Failure::refused(Code::TooManyPackets),
+            WorldFault::NoPacket => Failure::refused(Code::NoPacket),
+            WorldFault::Replica(fault) => Failure::from(fault),
+            WorldFault::Memory => Failure::Failed(Fault::Memory),
+        }
     }
 }

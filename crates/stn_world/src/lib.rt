@@ -9,7 +9,6 @@ pub use laws::{
 };
 pub use world::{MOST_PACKETS, World};
 
-mod failures;
 mod faults;
 mod laws;
 mod world;

@@ -2,8 +2,10 @@
 
 ghost use Rattle.std.specs.Prelude.{◌≡◌};
 ghost use Rattle.stn_lift.specs.declared.plan.fault.PlanFault.TheVariants.{Memory};
+ghost use Rattle.stn_lift.specs.Plan.Failures.{plan_failure};
 
 use std::alloc::AllocError;
+use stn_refusal::{Code, Failure, Fault};
 use thiserror::Error;
 
 /// Why a text is no plan. The first line with a fault decides, and on one line `Syntax`, then `Number`, then
@@ -35,5 +37,20 @@ impl From<AllocError> for PlanFault {
 
     fn from(_refused: AllocError) -> PlanFault {
         PlanFault::Memory
+    }
+}
+
+impl From<PlanFault> for Failure {
+    ghost from_gives = { λ fault given. given ≡ plan_failure fault };
+
+    fn from(fault: PlanFault) -> Failure {
+        match fault {
+            PlanFault::TooLong => Failure::refused(Code::PlanTooLong),
+            PlanFault::Syntax(line) => Failure::refused_at(Code::PlanSyntax, line),
+            PlanFault::Number(line) => Failure::refused_at(Code::PlanNumber, line),
+            PlanFault::Negative(line) => Failure::refused_at(Code::PlanNegative, line),
+            PlanFault::TooManySteps => Failure::refused(Code::PlanTooManySteps),
+            PlanFault::Memory => Failure::Failed(Fault::Memory),
+        }
     }
 }

@@ -2,10 +2,12 @@ ghost use Rattle.std.specs.Prelude.{◌≡◌, ◌≢◌, ◌↔◌, ◌++◌, �
 ghost use Rattle.stn_line.specs.Explanations.Explained.{IsMeaning, AreMeanings, IsExplanation, IsExplained, NamesNothing};
 ghost use Rattle.stn_line.specs.Explanations.Subjects.{name_of, word_of};
 ghost use Rattle.stn_line.specs.Explanations.Table.{IsEntry};
+ghost use Rattle.stn_line.specs.Explanations.Failures.{explain_failure};
 
 use crate::explanations::subject::{Subject, fault_word};
 use crate::explanations::table::{Entry, table};
 use std::alloc::{AllocError, Allocator};
+use stn_refusal::{Code, Failure, Fault};
 use stn_text::{Memory, append_decimal};
 use thiserror::Error;
 
@@ -28,6 +30,17 @@ impl From<AllocError> for ExplainFault {
 
     fn from(_refused: AllocError) -> ExplainFault {
         ExplainFault::Memory
+    }
+}
+
+impl From<ExplainFault> for Failure {
+    ghost from_gives = { λ fault given. given ≡ explain_failure fault };
+
+    fn from(fault: ExplainFault) -> Failure {
+        match fault {
+            ExplainFault::Unknown => Failure::refused_at(Code::Line, 0),
+            ExplainFault::Memory => Failure::Failed(Fault::Memory),
+        }
     }
 }
 

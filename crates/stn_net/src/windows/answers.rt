@@ -1,8 +1,10 @@
 ghost use Rattle.std.specs.Prelude.{◌≡◌};
 ghost use Rattle.stn_net.specs.declared.windows.answers.RehearseFault.TheVariants.{Memory as want_of_memory};
+ghost use Rattle.stn_net.specs.Windows.Failures.{rehearse_failure};
 
 use crate::Event;
 use std::alloc::AllocError;
+use stn_refusal::{Code, Failure, Fault};
 use stn_time::Ms;
 use thiserror::Error;
 
@@ -34,5 +36,16 @@ impl From<AllocError> for RehearseFault {
 
     fn from(_refused: AllocError) -> RehearseFault {
         RehearseFault::Memory
+    }
+}
+
+impl From<RehearseFault> for Failure {
+    ghost from_gives = { λ fault given. given ≡ rehearse_failure fault };
+
+    fn from(fault: RehearseFault) -> Failure {
+        match fault {
+            RehearseFault::Overdue(event) => Failure::refused_of(Code::Overdue, event.number()),
+            RehearseFault::Memory => Failure::Failed(Fault::Memory),
+        }
     }
 }

@@ -2,10 +2,12 @@ ghost use Rattle.std.specs.Prelude.{◌≡◌};
 ghost use Rattle.stn_store.specs.Log.Faults.{of_frame, of_stream, of_base, of_replica};
 ghost use Rattle.stn_store.specs.declared.log.fault.LoadFault.TheVariants as load;
 ghost use Rattle.stn_store.specs.declared.log.fault.SaveFault.TheVariants as save;
+ghost use Rattle.stn_store.specs.Log.Failures.{save_failure, load_failure};
 
 use std::alloc::{AllocError, AllocFailed};
 use stn_device::WriteFault;
 use stn_lift::BaseFault;
+use stn_refusal::{Code, Failure, Fault};
 use stn_site::ReplicaFault;
 use stn_wire::{FrameFault, StreamFault, WireFault};
 use thiserror::Error;
@@ -34,6 +36,17 @@ impl From<WriteFault> for SaveFault {
 
     fn from(_fault: WriteFault) -> SaveFault {
         SaveFault::Write
+    }
+}
+
+impl From<SaveFault> for Failure {
+    ghost from_gives = { λ fault given. given ≡ save_failure fault };
+
+    fn from(fault: SaveFault) -> Failure {
+        match fault {
+            SaveFault::Write => Failure::Failed(Fault::Write),
+            SaveFault::Memory => Failure::Failed(Fault::Memory),
+        }
     }
 }
 
@@ -117,6 +130,22 @@ impl From<ReplicaFault> for LoadFault {
         match fault {
             ReplicaFault::Memory => LoadFault::Memory,
             _ => LoadFault::Take(fault),
+        }
+    }
+}
+
+impl From<LoadFault> for Failure {
+    ghost from_gives = { λ fault given. given ≡ load_failure fault };
+
+    fn from(fault: LoadFault) -> Failure {
+        match fault {
+            LoadFault::Read => Failure::Failed(Fault::Read),
+            LoadFault::Bound => Failure::Failed(Fault::Bound),
+            LoadFault::Frame(fault) => Failure::from(fault),
+            LoadFault::LogForm => Failure::refused(Code::LogForm),
+            LoadFault::Base(fault) => Failure::from(fault),
+            LoadFault::Take(fault) => Failure::from(fault),
+            LoadFault::Memory => Failure::Failed(Fault::Memory),
         }
     }
 }

@@ -1,10 +1,11 @@
 ghost use Rattle.std.specs.Prelude.{◌≡◌};
 ghost use Rattle.stn_wire.specs.Stream.{frame_code, wire_fault};
 ghost use Rattle.stn_wire.specs.declared.stream.fault.StreamFault.TheVariants.{Memory};
+ghost use Rattle.stn_wire.specs.Stream.Failures.{frame_failure, stream_failure};
 
 use crate::WireFault;
 use std::alloc::AllocError;
-use stn_refusal::Code;
+use stn_refusal::{Code, Failure, Fault};
 use thiserror::Error;
 
 /// Why bytes begin no frame.
@@ -19,6 +20,14 @@ pub enum FrameFault {
     /// The body breaks a rule of its kind.
     #[error("a frame whose body breaks a rule")]
     Body,
+}
+
+impl From<FrameFault> for Failure {
+    ghost from_gives = { λ fault given. given ≡ frame_failure fault };
+
+    fn from(fault: FrameFault) -> Failure {
+        Failure::from(WireFault::from(fault))
+    }
 }
 
 impl FrameFault {
@@ -65,5 +74,17 @@ impl From<AllocError> for StreamFault {
 
     fn from(_refused: AllocError) -> StreamFault {
         StreamFault::Memory
+    }
+}
+
+impl From<StreamFault> for Failure {
+    ghost from_gives = { λ fault given. given ≡ stream_failure fault };
+
+    fn from(fault: StreamFault) -> Failure {
+        match fault {
+            StreamFault::Read => Failure::Failed(Fault::Read),
+            StreamFault::Bound => Failure::Failed(Fault::Bound),
+            StreamFault::Memory => Failure::Failed(Fault::Memory),
+        }
     }
 }
