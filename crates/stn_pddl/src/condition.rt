@@ -40,7 +40,7 @@ fn end_of(side: Side) -> Label
     }
 }
 
-/// The label that `at` or `over` gives with the word behind it.
+/// The label that `at` or `over` gives with the word after it.
 fn label_of(side: Side, head: Head, word: &[u8]) -> Option<Label>
     ensures { result ≡ spec.label_of side head word.now }
 {
@@ -150,7 +150,7 @@ impl<'a, A: Allocator + Copy> Action<'a, A> {
         }
     }
 
-    /// Takes up what stands behind `at` or `over`, in a list on a line: a word that gives a label, and the tree that has it.
+    /// Takes up what stands after `at` or `over`, in a list on a line: a word that gives a label, and the tree that has it.
     #[cycle(conditions)]
     #[tactic(auto, using(crate::proofs::tree::Cursors::behind_rest), unfolding(crate::specs::Conditions::labelled))]
     fn read_labelled(

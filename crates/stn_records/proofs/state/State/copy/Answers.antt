@@ -1,5 +1,4 @@
 use Rattle.std.proofs.Common.{◌∙◌}
-use Rattle.std.specs.FinMap as fin
 use Rattle.stn_records.proofs.Lists.{same_content}
 use Rattle.stn_records.proofs.state.State.copy.Goals as goal
 
