@@ -3,7 +3,8 @@ ghost use Rattle.std.specs.Io.KnownBytes.{Appends, Consumes, IsAtEnd};
 ghost use Rattle.stn_device.specs.Counted.{counted_device, CountsFailure, KeepsCount};
 ghost use Rattle.stn_device.specs.Bytes.{ConsumesAtMost, AppendsPart, UsesUpTo};
 ghost use Rattle.stn_device.specs.declared.whole.ReadFault.TheVariants.{Memory};
-ghost use Rattle.stn_device.specs.Failures.{read_failure};
+ghost use Rattle.stn_device.specs.declared.whole.OutputFault.TheVariants as output;
+ghost use Rattle.stn_device.specs.Failures.{read_failure, output_failure};
 
 use crate::counted::Counted;
 use std::alloc::{AllocError, Allocator};
@@ -55,6 +56,44 @@ impl From<ReadFault> for Failure {
 #[derive(Clone, Copy, Debug, PartialEq, Eq, Error)]
 #[error("a write failed")]
 pub struct WriteFault;
+
+/// Why what is to be written was not.
+#[derive(Clone, Copy, Debug, PartialEq, Eq, Error)]
+pub enum OutputFault {
+    /// A call of the writer failed, or took nothing.
+    #[error("a write failed")]
+    Write,
+    /// Memory was refused.
+    #[error("out of memory")]
+    Memory,
+}
+
+impl From<AllocError> for OutputFault {
+    ghost from_gives = { λ _ fault. fault ≡ output.Memory };
+
+    fn from(_refused: AllocError) -> OutputFault {
+        OutputFault::Memory
+    }
+}
+
+impl From<WriteFault> for OutputFault {
+    ghost from_gives = { λ _ fault. fault ≡ output.Write };
+
+    fn from(_fault: WriteFault) -> OutputFault {
+        OutputFault::Write
+    }
+}
+
+impl From<OutputFault> for Failure {
+    ghost from_gives = { λ fault given. given ≡ output_failure fault };
+
+    fn from(fault: OutputFault) -> Failure {
+        match fault {
+            OutputFault::Write => Failure::Failed(Fault::Write),
+            OutputFault::Memory => Failure::Failed(Fault::Memory),
+        }
+    }
+}
 
 /// Reads an input to its end, which comes after at most `limit` bytes. At the limit it asks for one byte more,
 /// which shows that the input is longer. The first failed call is the answer, an interrupted one too.

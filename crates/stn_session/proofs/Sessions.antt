@@ -26,8 +26,8 @@ use Rattle.stn_session.specs.declared.session.KeepingFault.TheVariants as keepin
 use Rattle.stn_session.specs.declared.session.ServeFault.{ServeFault}
 use Rattle.stn_session.specs.declared.session.ServeFault.TheVariants.{Read, Write, Bound, Memory}
 use Rattle.stn_wire.specs.Stream.Held.{Stream}
-use Rattle.stn_wire.specs.declared.stream.fault.StreamFault.{StreamFault}
-use Rattle.stn_wire.specs.declared.stream.fault.StreamFault.TheVariants as stream
+use Rattle.stn_device.specs.declared.whole.ReadFault.{ReadFault}
+use Rattle.stn_device.specs.declared.whole.ReadFault.TheVariants as stream
 
 -- ---- replies, one after the other
 pub replies_more : (first : List Reply) (done : List ℕ) (reply : Reply) (bytes : List ℕ) → AreReplies first done → IsReplyBytes reply bytes → AreReplies (first ++ reply ∷ []) (done ++ bytes)
@@ -154,7 +154,7 @@ module _ {P : Type 0} {Keeps : Content → P → P → Type 0} {place kept : P} 
   cuts few front some = ends_with new Cut p.session few (p.on, some, front, refl) p.written p.counted p.state_is
 
   -- nothing more comes of the stream
-  pub stream_fails : (A : Type 0) (now : Stream) (fault : StreamFault) → IsNext {A = A} (rest ++ more) now (Err fault) → IsCounted {A = A} (taken + length more) now (Err fault)
+  pub stream_fails : (A : Type 0) (now : Stream) (fault : ReadFault) → IsNext {A = A} (rest ++ more) now (Err fault) → IsCounted {A = A} (taken + length more) now (Err fault)
       → IsKeptBroken Keeps first before last old new state place kept (serve_fault fault)
   stream_fails A now stream.Read next few = breaks_with new state kept Read (few_all few, next, p.written, p.state_is) refl
   stream_fails A now stream.Bound next many = breaks_with new state kept Bound (omega (arith, many, many_all), next, p.written, p.state_is) refl
@@ -336,12 +336,12 @@ turn_kept Keeps before after place kept false same stays = inl (same, stays)
 
 -- ---- which faults come from where
 
-pub stream_read : (fault : StreamFault) → serve_fault fault ≡ Read → fault ≡ stream.Read
+pub stream_read : (fault : ReadFault) → serve_fault fault ≡ Read → fault ≡ stream.Read
 stream_read stream.Read is = refl
 stream_read stream.Bound is = absurd cc
 stream_read stream.Memory is = absurd cc
 
-pub stream_unwritten : (fault : StreamFault) → serve_fault fault ≡ Write → ⊥
+pub stream_unwritten : (fault : ReadFault) → serve_fault fault ≡ Write → ⊥
 stream_unwritten stream.Read is = cc
 stream_unwritten stream.Bound is = cc
 stream_unwritten stream.Memory is = cc

@@ -1,4 +1,4 @@
--- What is printed where nothing was asked of another site, or its replies were not taken.
+-- What is printed where the replies of another site were not taken.
 use Rattle.stn_refusal.specs.declared.code.Code.TheVariants as code
 use Rattle.stn_refusal.specs.declared.failure.Failure.{Failure}
 use Rattle.stn_refusal.specs.declared.failure.Failure.TheVariants.{Failed}
@@ -6,14 +6,8 @@ use Rattle.stn_refusal.specs.declared.failure.Fault.TheVariants as device
 use Rattle.stn_refusal.specs.Refusals.{refused, refused_with, out_of_memory}
 use Rattle.stn_wire.specs.Stream.Failures.{frame_failure}
 use Rattle.stn_site.specs.Failures.{replica_failure}
-use Rattle.stn_session.specs.declared.exchange.SendFault.{SendFault}
-use Rattle.stn_session.specs.declared.exchange.SendFault.TheVariants as send
 use Rattle.stn_session.specs.declared.exchange.ReplyFault.{ReplyFault}
 use Rattle.stn_session.specs.declared.exchange.ReplyFault.TheVariants as reply
-
-abbrev pub send_failure : SendFault → Failure
-send_failure send.Write = Failed device.Write
-send_failure send.Memory = out_of_memory
 
 abbrev pub reply_failure : ReplyFault → Failure
 reply_failure (reply.Refused number) = refused_with number

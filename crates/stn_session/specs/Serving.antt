@@ -10,8 +10,8 @@ use Rattle.stn_wire.specs.Front.{IsFront, faulty, unfinished}
 use Rattle.stn_wire.specs.Stream.{wire_fault, frame_code}
 use Rattle.stn_session.specs.Session.{Reply, said, reported, Session, advanced, talked, broken_off}
 use Rattle.stn_wire.specs.declared.stream.fault.FrameFault.{FrameFault}
-use Rattle.stn_wire.specs.declared.stream.fault.StreamFault.{StreamFault}
-use Rattle.stn_wire.specs.declared.stream.fault.StreamFault.TheVariants as stream
+use Rattle.stn_device.specs.declared.whole.ReadFault.{ReadFault}
+use Rattle.stn_device.specs.declared.whole.ReadFault.TheVariants as stream
 use Rattle.stn_session.specs.declared.session.End.{End}
 use Rattle.stn_session.specs.declared.session.End.TheVariants.{Closed, Cut, Refused}
 use Rattle.stn_session.specs.declared.session.Served.{Served}
@@ -105,7 +105,7 @@ pub record IsBroken (first : Session) (before after old new : Option (List ℕ))
   pub leaves : Leaves (length bytes) session rest old new state fault
 
 -- a fault of the stream is one of the session
-abbrev pub serve_fault : StreamFault → ServeFault
+abbrev pub serve_fault : ReadFault → ServeFault
 serve_fault stream.Read = Read
 serve_fault stream.Bound = Bound
 serve_fault stream.Memory = Memory

@@ -9,58 +9,19 @@ ghost use Rattle.stn_wire.specs.Frame.{content, same, records, text};
 ghost use Rattle.stn_wire.specs.Stream.{unread, pending, IsReading};
 ghost use Rattle.stn_session.specs.Exchange.{request_bytes, at_stage, greeting, handing, telling, failed, greeted_by, handed, told_by, unexpected, IsReceived, seen};
 ghost use Rattle.stn_session.specs.Turns.{Finds, Came, Leads};
-ghost use Rattle.stn_session.specs.declared.exchange.SendFault.TheVariants as send;
 ghost use Rattle.stn_session.specs.declared.exchange.ReplyFault.TheVariants.{Read, Memory};
-ghost use Rattle.stn_session.specs.Failures.{send_failure, reply_failure};
+ghost use Rattle.stn_session.specs.Failures.{reply_failure};
 
 use crate::replies::append_state;
 use std::alloc::{AllocError, Allocator};
 use std::io::{Read, Write};
-use stn_device::{Counted, WriteFault, write_whole};
+use stn_device::{Counted, OutputFault, ReadFault, write_whole};
 use stn_records::Records;
 use stn_refusal::{Code, Failure, Fault};
 use stn_replica::Replica;
 use stn_site::ReplicaFault;
-use stn_wire::{Frame, FrameFault, FrameReader, Next, Said, StreamFault, say};
+use stn_wire::{Frame, FrameFault, FrameReader, Next, Said, say};
 use thiserror::Error;
-
-/// Why nothing was asked.
-#[derive(Clone, Copy, Debug, PartialEq, Eq, Error)]
-pub enum SendFault {
-    /// A call of the writer failed, or took nothing.
-    #[error("a write failed")]
-    Write,
-    /// Memory was refused.
-    #[error("out of memory")]
-    Memory,
-}
-
-impl From<AllocError> for SendFault {
-    ghost from_gives = { λ _ fault. fault ≡ send.Memory };
-
-    fn from(_refused: AllocError) -> SendFault {
-        SendFault::Memory
-    }
-}
-
-impl From<WriteFault> for SendFault {
-    ghost from_gives = { λ _ fault. fault ≡ send.Write };
-
-    fn from(_fault: WriteFault) -> SendFault {
-        SendFault::Write
-    }
-}
-
-impl From<SendFault> for Failure {
-    ghost from_gives = { λ fault given. given ≡ send_failure fault };
-
-    fn from(fault: SendFault) -> Failure {
-        match fault {
-            SendFault::Write => Failure::Failed(Fault::Write),
-            SendFault::Memory => Failure::Failed(Fault::Memory),
-        }
-    }
-}
 
 /// Writes what a site says to another, all at once: HELLO with what its plan is made from, RECORDS with
 /// its whole state, and ASK.
@@ -70,15 +31,15 @@ pub fn send_requests<W: Write, A: Allocator + Copy>(
     alloc: A,
     replica: &Replica<A>,
     writer: &mut Counted<W>,
-) -> Result<(), SendFault>
+) -> Result<(), OutputFault>
     requires { failure_count writer.old < 2 ^ 64 - 1 }
     ensures sent { OnOk result (Appends (W.contents (counted_device writer.old)) (W.contents (counted_device writer.new))
         (request_bytes replica.now.source replica.now.state)) }
     ensures part { OnErr result (AppendsPart (W.contents (counted_device writer.old)) (W.contents (counted_device writer.new))
         (request_bytes replica.now.source replica.now.state)) }
-    ensures unwritten { IsErrOf result send.Memory → writer.new ≡ writer.old }
-    ensures write { IsErrOf result send.Write → failure_count writer.old < failure_count writer.new }
-    ensures kept { result ≢ Err send.Write → KeepsCount writer.old writer.new }
+    ensures unwritten { IsErrOf result OutputFault.Memory → writer.new ≡ writer.old }
+    ensures write { IsErrOf result OutputFault.Write → failure_count writer.old < failure_count writer.new }
+    ensures kept { result ≢ Err OutputFault.Write → KeepsCount writer.old writer.new }
 {
     let mut out = Vec::new(alloc);
     append_requests(replica, &mut out)?;
@@ -254,9 +215,9 @@ fn next_reply<R: Read, A: Allocator + Copy>(
         Ok(Next::Faulty(fault)) => Err(ReplyFault::Frame(fault)),
         Ok(Next::Closed) => Err(ReplyFault::Reply),
         Ok(Next::Cut) => Err(ReplyFault::Reply),
-        Err(StreamFault::Read) => Err(ReplyFault::Read),
-        Err(StreamFault::Bound) => Err(ReplyFault::Bound),
-        Err(StreamFault::Memory) => Err(ReplyFault::Memory),
+        Err(ReadFault::Read) => Err(ReplyFault::Read),
+        Err(ReadFault::Bound) => Err(ReplyFault::Bound),
+        Err(ReadFault::Memory) => Err(ReplyFault::Memory),
     }
 }
 

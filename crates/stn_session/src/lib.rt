@@ -2,7 +2,7 @@
 //! they come, and an exchange, which asks and takes in the replies.
 #![tactic(auto)]
 
-pub use exchange::{ReplyFault, SendFault, receive_replies, send_requests};
+pub use exchange::{ReplyFault, receive_replies, send_requests};
 pub use keeper::{Keeper, Nowhere};
 pub use laws::one_session;
 pub use reception::one_reception;

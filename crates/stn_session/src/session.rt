@@ -12,10 +12,10 @@ use crate::keeper::{Keeper, Nowhere};
 use crate::replies::{Turn, append_refused, reply_to};
 use std::alloc::{AllocError, Allocator};
 use std::io::{Read, Write};
-use stn_device::{Counted, WriteFault, write_whole};
+use stn_device::{Counted, ReadFault, WriteFault, write_whole};
 use stn_refusal::Failure;
 use stn_replica::Replica;
-use stn_wire::{Frame, FrameReader, Next, StreamFault};
+use stn_wire::{Frame, FrameReader, Next};
 use thiserror::Error;
 
 /// How a session ended.
@@ -80,14 +80,14 @@ impl From<WriteFault> for KeepingFault {
     }
 }
 
-impl From<StreamFault> for KeepingFault {
+impl From<ReadFault> for KeepingFault {
     ghost from_gives = { λ fault made. made ≡ Serve (serve_fault fault) };
 
-    fn from(fault: StreamFault) -> KeepingFault {
+    fn from(fault: ReadFault) -> KeepingFault {
         KeepingFault::Serve(match fault {
-            StreamFault::Read => ServeFault::Read,
-            StreamFault::Bound => ServeFault::Bound,
-            StreamFault::Memory => ServeFault::Memory,
+            ReadFault::Read => ServeFault::Read,
+            ReadFault::Bound => ServeFault::Bound,
+            ReadFault::Memory => ServeFault::Memory,
         })
     }
 }

@@ -2,7 +2,7 @@
 #![tactic(auto)]
 
 pub use files::FileStore;
-pub use log::{LoadFault, SaveFault, load, load_plan, one_log, save, spell_log};
+pub use log::{LoadFault, load, load_plan, one_log, save, spell_log};
 pub use memory::MemoryStore;
 pub use store::Store;
 

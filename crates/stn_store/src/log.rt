@@ -1,6 +1,6 @@
 //! Logs: what a site knows, as the bytes of a file.
 
-pub use fault::{LoadFault, SaveFault};
+pub use fault::LoadFault;
 pub use laws::one_log;
 pub use reading::{load, load_plan};
 pub use writing::{save, spell_log};

@@ -2,11 +2,12 @@
 use Rattle.std.proofs.Common.{◌≡◌, ℕ, ◌+◌, ◌-◌, ◌<◌, ◌≤◌, ◌⊎◌, inl, inr, Bool, true, false, List, [], ◌∷◌, ◌++◌, length, take, drop, Option, Some, None, Result, Ok, Err, IfOk, IfErr, OnOk, is_err, refl, sym, ap, subst, ◌∙◌, arith, append_assoc, append-nil, length-append, take-append-drop, drop-drop}
 use Rattle.std.proofs.{Math.Seq.drop-append-add, KnownBytes.Consumes-trans, lemmas.Bool.false≢true, lemmas.List.drop_all}
 use Rattle.std.specs.Io.KnownBytes.{Consumes, IsAtEnd}
-use Rattle.stn_wire.specs.{Feeder.FeederState, Feeder.IsTaken, Feeder.IsFed as IsFedTo, Frame.FrameContent, Frame.content, Frame.spelling, Front.IsFront, Front.faulty, Front.whole, Front.unfinished, declared.fault.WireFault.WireFault, declared.frame.Frame.Frame, Stream.Held.Stream, Stream.pending, Stream.wire_fault, Stream.IsNext, Stream.Gives, Stream.Pieces.next_of_fault, Stream.Pieces.IsFed, Stream.Pieces.IsFilled, Stream.Pieces.IsBeyond, declared.stream.fault.FrameFault.FrameFault, declared.stream.reader.Next.Next, declared.stream.fault.StreamFault.StreamFault}
+use Rattle.stn_device.specs.declared.whole.ReadFault.{ReadFault}
+use Rattle.stn_wire.specs.{Feeder.FeederState, Feeder.IsTaken, Feeder.IsFed as IsFedTo, Frame.FrameContent, Frame.content, Frame.spelling, Front.IsFront, Front.faulty, Front.whole, Front.unfinished, declared.fault.WireFault.WireFault, declared.frame.Frame.Frame, Stream.Held.Stream, Stream.pending, Stream.wire_fault, Stream.IsNext, Stream.Gives, Stream.Pieces.next_of_fault, Stream.Pieces.IsFed, Stream.Pieces.IsFilled, Stream.Pieces.IsBeyond, declared.stream.fault.FrameFault.FrameFault, declared.stream.reader.Next.Next}
 use Rattle.stn_wire.specs.declared.fault.WireFault.TheVariants as wire
 use Rattle.stn_wire.specs.declared.stream.fault.FrameFault.TheVariants.{Length, Kind, Body}
 use Rattle.stn_wire.specs.declared.stream.reader.Next.TheVariants.{Frame as next_frame, Faulty, Closed, Cut}
-use Rattle.stn_wire.specs.declared.stream.fault.StreamFault.TheVariants.{Read, Bound, Memory}
+use Rattle.stn_device.specs.declared.whole.ReadFault.TheVariants.{Read, Bound, Memory}
 
 -- the fault of an answer
 abbrev pub fault_or : {X E : Type 0} → E → Result X E → E
@@ -29,7 +30,7 @@ always (Ok given) P p = p
 always (Err fault) P p = tt
 
 -- whether an answer is neither the end nor a failed read
-abbrev pub goes_on : {A : Type 0} → Result (Next A) StreamFault → Bool
+abbrev pub goes_on : {A : Type 0} → Result (Next A) ReadFault → Bool
 goes_on (Ok Closed) = false
 goes_on (Ok Cut) = false
 goes_on (Err Read) = false
@@ -109,7 +110,7 @@ pub read_none : (before after : Option (List ℕ)) (buffer : List ℕ) (count : 
 read_none before after buffer count none read = subst (λ n. Consumes before after (take n buffer)) none read
 
 -- no byte more was taken at the limit
-pub beyond_filled : (old : Stream) (before after : Option (List ℕ)) (answer : Result Bool StreamFault) → IfOk answer (λ more. (more ≡ false) × Consumes before after [] × IsAtEnd after) → IfErr answer (IsBeyond before after)
+pub beyond_filled : (old : Stream) (before after : Option (List ℕ)) (answer : Result Bool ReadFault) → IfOk answer (λ more. (more ≡ false) × Consumes before after [] × IsAtEnd after) → IfErr answer (IsBeyond before after)
     → old.count ≡ 16777216 → IsFilled old old before after answer
 beyond_filled old before after (Ok true) end beyond full = absurd (cc)
 beyond_filled old before after (Ok false) end beyond full = (end.1, end.2, refl)
@@ -161,7 +162,7 @@ module _ (first mid new : Stream) (a b c : Option (List ℕ)) (bytes : List ℕ)
   filled_smaller false is h few old kept = absurd (cc)
 
   -- nothing more comes
-  pub fill_fails : {A : Type 0} (fault : StreamFault) → IsFront (pending mid) unfinished → mid.count ≤ 16777216 → IsFilled mid new b c (Err fault) → Gives {A = A} first new a c (Err fault)
+  pub fill_fails : {A : Type 0} (fault : ReadFault) → IsFront (pending mid) unfinished → mid.count ≤ 16777216 → IsFilled mid new b c (Err fault) → Gives {A = A} first new a c (Err fault)
   fill_fails Read front few h = record {
     bytes = bytes ++ [];
     consumed = Consumes-trans a b c bytes [] read h;

@@ -7,11 +7,12 @@ use Rattle.std.specs.Io.KnownBytes.{Consumes}
 use Rattle.stn_refusal.specs.Codes.{number_of}
 use Rattle.stn_refusal.specs.declared.code.Code.TheVariants as code
 use Rattle.stn_device.specs.Bytes.{most_bytes}
-use Rattle.stn_wire.specs.{Frame.content, Frame.spelling, Frame.IsFrame, Front.IsFront, Front.faulty, Front.unfinished, declared.fault.WireFault.WireFault, declared.stream.fault.FrameFault.FrameFault, declared.stream.reader.Next.Next, declared.stream.fault.StreamFault.StreamFault, Stream.Held.Stream}
+use Rattle.stn_device.specs.declared.whole.ReadFault.{ReadFault}
+use Rattle.stn_wire.specs.{Frame.content, Frame.spelling, Frame.IsFrame, Front.IsFront, Front.faulty, Front.unfinished, declared.fault.WireFault.WireFault, declared.stream.fault.FrameFault.FrameFault, declared.stream.reader.Next.Next, Stream.Held.Stream}
 use Rattle.stn_wire.specs.declared.fault.WireFault.TheVariants as wire
 use Rattle.stn_wire.specs.declared.stream.fault.FrameFault.TheVariants.{Length, Kind, Body}
 use Rattle.stn_wire.specs.declared.stream.reader.Next.TheVariants.{Frame as frame, Faulty, Closed, Cut}
-use Rattle.stn_wire.specs.declared.stream.fault.StreamFault.TheVariants.{Read, Bound, Memory}
+use Rattle.stn_device.specs.declared.whole.ReadFault.TheVariants.{Read, Bound, Memory}
 
 -- the fault of a stream of frames, as that of bytes
 abbrev pub wire_fault : FrameFault → WireFault
@@ -39,7 +40,7 @@ IsReading stream = stream.broken ≡ None
 
 -- what stands in front of some bytes: a frame, and the bytes after it are pending; a fault; the end between two frames, or
 -- within one. Read and Bound come where no frame was left, Bound with a byte beyond the limit
-abbrev pub IsNext : {A : Type 0} → List ℕ → Stream → Result (Next A) StreamFault → Type 0
+abbrev pub IsNext : {A : Type 0} → List ℕ → Stream → Result (Next A) ReadFault → Type 0
 IsNext bytes new (Ok (frame given)) = IsFrame (content given) × (bytes ≡ spelling (content given) ++ pending new) × IsReading new
 IsNext bytes new (Ok (Faulty fault)) = IsFront bytes (faulty (wire_fault fault))
 IsNext bytes new (Ok Closed) = bytes ≡ []
@@ -49,13 +50,13 @@ IsNext bytes new (Err Bound) = (left : List ℕ) × (byte : ℕ) × (bytes ≡ l
 IsNext bytes new (Err Memory) = ⊤
 
 -- how many bytes were read where this is the answer: Bound comes with the first byte beyond the limit
-abbrev pub IsCounted : {A : Type 0} → ℕ → Stream → Result (Next A) StreamFault → Type 0
+abbrev pub IsCounted : {A : Type 0} → ℕ → Stream → Result (Next A) ReadFault → Type 0
 IsCounted count new (Ok next) = (new.count ≡ count) × (count ≤ most_bytes)
 IsCounted count new (Err Bound) = count ≡ most_bytes + 1
 IsCounted count new (Err other) = count ≤ most_bytes
 
 -- the bytes that were read for an answer, after those that were pending
-pub record Gives {A : Type 0} (old new : Stream) (before after : Option (List ℕ)) (answer : Result (Next A) StreamFault) : Type 0 where
+pub record Gives {A : Type 0} (old new : Stream) (before after : Option (List ℕ)) (answer : Result (Next A) ReadFault) : Type 0 where
   pub bytes : List ℕ
   pub consumed : Consumes before after bytes
   pub next : IsNext (pending old ++ bytes) new answer

@@ -1,12 +1,12 @@
 // Logs and requests, of which each request for memory, each read and each write is refused in turn.
 use crate::calls::sweep::{Kind, Outcome, Trial, outcome_of};
 use std::alloc::Global;
-use stn_device::Counted;
+use stn_device::{Counted, OutputFault};
 use stn_records::Site;
 use stn_refusing::Refusing;
 use stn_replica::Replica;
-use stn_session::{SendFault, send_requests};
-use stn_store::{LoadFault, SaveFault, load, save};
+use stn_session::send_requests;
+use stn_store::{LoadFault, load, save};
 
 /// The replica of site 1 by its log.
 pub fn opened<'a>(
@@ -40,19 +40,11 @@ pub enum Answer {
     Write,
 }
 
-fn of_save(answer: Result<(), SaveFault>) -> Answer {
+fn of_output(answer: Result<(), OutputFault>) -> Answer {
     match answer {
         Ok(()) => Answer::Written,
-        Err(SaveFault::Memory) => Answer::Memory,
-        Err(SaveFault::Write) => Answer::Write,
-    }
-}
-
-fn of_send(answer: Result<(), SendFault>) -> Answer {
-    match answer {
-        Ok(()) => Answer::Written,
-        Err(SendFault::Memory) => Answer::Memory,
-        Err(SendFault::Write) => Answer::Write,
+        Err(OutputFault::Memory) => Answer::Memory,
+        Err(OutputFault::Write) => Answer::Write,
     }
 }
 
@@ -71,8 +63,8 @@ fn written<'a>(
 ) -> Writing {
     let mut device = Counted::new(trial.writer());
     let answer = match output {
-        Output::Log => of_save(save(trial.heap, replica, &mut device)),
-        Output::Requests => of_send(send_requests(trial.heap, replica, &mut device)),
+        Output::Log => of_output(save(trial.heap, replica, &mut device)),
+        Output::Requests => of_output(send_requests(trial.heap, replica, &mut device)),
     };
     Writing {
         answer,

@@ -4,9 +4,10 @@ use Rattle.std.specs.{Prelude.nat_lt, Prelude.is_some, Prelude.option_map, Io.Kn
 use Rattle.std.proofs.{KnownBytes.Consumes-nil, KnownBytes.Consumes-trans, Math.Seq.take-append-add, lemmas.List.take_all, lemmas.List.take_at, lemmas.Bool.false≢true, lemmas.Bool.Decides.nat_tests, lemmas.Grind.flat_map-append}
 use Rattle.stn_device.specs.Bytes.{most_bytes, ConsumesAtMost}
 use Rattle.stn_time.proofs.Each.{each_pushed}
-use Rattle.stn_wire.specs.{Frame.FrameContent, Frame.spelling, Frame.IsFrame, Front.IsFront, Front.faulty, Front.unfinished, declared.fault.WireFault.WireFault, Stream.IsNext, Stream.IsCounted, Stream.Held.Stream, declared.stream.fault.StreamFault.StreamFault}
+use Rattle.stn_device.specs.declared.whole.ReadFault.{ReadFault}
+use Rattle.stn_wire.specs.{Frame.FrameContent, Frame.spelling, Frame.IsFrame, Front.IsFront, Front.faulty, Front.unfinished, declared.fault.WireFault.WireFault, Stream.IsNext, Stream.IsCounted, Stream.Held.Stream}
 use Rattle.stn_wire.proofs.Fronts.{fault_more}
-use Rattle.stn_wire.specs.declared.stream.fault.StreamFault.TheVariants as stream
+use Rattle.stn_device.specs.declared.whole.ReadFault.TheVariants as stream
 use Rattle.stn_store.specs.{Log.Faults.of_stream, Log.Opening.opened_so_far, Log.Opening.closed_log, Log.Opening.IsRefused, declared.log.reading.Opened.Opened, declared.log.fault.LoadFault.LoadFault}
 use Rattle.stn_store.specs.Log.{Log, LogSoFar, log_held, taken, all_taken, all_taken_by, meaning_of, IsEnding, IsAnswer, IsRest, IsDecided, IsOpen}
 use Rattle.stn_store.specs.declared.log.fault.LoadFault.TheVariants.{Read, Bound, Frame, LogForm, Base, Take, Memory}
@@ -18,7 +19,7 @@ not_more : (most n : ℕ) → n ≤ most → ltb most n ≡ false
 not_more most n le = grind (arith, nat_tests)
 
 -- a read that failed
-pub stream_read : (fault : StreamFault) → of_stream fault ≡ Read → fault ≡ stream.Read
+pub stream_read : (fault : ReadFault) → of_stream fault ≡ Read → fault ≡ stream.Read
 stream_read stream.Read is = refl
 stream_read stream.Bound is = absurd cc
 stream_read stream.Memory is = absurd cc
@@ -248,17 +249,17 @@ module _ (before after : Option (List ℕ)) (log : Option LogSoFar) (rest : List
 
   -- nothing more comes of the stream
   module _ (A : Type 0) (now : Stream) where
-    pub stream_fails : (fault : StreamFault) → IsNext {A = A} rest now (Err fault) → IsCounted {A = A} count now (Err fault) → IfSome (meaning_of (Err (of_stream fault))) (IsDecided before after)
+    pub stream_fails : (fault : ReadFault) → IsNext {A = A} rest now (Err fault) → IsCounted {A = A} count now (Err fault) → IfSome (meaning_of (Err (of_stream fault))) (IsDecided before after)
     stream_fails stream.Read next counted = tt
     stream_fails stream.Bound next counted = beyond counted next.0 next.1 next.2 next.3
     stream_fails stream.Memory next counted = tt
 
-    pub stream_used : (fault : StreamFault) → IsCounted {A = A} count now (Err fault) → ConsumesAtMost before after (most_bytes + 1)
+    pub stream_used : (fault : ReadFault) → IsCounted {A = A} count now (Err fault) → ConsumesAtMost before after (most_bytes + 1)
     stream_used stream.Read counted = used (omega (arith, counted))
     stream_used stream.Bound counted = used (omega (arith, counted))
     stream_used stream.Memory counted = used (omega (arith, counted))
 
-    pub stream_open : (fault : StreamFault) → of_stream fault ≡ Read → IsNext {A = A} rest now (Err fault) → IsOpen before after
+    pub stream_open : (fault : ReadFault) → of_stream fault ≡ Read → IsNext {A = A} rest now (Err fault) → IsOpen before after
     stream_open stream.Read is next = record {
       frames = p.frames;
       behind = rest;
@@ -271,7 +272,7 @@ module _ (before after : Option (List ℕ)) (log : Option LogSoFar) (rest : List
     stream_open stream.Bound is next = absurd cc
     stream_open stream.Memory is next = absurd cc
 
-    pub stream_bound : (fault : StreamFault) → of_stream fault ≡ Bound → IsCounted {A = A} count now (Err fault) → IfSome before (λ input. most_bytes < length input)
+    pub stream_bound : (fault : ReadFault) → of_stream fault ≡ Bound → IsCounted {A = A} count now (Err fault) → IfSome before (λ input. most_bytes < length input)
     stream_bound stream.Read is counted = absurd cc
     stream_bound stream.Bound is counted = too_long counted
     stream_bound stream.Memory is counted = absurd cc

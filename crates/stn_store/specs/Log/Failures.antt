@@ -1,17 +1,12 @@
--- What is printed where a log is not loaded or not saved.
+-- What is printed where a log is not loaded.
 use Rattle.stn_refusal.specs.declared.code.Code.TheVariants as code
 use Rattle.stn_refusal.specs.{declared.failure.Failure.Failure, declared.failure.Failure.TheVariants.Failed, Refusals.refused, Refusals.out_of_memory}
 use Rattle.stn_refusal.specs.declared.failure.Fault.TheVariants as device
 use Rattle.stn_wire.specs.Failures.{wire_failure}
 use Rattle.stn_lift.specs.Failures.{base_failure}
 use Rattle.stn_site.specs.Failures.{replica_failure}
-use Rattle.stn_store.specs.{declared.log.fault.SaveFault.SaveFault, declared.log.fault.LoadFault.LoadFault}
-use Rattle.stn_store.specs.declared.log.fault.SaveFault.TheVariants as save
+use Rattle.stn_store.specs.declared.log.fault.LoadFault.{LoadFault}
 use Rattle.stn_store.specs.declared.log.fault.LoadFault.TheVariants as load
-
-abbrev pub save_failure : SaveFault → Failure
-save_failure save.Write = Failed device.Write
-save_failure save.Memory = out_of_memory
 
 abbrev pub load_failure : LoadFault → Failure
 load_failure load.Read = Failed device.Read

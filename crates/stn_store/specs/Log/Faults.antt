@@ -1,6 +1,7 @@
 -- Why a log is not loaded, from why its stream ends or one of its frames is refused: lack of memory is always Memory.
-use Rattle.stn_wire.specs.{declared.stream.fault.FrameFault.FrameFault, declared.stream.fault.StreamFault.StreamFault, Stream.wire_fault}
-use Rattle.stn_wire.specs.declared.stream.fault.StreamFault.TheVariants as stream
+use Rattle.stn_device.specs.declared.whole.ReadFault.{ReadFault}
+use Rattle.stn_wire.specs.{declared.stream.fault.FrameFault.FrameFault, Stream.wire_fault}
+use Rattle.stn_device.specs.declared.whole.ReadFault.TheVariants as stream
 use Rattle.stn_lift.specs.declared.fault.BaseFault.{BaseFault}
 use Rattle.stn_lift.specs.declared.fault.BaseFault.TheVariants as base
 use Rattle.stn_site.specs.declared.faults.ReplicaFault.{ReplicaFault}
@@ -8,7 +9,7 @@ use Rattle.stn_site.specs.declared.faults.ReplicaFault.TheVariants as replica
 use Rattle.stn_store.specs.declared.log.fault.LoadFault.{LoadFault}
 use Rattle.stn_store.specs.declared.log.fault.LoadFault.TheVariants.{Read, Bound, Frame, Base, Take, Memory}
 
-abbrev pub of_stream : StreamFault → LoadFault
+abbrev pub of_stream : ReadFault → LoadFault
 of_stream stream.Read = Read
 of_stream stream.Bound = Bound
 of_stream stream.Memory = Memory

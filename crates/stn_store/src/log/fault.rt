@@ -1,54 +1,15 @@
 ghost use Rattle.std.specs.Prelude.{◌≡◌};
 ghost use Rattle.stn_store.specs.Log.Faults.{of_frame, of_stream, of_base, of_replica};
 ghost use Rattle.stn_store.specs.declared.log.fault.LoadFault.TheVariants as load;
-ghost use Rattle.stn_store.specs.declared.log.fault.SaveFault.TheVariants as save;
-ghost use Rattle.stn_store.specs.Log.Failures.{save_failure, load_failure};
+ghost use Rattle.stn_store.specs.Log.Failures.{load_failure};
 
 use std::alloc::{AllocError, AllocFailed};
-use stn_device::WriteFault;
+use stn_device::ReadFault;
 use stn_lift::BaseFault;
 use stn_refusal::{Code, Failure, Fault};
 use stn_site::ReplicaFault;
-use stn_wire::{FrameFault, StreamFault, WireFault};
+use stn_wire::{FrameFault, WireFault};
 use thiserror::Error;
-
-/// Why a log was not saved.
-#[derive(Clone, Copy, Debug, PartialEq, Eq, Error)]
-pub enum SaveFault {
-    /// A call of the writer failed, or took nothing.
-    #[error("a write failed")]
-    Write,
-    /// Memory ran out.
-    #[error("out of memory")]
-    Memory,
-}
-
-impl From<AllocError> for SaveFault {
-    ghost from_gives = { λ _ fault. fault ≡ save.Memory };
-
-    fn from(_refused: AllocError) -> SaveFault {
-        SaveFault::Memory
-    }
-}
-
-impl From<WriteFault> for SaveFault {
-    ghost from_gives = { λ _ fault. fault ≡ save.Write };
-
-    fn from(_fault: WriteFault) -> SaveFault {
-        SaveFault::Write
-    }
-}
-
-impl From<SaveFault> for Failure {
-    ghost from_gives = { λ fault given. given ≡ save_failure fault };
-
-    fn from(fault: SaveFault) -> Failure {
-        match fault {
-            SaveFault::Write => Failure::Failed(Fault::Write),
-            SaveFault::Memory => Failure::Failed(Fault::Memory),
-        }
-    }
-}
 
 /// Why a log was not loaded. The first frame with a fault decides. Lack of memory is always `Memory`, wherever it came.
 #[derive(Clone, Copy, Debug, Error)]
@@ -92,14 +53,14 @@ impl<T: Drop> From<AllocFailed<T>> for LoadFault {
     }
 }
 
-impl From<StreamFault> for LoadFault {
+impl From<ReadFault> for LoadFault {
     ghost from_gives = { λ fault given. given ≡ of_stream fault };
 
-    fn from(fault: StreamFault) -> LoadFault {
+    fn from(fault: ReadFault) -> LoadFault {
         match fault {
-            StreamFault::Read => LoadFault::Read,
-            StreamFault::Bound => LoadFault::Bound,
-            StreamFault::Memory => LoadFault::Memory,
+            ReadFault::Read => LoadFault::Read,
+            ReadFault::Bound => LoadFault::Bound,
+            ReadFault::Memory => LoadFault::Memory,
         }
     }
 }

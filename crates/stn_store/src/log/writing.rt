@@ -4,10 +4,9 @@ ghost use Rattle.stn_device.specs.Counted.{counted_device, failure_count, KeepsC
 ghost use Rattle.stn_device.specs.Bytes.{AppendsPart};
 ghost use Rattle.stn_store.specs.Log.{log_held, log_text, IsLog};
 
-use crate::log::fault::SaveFault;
 use std::alloc::Allocator;
 use std::io::Write;
-use stn_device::{Counted, write_whole};
+use stn_device::{Counted, OutputFault, write_whole};
 use stn_replica::Replica;
 use stn_site::SitePlan;
 use stn_time::Memory;
@@ -21,7 +20,7 @@ pub fn save<W: Write, A: Allocator + Copy>(
     alloc: A,
     replica: &Replica<A>,
     writer: &mut Counted<W>,
-) -> Result<(), SaveFault>
+) -> Result<(), OutputFault>
     requires writer_counts { failure_count writer.old < 2 ^ 64 - 1 }
 
     // The whole log was written.
@@ -34,10 +33,10 @@ pub fn save<W: Write, A: Allocator + Copy>(
     // What a fault leaves.
     ensures part { OnErr result (AppendsPart (W.contents (counted_device writer.old))
         (W.contents (counted_device writer.new)) (log_text (log_held replica.now))) }
-    ensures unwritten { IsErrOf result SaveFault.Memory
+    ensures unwritten { IsErrOf result OutputFault.Memory
         → Keeps (W.contents (counted_device writer.old)) (W.contents (counted_device writer.new)) }
-    ensures write { IsErrOf result SaveFault.Write → failure_count writer.old < failure_count writer.new }
-    ensures kept { result ≢ Err SaveFault.Write → KeepsCount writer.old writer.new }
+    ensures write { IsErrOf result OutputFault.Write → failure_count writer.old < failure_count writer.new }
+    ensures kept { result ≢ Err OutputFault.Write → KeepsCount writer.old writer.new }
 {
     let text = spell_log(alloc, replica.plan())?;
     write_whole(writer, &text)?;

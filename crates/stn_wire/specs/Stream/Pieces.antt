@@ -3,11 +3,12 @@
 use Rattle.std.specs.Prelude.{◌≡◌, ℕ, ◌+◌, ◌<◌, ◌≤◌, List, [], ◌∷◌, ◌++◌, length, Bool, true, false, Option, Some, None, Result, Ok, Err, ⊤}
 use Rattle.std.specs.Io.KnownBytes.{Consumes, IsAtEnd}
 use Rattle.stn_device.specs.Bytes.{most_bytes}
-use Rattle.stn_wire.specs.{Frame.content, Frame.spelling, Frame.IsFrame, Front.IsFront, Front.faulty, Front.unfinished, declared.fault.WireFault.WireFault, declared.frame.Frame.Frame, Stream.Held.Stream, Stream.pending, declared.stream.reader.Next.Next, declared.stream.fault.StreamFault.StreamFault}
+use Rattle.stn_device.specs.declared.whole.ReadFault.{ReadFault}
+use Rattle.stn_wire.specs.{Frame.content, Frame.spelling, Frame.IsFrame, Front.IsFront, Front.faulty, Front.unfinished, declared.fault.WireFault.WireFault, declared.frame.Frame.Frame, Stream.Held.Stream, Stream.pending, declared.stream.reader.Next.Next}
 use Rattle.stn_wire.specs.declared.fault.WireFault.TheVariants as wire
 use Rattle.stn_wire.specs.declared.stream.fault.FrameFault.TheVariants.{Length, Kind, Body}
 use Rattle.stn_wire.specs.declared.stream.reader.Next.TheVariants.{Faulty}
-use Rattle.stn_wire.specs.declared.stream.fault.StreamFault.TheVariants.{Read, Bound, Memory}
+use Rattle.stn_device.specs.declared.whole.ReadFault.TheVariants.{Read, Bound, Memory}
 
 -- what taking what was read answers: the first frame that it completes, and the bytes after it are pending; or none, and all of it is held
 abbrev pub IsFed : {A : Type 0} → Stream → Stream → Result (Option (Frame A)) WireFault → Type 0
@@ -17,7 +18,7 @@ IsFed old new (Err wire.Memory) = ⊤
 IsFed old new (Err fault) = IsFront (pending old) (faulty fault)
 
 -- what comes next where that is a fault
-abbrev pub next_of_fault : {A : Type 0} → WireFault → Result (Next A) StreamFault
+abbrev pub next_of_fault : {A : Type 0} → WireFault → Result (Next A) ReadFault
 next_of_fault wire.Length = Ok (Faulty Length)
 next_of_fault wire.Kind = Ok (Faulty Kind)
 next_of_fault wire.Body = Ok (Faulty Body)
@@ -25,7 +26,7 @@ next_of_fault other = Err Memory
 
 -- what reading one piece more answers: whether there is one, which is pending after what was held; or a fault. Bound shows a
 -- byte beyond the limit
-abbrev pub IsFilled : Stream → Stream → Option (List ℕ) → Option (List ℕ) → Result Bool StreamFault → Type 0
+abbrev pub IsFilled : Stream → Stream → Option (List ℕ) → Option (List ℕ) → Result Bool ReadFault → Type 0
 IsFilled old new before after (Ok true) =
     (bytes : List ℕ) × Consumes before after bytes × (0 < length bytes) × (pending new ≡ pending old ++ bytes) × (new.count ≡ old.count + length bytes)
 IsFilled old new before after (Ok false) = Consumes before after [] × IsAtEnd after × (new ≡ old)
@@ -34,7 +35,7 @@ IsFilled old new before after (Err Bound) = (byte : ℕ) × Consumes before afte
 IsFilled old new before after (Err Memory) = (bytes : List ℕ) × Consumes before after bytes × (old.count + length bytes ≤ most_bytes)
 
 -- at the limit: a byte stands beyond it, or a read failed
-abbrev pub IsBeyond : Option (List ℕ) → Option (List ℕ) → StreamFault → Type 0
+abbrev pub IsBeyond : Option (List ℕ) → Option (List ℕ) → ReadFault → Type 0
 IsBeyond before after Bound = (byte : ℕ) × Consumes before after (byte ∷ [])
 IsBeyond before after Read = Consumes before after []
 IsBeyond before after Memory = ⊥

@@ -1,11 +1,9 @@
 ghost use Rattle.std.specs.Prelude.{◌≡◌};
 ghost use Rattle.stn_wire.specs.Stream.{frame_code, wire_fault};
-ghost use Rattle.stn_wire.specs.declared.stream.fault.StreamFault.TheVariants.{Memory};
-ghost use Rattle.stn_wire.specs.Stream.Failures.{frame_failure, stream_failure};
+ghost use Rattle.stn_wire.specs.Stream.Failures.{frame_failure};
 
 use crate::WireFault;
-use std::alloc::AllocError;
-use stn_refusal::{Code, Failure, Fault};
+use stn_refusal::{Code, Failure};
 use thiserror::Error;
 
 /// Why bytes begin no frame.
@@ -51,40 +49,6 @@ impl From<FrameFault> for WireFault {
             FrameFault::Length => WireFault::Length,
             FrameFault::Kind => WireFault::Kind,
             FrameFault::Body => WireFault::Body,
-        }
-    }
-}
-
-/// Why nothing more comes of a stream.
-#[derive(Clone, Copy, Debug, PartialEq, Eq, Error)]
-pub enum StreamFault {
-    /// A call of the reader failed.
-    #[error("a read failed")]
-    Read,
-    /// The stream has more than `MOST_BYTES` bytes.
-    #[error("the stream is too long")]
-    Bound,
-    /// Memory was refused.
-    #[error("out of memory")]
-    Memory,
-}
-
-impl From<AllocError> for StreamFault {
-    ghost from_gives = { λ _ fault. fault ≡ Memory };
-
-    fn from(_refused: AllocError) -> StreamFault {
-        StreamFault::Memory
-    }
-}
-
-impl From<StreamFault> for Failure {
-    ghost from_gives = { λ fault given. given ≡ stream_failure fault };
-
-    fn from(fault: StreamFault) -> Failure {
-        match fault {
-            StreamFault::Read => Failure::Failed(Fault::Read),
-            StreamFault::Bound => Failure::Failed(Fault::Bound),
-            StreamFault::Memory => Failure::Failed(Fault::Memory),
         }
     }
 }

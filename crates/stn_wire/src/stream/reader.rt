@@ -6,14 +6,14 @@ ghost use Rattle.stn_device.specs.Counted.{counted_device, CountsFailure, KeepsC
 ghost use Rattle.stn_wire.specs.Stream.{unread, pending, IsReading, Gives};
 ghost use Rattle.stn_wire.specs.Stream.Pieces.{next_of_fault, IsFed, IsFilled, IsBeyond};
 ghost use Rattle.stn_wire.specs.declared.stream.reader.Next.TheVariants.{Closed, Cut};
-ghost use Rattle.stn_wire.specs.declared.stream.fault.StreamFault.TheVariants.{Read};
+ghost use Rattle.stn_device.specs.declared.whole.ReadFault.TheVariants.{Read};
 
-use crate::stream::fault::{FrameFault, StreamFault};
+use crate::stream::fault::FrameFault;
 use crate::{Feeder, Frame, WireFault};
 use std::alloc::Allocator;
 use std::io::Read;
 use std::marker::Model;
-use stn_device::{Counted, MOST_BYTES};
+use stn_device::{Counted, MOST_BYTES, ReadFault};
 
 // How many bytes one call of the reader is asked for at most.
 const PIECE: usize = 4096;
@@ -68,7 +68,7 @@ impl<A: Allocator + Copy> FrameReader<A> {
     }
 
     /// What comes next. It asks the reader for more only where no whole frame is left of what was read.
-    pub fn next<R: Read>(&mut self, reader: &mut Counted<R>) -> Result<Next<A>, StreamFault>
+    pub fn next<R: Read>(&mut self, reader: &mut Counted<R>) -> Result<Next<A>, ReadFault>
         requires { IsReading self.old }
         ensures gives { Gives self.old self.new (R.remaining (counted_device reader.old)) (R.remaining (counted_device reader.new)) result }
         ensures closed { result ≡ Ok Closed → IsAtEnd (R.remaining (counted_device reader.new)) }
@@ -103,7 +103,7 @@ impl<A: Allocator + Copy> FrameReader<A> {
     }
 
     // Reads the next piece, where all that was read is held. Whether there is one.
-    fn fill<R: Read>(&mut self, reader: &mut Counted<R>) -> Result<bool, StreamFault>
+    fn fill<R: Read>(&mut self, reader: &mut Counted<R>) -> Result<bool, ReadFault>
         requires reading { IsReading self.old }
         requires held { self.old.behind ≡ [] }
         ensures filled { IsFilled self.old self.new (R.remaining (counted_device reader.old)) (R.remaining (counted_device reader.new)) result }
@@ -126,7 +126,7 @@ impl<A: Allocator + Copy> FrameReader<A> {
                 self.taken += count;
                 Ok(true)
             }
-            Err(_) => Err(StreamFault::Read),
+            Err(_) => Err(ReadFault::Read),
         }
     }
 
@@ -146,19 +146,19 @@ impl<A: Allocator + Copy> FrameReader<A> {
 }
 
 // What comes next where taking what was read gave a fault. That of an old frame is none of bytes.
-fn next_of_fault<A: Allocator>(fault: WireFault) -> Result<Next<A>, StreamFault>
+fn next_of_fault<A: Allocator>(fault: WireFault) -> Result<Next<A>, ReadFault>
     ensures { result ≡ next_of_fault fault }
 {
     match fault {
         WireFault::Length => Ok(Next::Faulty(FrameFault::Length)),
         WireFault::Kind => Ok(Next::Faulty(FrameFault::Kind)),
         WireFault::Body => Ok(Next::Faulty(FrameFault::Body)),
-        WireFault::OldFrame | WireFault::Memory => Err(StreamFault::Memory),
+        WireFault::OldFrame | WireFault::Memory => Err(ReadFault::Memory),
     }
 }
 
 // At the limit: no byte more, or the fault of one.
-fn look_beyond<R: Read>(reader: &mut Counted<R>) -> Result<bool, StreamFault>
+fn look_beyond<R: Read>(reader: &mut Counted<R>) -> Result<bool, ReadFault>
     ensures end { IfOk result (λ more. (more ≡ false) × Consumes (R.remaining (counted_device reader.old)) (R.remaining (counted_device reader.new)) []
         × IsAtEnd (R.remaining (counted_device reader.new))) }
     ensures fault { IfErr result (IsBeyond (R.remaining (counted_device reader.old)) (R.remaining (counted_device reader.new))) }
@@ -168,7 +168,7 @@ fn look_beyond<R: Read>(reader: &mut Counted<R>) -> Result<bool, StreamFault>
     let mut beyond = [0u8; 1];
     match reader.read(&mut beyond) {
         Ok(0) => Ok(false),
-        Ok(_) => Err(StreamFault::Bound),
-        Err(_) => Err(StreamFault::Read),
+        Ok(_) => Err(ReadFault::Bound),
+        Err(_) => Err(ReadFault::Read),
     }
 }

@@ -5,7 +5,7 @@ use Rattle.std.proofs.lemmas.Result.{err_from_is_err_and}
 use Rattle.std.specs.Io.KnownBytes.{Appends}
 use Rattle.stn_device.specs.Bytes.{AppendsPart}
 use Rattle.stn_session.specs.Exchange.{request_bytes}
-use Rattle.stn_session.specs.declared.exchange.SendFault.TheVariants.{Write, Memory}
+use Rattle.stn_device.specs.declared.whole.OutputFault.TheVariants.{Write, Memory}
 use Rattle.stn_device.proofs.Known.{fault_or, not_err}
 use Rattle.stn_session.proofs.Answered.{fails_more}
 use Rattle.stn_session.proofs.exchange.send_requests.Goals as goal

@@ -5,8 +5,8 @@ use Rattle.stn_lift.specs.PlanSource.{PlanSource}
 use Rattle.stn_wire.specs.Frame.{content}
 use Rattle.stn_wire.specs.Stream.Held.{Stream}
 use Rattle.stn_wire.specs.Stream.{pending}
-use Rattle.stn_wire.specs.declared.stream.fault.StreamFault.{StreamFault}
-use Rattle.stn_wire.specs.declared.stream.fault.StreamFault.TheVariants as stream
+use Rattle.stn_device.specs.declared.whole.ReadFault.{ReadFault}
+use Rattle.stn_device.specs.declared.whole.ReadFault.TheVariants as stream
 use Rattle.stn_session.specs.Session.{answer}
 use Rattle.stn_session.specs.Serving.{serve_fault}
 use Rattle.stn_session.specs.Keeping.{KeepsChange}
@@ -44,7 +44,7 @@ returns-in_err-frame g c =
       site = i.site;
       read = λ e. fails_more _ _ _ (c.in_err-frame.ensures.read (ap Err (stream_read fault (ap (serve_fault_or Memory) e)))) i.reader_kept c.requires.reader_counts;
       write = λ e. absurd (stream_unwritten fault (ap (serve_fault_or Memory) e));
-      reader_kept = λ other. c.in_err-frame.ensures.kept (λ e. other (ap (λ (s : StreamFault). Err (Serve (serve_fault s))) (ap (fault_or stream.Read) e))) ∙ i.reader_kept;
+      reader_kept = λ other. c.in_err-frame.ensures.kept (λ e. other (ap (λ (s : ReadFault). Err (Serve (serve_fault s))) (ap (fault_or stream.Read) e))) ∙ i.reader_kept;
       writer_kept = λ _. i.writer_kept;
     })
 

@@ -1,9 +1,10 @@
 use Rattle.std.proofs.Common.{refl, ap, Ok, Err, ◌∙◌}
 use Rattle.std.proofs.lemmas.Result.{err_from_is_err_and}
 use Rattle.stn_wire.specs.Frame.{content}
-use Rattle.stn_wire.specs.{Stream.Held.Stream, Stream.pending, Stream.wire_fault, declared.stream.fault.StreamFault.StreamFault}
+use Rattle.stn_device.specs.declared.whole.ReadFault.{ReadFault}
+use Rattle.stn_wire.specs.{Stream.Held.Stream, Stream.pending, Stream.wire_fault}
 use Rattle.stn_wire.proofs.Streams.{measure_falls}
-use Rattle.stn_wire.specs.declared.stream.fault.StreamFault.TheVariants as stream
+use Rattle.stn_device.specs.declared.whole.ReadFault.TheVariants as stream
 use Rattle.stn_store.specs.{Log.Faults.of_stream, declared.log.fault.LoadFault.TheVariants.Read}
 use Rattle.stn_device.proofs.Known.{fault_or, not_err}
 use Rattle.stn_store.proofs.log.Answered.{fails_more, not_read, not_bound}
@@ -33,7 +34,7 @@ returns-in_err-frame g c =
       «open» = λ e. stream_open _ _ _ _ _ q g.row.A.Denot c.next.new.self fault (ap (fault_or Read) e) gave.next;
       read = λ e. fails_more _ _ _ (c.in_err-frame.ensures.read (ap Err (stream_read fault (ap (fault_or Read) e)))) i.kept c.requires.reader_counts;
       bound = λ e. stream_bound _ _ _ _ _ q g.row.A.Denot c.next.new.self fault (ap (fault_or Read) e) gave.counted;
-      kept = λ other. c.in_err-frame.ensures.kept (λ e. other (ap (λ (s : StreamFault). Err (of_stream s)) (ap (fault_or stream.Read) e))) ∙ i.kept;
+      kept = λ other. c.in_err-frame.ensures.kept (λ e. other (ap (λ (s : ReadFault). Err (of_stream s)) (ap (fault_or stream.Read) e))) ∙ i.kept;
       used = stream_used _ _ _ _ _ q g.row.A.Denot c.next.new.self fault gave.counted;
     })
 

@@ -1,6 +1,7 @@
 use Rattle.std.proofs.Common.{◌≡◌, ◌+◌, ◌<◌, [], length, take, refl, ap, ◌∙◌, arith}
 use Rattle.std.proofs.{KnownBytes.Consumes-nil, KnownBytes.Consumes-kept, lemmas.Grind.common_steps, lemmas.Result.err_from_is_err_and}
-use Rattle.stn_wire.specs.{Stream.Held.Stream, declared.stream.fault.StreamFault.TheVariants.Read}
+use Rattle.stn_device.specs.declared.whole.ReadFault.TheVariants.{Read}
+use Rattle.stn_wire.specs.Stream.Held.{Stream}
 use Rattle.stn_wire.proofs.Streams.{fault_or, memory_unread, not_err, always, read_none, beyond_filled, piece_filled}
 use Rattle.stn_wire.proofs.stream.reader.FrameReader.fill.Goals as goal
 

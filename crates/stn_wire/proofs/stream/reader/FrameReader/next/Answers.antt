@@ -1,7 +1,8 @@
 use Rattle.std.proofs.Common.{◌+◌, ◌-◌, ◌^◌, min, Err, [], refl, sym, ap, subst, ◌∙◌, append-nil, arith}
 use Rattle.std.proofs.{KnownBytes.Consumes-nil, lemmas.Bool.true≢false, lemmas.Result.err_from_is_err_and}
 use Rattle.stn_wire.specs.Front.{IsFront, unfinished}
-use Rattle.stn_wire.specs.{Stream.Held.Stream, declared.stream.fault.StreamFault.TheVariants.Read}
+use Rattle.stn_device.specs.declared.whole.ReadFault.TheVariants.{Read}
+use Rattle.stn_wire.specs.Stream.Held.{Stream}
 use Rattle.stn_wire.proofs.Streams.{goes_on, fault_goes_on, fault_or, not_err, not_ok, gives_frame, gives_fault, filled_more, filled_end, filled_at_end, filled_smaller, fill_fails}
 use Rattle.stn_wire.proofs.stream.reader.FrameReader.next.Goals as goal
 
