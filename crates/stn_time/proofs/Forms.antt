@@ -1,7 +1,7 @@
 -- The parts of a text: that they are found, and that there is one set of them at most.
 use Rattle.std.proofs.Common.{◌≡◌, ℕ, ◌<◌, ◌≤◌, Bool, true, false, cond, ◌&&◌, List, [], ◌∷◌, ◌++◌, length, take, drop, ℤ, Option, Some, None, Result, Ok, Err, refl, sym, ap, ◌∙◌, subst, ◌↔◌, arith, eqb}
 use Rattle.std.specs.{Char.is_ascii_digit, Char.digit_value, Int.IsInRange, Fmt.sign_text, List.prefix_len, Str.all_ascii_digits, Option.option_map}
-use Rattle.std.specs.Str.Parse.{AllDigits, IsNumeral, digits_value, starts_with_minus}
+use Rattle.std.specs.Str.Parse.{AllDigits, IsNumeral, starts_with_minus}
 use Rattle.std.proofs.{lemmas.Str.Parse.digit_from_value, lemmas.Bool.false≢true, lemmas.Bool.eqb-true, lemmas.Bool.Decides.nat_tests, lemmas.Int.ints, lemmas.List.take-append-drop, lemmas.List.length-take, lemmas.List.Sums.take_while-cons, lemmas.List.Sums.prefix_len-le-length, Math.Seq.take-append_seam, Math.Seq.drop-append_seam}
 use Rattle.std.proofs.lemmas.Option.{cond_some, none-some, same_Some}
 use Rattle.stn_text.proofs.Digits.{own}
