@@ -16,3 +16,6 @@ returns g c =
     let small : c.args.steps ≤ most_steps = omega arith in
     let sound = sound_bare_source c.args.steps small in
     record { made = refl; limit = (λ same. cc, λ many. absurd (omega arith)); given = sound.based; sound = sound }
+
+pub horizon_bounds-requires : goal.horizon_bounds-requires
+horizon_bounds-requires g c = omega arith
