@@ -7,6 +7,9 @@ use Rattle.stn_net.proofs.Closure.{shorter-closed, closed_same, lower_round, nar
 use Rattle.stn_net.proofs.matrix.square.Square.narrow.Given.{Over}
 use Rattle.stn_net.proofs.matrix.square.Square.narrow.Goals as goal
 
+pub shorten-requires-clause-round : goal.shorten-requires-clause-round
+shorten-requires-clause-round g c = rw (c.from.ensures.value, c.to.ensures.value, c.hi.ensures.value) (omega (arith, ints, c.requires.room.upper))
+
 pub shorten-requires-2-clause-closed : goal.shorten-requires-2-clause-closed
 shorten-requires-2-clause-closed g c =
     let old = entry c.args.self.now in

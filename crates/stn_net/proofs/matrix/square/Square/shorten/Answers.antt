@@ -1,10 +1,13 @@
-use Rattle.std.proofs.Common.{ap, ◌≡◌, pos, ◌+◌, ◌∙◌, arith, sym, subst, to_z, of_z, w64, ◌+ℤ◌, ◌≤ℤ◌, ◌<ℤ◌, ◌≤◌}
+use Rattle.std.proofs.Common.{ap, refl, ◌≡◌, pos, ◌+◌, ◌∙◌, arith, sym, subst, to_z, of_z, w64, ◌+ℤ◌, ◌≤ℤ◌, ◌<ℤ◌, ◌≤◌}
 use Rattle.std.specs.Prelude.{slice_index_or}
 use Rattle.std.proofs.lemmas.Int.{ints}
 use Rattle.stn_net.specs.{Matrix.Table.entry, Matrix.Table.entry_at, Matrix.Way.AreRunsOf, Matrix.Way.IsRowShortened}
 use Rattle.stn_net.proofs.{Closure.closed_within, Closure.shorter-kept_row, Entries.IsNearerRow, Entries.nearer_row, Entries.row_left_out, Entries.shortened_skip, Entries.shortened_turn, Passing.runs_of_row}
 use Rattle.stn_net.proofs.matrix.square.Square.shorten.{Given.Over, Goals.then-through-own, Goals.else-through-own}
 use Rattle.stn_net.proofs.matrix.square.Square.shorten.Goals as goal
+
+pub loop-row-init : goal.loop-row-init
+loop-row-init g c = record { events = refl; shortened = record { here = λ x y x_before. absurd (omega (arith, x_before)); left = λ x y _ _ _. refl } }
 
 pub overflow_add-through : goal.overflow_add-through
 overflow_add-through g c =
