@@ -1,7 +1,8 @@
 -- Known bytes over several calls of a device.
-use Rattle.std.proofs.Common.{◌≡◌, ℕ, ◌+◌, ◌<◌, ◌≤◌, List, ◌++◌, length, take, drop, Option, None, Some, IfSome, Result, Ok, Err, is_err, sym, ap, subst, ◌∙◌, arith, append_assoc, append-nil, length-append}
+use Rattle.std.proofs.Common.{◌≡◌, ℕ, ◌+◌, ◌<◌, ◌≤◌, List, ◌++◌, length, take, drop, Option, None, Some, IfSome, Result, Ok, Err, is_err, true, sym, ap, subst, ◌∙◌, arith, append_assoc, append-nil, length-append}
 use Rattle.std.proofs.{lemmas.Bool.false≢true, lemmas.List.take-append-drop, KnownBytes.Appends-trans, KnownBytes.Consumes-trans}
 use Rattle.std.specs.Io.KnownBytes.{Appends, Consumes}
+use Rattle.std.specs.Result.{is_ok, OnOk}
 use Rattle.stn_device.specs.Bytes.{ConsumesAtMost}
 
 -- the fault of an answer
@@ -12,6 +13,11 @@ fault_or other (Err fault) = fault
 -- an answer that was given is no fault
 pub not_err : {X E : Type 0} (given : X) (fault : E) → (let answer : Result X E = Ok given in answer) ≡ Err fault → ⊥
 not_err given fault is = false≢true (ap is_err is)
+
+-- what an answer ensures where it was given
+pub on_given : {X E P : Type 0} (answer : Result X E) → true ≡ is_ok answer → OnOk answer P → P
+on_given (Ok given) is p = p
+on_given (Err fault) is p = absurd (false≢true (sym is))
 
 -- two reads in a row use what both use
 pub ConsumesAtMost-trans : (a b c : Option (List ℕ)) (bs cs : List ℕ) (n : ℕ) → Consumes a b bs → Consumes b c cs → length bs + length cs ≤ n → ConsumesAtMost a c n
