@@ -1,9 +1,17 @@
 use Rattle.std.proofs.Common.{inl, inr}
-use Rattle.std.proofs.lemmas.Result.{IfOk-weaker}
+use Rattle.std.proofs.lemmas.{Option.MatchOption-at_some, Result.IfOk-weaker}
+use Rattle.stn_net.specs.Schedule.{HasSchedule}
+use Rattle.stn_site.specs.Bounds.{all_bounds}
 use Rattle.stn_site.proofs.Printing.{kept_err}
-use Rattle.stn_questions.specs.Why.{IsApartText}
+use Rattle.stn_questions.specs.Why.{HoldEnds, IsApartText}
 use Rattle.stn_questions.proofs.Reasons.{reasons_appended}
 use Rattle.stn_questions.proofs.apart.append_apart.Goals as goal
+
+pub text_of-requires : goal.text_of-requires
+text_of-requires g c =
+    let source = c.args.plan.now.source in
+    let state = c.args.plan.now.state in
+    MatchOption-at_some (¬ HasSchedule (all_bounds source state)) (HoldEnds source state c.args.from c.args.to) c.in-Some.ends c.in-Some.is c.in_ok-ends.ensures
 
 pub returns-in_ok-text-in-Some : goal.returns-in_ok-text-in-Some
 returns-in_ok-text-in-Some g c = record {

@@ -1,0 +1,20 @@
+use Rattle.std.proofs.Common.{◌≡◌, ℤ, neg_ℤ, Bool, true, false, ◌++◌, codes, cond, ap, ◌∙◌}
+use Rattle.std.proofs.lemmas.Result.{IfOk-equal}
+use Rattle.std.specs.Ordering.{int_eq}
+use Rattle.stn_time.specs.{Time.horizon, Text.printed}
+use Rattle.stn_site.proofs.{Printing.appended_ok, Values.held_is}
+use Rattle.stn_questions.specs.Bounds.{lower_text}
+use Rattle.stn_questions.proofs.bounds.append_lower.Goals as goal
+
+side : (lo edge : ℤ) (is_open : Bool) → edge ≡ neg_ℤ horizon → is_open ≡ int_eq lo edge → cond is_open (codes "*") (printed lo) ≡ lower_text lo
+side lo edge is_open is told = ap (λ so. cond so (codes "*") (printed lo)) (told ∙ ap (int_eq lo) is)
+
+pub returns-then-eq : goal.returns-then-eq
+returns-then-eq g c =
+    IfOk-equal c.extend_from_slice.result _ _ _ (appended_ok c.extend_from_slice.result c.extend_from_slice.new.self.items c.args.out.now.items (codes "*") c.extend_from_slice.ensures.items)
+    (ap (λ text. c.args.out.now.items ++ text) (side c.args.lo c.unwrap.result true (held_is c.new.result c.unwrap.result (neg_ℤ horizon) c.unwrap.ensures c.new.ensures.value) c.if-eq.ensures))
+
+pub returns-else-eq : goal.returns-else-eq
+returns-else-eq g c =
+    IfOk-equal c.print.result _ _ _ c.print.ensures.ok
+    (ap (λ text. c.args.out.now.items ++ text) (side c.args.lo c.unwrap.result false (held_is c.new.result c.unwrap.result (neg_ℤ horizon) c.unwrap.ensures c.new.ensures.value) c.if-eq.ensures))
