@@ -1,11 +1,11 @@
 //! What a log says by now, taken in by a replica.
 
-ghost use Rattle.std.specs.Prelude.{◌≡◌, OnOk, OnErr, IfErr};
+ghost use Rattle.std.specs.Prelude.{◌≡◌, ◌⊎◌, OnOk, OnErr, IfOk, IfErr, IfSome};
 ghost use Rattle.stn_shell.specs.Joining.{JoinsLog, IsUntaken, SavesJoin, KeepsIn, FailsIn, IsUnkept};
 ghost use Rattle.stn_site.specs.Calls.{Leaves, took};
 ghost use Rattle.stn_shell.specs.Refusals.{IsMergeFailure};
 ghost use Rattle.stn_store.specs.Log.{log_held};
-ghost use Rattle.stn_store.specs.Store.{IsLack, saved_too};
+ghost use Rattle.stn_store.specs.Store.{Opens, IsUnopened, IsLack, saved_too};
 
 use crate::changes::{find_same, take_in as take_in_plan};
 use std::alloc::Allocator;
@@ -16,12 +16,14 @@ use stn_session::Keeper;
 use stn_site::SitePlan;
 use stn_store::Store;
 
-/// Takes in what a log says. A log that is gone says nothing. A refusal or a fault changes nothing.
-pub fn take_log<S: Store<A>, A: Allocator + Copy>(
-    store: &S,
+/// Takes in what a log says, held or not. A log that is gone says nothing. A refusal or a fault changes nothing.
+pub fn take_log<'a, S: Store<A>, A: Allocator + Copy>(
+    store: &'a S,
     log: &SiteLog<'_>,
+    held: Option<&'a S::Held>,
     replica: &mut Replica<A>,
 ) -> Result<(), Failure>
+    requires { IfSome held (λ held. S.held_name held.now ≡ log.now.name.now) }
     ensures taken { OnOk result (JoinsLog (S.entries store.now) log.now replica.old.source replica.old.state replica.new.state) }
     ensures untaken { IfErr result (IsUntaken S.fails (S.entries store.now) log.now replica.old.source replica.old.state) }
     ensures kept { OnErr result (replica.new ≡ replica.old) }
@@ -29,12 +31,28 @@ pub fn take_log<S: Store<A>, A: Allocator + Copy>(
     ensures site { replica.new.site ≡ replica.old.site }
 {
     if store.is_there(log.name)? {
-        let said = store.load(log.name, log.site)?;
+        let said = load(store, log, held)?;
         let taken = take_in(replica, &said);
         drop(said);
         taken
     } else {
         Ok(())
+    }
+}
+
+// A site's copy of a plan by a log, held or not.
+fn load<S: Store<A>, A: Allocator + Copy>(
+    store: &S,
+    log: &SiteLog<'_>,
+    held: Option<&S::Held>,
+) -> Result<SitePlan<A>, Failure>
+    requires { IfSome held (λ held. S.held_name held.now ≡ log.now.name.now) }
+    ensures opened { IfOk result (λ plan. Opens (S.entries store.now) log.now.name.now log.now.site plan) }
+    ensures failed { IfErr result (λ failure. IsUnopened (S.entries store.now) log.now.name.now failure ⊎ IsLack S.fails failure) }
+{
+    match held {
+        Some(held) => store.load_held(held, log.site),
+        None => store.load(log.name, log.site),
     }
 }
 
@@ -52,32 +70,8 @@ pub fn save_join<S: Store<A>, A: Allocator + Copy>(
     ensures site { replica.new.site ≡ replica.old.site }
 {
     let held = store.hold(log.name)?;
-    take_held(store, log, &held, replica)?;
+    take_log(store, log, Some(&held), replica)?;
     save(store, &held, replica.plan())
-}
-
-// Takes in what a log says that is held.
-fn take_held<S: Store<A>, A: Allocator + Copy>(
-    store: &S,
-    log: &SiteLog<'_>,
-    held: &S::Held,
-    replica: &mut Replica<A>,
-) -> Result<(), Failure>
-    requires { S.held_name held.now ≡ log.now.name.now }
-    ensures taken { OnOk result (JoinsLog (S.entries store.now) log.now replica.old.source replica.old.state replica.new.state) }
-    ensures untaken { IfErr result (IsUntaken S.fails (S.entries store.now) log.now replica.old.source replica.old.state) }
-    ensures kept { OnErr result (replica.new ≡ replica.old) }
-    ensures source { replica.new.source ≡ replica.old.source }
-    ensures site { replica.new.site ≡ replica.old.site }
-{
-    if store.is_there(log.name)? {
-        let said = store.load_held(held, log.site)?;
-        let taken = take_in(replica, &said);
-        drop(said);
-        taken
-    } else {
-        Ok(())
-    }
 }
 
 // Saves a site's copy of a plan as the log that is held.

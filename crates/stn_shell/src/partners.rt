@@ -69,7 +69,7 @@ fn serve_saved<S: Store<A>, R: Read, W: Finish, A: Allocator + Copy>(
     ensures source { replica.new.source ≡ replica.old.source }
     ensures site { replica.new.site ≡ replica.old.site }
 {
-    take_log(store, log, replica)?;
+    take_log(store, log, None, replica)?;
     let session = serve_session(alloc, store, partner, log, replica)?;
     save_join(store, log, replica)?;
     Ok(session)

@@ -10,10 +10,10 @@ returns-in_err-held g c =
     let p = err_from_is_err_and c.from_residual.result c.from_residual.ensures.1 in
     rw (p.1, p.2) (record { saved = tt; unkept = inl (inl c.in_err-held.ensures.failed, refl); unsaved = refl; source = refl; site = refl })
 
-pub returns-in_err-take_held : goal.returns-in_err-take_held
-returns-in_err-take_held g c =
-    let p = err_from_is_err_and c.from_residual-in_err-take_held.result c.from_residual-in_err-take_held.ensures.1 in
-    let is = c.in_err-take_held.ensures in
+pub returns-in_err-take_log : goal.returns-in_err-take_log
+returns-in_err-take_log g c =
+    let p = err_from_is_err_and c.from_residual-in_err-take_log.result c.from_residual-in_err-take_log.ensures.1 in
+    let is = c.in_err-take_log.ensures in
     rw (p.1, p.2) (record {
       saved = tt;
       unkept = inl (is.untaken, ap (λ (held : Held). held.state) is.kept);
@@ -22,13 +22,13 @@ returns-in_err-take_held g c =
       site = is.site;
     })
 
-pub take_held-requires : goal.take_held-requires
-take_held-requires g c = c.in_ok-held.ensures.named
+pub take_log-requires : goal.take_log-requires
+take_log-requires g c = c.in_ok-held.ensures.named
 
 pub returns : goal.returns
 returns g c =
-    let took = c.in_ok-take_held.ensures in
-    let saved = saves_same c.save.result _ _ _ c.take_held.new.replica c.plan.result.now c.plan.ensures.source c.plan.ensures.state (rw c.in_ok-held.ensures.named at c.save.ensures.saved) in
+    let took = c.in_ok-take_log.ensures in
+    let saved = saves_same c.save.result _ _ _ c.take_log.new.replica c.plan.result.now c.plan.ensures.source c.plan.ensures.state (rw c.in_ok-held.ensures.named at c.save.ensures.saved) in
     record {
       saved = join_saved c.save.result c.args.log.now _ _ _ _ _ _ took.source took.taken saved;
       unkept = IfErr-weaker c.save.result _ _ (λ failure lack. inr (took.taken, lack)) c.save.ensures.failed;
