@@ -32,3 +32,6 @@ first_between-requires g c =
       long = long;
       none = λ has. false≢true (sym c.if-settle.false ∙ c.settle.ensures.possible.1 has);
     })
+
+pub returns-then-settle-clause-found : goal.returns-then-settle-clause-found
+returns-then-settle-clause-found g c = c.settle.ensures.possible.0 c.if-settle.true
