@@ -14,3 +14,6 @@ returns-in_err-bound-clause-fault g c =
     let p = err_from_is_err_and c.from_residual.result c.from_residual.ensures.1 in
     rw (p.1, p.2) (ap (λ o. unwrap_or o Memory) (sym (fixed_refused c.args.self.now c.origin-2.result c.args.event c.args.time c.in_err-bound.field-0.0 c.origin-2.ensures
     (λ first. eqb-false c.args.event c.origin.result (sym c.if-eq.ensures) (first ∙ sym c.origin.ensures)) c.in_err-bound.ensures.fault)))
+
+pub returns-clause-leaves : goal.returns-clause-leaves
+returns-clause-leaves g c = rw (c.in_ok-bound.ensures.made, c.origin-2.ensures) at c.hold.ensures.leaves
