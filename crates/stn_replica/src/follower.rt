@@ -54,10 +54,11 @@ impl<A: Allocator + Copy> Follower<A> {
         ensures kept { OnErr result (self.new ≡ self.old) }
     {
         if !self.latest.base().same(plan.base()) {
-            *self = Follower::of(plan)?;
+            drop(mem::replace(self, Follower::of(plan)?));
         } else if !has_grown(self.latest.records(), plan.records()) {
             if !has_grown(self.earlier.records(), plan.records()) {
-                self.earlier = self.earlier.beside(plan.site())?;
+                let beside = self.earlier.beside(plan.site())?;
+                drop(mem::replace(&mut self.earlier, beside));
             }
             self.latest.continue_from(&self.earlier, plan);
         } else if gains_live(self.latest.records(), plan.records()) {
