@@ -1,0 +1,23 @@
+use Rattle.std.proofs.Common.{◌≡◌, ℤ, Vec, Result, Ok, Err, true, inl, inr, sym, ap, ◌∙◌}
+use Rattle.std.specs.Prelude.{Some}
+use Rattle.stn_refusal.specs.declared.failure.Failure.{Failure}
+use Rattle.stn_lift.specs.PlanSource.{steps_of}
+use Rattle.stn_site.specs.Held.{Held}
+use Rattle.stn_command.specs.{declared.queries.Outlook.Outlook, Dispatch.Choice, Dispatch.done_or_not_chosen, Query.Foresees, Query.Says, Query.has_steps, Query.seen_choice, Query.among}
+use Rattle.stn_command.proofs.queries.among.Goals as goal
+use Rattle.std.proofs.Common.{ℕ}
+
+foreseen : {A : Type 0} (held : Held) (outlook : Outlook) (now : ℤ) (choice : Choice) (result : Result (Vec ℕ A) Failure) → has_steps choice (steps_of held.source) ≡ true
+    → Foresees outlook now (done_or_not_chosen choice held.source held.state) held result → Says (among outlook now choice) held result
+foreseen held outlook now choice (Ok text) has (said, free) = (said, inr (has, free))
+foreseen held outlook now choice (Err failure) has (inl refused) = inl (inr (has, refused))
+foreseen held outlook now choice (Err failure) has (inr (lack, free)) = inr (lack, inr (has, free))
+
+pub returns-then-has_steps : goal.returns-then-has_steps
+returns-then-has_steps g c =
+    foreseen c.args.replica.now c.args.outlook c.args.now (seen_choice c.args.choice.now) c.of_chosen.result
+    (ap (has_steps (seen_choice c.args.choice.now)) (sym (c.steps.ensures.value ∙ ap steps_of c.base.ensures)) ∙ sym c.has_steps.ensures ∙ c.if-has_steps.true) c.of_chosen.ensures
+
+pub returns-else-has_steps : goal.returns-else-has_steps
+returns-else-has_steps g c =
+    inl (inl (ap (has_steps (seen_choice c.args.choice.now)) (sym (c.steps.ensures.value ∙ ap steps_of c.base.ensures)) ∙ sym c.has_steps.ensures ∙ c.if-has_steps.false, ap Some c.from.ensures))
