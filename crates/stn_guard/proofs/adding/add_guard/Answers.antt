@@ -19,6 +19,12 @@ returns-in_err-add_each-in-Some-clause-fault g c =
     rw is (⊎_elim inl (λ cause. inr (guarded within made.possible guard made.is_guard (cause ∙ ap (λ (l : List Difference). records_refusal held (length l)) c.deref.ensures.value)))
     (cause_or_memory (records_refusal held (length c.deref.result.now)) c.in_err-add_each-in-Some.field-0.0 c.in_err-add_each-in-Some.ensures.fault))
 
+pub returns-in_ok-add_each-in-Some-clause-adds : goal.returns-in_ok-add_each-in-Some-clause-adds
+returns-in_ok-add_each-in-Some-clause-adds g c =
+    let held = c.args.plan.now in
+    let made = MatchOption-at_some (¬ HasSchedule (all_bounds held.source held.state)) (λ b. MakesGuard c.args.owned.now held b.items) c.in-Some.bounds c.in-Some.is c.in-Ok.ensures in
+    record { possible = made.possible; guard = c.in-Some.bounds.items; is_guard = made.is_guard; adds = rw c.deref.ensures.value at c.in_ok-add_each-in-Some.ensures.adds }
+
 pub returns-in_ok-add_each-in-Some-clause-guarded : goal.returns-in_ok-add_each-in-Some-clause-guarded
 returns-in_ok-add_each-in-Some-clause-guarded g c =
     let held = c.args.plan.now in

@@ -23,6 +23,9 @@ restrict-requires-clause-ordered g c =
     (omega (arith, ints, c.if-get.false, c.get.ensures.value, c.get-2.ensures.value, c.get-3.ensures.value, c.get.ensures.within.0, c.get.ensures.within.1, c.get-2.ensures.within.0, c.get-2.ensures.within.1)) in
     omega (arith, ints, c.middle.ensures.latest, leaves.to_first)
 
+pub restrict-requires-2-clause-within : goal.restrict-requires-2-clause-within
+restrict-requires-2-clause-within g c = rw c.restrict.ensures.events (All-head (NamesEnds c.args.matrix.now.events) c.args.arc [] c.requires.can.1.named).from_within
+
 pub restrict-requires-2-clause-ordered : goal.restrict-requires-2-clause-ordered
 restrict-requires-2-clause-ordered g c =
     let leaves = leaves_known c.args.arc c.args.matrix.now c.window-from.result c.window-to.result c.requires.can (record { from_window = c.window-from.ensures; to_window = c.window-to.ensures })
