@@ -1,4 +1,4 @@
-use Rattle.std.proofs.Common.{◌≡◌, is_some, refl, sym, ap, subst, ◌∙◌}
+use Rattle.std.proofs.Common.{◌≡◌, is_some, refl, sym, ap, subst, ◌∙◌, arith}
 use Rattle.std.proofs.lemmas.Bool.{false≢true}
 use Rattle.std.specs.Prelude.{MatchOption}
 use Rattle.stn_records.specs.Content.{Content, IsPart}
@@ -24,4 +24,16 @@ returns-clause-again g c = λ part.
       | in_default w ↦
           let same = (c.in_ok-held.ensures.again mine).1 in
           (refl, w.self-is ∙ ap (λ (h : Held). record { site = h.site; source = h.source; state = h.state; steps = c.self.inside.current.steps }) same ∙ c.self.view_is)
+    ]
+
+pub returns-clause-work : goal.returns-clause-work
+returns-clause-work g c =
+    let old = c.self.inside.plan in
+    elim c.match-held.branch [
+      | in-Some w ↦
+          let before : w.in-Some.before ≡ old.state = subst (λ o. MatchOption o (c.take_in.new.self ≡ old) (λ records. records ≡ old.state)) w.in-Some.is c.in_ok-held.ensures.before in
+          let least = rw (before, w.records.ensures.value) at w.catch_up-self-inside.ensures.least in
+          let most = rw (before, w.records.ensures.value) at w.catch_up-self-inside.ensures.most in
+          rw (w.self-is, ← c.self.view_is) (λ keeps _. (least keeps, most keeps))
+      | in_default w ↦ rw (w.self-is, ← c.self.view_is) (λ _ _. (omega arith, omega arith))
     ]
