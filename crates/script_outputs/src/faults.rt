@@ -1,9 +1,6 @@
 use std::alloc::Global;
 use stn_exec::{Counted, Ran, RunFault, run};
-use stn_refusing::{PieceReader, PieceWriter, Refusing};
-
-// More than a script asks for that is looked at here.
-const MOST_CALLS: u64 = 10_000;
+use stn_refusing::{Outcome, PieceReader, PieceWriter, Refused, Refusing, count_refused};
 
 // A script, and what a run of it answers and writes where nothing is refused.
 #[derive(Drop)]
@@ -33,13 +30,13 @@ const WORKS: Trial = Trial {
 
 // What a run answered and wrote, and whether what was to be refused was refused.
 #[derive(Drop)]
-struct Outcome {
+struct Attempt {
     answer: Result<Ran, RunFault>,
     text: Vec<u8>,
     refused: bool,
 }
 
-fn attempt(alloc: Global, script: &[u8], trial: Trial) -> Outcome {
+fn attempt(alloc: Global, script: &[u8], trial: Trial) -> Attempt {
     let heap = Refusing::new(alloc, 0);
     let mut input = Counted::new(PieceReader {
         rest: script,
@@ -56,7 +53,7 @@ fn attempt(alloc: Global, script: &[u8], trial: Trial) -> Outcome {
     heap.refuse(trial.memory);
     let answer = run(&heap, &mut input, &mut output);
     let failed = input.failures() + output.failures() > 0;
-    Outcome {
+    Attempt {
         answer,
         text: output.into_inner().held,
         refused: failed || trial.memory != 0 && !heap.is_waiting(),
@@ -64,13 +61,13 @@ fn attempt(alloc: Global, script: &[u8], trial: Trial) -> Outcome {
 }
 
 // Whether the run answered as with memory and devices that work.
-fn is_right(worked: &Worked, outcome: &Outcome) -> bool {
-    outcome.answer == worked.answer && outcome.text.as_slice() == worked.text
+fn is_right(worked: &Worked, run: &Attempt) -> bool {
+    run.answer == worked.answer && run.text.as_slice() == worked.text
 }
 
 // Whether a run of which a call was refused said so, and wrote no more than the beginning of what it writes else.
-fn says(worked: &Worked, outcome: &Outcome, fault: RunFault) -> bool {
-    outcome.answer == Err(fault) && worked.text.starts_with(&outcome.text)
+fn says(worked: &Worked, run: &Attempt, fault: RunFault) -> bool {
+    run.answer == Err(fault) && worked.text.starts_with(&run.text)
 }
 
 // The run that is answered with this fault, where the call of this number is refused.
@@ -92,45 +89,27 @@ fn trial_of(fault: RunFault, number: u64) -> Trial {
     }
 }
 
-// Whether the run is answered as it must be; none where a call was refused and it is so, since then further calls are left.
-// A request for memory that is made in advance may be refused without harm: then all is as ever.
-fn judged(worked: &Worked, outcome: &Outcome, fault: RunFault) -> Option<bool> {
-    let right = is_right(worked, outcome);
-    if !outcome.refused {
-        Some(right)
-    } else if says(worked, outcome, fault) || fault == RunFault::Memory && right {
-        None
-    } else {
-        Some(false)
-    }
-}
-
-/// How many requests for memory, reads and writes of a run were refused in turn, each of which was answered as it must be.
-#[derive(Clone, Copy)]
-pub struct Refused {
-    pub requests: u64,
-    pub reads: u64,
-    pub writes: u64,
+// What comes of the run, of which a call that is answered with this fault may have been refused. A request for memory that is made in
+// advance may be refused without harm: then all is as ever.
+fn outcome_of(worked: &Worked, run: &Attempt, fault: RunFault) -> Outcome {
+    let right = is_right(worked, run);
+    let answered = says(worked, run, fault) || fault == RunFault::Memory && right;
+    Outcome::of(run.refused, if run.refused { answered } else { right })
 }
 
 // How many calls that are answered with this fault were refused in turn, until none was left and the script was run as ever; none
 // where one is not answered so.
-fn count_refused(alloc: Global, worked: &Worked, fault: RunFault) -> Option<u64> {
-    for refused in 0..MOST_CALLS {
-        let outcome = attempt(alloc, worked.script, trial_of(fault, refused + 1));
-        match judged(worked, &outcome, fault) {
-            Some(true) => return Some(refused),
-            Some(false) => return None,
-            None => {}
-        }
-    }
-    None
+fn refused_with(alloc: Global, worked: &Worked, fault: RunFault) -> Option<u64> {
+    count_refused(|number| {
+        let run = attempt(alloc, worked.script, trial_of(fault, number));
+        outcome_of(worked, &run, fault)
+    })
 }
 
 /// How many requests for memory of a script were refused in turn, each of which was answered with the fault and left the beginning of
 /// the output. None where one was not.
 pub fn sweep_requests(alloc: Global, worked: &Worked) -> Option<u64> {
-    count_refused(alloc, worked, RunFault::Memory)
+    refused_with(alloc, worked, RunFault::Memory)
 }
 
 /// The refused calls of a script: each request for memory, and each read and each write of 16 bytes, is answered with its fault, and
@@ -142,7 +121,7 @@ pub fn sweep(alloc: Global, worked: &Worked) -> Option<Refused> {
     }
     Some(Refused {
         requests: sweep_requests(alloc, worked)?,
-        reads: count_refused(alloc, worked, RunFault::Read)?,
-        writes: count_refused(alloc, worked, RunFault::Write)?,
+        reads: refused_with(alloc, worked, RunFault::Read)?,
+        writes: refused_with(alloc, worked, RunFault::Write)?,
     })
 }

@@ -21,7 +21,7 @@ mod fresh;
 mod output;
 mod ring;
 
-use crate::faults::{Refused, Worked, sweep, sweep_requests};
+use crate::faults::{Worked, sweep, sweep_requests};
 use crate::fresh::compare;
 use crate::ring::merge_in_ring;
 use std::alloc::AllocError;
@@ -40,15 +40,7 @@ fn print_sweep(rt: &HostRuntime, worked: &Worked) -> io::Result<()> {
         return Ok(());
     }
     match sweep(rt.alloc(), worked) {
-        Some(
-            Refused {
-                requests,
-                reads,
-                writes,
-            },
-        ) => println!(rt;
-            "answers each of {requests} requests, {reads} reads and {writes} writes that were refused"
-        ),
+        Some(refused) => println!(rt; "{refused}"),
         None => println!(rt; "a refused call is not answered"),
     }
 }

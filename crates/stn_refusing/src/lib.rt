@@ -1,9 +1,12 @@
-//! For tests: an allocator that refuses the request of a number, and devices that fail at the call of a number.
+//! For tests: an allocator that refuses the request of a number, devices that fail at the call of a number, and how calls are made
+//! again until each has been refused.
 #![tactic(auto)]
 
 mod devices;
+mod sweep;
 
 pub use crate::devices::{PieceReader, PieceWriter};
+pub use crate::sweep::{Outcome, Refused, count_refused};
 use std::alloc::{AllocError, Allocator};
 use std::cell::Cell;
 

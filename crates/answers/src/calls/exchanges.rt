@@ -1,10 +1,10 @@
 // What a site makes of the replies, of which each request for memory and each read is refused in turn.
 use crate::calls::logs::{is_log, opened};
-use crate::calls::sweep::{Failing, Kind, Outcome, Trial, outcome_of};
+use crate::calls::sweep::{Failing, Kind, Trial};
 use crate::calls::words::whole_frames;
 use std::alloc::Global;
 use stn_device::Counted;
-use stn_refusing::Refusing;
+use stn_refusing::{Outcome, Refusing};
 use stn_replica::Replica;
 use stn_session::{ReplyFault, receive_replies};
 
@@ -99,7 +99,7 @@ fn receive_failing<'a>(
     let right = (refused || answer.is_ok())
         && is_received(trial, replica, replies, answer)
         && receives_then(trial, replica, replies);
-    outcome_of(refused, right)
+    Outcome::of(refused, right)
 }
 
 /// Whether `receive_replies` takes these replies, and answers the refused call.

@@ -1,7 +1,7 @@
 // Frames, of which each request for memory is refused in turn.
-use crate::calls::sweep::{Outcome, Trial, outcome_of};
+use crate::calls::sweep::Trial;
 use std::alloc::Global;
-use stn_refusing::Refusing;
+use stn_refusing::{Outcome, Refusing};
 use stn_wire::{Fed, Feeder, Frame, WireFault, decode, encode};
 
 // How many bytes a feeder is fed at once.
@@ -22,7 +22,7 @@ fn append(
             && encode(frame, out).is_ok(),
         Err(_) => false,
     };
-    outcome_of(refused, right)
+    Outcome::of(refused, right)
 }
 
 /// Whether `encode` of the frame appends these bytes, and answers the refused request.
@@ -86,7 +86,7 @@ pub fn decode_refused(trial: &Trial<'_>, bytes: &[u8], wanted: &[u8]) -> Outcome
         Err(WireFault::Memory) => refused && is_read(trial, bytes, wanted) == Ok(true),
         Err(_) => false,
     };
-    outcome_of(refused, right)
+    Outcome::of(refused, right)
 }
 
 // Feeds a piece, and appends what is written of the frame that it completes. It gives how many bytes were taken.
@@ -134,7 +134,7 @@ fn is_fed(
     let again = stream(feeder, bytes, spelled);
     let refused = trial.end();
     let told = again == Ok(0) || refused && again == Ok(1);
-    outcome_of(refused, told && !feeder.middle())
+    Outcome::of(refused, told && !feeder.middle())
 }
 
 /// Whether `Feeder::feed` of frames, in pieces, reads what is written as the wanted bytes, and answers the refused request: after

@@ -1,9 +1,9 @@
 // Logs and requests, of which each request for memory, each read and each write is refused in turn.
-use crate::calls::sweep::{Kind, Outcome, Trial, outcome_of};
+use crate::calls::sweep::{Kind, Trial};
 use std::alloc::Global;
 use stn_device::{Counted, OutputFault};
 use stn_records::Site;
-use stn_refusing::Refusing;
+use stn_refusing::{Outcome, Refusing};
 use stn_replica::Replica;
 use stn_session::send_requests;
 use stn_store::{LoadFault, load, save};
@@ -117,7 +117,7 @@ fn write_failing<'a>(
     let writing = written(trial, replica, task.output);
     let refused = trial.end();
     let right = is_written(&writing, task.wanted, refused) && writes_then(trial, replica, task);
-    outcome_of(refused || writing.failed, right)
+    Outcome::of(refused || writing.failed, right)
 }
 
 /// Whether of the replica that the log opens the wanted bytes are written, and the refused call is answered.
@@ -167,7 +167,7 @@ fn load_failing(trial: &Trial<'_>, log: &[u8], wanted: &[u8]) -> Outcome {
     } else {
         None
     };
-    outcome_of(refused, is_loaded(trial, answer, wanted, kind))
+    Outcome::of(refused, is_loaded(trial, answer, wanted, kind))
 }
 
 /// Whether `load` of this log opens a replica that saves the wanted log, and answers the refused call. The same call, over the

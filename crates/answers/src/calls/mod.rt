@@ -23,11 +23,12 @@ mod words;
 use crate::calls::exchanges::Replies;
 use crate::calls::logs::{Output, Task};
 use crate::calls::sessions::{Talk, add_stages, end_of};
-use crate::calls::trials::{Call, Refused, asks, encodes, reads, serves, writes};
+use crate::calls::trials::{Call, asks, encodes, reads, serves, writes};
 use crate::calls::words::{frames_of, joined};
 use crate::words::cut_word;
 use std::alloc::Global;
 use std::io;
+use stn_refusing::Refused;
 
 // What a session came to, and the refused calls that it answers.
 fn print_session(rt: &HostRuntime, talk: Talk) -> io::Result<Option<Refused>> {
@@ -148,15 +149,7 @@ pub fn answer(rt: &HostRuntime, line: &str) -> io::Result<()> {
     let (call, words) = cut_word(rest);
     print!(rt; "{name}: ")?;
     match sweep_line(rt, call, words)? {
-        Some(
-            Refused {
-                requests,
-                reads,
-                writes,
-            },
-        ) => println!(rt;
-            "answers each of {requests} requests, {reads} reads and {writes} writes that were refused"
-        ),
+        Some(refused) => println!(rt; "{refused}"),
         None => println!(rt; "a refused call is not answered"),
     }
 }

@@ -1,10 +1,10 @@
 // Sessions, of which each request for memory, each read and each write is refused in turn.
 use crate::calls::logs::{Answer, Writing, opened, saved};
-use crate::calls::sweep::{Failing, Kind, NOTHING, Outcome, Trial, outcome_of};
+use crate::calls::sweep::{Failing, Kind, NOTHING, Trial};
 use crate::calls::words::whole_frames;
 use std::alloc::Global;
 use stn_device::Counted;
-use stn_refusing::Refusing;
+use stn_refusing::{Outcome, Refusing};
 use stn_replica::Replica;
 use stn_session::{ServeFault, Served, serve};
 
@@ -175,7 +175,7 @@ fn outcome_at(talk: Talk, stage: &Stage, failing: Failing) -> Outcome {
     let right = (refused || serving.answer.is_ok())
         && log.answer == Answer::Written
         && is_right(talk, serving, &log.written, failing);
-    outcome_of(refused, right)
+    Outcome::of(refused, right)
 }
 
 /// Whether the session answers the refused call: the fault is that of the call, and the replica holds what it held after the

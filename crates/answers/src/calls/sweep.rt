@@ -37,25 +37,6 @@ impl Failing {
     }
 }
 
-/// What came of a call.
-#[derive(Clone, Copy, PartialEq)]
-pub enum Outcome {
-    /// Nothing was refused, and all is as it must be.
-    Right,
-    /// Something was refused, and all is as it must be.
-    Answered,
-    /// Something is not as it must be.
-    Wrong,
-}
-
-pub fn outcome_of(refused: bool, right: bool) -> Outcome {
-    match (refused, right) {
-        (_, false) => Outcome::Wrong,
-        (true, true) => Outcome::Answered,
-        (false, true) => Outcome::Right,
-    }
-}
-
 /// Where a call is made of which one request for memory, one read or one write is refused.
 #[derive(Clone, Copy)]
 pub struct Trial<'a> {

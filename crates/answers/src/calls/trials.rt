@@ -3,13 +3,10 @@ use crate::calls::exchanges::{Replies, receive_refused};
 use crate::calls::frames::{decode_refused, encode_refused, feed_refused};
 use crate::calls::logs::{Task, load_refused, write_refused};
 use crate::calls::sessions::{Talk, serve_refused};
-use crate::calls::sweep::{EACH_BYTE, Failing, Kind, Outcome, Trial};
+use crate::calls::sweep::{EACH_BYTE, Failing, Kind, Trial};
 use std::alloc::Global;
-use stn_refusing::Refusing;
+use stn_refusing::{Outcome, Refused, Refusing, count_refused};
 use stn_wire::{Frame, decode};
-
-// More requests, reads or writes than a call makes.
-const MOST_CALLS: u64 = 10_000;
 
 /// A call, with what it works on and what it must come to.
 #[derive(Clone, Copy)]
@@ -53,37 +50,15 @@ fn outcome_of_call(alloc: Global, call: Call, failing: Failing) -> Outcome {
     outcome_with(&trial, call)
 }
 
-/// How many requests for memory, reads and writes of a call were refused in turn, each of which was answered as it must be.
-#[derive(Clone, Copy)]
-pub struct Refused {
-    pub requests: u64,
-    pub reads: u64,
-    pub writes: u64,
-}
-
 // How many of one kind were refused: the first, the second, and so on until none is left; none where something is not as it must be.
-fn count_refused(alloc: Global, call: Call, kind: Kind) -> Option<u64> {
-    for refused in 0..MOST_CALLS {
-        match outcome_of_call(
-            alloc,
-            call,
-            Failing {
-                kind,
-                number: refused + 1,
-            },
-        ) {
-            Outcome::Right => return Some(refused),
-            Outcome::Answered => {}
-            Outcome::Wrong => return None,
-        }
-    }
-    None
+fn refused_of(alloc: Global, call: Call, kind: Kind) -> Option<u64> {
+    count_refused(|number| outcome_of_call(alloc, call, Failing { kind, number }))
 }
 
 /// The refused requests for memory of a call that neither reads nor writes.
 pub fn asks(alloc: Global, call: Call) -> Option<Refused> {
     Some(Refused {
-        requests: count_refused(alloc, call, Kind::Memory)?,
+        requests: refused_of(alloc, call, Kind::Memory)?,
         reads: 0,
         writes: 0,
     })
@@ -92,8 +67,8 @@ pub fn asks(alloc: Global, call: Call) -> Option<Refused> {
 /// The refused requests for memory and the failed reads of a call that reads.
 pub fn reads(alloc: Global, call: Call) -> Option<Refused> {
     Some(Refused {
-        requests: count_refused(alloc, call, Kind::Memory)?,
-        reads: count_refused(alloc, call, Kind::Read)?,
+        requests: refused_of(alloc, call, Kind::Memory)?,
+        reads: refused_of(alloc, call, Kind::Read)?,
         writes: 0,
     })
 }
@@ -104,9 +79,9 @@ pub fn writes(alloc: Global, call: Call) -> Option<Refused> {
         return None;
     }
     Some(Refused {
-        requests: count_refused(alloc, call, Kind::Memory)?,
+        requests: refused_of(alloc, call, Kind::Memory)?,
         reads: 0,
-        writes: count_refused(alloc, call, Kind::Write)?,
+        writes: refused_of(alloc, call, Kind::Write)?,
     })
 }
 
@@ -117,9 +92,9 @@ pub fn serves(alloc: Global, talk: Talk) -> Option<Refused> {
         return None;
     }
     Some(Refused {
-        requests: count_refused(alloc, call, Kind::Memory)?,
-        reads: count_refused(alloc, call, Kind::Read)?,
-        writes: count_refused(alloc, call, Kind::Write)?,
+        requests: refused_of(alloc, call, Kind::Memory)?,
+        reads: refused_of(alloc, call, Kind::Read)?,
+        writes: refused_of(alloc, call, Kind::Write)?,
     })
 }
 

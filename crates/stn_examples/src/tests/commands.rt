@@ -1,5 +1,5 @@
 // What commands on logs ask, and the loosened and the robust plan, while a request for memory is refused.
-use crate::tests::sweep::{Answer, Call, judged, requests};
+use crate::tests::sweep::{Call, judged, requests};
 use std::alloc::Global;
 use std::process::Abort;
 use std::rc::Rc;
@@ -10,7 +10,7 @@ use stn_net::Event;
 use stn_questions::Question;
 use stn_records::Site;
 use stn_refusal::{Failure, Fault};
-use stn_refusing::Refusing;
+use stn_refusing::{Outcome, Refusing};
 use stn_replica::Replica;
 use stn_site::SitePlan;
 use stn_time::Ms;
@@ -117,14 +117,14 @@ fn is_said(
 
 /// What is said to a query of a plan while a request is refused: the same as with memory, where the request only asked in advance
 /// for more room.
-pub fn say_refused(heap: &Refusing<Global>, number: u64, asked: Asked, conflict: bool) -> Answer {
+pub fn say_refused(heap: &Refusing<Global>, number: u64, asked: Asked, conflict: bool) -> Outcome {
     match said(heap, 0, asked, conflict) {
         Some(Ok(wanted)) => {
             let (right, memory) = is_said(said(heap, number, asked, conflict), &wanted);
             drop(wanted);
             judged(heap, right, memory || right)
         }
-        _ => Answer::Wrong,
+        _ => Outcome::Wrong,
     }
 }
 
@@ -210,9 +210,9 @@ fn is_made(made: Result<SitePlan<&Refusing<Global>>, LoosenFault>, known: usize)
 
 /// What a plan is loosened to while a request is refused: the durations of both steps; in the robust plan also when each may start at
 /// the latest.
-pub fn loosen_refused(heap: &Refusing<Global>, number: u64, robust: bool) -> Answer {
+pub fn loosen_refused(heap: &Refusing<Global>, number: u64, robust: bool) -> Outcome {
     let Some(base) = loose_base(heap) else {
-        return Answer::Wrong;
+        return Outcome::Wrong;
     };
     heap.refuse(number);
     let made = made(heap, &base, robust);

@@ -1,11 +1,11 @@
 ghost use Rattle.stn_net.specs.Difference.{NamesEvents};
 
-use crate::tests::sweep::{Answer, Call, judged, requests};
+use crate::tests::sweep::{Call, judged, requests};
 use std::alloc::Global;
 use stn_conflict::{Cycle, Link, Side, cycle};
 use stn_lift::Base;
 use stn_net::{Bound, Event};
-use stn_refusing::Refusing;
+use stn_refusing::{Outcome, Refusing};
 use stn_time::{HORIZON, Memory, Ms};
 
 // The end comes five seconds after the start.
@@ -62,9 +62,9 @@ fn is_found(found: Result<Option<Cycle<&Refusing<Global>>>, Memory>) -> (bool, b
 }
 
 /// What is found while a request is refused.
-pub fn cycle_refused(heap: &Refusing<Global>, number: u64) -> Answer {
+pub fn cycle_refused(heap: &Refusing<Global>, number: u64) -> Outcome {
     let Ok(base) = Base::bare(heap, 1) else {
-        return Answer::Wrong;
+        return Outcome::Wrong;
     };
     heap.refuse(number);
     let found = cycle(heap, 2, base.bounds(), &[duration(), deadline()]);

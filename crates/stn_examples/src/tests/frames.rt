@@ -1,7 +1,7 @@
-use crate::tests::sweep::{Answer, Call, judged, requests};
+use crate::tests::sweep::{Call, judged, requests};
 use std::alloc::{AllocError, Global};
 use stn_lift::Source;
-use stn_refusing::Refusing;
+use stn_refusing::{Outcome, Refusing};
 use stn_wire::{Fed, Feeder, Frame, WireFault, encode};
 
 fn name_of(frame: &Option<Frame<Global>>) -> &'static str {
@@ -96,9 +96,9 @@ fn longest_body(rt: HostRuntime) {
 }
 
 /// What comes of spelling the longest TEXT while a request is refused.
-pub fn text_refused(heap: &Refusing<Global>, number: u64) -> Answer {
+pub fn text_refused(heap: &Refusing<Global>, number: u64) -> Outcome {
     let Ok(text) = vec![in heap; b'x'; 262_143] else {
-        return Answer::Wrong;
+        return Outcome::Wrong;
     };
     let frame = Frame::Text(text);
     let mut out = Vec::new(heap);

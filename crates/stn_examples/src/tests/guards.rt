@@ -1,12 +1,12 @@
 // Guards of small plans, worked out by hand.
-use crate::tests::sweep::{Answer, Call, judged, requests};
+use crate::tests::sweep::{Call, judged, requests};
 use std::alloc::{Allocator, Global};
 use std::rc::Rc;
 use stn_guard::{OwnedSteps, add_guard};
 use stn_lift::Base;
 use stn_net::{Bound, BoundFault, Event};
 use stn_records::{Id, Mark, Records, Site};
-use stn_refusing::Refusing;
+use stn_refusing::{Outcome, Refusing};
 use stn_replica::StepRange;
 use stn_site::{ReplicaFault, SitePlan};
 use stn_time::Ms;
@@ -119,7 +119,7 @@ fn guard_twice(
     number: u64,
     plan: &mut SitePlan<&Refusing<Global>>,
     other: OwnedSteps,
-) -> Answer {
+) -> Outcome {
     heap.refuse(number);
     let (right, memory) = is_guarded(plan, other);
     let unchanged = memory && plan.records().known() == 2;
@@ -128,12 +128,12 @@ fn guard_twice(
 }
 
 /// What the guard of two sites is while a request is refused.
-pub fn guard_refused(heap: &Refusing<Global>, number: u64) -> Answer {
+pub fn guard_refused(heap: &Refusing<Global>, number: u64) -> Outcome {
     let Some(other) = owned(2, 2) else {
-        return Answer::Wrong;
+        return Outcome::Wrong;
     };
     let Some(mut plan) = two_steps(heap) else {
-        return Answer::Wrong;
+        return Outcome::Wrong;
     };
     let answer = guard_twice(heap, number, &mut plan, other);
     drop(plan);

@@ -1,11 +1,11 @@
 // Commands on logs over a store in memory, each of whose requests for memory is refused in turn.
 use crate::tests::commands::{DOMAIN, PLAN};
-use crate::tests::sweep::{Answer, Call, judged, requests};
+use crate::tests::sweep::{Call, judged, requests};
 use std::alloc::{Allocator, Global};
 use std::process::Abort;
 use stn_line::{Line, line};
 use stn_refusal::{Failure, Fault};
-use stn_refusing::Refusing;
+use stn_refusing::{Outcome, Refusing};
 use stn_shell::answer;
 use stn_store::MemoryStore;
 
@@ -129,7 +129,7 @@ fn do_twice<'a>(
     number: u64,
     store: &mut MemoryStore<&'a Refusing<Global>>,
     done: Done<'_>,
-) -> Answer {
+) -> Outcome {
     heap.refuse(number);
     let (right, memory) = is_done(heap, store, done);
     let unchanged = memory && is_same(store, done.before);
@@ -138,9 +138,9 @@ fn do_twice<'a>(
 }
 
 /// What a command on a log answers while a request is refused.
-pub fn line_refused(heap: &Refusing<Global>, number: u64, done: Done<'_>) -> Answer {
+pub fn line_refused(heap: &Refusing<Global>, number: u64, done: Done<'_>) -> Outcome {
     let Some(mut store) = copy(done.before, heap) else {
-        return Answer::Wrong;
+        return Outcome::Wrong;
     };
     let answer = do_twice(heap, number, &mut store, done);
     drop(store);

@@ -1,8 +1,8 @@
-use crate::tests::sweep::{Answer, Call, judged, requests};
+use crate::tests::sweep::{Call, judged, requests};
 use std::alloc::Global;
 use stn_lift::{Plan, PlanFault};
 use stn_pddl::{Domain, DomainFault};
-use stn_refusing::Refusing;
+use stn_refusing::{Outcome, Refusing};
 
 const DOMAIN: &[u8] =
     b"(define (domain d) (:durative-action mend :parameters (?f) :duration (= ?duration 5) :effect (at end (p ?f c))))";
@@ -24,7 +24,7 @@ fn is_domain(read: Result<Domain<&Refusing<Global>>, DomainFault>) -> (bool, boo
 }
 
 /// What the domain is read as while a request is refused.
-pub fn domain_refused(heap: &Refusing<Global>, number: u64) -> Answer {
+pub fn domain_refused(heap: &Refusing<Global>, number: u64) -> Outcome {
     heap.refuse(number);
     let (right, memory) = is_domain(Domain::read(heap, DOMAIN));
     judged(heap, right, memory)
@@ -44,7 +44,7 @@ fn is_plan(read: Result<Plan<&Refusing<Global>>, PlanFault>) -> (bool, bool) {
 }
 
 /// What the plan is read as while a request is refused.
-pub fn plan_refused(heap: &Refusing<Global>, number: u64) -> Answer {
+pub fn plan_refused(heap: &Refusing<Global>, number: u64) -> Outcome {
     heap.refuse(number);
     let (right, memory) = is_plan(Plan::read(heap, PLAN));
     judged(heap, right, memory)

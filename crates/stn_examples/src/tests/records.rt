@@ -1,10 +1,10 @@
 ghost use Rattle.std.specs.Prelude.{◌≤◌};
 
-use crate::tests::sweep::{Answer, Call, judged, requests};
+use crate::tests::sweep::{Call, judged, requests};
 use std::alloc::Global;
 use stn_net::{Bound, Event};
 use stn_records::{Id, Mark, PartFault, Records, RecordsFault, Site};
-use stn_refusing::Refusing;
+use stn_refusing::{Outcome, Refusing};
 use stn_time::Ms;
 
 fn id(site: u8, counter: u16) -> Id
@@ -91,7 +91,7 @@ fn change_twice(
     number: u64,
     records: &mut Records<&Refusing<Global>>,
     change: Change,
-) -> Answer {
+) -> Outcome {
     heap.refuse(number);
     let (done, memory) = changed(records, change);
     let right = done && is_changed(records, change);
@@ -102,7 +102,7 @@ fn change_twice(
 }
 
 /// What a change of sixteen records and as many withdrawn ids answers while a request is refused. One more of each asks for memory.
-pub fn change_refused(heap: &Refusing<Global>, number: u64, change: Change) -> Answer {
+pub fn change_refused(heap: &Refusing<Global>, number: u64, change: Change) -> Outcome {
     let mut records = Records::new(heap);
     let filled = fill(&mut records, 1, 16);
     let answer = change_twice(heap, number, &mut records, change);
@@ -123,7 +123,7 @@ fn take_twice<'a>(
     number: u64,
     ours: &mut Records<&'a Refusing<Global>>,
     theirs: &Records<&'a Refusing<Global>>,
-) -> Answer {
+) -> Outcome {
     heap.refuse(number);
     let answer = ours.take(theirs);
     let right = answer == Ok(()) && ours.known() == 40;
@@ -136,7 +136,7 @@ fn taken<'a>(
     heap: &'a Refusing<Global>,
     number: u64,
     theirs: &Records<&'a Refusing<Global>>,
-) -> Answer {
+) -> Outcome {
     let mut ours = Records::new(heap);
     let filled = fill(&mut ours, 1, 12);
     let answer = take_twice(heap, number, &mut ours, theirs);
@@ -145,7 +145,7 @@ fn taken<'a>(
 }
 
 /// What another site takes of the records while a request is refused.
-pub fn take_refused(heap: &Refusing<Global>, number: u64) -> Answer {
+pub fn take_refused(heap: &Refusing<Global>, number: u64) -> Outcome {
     let mut theirs = Records::new(heap);
     let filled = fill(&mut theirs, 9, 20);
     let answer = taken(heap, number, &theirs);
@@ -206,7 +206,7 @@ fn is_read(records: &Records<&Refusing<Global>>, reading: Reading) -> (bool, boo
 }
 
 /// What a value that is made of what is held comes to while a request is refused.
-pub fn read_refused(heap: &Refusing<Global>, number: u64, reading: Reading) -> Answer {
+pub fn read_refused(heap: &Refusing<Global>, number: u64, reading: Reading) -> Outcome {
     let mut records = Records::new(heap);
     let filled = fill(&mut records, 1, 12);
     heap.refuse(number);
@@ -224,7 +224,7 @@ fn readings_of_records(rt: HostRuntime) {
 }
 
 /// What an id is printed as after a blank while a request is refused.
-pub fn print_refused(heap: &Refusing<Global>, number: u64) -> Answer {
+pub fn print_refused(heap: &Refusing<Global>, number: u64) -> Outcome {
     let mut text = Vec::new(heap);
     let begun = text.push(b' ').is_ok();
     heap.refuse(number);

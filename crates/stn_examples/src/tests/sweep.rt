@@ -9,36 +9,14 @@ use crate::tests::records::{
 };
 use std::alloc::Global;
 use std::process::Abort;
-use stn_refusing::Refusing;
-
-/// What a call answered, one of whose requests for memory may have been refused.
-#[derive(Clone, Copy)]
-pub enum Answer {
-    /// No request was refused, and the answer and what it left are right.
-    Right,
-    /// A request was refused, the answer is lack of memory, and all is as before.
-    Memory,
-    /// Anything else.
-    Wrong,
-}
-
-impl Answer {
-    /// This answer where what else was looked at is right too.
-    pub fn only_if(self, right: bool) -> Answer {
-        if right { self } else { Answer::Wrong }
-    }
-}
+use stn_refusing::{Outcome, Refusing};
 
 /// What a call answered that has just returned: `right` says that its answer and what it left are those of a call with
 /// memory, `unchanged` that it answered lack of memory and left all as before. From here on nothing is refused.
-pub fn judged(heap: &Refusing<Global>, right: bool, unchanged: bool) -> Answer {
-    let waits = heap.is_waiting();
+pub fn judged(heap: &Refusing<Global>, right: bool, unchanged: bool) -> Outcome {
+    let refused = !heap.is_waiting();
     heap.refuse(0);
-    match (waits, right, unchanged) {
-        (true, true, _) => Answer::Right,
-        (false, _, true) => Answer::Memory,
-        _ => Answer::Wrong,
-    }
+    Outcome::of(refused, if refused { unchanged } else { right })
 }
 
 /// A call each of whose requests for memory is refused in turn.
@@ -60,7 +38,7 @@ pub enum Call<'a> {
 
 // What the call answers while the request of this number is refused. The allocator refuses nothing yet: each of these functions
 // asks for the refusal right before the call that is looked at.
-fn answer_with(heap: &Refusing<Global>, number: u64, call: Call<'_>) -> Answer {
+fn answer_with(heap: &Refusing<Global>, number: u64, call: Call<'_>) -> Outcome {
     match call {
         Call::Cycle => cycle_refused(heap, number),
         Call::Domain => domain_refused(heap, number),
@@ -77,7 +55,7 @@ fn answer_with(heap: &Refusing<Global>, number: u64, call: Call<'_>) -> Answer {
     }
 }
 
-fn answer_of(alloc: Global, number: u64, call: Call<'_>) -> Answer {
+fn answer_of(alloc: Global, number: u64, call: Call<'_>) -> Outcome {
     let heap = Refusing::new(alloc, 0);
     let answer = answer_with(&heap, number, call);
     drop(heap);
@@ -88,9 +66,9 @@ fn answer_of(alloc: Global, number: u64, call: Call<'_>) -> Answer {
 pub fn requests(rt: &impl Abort, alloc: Global, call: Call<'_>) -> u64 {
     for number in 1..1000 {
         match answer_of(alloc, number, call) {
-            Answer::Right => return number,
-            Answer::Memory => {}
-            Answer::Wrong => panic!(rt; "request {number}"),
+            Outcome::Right => return number,
+            Outcome::Answered => {}
+            Outcome::Wrong => panic!(rt; "request {number}"),
         }
     }
     panic!(rt; "more than 999 requests");
