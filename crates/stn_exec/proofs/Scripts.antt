@@ -8,8 +8,8 @@ use Rattle.stn_exec.specs.{Heading.IsHeadingFailure, Effect.Reply, Effect.Effect
 use Rattle.stn_command.specs.Words.{and_then}
 use Rattle.stn_lift.specs.PlanSource.{events_of}
 use Rattle.stn_records.specs.Id.{IsSite}
-use Rattle.stn_world.specs.{declared.faults.SitesFault.SitesFault, Failures.sites_failure, Faults.IsSitesFault, World.World, World.opening_world}
-use Rattle.stn_world.specs.declared.faults.SitesFault.TheVariants as sites_fault
+use Rattle.stn_world.specs.{declared.faults.WorldFault.WorldFault, Failures.world_failure, Faults.IsOpeningFault, World.World, World.opening_world}
+use Rattle.stn_world.specs.declared.faults.WorldFault.TheVariants as world_fault
 use Rattle.stn_exec.proofs.Outputs.{not_both, counts_join, one_refusal}
 use Rattle.stn_exec.specs.Script.{Outcome, nothing_run, followed_by, form_effect, is_skipped, line_effect, effect_outcome, line_outcome, lines_outcome, next_line, Part, part_of, sites_of, Based, Start, based, with_sites, heading_of, started, last_line, script_outcome}
 
@@ -68,11 +68,14 @@ heading-none : (last : ℕ) (lines : List (List ℕ)) (base : Based) (sites : Pa
 unfolding with_sites
 heading-none last lines base sites e f none = ap (λ r. and_then r (with_sites last)) e ∙ rw f (rw none refl)
 
-pub heading-unopened : (last : ℕ) (lines : List (List ℕ)) (base : Based) (sites : Part) (count : ℕ) (fault : SitesFault) (failure : Failure) → based last lines ≡ Ok base
-    → part_of last (codes "sites") (next_line base.number base.lines) ≡ Ok sites → (1 ≤ sites.value → sites.value ≤ 64 → IsSite count) → IsSitesFault count fault
-    → failure ≡ sites_failure fault → IsHeadingFailure (heading_of last lines) failure
-heading-unopened last lines base sites count sites_fault.Memory failure e f site none gives = inl gives
-heading-unopened last lines base sites count sites_fault.NoSite failure e f site none gives =
+pub heading-unopened : (last : ℕ) (lines : List (List ℕ)) (base : Based) (sites : Part) (count : ℕ) (fault : WorldFault) (failure : Failure) → based last lines ≡ Ok base
+    → part_of last (codes "sites") (next_line base.number base.lines) ≡ Ok sites → (1 ≤ sites.value → sites.value ≤ 64 → IsSite count) → IsOpeningFault count fault
+    → failure ≡ world_failure fault → IsHeadingFailure (heading_of last lines) failure
+heading-unopened last lines base sites count world_fault.Memory failure e f site none gives = inl gives
+heading-unopened last lines base sites count world_fault.TooManyPackets failure e f site none gives = absurd none
+heading-unopened last lines base sites count world_fault.NoPacket failure e f site none gives = absurd none
+heading-unopened last lines base sites count (world_fault.Replica fault) failure e f site none gives = absurd none
+heading-unopened last lines base sites count world_fault.NoSite failure e f site none gives =
     inr (heading-none last lines base sites e f (sites_of-none sites.value (λ least most. none (site least most))) ∙ ap Err (sym gives))
 
 pub heading-made : (last : ℕ) (lines : List (List ℕ)) (base : Based) (sites : Part) → based last lines ≡ Ok base

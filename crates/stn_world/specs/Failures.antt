@@ -2,13 +2,8 @@
 use Rattle.stn_refusal.specs.declared.code.Code.TheVariants as code
 use Rattle.stn_refusal.specs.{declared.failure.Failure.Failure, Refusals.refused, Refusals.out_of_memory}
 use Rattle.stn_site.specs.Failures.{replica_failure}
-use Rattle.stn_world.specs.{declared.faults.SitesFault.SitesFault, declared.faults.WorldFault.WorldFault}
-use Rattle.stn_world.specs.declared.faults.SitesFault.TheVariants as sites
+use Rattle.stn_world.specs.declared.faults.WorldFault.{WorldFault}
 use Rattle.stn_world.specs.declared.faults.WorldFault.TheVariants as world
-
-abbrev pub sites_failure : SitesFault → Failure
-sites_failure sites.NoSite = refused code.NoSite
-sites_failure sites.Memory = out_of_memory
 
 abbrev pub world_failure : WorldFault → Failure
 world_failure world.NoSite = refused code.NoSite

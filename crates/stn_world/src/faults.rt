@@ -1,7 +1,7 @@
 ghost use Rattle.std.specs.Prelude.{◌≡◌};
 ghost use Rattle.stn_world.specs.Faults.{of_replica_fault, of_part_fault};
-ghost use Rattle.stn_world.specs.declared.faults.SitesFault.TheVariants.{Memory};
-ghost use Rattle.stn_world.specs.Failures.{sites_failure, world_failure};
+ghost use Rattle.stn_world.specs.declared.faults.WorldFault.TheVariants.{Memory};
+ghost use Rattle.stn_world.specs.Failures.{world_failure};
 
 use std::alloc::{AllocError, AllocFailed};
 use stn_records::PartFault;
@@ -9,48 +9,10 @@ use stn_refusal::{Code, Failure, Fault};
 use stn_site::ReplicaFault;
 use thiserror::Error;
 
-/// Why there is no world of so many sites. The faults come in this order.
-#[derive(Clone, Copy, Debug, PartialEq, Eq, Error)]
-pub enum SitesFault {
-    /// No site, or more than 64.
-    #[error("no such number of sites")]
-    NoSite,
-    /// Memory ran out.
-    #[error("out of memory")]
-    Memory,
-}
-
-impl From<AllocError> for SitesFault {
-    ghost from_gives = { λ _ fault. fault ≡ Memory };
-
-    fn from(_fault: AllocError) -> SitesFault {
-        SitesFault::Memory
-    }
-}
-
-impl<T: Drop> From<AllocFailed<T>> for SitesFault {
-    ghost from_gives = { λ _ fault. fault ≡ Memory };
-
-    fn from(_failed: AllocFailed<T>) -> SitesFault {
-        SitesFault::Memory
-    }
-}
-
-impl From<SitesFault> for Failure {
-    ghost from_gives = { λ fault given. given ≡ sites_failure fault };
-
-    fn from(fault: SitesFault) -> Failure {
-        match fault {
-            SitesFault::NoSite => Failure::refused(Code::NoSite),
-            SitesFault::Memory => Failure::Failed(Fault::Memory),
-        }
-    }
-}
-
-/// Why a world refused a call. The faults come in this order.
+/// Why there is no world of so many sites, or why a world refused a call. The faults come in this order.
 #[derive(Clone, Copy, Debug, PartialEq, Eq, Error)]
 pub enum WorldFault {
-    /// The world has no such site.
+    /// The world has no such site; a new one would have none, or more than 64.
     #[error("no such site")]
     NoSite,
     /// 256 packets were sent already.
@@ -90,8 +52,6 @@ impl From<PartFault> for WorldFault {
 }
 
 impl From<AllocError> for WorldFault {
-    ghost use Rattle.stn_world.specs.declared.faults.WorldFault.TheVariants.{Memory};
-
     ghost from_gives = { λ _ fault. fault ≡ Memory };
 
     fn from(_fault: AllocError) -> WorldFault {
@@ -100,8 +60,6 @@ impl From<AllocError> for WorldFault {
 }
 
 impl<T: Drop> From<AllocFailed<T>> for WorldFault {
-    ghost use Rattle.stn_world.specs.declared.faults.WorldFault.TheVariants.{Memory};
-
     ghost from_gives = { λ _ fault. fault ≡ Memory };
 
     fn from(_failed: AllocFailed<T>) -> WorldFault {

@@ -1,7 +1,7 @@
 //! Several sites over one plan.
 #![tactic(auto)]
 
-pub use faults::{SitesFault, WorldFault};
+pub use faults::WorldFault;
 pub use laws::{
     amendments_are_whole, guarded_sites_keep_schedules, held_ever_after, none_refused,
     only_made_items, records_are_bounds, same_items_print_same, sites_are_unions,

@@ -7,13 +7,13 @@ ghost use Rattle.stn_site.specs.Calls.{took, Leaves};
 ghost use Rattle.stn_site.specs.Refusals.{take_refusal};
 ghost use Rattle.stn_records.specs.Content.{no_content, part_of, IsPart};
 ghost use Rattle.stn_world.specs.declared.faults.WorldFault.TheVariants.{NoSite, TooManyPackets, NoPacket};
-ghost use Rattle.stn_world.specs.Faults.{IsSitesFault};
+ghost use Rattle.stn_world.specs.Faults.{IsOpeningFault};
 ghost use Rattle.stn_world.specs.Parts.{holds_all};
 ghost use Rattle.stn_world.specs.Whole.{held_in};
 ghost use Rattle.stn_world.specs.Steps.{added, finished, amended, withdrew, merged, sent, delivered, IsStep, IsMergeFault, IsSending, send_refusal, IsDeliveryFault};
 ghost use Rattle.stn_world.specs.World.{most_packets, HasSite, HasPacket, opening_world, content_at, packet_at, next_id_at};
 
-use crate::faults::{SitesFault, WorldFault};
+use crate::faults::WorldFault;
 use std::alloc::Allocator;
 use std::marker::Model;
 use std::rc::Rc;
@@ -56,13 +56,13 @@ impl<A: Allocator + Copy> World<A> {
     /// So many sites over one plan, numbered from 1, which hold nothing yet.
     ///
     /// Refused in this order: `NoSite`, where there are none or more than 64; `Memory`.
-    pub fn new(alloc: A, base: Rc<Base<A>, A>, sites: u8) -> Result<World<A>, SitesFault>
+    pub fn new(alloc: A, base: Rc<Base<A>, A>, sites: u8) -> Result<World<A>, WorldFault>
         ensures opening { IfOk result (λ world. world ≡ opening_world (rc_value base) sites) }
         ensures accepted { OnOk result (IsSite sites) }
-        ensures fault { IfErr result (IsSitesFault sites) }
+        ensures fault { IfErr result (IsOpeningFault sites) }
     {
         if sites < 1 || sites > MOST_SITES {
-            return Err(SitesFault::NoSite);
+            return Err(WorldFault::NoSite);
         }
         let mut replicas = Vec::with_capacity(alloc, usize::from(sites))?;
         for before in 0..sites {
