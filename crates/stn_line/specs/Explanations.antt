@@ -1,4 +1,3 @@
 pub mod Explained
-pub mod Failures
 pub mod Subjects
 pub mod Table

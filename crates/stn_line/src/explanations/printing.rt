@@ -1,60 +1,28 @@
-ghost use Rattle.std.specs.Prelude.{◌≡◌, ◌≢◌, ◌↔◌, ◌++◌, ℕ, List, All, map, option_map, MatchOption, OnOk, OnErr, IsErrOf};
+ghost use Rattle.std.specs.Prelude.{◌≡◌, ◌≢◌, ◌↔◌, ◌++◌, ◌⊎◌, ℕ, List, All, map, option_map, MatchOption, OnOk, OnErr, IfErr, IsErrOf};
 ghost use Rattle.stn_line.specs.Explanations.Explained.{IsMeaning, AreMeanings, IsExplanation, IsExplained, NamesNothing};
 ghost use Rattle.stn_line.specs.Explanations.Subjects.{name_of, word_of};
 ghost use Rattle.stn_line.specs.Explanations.Table.{IsEntry};
-ghost use Rattle.stn_line.specs.Explanations.Failures.{explain_failure};
+ghost use Rattle.stn_refusal.specs.declared.code.Code.TheVariants.{Line};
+ghost use Rattle.stn_refusal.specs.Refusals.{refused_at, out_of_memory};
 
 use crate::explanations::subject::{Subject, fault_word};
 use crate::explanations::table::{Entry, table};
-use std::alloc::{AllocError, Allocator};
-use stn_refusal::{Code, Failure, Fault};
+use std::alloc::Allocator;
+use stn_refusal::{Code, Failure};
 use stn_text::{Memory, append_decimal};
-use thiserror::Error;
-
-/// Why nothing is explained.
-#[derive(Clone, Copy, Debug, PartialEq, Eq, Error)]
-pub enum ExplainFault {
-    /// The word is no number of a refusal, and no word of a fault.
-    #[error("no such refusal or fault")]
-    Unknown,
-    /// Memory ran out.
-    #[error("out of memory")]
-    Memory,
-}
-
-impl From<AllocError> for ExplainFault {
-    ghost use Rattle.std.specs.Prelude.{◌≡◌};
-    ghost use Rattle.stn_line.specs.declared.explanations.printing.ExplainFault.TheVariants.{Memory as want_of_memory};
-
-    ghost from_gives = { λ _ made. made ≡ want_of_memory };
-
-    fn from(_refused: AllocError) -> ExplainFault {
-        ExplainFault::Memory
-    }
-}
-
-impl From<ExplainFault> for Failure {
-    ghost from_gives = { λ fault given. given ≡ explain_failure fault };
-
-    fn from(fault: ExplainFault) -> Failure {
-        match fault {
-            ExplainFault::Unknown => Failure::refused_at(Code::Line, 0),
-            ExplainFault::Memory => Failure::Failed(Fault::Memory),
-        }
-    }
-}
 
 /// Appends what a refusal (by its number) or a fault (by its word) means, and what to do about it; without a word, a line for each
 /// of them.
 ///
-/// Refused in this order: `Unknown`, where the word names neither; `Memory`. After a fault nothing is appended.
+/// Refused as a wrong command line (70, with 0) where the word names neither; else only memory can be lacking. Then nothing is appended.
 pub fn print_explained<A: Allocator + Copy>(
     alloc: A,
     word: Option<&str>,
     out: &mut Vec<u8, A>,
-) -> Result<(), ExplainFault>
+) -> Result<(), Failure>
     ensures explained { OnOk result ((text : List ℕ) × IsExplained (option_map (λ word. word.now) word.entry) text × (out.new.items ≡ out.old.items ++ text)) }
-    ensures unknown { IsErrOf result ExplainFault.Unknown ↔ NamesNothing (option_map (λ word. word.now) word.entry) }
+    ensures unknown { IsErrOf result (refused_at Line 0) ↔ NamesNothing (option_map (λ word. word.now) word.entry) }
+    ensures either { IfErr result (λ failure. (failure ≡ refused_at Line 0) ⊎ (failure ≡ out_of_memory)) }
     ensures kept { OnErr result (out.new.items ≡ out.old.items) }
 {
     let entries = table();
@@ -63,7 +31,7 @@ pub fn print_explained<A: Allocator + Copy>(
         None => append_meanings(entries, &mut text)?,
         Some(word) => match entry_of(entries, word) {
             Some(entry) => append_explanation(entry, &mut text)?,
-            None => return Err(ExplainFault::Unknown),
+            None => return Err(Failure::refused_at(Code::Line, 0)),
         },
     }
     out.extend_from_slice(&text)?;

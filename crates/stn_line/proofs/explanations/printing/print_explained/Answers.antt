@@ -1,4 +1,4 @@
-use Rattle.std.proofs.Common.{◌≡◌, ◌∙◌, ◌++◌, Some, None, List, ℕ, sym, refl, ap, option_map, subst}
+use Rattle.std.proofs.Common.{◌≡◌, ◌∙◌, ◌++◌, Some, None, Err, List, ℕ, sym, ap, option_map, subst}
 use Rattle.stn_line.specs.Explanations.Explained.{IsExplained, NamesNothing, AreMeanings}
 use Rattle.stn_line.proofs.{explanations.Entries.all_entries, explanations.Entries.names_nothing, explanations.Entries.appended, explanations.printing.print_explained.Goals.in-None+in_ok-append_meanings-in-None, explanations.printing.print_explained.Goals.in-Some+in-Some-entry_of+in_ok-append_explanation-in-Some-entry_of}
 use Rattle.stn_line.proofs.explanations.printing.print_explained.Goals as goal
@@ -12,7 +12,7 @@ entry_of-requires g c = all_entries c.table-entries.result.now c.table-entries.e
 pub returns-in-None-entry_of-clause-unknown : goal.returns-in-None-entry_of-clause-unknown
 returns-in-None-entry_of-clause-unknown g c =
     let none = names_nothing c.in-Some.word.now c.table-entries.result.now c.table-entries.ensures c.in-None-entry_of.ensures in
-    (λ _. subst (λ word. NamesNothing (option_map (λ one. one.now) word)) (sym c.in-Some.is) none, λ _. refl)
+    (λ _. subst (λ word. NamesNothing (option_map (λ one. one.now) word)) (sym c.in-Some.is) none, λ _. ap Err c.refused_at.ensures)
 
 pub returns-clause-explained : goal.returns-clause-explained
 returns-clause-explained g c = elim c.match-word.branch [
