@@ -1,7 +1,7 @@
 -- Digits read one after the other.
-use Rattle.std.proofs.Common.{◌≡◌, ℕ, ◌+◌, true, false, cond, ◌&&◌, List, length, drop, get_or, Some, None, sym, ap, ◌∙◌, ◌<◌, ◌^◌, decimal, arith}
-use Rattle.std.specs.{Prelude.nat_le, Prelude.nat_lt, Char.is_ascii_digit, Str.all_ascii_digits, Str.Parse.digits_value}
-use Rattle.std.proofs.{Math.Bool.and-false, lemmas.Bool.Decides.nat_tests, lemmas.List.drop_more}
+use Rattle.std.proofs.Common.{◌≡◌, ℕ, true, false, ◌&&◌, List, length, Some, None, ap, ◌∙◌, ◌<◌, ◌^◌, decimal, arith}
+use Rattle.std.specs.{Prelude.nat_le, Prelude.nat_lt, Str.all_ascii_digits, Str.Parse.digits_value}
+use Rattle.std.proofs.{lemmas.Bool.cond-true, lemmas.Bool.cond-false, lemmas.Bool.and_left, lemmas.Bool.and_right, lemmas.Bool.and_from, lemmas.Bool.Decides.nat_tests}
 use Rattle.std.proofs.lemmas.Fmt.{digits_decimal, digits_value-decimal, length-decimal-le, decimal_nonempty}
 use Rattle.std.proofs.lemmas.Str.Parse.{IsNumeralModel, numerals_by_value, tells_all_ascii_digits}
 use Rattle.stn_text.specs.Numbers.{number_of}
@@ -13,25 +13,17 @@ own = numerals_by_value _ tells_all_ascii_digits
 -- a word that has too few or too many bytes is no number
 pub number_of-length : (word : List ℕ) → (nat_lt 0 (length word) && nat_le (length word) 5) ≡ false → number_of word ≡ None
 unfolding number_of
-number_of-length word e = ap (λ t. cond (t && all_ascii_digits word) (Some (digits_value 10 word)) None) e
+number_of-length word e = cond-false _ _ _ (and_left _ _ e)
 
 -- a word with another byte is no number
 pub number_of-other : (word : List ℕ) → all_ascii_digits word ≡ false → number_of word ≡ None
 unfolding number_of
-number_of-other word e =
-    ap (λ t. cond ((nat_lt 0 (length word) && nat_le (length word) 5) && t) (Some (digits_value 10 word)) None) e
-    ∙ ap (λ t. cond t (Some (digits_value 10 word)) None) (and-false (nat_lt 0 (length word) && nat_le (length word) 5))
+number_of-other word e = cond-false _ _ _ (and_right _ _ e)
 
 -- a word of digits alone
 pub number_of-digits : (word : List ℕ) → (nat_lt 0 (length word) && nat_le (length word) 5) ≡ true → all_ascii_digits word ≡ true → number_of word ≡ Some (digits_value 10 word)
 unfolding number_of
-number_of-digits word e d =
-    ap (λ t. cond (t && all_ascii_digits word) (Some (digits_value 10 word)) None) e ∙ ap (λ t. cond t (Some (digits_value 10 word)) None) d
-
--- the byte at the place is no digit
-pub digits-stop : (word : List ℕ) (i byte : ℕ) → i < length word → byte ≡ get_or word i 0 → is_ascii_digit byte ≡ false → all_ascii_digits (drop i word) ≡ all_ascii_digits word → all_ascii_digits word ≡ false
-digits-stop word i byte lt is other e =
-    sym e ∙ ap all_ascii_digits (drop_more word i 0 lt) ∙ ap (λ t. t && all_ascii_digits (drop (i + 1) word)) (ap is_ascii_digit (sym is) ∙ other)
+number_of-digits word e d = cond-true _ _ _ (and_from _ _ e d)
 
 -- the decimal form of a number is a word that reads as the number
 pub number_of-decimal : (n : ℕ) → n < 2 ^ 16 → number_of (decimal n) ≡ Some n

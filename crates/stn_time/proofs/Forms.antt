@@ -2,7 +2,7 @@
 use Rattle.std.proofs.Common.{◌≡◌, ℕ, ◌<◌, ◌≤◌, Bool, true, false, cond, ◌&&◌, List, [], ◌∷◌, ◌++◌, length, take, drop, ℤ, Option, Some, None, Result, Ok, Err, refl, sym, ap, ◌∙◌, subst, ◌↔◌, arith, eqb}
 use Rattle.std.specs.{Char.is_ascii_digit, Char.digit_value, Int.IsInRange, Fmt.sign_text, List.prefix_len, Str.all_ascii_digits, Option.option_map}
 use Rattle.std.specs.Str.Parse.{AllDigits, IsNumeral, starts_with_minus}
-use Rattle.std.proofs.{lemmas.Str.Parse.digit_from_value, lemmas.Bool.false≢true, lemmas.Bool.eqb-true, lemmas.Bool.Decides.nat_tests, lemmas.Int.ints, lemmas.List.take-append-drop, lemmas.List.length-take, lemmas.List.Sums.take_while-cons, lemmas.List.Sums.prefix_len-le-length, Math.Seq.take-append_seam, Math.Seq.drop-append_seam}
+use Rattle.std.proofs.{lemmas.Str.Parse.digit_from_value, lemmas.Bool.false≢true, lemmas.Bool.false_from_ne_true, lemmas.Bool.cond_both, lemmas.Bool.ne_eqb, lemmas.Bool.eqb-true, lemmas.Bool.Decides.nat_tests, lemmas.Int.ints, lemmas.List.take-append-drop, lemmas.List.length-take, lemmas.List.Sums.take_while-cons, lemmas.List.Sums.prefix_len-le-length, Math.Seq.take-append_seam, Math.Seq.drop-append_seam}
 use Rattle.std.proofs.lemmas.Option.{cond_some, none-some, same_Some}
 use Rattle.stn_text.proofs.Digits.{own}
 use Rattle.stn_time.specs.Text.{Parts, these_parts, point_text, HasParts, IsTimeForm, is_fine, millis_of, Spells, IsTooFine, IsOutOfRange}
@@ -26,13 +26,10 @@ prefix_len-append (c ∷ cs) tail h e =
     rw digit (omega (arith, more))
 
 -- the front before the first byte that is no digit is all digits
-front-cons : (c : ℕ) (front : List ℕ) (b : Bool) → is_ascii_digit c ≡ b → AllDigits 10 front → AllDigits 10 (cond b (c ∷ front) [])
-front-cons c front true e rest = (digit_value-from_digit c e, rest)
-front-cons c front false e rest = tt
-
 AllDigits-front : (bytes : List ℕ) → AllDigits 10 (take (prefix_len is_ascii_digit bytes) bytes)
 AllDigits-front [] = tt
-AllDigits-front (c ∷ cs) = rw (take_while-cons is_ascii_digit c cs) (front-cons c (take (prefix_len is_ascii_digit cs) cs) (is_ascii_digit c) refl (AllDigits-front cs))
+AllDigits-front (c ∷ cs) = rw (take_while-cons is_ascii_digit c cs)
+    (cond_both (is_ascii_digit c) _ _ (AllDigits 10) (λ digit. (digit_value-from_digit c digit, AllDigits-front cs)) (λ other. tt))
 
 -- after the whole digits stands no digit
 prefix_len-point : (fraction : List ℕ) → prefix_len is_ascii_digit (point_text fraction) ≡ 0
@@ -59,9 +56,6 @@ point-fraction_of (c ∷ cs) fraction e =
     let shown = point-numeral cs numeral in
     subst (λ (ds : List ℕ). AllDigits 10 ds × (c ∷ cs ≡ point_text ds)) found.1 (shown.0, ap (λ x. x ∷ cs) point ∙ shown.1)
 
-eqb-false-from : (n : ℕ) → 0 < n → eqb n 0 ≡ false
-eqb-false-from n h = grind (arith, nat_tests)
-
 -- the parts of digits followed by a point and digits
 parts_with-text : (negative : Bool) (whole fraction : List ℕ) → IsNumeral 10 whole → AllDigits 10 fraction → parts_with negative (whole ++ point_text fraction) ≡ Some (these_parts negative whole fraction)
 parts_with-text negative whole fraction numeral digits =
@@ -69,7 +63,7 @@ parts_with-text negative whole fraction numeral digits =
     let front : take (length whole) (whole ++ point_text fraction) ≡ whole = take-append_seam whole (point_text fraction) in
     let back : drop (length whole) (whole ++ point_text fraction) ≡ point_text fraction = drop-append_seam whole (point_text fraction) in
     let found : fraction_of (point_text fraction) ≡ Some fraction = fraction_of-point fraction digits in
-    let some_digits : eqb (length whole) 0 ≡ false = eqb-false-from (length whole) numeral.0 in
+    let some_digits : eqb (length whole) 0 ≡ false = ne_eqb _ _ (omega (arith, numeral.0)) in
     rw end (rw some_digits (rw front (rw back (rw found refl))))
 
 -- what parts that were found after the sign say of the bytes there
@@ -129,69 +123,30 @@ same_parts text p q a b = same_Some p q (sym (parts_of-form text p a) ∙ parts_
 pub same_millis : (text : List ℕ) (m n : ℤ) → Spells text m → Spells text n → m ≡ n
 same_millis text m n a b = a.number ∙ (ap millis_of (same_parts text a.parts b.parts a.form b.form) ∙ sym b.number)
 
--- what is known of a text whose parts were looked for
-no-form : (text : List ℕ) → parts_of text ≡ None → ¬ IsTimeForm text
-no-form text e form = none-some _ (sym e ∙ parts_of-form text form.0 form.1)
-
 within-is : (t : ℤ) → is_within_horizon t ≡ true → IsWithinHorizon t
 within-is t h = grind (arith, ints)
 
 is-within : (t : ℤ) → IsWithinHorizon t → is_within_horizon t ≡ true
 is-within t h = grind (arith, ints)
 
-beyond-is : (t : ℤ) → is_within_horizon t ≡ false → ¬ IsWithinHorizon t
-beyond-is t e h = false≢true (sym e ∙ is-within t h)
+-- the meaning of each answer
+abbrev pub Means : List ℕ → Result ℤ TimeFault → Type 0
+Means text (Ok t) = Spells text t × IsWithinHorizon t
+Means text (Err Malformed) = ¬ IsTimeForm text
+Means text (Err TooFine) = IsTooFine text
+Means text (Err OutOfRange) = IsOutOfRange text
 
--- the meaning of each answer, by the parts that were found and the two tests on them
-pub record Meaning (text : List ℕ) (answer : Result ℤ TimeFault) : Type 0 where
-  pub time : (t : ℤ) → answer ≡ Ok t → Spells text t × IsWithinHorizon t
-  pub malformed : answer ≡ Err Malformed → ¬ IsTimeForm text
-  pub too_fine : answer ≡ Err TooFine → IsTooFine text
-  pub out_of_range : answer ≡ Err OutOfRange → IsOutOfRange text
-
-meaning-time : (text : List ℕ) (t : ℤ) → Spells text t → IsWithinHorizon t → Meaning text (Ok t)
-meaning-time text t h w = record {
-  time = λ u e. let same : t ≡ u = cc in subst (λ (n : ℤ). Spells text n × IsWithinHorizon n) same (h, w);
-  malformed = λ e. absurd (cc);
-  too_fine = λ e. absurd (cc);
-  out_of_range = λ e. absurd (cc);
-}
-
-meaning-malformed : (text : List ℕ) → ¬ IsTimeForm text → Meaning text (Err Malformed)
-meaning-malformed text h = record {
-  time = λ u e. absurd (cc);
-  malformed = λ e. h;
-  too_fine = λ e. absurd (cc);
-  out_of_range = λ e. absurd (cc);
-}
-
-meaning-too_fine : (text : List ℕ) → IsTooFine text → Meaning text (Err TooFine)
-meaning-too_fine text h = record {
-  time = λ u e. absurd (cc);
-  malformed = λ e. absurd (cc);
-  too_fine = λ e. h;
-  out_of_range = λ e. absurd (cc);
-}
-
-meaning-out_of_range : (text : List ℕ) → IsOutOfRange text → Meaning text (Err OutOfRange)
-meaning-out_of_range text h = record {
-  time = λ u e. absurd (cc);
-  malformed = λ e. absurd (cc);
-  too_fine = λ e. absurd (cc);
-  out_of_range = λ e. h;
-}
-
-meaning-within : (text : List ℕ) (t : ℤ) (b : Bool) → is_within_horizon t ≡ b → Spells text t → Meaning text (cond b (Ok t) (Err OutOfRange))
-meaning-within text t true e h = meaning-time text t h (within-is t e)
-meaning-within text t false e h = meaning-out_of_range text (record { millis = t; spelled = h; beyond = beyond-is t e })
-
-meaning-fine : (text : List ℕ) (parts : Parts) (b : Bool) → is_fine parts ≡ b → HasParts text parts → Meaning text (cond b (cond (is_within_horizon (millis_of parts)) (Ok (millis_of parts)) (Err OutOfRange)) (Err TooFine))
-meaning-fine text parts true e form = meaning-within text (millis_of parts) (is_within_horizon (millis_of parts)) refl (record { parts = parts; form = form; fine = e; number = refl })
-meaning-fine text parts false e form = meaning-too_fine text (record { parts = parts; form = form; too_fine = e })
-
-meaning-found : (text : List ℕ) (o : Option Parts) → parts_of text ≡ o → Meaning text (time_of_found o)
-meaning-found text None e = meaning-malformed text (no-form text e)
-meaning-found text (Some parts) e = meaning-fine text parts (is_fine parts) refl (form-parts_of text parts e)
+means-found : (text : List ℕ) (o : Option Parts) → parts_of text ≡ o → Means text (time_of_found o)
+means-found text None e = λ form. none-some _ (sym e ∙ parts_of-form text form.0 form.1)
+means-found text (Some parts) e =
+    let form = form-parts_of text parts e in
+    cond_both (is_fine parts) _ _ (Means text)
+    (λ fine.
+    let spelled : Spells text (millis_of parts) = record { parts = parts; form = form; fine = fine; number = refl } in
+    cond_both (is_within_horizon (millis_of parts)) _ _ (Means text)
+    (λ within. (spelled, within-is _ within))
+    (λ beyond. record { millis = millis_of parts; spelled = spelled; beyond = λ h. false≢true (sym beyond ∙ is-within _ h) }))
+    (λ coarse. record { parts = parts; form = form; too_fine = coarse })
 
 -- the time of a text by the parts that were found
 pub time_of-found : (text : List ℕ) (o : Option Parts) → parts_of text ≡ o → time_of text ≡ time_of_found o
@@ -199,9 +154,9 @@ unfolding time_of
 time_of-found text o e = ap time_of_found e
 
 -- each answer of `time_of` has its meaning
-pub time_of-meaning : (text : List ℕ) → Meaning text (time_of text)
+pub time_of-means : (text : List ℕ) → Means text (time_of text)
 unfolding time_of
-time_of-meaning text = meaning-found text (parts_of text) refl
+time_of-means text = means-found text (parts_of text) refl
 
 -- each meaning has its answer
 pub time_of-spells : (text : List ℕ) (t : ℤ) → Spells text t → IsWithinHorizon t → time_of text ≡ Ok t
@@ -224,26 +179,22 @@ time_of-too_fine text h =
     let fine : is_fine h.parts ≡ false = h.too_fine in
     time_of-found text _ found ∙ rw fine refl
 
-beyond-test : (t : ℤ) (b : Bool) → is_within_horizon t ≡ b → ¬ IsWithinHorizon t → b ≡ false
-beyond-test t true e h = absurd (h (within-is t e))
-beyond-test t false e h = refl
-
 pub time_of-out_of_range : (text : List ℕ) → IsOutOfRange text → time_of text ≡ Err OutOfRange
 time_of-out_of_range text h =
     let found : parts_of text ≡ Some h.spelled.parts = parts_of-form text h.spelled.parts h.spelled.form in
     let fine : is_fine h.spelled.parts ≡ true = h.spelled.fine in
-    let beyond : is_within_horizon (millis_of h.spelled.parts) ≡ false = ap is_within_horizon (sym h.spelled.number) ∙ beyond-test h.millis (is_within_horizon h.millis) refl h.beyond in
+    let beyond : is_within_horizon (millis_of h.spelled.parts) ≡ false = ap is_within_horizon (sym h.spelled.number) ∙ false_from_ne_true _ (λ e. h.beyond (within-is h.millis e)) in
     time_of-found text _ found ∙ rw fine (rw beyond refl)
 
 -- what the clauses of `read` say of an answer that is the definition's
 pub read-time : (text : List ℕ) (answer : Result ℤ TimeFault) → answer ≡ time_of text → (t : ℤ) → (answer ≡ Ok t) ↔ (Spells text t × IsWithinHorizon t)
-read-time text answer same t = (λ e. (time_of-meaning text).time t (sym same ∙ e), λ h. same ∙ time_of-spells text t h.0 h.1)
+read-time text answer same t = (λ e. subst (Means text) (sym same ∙ e) (time_of-means text), λ h. same ∙ time_of-spells text t h.0 h.1)
 
 pub read-malformed : (text : List ℕ) (answer : Result ℤ TimeFault) → answer ≡ time_of text → (answer ≡ Err Malformed) ↔ (¬ IsTimeForm text)
-read-malformed text answer same = (λ e. (time_of-meaning text).malformed (sym same ∙ e), λ h. same ∙ time_of-malformed text h)
+read-malformed text answer same = (λ e. subst (Means text) (sym same ∙ e) (time_of-means text), λ h. same ∙ time_of-malformed text h)
 
 pub read-too_fine : (text : List ℕ) (answer : Result ℤ TimeFault) → answer ≡ time_of text → (answer ≡ Err TooFine) ↔ IsTooFine text
-read-too_fine text answer same = (λ e. (time_of-meaning text).too_fine (sym same ∙ e), λ h. same ∙ time_of-too_fine text h)
+read-too_fine text answer same = (λ e. subst (Means text) (sym same ∙ e) (time_of-means text), λ h. same ∙ time_of-too_fine text h)
 
 pub read-out_of_range : (text : List ℕ) (answer : Result ℤ TimeFault) → answer ≡ time_of text → (answer ≡ Err OutOfRange) ↔ IsOutOfRange text
-read-out_of_range text answer same = (λ e. (time_of-meaning text).out_of_range (sym same ∙ e), λ h. same ∙ time_of-out_of_range text h)
+read-out_of_range text answer same = (λ e. subst (Means text) (sym same ∙ e) (time_of-means text), λ h. same ∙ time_of-out_of_range text h)

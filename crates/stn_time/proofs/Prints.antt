@@ -1,7 +1,7 @@
 -- The printed form of a number of milliseconds spells that number.
-use Rattle.std.proofs.Common.{◌≡◌, ℕ, ◌+◌, ◌*◌, ◌/◌, ◌%◌, ◌^◌, ◌<◌, Bool, true, false, cond, List, [], ◌∷◌, ◌++◌, map, length, ℤ, pos, negsuc, neg_ℤ, Ok, refl, sym, ap, ◌∙◌, arith, eqb, ltb, Result, Err, is_ok, OnOk, codes}
+use Rattle.std.proofs.Common.{◌≡◌, ℕ, ◌+◌, ◌*◌, ◌/◌, ◌%◌, ◌^◌, ◌<◌, false, cond, List, [], ◌∷◌, ◌++◌, map, length, ℤ, pos, negsuc, neg_ℤ, Ok, refl, sym, ap, ◌∙◌, arith, eqb, ltb, Result, Err, is_ok, OnOk, codes}
 use Rattle.std.specs.{Prelude.unsigned_abs, Char.digit_value, Int.is_negative, Int.Digits.AllBelowBase, Int.Digits.digits_of, Int.Digits.number_from_digits, Fmt.decimal, Fmt.sign_text, Str.Parse.AllDigits, Str.Parse.IsNumeral, Str.Parse.digits_value}
-use Rattle.std.proofs.{lemmas.List.length-map, lemmas.List.append_assoc, lemmas.Bool.eqb-true, lemmas.Bool.Decides.nat_tests, lemmas.Fmt.decimal_digit, lemmas.Fmt.decimal-digits_of}
+use Rattle.std.proofs.{lemmas.List.length-map, lemmas.List.append_assoc, lemmas.Bool.eqb-true, lemmas.Bool.cond_both, lemmas.Bool.Decides.nat_tests, lemmas.Fmt.decimal_digit, lemmas.Fmt.decimal-digits_of}
 use Rattle.std.proofs.lemmas.Int.Digits.{digits_value_is, all_below_base_digits_of, length-digits_of_step, number_digits_of}
 use Rattle.stn_time.specs.{Text.whole_text, Text.three_digits, Text.printed, Text.these_parts, Text.Spells, Text.thousandths_of, TimeOf.time_of, Time.IsWithinHorizon}
 use Rattle.stn_time.proofs.Forms.{time_of-spells}
@@ -26,13 +26,11 @@ whole-positive n h =
     let some : 0 < length (map (λ digit. 48 + digit) ds) = simp length-map (omega arith) in
     ((some, bytes-digits ds below), digits_value_is 10 (map (λ digit. 48 + digit) ds) ∙ (ap (number_from_digits 10) (values-bytes ds below) ∙ number_digits_of 10 n (omega arith)))
 
-whole-tested : (n : ℕ) (b : Bool) → eqb n 0 ≡ b → IsNumeral 10 (cond b (48 ∷ []) (map (λ digit. 48 + digit) (digits_of 10 n))) × (digits_value 10 (cond b (48 ∷ []) (map (λ digit. 48 + digit) (digits_of 10 n))) ≡ n)
-whole-tested n true e = ((omega arith, (omega arith, tt)), sym (eqb-true n 0 e))
-whole-tested n false e = whole-positive n (grind (arith, nat_tests))
-
 -- the whole seconds are a numeral of their number
 pub whole_text-value : (n : ℕ) → IsNumeral 10 (whole_text n) × (digits_value 10 (whole_text n) ≡ n)
-whole_text-value n = whole-tested n (eqb n 0) refl
+whole_text-value n = cond_both (eqb n 0) _ _ (λ ds. IsNumeral 10 ds × (digits_value 10 ds ≡ n))
+    (λ e. ((omega arith, (omega arith, tt)), sym (eqb-true n 0 e)))
+    (λ e. whole-positive n (grind (arith, nat_tests)))
 
 -- three digits are digits, and their value is the number
 pub three_digits-value : (n : ℕ) → n < 1000 → AllDigits 10 (three_digits n) × (thousandths_of (three_digits n) ≡ n)
@@ -67,12 +65,10 @@ pub time_of-printed : (millis : ℤ) → IsWithinHorizon millis → time_of (pri
 time_of-printed millis within = time_of-spells (printed millis) millis (spells-printed millis) within
 
 -- the whole seconds as the formatter of integers writes them
-decimal-tested : (n : ℕ) (b : Bool) → eqb n 0 ≡ b → n < 2 ^ 64 → decimal n ≡ cond b (48 ∷ []) (map (λ digit. 48 + digit) (digits_of 10 n))
-decimal-tested n true e small = ap decimal (eqb-true n 0 e) ∙ decimal_digit 0 (omega arith)
-decimal-tested n false e small = decimal-digits_of n (grind (arith, nat_tests)) small
-
 pub decimal-whole_text : (n : ℕ) → n < 2 ^ 64 → decimal n ≡ whole_text n
-decimal-whole_text n small = decimal-tested n (eqb n 0) refl small
+decimal-whole_text n small = cond_both (eqb n 0) _ _ (λ ds. decimal n ≡ ds)
+    (λ e. ap decimal (eqb-true n 0 e) ∙ decimal_digit 0 (omega arith))
+    (λ e. decimal-digits_of n (grind (arith, nat_tests)) small)
 
 -- three pieces appended one after another are the printed form
 pub appends-printed : {E : Type 0} (r : Result (Unit {0}) E) (millis : ℤ) (old sign whole rest one two three : List ℕ) → sign ≡ sign_text (is_negative millis) → whole ≡ decimal (unsigned_abs millis / 1000) → unsigned_abs millis / 1000 < 2 ^ 64 → rest ≡ codes "." ++ three_digits (unsigned_abs millis % 1000) → one ≡ old ++ sign → two ≡ one ++ whole → three ≡ cond (is_ok r) (two ++ rest) two → OnOk r (three ≡ old ++ printed millis)

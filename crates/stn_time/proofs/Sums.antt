@@ -8,14 +8,11 @@ pub digit_value-range : (c : ℕ) → IsInRange 48 57 c → digit_value c ≡ c 
 digit_value-range c h = grind (arith, nat_tests)
 
 -- a sum that saturates on the way is the saturated sum
-pub min-saturates : (most value digit : ℕ) → min (10 * min most value + digit) most ≡ min most (value * 10 + digit)
-min-saturates most value digit = omega arith
-
 pub seconds-more : (ds : List ℕ) (i s : ℕ) → AllDigits 10 ds → i < length ds → s ≡ min BEYOND (digits_value 10 (take i ds)) → min (10 * s + (get_or ds i 0 - 48)) BEYOND ≡ min BEYOND (digits_value 10 (take (i + 1) ds))
 seconds-more ds i s digits within e =
     let more = digits_value_more 10 ds i within in
     let digit = digit_value-range (get_or ds i 0) (digit_at ds i digits within) in
-    rw e (rw more (rw digit (min-saturates BEYOND (digits_value 10 (take i ds)) (get_or ds i 0 - 48))))
+    rw e (rw more (rw digit (omega arith)))
 
 -- the digits reach to the end exactly where there is nothing else
 all-step : (p n : ℕ) (b rest : Bool) → eqb p n ≡ rest → eqb (cond b (1 + p) 0) (suc n) ≡ (b && rest)

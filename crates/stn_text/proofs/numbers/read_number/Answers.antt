@@ -1,7 +1,7 @@
-use Rattle.std.proofs.Common.{◌≡◌, ◌<◌, ◌≤◌, ◌&&◌, true, false, length, get_or, Some, refl, sym, ap, ◌∙◌, arith}
+use Rattle.std.proofs.Common.{◌≡◌, ◌<◌, ◌≤◌, ◌&&◌, true, false, length, get_or, Some, sym, ap, ◌∙◌, arith}
 use Rattle.std.specs.{Prelude.nat_le, Prelude.nat_lt, Char.is_ascii_digit, Str.all_ascii_digits, Str.Parse.digits_value_after}
-use Rattle.std.proofs.{lemmas.Bool.Decides.nat_tests, lemmas.Grind.common_steps, lemmas.List.at_drop_all}
-use Rattle.stn_text.proofs.{Digits.number_of-length, Digits.number_of-other, Digits.number_of-digits, Digits.digits-stop, numbers.read_number.Goals.then-is_empty-via-then-is_empty, numbers.read_number.Goals.then-is_empty-via-else-is_empty+then-word-gt-MOST_DIGITS}
+use Rattle.std.proofs.{lemmas.Bool.Decides.nat_tests, lemmas.Grind.common_steps, lemmas.Bool.and_left, lemmas.List.at_drop_more, lemmas.List.at_drop_all}
+use Rattle.stn_text.proofs.{Digits.number_of-length, Digits.number_of-other, Digits.number_of-digits, numbers.read_number.Goals.then-is_empty-via-then-is_empty, numbers.read_number.Goals.then-is_empty-via-else-is_empty+then-word-gt-MOST_DIGITS}
 use Rattle.stn_text.proofs.numbers.read_number.Goals as goal
 
 pub returns-then-is_empty : goal.returns-then-is_empty
@@ -16,7 +16,7 @@ returns-then-not-is_ascii_digit c =
     let i = c.loop-digit.digit-index in
     let lt : i < length word = omega arith in
     let no : is_ascii_digit (get_or word i 0) ≡ false = grind (arith, common_steps) in
-    record { value = sym (number_of-other word (digits-stop word i (get_or word i 0) lt refl no c.loop-digit.invariant.digits)) }
+    record { value = sym (number_of-other word (sym c.loop-digit.invariant.digits ∙ at_drop_more all_ascii_digits word i 0 lt ∙ and_left _ _ no)) }
 
 pub returns : goal.returns
 returns c =
