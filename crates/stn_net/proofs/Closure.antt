@@ -2,6 +2,7 @@ use Rattle.std.proofs.Common.{◌≡◌, ℕ, ℤ, pos, ◌≤◌, ◌+ℤ◌, �
 use Rattle.std.specs.Prelude.{All}
 use Rattle.std.proofs.{lemmas.Int.ints, lemmas.Int.clamps, lemmas.List.Elements.All-push, lemmas.List.Elements.All-pop}
 use Rattle.stn_time.specs.Time.{horizon}
+use Rattle.stn_time.proofs.Each.{All-left}
 use Rattle.stn_net.specs.{Difference.Difference, Difference.NamesEvents, Schedule.IsSchedule, Schedule.HasSchedule, Schedule.Meets, Matrix.Table.Table, Matrix.Table.far_of, Matrix.Tightest.IsExact, Matrix.Closed.IsClosed, Matrix.Way.shorter, Matrix.Way.narrower, Matrix.Way.IsImplied, Matrix.Way.HasRoom}
 use Rattle.stn_net.proofs.Tightest.{IsTight, tight_from_exact, exact_from_tight}
 
@@ -53,12 +54,9 @@ narrower-closed events far b closed named ordered room =
     (shorter-closed events far b.from b.to b.hi closed named.from named.to (omega (arith, ints, room.upper)))
     named.to named.from (lower_round events far b closed named ordered room)
 
--- a schedule of a longer list is one of the list, and meets the last bound
-pub schedule_before : (bounds : List Difference) (b : Difference) (time : ℕ → ℤ) → IsSchedule (bounds ++ b ∷ []) time → IsSchedule bounds time
-schedule_before bounds b time s = record {
-  origin = s.origin;
-  met = (All-pop (Meets time) (bounds ++ b ∷ []) bounds (Some b) refl s.met).0;
-}
+-- a schedule of a longer list is one of its front, and meets the last bound
+pub schedule_before : (bounds more : List Difference) (time : ℕ → ℤ) → IsSchedule (bounds ++ more) time → IsSchedule bounds time
+schedule_before bounds more time s = record { origin = s.origin; met = All-left (Meets time) bounds more s.met }
 
 pub schedule_last : (bounds : List Difference) (b : Difference) (time : ℕ → ℤ) → IsSchedule (bounds ++ b ∷ []) time → Meets time b
 schedule_last bounds b time s = (All-pop (Meets time) (bounds ++ b ∷ []) bounds (Some b) refl s.met).1
@@ -67,38 +65,17 @@ schedule_last bounds b time s = (All-pop (Meets time) (bounds ++ b ∷ []) bound
 pub closed_same : (events : ℕ) (far other : ℕ → ℕ → ℤ) → ((x y : ℕ) → x ≤ events → y ≤ events → other x y ≡ far x y) → IsClosed events far → IsClosed events other
 closed_same events far other same closed = record {
   itself = λ x xs. same x x xs xs ∙ closed.itself x xs;
-  triangle = λ x y z xs ys zs.
-      let whole = same x z xs zs in
-      let first = same x y xs ys in
-      let second = same y z ys zs in
-      let triangle = closed.triangle x y z xs ys zs in
-      omega (arith, ints);
-  most = λ x y xs ys.
-      let here = same x y xs ys in
-      let most = closed.most x y xs ys in
-      omega (arith, ints);
+  triangle = λ x y z xs ys zs. rw (same x z xs zs, same x y xs ys, same y z ys zs) (closed.triangle x y z xs ys zs);
+  most = λ x y xs ys. rw (same x y xs ys) (closed.most x y xs ys);
 }
 
 -- equal entries are tight alike
 pub tight_same : (bounds : List Difference) (events : ℕ) (far other : ℕ → ℕ → ℤ) → All (NamesEvents events) bounds
     → ((x y : ℕ) → x ≤ events → y ≤ events → other x y ≡ far x y) → IsTight bounds events far → IsTight bounds events other
 tight_same bounds events far other named same tight = record {
-  sound = λ time s x y xs ys.
-      let here = same x y xs ys in
-      let sound = tight.sound time s x y xs ys in
-      omega (arith, ints);
-  upper = λ k d h.
-      let b = get_or bounds k d in
-      let ends = named k d h in
-      let here = same b.from b.to ends.from ends.to in
-      let upper = tight.upper k d h in
-      omega (arith, ints);
-  lower = λ k d h.
-      let b = get_or bounds k d in
-      let ends = named k d h in
-      let here = same b.to b.from ends.to ends.from in
-      let lower = tight.lower k d h in
-      omega (arith, ints);
+  sound = λ time s x y xs ys. rw (same x y xs ys) (tight.sound time s x y xs ys);
+  upper = λ k d h. let ends = named k d h in rw (same _ _ ends.from ends.to) (tight.upper k d h);
+  lower = λ k d h. let ends = named k d h in rw (same _ _ ends.to ends.from) (tight.lower k d h);
 }
 
 -- a difference by way of a link is sound where the link is
@@ -139,7 +116,7 @@ narrower_lower events far b closed named =
 pub narrower-tight : (bounds : List Difference) (events : ℕ) (far : ℕ → ℕ → ℤ) (b : Difference) → IsClosed events far → NamesEvents events b
     → IsTight bounds events far → IsTight (bounds ++ b ∷ []) events (narrower far b)
 narrower-tight bounds events far b closed named tight = record {
-  sound = λ time s. narrower_sound time events far b named (tight.sound time (schedule_before bounds b time s)) (schedule_last bounds b time s);
+  sound = λ time s. narrower_sound time events far b named (tight.sound time (schedule_before bounds (b ∷ []) time s)) (schedule_last bounds b time s);
   upper = All-push (λ d. narrower far b d.from d.to ≤ℤ d.hi) bounds b
       (λ k d h. let at = get_or bounds k d in let most = narrower_at_most far b at.from at.to in let upper = tight.upper k d h in omega (arith, ints))
       (narrower_upper events far b closed named);
@@ -152,7 +129,7 @@ narrower-tight bounds events far b closed named tight = record {
 pub implied-tight : (bounds : List Difference) (events : ℕ) (far : ℕ → ℕ → ℤ) (b : Difference) → IsImplied far b
     → IsTight bounds events far → IsTight (bounds ++ b ∷ []) events far
 implied-tight bounds events far b implied tight = record {
-  sound = λ time s. tight.sound time (schedule_before bounds b time s);
+  sound = λ time s. tight.sound time (schedule_before bounds (b ∷ []) time s);
   upper = All-push (λ d. far d.from d.to ≤ℤ d.hi) bounds b tight.upper implied.upper;
   lower = All-push (λ d. d.lo ≤ℤ neg_ℤ (far d.to d.from)) bounds b tight.lower (omega (arith, ints, implied.lower));
 }
@@ -160,7 +137,7 @@ implied-tight bounds events far b implied tight = record {
 -- where the list followed by the bound has a schedule, the bound has room
 pub room_from_schedule : (bounds : List Difference) (table : Table) (b : Difference) → NamesEvents table.events b → IsExact bounds table → HasSchedule (bounds ++ b ∷ []) → HasRoom (far_of table) b
 room_from_schedule bounds table b named exact s =
-    let before = schedule_before bounds b s.0 s.1 in
+    let before = schedule_before bounds (b ∷ []) s.0 s.1 in
     let met = schedule_last bounds b s.0 s.1 in
     let forth = (exact.far b.from b.to named.from named.to).bound s.0 before in
     let back = (exact.far b.to b.from named.to named.from).bound s.0 before in

@@ -44,7 +44,7 @@ module _ (bounds : List Difference) (table : Table) (time : ℤ) (event : ℕ) (
   -- the event may come that late, and that early
   room : (time ≤ℤ far_of table 0 event) × (pos 0 ≤ℤ (far_of table event 0 +ℤ time))
   room =
-      let before = schedule_before bounds (fixed_at time event) can.possible.0 can.possible.1 in
+      let before = schedule_before bounds (fixed_at time event ∷ []) can.possible.0 can.possible.1 in
       let at = schedule_last bounds (fixed_at time event) can.possible.0 can.possible.1 in
       let forth = (can.exact.far 0 event (omega arith) can.within).bound can.possible.0 before in
       let back = (can.exact.far event 0 can.within (omega arith)).bound can.possible.0 before in
@@ -82,7 +82,7 @@ module _ (bounds : List Difference) (table : Table) (time : ℤ) (event : ℕ) (
 
   fixed_bound : (times : ℕ → ℤ) → IsSchedule (bounds ++ fixed_at time event ∷ []) times → (x y : ℕ) → x ≤ table.events → y ≤ table.events → (times y -ℤ times x) ≤ℤ fixed_far x y
   fixed_bound times is x y xs ys =
-      let before = schedule_before bounds (fixed_at time event) times is in
+      let before = schedule_before bounds (fixed_at time event ∷ []) times is in
       let at = schedule_last bounds (fixed_at time event) times is in
       let early = at.0 in
       let late = at.1 in

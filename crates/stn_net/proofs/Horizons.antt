@@ -1,4 +1,6 @@
-use Rattle.std.proofs.Common.{◌≡◌, ℕ, zero, suc, [], ◌∷◌, length, refl, arith, length-append}
+use Rattle.std.proofs.Common.{◌≡◌, ℕ, ◌≤◌, zero, suc, List, [], ◌∷◌, ◌++◌, length, take, refl, ap, ◌∙◌, arith, length-append}
+use Rattle.std.proofs.lemmas.List.{length-take, take-append-le}
+use Rattle.stn_net.specs.Difference.{Difference}
 use Rattle.stn_net.specs.Horizon.{horizon_bound, horizon_bounds}
 
 -- there is one horizon bound for each event
@@ -6,3 +8,11 @@ pub length-horizon_bounds : (events : ℕ) → length (horizon_bounds events) �
 unfolding horizon_bounds
 length-horizon_bounds zero = refl
 length-horizon_bounds (suc events) = omega (arith, length-append (horizon_bounds events) (horizon_bound (suc events) ∷ []), length-horizon_bounds events)
+
+-- bounds that begin with the horizon bounds are no fewer than the events
+pub known_within : (events : ℕ) (base : List Difference) → take events base ≡ horizon_bounds events → events ≤ length base
+known_within events base begins = omega (arith, ap length begins, length-take events base, length-horizon_bounds events)
+
+-- with more bounds after them they still begin so
+pub known_first : (events : ℕ) (base extra : List Difference) → take events base ≡ horizon_bounds events → take events (base ++ extra) ≡ horizon_bounds events
+known_first events base extra begins = take-append-le events base extra (known_within events base begins) ∙ begins

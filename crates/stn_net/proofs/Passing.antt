@@ -24,17 +24,6 @@ pub record AreRunsTo (far : ℕ → ℕ → ℤ) (v : ℕ) (columns ends : List 
   pub alone : (i : ℕ) → begin ≤ i → i < length columns → slice_index_or ends i 0 ≡ i + 1
   pub beyond : (i j : ℕ) → i < begin → i < j → j < slice_index_or ends i 0 → IsOnWay far v (slice_index_or columns i 0) (slice_index_or columns j 0)
 
-pub runs_none : (far : ℕ → ℕ → ℤ) (v : ℕ) (columns ends : List ℕ) → length ends ≡ length columns
-    → ((i : ℕ) → i < length ends → slice_index_or ends i 0 ≡ i + 1) → AreRunsTo far v columns ends 0
-runs_none far v columns ends alike alone = record {
-  alike = alike;
-  begins = omega arith;
-  after = λ i below. absurd (omega arith);
-  within = λ i below. absurd (omega arith);
-  alone = λ i _ below. alone i (omega arith);
-  beyond = λ i j below. absurd (omega arith);
-}
-
 -- one more run, of which the columns before it know nothing
 pub runs_more : (far : ℕ → ℕ → ℤ) (v : ℕ) (columns moved ends : List ℕ) (begin end : ℕ) → AreRunsTo far v columns ends begin
     → length moved ≡ length columns → begin < end → end ≤ length columns

@@ -1,8 +1,8 @@
-use Rattle.std.proofs.Common.{◌≡◌, ℕ, ℤ, pos, ◌+◌, ◌<◌, ◌≤◌, ◌+ℤ◌, ◌-ℤ◌, ◌≤ℤ◌, Bool, true, List, length, get_or, sym, ◌∙◌, inl, inr, arith}
+use Rattle.std.proofs.Common.{◌≡◌, ℕ, ℤ, pos, ◌+◌, ◌<◌, ◌≤◌, ◌+ℤ◌, ◌-ℤ◌, ◌≤ℤ◌, Bool, true, List, length, sym, ◌∙◌, inl, inr, arith}
 use Rattle.std.specs.Int.{int_min}
 use Rattle.std.proofs.{lemmas.Int.ints, lemmas.Int.clamps, lemmas.Bool.false≢true, lemmas.Bool.cases_lt, lemmas.List.get_or_past}
 use Rattle.stn_net.specs.{Difference.Difference, Schedule.IsSchedule, Matrix.Table.Table, Matrix.Table.far_of, Matrix.Tightest.IsExact, Windows.Dispatch.IsLeft, Windows.Dispatch.IsReady, Windows.Leading.NonePast, Windows.Leading.CanLead}
-use Rattle.stn_net.proofs.WindowEnds.{lesser_schedule}
+use Rattle.stn_net.proofs.{Tightest.row_of_triangles, Tightest.tight_from_exact, WindowEnds.lesser_schedule}
 
 -- an event that is left has a test in the list
 pub left_within : (done : List Bool) (event : ℕ) → IsLeft done event → event < length done
@@ -24,21 +24,8 @@ exact_itself bounds table x exact xs = let attains = (exact.far x x xs xs).attai
 
 -- a row of an exact table, shifted so that the origin is at 0, is a schedule
 pub exact_row : (bounds : List Difference) (table : Table) (x : ℕ) → IsExact bounds table → x ≤ table.events → IsSchedule bounds (λ z. far_of table x z -ℤ far_of table x 0)
-exact_row bounds table x exact xs = record {
-  origin = omega (arith, ints);
-  met = λ k d h.
-      let b = get_or bounds k d in
-      let ends = exact.named k d h in
-      let forth = (exact.far b.from b.to ends.from ends.to).attained in
-      let back = (exact.far b.to b.from ends.to ends.from).attained in
-      let upper = forth.1.met k d h in
-      let lower = back.1.met k d h in
-      let attains_forth = forth.2 in
-      let attains_back = back.2 in
-      let onward = exact_triangle bounds table x b.from b.to exact xs ends.from ends.to in
-      let return = exact_triangle bounds table x b.to b.from exact xs ends.to ends.from in
-      (omega (arith, ints), omega (arith, ints));
-}
+exact_row bounds table x exact xs =
+    row_of_triangles bounds table.events (far_of table) exact.named (λ x y z. exact_triangle bounds table x y z exact) (tight_from_exact bounds table exact) x xs
 
 -- an event that is left, whose earliest time has come, that leads, and before which no other has to run, is ready
 pub ready_now : (bounds : List Difference) (table : Table) (done : List Bool) (event : ℕ) (time : ℤ) → IsExact bounds table → length done ≡ table.events + 1

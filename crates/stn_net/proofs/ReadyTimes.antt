@@ -1,6 +1,6 @@
 -- The times at which an event may run.
 use Rattle.std.proofs.Common.{◌≡◌, inl, inr, ℕ, ℤ, ◌+◌, ◌≤ℤ◌, ◌<ℤ◌, ◌↔◌, Bool, true, false, cond, List, length, Option, Some, None, refl, arith}
-use Rattle.std.specs.Ordering.{ord_max, int_cmp, is_lt, is_le}
+use Rattle.std.specs.Ordering.{ord_max, int_cmp, is_lt}
 use Rattle.std.proofs.lemmas.Int.{ints, by_lt_z}
 use Rattle.stn_net.specs.Difference.{Difference}
 use Rattle.stn_net.specs.{Matrix.Table.Table, Matrix.Table.far_of, Matrix.Tightest.IsExact, Windows.Dispatch.IsLeft, Windows.Dispatch.IsReady, Windows.Dispatch.AreReadyTimes, Windows.Leading.earliest, Windows.Leading.Leads, Windows.Leading.IsLeastLatest}
@@ -14,13 +14,6 @@ later_of early now first time is = by (is_lt (int_cmp now early)) refl is
     by : (less : Bool) → is_lt (int_cmp now early) ≡ less → first ≡ cond less early now → (first ≤ℤ time) ↔ ((early ≤ℤ time) × (now ≤ℤ time))
     by true e same = let below : now <ℤ early = grind (arith, ints) in ((λ h. (omega (arith, ints), omega (arith, ints))), (λ h. let low = h.0 in omega (arith, ints)))
     by false e same = let below : early ≤ℤ now = grind (arith, ints) in ((λ h. (omega (arith, ints), omega (arith, ints))), (λ h. let low = h.1 in omega (arith, ints)))
-
--- there are times from the first to the last, and there are none
-pub some_time : (first last : ℤ) → is_le (int_cmp first last) ≡ true → first ≤ℤ last
-some_time first last e = grind (arith, ints)
-
-pub no_time : (first last : ℤ) → is_le (int_cmp first last) ≡ false → last <ℤ first
-no_time first last e = grind (arith, ints)
 
 -- an event that is left and leads may run from its earliest time up to the least of all latest times
 ready_between : (bounds : List Difference) (table : Table) (done : List Bool) (event : ℕ) (last time : ℤ) → IsExact bounds table → length done ≡ table.events + 1

@@ -52,7 +52,7 @@ rehearsed_schedule (run ∷ runs) bounds done now possible rehearsal =
     let origin = rest.1.origin in
     let fixed = schedule_last bounds (fixed_at run.0 run.1) times rest.1 in
     let at : times run.1 ≡ run.0 = omega (arith, ints, fixed.0, fixed.1) in
-    (times, schedule_before bounds (fixed_at run.0 run.1) times rest.1, All-cons (λ (run : ℤ × ℕ). times run.1 ≡ run.0) run runs at rest.2)
+    (times, schedule_before bounds (fixed_at run.0 run.1 ∷ []) times rest.1, All-cons (λ (run : ℤ × ℕ). times run.1 ≡ run.0) run runs at rest.2)
 
 -- the times of a rehearsal never fall
 pub rehearsed_rising : (runs : List (ℤ × ℕ)) (bounds : List Difference) (done : List Bool) (now : ℤ) → IsRehearsal bounds done now runs → NeverFalls now runs
@@ -60,13 +60,20 @@ rehearsed_rising [] bounds done now rehearsal = tt
 rehearsed_rising (run ∷ runs) bounds done now rehearsal =
     (rehearsal.0.later, rehearsed_rising runs (bounds ++ fixed_at run.0 run.1 ∷ []) (slice_set done run.1 true) run.0 rehearsal.1)
 
--- a plan that has a rehearsal can wait
+-- where no event is overdue, the plan can wait
+pub can_wait : (bounds : List Difference) (done : List Bool) (now : ℤ) (answer : Next) → HasSchedule bounds → IsNext bounds done now answer
+    → ((event : ℕ) → answer ≢ Overdue event) → CanWaitUntil bounds done now
+can_wait bounds done now (Run time event) possible next none =
+    let ready = next.ready in
+    let later = next.later in
+    (ready.possible.0, ready.possible.1, λ other left. (let after = ready.possible.3 other left in omega (arith, ints)))
+can_wait bounds done now AllDone possible next none = (possible.0, possible.1, λ event left. absurd (next event left))
+can_wait bounds done now (Overdue event) possible next none = absurd (none event refl)
+
+-- so can one that has a rehearsal
 pub rehearsed_in_time : (runs : List (ℤ × ℕ)) (bounds : List Difference) (done : List Bool) (now : ℤ) → HasSchedule bounds → IsRehearsal bounds done now runs → CanWaitUntil bounds done now
-rehearsed_in_time [] bounds done now possible rehearsal = (possible.0, possible.1, λ event left. absurd (rehearsal event left))
-rehearsed_in_time (run ∷ runs) bounds done now possible rehearsal =
-    let ready = rehearsal.0.ready in
-    let later = rehearsal.0.later in
-    (ready.possible.0, ready.possible.1, λ event left. (let after = ready.possible.3 event left in omega (arith, ints)))
+rehearsed_in_time [] bounds done now possible rehearsal = can_wait bounds done now AllDone possible rehearsal (λ event is. cc)
+rehearsed_in_time (run ∷ runs) bounds done now possible rehearsal = can_wait bounds done now (Run run.0 run.1) possible rehearsal.0 (λ event is. cc)
 
 -- a plan in which an event is overdue can't
 pub overdue_cannot_wait : (bounds : List Difference) (done : List Bool) (now : ℤ) (event : ℕ) → IsOverdue bounds done now event → ¬ CanWaitUntil bounds done now
@@ -95,16 +102,6 @@ rehearsed_once (run ∷ runs) bounds done now rehearsal =
         | inr differs ↦ omega (arith, ap one_or_none differs.0, rest.others event (λ still. not_left (left_before done run.1 event left still).1))
       ];
     }
-
--- where no event is overdue, the plan can wait
-pub can_wait : (bounds : List Difference) (done : List Bool) (now : ℤ) (answer : Next) → HasSchedule bounds → IsNext bounds done now answer
-    → ((event : ℕ) → answer ≢ Overdue event) → CanWaitUntil bounds done now
-can_wait bounds done now (Run time event) possible next none =
-    let ready = next.ready in
-    let later = next.later in
-    (ready.possible.0, ready.possible.1, λ other left. (let after = ready.possible.3 other left in omega (arith, ints)))
-can_wait bounds done now AllDone possible next none = (possible.0, possible.1, λ event left. absurd (next event left))
-can_wait bounds done now (Overdue event) possible next none = absurd (none event refl)
 
 -- where the first answer is no overdue event, lack of memory is the first fault that stands
 pub want_of_memory : {X : Type 0} (result : Result X RehearseFault) (table : Table) (done : List Bool) (now : ℤ) (answer : Next) → result ≡ Err Memory

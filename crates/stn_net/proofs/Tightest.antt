@@ -1,4 +1,4 @@
-use Rattle.std.proofs.Common.{◌≡◌, ℕ, ℤ, ◌≤◌, ◌-ℤ◌, ◌≤ℤ◌, neg_ℤ, List, get_or, arith}
+use Rattle.std.proofs.Common.{◌≡◌, ℕ, ℤ, ◌≤◌, ◌+ℤ◌, ◌-ℤ◌, ◌≤ℤ◌, neg_ℤ, List, get_or, arith}
 use Rattle.std.specs.Prelude.{All}
 use Rattle.std.proofs.lemmas.Int.{ints}
 use Rattle.stn_net.specs.{Difference.Difference, Difference.NamesEvents, Schedule.IsSchedule, Matrix.Table.Table, Matrix.Table.far_of, Matrix.Tightest.IsTightest, Matrix.Tightest.IsExact, Matrix.Closed.IsClosed}
@@ -67,20 +67,25 @@ tight_from_exact bounds table p = record {
       omega (arith, ints);
 }
 
--- a row of a closed and tight table, shifted so that the origin is at 0, is a schedule
-pub row_is_schedule : (bounds : List Difference) (events : ℕ) (far : ℕ → ℕ → ℤ) → All (NamesEvents events) bounds → IsClosed events far → IsTight bounds events far
+-- a row of a tight table in which no difference is more than the two by way of a third event, shifted so that the origin is at 0, is a schedule
+pub row_of_triangles : (bounds : List Difference) (events : ℕ) (far : ℕ → ℕ → ℤ) → All (NamesEvents events) bounds
+    → ((x y z : ℕ) → x ≤ events → y ≤ events → z ≤ events → far x z ≤ℤ (far x y +ℤ far y z)) → IsTight bounds events far
     → (x : ℕ) → x ≤ events → IsSchedule bounds (λ z. far x z -ℤ far x 0)
-row_is_schedule bounds events far named closed tight x xs = record {
+row_of_triangles bounds events far named triangle tight x xs = record {
   origin = omega (arith, ints);
   met = λ k d h.
       let b = get_or bounds k d in
       let ends = named k d h in
       let upper = tight.upper k d h in
       let lower = tight.lower k d h in
-      let onward = closed.triangle x b.from b.to xs ends.from ends.to in
-      let back = closed.triangle x b.to b.from xs ends.to ends.from in
+      let onward = triangle x b.from b.to xs ends.from ends.to in
+      let back = triangle x b.to b.from xs ends.to ends.from in
       (omega (arith, ints), omega (arith, ints));
 }
+
+pub row_is_schedule : (bounds : List Difference) (events : ℕ) (far : ℕ → ℕ → ℤ) → All (NamesEvents events) bounds → IsClosed events far → IsTight bounds events far
+    → (x : ℕ) → x ≤ events → IsSchedule bounds (λ z. far x z -ℤ far x 0)
+row_is_schedule bounds events far named closed tight = row_of_triangles bounds events far named closed.triangle tight
 
 -- a closed and tight table is exact: each row is a schedule that attains its entries
 pub exact_from_tight : (bounds : List Difference) (table : Table) → All (NamesEvents table.events) bounds → IsClosed table.events (far_of table) → IsTight bounds table.events (far_of table) → IsExact bounds table

@@ -1,4 +1,4 @@
-use Rattle.std.proofs.Common.{◌≡◌, ◌≢◌, ℕ, zero, suc, ℤ, pos, ◌≤◌, ◌+ℤ◌, ◌≤ℤ◌, neg_ℤ, ◌⊎◌, inl, inr, refl, ap, arith}
+use Rattle.std.proofs.Common.{◌≡◌, ◌≢◌, ℕ, zero, suc, ℤ, pos, ◌≤◌, ◌+ℤ◌, ◌≤ℤ◌, neg_ℤ, ◌⊎◌, inl, inr, [], ◌∷◌, refl, ap, arith}
 use Rattle.std.specs.Prelude.{All}
 use Rattle.std.proofs.{lemmas.Int.ints, lemmas.Bool.cases_eq, lemmas.List.Elements.All-push, lemmas.List.Elements.All-nil}
 use Rattle.stn_time.specs.Time.{horizon}
@@ -59,7 +59,7 @@ horizon_times zero time s event within =
     let origin : time event ≡ pos 0 = rw first s.origin in
     (omega (arith, ints), omega (arith, ints))
 horizon_times (suc events) time s event within =
-    let before = schedule_before (horizon_bounds events) (horizon_bound (suc events)) time s in
+    let before = schedule_before (horizon_bounds events) (horizon_bound (suc events) ∷ []) time s in
     let last = schedule_last (horizon_bounds events) (horizon_bound (suc events)) time s in
     elim (cases_eq event (suc events)) [
       | inl e ↦ (let here : time event ≡ time (suc events) = ap time e in let origin = s.origin in (omega (arith, ints), omega (arith, ints)))

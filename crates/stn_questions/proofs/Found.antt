@@ -201,7 +201,7 @@ room_or_none far bound =
 none_without_room : (bounds : List Difference) (events : ℕ) (far : ℕ → ℕ → ℤ) (bound : Difference) → AreFound bounds events far → NamesEvents events bound → ¬ HasRoom far bound
     → ¬ HasSchedule (bounds ++ bound ∷ [])
 none_without_room bounds events far bound found named none (time, is) =
-    let before = schedule_before bounds bound time is in
+    let before = schedule_before bounds (bound ∷ []) time is in
     let met = schedule_last bounds bound time is in
     let forth = found.tight.sound time before bound.from bound.to named.from named.to in
     let back = found.tight.sound time before bound.to bound.from named.to named.from in

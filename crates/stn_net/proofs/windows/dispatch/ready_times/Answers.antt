@@ -1,6 +1,6 @@
 use Rattle.std.proofs.Common.{◌≤ℤ◌, ◌<ℤ◌, sym, ◌∙◌, arith}
 use Rattle.std.proofs.{lemmas.Int.ints, lemmas.Bool.false≢true}
-use Rattle.stn_net.proofs.{Readiness.ready_can_lead, ReadyTimes.ready_from_now, ReadyTimes.some_time, ReadyTimes.no_time, windows.dispatch.ready_times.Goals.then-not-is_left-via-then-not-is_left, windows.dispatch.ready_times.Goals.then-not-is_left-via-else-not-is_left+then-not-leads}
+use Rattle.stn_net.proofs.{Readiness.ready_can_lead, ReadyTimes.ready_from_now, windows.dispatch.ready_times.Goals.then-not-is_left-via-then-not-is_left, windows.dispatch.ready_times.Goals.then-not-is_left-via-else-not-is_left+then-not-leads}
 use Rattle.stn_net.proofs.windows.dispatch.ready_times.Goals as goal
 
 pub returns-then-not-is_left : goal.returns-then-not-is_left
@@ -16,7 +16,7 @@ returns-then-le g c = λ bounds exact.
     let early = rw (c.far.ensures.entry, c.origin.ensures) at c.neg-earliest.ensures in
     let ready = ready_from_now bounds c.args.matrix.now c.args.done.now c.args.event c.args.now c.neg-earliest.result c.max-first.result c.least_latest-last.result
     exact c.requires.one_each (c.is_left.ensures.0 c.if-not-is_left.false) (c.leads.ensures.0 c.if-not-leads.false) c.least_latest-last.ensures early c.max-first.ensures in
-    let some : c.max-first.result ≤ℤ c.least_latest-last.result = some_time _ _ (sym c.le.ensures ∙ c.if-le.true) in
+    let some : c.max-first.result ≤ℤ c.least_latest-last.result = (let le = sym c.le.ensures ∙ c.if-le.true in grind (arith, ints)) in
     (some, ready)
 
 pub returns-else-le : goal.returns-else-le
@@ -24,7 +24,7 @@ returns-else-le g c = λ bounds exact time from is_ready.
     let early = rw (c.far.ensures.entry, c.origin.ensures) at c.neg-earliest.ensures in
     let ready = ready_from_now bounds c.args.matrix.now c.args.done.now c.args.event c.args.now c.neg-earliest.result c.max-first.result c.least_latest-last.result
     exact c.requires.one_each (c.is_left.ensures.0 c.if-not-is_left.false) (c.leads.ensures.0 c.if-not-leads.false) c.least_latest-last.ensures early c.max-first.ensures in
-    let none : c.least_latest-last.result <ℤ c.max-first.result = no_time _ _ (sym c.le.ensures ∙ c.if-le.false) in
+    let none : c.least_latest-last.result <ℤ c.max-first.result = (let le = sym c.le.ensures ∙ c.if-le.false in grind (arith, ints)) in
     let ends = (ready time).0 (from, is_ready) in
     let first = ends.0 in
     let last = ends.1 in
