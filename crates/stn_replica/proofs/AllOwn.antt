@@ -1,20 +1,17 @@
 -- Where all steps are a site's own, those events count as left that are not done.
-use Rattle.std.proofs.Common.{◌≡◌, ℕ, ◌+◌, ◌*◌, ◌≤◌, Bool, true, false, ◌||◌, ◌&&◌, not, leb, [], ◌∷◌, refl, ap, ◌∙◌, arith}
+use Rattle.std.proofs.Common.{[], ◌≡◌, ℕ, ◌+◌, ◌*◌, ◌≤◌, true, false, ◌||◌, ◌&&◌, not, leb, ◌∷◌, ap, ◌∙◌, arith}
 use Rattle.std.proofs.lemmas.Bool.Decides.{nat_tests}
 use Rattle.std.proofs.lemmas.List.FromFn.{fill_by_all, get_or-map-range_with_len, length-map-range_with_len}
 use Rattle.std.specs.List.{list_any}
+use Rattle.std.proofs.Math.Bool.{or-false}
 use Rattle.stn_lift.specs.{BaseBounds.step_of, PlanSource.PlanSource, PlanSource.steps_of, PlanSource.events_of}
 use Rattle.stn_records.specs.Content.{Content}
 use Rattle.stn_site.specs.Report.{is_done, done_events}
 use Rattle.stn_replica.specs.{declared.own.StepRange.StepRange, declared.own.Own.Own, Own.has, Own.is_end, Own.is_own, Own.done_or_others}
 
 -- each event is one of all steps'
-has_all : (steps event : ℕ) → event ≤ 2 * steps → (leb 0 (step_of event) && leb (step_of event) steps) ≡ true
+pub has_all : (steps event : ℕ) → event ≤ 2 * steps → (leb 0 (step_of event) && leb (step_of event) steps) ≡ true
 has_all steps event within = let low : step_of event ≤ steps = omega arith in grind (arith, nat_tests)
-
-or_false : (a : Bool) → (a || false) ≡ a
-or_false true = refl
-or_false false = refl
 
 own_all : (own : Own) (range : StepRange) (steps event : ℕ) → own.steps.now ≡ range ∷ [] → own.starts ≡ false → range.first ≡ 0 → range.last ≡ steps → event ≤ 2 * steps → is_own own event ≡ true
 own_all own range steps event list starts first last within =
@@ -30,4 +27,4 @@ all_own own range source state list starts first last =
     (λ k below.
     get_or-map-range_with_len (λ event. is_done state event || not (is_own own event)) 0 (events_of source + 1) k k false below (omega arith)
     ∙ ap (λ t. is_done state k || not t) (own_all own range (steps_of source) k list starts first last (omega arith))
-    ∙ or_false (is_done state k))
+    ∙ or-false (is_done state k))

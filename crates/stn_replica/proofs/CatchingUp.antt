@@ -1,6 +1,7 @@
 -- What a change of a site's plan makes of its live records, and a matrix that has caught up with it.
 use Rattle.std.proofs.Common.{◌≡◌, ◌≤◌, Bool, true, false, List, [], ◌∷◌, ◌++◌, Some, inl, refl, sym, ap, subst, ◌∙◌}
 use Rattle.std.specs.FinMap.{get}
+use Rattle.std.proofs.lemmas.Option.{same_Some}
 use Rattle.stn_net.specs.Difference.{Difference}
 use Rattle.stn_net.specs.{Matrix.Table.Table, Matrix.Tightest.IsExact}
 use Rattle.stn_lift.specs.PlanSource.{events_of}
@@ -8,7 +9,6 @@ use Rattle.stn_records.specs.{Id.SiteCounter, declared.record.Record.Record, Con
 use Rattle.stn_records.specs.Content.{Content, is_known, is_live, replacement, plain, one_amendment, next_counter}
 use Rattle.stn_records.proofs.{Counters.next_is_new, OneItem.inserted_here}
 use Rattle.stn_site.specs.{Bounds.live_bounds, Bounds.RecordsName, Held.Held, Held.next_id, Calls.added, Calls.amended, Calls.Leaves}
-use Rattle.stn_site.proofs.Named.{value_of}
 use Rattle.stn_replica.specs.{Invariant.IsSettled, Invariant.IsSoundReplica, Work.KeepsLive}
 use Rattle.stn_replica.proofs.{Changes.IsGrown, Changes.grown_with_record, Changes.grown_with_amendment, Changes.falls_with_amendment, Sound.sound_added, Sound.sound_rebuilt}
 
@@ -26,7 +26,7 @@ module _ (old new : Held) (id replaced : SiteCounter) (bound : Difference) (leav
   agrees : (z : SiteCounter) → get old.state.replacements id ≡ Some z → z ≡ replaced
   agrees z there =
       let stays : get new.state.replacements id ≡ Some z = (contents_join.union old.state (one_amendment id replaced bound) new.state leaves.state.2 (replacement id z)).1 (inl there) in
-      value_of z replaced (sym stays ∙ ap (λ (s : Content). get s.replacements id) leaves.state.1 ∙ inserted_here old.state.replacements id replaced)
+      same_Some z replaced (sym stays ∙ ap (λ (s : Content). get s.replacements id) leaves.state.1 ∙ inserted_here old.state.replacements id replaced)
 
   pub grown_by_amendment : is_known old.state replaced ≡ true → is_live old.state replaced ≡ false → IsGrown old.state new.state id (plain bound)
   grown_by_amendment known dead = grown_with_amendment old.state new.state id replaced bound leaves.state.1 agrees (next_unknown old id leaves.state.0) known dead

@@ -1,25 +1,23 @@
 -- What an addition, an amendment, a withdrawal and a take make of a state.
 use Rattle.std.proofs.Common.{◌≡◌, ◌≢◌, ◌<◌, ◌≤◌, Bool, true, false, not, ◌&&◌, ◌||◌, List, [], ◌∷◌, ◌++◌, length, Option, Some, None, is_some, inl, ⊎_elim, refl, sym, ap, subst, ◌∙◌, arith, All}
-use Rattle.std.proofs.lemmas.Bool.{false≢true, false_from_ne_true, cases_lt, or_cases}
-use Rattle.std.proofs.lemmas.List.Elements.{All-append, All-nil, All-push}
+use Rattle.std.proofs.lemmas.Bool.{false≢true, false_from_ne_true, cases_lt, or_cases, not-true, and_parts, or_right}
+use Rattle.std.proofs.lemmas.List.Elements.{All-nil, All-push}
 use Rattle.std.specs.{Ordering.eq_by_cmp, FinMap.get, FinMap.insert, FinMap.contains_key}
-use Rattle.stn_net.specs.{Difference.Difference, Difference.NamesEvents, Schedule.Meets, Matrix.Table.Table, Matrix.Tightest.IsExact}
+use Rattle.std.proofs.lemmas.Option.{same_Some}
+use Rattle.std.proofs.Math.Bool.{and-false, and-not_self}
+use Rattle.stn_net.specs.{Difference.Difference, Difference.NamesEvents, Schedule.Meets, Matrix.Table.Table}
 use Rattle.stn_records.specs.{Id.SiteCounter, Id.id_cmp, declared.record.Record.Record, ContentLaws.contents_join}
-use Rattle.stn_records.specs.Content.{Content, addition, is_live, is_replaced, is_known, no_content, plain, replaced_set, with_amendment, with_record, with_tombstone, join_contents}
+use Rattle.stn_records.specs.Content.{Content, addition, is_live, is_replaced, is_known, plain, replaced_set, with_amendment, with_record, with_tombstone, join_contents}
 use Rattle.stn_records.proofs.Replaced.{replaced_by_withdrawal, inserted_key, replaced_withdrawn, replaced_amended}
 use Rattle.stn_site.specs.Bounds.{bounds_of, live_bounds}
 use Rattle.stn_replica.specs.{Invariant.IsSettled, Work.is_risen, Work.risen, Work.KeepsLive, Work.Extends}
-use Rattle.stn_site.proofs.{Counts.unknown_absent, Counts.unknown_unreplaced, Named.same_id, Named.itself, Named.value_of, Named.get_added, Named.live_named, Named.none_named}
-use Rattle.stn_replica.proofs.Live.{RisenHold, keeps_unless_replaced, falls_where_replaced, left_true, live_from_bounds, bounds_from_live, risen_from_bounds, old_hold, risen_hold, new_hold, nothing_live}
+use Rattle.stn_site.proofs.{Counts.unknown_absent, Counts.unknown_unreplaced, Named.same_id, Named.itself, Named.get_added}
+use Rattle.stn_replica.proofs.Live.{RisenHold, keeps_unless_replaced, falls_where_replaced, live_from_bounds, bounds_from_live, risen_from_bounds, old_hold, risen_hold, new_hold}
 use Rattle.stn_replica.proofs.Schedules.{schedule_before, met_behind, schedule_with, settled_same_schedules}
-
-last_false : (a : Bool) → (a && false) ≡ false
-last_false true = refl
-last_false false = refl
 
 -- ---- an id that is replaced is not live
 pub replaced_dead : (s : Content) (id : SiteCounter) → is_replaced s id ≡ true → is_live s id ≡ false
-replaced_dead s id e = ap (λ b. is_some (get s.additions id) && not b) e ∙ last_false (is_some (get s.additions id))
+replaced_dead s id e = ap (λ b. is_some (get s.additions id) && not b) e ∙ and-false (is_some (get s.additions id))
 
 -- a withdrawn id is replaced
 pub withdrawn_replaced : (s : Content) (id : SiteCounter) → contains_key s.tombstones id ≡ true → is_replaced s id ≡ true
@@ -36,15 +34,6 @@ pub record IsGrown (old new : Content) (id : SiteCounter) (r : Record) : Type 0 
   pub there : get new.additions id ≡ Some r
   pub rose : is_risen old new id ≡ true
   pub alone : (q : SiteCounter) (v : Record) → get new.additions q ≡ Some v → is_risen old new q ≡ true → v ≡ r
-
-live_parts : (there gone : Bool) → (there && not gone) ≡ true → gone ≡ false
-live_parts true true e = absurd (false≢true e)
-live_parts true false e = refl
-live_parts false gone e = absurd (false≢true e)
-
-contrary : (a : Bool) → (a && not a) ≢ true
-contrary true e = false≢true e
-contrary false e = false≢true e
 
 module _ (s new : Content) (id : SiteCounter) (r : Record) (unknown : is_known s id ≡ false) (added : new.additions ≡ insert s.additions id r) where
   pub extends_added : Extends s new
@@ -71,12 +60,12 @@ module _ (s new : Content) (id : SiteCounter) (r : Record) (unknown : is_known s
     alone_added : (q : SiteCounter) (v : Record) → get new.additions q ≡ Some v → is_risen s new q ≡ true → v ≡ r
     alone_added q v there rose =
         elim (eq_by_cmp id_cmp q id) as (λ b. eq_by_cmp id_cmp q id ≡ b → v ≡ r) [
-          | true ↦ λ t. sym (value_of r v (sym (get_added s new id r unknown added q true t) ∙ there))
+          | true ↦ λ t. sym (same_Some r v (sym (get_added s new id r unknown added q true t) ∙ there))
           | false ↦ λ t.
-              let now : is_live new q ≡ true = left_true (is_live new q) (not (is_live s q)) rose in
-              let unreplaced = live_parts (is_some (get new.additions q)) (is_replaced new q) now in
+              let now : is_live new q ≡ true = (and_parts (is_live new q) (not (is_live s q)) rose).0 in
+              let unreplaced = not-true (is_replaced new q) (and_parts (is_some (get new.additions q)) (not (is_replaced new q)) now).1 in
               let same : is_live new q ≡ is_live s q = λ i. is_some (get_added s new id r unknown added q false t i) && not ((unreplaced ∙ sym (stayed q unreplaced)) i) in
-              absurd (contrary (is_live s q) (ap (λ b. b && not (is_live s q)) (sym same) ∙ rose))
+              absurd (false≢true (sym (and-not_self (is_live s q)) ∙ ap (λ b. b && not (is_live s q)) (sym same) ∙ rose))
         ] refl
 
     pub grown : IsGrown s new id r
@@ -99,14 +88,10 @@ module _ (s new : Content) (id old : SiteCounter) (bound : Difference) (is : new
   -- where the old record was not live, the new one has become so, and no other changes
   pub grown_with_amendment : is_known s id ≡ false → is_known s old ≡ true → is_live s old ≡ false → IsGrown s new id (plain bound)
   grown_with_amendment unknown known dead =
-      grown s new id (plain bound) unknown (ap (λ (t : Content). t.additions) is) (λ q e. replaced_or_old q ∙ either (eq_by_cmp id_cmp q old) (is_replaced s q) e)
+      grown s new id (plain bound) unknown (ap (λ (t : Content). t.additions) is) (λ q e. replaced_or_old q ∙ or_right (eq_by_cmp id_cmp q old) (is_replaced s q) e)
       (λ q e. ⊎_elim (λ here. ap (λ k. is_live s k) (same_id q old here) ∙ dead) (λ gone. replaced_dead s q gone) (or_cases (eq_by_cmp id_cmp q old) (is_replaced s q) (sym (replaced_or_old q) ∙ e)))
       (replaced_or_old id ∙ (λ i. other i || unknown_unreplaced s id unknown i))
     where
-      either : (a b : Bool) → b ≡ true → (a || b) ≡ true
-      either true b e = refl
-      either false b e = e
-
       other : eq_by_cmp id_cmp id old ≡ false
       other = false_from_ne_true (eq_by_cmp id_cmp id old) (λ e. false≢true (sym unknown ∙ ap (λ k. is_known s k) (same_id id old e) ∙ known))
 
@@ -170,12 +155,3 @@ module _ (s : Content) (id : SiteCounter) where
         | true ↦ λ t. ap (λ k. is_live (with_tombstone s id) k) (same_id q id t) ∙ withdrawn_dead ∙ sym dead ∙ ap (λ k. is_live s k) (sym (same_id q id t))
         | false ↦ λ t. ap (λ b. is_some (get s.additions q) && not b) (replaced_or_here q ∙ ap (λ b. b || is_replaced s q) t)
       ] refl
-
--- ---- nothing at first
-pub settled_at_first : (base : List Difference) (none : Content) (table : Table) → none ≡ no_content → IsExact base table → IsSettled (base ++ live_bounds none) table true
-settled_at_first base none table is exact =
-    settled_same_schedules base (base ++ live_bounds none) table true
-    (λ time h. schedule_with base (live_bounds none) time h (bounds_from_live (Meets time) none (λ q v there live. absurd (false≢true (sym (nothing_live none is q) ∙ live)))))
-    (λ time h. schedule_before base (live_bounds none) time h)
-    (All-append (NamesEvents table.events) base (live_bounds none) exact.named (live_named table.events none (none_named table.events none is)))
-    exact

@@ -1,11 +1,14 @@
 -- The live records of a state, and those that become live from one state to the next.
 use Rattle.std.proofs.Common.{◌≡◌, Bool, true, false, cond, not, ◌&&◌, List, [], ◌∷◌, ◌++◌, filter, Option, Some, None, is_some, refl, sym, ap, subst, ◌∙◌, All}
-use Rattle.std.specs.{List.AllByRecursion, FinMap.entries, FinMap.get, FinMap.contains_key, FinMap.get-empty}
+use Rattle.std.specs.{List.AllByRecursion, FinMap.entries, FinMap.get, FinMap.contains_key}
 use Rattle.std.proofs.{lemmas.Bool.false≢true, lemmas.List.Elements.All-from_recursion, lemmas.List.Elements.recursion_from_All}
+use Rattle.std.proofs.lemmas.Bool.{and_parts}
+use Rattle.std.proofs.lemmas.Option.{same_Some}
+use Rattle.std.proofs.Math.Bool.{and-false}
 use Rattle.stn_net.specs.{Difference.Difference, Difference.NamesEvents, Schedule.HasSchedule, Schedule.Meets}
 use Rattle.stn_net.specs.Matrix.Table.{Table}
-use Rattle.stn_records.specs.{Id.SiteCounter, Id.id_cmp, declared.record.Record.Record, ContentLaws.ids_total, ContentLaws.ids_exact}
-use Rattle.stn_records.specs.Content.{Content, addition, IsPart, is_live, is_replaced, live_of, no_content}
+use Rattle.stn_records.specs.{Id.SiteCounter, declared.record.Record.Record, ContentLaws.ids_total, ContentLaws.ids_exact}
+use Rattle.stn_records.specs.Content.{Content, addition, IsPart, is_live, is_replaced, live_of}
 use Rattle.stn_site.proofs.Named.{records_from_bounds, bounds_from_records}
 use Rattle.stn_site.specs.Bounds.{bounds_of, live_bounds}
 use Rattle.stn_replica.specs.{Invariant.IsSettled, Work.is_risen, Work.risen, Work.KeepsLive, Work.Grows, Work.Extends}
@@ -76,20 +79,9 @@ module _ (P : Difference → Type 0) where
       (All-filter_passing (λ entry. is_risen old new entry.0) (λ entry. P entry.1.bound) (entries new.additions)
       (entries_from_get ids_total ids_exact new.additions (λ entry. is_risen old new entry.0 ≡ true → P entry.1.bound) f))
 
-and_false : (a : Bool) → (a && false) ≡ false
-and_false true = refl
-and_false false = refl
-
 pub there_where_live : (o : Option Record) (b : Bool) → (is_some o && b) ≡ true → (r : Record) × (o ≡ Some r)
 there_where_live None b e = absurd (false≢true e)
 there_where_live (Some r) b e = (r, refl)
-
-pub left_true : (a b : Bool) → (a && b) ≡ true → a ≡ true
-left_true true b e = refl
-left_true false b e = e
-
-same_record : (o : Option Record) (r t : Record) → o ≡ Some r → o ≡ Some t → r ≡ t
-same_record o r t e f = cc
 
 module _ (P : Difference → Type 0) (old new : Content) (extends : Extends old new) (keeps : KeepsLive old new) where
   -- where no record stops being live, the live ones are those of before and those that have become live
@@ -97,14 +89,14 @@ module _ (P : Difference → Type 0) (old new : Content) (extends : Extends old 
   old_hold f id r there live = f id r (extends id r there) (keeps id live)
 
   pub risen_hold : LiveHold P new → RisenHold P old new
-  risen_hold f id r there is = f id r there (left_true (is_live new id) (not (is_live old id)) is)
+  risen_hold f id r there is = f id r there (and_parts (is_live new id) (not (is_live old id)) is).0
 
   pub new_hold : LiveHold P old → RisenHold P old new → LiveHold P new
   new_hold f g id r there live =
       elim (is_live old id) as (λ b. is_live old id ≡ b → P r.bound) [
         | true ↦ λ t.
             let before = there_where_live (get old.additions id) (not (is_replaced old id)) t in
-            let same = same_record (get new.additions id) before.0 r (extends id before.0 before.1) there in
+            let same = same_Some before.0 r (sym (extends id before.0 before.1) ∙ there) in
             subst (λ (x : Record). P x.bound) same (f id before.0 before.1 t)
         | false ↦ λ t. g id r there (ap (λ b. b && not (is_live old id)) live ∙ ap not t)
       ] refl
@@ -157,7 +149,7 @@ grows_as part whole old new was is grows = subst (λ (s : Content). Grows s new)
 
 -- where an id that is replaced now was live, it no longer is
 pub falls_where_replaced : (old new : Content) (id : SiteCounter) → is_replaced new id ≡ true → is_live old id ≡ true → ¬ KeepsLive old new
-falls_where_replaced old new id gone live keeps = false≢true (sym (ap (λ b. contains_key new.additions id && not b) gone ∙ and_false (contains_key new.additions id)) ∙ keeps id live)
+falls_where_replaced old new id gone live keeps = false≢true (sym (ap (λ b. contains_key new.additions id && not b) gone ∙ and-false (contains_key new.additions id)) ∙ keeps id live)
 
 -- where the same records are live, the same is settled
 pub settled_alike : (base : List Difference) (old new : Content) (table : Table) (possible : Bool)
@@ -175,6 +167,3 @@ settled_alike base old new table possible added live named settled =
     schedule_with base (live_bounds old) time (schedule_before base (live_bounds new) time s)
     (bounds_from_live (Meets time) old (λ id r there now. all id r (ap (λ m. get m id) added ∙ there) (live id ∙ now))))
     named settled
-
-pub nothing_live : (none : Content) → none ≡ no_content → (id : SiteCounter) → is_live none id ≡ false
-nothing_live none is id = ap (λ s. is_live s id) is ∙ ap (λ o. is_some o && not (is_replaced no_content id)) (get-empty id_cmp id)

@@ -1,13 +1,13 @@
 -- The walk over the records that have become live.
 use Rattle.std.proofs.Common.{◌≡◌, Bool, true, false, cond, not, ◌&&◌, List, [], ◌∷◌, filter, Option, Some, None, is_some, ◌↔◌, refl, sym, ap, subst, ◌∙◌, All}
-use Rattle.std.proofs.lemmas.Bool.{false≢true}
+use Rattle.std.proofs.lemmas.Bool.{false≢true, and_parts}
 use Rattle.std.proofs.lemmas.List.Elements.{All-head, All-nil, filter_passes, recursion_from_All}
 use Rattle.std.specs.{List.AllByRecursion, Map.Iter.TakesFirst, FinMap.entries, FinMap.find, FinMap.get}
 use Rattle.stn_records.specs.{Id.SiteCounter, Id.id_cmp, declared.record.Record.Record, Content.Content, Content.is_live, Content.is_replaced, Content.live_of, Sorted.without_ids, ContentLaws.ids_total, ContentLaws.ids_exact}
 use Rattle.stn_records.proofs.{Gets.entries_from_get, Live.found_where_live}
 use Rattle.stn_site.specs.Bounds.{bounds_of}
 use Rattle.stn_replica.specs.{Walk.from_next, Work.is_risen, Work.risen, Work.GainsLive, Work.KeepsLive}
-use Rattle.stn_replica.proofs.Live.{left_true, there_where_live, risen_from_bounds}
+use Rattle.stn_replica.proofs.Live.{there_where_live, risen_from_bounds}
 
 -- an entry that is taken out is still ahead
 pub next_taken : {X : Type 0} (s t : List X) (r : Option X) → TakesFirst (λ (entry : X). entry) s r t → from_next r t ≡ s
@@ -49,7 +49,7 @@ gains_first old new (Some e) rest all = (
 gains_first old new None rest none = (
   λ e. absurd (false≢true e),
   λ gains.
-      let now = left_true (is_live new gains.0) (not (is_live old gains.0)) gains.1 in
+      let now = (and_parts (is_live new gains.0) (not (is_live old gains.0)) gains.1).0 in
       let there = there_where_live (get new.additions gains.0) (not (is_replaced new gains.0)) now in
       absurd (risen_from_bounds (λ _. ⊥) old new (subst (λ records. All (λ _. ⊥) (bounds_of records)) (sym none.0) (All-nil (λ _. ⊥))) gains.0 there.0 there.1 gains.1),
 )
@@ -60,12 +60,9 @@ keeps_where_none_back old new true told = (
   λ e. absurd (false≢true e),
   λ keeps.
       let gains = told.0 refl in
-      absurd (false≢true (sym (ap not (keeps gains.0 (left_true (is_live old gains.0) (not (is_live new gains.0)) gains.1))) ∙ right_true (is_live old gains.0) (not (is_live new gains.0)) gains.1)),
+      let both = and_parts (is_live old gains.0) (not (is_live new gains.0)) gains.1 in
+      absurd (false≢true (sym (ap not (keeps gains.0 both.0)) ∙ both.1)),
 )
-  where
-    right_true : (a b : Bool) → (a && b) ≡ true → b ≡ true
-    right_true true b e = e
-    right_true false b e = absurd (false≢true e)
 keeps_where_none_back old new false told = (
   λ _ id live.
       elim (is_live new id) as (λ b. is_live new id ≡ b → b ≡ true) [

@@ -15,12 +15,6 @@ module _ {A : Type 0} where
   pub in_turn_more : (rows : List (Vec Difference A)) (row : Vec Difference A) → in_turn (rows ++ row ∷ []) ≡ in_turn rows ++ row.items
   in_turn_more rows row = flat_map-append (λ (r : Vec Difference A). r.items) rows (row ∷ []) ∙ ap (λ l. in_turn rows ++ l) (in_one row)
 
-  -- so many rows, and the next
-  pub in_turn_next : (rows : List (Vec Difference A)) (i : ℕ) (row : Vec Difference A) → i < length rows → row ≡ get_or rows i row
-      → in_turn (take (i + 1) rows) ≡ in_turn (take i rows) ++ row.items
-  in_turn_next rows i row within is =
-      ap (λ r. in_turn r) (take_more rows i row within ∙ ap (λ r. take i rows ++ r ∷ []) (sym is)) ∙ in_turn_more (take i rows) row
-
   -- a bound more in a row is a bound more
   pub in_turn_pushed : (rows : List (Vec Difference A)) (i : ℕ) (none new : Vec Difference A) (bound : Difference) → i < length rows
       → new.items ≡ (get_or rows i none).items ++ bound ∷ [] → IsPermutation (in_turn rows ++ bound ∷ []) (in_turn (set rows i new))

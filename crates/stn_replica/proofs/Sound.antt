@@ -1,13 +1,13 @@
 -- That a replica stays sound, and what its work is.
-use Rattle.std.proofs.Common.{◌≡◌, ◌+◌, ◌≤◌, Bool, true, false, List, [], ◌∷◌, ◌++◌, Some, refl, sym, ap, subst, ◌∙◌, arith, All}
+use Rattle.std.proofs.Common.{◌≡◌, ◌+◌, ◌≤◌, Bool, true, false, List, [], ◌∷◌, ◌++◌, refl, sym, ap, subst, ◌∙◌, arith, All}
 use Rattle.std.proofs.{lemmas.Bool.false≢true, lemmas.List.Elements.All-append}
 use Rattle.stn_net.specs.{Difference.Difference, Difference.NamesEvents, Schedule.HasSchedule, Matrix.Table.Table, Matrix.Tightest.IsExact}
 use Rattle.stn_lift.specs.PlanSource.{PlanSource, base_bounds, events_of}
-use Rattle.stn_records.specs.{Id.SiteCounter, declared.record.Record.Record, Content.Content, Content.is_live, Content.no_content, Content.with_tombstone, Content.join_contents}
+use Rattle.stn_records.specs.{Id.SiteCounter, declared.record.Record.Record, Content.Content, Content.is_live, Content.with_tombstone}
 use Rattle.stn_site.specs.{Bounds.all_bounds, Bounds.live_bounds, Bounds.bounds_of, Bounds.RecordsName, Held.Held}
 use Rattle.stn_replica.specs.{Invariant.IsSettled, Invariant.IsSoundReplica, Work.Extends, Work.risen, Work.KeepsLive, Work.SparesWork}
-use Rattle.stn_site.proofs.Named.{named_joined, none_named, live_named}
-use Rattle.stn_replica.proofs.Changes.{IsGrown, one_risen, settled_added, withdrawn_dead, same_live, settled_at_first}
+use Rattle.stn_site.proofs.Named.{live_named}
+use Rattle.stn_replica.proofs.Changes.{IsGrown, one_risen, settled_added, withdrawn_dead, same_live}
 use Rattle.stn_replica.proofs.Live.{settled_alike, settled_grown, conflict_stays}
 
 -- the table is exact where the bounds have a schedule
@@ -26,22 +26,29 @@ all_named source state opening table exact opens events named =
     (subst (λ n. All (NamesEvents n) (base_bounds source)) opens exact.named)
     (live_named (events_of source) state named))
 
+-- where the new matrix is settled, the replica stays sound
+sound_again : (source : PlanSource) (state new : Content) (opening current next : Table) (possible result : Bool)
+    → IsSoundReplica source state opening current possible → RecordsName (events_of source) new → next.events ≡ current.events → next.steps ≤ 18446744073709551615
+    → (All (NamesEvents next.events) (all_bounds source new) → IsSettled (all_bounds source new) next result)
+    → IsSoundReplica source new opening next result
+sound_again source state new opening current next possible result p named events counted settled = record {
+  named = named;
+  opening_events = p.opening_events;
+  current_events = events ∙ p.current_events;
+  opening_exact = p.opening_exact;
+  settled = settled (all_named source new opening next p.opening_exact p.opening_events (events ∙ p.current_events) named);
+  counted = counted;
+}
+
 -- ---- additions and amendments
 pub sound_added : (source : PlanSource) (state new : Content) (opening current next : Table) (possible result : Bool) (id : SiteCounter) (r : Record)
     → IsSoundReplica source state opening current possible → IsGrown state new id r → RecordsName (events_of source) new
     → ((bounds : List Difference) → IsSettled bounds current possible → IsSettled (bounds ++ r.bound ∷ []) next result)
     → next.events ≡ current.events → next.steps ≤ 18446744073709551615
     → IsSoundReplica source new opening next result
-sound_added source state new opening current next possible result id r p more named settled events counted = record {
-  named = named;
-  opening_events = p.opening_events;
-  current_events = events ∙ p.current_events;
-  opening_exact = p.opening_exact;
-  settled = settled_added state new id r more (base_bounds source) next result
-      (all_named source new opening next p.opening_exact p.opening_events (events ∙ p.current_events) named)
-      (settled (all_bounds source state) p.settled);
-  counted = counted;
-}
+sound_added source state new opening current next possible result id r p more named settled events counted =
+    sound_again source state new opening current next possible result p named events counted
+    (λ all. settled_added state new id r more (base_bounds source) next result all (settled (all_bounds source state) p.settled))
 
 pub spares_added : (old new : Held) (before after : Content) (id : SiteCounter) (r : Record) → IsGrown before after id r
     → old.state ≡ before → new.state ≡ after → old.steps ≤ new.steps → new.steps ≤ old.steps + 1 → SparesWork old new
@@ -58,14 +65,8 @@ pub sound_rebuilt : (source : PlanSource) (state new : Content) (opening current
     → ((bounds : List Difference) → IsExact bounds opening → IsSettled (bounds ++ live_bounds new) next result)
     → next.events ≡ current.events → next.steps ≤ 18446744073709551615
     → IsSoundReplica source new opening next result
-sound_rebuilt source state new opening current next possible result p named settled events counted = record {
-  named = named;
-  opening_events = p.opening_events;
-  current_events = events ∙ p.current_events;
-  opening_exact = p.opening_exact;
-  settled = settled (base_bounds source) p.opening_exact;
-  counted = counted;
-}
+sound_rebuilt source state new opening current next possible result p named settled events counted =
+    sound_again source state new opening current next possible result p named events counted (λ _. settled (base_bounds source) p.opening_exact)
 
 -- after a take by which no live record stops being live
 pub sound_taken : (source : PlanSource) (state new : Content) (opening current next : Table) (possible result : Bool)
@@ -73,45 +74,23 @@ pub sound_taken : (source : PlanSource) (state new : Content) (opening current n
     → ((bounds : List Difference) → IsExact bounds current → IsSettled (bounds ++ bounds_of (risen state new)) next result)
     → next.events ≡ current.events → next.steps ≤ 18446744073709551615
     → IsSoundReplica source new opening next result
-sound_taken source state new opening current next possible result p t keeps more named settled events counted = record {
-  named = named;
-  opening_events = p.opening_events;
-  current_events = events ∙ p.current_events;
-  opening_exact = p.opening_exact;
-  settled = settled_grown (base_bounds source) state new next result more keeps
-      (all_named source new opening next p.opening_exact p.opening_events (events ∙ p.current_events) named)
-      (settled (all_bounds source state) (settled_exact (all_bounds source state) current possible t p.settled));
-  counted = counted;
-}
+sound_taken source state new opening current next possible result p t keeps more named settled events counted =
+    sound_again source state new opening current next possible result p named events counted
+    (λ all. settled_grown (base_bounds source) state new next result more keeps all (settled (all_bounds source state) (settled_exact (all_bounds source state) current possible t p.settled)))
 
 pub sound_taken_in_conflict : (source : PlanSource) (state new : Content) (opening current : Table) (possible : Bool)
     → IsSoundReplica source state opening current possible → possible ≡ false → KeepsLive state new → Extends state new → RecordsName (events_of source) new
     → IsSoundReplica source new opening current false
-sound_taken_in_conflict source state new opening current possible p t keeps more named = record {
-  named = named;
-  opening_events = p.opening_events;
-  current_events = p.current_events;
-  opening_exact = p.opening_exact;
-  settled = conflict_stays (base_bounds source) state new more keeps (settled_conflict (all_bounds source state) current possible t p.settled);
-  counted = p.counted;
-}
-
-pub named_taken : (source : PlanSource) (state other new : Content) (opening current : Table) (possible : Bool) → IsSoundReplica source state opening current possible
-    → join_contents state other ≡ Some new → RecordsName (events_of source) other → RecordsName (events_of source) new
-named_taken source state other new opening current possible p joined theirs = named_joined (events_of source) state other new joined p.named theirs
+sound_taken_in_conflict source state new opening current possible p t keeps more named =
+    sound_again source state new opening current current possible false p named refl p.counted
+    (λ _. conflict_stays (base_bounds source) state new more keeps (settled_conflict (all_bounds source state) current possible t p.settled))
 
 -- after a withdrawal of a record that was not live
 pub sound_dead : (source : PlanSource) (state : Content) (opening current : Table) (possible : Bool) (id : SiteCounter) → IsSoundReplica source state opening current possible
     → is_live state id ≡ false → IsSoundReplica source (with_tombstone state id) opening current possible
-sound_dead source state opening current possible id p dead = record {
-  named = p.named;
-  opening_events = p.opening_events;
-  current_events = p.current_events;
-  opening_exact = p.opening_exact;
-  settled = settled_alike (base_bounds source) state (with_tombstone state id) current possible refl (same_live state id dead)
-      (all_named source (with_tombstone state id) opening current p.opening_exact p.opening_events p.current_events p.named) p.settled;
-  counted = p.counted;
-}
+sound_dead source state opening current possible id p dead =
+    sound_again source state (with_tombstone state id) opening current current possible possible p p.named refl p.counted
+    (λ all. settled_alike (base_bounds source) state (with_tombstone state id) current possible refl (same_live state id dead) all p.settled)
 
 -- where the withdrawn record was live, a live record has stopped being live
 pub falls_withdrawn : (state : Content) (id : SiteCounter) → is_live state id ≡ true → ¬ KeepsLive state (with_tombstone state id)
@@ -137,18 +116,5 @@ sound_copied source mine state opening current beginning theirs next ours possib
   current_events = events ∙ q.current_events;
   opening_exact = p.opening_exact;
   settled = settled_copied (all_bounds source state) theirs next possible exact q.settled;
-  counted = counted;
-}
-
--- ---- at first
-pub sound_at_first : (source : PlanSource) (none : Content) (opening current : Table) → none ≡ no_content → IsExact (base_bounds source) opening → opening.events ≡ events_of source
-    → IsExact (base_bounds source) current → current.events ≡ events_of source → current.steps ≤ 18446744073709551615
-    → IsSoundReplica source none opening current true
-sound_at_first source none opening current is opens opening_events exact events counted = record {
-  named = none_named (events_of source) none is;
-  opening_events = opening_events;
-  current_events = events;
-  opening_exact = opens;
-  settled = settled_at_first (base_bounds source) none current is exact;
   counted = counted;
 }

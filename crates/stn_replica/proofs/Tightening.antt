@@ -1,5 +1,5 @@
 -- Tightening a matrix by the bounds of records, one after another.
-use Rattle.std.proofs.Common.{◌≡◌, ◌+◌, ◌≤◌, List, [], ◌∷◌, ◌++◌, length, min, refl, sym, ap, subst, ◌∙◌, arith, append_assoc, append-nil, length-append, All}
+use Rattle.std.proofs.Common.{◌≡◌, ◌+◌, ◌≤◌, List, [], ◌∷◌, ◌++◌, length, min, sym, ap, subst, ◌∙◌, arith, append_assoc, append-nil, length-append, All}
 use Rattle.std.proofs.lemmas.List.{map-append}
 use Rattle.stn_net.specs.{Difference.Difference, Difference.NamesEvents, Schedule.HasSchedule, Schedule.IsSchedule, Matrix.Table.Table, Matrix.Tightest.IsExact}
 use Rattle.stn_records.specs.{Id.SiteCounter, declared.record.Record.Record}
@@ -15,17 +15,6 @@ pub record IsTightenedBy (records seen ahead : List (SiteCounter × Record)) (fi
   pub counted : now.steps ≤ 18446744073709551615
   pub least : first.steps ≤ now.steps
   pub most : now.steps ≤ first.steps + length seen
-
--- at first it has taken none
-pub none_taken : (records ahead : List (SiteCounter × Record)) (first : Table) → records ≡ ahead → first.steps ≤ 18446744073709551615 → IsTightenedBy records [] ahead first first
-none_taken records ahead first all counted = record {
-  parts = all;
-  exact = λ bounds exact. subst (λ all. IsExact all first) (sym (append-nil bounds)) exact;
-  events = refl;
-  counted = counted;
-  least = omega arith;
-  most = omega arith;
-}
 
 module _ {records seen ahead rest : List (SiteCounter × Record)} {e : SiteCounter × Record} {first now : Table} (p : IsTightenedBy records seen ahead first now) (next : ahead ≡ e ∷ rest) where
   -- the next of the records is one of them

@@ -2,11 +2,12 @@
 use Rattle.std.proofs.Common.{◌≡◌, ℕ, suc, ◌+◌, ◌<◌, ◌≤◌, Bool, true, false, cond, not, ◌||◌, Some, None, is_some, refl, sym, ap, ◌∙◌, arith, leb}
 use Rattle.std.specs.{Prelude.option_map, Prelude.◌==◌, Bool.then_some, FinMap.get}
 use Rattle.std.proofs.{lemmas.Bool.false≢true, lemmas.Bool.false_from_ne_true, lemmas.Bool.Decides.nat_tests}
+use Rattle.std.proofs.lemmas.Bool.{eq-eqb, ne_eqb}
 use Rattle.stn_net.specs.Difference.{Difference}
 use Rattle.stn_records.specs.{Id.SiteCounter, Id.most_counter, Id.same_ids, Record.same_records, Maps.differ, ContentLaws.ids_decide, Refusals.amend_refusal, Refusals.clashes, Refusals.is_too_much}
 use Rattle.stn_records.specs.Content.{most_known, Content, IsSound, is_known, known_count, next_counter, plain, with_amendment}
 use Rattle.stn_records.specs.declared.faults.RecordsFault.TheVariants as records
-use Rattle.stn_records.proofs.{Limits.amended_count, FirstCauses.same_number, FirstCauses.other_number}
+use Rattle.stn_records.proofs.{Limits.amended_count}
 use Rattle.stn_site.specs.{declared.faults.ReplicaFault.TheVariants.Full, FaultsOf.of_records_fault, Held.Held, Refusals.next_refusal}
 use Rattle.stn_site.proofs.{Counts.unknown_absent, Counts.replaces_nothing, Refused.next_counted}
 
@@ -48,8 +49,8 @@ module _ (s : Content) (id old : SiteCounter) (bound : Difference) (unknown : is
   next_amended most = ap (option_map of_records_fault) refusal ∙ by (is_too_much s id old bound) refl
     where
       by : (b : Bool) → is_too_much s id old bound ≡ b → option_map of_records_fault (cond b (Some records.Full) None) ≡ then_some (known_count s == most_known) Full
-      by true e = ap (λ b. then_some b Full) (sym (same_number (known_count s) most_known (full_where_too_much most e)))
-      by false e = ap (λ b. then_some b Full) (sym (other_number (known_count s) most_known (λ full. false≢true (sym e ∙ too_much_where_full full))))
+      by true e = ap (λ b. then_some b Full) (sym (eq-eqb (known_count s) most_known (full_where_too_much most e)))
+      by false e = ap (λ b. then_some b Full) (sym (ne_eqb (known_count s) most_known (λ full. false≢true (sym e ∙ too_much_where_full full))))
 
 -- an amendment under the site's next id is refused only for want of room
 pub amended_next : (held : Held) (id old : SiteCounter) (bound : Difference) → IsSound held.state → next_counter held.state held.site ≤ most_counter

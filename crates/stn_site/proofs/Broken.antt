@@ -1,9 +1,11 @@
 -- The first of all bounds that times break.
-use Rattle.std.proofs.Common.{◌≡◌, ℕ, ℤ, pos, ◌-ℤ◌, ◌≤ℤ◌, suc, ◌+◌, ◌-◌, ◌<◌, ◌≤◌, nat_lt, Bool, true, false, not, cond, List, [], ◌∷◌, ◌++◌, length, get_or, take, Some, None, refl, sym, ap, subst, ◌∙◌, arith, zero-add, length-append, length-take, All}
+use Rattle.std.proofs.Common.{◌≡◌, ℕ, ℤ, pos, ◌-ℤ◌, ◌≤ℤ◌, ◌+◌, ◌-◌, ◌<◌, nat_lt, Bool, not, cond, List, length, get_or, take, Some, None, sym, ap, subst, ◌∙◌, arith, length-append, length-take, All}
 use Rattle.std.specs.{Prelude.int_le, Prelude.position, Prelude.option_map, List.position_or_len, Bool.Decides, List.HoldsAt}
 use Rattle.std.proofs.{lemmas.Bool.false_from_ne_true, lemmas.Int.ints, lemmas.List.Sums.position_or_len_is, lemmas.List.Elements.All-append}
-use Rattle.std.proofs.lemmas.Bool.Decides.{nat_tests, Decides-ltb, Decides-and}
+use Rattle.std.proofs.lemmas.Bool.Decides.{nat_tests, Decides-and}
 use Rattle.std.proofs.lemmas.List.{take-append-le, get_or_append_left, get_or-append-add, get_or-take, get_or_default}
+use Rattle.std.proofs.Math.Seq.{take-append-add}
+use Rattle.std.proofs.lemmas.Bool.{cond-true, cond-false, le-ltb, lt-ltb}
 use Rattle.stn_net.specs.{Difference.Difference, Schedule.IsSchedule, Schedule.Meets}
 use Rattle.stn_lift.specs.PlanSource.{PlanSource, base_bounds}
 use Rattle.stn_records.specs.{Id.SiteCounter, Content.Content}
@@ -18,22 +20,6 @@ pub record IsFirstBroken (source : PlanSource) (state : Content) (time : ℕ →
   pub earlier : All (Meets time) (take place (all_bounds source state))
   pub name : first ≡ name_in (base_bounds source) (live_ids state) place
 
-take-beyond : {X : Type 0} (xs ys : List X) (n : ℕ) → take (length xs + n) (xs ++ ys) ≡ xs ++ take n ys
-take-beyond [] ys n = ap (λ k. take k ys) (zero-add n)
-take-beyond (x ∷ xs) ys n = ap (λ k. take k (x ∷ (xs ++ ys))) (let e : length (x ∷ xs) + n ≡ suc (length xs + n) = omega arith in e) ∙ ap (λ rest. x ∷ rest) (take-beyond xs ys n)
-
-chosen_first : (b : Bool) (x y : BoundName) → b ≡ true → cond b x y ≡ x
-chosen_first b x y e = ap (λ c. cond c x y) e
-
-chosen_second : (b : Bool) (x y : BoundName) → b ≡ false → cond b x y ≡ y
-chosen_second b x y e = ap (λ c. cond c x y) e
-
-not_less : (a b : ℕ) → b ≤ a → nat_lt a b ≡ false
-not_less a b h = elim (nat_lt a b) as (λ t. nat_lt a b ≡ t → t ≡ false) [ true ↦ λ e. absurd (past ((Decides-ltb a b).0 e)) | false ↦ λ e. refl ] refl
-  where
-    past : ¬ (a < b)
-    past l = omega arith
-
 -- one of the plan's own
 pub broken_in_plan : (source : PlanSource) (state : Content) (base : List Difference) (time : ℕ → ℤ) (place : ℕ) → base ≡ base_bounds source
     → place < length base → ¬ HoldsAt (Meets time) base place → All (Meets time) (take place base) → IsFirstBroken source state time (Plan (place + 1))
@@ -44,7 +30,7 @@ broken_in_plan source state base time place is within broken earlier =
       there = omega (arith, length-append (base_bounds source) (live_bounds state));
       broken = λ h. broken (λ d. subst (Meets time) (get_or_append_left (base_bounds source) (live_bounds state) d place inside ∙ ap (λ bounds. get_or bounds place d) (sym is)) (h d));
       earlier = subst (All (Meets time)) (ap (take place) is ∙ sym (take-append-le place (base_bounds source) (live_bounds state) (omega arith))) earlier;
-      name = sym (chosen_first (nat_lt place (length (base_bounds source))) (Plan (place + 1)) (Record (id_at (live_ids state) (place - length (base_bounds source)))) ((Decides-ltb place (length (base_bounds source))).1 inside));
+      name = sym (cond-true (nat_lt place (length (base_bounds source))) (Plan (place + 1)) (Record (id_at (live_ids state) (place - length (base_bounds source)))) (lt-ltb place (length (base_bounds source)) inside));
     }
 
 -- one of a record
@@ -56,10 +42,10 @@ broken_in_records source state base time id is met p =
       place = n + p.place;
       there = omega (arith, p.there, length-append (base_bounds source) (live_bounds state));
       broken = λ h. p.broken (λ d. subst (Meets time) (get_or-append-add (base_bounds source) (live_bounds state) p.place d) (h d));
-      earlier = subst (All (Meets time)) (sym (take-beyond (base_bounds source) (live_bounds state) p.place))
+      earlier = subst (All (Meets time)) (sym (take-append-add (base_bounds source) (live_bounds state) p.place))
           (All-append (Meets time) (base_bounds source) (take p.place (live_bounds state)) (subst (All (Meets time)) is met) p.earlier);
       name = ap Record (p.id ∙ ap (id_at (live_ids state)) (let e : p.place ≡ (n + p.place) - n = omega arith in e))
-          ∙ sym (chosen_second (nat_lt (n + p.place) n) (Plan ((n + p.place) + 1)) (Record (id_at (live_ids state) ((n + p.place) - n))) (not_less (n + p.place) n (omega arith)));
+          ∙ sym (cond-false (nat_lt (n + p.place) n) (Plan ((n + p.place) + 1)) (Record (id_at (live_ids state) ((n + p.place) - n))) (le-ltb (n + p.place) n (omega arith)));
     }
 
 -- none at all

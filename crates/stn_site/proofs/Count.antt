@@ -1,7 +1,8 @@
 -- How many records and replaced ids a state has.
-use Rattle.std.proofs.Common.{◌≡◌, sym, suc, ◌≤◌, Bool, true, false, cond, not, List, [], ◌∷◌, length, map, filter, arith}
+use Rattle.std.proofs.Common.{◌≡◌, sym, ◌≤◌, Bool, not, length, map, arith, refl}
 use Rattle.std.proofs.lemmas.List.{length-map}
 use Rattle.std.specs.FinMap.{entries}
+use Rattle.std.proofs.lemmas.List.Filters.{length-filter_both}
 use Rattle.stn_records.specs.{Id.SiteCounter, declared.record.Record.Record}
 use Rattle.stn_records.specs.Content.{Content, known_count, is_replaced, live_of, listed, replaced_count, replaced_set}
 use Rattle.stn_records.proofs.Limits.{additions_within, replaced_within}
@@ -14,10 +15,8 @@ replaced_counted s = sym (length-map (entries (replaced_set s)) (λ (e : SiteCou
 pub few_replaced : (s : Content) → replaced_count s ≤ known_count s
 few_replaced s = omega (arith, replaced_within s, replaced_counted s)
 
-length_kept : {X : Type 0} (p : X → Bool) (xs : List X) → length (filter p xs) ≤ length xs
-length_kept p [] = omega arith
-length_kept p (x ∷ xs) = elim (p x) as (λ b. length (cond b (x ∷ filter p xs) (filter p xs)) ≤ suc (length xs)) [ true ↦ omega (arith, length_kept p xs) | false ↦ omega (arith, length_kept p xs) ]
-
 -- no more records are live than ids are known
 pub live_within : (s : Content) → length (map listed (live_of s)) ≤ known_count s
-live_within s = omega (arith, additions_within s, length-map (live_of s) listed, length_kept (λ (entry : SiteCounter × Record). not (is_replaced s entry.0)) (entries s.additions))
+live_within s =
+    let kept : SiteCounter × Record → Bool = λ entry. not (is_replaced s entry.0) in
+    omega (arith, additions_within s, length-map (live_of s) listed, length-filter_both kept (λ entry. not (kept entry)) (λ _. refl) (entries s.additions))

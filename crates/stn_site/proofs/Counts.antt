@@ -1,6 +1,6 @@
 -- What counts of a state: its additions, and the ids that are replaced.
-use Rattle.std.proofs.Common.{◌≡◌, ◌↔◌, Bool, true, false, ◌||◌, Option, Some, None, is_some, inl, inr, ⊎_elim, refl, sym, ap, ◌∙◌}
-use Rattle.std.proofs.lemmas.Bool.{false≢true}
+use Rattle.std.proofs.Common.{◌≡◌, ◌↔◌, true, false, Option, Some, None, is_some, inl, inr, ⊎_elim, refl, sym, ap, ◌∙◌}
+use Rattle.std.proofs.lemmas.Bool.{false≢true, or_parts}
 use Rattle.std.specs.FinMap.{get}
 use Rattle.stn_records.specs.{Id.SiteCounter, ContentLaws.records_join, ContentLaws.ids_join}
 use Rattle.stn_records.specs.Content.{Content, AllAmend, Item, addition, withdrawal, replacement, HasItem, CountsSame, is_known, is_replaced, replaced_set}
@@ -11,21 +11,13 @@ not_there : {X : Type 0} (o : Option X) → is_some o ≡ false → o ≡ None
 not_there None e = refl
 not_there (Some x) e = absurd (false≢true (sym e))
 
-or_left : (a b : Bool) → (a || b) ≡ false → a ≡ false
-or_left true b e = absurd (false≢true (sym e))
-or_left false b e = refl
-
-or_right : (a b : Bool) → (a || b) ≡ false → b ≡ false
-or_right true b e = absurd (false≢true (sym e))
-or_right false b e = e
-
 -- an id that is not known was not added
 pub unknown_absent : (s : Content) (id : SiteCounter) → is_known s id ≡ false → get s.additions id ≡ None
-unknown_absent s id e = not_there (get s.additions id) (or_left _ _ e)
+unknown_absent s id e = not_there (get s.additions id) (or_parts _ _ e).0
 
 -- and is not replaced
 pub unknown_unreplaced : (s : Content) (id : SiteCounter) → is_known s id ≡ false → is_replaced s id ≡ false
-unknown_unreplaced s id e = or_right _ _ e
+unknown_unreplaced s id e = (or_parts _ _ e).1
 
 -- and replaces nothing
 pub replaces_nothing : (s : Content) (id : SiteCounter) → AllAmend s → is_known s id ≡ false → get s.replacements id ≡ None

@@ -1,8 +1,7 @@
--- The flags of the events that are done.
-use Rattle.std.proofs.Common.{◌≡◌, ℕ, zero, suc, replicate, false, get_or, refl}
+-- What stands at each place of a list of one value.
+use Rattle.std.proofs.Common.{◌≡◌, ℕ, zero, suc, replicate, get_or, refl}
 
--- no record says anything
-pub flag_first : (n i : ℕ) → get_or (replicate n false) i false ≡ false
-flag_first zero i = refl
-flag_first (suc n) zero = refl
-flag_first (suc n) (suc i) = flag_first n i
+pub get_or-replicate_same : {X : Type 0} (n : ℕ) (x : X) (i : ℕ) → get_or (replicate n x) i x ≡ x
+get_or-replicate_same zero x i = refl
+get_or-replicate_same (suc n) x zero = refl
+get_or-replicate_same (suc n) x (suc i) = get_or-replicate_same n x i

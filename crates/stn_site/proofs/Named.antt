@@ -4,6 +4,7 @@ use Rattle.std.proofs.lemmas.Bool.{false≢true}
 use Rattle.std.proofs.lemmas.List.Elements.{All-from_recursion, recursion_from_All, All-map, All-filter}
 use Rattle.std.specs.{List.AllByRecursion, Ordering.eq_by_cmp, Cmp.Equal-is, Cmp.tied_itself}
 use Rattle.std.specs.FinMap.{entries, get, insert, get-insert, get-empty}
+use Rattle.std.proofs.lemmas.Option.{same_Some}
 use Rattle.stn_net.specs.Difference.{Difference, NamesEvents}
 use Rattle.stn_records.specs.{Id.SiteCounter, Id.id_cmp, declared.record.Record.Record, ContentLaws.ids_total, ContentLaws.ids_exact, ContentLaws.contents_join}
 use Rattle.stn_records.specs.Content.{Content, RecordMap, addition, is_known, is_replaced, live_of, no_content, join_contents, taken}
@@ -32,9 +33,6 @@ same_id q id t = ids_exact q id ((Equal-is (id_cmp q id)).0 t)
 pub itself : (id : SiteCounter) → eq_by_cmp id_cmp id id ≡ true
 itself id = (Equal-is (id_cmp id id)).1 (tied_itself ids_total id)
 
-pub value_of : {X : Type 0} (x y : X) → Some x ≡ Some y → x ≡ y
-value_of x y e = cc
-
 -- what an insertion leaves
 pub get_inserted : (m : RecordMap) (id : SiteCounter) (r : Record) (q : SiteCounter) (b : Bool) → eq_by_cmp id_cmp q id ≡ b → get (insert m id r) q ≡ cond b (Some r) (get m q)
 get_inserted m id r q b t = get-insert ids_total m id r q ∙ ap (λ x. cond x (Some r) (get m q)) t
@@ -47,7 +45,7 @@ module _ (s new : Content) (id : SiteCounter) (r : Record) (unknown : is_known s
   named_added events named this =
       entries_from_get ids_total ids_exact new.additions (λ entry. NamesEvents events entry.1.bound) (λ q v there.
       elim (eq_by_cmp id_cmp q id) as (λ b. eq_by_cmp id_cmp q id ≡ b → NamesEvents events v.bound) [
-        | true ↦ λ t. subst (λ (x : Record). NamesEvents events x.bound) (value_of r v (sym (get_added q true t) ∙ there)) this
+        | true ↦ λ t. subst (λ (x : Record). NamesEvents events x.bound) (same_Some r v (sym (get_added q true t) ∙ there)) this
         | false ↦ λ t. get_from_entries ids_total ids_exact s.additions (λ entry. NamesEvents events entry.1.bound) named q v (sym (get_added q false t) ∙ there)
       ] refl)
 

@@ -2,6 +2,7 @@
 use Rattle.std.proofs.Common.{◌≡◌, ◌≢◌, ℕ, ℤ, ◌<◌, ◌≤◌, ◌<ℤ◌, ◌≤ℤ◌, int_lt, inl, inr, ⊎_elim, Bool, true, false, not, ◌&&◌, leb, ltb, Option, Some, None, is_some, refl, sym, ap, ◌∙◌, arith}
 use Rattle.std.specs.{Prelude.unwrap_or, Prelude.◌==◌, Prelude.option_map, Bool.Decides, Bool.then_some, Option.option_or, List.list_all, FinMap.entries}
 use Rattle.std.proofs.{lemmas.Bool.false≢true, lemmas.Bool.cases_lt, lemmas.Bool.false_from_ne_true, lemmas.Bool.Decides.nat_tests, lemmas.Bool.Decides.Decides-by_and, lemmas.Int.ints}
+use Rattle.std.proofs.lemmas.Bool.{true_from_ne_false, and_parts, and_from, leb-true, le-leb, eq-eqb, ne_eqb, le-ltb}
 use Rattle.stn_net.specs.Difference.{Difference, NamesEvents, IsBoundWithin, IsFaultOf}
 use Rattle.stn_net.specs.declared.bound.BoundFault.{BoundFault}
 use Rattle.stn_net.specs.declared.bound.BoundFault.TheVariants.{NoEvent, SameEvent, Crossed}
@@ -14,7 +15,7 @@ use Rattle.stn_records.specs.Content.{most_known, Content, is_known, known_count
 use Rattle.stn_site.specs.declared.faults.ReplicaFault.TheVariants.{Bound, CounterSpent, Full, Unknown, Clash, Memory}
 use Rattle.stn_site.specs.{Bounds.RecordsName, FaultsOf.of_records_fault, declared.faults.ReplicaFault.ReplicaFault, Held.Held, Held.difference}
 use Rattle.stn_site.specs.Refusals.{names_events, bound_refusal, next_refusal, add_refusal, amend_refusal, done_refusal, withdraw_refusal, records_name, take_refusal}
-use Rattle.stn_records.proofs.{Outcomes.too_many, FirstCauses.same_number, FirstCauses.other_number, FirstCauses.less_true, FirstCauses.less_false, FirstCauses.add_new, FirstCauses.take_free, Holding.held_agrees}
+use Rattle.stn_records.proofs.{Outcomes.too_many, FirstCauses.add_new, FirstCauses.take_free, Holding.held_agrees}
 use Rattle.stn_site.proofs.Counts.{unknown_absent}
 
 -- the first of several causes stands, or another is asked for
@@ -25,12 +26,6 @@ first_stands false cause others e = absurd (false≢true e)
 first_passes : {X : Type 0} (stands : Bool) (cause : X) (others : Option X) → stands ≡ false → option_or (then_some stands cause) others ≡ others
 first_passes true cause others e = absurd (false≢true (sym e))
 first_passes false cause others e = refl
-
-stands : {X : Type 0} (test : Bool) (cause : X) → test ≡ true → then_some test cause ≡ Some cause
-stands test cause e = ap (λ b. then_some b cause) e
-
-passes : {X : Type 0} (test : Bool) (cause : X) → test ≡ false → then_some test cause ≡ None
-passes test cause e = ap (λ b. then_some b cause) e
 
 -- ---- what the records answer
 -- a fault of the records is the replica's, where their first causes are the same
@@ -51,12 +46,9 @@ mapped true fault = refl
 mapped false fault = refl
 
 -- ---- additions
-pub next_spent : (held : Held) → most_counter < next_counter held.state held.site → next_refusal held ≡ Some CounterSpent
-next_spent held past = first_stands (ltb most_counter (next_counter held.state held.site)) CounterSpent _ (less_true most_counter (next_counter held.state held.site) past)
-
 -- where the counter is not spent, only room is asked for
 pub next_counted : (held : Held) → next_counter held.state held.site ≤ most_counter → next_refusal held ≡ then_some (known_count held.state == most_known) Full
-next_counted held counter = first_passes (ltb most_counter (next_counter held.state held.site)) CounterSpent _ (less_false most_counter (next_counter held.state held.site) counter)
+next_counted held counter = first_passes (ltb most_counter (next_counter held.state held.site)) CounterSpent _ (le-ltb most_counter (next_counter held.state held.site) counter)
 
 -- a record under the site's next id is refused only for want of room
 pub next_added : (held : Held) (one : Record) (id : SiteCounter) → next_counter held.state held.site ≤ most_counter → is_known held.state id ≡ false
@@ -67,21 +59,14 @@ next_added held one id counter unknown =
     ∙ mapped (known_count held.state == most_known) records.Full ∙ sym (next_counted held counter)
 
 names_decides : (events : ℕ) (bound : Difference) → Decides (names_events events bound) (NamesEvents events bound)
-names_decides events bound = (λ e. record { from = (both bound.from bound.to events e).0; to = (both bound.from bound.to events e).1 }, λ named. all bound.from bound.to events named.from named.to)
-  where
-    both : (from to events : ℕ) → (leb from events && leb to events) ≡ true → (from ≤ events) × (to ≤ events)
-    both from to events e = (grind (arith, nat_tests), grind (arith, nat_tests))
-
-    all : (from to events : ℕ) → from ≤ events → to ≤ events → (leb from events && leb to events) ≡ true
-    all from to events a b = grind (arith, nat_tests)
+names_decides events bound = (
+  λ e. let both = and_parts (leb bound.from events) (leb bound.to events) e in record { from = leb-true bound.from events both.0; to = leb-true bound.to events both.1 },
+  λ named. and_from (leb bound.from events) (leb bound.to events) (le-leb bound.from events named.from) (le-leb bound.to events named.to),
+)
 
 -- ---- bounds
 int_less : (a b : ℤ) → a <ℤ b → int_lt a b ≡ true
-int_less a b h = by (int_lt a b) refl
-  where
-    by : (t : Bool) → int_lt a b ≡ t → t ≡ true
-    by true e = refl
-    by false e = let over : b ≤ℤ a = omega (arith, ints) in absurd (omega (arith, ints))
+int_less a b h = true_from_ne_false (int_lt a b) (λ e. let over : b ≤ℤ a = omega (arith, ints) in omega (arith, ints))
 
 names_not : (events : ℕ) (bound : Difference) → ¬ NamesEvents events bound → names_events events bound ≡ false
 names_not events bound unnamed = false_from_ne_true (names_events events bound) (λ e. unnamed ((names_decides events bound).0 e))
@@ -93,21 +78,18 @@ bound_refused events bound NoEvent past =
     (ap not (names_not events bound (λ named. ⊎_elim (λ h. omega (arith, h, named.from)) (λ h. omega (arith, h, named.to)) past)))
 bound_refused events bound SameEvent same =
     first_passes (not (names_events events bound)) NoEvent _ (ap not ((names_decides events bound).1 same.0))
-    ∙ first_stands (bound.from == bound.to) SameEvent _ (same_number bound.from bound.to same.1)
+    ∙ first_stands (bound.from == bound.to) SameEvent _ (eq-eqb bound.from bound.to same.1)
 bound_refused events bound Crossed crossed =
     first_passes (not (names_events events bound)) NoEvent _ (ap not ((names_decides events bound).1 crossed.0))
-    ∙ first_passes (bound.from == bound.to) SameEvent _ (other_number bound.from bound.to crossed.1)
-    ∙ stands (int_lt bound.hi bound.lo) Crossed (int_less bound.hi bound.lo crossed.2)
-
-int_not_less : (a b : ℤ) → b ≤ℤ a → int_lt a b ≡ false
-int_not_less a b h = false_from_ne_true (int_lt a b) (λ e. omega (arith, ints))
+    ∙ first_passes (bound.from == bound.to) SameEvent _ (ne_eqb bound.from bound.to crossed.1)
+    ∙ ap (λ b. then_some b Crossed) (int_less bound.hi bound.lo crossed.2)
 
 -- a bound of the plan has no fault
 bound_passes : (events : ℕ) (bound : Difference) → IsBoundWithin events bound → bound_refusal events bound ≡ None
 bound_passes events bound within =
     first_passes (not (names_events events bound)) NoEvent _ (ap not ((names_decides events bound).1 within.named))
-    ∙ first_passes (bound.from == bound.to) SameEvent _ (other_number bound.from bound.to within.differs)
-    ∙ passes (int_lt bound.hi bound.lo) Crossed (int_not_less bound.hi bound.lo within.ordered)
+    ∙ first_passes (bound.from == bound.to) SameEvent _ (ne_eqb bound.from bound.to within.differs)
+    ∙ ap (λ b. then_some b Crossed) (false_from_ne_true (int_lt bound.hi bound.lo) (λ e. omega (arith, ints, within.ordered)))
 
 -- so an addition of it is refused as the next record is, and an amendment by it, where the old id is known
 pub add_passes : (held : Held) (bound : Difference) → IsBoundWithin (events_of held.source) bound → add_refusal held bound ≡ next_refusal held

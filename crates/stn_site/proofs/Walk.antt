@@ -1,19 +1,12 @@
 -- A walk over the live records of a state.
 use Rattle.std.proofs.Common.{◌≡◌, ℕ, ℤ, not, List, [], ◌∷◌, ◌++◌, length, get_or, take, map, refl, sym, ap, subst, ◌∙◌, arith, length-append, All}
-use Rattle.std.proofs.lemmas.List.{map-append, take-append-le, take_all, length-map}
+use Rattle.std.proofs.lemmas.List.{map-append, length-map, get_or_at, take_at}
 use Rattle.std.proofs.lemmas.List.Elements.{All-same, All-push, All-head, All-filter}
 use Rattle.std.specs.FinMap.{entries}
 use Rattle.stn_time.proofs.Each.{All-right}
 use Rattle.stn_net.specs.{Difference.Difference, Schedule.Meets, Schedule.NamesTimes}
 use Rattle.stn_records.specs.{Id.SiteCounter, declared.record.Record.Record, Content.Content, Content.live_of, Content.is_replaced}
 use Rattle.stn_site.specs.{Names.live_ids, Walk.IsFirstBrokenRecord, Walk.RecordsTimed, Bounds.bounds_of, Bounds.live_bounds}
-
-get_or-append_here : {X : Type 0} (xs : List X) (y : X) (ys : List X) (d : X) → get_or (xs ++ (y ∷ ys)) (length xs) d ≡ y
-get_or-append_here [] y ys d = refl
-get_or-append_here (x ∷ xs) y ys d = get_or-append_here xs y ys d
-
-take-append_here : {X : Type 0} (xs ys : List X) → take (length xs) (xs ++ ys) ≡ xs
-take-append_here xs ys = take-append-le (length xs) xs ys (omega arith) ∙ take_all (length xs) xs (omega arith)
 
 -- what holds of all holds of the next
 pub next_has : {X : Type 0} (P : X → Type 0) (all seen ahead : List X) (e : X) → all ≡ seen ++ e ∷ ahead → All P all → P e
@@ -40,10 +33,9 @@ found_record state time seen ahead e all met broken =
     record {
       place = n;
       there = rw bounds (omega (arith, length-append (bounds_of seen) (e.1.bound ∷ bounds_of ahead)));
-      broken = λ h. broken (subst (Meets time) (ap (λ all. get_or all n e.1.bound) bounds ∙ get_or-append_here (bounds_of seen) e.1.bound (bounds_of ahead) e.1.bound) (h e.1.bound));
-      earlier = subst (All (Meets time)) (sym (ap (take n) bounds ∙ take-append_here (bounds_of seen) (e.1.bound ∷ bounds_of ahead))) met;
-      id = sym (ap (λ all. get_or all n none) ids ∙ ap (λ k. get_or (map (λ entry. entry.0) seen ++ e.0 ∷ map (λ entry. entry.0) ahead) k none) (sym same_length)
-          ∙ get_or-append_here (map (λ entry. entry.0) seen) e.0 (map (λ entry. entry.0) ahead) none);
+      broken = λ h. broken (subst (Meets time) (ap (λ all. get_or all n e.1.bound) bounds ∙ get_or_at (bounds_of seen) e.1.bound (bounds_of ahead) e.1.bound n refl) (h e.1.bound));
+      earlier = subst (All (Meets time)) (sym (ap (take n) bounds ∙ take_at (bounds_of seen) (e.1.bound ∷ bounds_of ahead) n refl)) met;
+      id = sym (ap (λ all. get_or all n none) ids ∙ get_or_at (map (λ entry. entry.0) seen) e.0 (map (λ entry. entry.0) ahead) none n same_length);
     }
   where
     none : SiteCounter

@@ -1,9 +1,9 @@
-use Rattle.std.proofs.Common.{◌≡◌, ◌++◌, [], ◌∷◌, sym, ap, subst, ◌∙◌}
+use Rattle.std.proofs.Common.{[], ◌≡◌, ◌++◌, ◌∷◌, sym, ap, subst, ◌∙◌}
 use Rattle.std.specs.FinMap.{get}
+use Rattle.std.proofs.lemmas.Option.{same_Some}
 use Rattle.stn_records.specs.{declared.record.Record.Record, Content.Content, ContentLaws.ids_total, ContentLaws.ids_exact}
 use Rattle.stn_net.specs.Difference.{NamesEvents}
 use Rattle.stn_records.proofs.Gets.{get_from_entries}
-use Rattle.stn_site.proofs.Named.{value_of}
 use Rattle.stn_replica.specs.Invariant.{IsSettled}
 use Rattle.stn_replica.proofs.{Schedules.schedule_before, Schedules.settled_tightened, Sound.settled_exact, Sound.settled_conflict}
 use Rattle.stn_replica.proofs.matrices.tighten_by.Goals as goal
@@ -16,7 +16,7 @@ tighten-requires g c =
 pub returns-then-possible-clause-settled : goal.returns-then-possible-clause-settled
 returns-then-possible-clause-settled g c = λ one there bounds settled.
     let found = c.get.ensures ∙ ap (λ m. get m c.args.id) (c.additions.ensures ∙ ap (λ (s : Content). s.additions) c.state.ensures.value) in
-    let same : c.unwrap-one.result ≡ one = value_of c.unwrap-one.result one (sym c.unwrap-one.ensures ∙ found ∙ there) in
+    let same : c.unwrap-one.result ≡ one = same_Some c.unwrap-one.result one (sym c.unwrap-one.ensures ∙ found ∙ there) in
     let exact = settled_exact bounds c.args.current.now c.args.possible c.if-possible.true settled in
     subst (λ (r : Record). IsSettled (bounds ++ r.bound ∷ []) c.tighten.new.self c.tighten.result) same
     (settled_tightened bounds c.unwrap-one.result.bound c.tighten.new.self c.tighten.result (c.tighten.ensures.possible bounds exact) (c.tighten.ensures.exact bounds exact))
