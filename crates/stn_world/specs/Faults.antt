@@ -1,5 +1,5 @@
 -- Why there is no world, and a replica's fault as one of a world.
-use Rattle.std.specs.Prelude.{ℕ, ⊥}
+use Rattle.std.specs.Prelude.{ℕ}
 use Rattle.stn_records.specs.{Id.IsSite, declared.faults.PartFault.PartFault}
 use Rattle.stn_records.specs.declared.faults.PartFault.TheVariants as part_fault
 use Rattle.stn_site.specs.declared.faults.ReplicaFault.{ReplicaFault}
