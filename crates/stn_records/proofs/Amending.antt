@@ -1,6 +1,6 @@
 -- When an amendment is refused, and what it leaves where it is not.
-use Rattle.std.proofs.Common.{◌≡◌, ◌≢◌, ℕ, ◌+◌, ◌≤◌, Bool, true, false, cond, not, ◌||◌, nat_le, Option, Some, None, is_some, sym, refl, ap, subst, ◌∙◌, arith, ltb}
-use Rattle.std.proofs.{lemmas.Bool.false≢true, lemmas.Bool.le-leb, lemmas.Bool.Decides.nat_tests}
+use Rattle.std.proofs.Common.{◌≡◌, ◌≢◌, ℕ, ◌+◌, ◌≤◌, Bool, true, false, cond, not, ◌||◌, Option, Some, None, is_some, sym, refl, ap, subst, ◌∙◌, arith, ltb}
+use Rattle.std.proofs.{lemmas.Bool.false≢true, lemmas.Bool.false_from_ne_true, lemmas.Bool.le-leb, lemmas.Bool.leb-true, lemmas.Bool.not-false, lemmas.Bool.or_parts, lemmas.Option.same_Some, lemmas.Bool.Decides.nat_tests}
 use Rattle.std.specs.Bool.{Decides}
 use Rattle.std.specs.FinMap as fin
 use Rattle.stn_net.specs.Difference.{Difference}
@@ -10,32 +10,21 @@ use Rattle.stn_records.proofs.{OneItem.amendment_again, Replaced.replaced_by_ent
 
 agreed : {X : Type 0} (same : X → X → Bool) → ((x y : X) → Decides (same x y) (x ≡ y)) → (o : Option X) (x : X) → differ same o (Some x) ≡ false → (there : X) → o ≡ Some there → there ≡ x
 agreed same decides None x e there is = absurd (false≢true (ap is_some is))
-agreed {X} same decides (Some y) x e there is = value is ∙ (decides y x).0 (passes (same y x) e)
-  where
-    value : Some y ≡ Some there → there ≡ y
-    value e = cc
-
-    passes : (b : Bool) → not b ≡ false → b ≡ true
-    passes true e = refl
-    passes false e = sym e
+agreed same decides (Some y) x e there is = sym (same_Some _ _ is) ∙ (decides y x).0 (not-false _ e)
 
 alike : {X : Type 0} (same : X → X → Bool) → ((x y : X) → Decides (same x y) (x ≡ y)) → (o : Option X) (x : X) → o ≡ Some x → differ same o (Some x) ≡ false
 alike same decides o x is = ap (λ p. differ same p (Some x)) is ∙ ap not ((decides x x).1 refl)
 
-neither : (a b : Bool) → (a || b) ≡ false → (a ≡ false) × (b ≡ false)
-neither true b e = absurd (false≢true (sym e))
-neither false b e = (refl, e)
-
 -- where nothing clashes, what is there is the amendment's
 pub no_clash : (s : Content) (id old : SiteCounter) (bound : Difference) → clashes s id old bound ≡ false → AgreesAt s.additions id (plain bound) × AgreesAt s.replacements id old
 no_clash s id old bound e =
-    let both = neither (differ same_records (fin.get s.additions id) (Some (plain bound))) (differ same_ids (fin.get s.replacements id) (Some old)) e in (
+    let both = or_parts (differ same_records (fin.get s.additions id) (Some (plain bound))) (differ same_ids (fin.get s.replacements id) (Some old)) e in (
       agreed same_records records_decide (fin.get s.additions id) (plain bound) both.0,
       agreed same_ids ids_decide (fin.get s.replacements id) old both.1,
     )
 
 pub apart : (a b : SiteCounter) → a ≢ b → same_ids a b ≡ false
-apart a b h = elim (same_ids a b) as (λ t. same_ids a b ≡ t → t ≡ false) [ true ↦ λ e. absurd (h ((ids_decide a b).0 e)) | false ↦ λ e. refl ] refl
+apart a b h = false_from_ne_true _ (λ same. h ((ids_decide a b).0 same))
 
 -- a chain of refusals that gives none passed each
 passed : {F : Type 0} (b : Bool) (f : F) (rest : Option F) → cond b (Some f) rest ≡ None → (b ≡ false) × (rest ≡ None)
@@ -86,10 +75,7 @@ module _ (s : Content) (id old : SiteCounter) (bound : Difference) (other : id �
   pub too_much_told : (known new : ℕ) → known ≡ known_count s → new ≡ cond (is_known s old) 0 1 + cond (is_known s id) 0 1 → ltb most_known (known + new) ≡ is_too_much s id old bound
   too_much_told known new p q =
       let same : known + new ≡ known_count (with_amendment s id old bound) = omega (arith, more, p, q) in
-      ap (ltb most_known) same ∙ turned (known_count (with_amendment s id old bound)) most_known
-    where
-      turned : (a b : ℕ) → ltb b a ≡ not (nat_le a b)
-      turned a b = grind (arith, nat_tests)
+      ap (ltb most_known) same ∙ grind (arith, nat_tests)
 
   pub few_enough : (new listed : ℕ) → new ≡ cond (is_known s old) 0 1 + cond (is_known s id) 0 1 → known_count s ≤ listed → listed + new ≤ most_known → false ≡ is_too_much s id old bound
   few_enough new listed q few short =
@@ -106,7 +92,4 @@ entry_again s sound id old other bound agrees there =
 pub amended_sound : (s : Content) → IsSound s → (id old : SiteCounter) (bound : Difference) → id ≢ old → clashes s id old bound ≡ false → is_too_much s id old bound ≡ false → IsSound (with_amendment s id old bound)
 amended_sound s sound id old bound other agrees room =
     let both = no_clash s id old bound agrees in
-    amendment_sound s id old bound sound other both.0 both.1 (within (known_count (with_amendment s id old bound)) most_known room)
-  where
-    within : (a b : ℕ) → not (nat_le a b) ≡ false → a ≤ b
-    within a b e = grind (arith, nat_tests)
+    amendment_sound s id old bound sound other both.0 both.1 (leb-true _ _ (not-false _ room))

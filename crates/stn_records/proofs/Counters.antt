@@ -1,7 +1,7 @@
 -- The greatest counter of a site, in a list in order and in a content, and the next one.
 use Rattle.std.proofs.Common.{◌≡◌, ℕ, zero, suc, ◌<◌, ◌≤◌, ◌-◌, ◌⊎◌, true, false, cond, max, List, [], ◌∷◌, length, get_or, take, Less, sym, refl, ap, ◌∙◌, arith, eqb, nat_le, ◌+◌, ◌↔◌, ◌++◌, Option, Some, None, subst, ⊎_elim, Result, Ok, Err, IfOk, IsErr}
 use Rattle.std.proofs.{lemmas.List.length-take, lemmas.List.length-take-le, lemmas.List.get_or-take, lemmas.Bool.Decides.nat_tests}
-use Rattle.std.proofs.lemmas.Bool.{leb-true, leb-false, false≢true, cases_lt, eq-eqb, and_parts, or_cases}
+use Rattle.std.proofs.lemmas.Bool.{false_from_ne_true, leb-true, leb-false, false≢true, cases_lt, eq-eqb, and_parts, or_cases}
 use Rattle.std.specs.{List.Sorted.IsNonDecreasingBy, List.Sorted.IsPartitionPoint, FinMap.is_sorted, Map.keys_of, Option.SomeIff, Option.ok_or, Cmp.Equal-is, Set.is_member}
 use Rattle.stn_records.specs.{Id.SiteCounter, Id.id_cmp, Sorted.IsEndOf, ContentLaws.ids_total, ContentLaws.ids_exact, declared.record.Record.Record}
 use Rattle.stn_records.specs.Content.{greatest_counter, next_counter, Content, same_ids, known_ids, is_known, replaced_set, replaced_ids}
@@ -93,10 +93,9 @@ counter_below site (x ∷ ids) id s e = ⊎_elim
 
 -- the next counter of a site is new
 pub next_is_new : (s : Content) (site counter : ℕ) → counter ≡ next_counter s site → is_known s (record { site = site; counter = counter }) ≡ false
-next_is_new s site counter is = elim (is_known s (record { site = site; counter = counter })) as (λ b. is_known s (record { site = site; counter = counter }) ≡ b → b ≡ false) [
-  | true ↦ λ e. let below = counter_below site (known_ids s) (record { site = site; counter = counter }) refl (known_member s _ ∙ e) in absurd (omega (arith, below, is))
-  | false ↦ λ e. refl
-] refl
+next_is_new s site counter is = false_from_ne_true _ (λ known.
+    let below = counter_below site (known_ids s) (record { site = site; counter = counter }) refl (known_member s _ ∙ known) in
+    omega (arith, below, is))
 
 -- one more than the greatest counter of the additions and the replaced ids
 pub counter_read : (s : Content) (site : ℕ) (es : List (SiteCounter × Record)) (ts : List (SiteCounter × Unit {0})) → es ≡ fin.entries s.additions → ts ≡ fin.entries (replaced_set s) → (a b m : ℕ) → a ≡ greatest_counter site (keys_of es) → b ≡ greatest_counter site (keys_of ts) → m ≡ max a b → m + 1 ≡ next_counter s site

@@ -1,6 +1,6 @@
 -- The count of the ids of four lists in order, by the least first id.
 use Rattle.std.proofs.Common.{◌≡◌, suc, ◌+◌, ◌<◌, ◌≤◌, ◌⊎◌, Bool, true, false, cond, not, ◌&&◌, ◌||◌, List, [], ◌∷◌, ◌++◌, length, Option, Some, None, is_some, slice_get, Less, Equal, Greater, is_eq, is_lt, sym, refl, ap, subst, ◌∙◌, inl, inr, ⊎_elim, arith, length-append}
-use Rattle.std.proofs.{lemmas.List.length-map, lemmas.Bool.false≢true, lemmas.Bool.and_parts, lemmas.Option.same_Some}
+use Rattle.std.proofs.{lemmas.List.length-map, Math.Bool.and-or_distrib_right, lemmas.Bool.false≢true, lemmas.Bool.and_right, lemmas.Bool.not_from_true, lemmas.Bool.and_parts, lemmas.Option.same_Some}
 use Rattle.std.specs.{Cmp.Equal-is, Cmp.tied_itself, Cmp.alike_right, Set.distinct_count, Set.is_member, FinMap.is_sorted, FinMap.Entries.below_all, Map.keys_of}
 use Rattle.stn_records.specs.{Id.SiteCounter, Id.id_cmp, Id.lesser_of, Sorted.first_key, Sorted.past_id, Content.same_ids, ContentLaws.ids_total, ContentLaws.ids_exact, ContentLaws.lesser_none}
 use Rattle.stn_records.proofs.{Entries.less_is, Entries.less_back, Entries.greater_back, Entries.below_less, KnownIds.same_count, KnownIds.one_more, KnownIds.member-append}
@@ -54,16 +54,9 @@ not_above_within f g id h = by (lesser_of f g) refl h
         through (Some a) x p q = not_above_chain a x id p q
 
 dropped : (m t : Bool) → (t ≡ true → m ≡ false) → m ≡ (m && not t)
-dropped m true f = f refl ∙ sym (nothing m)
-  where
-    nothing : (m : Bool) → (m && false) ≡ false
-    nothing true = refl
-    nothing false = refl
-dropped m false f = sym (whole m)
-  where
-    whole : (m : Bool) → (m && true) ≡ m
-    whole true = refl
-    whole false = refl
+dropped true true f = f refl
+dropped true false f = refl
+dropped false t f = refl
 
 module _ {X : Type 0} where
   -- an id below each entry is no key
@@ -114,14 +107,7 @@ module _ {X : Type 0} where
   first_member id (e ∷ es) f = ap (λ x. same_ids id x || is_member same_ids (keys_of es) id) (same_Some e.0 id f) ∙ ap (λ r. is_eq r || is_member same_ids (keys_of es) id) (tied_itself ids_total id)
 
 without_both : (a b c d t : Bool) → (a ≡ (b && not t)) → (c ≡ (d && not t)) → (a || c) ≡ ((b || d) && not t)
-without_both a b c d t p q = (λ i. p i || q i) ∙ by b d t
-  where
-    by : (b d t : Bool) → ((b && not t) || (d && not t)) ≡ ((b || d) && not t)
-    by true true true = refl
-    by true true false = refl
-    by true false true = refl
-    by true false false = refl
-    by false d t = refl
+without_both a b c d t p q = (λ i. p i || q i) ∙ sym (and-or_distrib_right b d (not t))
 
 or_has : (a b : Bool) → (a ≡ true) ⊎ (b ≡ true) → (a || b) ≡ true
 or_has true b h = refl
@@ -131,13 +117,9 @@ or_has false b h = ⊎_elim (λ e. absurd (false≢true e)) (λ e. e) h
 less_one : (all left : List SiteCounter) (id : SiteCounter) → is_member same_ids all id ≡ true → ((q : SiteCounter) → is_member same_ids left q ≡ (is_member same_ids all q && not (same_ids q id))) → suc (distinct_count same_ids left) ≡ distinct_count same_ids all
 less_one all left id there without =
     let itself : same_ids id id ≡ true = ap is_eq (tied_itself ids_total id) in
-    let gone : is_member same_ids left id ≡ false = without id ∙ nothing (is_member same_ids all id) (same_ids id id) itself in
+    let gone : is_member same_ids left id ≡ false = without id ∙ and_right _ _ (not_from_true _ itself) in
     sym (one_more id left gone) ∙ same_count (id ∷ left) all (λ q. members q)
   where
-    nothing : (m t : Bool) → t ≡ true → (m && not t) ≡ false
-    nothing true t e = ap not e
-    nothing false t e = refl
-
     rejoined : (t m : Bool) → (t ≡ true → m ≡ true) → (t || (m && not t)) ≡ m
     rejoined true m f = sym (f refl)
     rejoined false true f = refl

@@ -1,5 +1,6 @@
 -- A text in two parts around its first dot.
-use Rattle.std.proofs.Common.{◌≡◌, ◌≢◌, ℕ, suc, ◌+◌, ◌<◌, ◌^◌, List, [], ◌∷◌, ◌++◌, length, get_or, take, drop, decimal, All, sym, refl, ap, subst, ◌∙◌, arith, append_assoc, take-append-drop, drop-cons, add-one}
+use Rattle.std.proofs.Common.{◌≡◌, ◌≢◌, ℕ, ◌+◌, ◌<◌, ◌^◌, List, [], ◌∷◌, ◌++◌, length, get_or, take, drop, decimal, All, sym, refl, ap, subst, ◌∙◌, arith, append_assoc, take-append-drop}
+use Rattle.std.proofs.lemmas.List.{drop_more}
 use Rattle.std.proofs.lemmas.List.Elements.{All-head, All-tail, All-nil, All-cons}
 use Rattle.std.proofs.lemmas.Fmt.{decimal_is_IsNumeral}
 use Rattle.std.specs.Str.Parse.{AllDigits}
@@ -42,6 +43,4 @@ text_split id = append_assoc (decimal id.site) (46 ∷ []) (decimal id.counter)
 -- a text at its dot
 pub split_at : (text : List ℕ) (place : ℕ) (d : ℕ) → place < length text → get_or text place d ≡ 46 → text ≡ take place text ++ (46 ∷ drop (place + 1) text)
 split_at text place d within is =
-    sym (take-append-drop place text)
-    ∙ ap (λ l. take place text ++ l) (drop-cons text place d within ∙ (λ i. is i ∷ drop (suc place) text))
-    ∙ ap (λ n. take place text ++ (46 ∷ drop n text)) (sym (add-one place))
+    sym (take-append-drop place text) ∙ ap (λ l. take place text ++ l) (drop_more text place d within ∙ ap (λ byte. byte ∷ drop (place + 1) text) is)

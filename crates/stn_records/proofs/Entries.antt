@@ -1,14 +1,11 @@
 -- Lists of entries whose keys rise: what is found in them, and in their merge.
-use Rattle.std.proofs.Common.{◌≡◌, ℕ, zero, suc, ◌+◌, ◌<◌, ◌≤◌, Bool, true, false, cond, T, List, [], ◌∷◌, ◌++◌, length, get_or, drop, Option, Some, None, Ordering, Less, Equal, Greater, is_lt, is_eq, sym, refl, ap, subst, ◌∙◌, ⊎_elim, arith, add-one, ◌⊎◌, append_assoc, append-nil, drop-cons}
+use Rattle.std.proofs.Common.{◌≡◌, ℕ, zero, suc, ◌+◌, ◌<◌, ◌≤◌, Bool, true, false, cond, T, List, [], ◌∷◌, ◌++◌, length, get_or, drop, Option, Some, None, Ordering, Less, Equal, Greater, is_lt, is_eq, sym, refl, ap, ◌∙◌, ⊎_elim, arith, add-one, ◌⊎◌, append_assoc, append-nil}
 use Rattle.std.proofs.lemmas.Bool.{false≢true, and_parts, and_from}
 use Rattle.std.specs.{Option.option_or, List.insert, List.IsAllAdjacentAnswer, Prelude.IsTrue, Prelude.◌↔◌, List.Sorted.IsSortedBy, Ordering.eq_by_cmp, Ordering.ordering_reverse, Cmp.IsTotalOrder, Cmp.alike_right, Cmp.tied_back, Cmp.Equal-is, FinMap.FinMap, FinMap.is_sorted, FinMap.put, FinMap.Entries.below_all, FinMap.Entries.by_order}
 use Rattle.std.specs.FinMap as fin
 use Rattle.stn_records.specs.{MapLaws.or_after, Sorted.merge, Sorted.merge_from}
 
--- a test that holds, as the logic's fact
-pub holds : (b : Bool) → b ≡ true → T b
-holds b e = subst T (sym e) tt
-
+-- what the logic takes as true holds
 pub T_true : (b : Bool) → T b → b ≡ true
 T_true true h = refl
 T_true false h = absurd h
@@ -21,10 +18,6 @@ less_is Greater e = absurd (false≢true e)
 -- the entries of a map are in order
 pub in_order : {K X : Type 0} {R : K → K → Ordering} (m : FinMap R X) → is_sorted R (fin.entries m) ≡ true
 in_order m = T_true _ (fin.entries_sorted m)
-
--- what is left of a list from a place within it
-pub front : {X : Type 0} (l : List X) (k : ℕ) (d : X) → k < length l → drop k l ≡ get_or l k d ∷ drop (k + 1) l
-front l k d h = rw add-one (drop-cons l k d h)
 
 module _ {K : Type 0} {R : K → K → Ordering} (o : IsTotalOrder R) where
   pub greater_back : (x y : K) → R x y ≡ Greater → R y x ≡ Less

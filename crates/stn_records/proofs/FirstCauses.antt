@@ -1,24 +1,12 @@
 -- The first cause that refuses a call, from what its parts answer.
-use Rattle.std.proofs.Common.{◌≡◌, ◌≢◌, ℕ, ◌<◌, ◌≤◌, true, false, ltb, Some, None, ap, ◌∙◌, arith}
-use Rattle.std.specs.{Prelude.◌==◌, Prelude.option_map, Bool.then_some, Option.option_or}
+use Rattle.std.proofs.Common.{◌≡◌, ◌<◌, ◌≤◌, ltb, Some, None, ap, ◌∙◌}
+use Rattle.std.specs.{Prelude.option_map, Bool.then_some, Option.option_or}
 use Rattle.std.specs.FinMap as fin
-use Rattle.std.proofs.lemmas.Bool.Decides.{nat_tests}
+use Rattle.std.proofs.lemmas.Bool.{lt-ltb, le-ltb}
 use Rattle.stn_records.specs.{Id.SiteCounter, Record.same_records, Maps.differ, declared.record.Record.Record}
 use Rattle.stn_records.specs.Content.{most_known, Content, known_in_either, dispute_contents}
 use Rattle.stn_records.specs.Refusals.{add_refusal, bury_refusal, take_refusal}
 use Rattle.stn_records.specs.declared.faults.RecordsFault.TheVariants.{Clash, Full}
-
-pub same_number : (a b : ℕ) → a ≡ b → (a == b) ≡ true
-same_number a b e = grind (arith, nat_tests)
-
-pub other_number : (a b : ℕ) → a ≢ b → (a == b) ≡ false
-other_number a b e = grind (arith, nat_tests)
-
-pub less_true : (a b : ℕ) → a < b → ltb a b ≡ true
-less_true a b h = grind (arith, nat_tests)
-
-pub less_false : (a b : ℕ) → b ≤ a → ltb a b ≡ false
-less_false a b h = grind (arith, nat_tests)
 
 -- a new record is refused as the withdrawal of its id is
 pub add_new : (s : Content) (id : SiteCounter) (one : Record) → fin.get s.additions id ≡ None → add_refusal s id one ≡ bury_refusal s id
@@ -30,7 +18,7 @@ module _ (s other : Content) (agreed : dispute_contents s other ≡ None) where
   counted = ap (λ o. option_or (option_map Clash o) (then_some (ltb most_known (known_in_either s other)) Full)) agreed
 
   pub take_full : most_known < known_in_either s other → take_refusal s other ≡ Some Full
-  take_full many = counted ∙ ap (λ b. then_some b Full) (less_true most_known (known_in_either s other) many)
+  take_full many = counted ∙ ap (λ b. then_some b Full) (lt-ltb most_known (known_in_either s other) many)
 
   pub take_free : known_in_either s other ≤ most_known → take_refusal s other ≡ None
-  take_free few = counted ∙ ap (λ b. then_some b Full) (less_false most_known (known_in_either s other) few)
+  take_free few = counted ∙ ap (λ b. then_some b Full) (le-ltb most_known (known_in_either s other) few)

@@ -1,7 +1,7 @@
 -- Whether all that one site holds is held by another.
 use Rattle.std.proofs.Common.{◌≡◌, ◌↔◌, Bool, true, false, cond, ◌&&◌, ◌≤◌, List, [], ◌∷◌, Option, Some, None, is_some, option_and_then, Less, Equal, Greater, is_lt, is_eq, sym, refl, ap, subst, ◌∙◌, inl, inr, ⊎_elim}
 use Rattle.std.proofs.lemmas.Bool.{false≢true, and_from, and_parts, not-true, le-leb}
-use Rattle.std.proofs.{lemmas.List.Sums.AllPass-from_list_all, lemmas.List.Sums.list_all-from_AllPass, lemmas.Option.same_Some}
+use Rattle.std.proofs.{lemmas.List.Sums.AllPass-from_list_all, lemmas.List.Sums.list_all-from_AllPass, lemmas.Option.cond_some, lemmas.Option.same_Some}
 use Rattle.std.specs.{Bool.Decides, Prelude.IsTrue, Cmp.tied_back, FinMap.FinMap, FinMap.is_sorted, FinMap.get-entries, FinMap.Entries.below_all}
 use Rattle.std.specs.FinMap as fin
 use Rattle.stn_records.specs.{Id.SiteCounter, Id.id_cmp, Maps.HasEntries, Sorted.is_there, Sorted.has_entries, Join.passing, JoinLaws.first_step, JoinLaws.join_is}
@@ -49,10 +49,7 @@ module _ {X : Type 0} (same : X → X → Bool) (decides : (x y : X) → Decides
 module _ (a b : Content) where
   -- what b holds is what a holds already
   pub joined_is : taken a b ≡ Some a → join_contents a b ≡ Some a
-  joined_is is = let first = first_step (passing is_within) (join_contents a b) a is in first.1 ∙ ap Some (passed_is first.0 first.2)
-    where
-      passed_is : (s : Content) → passing is_within s ≡ Some a → s ≡ a
-      passed_is s e = elim (is_within s) as (λ b. cond b (Some s) None ≡ Some a → s ≡ a) [ true ↦ λ f. cc | false ↦ λ f. absurd (false≢true (ap is_some f)) ] e
+  joined_is is = let first = first_step (passing is_within) (join_contents a b) a is in first.1 ∙ ap Some (cond_some _ _ _ first.2).1
 
   pub held_agrees : taken a b ≡ Some a → dispute_contents a b ≡ None
   held_agrees is = none_of (dispute_contents a b) (not-true _ (sym (contents_dispute a b) ∙ ap is_some (joined_is is)))

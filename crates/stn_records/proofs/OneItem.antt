@@ -1,6 +1,6 @@
 -- A content and one item more.
 use Rattle.std.proofs.Common.{◌≡◌, ◌⊎◌, ◌↔◌, true, false, cond, Option, Some, None, is_some, is_eq, sym, refl, ap, ◌∙◌, inl, inr, ⊎_elim}
-use Rattle.std.proofs.lemmas.Bool.{false≢true}
+use Rattle.std.proofs.lemmas.Bool.{false≢true, cond_both}
 use Rattle.std.specs.{FinMap.FinMap, FinMap.get-empty, FinMap.get-insert, Cmp.Equal-is, Cmp.tied_itself}
 use Rattle.stn_records.specs.Content.{Content, Item, addition, withdrawal, replacement, HasItem, join_contents, plain, with_record, with_tombstone, with_amendment, one_record, one_tombstone, one_amendment}
 use Rattle.stn_records.specs.{ContentLaws.ids_total, ContentLaws.ids_exact, ContentLaws.contents_join, Id.SiteCounter, Id.id_cmp, declared.record.Record.Record, Maps.AgreesAt, JoinLaws.join_is}
@@ -19,13 +19,10 @@ inserted_here m id x = get-insert ids_total m id x id ∙ ap (λ r. cond (is_eq 
 
 -- and what was there stays, where the value is not another
 pub kept_value : {X : Type 0} (m : FinMap id_cmp X) (id : SiteCounter) (x : X) (q : SiteCounter) (y : X) → ((z : X) → fin.get m id ≡ Some z → z ≡ x) → fin.get m q ≡ Some y → fin.get (fin.insert m id x) q ≡ Some y
-kept_value m id x q y same e = elim (is_eq (id_cmp q id)) as (λ b. is_eq (id_cmp q id) ≡ b → cond b (Some x) (fin.get m q) ≡ Some y → fin.get (fin.insert m id x) q ≡ Some y) [
-  | true ↦ λ t f. get-insert ids_total m id x q ∙ ap (λ b. cond b (Some x) (fin.get m q)) t ∙ f
-  | false ↦ λ t f. get-insert ids_total m id x q ∙ ap (λ b. cond b (Some x) (fin.get m q)) t ∙ f
-] refl (elim (is_eq (id_cmp q id)) as (λ b. is_eq (id_cmp q id) ≡ b → cond b (Some x) (fin.get m q) ≡ Some y) [
+kept_value m id x q y same e = get-insert ids_total m id x q ∙ elim (is_eq (id_cmp q id)) as (λ b. is_eq (id_cmp q id) ≡ b → cond b (Some x) (fin.get m q) ≡ Some y) [
   | true ↦ λ t. ap Some (sym (same y (ap (fin.get m) (sym (ids_exact q id ((Equal-is (id_cmp q id)).0 t))) ∙ e)))
   | false ↦ λ t. e
-] refl)
+] refl
 
 -- a map and the one entry have together what the map has with the entry put in
 put : {X : Type 0} (m : FinMap id_cmp X) (id : SiteCounter) (x : X) → AgreesAt m id x → (q : SiteCounter) (y : X) → (fin.get (fin.insert m id x) q ≡ Some y) ↔ ((fin.get m q ≡ Some y) ⊎ (fin.get {R = id_cmp} (fin.insert fin.empty id x) q ≡ Some y))
@@ -67,13 +64,8 @@ amendment_joins s id old bound agrees same = join_is contents_join s (one_amendm
 
 -- what is there already changes nothing
 pub again : {X : Type 0} (m : FinMap id_cmp X) (id : SiteCounter) (x : X) → fin.get m id ≡ Some x → m ≡ fin.insert m id x
-again {X} m id x e = fin.same_map ids_total ids_exact m (fin.insert m id x) (λ q. sym (get-insert ids_total m id x q ∙ at q))
-  where
-    at : (q : SiteCounter) → cond (is_eq (id_cmp q id)) (Some x) (fin.get m q) ≡ fin.get m q
-    at q = elim (is_eq (id_cmp q id)) as (λ b. is_eq (id_cmp q id) ≡ b → cond b (Some x) (fin.get m q) ≡ fin.get m q) [
-      | true ↦ λ t. sym e ∙ ap (fin.get m) (sym (ids_exact q id ((Equal-is (id_cmp q id)).0 t)))
-      | false ↦ λ t. refl
-    ] refl
+again m id x e = fin.same_map ids_total ids_exact m (fin.insert m id x) (λ q. sym (get-insert ids_total m id x q
+    ∙ cond_both (is_eq (id_cmp q id)) (Some x) (fin.get m q) (λ o. o ≡ fin.get m q) (λ t. sym e ∙ ap (fin.get m) (sym (ids_exact q id ((Equal-is (id_cmp q id)).0 t)))) (λ t. refl)))
 
 -- what a set has at an id that is there
 pub gone : (o : Option (Unit {0})) → is_some o ≡ true → o ≡ Some tt

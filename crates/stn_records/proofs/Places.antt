@@ -2,12 +2,12 @@
 use Rattle.std.proofs.Common.{◌≡◌, ◌<◌, Bool, Equal, ℕ, zero, suc, is_eq, is_ok, ⊎_elim, true, false, cond, List, [], ◌∷◌, length, get_or, Option, Some, None, Result, Ok, Err, IfOk, IfErr, filter, sym, refl, ap, subst, ◌∙◌, arith, ◌||◌, All}
 use Rattle.std.specs.List.Sorted.{IsSearchInRange, IsBinarySearchResult, IsSorted, IsPermutation}
 use Rattle.std.specs.{Cmp.tied_back, Prelude.IsTrue, Option.option_or, List.insert, Set.is_member, FinMap.Entries.is_sorted-where_key, FinMap.Entries.find-where_key}
-use Rattle.std.proofs.{lemmas.List.get_or_default, lemmas.Bool.cases_lt, lemmas.Bool.or_right, lemmas.List.Sorted.searchable_from_sorted, lemmas.List.Sorted.list_any-IsPermutation, lemmas.List.Elements.All-same, lemmas.List.Elements.filter_agree}
+use Rattle.std.proofs.{lemmas.Float.T_from_true, lemmas.List.get_or_default, lemmas.Bool.cases_lt, lemmas.Bool.or_right, lemmas.List.Sorted.searchable_from_sorted, lemmas.List.Sorted.list_any-IsPermutation, lemmas.List.Elements.All-same, lemmas.List.Elements.filter_agree}
 use Rattle.std.specs.FinMap as fin
 use Rattle.std.specs.FinMap.{FinMap, is_sorted, put, entries-from_sorted, get-from_sorted, get-entries, entries-insert, same_entries_map, same_map, get-retain_keys, empty_of_len, len-entries}
 use Rattle.stn_records.specs.{Id.SiteCounter, Id.id_cmp, Sorted.IsPlaceOf, Sorted.IsGapFor, Sorted.merge, Maps.union, Maps.AgreesAt, Maps.AllFit, MapLaws.get-union, Content.same_ids, ContentLaws.ids_total, ContentLaws.ids_exact}
 use Rattle.stn_records.proofs.{OneItem.again, Gets.get_from_entries}
-use Rattle.stn_records.proofs.Entries.{holds, T_true, in_order, less_back, greater_back, neighbours_rise, find_at, find_gap, put_gap, sorted-merge, find-merge}
+use Rattle.stn_records.proofs.Entries.{T_true, in_order, less_back, greater_back, neighbours_rise, find_at, find_gap, put_gap, sorted-merge, find-merge}
 
 alike : (p : SiteCounter → Bool) (q x : SiteCounter) → id_cmp q x ≡ Equal → p x ≡ p q
 alike p q x t = ap p (sym (ids_exact q x t))
@@ -35,7 +35,7 @@ module _ {X : Type 0} where
 
   -- the map of a list in order has its entries
   pub map_of_sorted : (es : List (SiteCounter × X)) → is_sorted id_cmp es ≡ true → fin.entries (fin.from_sorted {R = id_cmp} es) ≡ es
-  map_of_sorted es sorted = entries-from_sorted id_cmp es (holds _ sorted)
+  map_of_sorted es sorted = entries-from_sorted id_cmp es (T_from_true _ sorted)
 
   pub entries_of_sorted : (es : List (SiteCounter × X)) (m : FinMap id_cmp X) → is_sorted id_cmp es ≡ true → fin.from_sorted es ≡ m → fin.entries m ≡ es
   entries_of_sorted es m sorted is = ap fin.entries (sym is) ∙ map_of_sorted es sorted
@@ -52,7 +52,7 @@ module _ {X : Type 0} where
   listed_fits Fits es seen read sorted all = get_from_entries ids_total ids_exact (fin.from_sorted {R = id_cmp} es) (λ e. Fits e.1) (All-same (λ e. Fits e.1) (fin.entries (fin.from_sorted {R = id_cmp} es)) seen (map_of_sorted es sorted ∙ sym read) all)
 
   same_listed : (es : List (SiteCounter × X)) (m : FinMap id_cmp X) → is_sorted id_cmp es ≡ true → ((id : SiteCounter) → fin.find id_cmp id es ≡ fin.get m id) → es ≡ fin.entries m
-  same_listed es m sorted found = sym (map_of_sorted es sorted) ∙ ap fin.entries (same_map ids_total ids_exact _ m (λ id. get-from_sorted id_cmp es id (holds _ sorted) ∙ found id))
+  same_listed es m sorted found = sym (map_of_sorted es sorted) ∙ ap fin.entries (same_map ids_total ids_exact _ m (λ id. get-from_sorted id_cmp es id (T_from_true _ sorted) ∙ found id))
 
   -- the merge of two maps' entries is the entries of the union
   pub merge_entries : (a b : FinMap id_cmp X) → merge id_cmp (fin.entries a) (fin.entries b) ≡ fin.entries (union a b)
@@ -63,7 +63,7 @@ module _ {X : Type 0} where
 
   -- and those with wanted ids are the entries that the map retains
   pub wanted_entries : (p : SiteCounter → Bool) (m : FinMap id_cmp X) → filter (λ e. p e.0) (fin.entries m) ≡ fin.entries (fin.retain_keys m p)
-  wanted_entries p m = same_listed _ (fin.retain_keys m p) (T_true _ (is_sorted-where_key id_cmp p (fin.entries m) (holds _ (in_order m)))) (λ id.
+  wanted_entries p m = same_listed _ (fin.retain_keys m p) (T_true _ (is_sorted-where_key id_cmp p (fin.entries m) (T_from_true _ (in_order m)))) (λ id.
       find-where_key id_cmp p id (alike p id) (fin.entries m)
       ∙ ap (λ v. cond (p id) v None) (sym (get-entries m id))
       ∙ sym (get-retain_keys m p id (alike p id)))

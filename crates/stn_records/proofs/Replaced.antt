@@ -1,14 +1,14 @@
 -- An id that is replaced is withdrawn, or some record replaces it.
 use Rattle.std.proofs.Common.{◌≡◌, ◌⊎◌, inl, inr, ⊎_elim, Bool, true, false, cond, ◌||◌, List, [], ◌∷◌, map, ℕ, ◌+◌, ◌<◌, get_or, drop, Option, Some, None, is_some, length, sym, refl, ap, subst, ◌∙◌, All}
 use Rattle.std.proofs.lemmas.Bool.{false≢true, or_left, or_right, or_cases}
-use Rattle.std.proofs.{lemmas.List.Elements.All-head, lemmas.List.Elements.All-tail, lemmas.Option.same_Some}
+use Rattle.std.proofs.{Math.Bool.or_assoc, lemmas.Bool.Decides.same_from_decides, lemmas.List.drop_more, lemmas.List.Elements.All-head, lemmas.List.Elements.All-tail, lemmas.Option.same_Some}
 use Rattle.std.specs.{Ordering.eq_by_cmp, FinMap.get-insert, FinMap.get-entries, Set.is_member, Option.option_or}
 use Rattle.std.specs.FinMap as fin
 use Rattle.stn_records.specs.{Id.SiteCounter, Id.id_cmp, Id.same_ids, Maps.union, MapLaws.get-union}
 use Rattle.stn_net.specs.Difference.{Difference}
 use Rattle.stn_records.specs.Content.{Content, Item, IdSet, ReplacementMap, withdrawal, replacement, HasItem, dispute_contents, joined_contents, is_replaced, replaced_set, with_ids, with_tombstone, with_amendment}
 use Rattle.stn_records.specs.ContentLaws.{ids_total, ids_exact, ids_decide, contents_join, contents_undisputed}
-use Rattle.stn_records.proofs.{Entries.front, Gets.entries_from_get, Places.nothing_listed, OneItem.gone, OneItem.inserted_value, OneItem.inserted_here, OneItem.kept_value}
+use Rattle.stn_records.proofs.{Gets.entries_from_get, Places.nothing_listed, OneItem.gone, OneItem.inserted_value, OneItem.inserted_here, OneItem.kept_value}
 
 pub inserted_key : (m : IdSet) (id q : SiteCounter) → fin.contains_key (fin.insert m id tt) q ≡ (same_ids q id || fin.contains_key m q)
 inserted_key m id q = ap is_some (get-insert ids_total m id tt q) ∙ by (same_ids q id)
@@ -17,14 +17,10 @@ inserted_key m id q = ap is_some (get-insert ids_total m id tt q) ∙ by (same_i
     by true = refl
     by false = refl
 
-or_assoc : (a b c : Bool) → (a || (b || c)) ≡ ((a || b) || c)
-or_assoc true b c = refl
-or_assoc false b c = refl
-
 pub with_ids_member : (m : IdSet) (ids : List SiteCounter) (q : SiteCounter) → fin.contains_key (with_ids m ids) q ≡ (is_member same_ids ids q || fin.contains_key m q)
 with_ids_member m [] q = refl
 with_ids_member m (id ∷ ids) q =
-    inserted_key (with_ids m ids) id q ∙ (ap (λ b. same_ids q id || b) (with_ids_member m ids q) ∙ or_assoc (same_ids q id) (is_member same_ids ids q) (fin.contains_key m q))
+    inserted_key (with_ids m ids) id q ∙ (ap (λ b. same_ids q id || b) (with_ids_member m ids q) ∙ sym (or_assoc (same_ids q id) (is_member same_ids ids q) (fin.contains_key m q)))
 
 value_entry : (es : List (SiteCounter × SiteCounter)) (P : SiteCounter → SiteCounter → Type 0) (q : SiteCounter) → All (λ e. P e.0 e.1) es
     → is_member same_ids (map (λ e. e.1) es) q ≡ true → (other : SiteCounter) × P other q
@@ -64,9 +60,7 @@ replaced_fewer s t h q e = ⊎_elim
 
 -- two tests that imply each other are one
 pub same_tests : (b c : Bool) → (b ≡ true → c ≡ true) → (c ≡ true → b ≡ true) → b ≡ c
-same_tests true c f g = sym (f refl)
-same_tests false true f g = g refl
-same_tests false false f g = refl
+same_tests b c f g = same_from_decides {P = c ≡ true} b c (f, g) (λ e. e, λ e. e)
 
 -- sets with the same ids are one
 pub same_sets : (a b : IdSet) → ((q : SiteCounter) → fin.contains_key a q ≡ fin.contains_key b q) → a ≡ b
@@ -126,7 +120,7 @@ pub put_next : (all new : IdSet) (es : List (SiteCounter × SiteCounter)) (i : �
 put_next all new es i e within is =
     ap (λ set. with_ids set (map (λ e. e.1) (drop (i + 1) es))) is
     ∙ sym (put_before all (map (λ e. e.1) (drop (i + 1) es)) (get_or es i e).1)
-    ∙ ap (λ (l : List (SiteCounter × SiteCounter)). with_ids all (map (λ e. e.1) l)) (sym (front es i e within))
+    ∙ ap (λ (l : List (SiteCounter × SiteCounter)). with_ids all (map (λ e. e.1) l)) (sym (drop_more es i e within))
 
 -- with one more id withdrawn
 pub replaced_withdrawn : (s : Content) (id : SiteCounter) → fin.insert (replaced_set s) id tt ≡ replaced_set (with_tombstone s id)

@@ -1,7 +1,7 @@
-use Rattle.std.proofs.Common.{◌≡◌, ◌++◌, filter, drop}
+use Rattle.std.proofs.Common.{◌≡◌, filter, take}
 use Rattle.std.specs.Set.{is_member}
 use Rattle.stn_records.specs.Content.{same_ids}
 use Rattle.stn_records.proofs.sorted.among.Given as goal
 
 abbrev pub invariant-loop-entry : goal.invariant-loop-entry
-invariant-loop-entry g l = l.all.items ++ filter (λ entry. is_member same_ids l.ids entry.0) (drop l.entry-index l.entries) ≡ filter (λ entry. is_member same_ids l.ids entry.0) l.entries
+invariant-loop-entry g l = l.all.items ≡ filter (λ entry. is_member same_ids l.ids entry.0) (take l.entry-index l.entries)

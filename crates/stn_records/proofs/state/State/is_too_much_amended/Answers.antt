@@ -1,5 +1,5 @@
-use Rattle.std.proofs.Common.{◌≡◌, ◌+◌, ◌≤◌, ℕ, ltb, false, length, ap, ◌∙◌, arith}
-use Rattle.std.proofs.lemmas.Bool.Decides.{nat_tests}
+use Rattle.std.proofs.Common.{◌+◌, ◌≤◌, length, ap, ◌∙◌, arith}
+use Rattle.std.proofs.lemmas.Bool.{le-ltb}
 use Rattle.std.specs.FinMap as fin
 use Rattle.stn_records.specs.Content.{Content, known_count, replaced_set}
 use Rattle.stn_records.proofs.{Limits.known_within, Amending.too_much_told, Amending.few_enough}
@@ -11,9 +11,6 @@ returns-then-added-replaced-gt-MOST_KNOWN g c =
     too_much_told c.args.self.now c.args.id c.args.old c.args.bound c.requires.apart c.requires.agrees c.known.result (c.newly_known.result + c.newly_known-2.result) c.known.ensures
     (λ i. c.newly_known.ensures.count i + c.newly_known-2.ensures.count i)
 
-less : (a b : ℕ) → b ≤ a → ltb a b ≡ false
-less a b e = grind (arith, nat_tests)
-
 -- both lists are too short
 pub returns-else-added-replaced-gt-MOST_KNOWN : goal.returns-else-added-replaced-gt-MOST_KNOWN
 returns-else-added-replaced-gt-MOST_KNOWN g c =
@@ -22,7 +19,7 @@ returns-else-added-replaced-gt-MOST_KNOWN g c =
     let listed = length c.entries-added.result.now + length c.entries-replaced.result.now in
     let new = c.newly_known.result + c.newly_known-2.result in
     let few : known_count c.args.self.now ≤ listed = omega (arith, known_within c.args.self.now, a, b) in
-    less 4096 (listed + new) c.if-added-replaced-gt-MOST_KNOWN.false
+    le-ltb 4096 (listed + new) c.if-added-replaced-gt-MOST_KNOWN.false
     ∙ few_enough c.args.self.now c.args.id c.args.old c.args.bound c.requires.apart c.requires.agrees new listed (λ i. c.newly_known.ensures.count i + c.newly_known-2.ensures.count i) few c.if-added-replaced-gt-MOST_KNOWN.false
 
 pub overflow_add-result : goal.overflow_add-result
