@@ -2,10 +2,12 @@ use Rattle.std.proofs.Common.{◌≡◌, ℕ, ℤ, pos, true, cond, eqb, List, �
 use Rattle.std.specs.Prelude.{◌↔◌, All, flat_map}
 use Rattle.std.proofs.{lemmas.Bool.and_parts, lemmas.Bool.Decides.eqb_tells}
 use Rattle.std.proofs.lemmas.List.Elements.{All-append, All-weaker, All-filter}
+use Rattle.stn_replica.proofs.Live.{All-passing, All-filter_passing}
+use Rattle.stn_time.proofs.Each.{All-left, All-right}
 use Rattle.stn_net.specs.{Difference.Difference, Schedule.Meets, Schedule.IsSchedule, Schedule.HasSchedule}
 use Rattle.stn_net.specs.Windows.Window.{IsInWindow}
 use Rattle.stn_guard.specs.{Owners.is_at, Owners.is_own, Owners.own_bounds, Guard.Guards}
-use Rattle.stn_guard.proofs.Owned.{all_front, all_behind, all_passing, all_filtered, all_pieces, at_cases, at_owner}
+use Rattle.stn_guard.proofs.Owned.{all_pieces, at_cases, at_owner}
 
 -- each event takes the time that its owner gives it
 abbrev glued : (ℕ → ℕ) → (ℕ → ℕ → ℤ) → ℕ → ℤ
@@ -34,11 +36,11 @@ glued_meets owner times site bound origin own met =
 -- times that meet the site's own bounds
 pub own_met : (owner : ℕ → ℕ) (site : ℕ) (bounds : List Difference) (time : ℕ → ℤ) → IsSchedule (own_bounds owner site bounds) time
     → All (λ bound. is_own owner site bound ≡ true → Meets time bound) bounds
-own_met owner site bounds time schedule = all_passing (is_own owner site) (Meets time) bounds schedule.met
+own_met owner site bounds time schedule = All-passing (is_own owner site) (Meets time) bounds schedule.met
 
 pub own_schedule : (owner : ℕ → ℕ) (site : ℕ) (bounds : List Difference) (time : ℕ → ℤ) → time 0 ≡ pos 0
     → All (λ bound. is_own owner site bound ≡ true → Meets time bound) bounds → IsSchedule (own_bounds owner site bounds) time
-own_schedule owner site bounds time origin met = record { origin = origin; met = all_filtered (is_own owner site) (Meets time) bounds met }
+own_schedule owner site bounds time origin met = record { origin = origin; met = All-filter_passing (is_own owner site) (Meets time) bounds met }
 
 glued_met : (owner : ℕ → ℕ) (times : ℕ → ℕ → ℤ) (site : ℕ) (bounds : List Difference) → IsSchedule (own_bounds owner site bounds) (times site)
     → All (λ bound. is_own owner site bound ≡ true → Meets (glued owner times) bound) bounds
@@ -55,7 +57,7 @@ glued_schedule owner bounds guard times guards each = guards.enough (glued owner
 own_front : (owner : ℕ → ℕ) (site : ℕ) (bounds more : List Difference) (time : ℕ → ℤ) → IsSchedule (own_bounds owner site (bounds ++ more)) time
     → IsSchedule (own_bounds owner site bounds) time
 own_front owner site bounds more time schedule = own_schedule owner site bounds time schedule.origin
-    (all_front (λ bound. is_own owner site bound ≡ true → Meets time bound) bounds more (own_met owner site (bounds ++ more) time schedule))
+    (All-left (λ bound. is_own owner site bound ≡ true → Meets time bound) bounds more (own_met owner site (bounds ++ more) time schedule))
 
 -- sites that keep to bounds of their own have a schedule together
 pub glue : (owner : ℕ → ℕ) (bounds guard : List Difference) (added : ℕ → List Difference) (sites : List ℕ) → Guards owner bounds guard
@@ -66,7 +68,7 @@ glue owner bounds guard added sites guards own each =
     let times : ℕ → ℕ → ℤ = λ site. (each site).0 in
     let whole = glued_schedule owner bounds guard times guards (λ site. own_front owner site (bounds ++ guard) (added site) (times site) (each site).1) in
     let here : (site : ℕ) → All (Meets (glued owner times)) (added site) = (λ site k d h.
-    all_behind (λ bound. is_own owner site bound ≡ true → Meets (glued owner times) bound) (bounds ++ guard) (added site)
+    All-right (λ bound. is_own owner site bound ≡ true → Meets (glued owner times) bound) (bounds ++ guard) (added site)
     (glued_met owner times site ((bounds ++ guard) ++ added site) (each site).1) k d h (own site k d h)) in (
       glued owner times,
       record {
@@ -112,4 +114,4 @@ own_windows owner bounds guard guards event time = (
 pub guarded_possible : (owner : ℕ → ℕ) (bounds guard : List Difference) → Guards owner bounds guard → HasSchedule bounds
 guarded_possible owner bounds guard guards =
     let whole = guards.possible in
-    (whole.0, record { origin = whole.1.origin; met = all_front (Meets whole.0) bounds guard whole.1.met })
+    (whole.0, record { origin = whole.1.origin; met = All-left (Meets whole.0) bounds guard whole.1.met })

@@ -3,12 +3,15 @@ use Rattle.std.proofs.Common.{◌≡◌, ◌≢◌, ℕ, zero, suc, ◌+◌, ◌
 use Rattle.std.specs.{Prelude.All, Prelude.filter, List.range_with_len}
 use Rattle.std.proofs.{lemmas.Int.ints, lemmas.Bool.eq-eqb, lemmas.Bool.Decides.eqb_tells, lemmas.List.Folds.list_any_at, lemmas.List.FromFn.length-map-range_with_len, lemmas.List.FromFn.get_or-map-range_with_len}
 use Rattle.std.proofs.lemmas.List.Elements.{All-nil, All-cons, All-head, All-tail, All-append, All-take, All-filter}
+use Rattle.std.proofs.lemmas.Bool.{and_from, or_right}
+use Rattle.stn_replica.proofs.Live.{All-passing, All-filter_passing}
+use Rattle.stn_time.proofs.Each.{All-left, All-right}
 use Rattle.stn_time.specs.Time.{horizon}
 use Rattle.stn_net.specs.{Difference.Difference, Difference.NamesEvents, Horizon.horizon_bound, Horizon.horizon_bounds, Schedule.Meets, Schedule.IsSchedule, Schedule.HasSchedule}
 use Rattle.stn_net.specs.Windows.Window.{IsInWindow}
 use Rattle.stn_guard.specs.{declared.splitting.Arc.Arc, Owners.is_own, Owners.own_bounds, Owners.is_shared, Guard.Guards}
 use Rattle.stn_guard.specs.Making.{arcs_of, shared_arcs, window_bound, is_named, says_more, AreWindows, IsGuardOf}
-use Rattle.stn_guard.proofs.Owned.{all_front, all_behind, all_passing, all_filtered, all_pieces, all_of_pieces, at_owner, at_origin, both, own_or_shared, shared_parts}
+use Rattle.stn_guard.proofs.Owned.{all_pieces, all_of_pieces, at_owner, at_origin, own_or_shared, shared_parts}
 use Rattle.stn_guard.proofs.{Gluing.own_met, Split.Implies, Split.IsApart, Split.AreLeft, Split.are_left}
 
 -- each horizon bound is one of them
@@ -17,8 +20,8 @@ unfolding horizon_bounds
 all_horizon P zero all event after most = absurd (omega arith)
 all_horizon P (suc events) all event after most = elim (eqb_tells event (suc events)) [
   | inl same ↦ subst (λ e. P (horizon_bound e)) (sym same.1)
-      (All-head P (horizon_bound (suc events)) [] (all_behind P (horizon_bounds events) (horizon_bound (suc events) ∷ []) all))
-  | inr differs ↦ all_horizon P events (all_front P (horizon_bounds events) (horizon_bound (suc events) ∷ []) all) event after (omega (arith, differs.1))
+      (All-head P (horizon_bound (suc events)) [] (All-right P (horizon_bounds events) (horizon_bound (suc events) ∷ []) all))
+  | inr differs ↦ all_horizon P events (All-left P (horizon_bounds events) (horizon_bound (suc events) ∷ []) all) event after (omega (arith, differs.1))
 ]
 
 -- a schedule meets both sides of each bound
@@ -34,18 +37,14 @@ arcs_implied owner bounds =
         All-cons (Implies bounds) upper (lower ∷ []) (λ time schedule. (let m = met time schedule in omega (arith, ints, m.1)))
         (All-cons (Implies bounds) lower [] (λ time schedule. (let m = met time schedule in omega (arith, ints, m.0))) (All-nil (Implies bounds)))
 
-pub or_right : (one other : Bool) → other ≡ true → (one || other) ≡ true
-or_right true other e = refl
-or_right false other e = e
-
 -- a shared bound names its events
 named_ends : (owner : ℕ → ℕ) (bounds : List Difference) → All (λ b. is_shared owner b ≡ true → (is_named owner bounds b.from ≡ true) × (is_named owner bounds b.to ≡ true)) bounds
 named_ends owner bounds = λ k d h shared.
     let b = get_or bounds k d in (
       list_any_at (λ bound. is_shared owner bound && (eqb bound.from b.from || eqb bound.to b.from)) bounds k d h
-          (both _ _ shared (ap (λ t. t || eqb b.to b.from) (eq-eqb b.from b.from refl))),
+          (and_from _ _ shared (ap (λ t. t || eqb b.to b.from) (eq-eqb b.from b.from refl))),
       list_any_at (λ bound. is_shared owner bound && (eqb bound.from b.to || eqb bound.to b.to)) bounds k d h
-          (both _ _ shared (or_right (eqb b.from b.to) (eqb b.to b.to) (eq-eqb b.to b.to refl))),
+          (and_from _ _ shared (or_right (eqb b.from b.to) (eqb b.to b.to) (eq-eqb b.to b.to refl))),
     )
 
 -- a bound that says no more than the horizon
@@ -63,10 +62,10 @@ module _ (owner : ℕ → ℕ) (events : ℕ) (bounds within windows : List Diff
   windows_have : (P : Difference → Type 0) → All P windows → (event : ℕ) → 0 < event → event ≤ events → is_named owner bounds event ≡ true
       → says_more (window_at event) ≡ true → P (window_at event)
   windows_have P all event after most named more =
-      let passing = all_passing told P (map window_at (range_with_len 1 events)) (subst (All P) are.windows_are all) in
+      let passing = All-passing told P (map window_at (range_with_len 1 events)) (subst (All P) are.windows_are all) in
       let place : event - 1 < length (map window_at (range_with_len 1 events)) = omega (arith, length-map-range_with_len window_at 1 events) in
       let at = get_or-map-range_with_len window_at 1 events (event - 1) event (window_at event) (omega arith) (omega arith) in
-      subst (λ b. told b ≡ true → P b) at (passing (event - 1) (window_at event) place) (both _ _ named more)
+      subst (λ b. told b ≡ true → P b) at (passing (event - 1) (window_at event) place) (and_from _ _ named more)
 
   -- what holds of the window of each event holds of all windows
   windows_all : (P : Difference → Type 0) → ((event : ℕ) → 0 < event → event ≤ events → P (window_at event)) → All P windows
@@ -112,7 +111,7 @@ module _ (owner : ℕ → ℕ) (events : ℕ) (bounds guard : List Difference) (
 
   -- of each shared bound, both sides are apart once they are split
   apart : All (λ b. is_shared owner b ≡ true → All (IsApart split) (arcs_of b)) bounds
-  apart = all_passing (is_shared owner) (λ b. All (IsApart split) (arcs_of b)) bounds
+  apart = All-passing (is_shared owner) (λ b. All (IsApart split) (arcs_of b)) bounds
       (all_of_pieces arcs_of (IsApart split) (filter (is_shared owner) bounds) left.apart)
 
   -- what is met of each horizon bound
@@ -155,10 +154,10 @@ module _ (owner : ℕ → ℕ) (events : ℕ) (bounds guard : List Difference) (
 
   split_from_guarded : (time : ℕ → ℤ) → IsSchedule (bounds ++ guard) time → IsSchedule split time
   split_from_guarded time schedule =
-      let met = all_front (Meets time) bounds guard schedule.met in
-      let within = shared_within time schedule.origin (all_behind (Meets time) bounds guard schedule.met) (horizon_met (Meets time) met) in
+      let met = All-left (Meets time) bounds guard schedule.met in
+      let within = shared_within time schedule.origin (All-right (Meets time) bounds guard schedule.met) (horizon_met (Meets time) met) in
       left.after time (record { origin = schedule.origin; met = met })
-      (all_pieces arcs_of Within (filter (is_shared owner) bounds) (all_filtered (is_shared owner) (λ b. All Within (arcs_of b)) bounds
+      (all_pieces arcs_of Within (filter (is_shared owner) bounds) (All-filter_passing (is_shared owner) (λ b. All Within (arcs_of b)) bounds
       (λ k d h shared. sides (get_or bounds k d) (within k d h shared))))
     where
       Within : Arc → Type 0
@@ -175,17 +174,17 @@ module _ (owner : ℕ → ℕ) (events : ℕ) (bounds guard : List Difference) (
   guard_met time each = λ k d h.
       let b = get_or guard k d in
       let single = windows_all owner events bounds split guard is.made.windows (λ b. b.from ≡ 0) (λ event after most. refl) k d h in
-      all_behind (λ b. is_own owner (owner (get_or guard k d).to) b ≡ true → Meets time b) bounds guard (own_met owner (owner b.to) (bounds ++ guard) time (each (owner b.to))) k d h
-      (both _ _ (at_origin owner (owner b.to) b.from single) (at_owner owner b.to))
+      All-right (λ b. is_own owner (owner (get_or guard k d).to) b ≡ true → Meets time b) bounds guard (own_met owner (owner b.to) (bounds ++ guard) time (each (owner b.to))) k d h
+      (and_from _ _ (at_origin owner (owner b.to) b.from single) (at_owner owner b.to))
 
   enough : (time : ℕ → ℤ) → ((site : ℕ) → IsSchedule (own_bounds owner site (bounds ++ guard)) time) → IsSchedule (bounds ++ guard) time
   enough time each =
       let origin = (each 0).origin in
       let own : (site : ℕ) → All (λ b. is_own owner site b ≡ true → Meets time b) bounds = (λ site.
-      all_front (λ b. is_own owner site b ≡ true → Meets time b) bounds guard (own_met owner site (bounds ++ guard) time (each site))) in
+      All-left (λ b. is_own owner site b ≡ true → Meets time b) bounds guard (own_met owner site (bounds ++ guard) time (each site))) in
       let far : (event : ℕ) → 0 < event → event ≤ events → Meets time (horizon_bound event) = (λ event after most.
       horizon_met (λ b. is_own owner (owner event) b ≡ true → Meets time b) (own (owner event)) event after most
-      (both _ _ (at_origin owner (owner event) 0 refl) (at_owner owner event))) in
+      (and_from _ _ (at_origin owner (owner event) 0 refl) (at_owner owner event))) in
       let guarded = guard_met time each in
       let shared = shared_met time origin guarded far in
       record {

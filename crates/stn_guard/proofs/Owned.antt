@@ -1,38 +1,11 @@
-use Rattle.std.proofs.Common.{◌≡◌, ℕ, ◌+◌, Bool, true, false, cond, not, ◌&&◌, ◌||◌, eqb, List, [], ◌∷◌, ◌++◌, length, inl, inr, refl, sym, ap, subst, ◌∙◌, arith, get_or-append-add, length-append}
-use Rattle.std.proofs.{lemmas.List.get_or_append_left, lemmas.Bool.false≢true, lemmas.Bool.and_parts, lemmas.Bool.Decides.eqb_tells}
-use Rattle.std.specs.Prelude.{◌⊎◌, ◌≢◌, All, filter, flat_map}
+use Rattle.std.proofs.Common.{◌≡◌, ℕ, true, not, ◌&&◌, ◌||◌, eqb, List, [], ◌∷◌, inl, inr, refl, sym, ap, subst, ◌∙◌}
+use Rattle.std.proofs.{lemmas.Bool.false≢true, lemmas.Bool.and_parts, lemmas.Bool.Decides.eqb_tells}
+use Rattle.std.specs.Prelude.{◌⊎◌, ◌≢◌, All, flat_map}
 use Rattle.std.proofs.lemmas.List.Elements.{All-nil, All-cons, All-head, All-tail, All-append}
+use Rattle.std.proofs.lemmas.Bool.{and_from}
+use Rattle.stn_time.proofs.Each.{All-left, All-right}
 use Rattle.stn_net.specs.Difference.{Difference}
 use Rattle.stn_guard.specs.Owners.{is_at, is_own, is_shared}
-
--- what holds of all of two lists together holds of all of each
-pub all_front : {X : Type 0} (P : X → Type 0) (xs ys : List X) → All P (xs ++ ys) → All P xs
-all_front P xs ys all = λ k d h. subst P (get_or_append_left xs ys d k h) (all k d (omega (arith, length-append xs ys)))
-
-pub all_behind : {X : Type 0} (P : X → Type 0) (xs ys : List X) → All P (xs ++ ys) → All P ys
-all_behind P xs ys all = λ k d h. subst P (get_or-append-add xs ys k d) (all (length xs + k) d (omega (arith, length-append xs ys)))
-
--- what holds of all that pass a test
-filter_step : {X : Type 0} (p : X → Bool) (P : X → Type 0) (x : X) (xs : List X) (test : Bool) → p x ≡ test
-    → All P (cond test (x ∷ filter p xs) (filter p xs)) → (p x ≡ true → P x) × All P (filter p xs)
-filter_step p P x xs true e all = ((λ _. All-head P x (filter p xs) all), All-tail P x (filter p xs) all)
-filter_step p P x xs false e all = ((λ passes. absurd (false≢true (sym e ∙ passes))), all)
-
-pub all_passing : {X : Type 0} (p : X → Bool) (P : X → Type 0) (xs : List X) → All P (filter p xs) → All (λ x. p x ≡ true → P x) xs
-all_passing {X} p P [] all = All-nil (λ (x : X). p x ≡ true → P x)
-all_passing {X} p P (x ∷ xs) all =
-    let step = filter_step p P x xs (p x) refl all in
-    All-cons (λ (y : X). p y ≡ true → P y) x xs step.0 (all_passing p P xs step.1)
-
-filter_back : {X : Type 0} (p : X → Bool) (P : X → Type 0) (x : X) (xs : List X) (test : Bool) → p x ≡ test
-    → (p x ≡ true → P x) → All P (filter p xs) → All P (cond test (x ∷ filter p xs) (filter p xs))
-filter_back p P x xs true e here rest = All-cons P x (filter p xs) (here e) rest
-filter_back p P x xs false e here rest = rest
-
-pub all_filtered : {X : Type 0} (p : X → Bool) (P : X → Type 0) (xs : List X) → All (λ x. p x ≡ true → P x) xs → All P (filter p xs)
-all_filtered {X} p P [] all = All-nil P
-all_filtered {X} p P (x ∷ xs) all =
-    filter_back p P x xs (p x) refl (All-head (λ (y : X). p y ≡ true → P y) x xs all) (all_filtered p P xs (All-tail (λ (y : X). p y ≡ true → P y) x xs all))
 
 -- what holds of all of the pieces, one after the other
 pub all_pieces : {X Y : Type 0} (f : X → List Y) (P : Y → Type 0) (xs : List X) → All (λ x. All P (f x)) xs → All P (flat_map f xs)
@@ -43,7 +16,7 @@ all_pieces {X} f P (x ∷ xs) all =
 pub all_of_pieces : {X Y : Type 0} (f : X → List Y) (P : Y → Type 0) (xs : List X) → All P (flat_map f xs) → All (λ x. All P (f x)) xs
 all_of_pieces {X} f P [] all = All-nil (λ (x : X). All P (f x))
 all_of_pieces {X} f P (x ∷ xs) all =
-    All-cons (λ (y : X). All P (f y)) x xs (all_front P (f x) (flat_map f xs) all) (all_of_pieces f P xs (all_behind P (f x) (flat_map f xs) all))
+    All-cons (λ (y : X). All P (f y)) x xs (All-left P (f x) (flat_map f xs) all) (all_of_pieces f P xs (All-right P (f x) (flat_map f xs) all))
 
 -- an event that is at a site is the origin, or the site owns it
 pub at_cases : (owner : ℕ → ℕ) (site event : ℕ) → is_at owner site event ≡ true → (event ≡ 0) ⊎ ((event ≢ 0) × (owner event ≡ site))
@@ -74,19 +47,15 @@ at_origin owner site event e = elim (eqb_tells event 0) [
   | inr beside ↦ absurd (beside.1 e)
 ]
 
-pub both : (one other : Bool) → one ≡ true → other ≡ true → (one && other) ≡ true
-both true other e f = f
-both false other e f = absurd (false≢true e)
-
 -- a bound is its events' owner's own, or shared
 pub own_or_shared : (owner : ℕ → ℕ) (bound : Difference) → ((site : ℕ) × (is_own owner site bound ≡ true)) ⊎ (is_shared owner bound ≡ true)
 own_or_shared owner bound = elim (eqb_tells bound.from 0) [
-  | inl origin ↦ inl (owner bound.to, both _ _ (at_origin owner (owner bound.to) bound.from origin.1) (at_owner owner bound.to))
+  | inl origin ↦ inl (owner bound.to, and_from _ _ (at_origin owner (owner bound.to) bound.from origin.1) (at_owner owner bound.to))
   | inr from ↦ elim (eqb_tells bound.to 0) [
-    | inl origin ↦ inl (owner bound.from, both _ _ (at_owner owner bound.from) (at_origin owner (owner bound.from) bound.to origin.1))
+    | inl origin ↦ inl (owner bound.from, and_from _ _ (at_owner owner bound.from) (at_origin owner (owner bound.from) bound.to origin.1))
     | inr to ↦ elim (eqb_tells (owner bound.from) (owner bound.to)) [
-      | inl same ↦ inl (owner bound.to, both _ _ (subst (λ site. is_at owner site bound.from ≡ true) same.1 (at_owner owner bound.from)) (at_owner owner bound.to))
-      | inr differ ↦ inr (both _ _ (ap not from.0) (both _ _ (ap not to.0) (ap not differ.0)))
+      | inl same ↦ inl (owner bound.to, and_from _ _ (subst (λ site. is_at owner site bound.from ≡ true) same.1 (at_owner owner bound.from)) (at_owner owner bound.to))
+      | inr differ ↦ inr (and_from _ _ (ap not from.0) (and_from _ _ (ap not to.0) (ap not differ.0)))
     ]
   ]
 ]

@@ -2,6 +2,10 @@
 use Rattle.std.proofs.Common.{◌≡◌, inl, inr, ⊎_elim, ℕ, true, false, not, List, [], ◌∷◌, ◌++◌, map, Some, refl, sym, ap, subst, ◌∙◌}
 use Rattle.std.specs.Prelude.{All}
 use Rattle.std.proofs.lemmas.List.Elements.{All-nil, All-cons, All-head, All-tail, All-append}
+use Rattle.std.proofs.lemmas.Bool.{and_parts}
+use Rattle.std.proofs.lemmas.List.{map_push}
+use Rattle.stn_replica.proofs.Live.{All-passing, All-filter_passing}
+use Rattle.stn_time.proofs.Each.{All-left, All-right}
 use Rattle.stn_net.specs.{Difference.Difference, Schedule.Meets}
 use Rattle.stn_lift.specs.PlanSource.{PlanSource, base_bounds}
 use Rattle.stn_records.specs.{Id.SiteCounter, declared.record.Record.Record, ContentLaws.contents_join}
@@ -9,9 +13,8 @@ use Rattle.stn_records.specs.Content.{Content, HasItem, IsPart, join_contents, i
 use Rattle.stn_records.proofs.Counters.{next_is_new}
 use Rattle.stn_site.specs.{Bounds.live_bounds, Bounds.all_bounds, Held.Held, Calls.added, Calls.took, Calls.Leaves, Calls.AllLeave}
 use Rattle.stn_site.proofs.Items.{addition_items}
-use Rattle.stn_replica.proofs.{Changes.IsGrown, Changes.grown_with_record, Live.LiveHold, Live.live_from_bounds, Live.bounds_from_live, Live.left_true, Live.new_hold, Live.old_hold}
+use Rattle.stn_replica.proofs.{Changes.IsGrown, Changes.grown_with_record, Live.LiveHold, Live.live_from_bounds, Live.bounds_from_live, Live.new_hold, Live.old_hold}
 use Rattle.stn_guard.specs.{Owners.is_own, Guard.Guards, Adding.AddsEach, Putting.AllPut, Putting.PutsEach}
-use Rattle.stn_guard.proofs.Owned.{all_front, all_behind, all_passing, all_filtered}
 
 abbrev pub Numbered : Type 0
 Numbered = SiteCounter × Difference
@@ -19,18 +22,11 @@ Numbered = SiteCounter × Difference
 abbrev pub bounds_in : List Numbered → List Difference
 bounds_in records = map (λ (one : Numbered). one.1) records
 
-map_push : {X Y : Type 0} (f : X → Y) (xs : List X) (x : X) → map f (xs ++ x ∷ []) ≡ map f xs ++ f x ∷ []
-map_push f [] x = refl
-map_push f (y ∷ xs) x = ap (λ l. f y ∷ l) (map_push f xs x)
-
 -- one more
 put_more : (site : ℕ) (old : Content) (records : List Numbered) (mid : Content) (id : SiteCounter) (bound : Difference) → AllPut site old records mid
     → id ≡ record { site = site; counter = next_counter mid site } → AllPut site old (records ++ (id, bound) ∷ []) (with_record mid id (plain bound))
 put_more site old [] mid id bound is next = (next ∙ ap (λ (s : Content). record { site = site; counter = next_counter s site }) is, ap (λ (s : Content). with_record s id (plain bound)) is)
 put_more site old (one ∷ records) mid id bound (first, rest) next = (first, put_more site (with_record old one.0 (plain one.1)) records mid id bound rest next)
-
-pub puts_none : (site : ℕ) (old : Content) → PutsEach site old [] [] old
-puts_none site old = record { records = []; bounds_are = refl; ids_are = refl; put = refl }
 
 pub puts_more : (site : ℕ) (old : Content) (bounds : List Difference) (ids : List SiteCounter) (mid new : Content) (bound : Difference) (id : SiteCounter) → PutsEach site old bounds ids mid
     → id ≡ record { site = site; counter = next_counter mid site } → new ≡ with_record mid id (plain bound) → PutsEach site old (bounds ++ bound ∷ []) (ids ++ id ∷ []) new
@@ -101,24 +97,24 @@ module _ (P : Difference → Type 0) (site : ℕ) where
       let more = grown site old one id in
       let back = hold_before next records new put live in (
         old_hold P old next more.extends more.keeps back.0,
-        All-cons P one.1 (bounds_in records) (back.0 one.0 (plain one.1) more.there (left_true (is_live next one.0) (not (is_live old one.0)) more.rose)) back.1,
+        All-cons P one.1 (bounds_in records) (back.0 one.0 (plain one.1) more.there (and_parts (is_live next one.0) (not (is_live old one.0)) more.rose).0) back.1,
       )
 
   module _ (base : List Difference) (old : Content) (records : List Numbered) (new : Content) (put : AllPut site old records new) where
     all_after : All P ((base ++ live_bounds old) ++ bounds_in records) → All P ((base ++ live_bounds new) ++ [])
     all_after all =
-        let before = all_front P (base ++ live_bounds old) (bounds_in records) all in
+        let before = All-left P (base ++ live_bounds old) (bounds_in records) all in
         All-append P (base ++ live_bounds new) []
-        (All-append P base (live_bounds new) (all_front P base (live_bounds old) before)
-        (bounds_from_live P new (hold_after old records new put (live_from_bounds P old (all_behind P base (live_bounds old) before)) (all_behind P (base ++ live_bounds old) (bounds_in records) all))))
+        (All-append P base (live_bounds new) (All-left P base (live_bounds old) before)
+        (bounds_from_live P new (hold_after old records new put (live_from_bounds P old (All-right P base (live_bounds old) before)) (All-right P (base ++ live_bounds old) (bounds_in records) all))))
         (All-nil P)
 
     all_before : All P ((base ++ live_bounds new) ++ []) → All P ((base ++ live_bounds old) ++ bounds_in records)
     all_before all =
-        let after = all_front P (base ++ live_bounds new) [] all in
-        let back = hold_before old records new put (live_from_bounds P new (all_behind P base (live_bounds new) after)) in
+        let after = All-left P (base ++ live_bounds new) [] all in
+        let back = hold_before old records new put (live_from_bounds P new (All-right P base (live_bounds new) after)) in
         All-append P (base ++ live_bounds old) (bounds_in records)
-        (All-append P base (live_bounds old) (all_front P base (live_bounds new) after) (bounds_from_live P old back.0)) back.1
+        (All-append P base (live_bounds old) (All-left P base (live_bounds new) after) (bounds_from_live P old back.0)) back.1
 
 -- what a site holds once it added its guard needs no further one
 pub guards_held : (owner : ℕ → ℕ) (site : ℕ) (base : List Difference) (old : Content) (records : List Numbered) (new : Content) → AllPut site old records new
@@ -130,9 +126,9 @@ guards_held owner site base old records new put guards = record {
       let whole = guards.enough time (λ at.
       let its = own at in record {
         origin = its.origin;
-        met = all_filtered (is_own owner at) (Meets time) ((base ++ live_bounds old) ++ bounds_in records)
+        met = All-filter_passing (is_own owner at) (Meets time) ((base ++ live_bounds old) ++ bounds_in records)
             (all_before (λ bound. is_own owner at bound ≡ true → Meets time bound) site base old records new put
-            (all_passing (is_own owner at) (Meets time) ((base ++ live_bounds new) ++ []) its.met));
+            (All-passing (is_own owner at) (Meets time) ((base ++ live_bounds new) ++ []) its.met));
       }) in
       record { origin = whole.origin; met = all_after (Meets time) site base old records new put whole.met };
 }

@@ -2,10 +2,11 @@
 use Rattle.std.proofs.Common.{◌≡◌, ℤ, ◌-ℤ◌, ◌≤ℤ◌, ◌<ℤ◌, Bool, true, false, cond, List, [], ◌∷◌, ◌++◌, refl, sym, ap, subst, ◌∙◌, arith, append-nil, append_assoc}
 use Rattle.std.specs.Prelude.{◌↔◌, IsTrue}
 use Rattle.std.proofs.{lemmas.Int.ints, lemmas.List.Elements.All-head}
+use Rattle.stn_replica.proofs.Schedules.{schedule_before}
 use Rattle.stn_net.specs.{Difference.Difference, Schedule.HasSchedule, Matrix.Table.Table, Matrix.Tightest.IsExact}
 use Rattle.stn_net.specs.Windows.Window.{IsWindow}
 use Rattle.stn_guard.specs.{declared.splitting.Arc.Arc, Making.window_bound, Making.is_implied, Making.split_time, Splitting.MeetsArc, Splitting.LeavesTime, Splitting.CanSplit, Splitting.Splits}
-use Rattle.stn_guard.proofs.Split.{HasEnds, front_schedule, middle_leaves_time, splitting, splitting_possible}
+use Rattle.stn_guard.proofs.Split.{HasEnds, middle_leaves_time, splitting, splitting_possible}
 
 -- these are the windows of the arc's events, whatever bounds the table is exact for
 pub record AreEnds (arc : Arc) (table : Table) (from to : ℤ × ℤ) : Type 0 where
@@ -66,7 +67,7 @@ two_to_split arc old middle new from to ends wider first second = λ bounds can.
     let known = ends_known bounds arc old from to can ends in
     let e : (bounds ++ one ∷ []) ++ other ∷ [] ≡ bounds ++ splitting arc from to time = append_assoc bounds (one ∷ []) (other ∷ []) in
     let whole : HasSchedule ((bounds ++ one ∷ []) ++ other ∷ []) = subst HasSchedule (sym e) (splitting_possible bounds arc from to time known (middle_leaves_time bounds arc from to known wider)) in
-    let exact = second (bounds ++ one ∷ []) (first bounds can.exact (whole.0, front_schedule (bounds ++ one ∷ []) (other ∷ []) whole.0 whole.1)) whole in
+    let exact = second (bounds ++ one ∷ []) (first bounds can.exact (whole.0, schedule_before (bounds ++ one ∷ []) (other ∷ []) whole.0 whole.1)) whole in
     let implied : is_implied arc from to ≡ false = grind (arith, ints) in (
       bounds ++ splitting arc from to time,
       (

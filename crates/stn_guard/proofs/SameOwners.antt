@@ -1,16 +1,14 @@
 -- Owners that agree on the events that bounds name have the same guard.
-use Rattle.std.proofs.Common.{◌≡◌, ◌≢◌, ℕ, zero, suc, ◌+◌, ◌<◌, ◌≤◌, Bool, not, ◌&&◌, ◌||◌, eqb, List, [], ◌∷◌, ◌++◌, get_or, map, inl, inr, refl, sym, ap, subst, ◌∙◌, arith}
+use Rattle.std.proofs.Common.{◌≡◌, ℕ, ◌+◌, ◌<◌, ◌≤◌, Bool, not, ◌&&◌, ◌||◌, eqb, List, [], ◌∷◌, ◌++◌, get_or, map, inl, inr, refl, sym, ap, subst, ◌∙◌, arith}
 use Rattle.std.specs.{Prelude.All, Prelude.flat_map, List.list_any, List.range_with_len}
 use Rattle.std.proofs.{lemmas.Bool.Decides.eqb_tells, lemmas.List.FromFn.length-map-range_with_len, lemmas.List.FromFn.get_or-map-range_with_len}
 use Rattle.std.proofs.lemmas.List.Elements.{All-head, All-tail, All-append}
+use Rattle.std.proofs.Math.Nat.{pos_of_ne-zero}
+use Rattle.stn_replica.proofs.Live.{All-filter_passing}
 use Rattle.stn_net.specs.{Difference.Difference, Difference.NamesEvents, Schedule.IsSchedule}
 use Rattle.stn_guard.specs.{Owners.is_at, Owners.is_own, Owners.own_bounds, Owners.is_shared, Guard.Guards}
 use Rattle.stn_guard.specs.Making.{arcs_of, shared_arcs, window_bound, is_named, says_more, AreSplit, AreWindows, IsGuardOf}
-use Rattle.stn_guard.proofs.{Owned.all_filtered, Whole.filter_same}
-
-beside_zero : (n : ℕ) → n ≢ 0 → 0 < n
-beside_zero zero beside = absurd (beside refl)
-beside_zero (suc n) beside = omega arith
+use Rattle.stn_guard.proofs.{Whole.filter_same}
 
 any_same : {X : Type 0} (p q : X → Bool) (xs : List X) → All (λ x. p x ≡ q x) xs → list_any p xs ≡ list_any q xs
 any_same p q [] same = refl
@@ -20,7 +18,7 @@ any_same p q (x ∷ xs) same = λ i. All-head (λ y. p y ≡ q y) x xs same i ||
 pub guard_named : (owner : ℕ → ℕ) (events : ℕ) (bounds within guard : List Difference) → AreWindows owner events bounds within guard → All (NamesEvents events) guard
 guard_named owner events bounds within guard windows =
     subst (All (NamesEvents events)) (sym windows.windows_are)
-    (all_filtered (λ bound. is_named owner bounds bound.to && says_more bound) (NamesEvents events) (map at (range_with_len 1 events))
+    (All-filter_passing (λ bound. is_named owner bounds bound.to && says_more bound) (NamesEvents events) (map at (range_with_len 1 events))
     (λ k d h passes.
     let few : k < events = omega (arith, length-map-range_with_len at 1 events) in
     subst (NamesEvents events) (sym (get_or-map-range_with_len at 1 events k (1 + k) d few refl)) (record { from = omega arith; to = omega arith })))
@@ -32,7 +30,7 @@ module _ (one other : ℕ → ℕ) (events : ℕ) (same : (event : ℕ) → 0 < 
   same_at : (site event : ℕ) → event ≤ events → is_at one site event ≡ is_at other site event
   same_at site event within = elim (eqb_tells event 0) [
     | inl origin ↦ ap (λ t. t || eqb (one event) site) origin.0 ∙ sym (ap (λ t. t || eqb (other event) site) origin.0)
-    | inr beside ↦ ap (λ n. eqb event 0 || eqb n site) (same event (beside_zero event beside.1) within)
+    | inr beside ↦ ap (λ n. eqb event 0 || eqb n site) (same event (pos_of_ne-zero beside.1) within)
   ]
 
   same_own : (site : ℕ) (bound : Difference) → NamesEvents events bound → is_own one site bound ≡ is_own other site bound
@@ -46,7 +44,7 @@ module _ (one other : ℕ → ℕ) (events : ℕ) (same : (event : ℕ) → 0 < 
       | inl origin ↦ ap (λ t. not (eqb bound.from 0) && (not t && not (eqb (one bound.from) (one bound.to)))) origin.0
           ∙ sym (ap (λ t. not (eqb bound.from 0) && (not t && not (eqb (other bound.from) (other bound.to)))) origin.0)
       | inr to ↦ λ i. not (eqb bound.from 0) && (not (eqb bound.to 0)
-          && not (eqb (same bound.from (beside_zero bound.from from.1) named.from i) (same bound.to (beside_zero bound.to to.1) named.to i)))
+          && not (eqb (same bound.from (pos_of_ne-zero from.1) named.from i) (same bound.to (pos_of_ne-zero to.1) named.to i)))
     ]
   ]
 

@@ -3,11 +3,12 @@ use Rattle.std.proofs.Common.{◌≡◌, ℕ, ℤ, pos, negsuc, ◌+ℤ◌, ◌-
 use Rattle.std.specs.{Prelude.All, Int.int_min, Int.int_max, Int.int_div_euclid}
 use Rattle.std.proofs.lemmas.Int.{ints, clamps}
 use Rattle.std.proofs.lemmas.List.Elements.{All-nil, All-cons, All-head, All-tail, All-append, All-weaker}
+use Rattle.stn_replica.proofs.Schedules.{schedule_before}
+use Rattle.stn_time.proofs.Each.{All-right}
 use Rattle.stn_net.specs.{Difference.Difference, Schedule.Meets, Schedule.IsSchedule, Schedule.HasSchedule}
 use Rattle.stn_net.specs.Windows.Window.{IsInWindow, IsWindow}
 use Rattle.stn_net.proofs.WindowEnds.{lesser_schedule}
 use Rattle.stn_guard.specs.{declared.splitting.Arc.Arc, Making.window_bound, Making.is_implied, Making.split_time, Making.IsSplit, Making.AreSplit, Splitting.LeavesTime, Splitting.MeetsArc}
-use Rattle.stn_guard.proofs.Owned.{all_front, all_behind}
 
 -- half of a number, rounded down
 pub half_of : (z : ℤ) → ((int_div_euclid z (pos 2) +ℤ int_div_euclid z (pos 2)) ≤ℤ z) × (z ≤ℤ ((int_div_euclid z (pos 2) +ℤ int_div_euclid z (pos 2)) +ℤ pos 1))
@@ -107,8 +108,8 @@ IsApart bounds arc = (one other : ℕ → ℤ) → IsSchedule bounds one → IsS
 
 splitting_apart : (bounds : List Difference) (arc : Arc) (from to : ℤ × ℤ) (time : ℤ) → IsApart (bounds ++ splitting arc from to time) arc
 splitting_apart bounds arc from to time one other is_one is_other =
-    let ones = all_behind (Meets one) bounds (splitting arc from to time) is_one.met in
-    let others = all_behind (Meets other) bounds (splitting arc from to time) is_other.met in
+    let ones = All-right (Meets one) bounds (splitting arc from to time) is_one.met in
+    let others = All-right (Meets other) bounds (splitting arc from to time) is_other.met in
     let from_met = All-head (Meets one) (window_bound arc.from (time -ℤ arc.weight, from.1)) [] (All-tail (Meets one) (window_bound arc.to (to.0, time)) (window_bound arc.from (time -ℤ arc.weight, from.1) ∷ []) ones) in
     let to_met = All-head (Meets other) (window_bound arc.to (to.0, time)) (window_bound arc.from (time -ℤ arc.weight, from.1) ∷ []) others in
     let a = is_one.origin in
@@ -122,18 +123,15 @@ pub record IsLeft (bounds : List Difference) (arc : Arc) (next : List Difference
   pub apart : IsApart next arc
   pub after : (time from to : ℕ → ℤ) → IsSchedule bounds time → IsSchedule next from → time arc.from ≡ from arc.from → IsSchedule next to → time arc.to ≡ to arc.to → IsSchedule next time
 
-pub front_schedule : (xs ys : List Difference) (time : ℕ → ℤ) → IsSchedule (xs ++ ys) time → IsSchedule xs time
-front_schedule xs ys time schedule = record { origin = schedule.origin; met = all_front (Meets time) xs ys schedule.met }
-
 splitting_left : (bounds : List Difference) (arc : Arc) (from to : ℤ × ℤ) (time : ℤ) → HasSchedule (bounds ++ splitting arc from to time)
     → IsLeft bounds arc (bounds ++ splitting arc from to time)
 splitting_left bounds arc from to time possible = record {
   possible = possible;
-  before = front_schedule bounds (splitting arc from to time);
+  before = schedule_before bounds (splitting arc from to time);
   apart = splitting_apart bounds arc from to time;
   after = λ times one other schedule is_one from_same is_other to_same.
-      let ones = all_behind (Meets one) bounds (splitting arc from to time) is_one.met in
-      let others = all_behind (Meets other) bounds (splitting arc from to time) is_other.met in
+      let ones = All-right (Meets one) bounds (splitting arc from to time) is_one.met in
+      let others = All-right (Meets other) bounds (splitting arc from to time) is_other.met in
       let from_met = All-head (Meets one) (window_bound arc.from (time -ℤ arc.weight, from.1)) [] (All-tail (Meets one) (window_bound arc.to (to.0, time)) (window_bound arc.from (time -ℤ arc.weight, from.1) ∷ []) ones) in
       let to_met = All-head (Meets other) (window_bound arc.to (to.0, time)) (window_bound arc.from (time -ℤ arc.weight, from.1) ∷ []) others in
       record {

@@ -3,9 +3,11 @@ use Rattle.std.proofs.Common.{◌≡◌, ◌≢◌, ℕ, ◌+◌, ◌<◌, ℤ, 
 use Rattle.std.specs.Prelude.{All, filter, flat_map}
 use Rattle.std.proofs.{lemmas.List.take-append-drop, lemmas.List.take_more, lemmas.List.Concat.flat_map-append}
 use Rattle.std.proofs.lemmas.List.Elements.{All-nil, All-cons, All-weaker, filter-append}
+use Rattle.stn_replica.proofs.Live.{All-filter_passing}
+use Rattle.stn_time.proofs.Each.{All-left, All-right}
 use Rattle.stn_net.specs.{Difference.Difference, Difference.NamesEvents, Schedule.IsSchedule, Matrix.Table.Table, Matrix.Tightest.IsExact}
 use Rattle.stn_guard.specs.{declared.splitting.Arc.Arc, Owners.is_shared, Making.arcs_of, Making.shared_arcs, Making.AreSplit, Splitting.NamesEnds, Splitting.MeetsArc, Splitting.CanSplit, Splitting.Splits}
-use Rattle.stn_guard.proofs.{Owned.all_front, Owned.all_behind, Owned.all_pieces, Owned.all_filtered, Owned.shared_parts, Split.Implies, Split.are_left, Made.arcs_implied}
+use Rattle.stn_guard.proofs.{Owned.all_pieces, Owned.shared_parts, Split.Implies, Split.are_left, Made.arcs_implied}
 
 -- each of the arcs is implied
 pub each_implied : (bounds : List Difference) (arcs : List Arc) → ((time : ℕ → ℤ) → IsSchedule bounds time → All (MeetsArc time) arcs) → All (Implies bounds) arcs
@@ -19,8 +21,8 @@ split_on (arc ∷ these) those bounds middle split first second = (first.0, firs
 pub can_front : (bounds : List Difference) (these those : List Arc) (table : Table) → CanSplit bounds (these ++ those) table → CanSplit bounds these table
 can_front bounds these those table can = record {
   exact = can.exact;
-  implied = λ time schedule. all_front (MeetsArc time) these those (can.implied time schedule);
-  named = all_front (NamesEnds table.events) these those can.named;
+  implied = λ time schedule. All-left (MeetsArc time) these those (can.implied time schedule);
+  named = All-left (NamesEnds table.events) these those can.named;
 }
 
 -- once the first arcs are split, the others can be
@@ -40,8 +42,8 @@ can_behind bounds these those old new can splits same =
       split = done.1;
       can = record {
         exact = done.2;
-        implied = λ time schedule. all_behind (MeetsArc time) these those (can.implied time (left.before time schedule));
-        named = rw same (all_behind (NamesEnds old.events) these those can.named);
+        implied = λ time schedule. All-right (MeetsArc time) these those (can.implied time (left.before time schedule));
+        named = rw same (All-right (NamesEnds old.events) these those can.named);
       };
     }
 
@@ -104,7 +106,7 @@ can_shared owner bounds table exact =
       exact = exact;
       implied = λ time schedule. All-weaker (Implies bounds) (MeetsArc time) (λ arc given. given time schedule) (shared_arcs owner bounds) implied;
       named = all_pieces arcs_of (NamesEnds table.events) (filter (is_shared owner) bounds)
-          (all_filtered (is_shared owner) (λ b. All (NamesEnds table.events) (arcs_of b)) bounds (λ k d h shared. sides (get_or bounds k d) (exact.named k d h) (shared_parts owner (get_or bounds k d) shared)));
+          (All-filter_passing (is_shared owner) (λ b. All (NamesEnds table.events) (arcs_of b)) bounds (λ k d h shared. sides (get_or bounds k d) (exact.named k d h) (shared_parts owner (get_or bounds k d) shared)));
     }
   where
     sides : (b : Difference) → NamesEvents table.events b → (b.from ≢ 0) × (b.to ≢ 0) × (owner b.from ≢ owner b.to) → All (NamesEnds table.events) (arcs_of b)

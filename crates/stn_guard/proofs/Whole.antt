@@ -1,15 +1,17 @@
 -- The windows of a matrix in which all shared bounds were split are the guard.
-use Rattle.std.proofs.Common.{◌≡◌, ℕ, zero, suc, take, replicate, ◌+◌, ◌<◌, ◌≤◌, ℤ, Bool, false, cond, ◌&&◌, ◌||◌, eqb, List, [], ◌∷◌, ◌++◌, length, get_or, map, refl, sym, ap, subst, ◌∙◌, arith}
-use Rattle.std.specs.Prelude.{All, filter, Result, Ok, Err, IfOk}
+use Rattle.std.proofs.Common.{◌≡◌, ℕ, take, replicate, ◌+◌, ◌<◌, ◌≤◌, ℤ, Bool, false, cond, ◌&&◌, ◌||◌, eqb, List, [], ◌∷◌, ◌++◌, length, get_or, map, refl, sym, ap, subst, ◌∙◌, arith}
+use Rattle.std.specs.Prelude.{All, filter}
 use Rattle.std.specs.List.{range_with_len}
 use Rattle.std.proofs.{lemmas.List.length-take, lemmas.List.take-append-le, lemmas.List.Folds.list_any-append, lemmas.List.FromFn.length-map-range_with_len, lemmas.List.FromFn.get_or-map-range_with_len}
 use Rattle.std.proofs.lemmas.List.Elements.{All-head, All-tail, All-weaker}
+use Rattle.stn_site.proofs.Flags.{get_or-replicate_same}
+use Rattle.stn_time.proofs.Each.{All-left, All-right}
 use Rattle.stn_net.specs.{Difference.Difference, Difference.NamesEvents, Horizon.horizon_bounds, Matrix.Table.Table, Matrix.Table.far_of, Matrix.Tightest.IsExact}
 use Rattle.stn_net.proofs.Horizons.{length-horizon_bounds}
 use Rattle.stn_net.proofs.WindowEnds.{window_of_exact}
 use Rattle.stn_guard.specs.{declared.splitting.Arc.Arc, Owners.is_shared, Making.shared_arcs, Making.window_bound, Making.is_named, Making.says_more, Making.IsGuardOf}
 use Rattle.stn_guard.specs.Splitting.{HasOwners, CanSplit, Splits, ends_of, is_kept, windows_of}
-use Rattle.stn_guard.proofs.{Steps.some_front, Steps.some_behind, Steps.splits_on, Steps.can_shared, Steps.arcs_append, Owned.all_front, Owned.all_behind}
+use Rattle.stn_guard.proofs.{Steps.some_front, Steps.some_behind, Steps.splits_on, Steps.can_shared, Steps.arcs_append}
 
 -- tests that agree on the elements of a list keep the same ones
 pub filter_same : {X : Type 0} (p q : X → Bool) (xs : List X) → All (λ x. p x ≡ q x) xs → filter p xs ≡ filter q xs
@@ -67,10 +69,10 @@ owned owners events bounds long named =
     All-weaker (NamesEvents events) (HasOwners owners) (λ b is. record { from = omega (arith, long, is.from); to = omega (arith, long, is.to) }) bounds named
 
 pub owned_front : (owners : List ℕ) (events : ℕ) (base extra : List Difference) → length owners ≡ events + 1 → All (NamesEvents events) (base ++ extra) → All (HasOwners owners) base
-owned_front owners events base extra long named = owned owners events base long (all_front (NamesEvents events) base extra named)
+owned_front owners events base extra long named = owned owners events base long (All-left (NamesEvents events) base extra named)
 
 pub owned_behind : (owners : List ℕ) (events : ℕ) (base extra : List Difference) → length owners ≡ events + 1 → All (NamesEvents events) (base ++ extra) → All (HasOwners owners) extra
-owned_behind owners events base extra long named = owned owners events extra long (all_behind (NamesEvents events) base extra named)
+owned_behind owners events base extra long named = owned owners events extra long (All-right (NamesEvents events) base extra named)
 
 -- the sides of both parts can be split
 can_both : (owner : ℕ → ℕ) (base extra : List Difference) (table : Table) → IsExact (base ++ extra) table
@@ -89,11 +91,6 @@ can_second owner base extra old new exact splits same = some_behind (shared_arcs
 pub exact_after : (arcs : List Arc) (old new : Table) → (known : List Difference) × CanSplit known arcs old → Splits arcs old new → (known : List Difference) × IsExact known new
 exact_after arcs old new can splits = let done = splits can.0 can.1 in (done.0, done.2)
 
-all_false : (n event : ℕ) → get_or (replicate n false) event false ≡ false
-all_false zero event = refl
-all_false (suc n) zero = refl
-all_false (suc n) (suc event) = all_false n event
-
 -- what is noted of both parts, in a list that was false
 pub noted : (owner : ℕ → ℕ) (base extra : List Difference) (n : ℕ) (items none first again second last : List Bool) → items ≡ replicate n false → none ≡ items
     → length first ≡ length none → ((event : ℕ) → event < length none → get_or first event false ≡ (get_or none event false || is_named owner base event))
@@ -102,14 +99,9 @@ pub noted : (owner : ℕ → ℕ) (base extra : List Difference) (n : ℕ) (item
     → last ≡ second → AreNamed owner (base ++ extra) last
 noted owner base extra n items none first again second last filled is long these same still those end =
     let at_first : AreNamed owner base first = (λ event within.
-    these event (omega (arith, long)) ∙ ap (λ t. t || is_named owner base event) (ap (λ xs. get_or xs event false) (is ∙ filled) ∙ all_false n event)) in
+    these event (omega (arith, long)) ∙ ap (λ t. t || is_named owner base event) (ap (λ xs. get_or xs event false) (is ∙ filled) ∙ get_or-replicate_same n false event)) in
     let then : AreNamed owner base again = subst (AreNamed owner base) (sym same) at_first in
     subst (AreNamed owner (base ++ extra)) (sym end) (named_both owner base extra again second still then those)
-
--- what follows of an answer
-pub if_ok : {X E : Type 0} (P Q : X → Type 0) → ((x : X) → P x → Q x) → (result : Result X E) → IfOk result P → IfOk result Q
-if_ok P Q more (Ok x) holds = more x holds
-if_ok P Q more (Err e) holds = tt
 
 -- the horizon bounds stand first in both parts together
 pub begins_both : (events : ℕ) (base extra : List Difference) → take events base ≡ horizon_bounds events → take events (base ++ extra) ≡ horizon_bounds events

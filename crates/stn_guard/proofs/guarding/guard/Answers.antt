@@ -1,11 +1,12 @@
 use Rattle.std.proofs.Common.{◌≡◌, ◌+◌, List, ◌++◌, length, subst, ◌∙◌, rules}
 use Rattle.std.specs.Vec.{with_items}
 use Rattle.std.proofs.lemmas.List.{with_items_is}
+use Rattle.std.proofs.lemmas.Result.{IfOk-weaker}
 use Rattle.stn_net.specs.Difference.{Difference}
 use Rattle.stn_net.specs.Matrix.Table.{far_of}
 use Rattle.stn_guard.specs.{Owners.owner_of, Guard.Guards, Making.shared_arcs, Making.AreWindows, Making.IsGuardOf, Splitting.windows_of}
 use Rattle.stn_guard.proofs.Made.{made_guard, made_windows}
-use Rattle.stn_guard.proofs.Whole.{can_first, can_second, exact_after, owned_front, owned_behind, AreNamed, noted, whole_guard, if_ok, begins_both}
+use Rattle.stn_guard.proofs.Whole.{can_first, can_second, exact_after, owned_front, owned_behind, AreNamed, noted, whole_guard, begins_both}
 use Rattle.stn_guard.proofs.guarding.guard.Goals as goal
 
 pub split_shared-requires-clause-can : goal.split_shared-requires-clause-can
@@ -55,9 +56,9 @@ returns g c =
     (c.split_shared-2.ensures.events ∙ c.split_shared.ensures.events) long named is)) in
     let begins = begins_both events c.args.base.now c.args.extra.now c.requires.begins in
     record {
-      guards = if_ok _ (λ guard. Guards owner bounds guard.items) (λ guard is. made_guard owner events bounds guard.items
-          (record { possible = c.requires.exact.possible; named = c.requires.exact.named; begins = begins; made = made guard.items is })) c.windows.result c.windows.ensures;
-      windows = if_ok _ (λ guard. AreWindows owner events bounds (bounds ++ guard.items) guard.items) (λ guard is. made_windows owner events bounds guard.items
-          (record { possible = c.requires.exact.possible; named = c.requires.exact.named; begins = begins; made = made guard.items is })) c.windows.result c.windows.ensures;
-      made = if_ok _ (λ guard. IsGuardOf owner events bounds guard.items) (λ guard is. made guard.items is) c.windows.result c.windows.ensures;
+      guards = IfOk-weaker c.windows.result _ (λ guard. Guards owner bounds guard.items) (λ guard is. made_guard owner events bounds guard.items
+          (record { possible = c.requires.exact.possible; named = c.requires.exact.named; begins = begins; made = made guard.items is })) c.windows.ensures;
+      windows = IfOk-weaker c.windows.result _ (λ guard. AreWindows owner events bounds (bounds ++ guard.items) guard.items) (λ guard is. made_windows owner events bounds guard.items
+          (record { possible = c.requires.exact.possible; named = c.requires.exact.named; begins = begins; made = made guard.items is })) c.windows.ensures;
+      made = IfOk-weaker c.windows.result _ (λ guard. IsGuardOf owner events bounds guard.items) (λ guard is. made guard.items is) c.windows.ensures;
     }
