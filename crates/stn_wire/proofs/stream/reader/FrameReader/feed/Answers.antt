@@ -13,4 +13,4 @@ returns-clause-fed g c =
     let whole : old.feeder.broken ≡ None = ap (λ (s : Stream). s.broken) c.self.view_is ∙ c.requires in
     let taken = subst (λ (s : Stream). IsTaken s.held rest fed.used fed.frame c.feed.new.self) c.self.view_is (c.in_ok-fed.ensures.fed whole) in
     fed_is c.args.self.now (record { held = c.feed.new.self.held; behind = drop (old.at + fed.used) old.piece.items; count = old.taken; broken = c.feed.new.self.broken }) old.piece.items old.at fed.used fed.frame rest
-        c.feed.new.self (ap (λ (s : Stream). s.behind) (sym c.self.view_is)) (take_rest c.deref.result.now old.at ∙ ap (drop old.at) c.deref.ensures.value) taken refl refl
+    c.feed.new.self (ap (λ (s : Stream). s.behind) (sym c.self.view_is)) (take_rest c.deref.result.now old.at ∙ ap (drop old.at) c.deref.ensures.value) taken refl refl

@@ -10,7 +10,7 @@ returns-in_err-more-clause-gives g c =
     let fed = rw c.in-Ok-None.field-0-is at c.in-Ok-None.ensures.fed in
     let i = c.pieces.invariant.bytes in
     rw (p.1, p.2) (fill_fails c.args.self.now c.feed.new.self c.fill.new.self _ _ _ i.0 i.1 (fed.1 ∙ i.2) (c.feed.ensures.count ∙ i.3) c.in_err-more.field-0.0
-        (subst (λ l. IsFront l unfinished) (sym fed.1) fed.0) c.feed.ensures.few c.in_err-more.ensures.filled)
+    (subst (λ l. IsFront l unfinished) (sym fed.1) fed.0) c.feed.ensures.few c.in_err-more.ensures.filled)
 
 pub pieces-preserved : goal.pieces-preserved
 pieces-preserved g c =
