@@ -1,23 +1,18 @@
 -- Known bytes over several calls of a device.
-use Rattle.std.proofs.Common.{◌≡◌, ℕ, ◌+◌, ◌<◌, ◌≤◌, List, ◌++◌, length, take, drop, Option, None, Some, IfSome, Result, Ok, Err, is_err, true, sym, ap, subst, ◌∙◌, arith, append_assoc, append-nil, length-append}
+use Rattle.std.proofs.Common.{◌≡◌, ℕ, ◌+◌, ◌-◌, ◌^◌, ◌<◌, ◌≤◌, min, List, ◌++◌, length, take, drop, Option, Result, Ok, Err, true, sym, ap, subst, ◌∙◌, arith, append_assoc, append-nil, length-append}
 use Rattle.std.proofs.{lemmas.Bool.false≢true, lemmas.List.take-append-drop, KnownBytes.Appends-trans, KnownBytes.Consumes-trans}
 use Rattle.std.specs.Io.KnownBytes.{Appends, Consumes}
 use Rattle.std.specs.Result.{is_ok, OnOk}
 use Rattle.stn_device.specs.Bytes.{ConsumesAtMost}
 
--- the fault of an answer
-abbrev pub fault_or : {X E : Type 0} → E → Result X E → E
-fault_or other (Ok given) = other
-fault_or other (Err fault) = fault
-
--- an answer that was given is no fault
-pub not_err : {X E : Type 0} (given : X) (fault : E) → (let answer : Result X E = Ok given in answer) ≡ Err fault → ⊥
-not_err given fault is = false≢true (ap is_err is)
-
 -- what an answer ensures where it was given
 pub on_given : {X E P : Type 0} (answer : Result X E) → true ≡ is_ok answer → OnOk answer P → P
 on_given (Ok given) is p = p
 on_given (Err fault) is p = absurd (false≢true (sym is))
+
+-- one more call failed
+pub fails_more : (first old new : ℕ) → new ≡ min (old + 1) (2 ^ 64 - 1) → old ≡ first → first < 2 ^ 64 - 1 → first < new
+fails_more first old new counts kept few = omega (arith, counts, kept, few)
 
 -- two reads in a row use what both use
 pub ConsumesAtMost-trans : (a b c : Option (List ℕ)) (bs cs : List ℕ) (n : ℕ) → Consumes a b bs → Consumes b c cs → length bs + length cs ≤ n → ConsumesAtMost a c n
@@ -26,13 +21,6 @@ ConsumesAtMost-trans a b c bs cs n p q le = (bs ++ cs, Consumes-trans a b c bs c
 -- a read that gave nothing uses no more
 pub Consumes-then_none : (a b c : Option (List ℕ)) (bs buf : List ℕ) (n : ℕ) → n ≡ 0 → Consumes a b bs → Consumes b c (take n buf) → Consumes a c bs
 Consumes-then_none a b c bs buf n none p q = subst (Consumes a c) (append-nil bs) (Consumes-trans a b c bs (take 0 buf) p (subst (λ k. Consumes b c (take k buf)) none q))
-
--- two reads show how long the known bytes are at least
-pub Consumes-longer : (a b c : Option (List ℕ)) (bs cs : List ℕ) (n : ℕ) → Consumes a b bs → Consumes b c cs → n < length bs + length cs → IfSome a (λ all. n < length all)
-Consumes-longer None b c bs cs n p q more = tt
-Consumes-longer (Some x) None c bs cs n p q more = absurd p
-Consumes-longer (Some x) (Some y) None bs cs n p q more = absurd q
-Consumes-longer (Some x) (Some y) (Some z) bs cs n p q more = omega (arith, ap length p, ap length q, length-append bs y, length-append cs z)
 
 -- a write that took n of the rest leaves what stands after them
 pub AppendsPart-more : (a b c : Option (List ℕ)) (all front rest behind : List ℕ) (n : ℕ) → all ≡ front ++ rest → Appends a b front → Appends b c (take n rest) → behind ≡ drop n rest

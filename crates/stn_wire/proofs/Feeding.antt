@@ -4,7 +4,7 @@ use Rattle.std.proofs.lemmas.Bool.{cases_lt}
 use Rattle.std.proofs.lemmas.List.{take_at, take_rest, drop_all, append-nil}
 use Rattle.stn_wire.specs.{Frame.FrameContent, Reading.IsWanted, Reading.IsJudged, Reading.IsFrameTaken, declared.fault.WireFault.WireFault}
 use Rattle.stn_wire.specs.Front.{whole, faulty, unfinished, announced, IsFront, answered}
-use Rattle.stn_wire.specs.declared.fault.WireFault.TheVariants.{Length, Kind, Body, OldFrame, Memory}
+use Rattle.stn_wire.specs.declared.fault.WireFault.TheVariants.{Length, Kind, OldFrame, Memory}
 use Rattle.stn_wire.proofs.Fronts.{shown, fault_more, whole_more, announced_more}
 
 -- unfinished bytes are fewer than their frame has
@@ -22,9 +22,7 @@ module _ (held piece : List ℕ) (before : IsFront held unfinished) (opening : �
   pub opening_err : (A : Type 0) (fault : WireFault) (left : List ℕ) → IsJudged opened (Err fault) → IsFrameTaken {A = A} held piece (Err fault) left
   opening_err A Length left h = opening_fault Length h
   opening_err A Kind left h = opening_fault Kind h
-  opening_err A Body left h = absurd h
-  opening_err A OldFrame left h = absurd h
-  opening_err A Memory left h = absurd h
+  opening_err A fault left h = absurd h
 
   opened_length : length opened ≡ length held + opening
   opened_length = omega (arith, ap length opened_is, length-append held (take opening piece), length-take opening piece, opening_is)
@@ -52,11 +50,9 @@ module _ (held piece : List ℕ) (before : IsFront held unfinished) (opening : �
         ∙ take_at held (take opening piece ++ take used (take (length piece - opening) (drop opening piece))) (length held) refl
 
     pub filled_err : (A : Type 0) (fault : WireFault) → IfSome (answered {A = A} (Err fault)) (IsFront filled) → IsFrameTaken {A = A} held piece (Err fault) filled
-    filled_err A Length h = filled_fault Length h
-    filled_err A Kind h = filled_fault Kind h
-    filled_err A Body h = filled_fault Body h
     filled_err A OldFrame h = absurd h
     filled_err A Memory h = filled_kept
+    filled_err A fault h = filled_fault fault h
 
     same_announced : 4 ≤ length opened → announced filled ≡ announced opened
     same_announced long = ap announced filled_is ∙ announced_more opened (take used (take (length piece - opening) (drop opening piece))) long

@@ -5,7 +5,7 @@ use Rattle.std.proofs.{lemmas.Nat.from_be_bytes-to_be_bytes_4, lemmas.Nat.be_byt
 use Rattle.std.specs.{FinMap.entries, List.AllByRecursion}
 use Rattle.stn_records.specs.Id.{SiteCounter}
 use Rattle.stn_wire.specs.{Spelling.four, declared.fault.WireFault.WireFault, Reading.IsWanted}
-use Rattle.stn_wire.specs.Frame.{FrameContent, old_hello, old_records, hello, records, ask, text, refused, same, records_kind, kind_of, body_of, spelling, IsFrame, IsSaid, most_body}
+use Rattle.stn_wire.specs.Frame.{FrameContent, records, records_kind, kind_of, body_of, spelling, IsFrame, IsSaid, most_body}
 use Rattle.stn_wire.specs.Front.{Front, whole, faulty, unfinished, announced, IsLength, IsKind, IsFront, BeginsFrame}
 use Rattle.stn_wire.specs.declared.fault.WireFault.TheVariants.{Length, Kind, Body, OldFrame, Memory}
 use Rattle.stn_wire.proofs.Bodies.{body_apart}
@@ -15,25 +15,16 @@ pub announced_front : (xs ys : List ℕ) → take 4 xs ≡ take 4 ys → announc
 announced_front xs ys e = first xs ∙ ap announced e ∙ sym (first ys)
   where
     first : (zs : List ℕ) → announced zs ≡ announced (take 4 zs)
-    first [] = refl
-    first (a ∷ []) = refl
-    first (a ∷ b ∷ []) = refl
-    first (a ∷ b ∷ c ∷ []) = refl
     first (a ∷ b ∷ c ∷ d ∷ zs) = refl
+    first zs = refl
 
 records_known : (replacements : List (SiteCounter × SiteCounter)) → IsKind (records_kind replacements)
 records_known [] = inl (omega arith, omega arith)
 records_known (entry ∷ rest) = inr refl
 
 kinds_known : (frame : FrameContent) → IsKind (kind_of frame)
-kinds_known (old_hello source) = inl (omega arith, omega arith)
-kinds_known (old_records state) = inl (omega arith, omega arith)
-kinds_known (hello source) = inl (omega arith, omega arith)
 kinds_known (records state) = records_known (entries state.replacements)
-kinds_known ask = inl (omega arith, omega arith)
-kinds_known (text bytes) = inl (omega arith, omega arith)
-kinds_known (refused code) = inl (omega arith, omega arith)
-kinds_known same = inl (omega arith, omega arith)
+kinds_known frame = inl (omega arith, omega arith)
 
 -- what the bytes of a whole frame show
 pub record Shown (bytes : List ℕ) (frame : FrameContent) (n : ℕ) : Type 0 where
@@ -109,15 +100,17 @@ one_front_lem bytes a (faulty Memory) p q = absurd q
 pub whole_spelled : (frame : FrameContent) (more : List ℕ) → IsFrame frame → IsFront (spelling frame ++ more) (whole frame (length (spelling frame)))
 whole_spelled frame more h = (h, omega (arith, length-append (spelling frame) more), take_at (spelling frame) more (length (spelling frame)) refl)
 
-same_whole : (f g : FrameContent) (m n : ℕ) → whole f m ≡ whole g n → (f ≡ g) × (m ≡ n)
-same_whole f g m n e = (cc, cc)
+-- and in front of bytes that begin with it
+pub whole_in_front : (frame : FrameContent) (bytes more : List ℕ) → IsFrame frame → bytes ≡ spelling frame ++ more → IsFront bytes (whole frame (length (spelling frame)))
+whole_in_front frame bytes more h is = subst (λ l. IsFront l (whole frame (length (spelling frame)))) (sym is) (whole_spelled frame more h)
 
 pub one_spelling_lem : (f g : FrameContent) (x y : List ℕ) → IsFrame f → IsFrame g → spelling f ++ x ≡ spelling g ++ y → (f ≡ g) × (x ≡ y)
 one_spelling_lem f g x y p q e =
     let ours = whole_spelled f x p in
-    let theirs = subst (λ l. IsFront l (whole g (length (spelling g)))) (sym e) (whole_spelled g y q) in
-    let both = same_whole f g (length (spelling f)) (length (spelling g)) (one_front_lem (spelling f ++ x) (whole f (length (spelling f))) (whole g (length (spelling g))) ours theirs) in
-    (both.0, sym (drop_at (spelling f) x (length (spelling f)) refl) ∙ (λ i. drop (both.1 i) (e i)) ∙ drop_at (spelling g) y (length (spelling g)) refl)
+    let theirs = whole_in_front g (spelling f ++ x) y q e in
+    let both = one_front_lem (spelling f ++ x) (whole f (length (spelling f))) (whole g (length (spelling g))) ours theirs in
+    let long : length (spelling f) ≡ length (spelling g) = cc in
+    (cc, sym (drop_at (spelling f) x (length (spelling f)) refl) ∙ (λ i. drop (long i) (e i)) ∙ drop_at (spelling g) y (length (spelling g)) refl)
 
 -- a whole body that is a frame's stands in front
 pub whole_read : (bytes : List ℕ) (frame : FrameContent) (n : ℕ) → ((i : ℕ) → get_or bytes i 0 < 256) → IsWanted bytes n → n ≤ length bytes → IsSaid frame → take (n - 4) (drop 4 bytes) ≡ body_of frame → IsFront bytes (whole frame n)

@@ -1,5 +1,4 @@
 pub mod Parts
-pub mod Sides
 pub mod Chunks
 pub mod Bodies
 pub mod Fronts

@@ -1,5 +1,5 @@
 -- Fields that are read and written one after the other.
-use Rattle.std.proofs.Common.{◌≡◌, ℕ, ℤ, ◌+◌, ◌≤◌, List, ◌++◌, take, drop, Option, Some, None, Result, Ok, Err, OnOk, IfOk, IfErr, sym, ap, subst, ◌∙◌, ⊎_elim, append_assoc, arith, take-append-drop}
+use Rattle.std.proofs.Common.{◌≡◌, ℕ, ℤ, ◌≤◌, List, ◌++◌, take, drop, Option, Some, None, Result, Ok, Err, OnOk, IfOk, IfErr, sym, ap, subst, ◌∙◌, ⊎_elim, append_assoc, arith, take-append-drop}
 use Rattle.std.proofs.{lemmas.Int.ints}
 use Rattle.std.specs.Result.{result_ok}
 use Rattle.stn_net.specs.{Event.most_events, Difference.Difference, Difference.IsBoundWithin, Difference.IsFaultOf, declared.bound.BoundFault.BoundFault}
