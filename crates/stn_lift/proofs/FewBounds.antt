@@ -1,6 +1,6 @@
 -- How many bounds a plan has.
 use Rattle.std.proofs.Common.{◌≡◌, ℕ, ◌+◌, ◌-◌, ◌*◌, ◌<◌, ◌≤◌, ℤ, zero, suc, Bool, true, false, not, ◌&&◌, eqb, nat_lt, cond, [], ◌∷◌, ◌++◌, length, refl, arith, length-append}
-use Rattle.std.proofs.{Math.Nat.mul-le-mul_left, lemmas.Bool.Decides.nat_tests}
+use Rattle.std.proofs.{Math.Nat.mul-le-mul_left, lemmas.Bool.eq-eqb, lemmas.Bool.Decides.nat_tests}
 use Rattle.std.specs.Ordering.{int_cmp}
 use Rattle.stn_net.specs.{Event.most_steps, Difference.Difference, Horizon.horizon_bounds}
 use Rattle.stn_net.proofs.Horizons.{length-horizon_bounds}
@@ -8,7 +8,7 @@ use Rattle.stn_lift.specs.BaseBounds.{step_of, order_bound, pair_order, event_or
 use Rattle.stn_lift.specs.PlanSource.{most_base_bounds}
 use Rattle.stn_lift.proofs.SoundBounds.{bounds}
 
-length-duration_bounds : (duration : ℕ → ℤ) (steps : ℕ) → length (duration_bounds duration steps) ≡ steps
+pub length-duration_bounds : (duration : ℕ → ℤ) (steps : ℕ) → length (duration_bounds duration steps) ≡ steps
 unfolding duration_bounds
 length-duration_bounds duration zero = refl
 length-duration_bounds duration (suc steps) =
@@ -33,11 +33,8 @@ module _ (interferes : ℕ → ℕ → Bool) (planned : ℕ → ℤ) where
       by false e = refl
       by true e =
           let later : one < other = grind (arith, nat_tests) in
-          let same : eqb (step_of one) (step_of other) ≡ true = equal (step_of one) (step_of other) (omega arith) in
+          let same : eqb (step_of one) (step_of other) ≡ true = eq-eqb (step_of one) (step_of other) (omega arith) in
           rw same refl
-        where
-          equal : (a b : ℕ) → a ≡ b → eqb a b ≡ true
-          equal a b h = grind (arith, nat_tests)
 
   length-event : (one events : ℕ) → length (event_orders interferes planned one events) ≤ events - 2 * step_of one
   unfolding event_orders

@@ -4,10 +4,17 @@ use Rattle.std.specs.List.{AllZip, AllByRecursion}
 use Rattle.std.proofs.lemmas.List.{map-append, take_more, get_or-map, length-map}
 use Rattle.std.proofs.lemmas.List.Elements.{All-from_recursion, Contains-push, Contains-push_cases, Contains-append_left}
 use Rattle.std.proofs.lemmas.List.Sorted.{IsPermutation-sym, Contains-permutation}
+use Rattle.indexmap.proofs.SetLemmas.{AllZip-push}
 use Rattle.stn_pddl.specs.Schemas.{TermSchema, AtomSchema}
 use Rattle.stn_pddl.specs.Tree.Names.{folded}
 use Rattle.stn_lift.specs.Footprints.{GroundAtom, Footprint, name_of, ground}
 use Rattle.stn_lift.specs.Numbering.{Numbering, IsNameAt, IsNumberOf, Extends, AreNumbersOf, IsNumbered}
+
+pub zip_weaker : {A B : Type 0} (R S : A → B → Type 0) → ((a : A) (b : B) → R a b → S a b) → (xs : List A) (ys : List B) → AllZip R xs ys → AllZip S xs ys
+zip_weaker R S each [] [] all = all
+zip_weaker R S each [] (b ∷ ys) all = absurd all
+zip_weaker R S each (a ∷ xs) [] all = absurd all
+zip_weaker R S each (a ∷ xs) (b ∷ ys) all = (each a b all.0, zip_weaker R S each xs ys all.1)
 
 -- what has a number keeps it
 pub kept_itself : (numbering : Numbering) → Extends numbering numbering
@@ -21,10 +28,7 @@ kept_along first second third one two = record {
 
 module _ (old new : Numbering) (kept : Extends old new) where
   pub names_kept : (spelling : List ℕ) (atom : GroundAtom) → AllZip (IsNameAt old.names) spelling atom → AllZip (IsNameAt new.names) spelling atom
-  names_kept [] [] all = all
-  names_kept [] (name ∷ atom) all = all
-  names_kept (number ∷ spelling) [] all = all
-  names_kept (number ∷ spelling) (name ∷ atom) all = (kept.names number name all.0, names_kept spelling atom all.1)
+  names_kept spelling atom = zip_weaker (IsNameAt old.names) (IsNameAt new.names) kept.names spelling atom
 
   pub number_kept : (number : ℕ) (atom : GroundAtom) → IsNumberOf old number atom → IsNumberOf new number atom
   number_kept number atom is = record {
@@ -46,12 +50,6 @@ module _ (old new : Numbering) (kept : Extends old new) where
     deletes = numbers_kept numbered.deletes atoms.deletes is.deletes;
   }
 
-pub zip_push : {A B : Type 0} (R : A → B → Type 0) (xs : List A) (ys : List B) (x : A) (y : B) → AllZip R xs ys → R x y → AllZip R (xs ++ x ∷ []) (ys ++ y ∷ [])
-zip_push R [] [] x y all one = (one, tt)
-zip_push R [] (b ∷ ys) x y all one = absurd all
-zip_push R (a ∷ xs) [] x y all one = absurd all
-zip_push R (a ∷ xs) (b ∷ ys) x y all one = (all.0, zip_push R xs ys x y all.1 one)
-
 module _ (args : List (List ℕ)) where
   -- one term more
   pub spelled_more : (names : List (List ℕ)) (spelling : List ℕ) (first : List ℕ) (terms : List TermSchema) (place number : ℕ) (term : TermSchema)
@@ -63,7 +61,7 @@ module _ (args : List (List ℕ)) where
       let more : take (place + 1) terms ≡ take place terms ++ term ∷ [] = take_more terms place term within ∙ ap (λ t. take place terms ++ t ∷ []) (sym here) in
       let mapped : map f (take (place + 1) terms) ≡ map f (take place terms) ++ f term ∷ [] = ap (map f) more ∙ map-append f (take place terms) (term ∷ []) in
       subst (λ ts. AllZip (IsNameAt names) (spelling ++ number ∷ []) (first ∷ ts)) (sym mapped)
-      (zip_push (IsNameAt names) spelling (first ∷ map f (take place terms)) number (f term) all one)
+      (AllZip-push (IsNameAt names) spelling (first ∷ map f (take place terms)) number (f term) all one)
 
   -- one atom more
   pub grounded_more : (before : List GroundAtom) (atoms : List AtomSchema) (place : ℕ) (atom : AtomSchema) → place < length atoms → atom ≡ get_or atoms place atom

@@ -1,16 +1,13 @@
 -- Numbers in two lists in order.
-use Rattle.std.proofs.Common.{◌≡◌, ◌≢◌, ℕ, ◌+◌, ◌<◌, ◌≤◌, true, false, eqb, List, [], ◌∷◌, length, get_or, drop, refl, sym, arith, suc, length-drop, add-one}
-use Rattle.std.proofs.{Math.Seq.drop-cons, lemmas.Bool.Decides.nat_tests, lemmas.List.get_or-drop, lemmas.List.Elements.All-from_get_or, lemmas.List.Elements.recursion_from_All}
+use Rattle.std.proofs.Common.{◌≡◌, ℕ, ◌+◌, ◌<◌, ◌≤◌, false, eqb, List, [], ◌∷◌, length, get_or, drop, refl, sym, arith, suc, length-drop, add-one}
+use Rattle.std.proofs.{Math.Seq.drop-cons, lemmas.Bool.ne_eqb, lemmas.List.get_or-drop, lemmas.List.Elements.All-from_get_or, lemmas.List.Elements.recursion_from_All}
 use Rattle.std.specs.{List.AllByRecursion, List.list_any, List.Sorted.IsNonDecreasing}
 use Rattle.stn_lift.specs.Footprints.{share}
-
-unequal : (a b : ℕ) → a ≢ b → eqb a b ≡ false
-unequal a b h = grind (arith, nat_tests)
 
 -- a number below all others is not among them
 absent_below : (a : ℕ) (xs : List ℕ) → AllByRecursion (λ x. a < x) xs → list_any (eqb a) xs ≡ false
 absent_below a [] above = refl
-absent_below a (x ∷ xs) above = rw (unequal a x (omega (arith, above.0))) (absent_below a xs above.1)
+absent_below a (x ∷ xs) above = rw (ne_eqb a x (omega (arith, above.0))) (absent_below a xs above.1)
 
 -- such a number in the one list is not shared
 share_past_first : (a : ℕ) (xs ys : List ℕ) → AllByRecursion (λ y. a < y) ys → share eqb (a ∷ xs) ys ≡ share eqb xs ys
@@ -19,7 +16,7 @@ share_past_first a xs ys above = rw (absent_below a ys above) refl
 -- nor is it in the other
 share_past_second : (b : ℕ) (xs ys : List ℕ) → AllByRecursion (λ x. b < x) xs → share eqb xs (b ∷ ys) ≡ share eqb xs ys
 share_past_second b [] ys above = refl
-share_past_second b (x ∷ xs) ys above = rw (unequal x b (omega (arith, above.0)), share_past_second b xs ys above.1) refl
+share_past_second b (x ∷ xs) ys above = rw (ne_eqb x b (omega (arith, above.0)), share_past_second b xs ys above.1) refl
 
 -- with an empty list nothing is shared
 pub share_nothing : (xs : List ℕ) → share eqb xs [] ≡ false
@@ -43,10 +40,3 @@ module _ (xs ys : List ℕ) (i j : ℕ) (here : i < length xs) (there : j < leng
   pub share_after_greater : IsNonDecreasing xs → get_or ys j 0 < get_or xs i 0 → share eqb (drop i xs) (drop (j + 1) ys) ≡ share eqb (drop i xs) (drop j ys)
   share_after_greater sorted less =
       sym (rw (drop-cons ys j 0, add-one) (share_past_second (get_or ys j 0) (drop i xs) (drop (suc j) ys) (above_from (get_or ys j 0) xs i sorted here less)))
-
-  -- a number that is equal is shared
-  pub share_at_equal : get_or xs i 0 ≡ get_or ys j 0 → share eqb (drop i xs) (drop j ys) ≡ true
-  share_at_equal same = rw (drop-cons xs i 0, drop-cons ys j 0, same) (rw (equal (get_or ys j 0)) refl)
-    where
-      equal : (n : ℕ) → eqb n n ≡ true
-      equal n = grind (arith, nat_tests)

@@ -16,8 +16,8 @@ behind_names names meaning = meaning >>= λ found. Ok (names ++ found.0, found.1
 abbrev pub behind_steps : List PlannedStep → Result (List PlannedStep) PlanFault → Result (List PlannedStep) PlanFault
 behind_steps steps meaning = meaning >>= λ found. Ok (steps ++ found)
 
--- what comes of two meanings, one after the other, comes of both
-bind_ok : {A B : Type 0} (meaning : Result A PlanFault) (next : A → Result B PlanFault) (found : B) → (meaning >>= next) ≡ Ok found
+-- the step of a chain that gave a value
+pub bind_ok : {A B F : Type 0} (meaning : Result A F) (next : A → Result B F) (found : B) → (meaning >>= next) ≡ Ok found
     → (first : A) × (meaning ≡ Ok first) × (next first ≡ Ok found)
 bind_ok (Ok first) next found e = (first, refl, e)
 bind_ok (Err fault) next found e = cc

@@ -6,16 +6,11 @@ use Rattle.stn_net.specs.Event.{most_steps}
 use Rattle.stn_pddl.specs.{declared.fault.DomainFault.DomainFault, Schemas.ActionSchema, Domains.domain_of}
 use Rattle.stn_lift.specs.{declared.plan.fault.PlanFault.PlanFault, Plan.Steps.PlannedStep, Plan.Steps.plan_of}
 use Rattle.stn_lift.proofs.StepFacts.{plan_of-few}
+pub use Rattle.stn_lift.proofs.StepFacts.{bind_ok}
 use Rattle.stn_lift.specs.declared.fault.LiftFault.{LiftFault}
 use Rattle.stn_lift.specs.declared.fault.LiftFault.TheVariants.{UnknownAction, Arity, DurationDiffers, PastHorizon, Memory}
 use Rattle.stn_lift.specs.Activities.{Activity, activity_of, activities, IsFirstRefused, IsCause, is_memory}
 use Rattle.stn_lift.specs.PlanSource.{files, of_lift, steps_in, lifted, activities_of, steps_of}
-
--- the step of a chain that gave a value
-pub bind_ok : {A B : Type 0} (meaning : Result A LiftFault) (next : A → Result B LiftFault) (found : B) → (meaning >>= next) ≡ Ok found
-    → (first : A) × (meaning ≡ Ok first) × (next first ≡ Ok found)
-bind_ok (Ok first) next found e = (first, refl, e)
-bind_ok (Err fault) next found e = cc
 
 -- each step has one activity
 pub length-activities : (actions : List ActionSchema) (before : ℕ) (steps : List PlannedStep) (found : List Activity)

@@ -1,21 +1,17 @@
 -- The steps of a plan, one after another.
-use Rattle.std.proofs.Common.{◌≡◌, ℕ, ℤ, pos, ◌+ℤ◌, ◌≤ℤ◌, suc, ◌+◌, ◌*◌, ◌<◌, List, [], ◌∷◌, ◌++◌, map, length, get_or, drop, add-one, Result, Ok, Err, refl, sym, ap, subst, ◌∙◌, append_assoc, arith}
+use Rattle.std.proofs.Common.{◌≡◌, ℕ, ℤ, pos, ◌+ℤ◌, suc, ◌+◌, ◌*◌, ◌<◌, List, [], ◌∷◌, ◌++◌, map, length, get_or, drop, add-one, Result, Ok, Err, refl, sym, ap, subst, ◌∙◌, append_assoc, arith}
 use Rattle.std.specs.List.{AllZip}
-use Rattle.std.proofs.{lemmas.Int.ints, Math.Seq.drop-cons, lemmas.List.map-append, lemmas.List.append-nil, lemmas.List.length-map}
-use Rattle.stn_time.specs.Time.{horizon, IsWithinHorizon}
+use Rattle.std.proofs.{Math.Seq.drop-cons, lemmas.Slice.Zip.AllZip-long, lemmas.List.map-append, lemmas.List.append-nil, lemmas.List.length-map}
+use Rattle.indexmap.proofs.SetLemmas.{AllZip-push}
 use Rattle.stn_pddl.specs.Schemas.{ActionSchema}
 use Rattle.stn_time.proofs.Each.{each_pushed}
 use Rattle.stn_lift.specs.Plan.Steps.{PlannedStep}
 use Rattle.stn_text.specs.Faults.{◌>>=◌, Fails}
-use Rattle.stn_lift.specs.{declared.fault.LiftFault.LiftFault, Footprints.GroundAtom, Footprints.Footprint, Footprints.no_footprint, BaseBounds.times_behind, BaseBounds.footprints_behind, BaseBounds.event_footprints, Timelines.IsTimed, Timelines.IsTimeline, Timelines.IsLifted}
+use Rattle.stn_lift.specs.{declared.fault.LiftFault.LiftFault, Footprints.Footprint, Footprints.no_footprint, BaseBounds.times_behind, BaseBounds.footprints_behind, BaseBounds.event_footprints, Timelines.IsTimed, Timelines.IsTimeline, Timelines.IsLifted}
 use Rattle.stn_lift.specs.declared.fault.LiftFault.TheVariants.{UnknownAction, Arity, DurationDiffers, PastHorizon, Memory}
 use Rattle.stn_lift.specs.Numbering.{Numbering, IsUnambiguous, Extends, IsNumbered}
 use Rattle.stn_lift.specs.Activities.{Activity, activity_of, activities, is_memory}
-use Rattle.stn_lift.proofs.{NumberLists.numbered_kept, NumberLists.zip_push, Sharing.none_numbered, Sharing.numbered_at, Sharing.same_interfere}
-
--- a sum of two times that are not negative
-pub within_sum : (time duration : ℤ) → pos 0 ≤ℤ time → pos 0 ≤ℤ duration → (time +ℤ duration) ≤ℤ horizon → IsWithinHorizon (time +ℤ duration)
-within_sum time duration first second last = (omega (arith, ints), last)
+use Rattle.stn_lift.proofs.{NumberLists.numbered_kept, NumberLists.zip_weaker, Sharing.none_numbered, Sharing.numbered_at, Sharing.same_interfere}
 
 times_behind-push : (steps : List Activity) (step : Activity) → times_behind (steps ++ step ∷ []) ≡ (times_behind steps ++ step.time ∷ []) ++ (step.time +ℤ step.duration) ∷ []
 unfolding times_behind
@@ -27,22 +23,16 @@ unfolding footprints_behind
 footprints_behind-push [] step = refl
 footprints_behind-push (first ∷ steps) step = ap (λ fs. first.start ∷ first.end ∷ fs) (footprints_behind-push steps step)
 
-zip_kept : (old new : Numbering) → Extends old new → (numbered : List (Footprint ℕ)) (atoms : List (Footprint GroundAtom))
-    → AllZip (IsNumbered old) numbered atoms → AllZip (IsNumbered new) numbered atoms
-zip_kept old new kept [] [] all = all
-zip_kept old new kept [] (b ∷ atoms) all = all
-zip_kept old new kept (a ∷ numbered) [] all = all
-zip_kept old new kept (a ∷ numbered) (b ∷ atoms) all = (numbered_kept old new kept a b all.0, zip_kept old new kept numbered atoms all.1)
-
 -- one step more
 pub timeline_push : (old middle new : Numbering) (steps : List Activity) (step : Activity) (durations times : List ℤ) (footprints : List (Footprint ℕ)) (start end : Footprint ℕ)
     → Extends old middle → Extends middle new → IsUnambiguous new → IsNumbered middle start step.start → IsNumbered new end step.end → IsTimed step
     → IsTimeline old steps durations times footprints
     → IsTimeline new (steps ++ step ∷ []) (durations ++ step.duration ∷ []) ((times ++ step.time ∷ []) ++ (step.time +ℤ step.duration) ∷ []) ((footprints ++ start ∷ []) ++ end ∷ [])
 timeline_push old middle new steps step durations times footprints start end one two unambiguous starts ends timed was =
-    let first = zip_kept middle new two footprints (event_footprints steps) (zip_kept old middle one footprints (event_footprints steps) was.numbered) in
-    let second = zip_push (IsNumbered new) footprints (event_footprints steps) start step.start first (numbered_kept middle new two start step.start starts) in
-    let third = zip_push (IsNumbered new) (footprints ++ start ∷ []) (event_footprints steps ++ step.start ∷ []) end step.end second ends in
+    let first = zip_weaker (IsNumbered old) (IsNumbered new) (λ numbered atoms is. numbered_kept middle new two numbered atoms (numbered_kept old middle one numbered atoms is))
+    footprints (event_footprints steps) was.numbered in
+    let second = AllZip-push (IsNumbered new) footprints (event_footprints steps) start step.start first (numbered_kept middle new two start step.start starts) in
+    let third = AllZip-push (IsNumbered new) (footprints ++ start ∷ []) (event_footprints steps ++ step.start ∷ []) end step.end second ends in
     record {
       unambiguous = unambiguous;
       lasting = ap (λ ds. ds ++ step.duration ∷ []) was.lasting ∙ sym (map-append (λ (s : Activity). s.duration) steps (step ∷ []));
@@ -73,7 +63,7 @@ timeline_none numbering durations times footprints unambiguous no_durations no_t
   within = tt;
 }
 
-length-times_behind : (steps : List Activity) → length (times_behind steps) ≡ 2 * length steps
+pub length-times_behind : (steps : List Activity) → length (times_behind steps) ≡ 2 * length steps
 unfolding times_behind
 length-times_behind [] = refl
 length-times_behind (step ∷ steps) = omega (arith, length-times_behind steps)
@@ -82,12 +72,6 @@ length-footprints_behind : (steps : List Activity) → length (footprints_behind
 unfolding footprints_behind
 length-footprints_behind [] = refl
 length-footprints_behind (step ∷ steps) = omega (arith, length-footprints_behind steps)
-
-length-zip : {A B : Type 0} (R : A → B → Type 0) (xs : List A) (ys : List B) → AllZip R xs ys → length xs ≡ length ys
-length-zip R [] [] all = refl
-length-zip R [] (y ∷ ys) all = absurd all
-length-zip R (x ∷ xs) [] all = absurd all
-length-zip R (x ∷ xs) (y ∷ ys) all = omega (arith, length-zip R xs ys all.1)
 
 -- a timeline of all steps
 pub all_lifted : (numbering : Numbering) (steps : List Activity) (durations times : List ℤ) (footprints : List (Footprint ℕ))
@@ -99,7 +83,7 @@ all_lifted numbering steps durations times footprints was =
       lasting = was.lasting;
       timed = was.timed;
       many_times = omega (arith, counted, ap length was.timed, length-times_behind steps);
-      many_footprints = omega (arith, counted, length-zip (IsNumbered numbering) footprints (event_footprints steps) was.numbered, length-footprints_behind steps);
+      many_footprints = omega (arith, counted, AllZip-long (IsNumbered numbering) footprints (event_footprints steps) was.numbered, length-footprints_behind steps);
       interfering = λ one other. same_interfere numbering was.unambiguous _ _ _ _
           (numbered_at numbering footprints (event_footprints steps) was.numbered one) (numbered_at numbering footprints (event_footprints steps) was.numbered other);
       within = was.within;

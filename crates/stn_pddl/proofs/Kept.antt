@@ -1,7 +1,7 @@
 -- What reading conditions and effects keeps of an action.
-use Rattle.std.proofs.Common.{◌≡◌, ℕ, ◌<◌, Bool, true, false, cond, nat_lt, List, [], ◌∷◌, ◌++◌, length, Option, Some, None, Result, Ok, Err, refl, ◌∙◌, subst, arith, position}
-use Rattle.std.specs.List.{AllByRecursion, position_or_len}
-use Rattle.std.proofs.lemmas.Bool.{ltb-true}
+use Rattle.std.proofs.Common.{◌≡◌, ℕ, Bool, true, false, cond, List, [], ◌∷◌, ◌++◌, length, Option, Some, None, Result, Ok, Err, refl, ◌∙◌, subst, position}
+use Rattle.std.specs.List.{AllByRecursion}
+use Rattle.std.proofs.lemmas.List.Quantifiers.{position-Some}
 use Rattle.stn_time.proofs.Each.{each_pushed}
 use Rattle.stn_pddl.specs.{Tree.Names.is_same_word, Tree.Trees.Trees, Tree.Trees.End, Tree.Trees.Word, Tree.Trees.Group, declared.fault.DomainFault.DomainFault, declared.action.Label.Label, declared.action.Side.Side, declared.word.Head.Head, Words.is_variable, Words.is_key, Words.head_of, Atoms.parameter_at, Atoms.term, Atoms.terms, Atoms.atom, Atoms.equality, Sound.IsSoundTerm, Sound.IsSoundAtom, Sound.HasSoundAtoms}
 use Rattle.stn_pddl.specs.declared.fault.DomainFault.TheVariants.{Syntax, Unsupported}
@@ -43,16 +43,8 @@ okay x = Ok x
 pub ok_same : {A : Type 0} (x y : A) → okay x ≡ Ok y → x ≡ y
 ok_same x y is = cc
 
-refused : {A B : Type 0} (e : DomainFault) (y : A) → Err e ≡ Ok y → B
+pub refused : {A B : Type 0} (e : DomainFault) (y : A) → Err e ≡ Ok y → B
 refused e y is = cc
-
--- the place of a parameter is one of the list
-place-within : (test : List ℕ → Bool) (names : List (List ℕ)) (place : ℕ) → position test names ≡ Some place → place < length names
-place-within test names place is = within (nat_lt (position_or_len test names) (length names)) refl is
-  where
-    within : (t : Bool) → nat_lt (position_or_len test names) (length names) ≡ t → cond t (Some (position_or_len test names)) None ≡ Some place → place < length names
-    within true e found = let here : position_or_len test names ≡ place = cc in let lt = ltb-true _ _ e in omega (arith, here, lt)
-    within false e found = cc
 
 term-sound : (names : List (List ℕ)) (line : ℕ) (word : List ℕ) (found : TermSchema) → term names line word ≡ Ok found → IsSoundTerm (length names) found
 unfolding term
@@ -60,7 +52,7 @@ term-sound names line word found is = by_kind (is_variable word) (is_key word) i
   where
     by_place : (place : Option ℕ) → position (is_same_word word) names ≡ place → parameter_at line place ≡ Ok found → IsSoundTerm (length names) found
     by_place None e h = cc
-    by_place (Some place) e h = subst (IsSoundTerm (length names)) (ok_same _ _ h) (place-within (is_same_word word) names place e)
+    by_place (Some place) e h = subst (IsSoundTerm (length names)) (ok_same _ _ h) (position-Some (is_same_word word) names place [] e).0
 
     by_kind : (v k : Bool) → cond v (parameter_at line (position (is_same_word word) names)) (cond k (Err (Syntax line)) (Ok (Constant word))) ≡ Ok found → IsSoundTerm (length names) found
     by_kind true k h = by_place (position (is_same_word word) names) refl h

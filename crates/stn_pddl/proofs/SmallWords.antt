@@ -1,7 +1,7 @@
 -- Words in small letters stand for what the words stand for.
-use Rattle.std.proofs.Common.{◌≡◌, ℕ, zero, suc, ◌+◌, ◌<◌, ◌≤◌, Bool, true, false, cond, not, ◌||◌, ◌&&◌, eqb, nat_lt, nat_le, List, [], ◌∷◌, length, map, take, drop, Some, None, refl, ap, ◌∙◌, arith, position, codes}
+use Rattle.std.proofs.Common.{◌≡◌, ℕ, zero, suc, ◌+◌, ◌<◌, ◌≤◌, Bool, true, false, cond, not, ◌||◌, ◌&&◌, eqb, nat_lt, nat_le, List, [], ◌∷◌, length, map, take, drop, Some, None, refl, sym, ap, ◌∙◌, arith, position, codes}
 use Rattle.std.specs.{Char.to_ascii_lowercase, Char.is_ascii_digit, List.list_any, List.prefix_len, List.position_or_len, Option.option_map, Str.bytes_eq, Str.all_ascii_digits, Str.Parse.starts_with_minus}
-use Rattle.std.proofs.{lemmas.Bool.Decides.nat_tests, lemmas.List.length-map, lemmas.Str.Ascii.lowercase-lowercase}
+use Rattle.std.proofs.{lemmas.Bool.and_right, lemmas.Bool.Decides.nat_tests, lemmas.List.length-map, lemmas.Str.Ascii.lowercase-lowercase}
 use Rattle.stn_time.specs.Text.{these_parts}
 use Rattle.stn_time.specs.TimeOf.{without_minus, is_numeral, fraction_of, parts_with, time_of_found, time_of}
 use Rattle.stn_pddl.specs.Tree.Names.{folded, is_same_word}
@@ -92,13 +92,7 @@ same_digit : (b : ℕ) → is_ascii_digit (to_ascii_lowercase b) ≡ is_ascii_di
 same_digit b = small_by (λ n. is_ascii_digit n ≡ is_ascii_digit b) b refl (λ low high.
     let first : nat_le (b + 32) 57 ≡ false = grind (arith, nat_tests) in
     let second : nat_le b 57 ≡ false = grind (arith, nat_tests) in
-    rw (first, second) (none (nat_le 48 (b + 32)) (nat_le 48 b)))
-  where
-    none : (one other : Bool) → (one && false) ≡ (other && false)
-    none true true = refl
-    none true false = refl
-    none false true = refl
-    none false false = refl
+    and_right _ _ first ∙ sym (and_right _ _ second))
 
 small_digit : (b : ℕ) → is_ascii_digit b ≡ true → to_ascii_lowercase b ≡ b
 small_digit b is = small_by (λ n. n ≡ b) b refl (λ low high. absurd (letter low is))

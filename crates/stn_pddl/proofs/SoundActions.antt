@@ -1,5 +1,5 @@
 -- The actions of a domain are sound.
-use Rattle.std.proofs.Common.{◌≡◌, ℕ, ◌≤◌, Bool, true, false, cond, nat_lt, List, [], ◌∷◌, ◌++◌, length, Option, Some, None, Result, Ok, Err, IfOk, refl, sym, ◌∙◌, ap, subst, arith, ℤ, pos, negsuc, ◌≤ℤ◌, int_lt, find, MatchOption, IfSome}
+use Rattle.std.proofs.Common.{◌≡◌, ℕ, ◌≤◌, Bool, true, false, cond, nat_lt, List, [], ◌∷◌, ◌++◌, length, Option, Some, None, Result, Ok, Err, IfOk, refl, sym, ◌∙◌, ap, subst, arith, ℤ, pos, ◌≤ℤ◌, int_lt, find, MatchOption, IfSome}
 use Rattle.std.specs.{List.AllByRecursion, Borrow.Bor}
 use Rattle.std.proofs.{lemmas.Bool.Decides.nat_tests, lemmas.Int.ints}
 use Rattle.stn_time.proofs.Each.{each_pushed}
@@ -12,19 +12,12 @@ use Rattle.stn_text.specs.Faults.{◌>>=◌, Gives}
 use Rattle.stn_pddl.specs.Fields.{Listing, Values, no_values, parameters, duration, constant, not_negative, fields}
 use Rattle.stn_pddl.specs.Actions.{timed_value, action_of_lists, action_of_values, named_action, is_taken, action}
 use Rattle.stn_pddl.specs.Domains.{part, parts, root, domain_of_tree, domain_of_bytes, domain_of, action_named}
-use Rattle.stn_pddl.proofs.Kept.{Keeps, bind_ok, guard_ok, unless_ok, ok_same, timed-keeps}
-
-refused : {A B : Type 0} (e : DomainFault) (y : A) → Err e ≡ Ok y → B
-refused e y is = cc
+use Rattle.stn_pddl.proofs.Kept.{Keeps, bind_ok, guard_ok, unless_ok, ok_same, refused, timed-keeps}
 
 value-keeps : (side : Side) (value : Option Listing) (a b : ActionSchema) → timed_value side value a ≡ Ok b → Keeps a b
 unfolding timed_value
 value-keeps side None a b is = subst (Keeps a) (ok_same _ _ is) (record { name = refl; parameters = refl; duration = refl; atoms = λ h. h })
 value-keeps side (Some listing) a b is = timed-keeps side listing.line listing.children a b is
-
-not-negative : (n : ℤ) → int_lt n (pos 0) ≡ false → pos 0 ≤ℤ n
-not-negative (pos n) h = omega (arith, ints)
-not-negative (negsuc n) h = cc
 
 -- a duration is not negative
 constant-sound : (line : ℕ) (time : Result ℤ TimeFault) (millis : ℤ) → not_negative line time ≡ Ok millis → pos 0 ≤ℤ millis
@@ -32,7 +25,7 @@ constant-sound line (Ok time) millis is = by (int_lt time (pos 0)) refl is
   where
     by : (t : Bool) → int_lt time (pos 0) ≡ t → cond t (Err (Number line)) (Ok time) ≡ Ok millis → pos 0 ≤ℤ millis
     by true e h = refused (Number line) millis h
-    by false e h = subst (λ n. pos 0 ≤ℤ n) (ok_same _ _ h) (not-negative time e)
+    by false e h = subst (λ n. pos 0 ≤ℤ n) (ok_same _ _ h) (grind (arith, ints))
 constant-sound line (Err fault) millis is = refused (Number line) millis is
 
 duration-sound : (line : ℕ) (children : Trees) (millis : ℤ) → duration line children ≡ Ok millis → pos 0 ≤ℤ millis
@@ -146,7 +139,7 @@ unfolding domain_of
 domain-sound text actions is = bytes-sound (tree_of text) actions is
 
 -- the action that is found is sound
-found-sound : (test : ActionSchema → Bool) (actions : List ActionSchema) (b : ActionSchema) → AllByRecursion IsSound actions → find test actions ≡ Some b → IsSound b
+pub found-sound : (test : ActionSchema → Bool) (actions : List ActionSchema) (b : ActionSchema) → AllByRecursion IsSound actions → find test actions ≡ Some b → IsSound b
 found-sound test [] b all is = cc
 found-sound test (a ∷ actions) b all is = first (found-sound test actions b all.1) (test a) is
   where

@@ -1,7 +1,7 @@
 -- A text in small letters has the tree of the text, with its words in small letters.
 use Rattle.std.proofs.Common.{◌≡◌, ℕ, ◌+◌, ◌<◌, ◌≤◌, Bool, true, false, cond, eqb, leb, nat_lt, List, [], ◌∷◌, length, map, Result, Ok, Err, refl, sym, ap, ◌∙◌, arith}
 use Rattle.std.specs.Char.{to_ascii_lowercase}
-use Rattle.std.proofs.{lemmas.Bool.ltb-true, lemmas.Bool.ltb-false, lemmas.Bool.Decides.nat_tests, lemmas.List.length-map}
+use Rattle.std.proofs.{lemmas.Bool.cond_both, lemmas.Bool.ltb-true, lemmas.Bool.ltb-false, lemmas.Bool.Decides.nat_tests, lemmas.List.length-map}
 use Rattle.stn_text.specs.Faults.{◌>>=◌}
 use Rattle.stn_pddl.specs.{declared.tree.bytes.Kind.Kind, declared.tree.scan.TreeFault.TreeFault, declared.tree.scan.TreeFault.TheVariants.TooLong, declared.tree.scan.Place.Place, declared.tree.scan.Place.TheVariants.Before, Tree.Bytes.kind_of, Tree.Bytes.kind_in, Tree.Bytes.comment_after, Tree.Bytes.line_after, Tree.Names.folded, Tree.Scan.most_text, Tree.Scan.place_after, Tree.Scan.scanned, Tree.Scan.tree_of, Tree.Case.in_small, Tree.Case.tree_in_small}
 use Rattle.stn_pddl.specs.declared.tree.bytes.Kind.TheVariants.{Blank, Open, Close, Letter, Stray}
@@ -9,15 +9,9 @@ use Rattle.stn_pddl.specs.Tree.Trees.{Trees, End, Word, Group, Rows, before_byte
 
 -- the small letter for a byte, and what a byte is: no capital letter, or one
 pub small_by : (P : ℕ → Type 0) (b : ℕ) → P b → (65 ≤ b → b ≤ 90 → P (b + 32)) → P (to_ascii_lowercase b)
-small_by P b same capital = by (nat_lt b 65) (nat_lt b 91) refl refl
-  where
-    by : (low small : Bool) → nat_lt b 65 ≡ low → nat_lt b 91 ≡ small → P (cond low b (cond small (b + 32) b))
-    by true small is_low is_small = same
-    by false true is_low is_small =
-        let above = ltb-false b 65 is_low in
-        let below = ltb-true b 91 is_small in
-        capital (omega arith) (omega arith)
-    by false false is_low is_small = same
+small_by P b same capital = cond_both (nat_lt b 65) b _ P (λ low. same) (λ high. cond_both (nat_lt b 91) (b + 32) b P
+    (λ small. let above = ltb-false b 65 high in let below = ltb-true b 91 small in capital (omega arith) (omega arith))
+    (λ past. same))
 
 letter : (b : ℕ) → 65 ≤ b → b ≤ 122 → kind_of b ≡ Letter
 unfolding kind_of

@@ -1,6 +1,6 @@
 -- The rows before a byte of each kind.
 use Rattle.std.proofs.Common.{◌≡◌, ◌≢◌, ℕ, suc, ◌+◌, ◌<◌, ◌≤◌, Bool, true, false, cond, eqb, List, [], ◌∷◌, length, get_or, take, drop, refl, sym, ◌∙◌, ap, arith, add-one, drop-cons, ◌⊎◌, inl, inr}
-use Rattle.std.proofs.{lemmas.List.drop_all, lemmas.Bool.Decides.nat_tests}
+use Rattle.std.proofs.{lemmas.List.drop_all, lemmas.List.drop_more, lemmas.Bool.Decides.nat_tests}
 use Rattle.stn_pddl.specs.{declared.tree.bytes.Kind.Kind, Tree.Bytes.kind_of, Tree.Bytes.kind_in, Tree.Bytes.comment_after, Tree.Bytes.line_after}
 use Rattle.stn_pddl.specs.declared.tree.bytes.Kind.TheVariants.{Blank, Open, Close, Letter, Stray}
 use Rattle.stn_pddl.specs.Tree.Trees.{Word, Group, End, Rows, behind, before_open, before_close, before_letter, is_letter, begins_word, word_len, rows_from}
@@ -22,11 +22,6 @@ comment_after-token b h = rw (lf-blank b h, semicolon-blank b h) refl
 pub line_after-token : (line b : ℕ) → kind_of b ≢ Blank → line_after line b ≡ line
 unfolding line_after
 line_after-token line b h = rw (lf-blank b h) refl
-
--- a token stands outside comments
-pub outside : (comment : Bool) (b : ℕ) → kind_in comment b ≢ Blank → comment ≡ false
-outside true b h = absurd (h refl)
-outside false b h = refl
 
 module _ (line b : ℕ) (bytes : List ℕ) where
   pub rows-open : (comment : Bool) → kind_in comment b ≡ Open → rows_from comment line (b ∷ bytes) ≡ before_open line (rows_from false line bytes)
@@ -111,14 +106,10 @@ pub split-word : (line n : ℕ) (bytes word rest : List ℕ) → begins_word byt
     → ((rows_from false line bytes).row ≡ Word line word (rows_from false line rest).row) × (behind (rows_from false line rest) ≡ behind (rows_from false line bytes))
 split-word line n bytes word rest begins len front back = rw (rows-word line bytes begins, front, back, len) (refl, refl)
 
--- what is left after the byte at i
-drop-at : (i : ℕ) (bytes rest : List ℕ) → i < length bytes → rest ≡ drop (i + 1) bytes → drop i bytes ≡ get_or bytes i 0 ∷ rest
-drop-at i bytes rest within is = drop-cons bytes i 0 within ∙ ap (λ bs. get_or bytes i 0 ∷ bs) (sym (rw add-one at is))
-
 module _ (line i : ℕ) (bytes rest : List ℕ) (rows : Rows) (comment : Bool) (within : i < length bytes) (left : rest ≡ drop (i + 1) bytes) (same : rows_from comment line (drop i bytes) ≡ rows) where
   -- the same, with the byte at i in front
   here : rows ≡ rows_from comment line (get_or bytes i 0 ∷ rest)
-  here = sym same ∙ ap (rows_from comment line) (drop-at i bytes rest within left)
+  here = sym same ∙ ap (rows_from comment line) (drop_more bytes i 0 within ∙ ap (λ bs. get_or bytes i 0 ∷ bs) (sym left))
 
   pub opened : kind_in comment (get_or bytes i 0) ≡ Open
       → (rows.row ≡ Group line (rows_from false line rest).row (behind (rows_from false line rest)).row) × (behind (behind (rows_from false line rest)) ≡ behind rows)

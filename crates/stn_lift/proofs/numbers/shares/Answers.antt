@@ -1,27 +1,21 @@
-use Rattle.std.proofs.Common.{◌≡◌, ℕ, ◌<◌, Less, Greater, nat_cmp, ◌∙◌, sym, ap, nat_eq, drop, [], arith}
+use Rattle.std.proofs.Common.{◌≡◌, ◌∙◌, sym, ap, nat_eq, drop, [], arith}
 use Rattle.std.proofs.{lemmas.Bool.Decides.nat_tests, lemmas.List.drop_all}
 use Rattle.stn_lift.specs.Footprints.{share}
 use Rattle.stn_lift.proofs.Shared.{share_after_less, share_after_greater, share_nothing}
 use Rattle.stn_lift.proofs.numbers.shares.Goals as goal
 
-less_at : (a b : ℕ) → Less ≡ nat_cmp a b → a < b
-less_at a b h = grind (arith, nat_tests)
-
-greater_at : (a b : ℕ) → Greater ≡ nat_cmp a b → b < a
-greater_at a b h = grind (arith, nat_tests)
-
 pub loop-i-preserved-in-Less : goal.loop-i-preserved-in-Less
 loop-i-preserved-in-Less c = record {
   first = omega arith;
   second = omega arith;
-  same = share_after_less c.args.ours.now c.args.theirs.now c.loop-i.i c.loop-i.j c.loop-i-test.true c.if-j-theirs.true c.requires.theirs (less_at _ _ c.in-Less.ensures) ∙ c.loop-i.invariant.same;
+  same = share_after_less c.args.ours.now c.args.theirs.now c.loop-i.i c.loop-i.j c.loop-i-test.true c.if-j-theirs.true c.requires.theirs (let is = c.in-Less.ensures in grind (arith, nat_tests)) ∙ c.loop-i.invariant.same;
 }
 
 pub loop-i-preserved : goal.loop-i-preserved
 loop-i-preserved c = record {
   first = omega arith;
   second = omega arith;
-  same = share_after_greater c.args.ours.now c.args.theirs.now c.loop-i.i c.loop-i.j c.loop-i-test.true c.if-j-theirs.true c.requires.ours (greater_at _ _ c.in-Greater.ensures) ∙ c.loop-i.invariant.same;
+  same = share_after_greater c.args.ours.now c.args.theirs.now c.loop-i.i c.loop-i.j c.loop-i-test.true c.if-j-theirs.true c.requires.ours (let is = c.in-Greater.ensures in grind (arith, nat_tests)) ∙ c.loop-i.invariant.same;
 }
 
 pub returns-else-j-theirs : goal.returns-else-j-theirs
