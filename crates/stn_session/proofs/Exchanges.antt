@@ -1,22 +1,21 @@
 -- Replies that come one after the other.
-use Rattle.std.proofs.Common.{◌≡◌, ℕ, ◌+◌, List, [], ◌∷◌, ◌++◌, length, ◌⊎◌, Option, Result, Ok, Err, refl, sym, ap, subst, ◌∙◌, inl, inr, ⊎_elim, arith, append_assoc, append-nil, length-append}
+use Rattle.std.proofs.Common.{◌≡◌, ℕ, ◌+◌, List, [], ◌∷◌, ◌++◌, length, ◌⊎◌, Option, Result, Ok, Err, refl, sym, ap, subst, ◌∙◌, inl, inr, ⊎_elim, arith, append_assoc, length-append}
 use Rattle.std.specs.Prelude.{flat_map, IfOk, IfErr, OnOk, OnErr}
 use Rattle.std.specs.Io.KnownBytes.{Consumes}
 use Rattle.std.proofs.KnownBytes.{Consumes-nil, Consumes-trans}
-use Rattle.std.proofs.lemmas.Grind.{flat_map-append}
 use Rattle.std.proofs.lemmas.List.Sums.{fold-append}
 use Rattle.stn_time.proofs.Each.{each_pushed}
+use Rattle.stn_wire.proofs.Streams.{cut_more}
 use Rattle.stn_lift.specs.PlanSource.{PlanSource}
 use Rattle.stn_records.specs.Content.{Content}
 use Rattle.stn_wire.specs.Frame.{FrameContent, content, same, records, text, spelling, IsFrame}
 use Rattle.stn_wire.specs.declared.frame.Frame.{Frame as WireFrame}
 use Rattle.stn_wire.specs.Stream.Held.{Stream}
-use Rattle.stn_wire.specs.declared.stream.fault.FrameFault.{FrameFault}
 use Rattle.stn_wire.specs.Stream.{unread, pending}
 use Rattle.stn_session.specs.Exchange.{Stage, greeting, handing, telling, told, failed, Reception, at_stage, expecting, greeted_by, handed, told_by, staged, IsWaiting, IsReception, IsReceived, seen}
 use Rattle.stn_session.specs.Turns.{Finds, Came, Leads}
 use Rattle.stn_session.specs.declared.exchange.ReplyFault.{ReplyFault}
-use Rattle.stn_session.specs.declared.exchange.ReplyFault.TheVariants.{Frame, Reply, Read, Memory}
+use Rattle.stn_session.specs.declared.exchange.ReplyFault.TheVariants.{Memory}
 
 -- one frame more
 abbrev received : PlanSource → Reception → FrameContent → Reception
@@ -58,10 +57,7 @@ frame_came source first before after rest taken stage state p frame later is fro
   consumed = p.consumed;
   many = now_is ∙ p.many;
   each = each_pushed IsFrame p.frames frame p.each is;
-  cut = p.cut
-      ∙ (ap (λ l. flat_map spelling p.frames ++ l) (front ∙ ap (λ l. l ++ later) (sym (append-nil (spelling frame))))
-      ∙ (sym (append_assoc (flat_map spelling p.frames) (flat_map spelling (frame ∷ [])) later)
-      ∙ ap (λ l. l ++ later) (sym (flat_map-append spelling p.frames (frame ∷ [])))));
+  cut = cut_more p.frames frame p.bytes rest later p.cut front;
   came = sym leads ∙ (ap (λ r. received source r frame) p.came ∙ sym (fold-append (received source) (expecting first) p.frames (frame ∷ [])));
 }
 
@@ -138,10 +134,3 @@ records_answered source first before mid after old new state p frame f theirs no
     (f.found.2, next_came source first before mid after old new handing state p frame f telling now (ap (handed source state) is ∙ taken))
 records_answered source first before mid after old new state p frame f theirs now is (Err fault) taken why kept =
     next_taken source first before mid after old new handing state p frame f tt now kept fault (⊎_elim inl (λ e. inr (ap (handed source state) is ∙ e)) why)
-
--- ---- which faults come from where
-pub frame_unread : (fault : FrameFault) → Frame fault ≡ Read → ⊥
-frame_unread fault is = cc
-
-pub reply_unread : Reply ≡ Read → ⊥
-reply_unread is = cc

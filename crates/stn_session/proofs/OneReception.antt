@@ -9,56 +9,43 @@ use Rattle.stn_lift.specs.PlanSource.{PlanSource}
 use Rattle.stn_records.specs.Content.{Content}
 use Rattle.stn_wire.specs.Frame.{FrameContent, spelling, IsFrame}
 use Rattle.stn_wire.specs.Front.{Front, whole, faulty, unfinished, IsFront}
-use Rattle.stn_wire.proofs.Fronts.{fault_more, whole_spelled}
+use Rattle.stn_wire.proofs.{Fronts.fault_more, Fronts.whole_in_front, Streams.one_fault}
 use Rattle.stn_wire.specs.Stream.{wire_fault}
-use Rattle.stn_wire.specs.declared.stream.fault.FrameFault.{FrameFault}
-use Rattle.stn_wire.specs.declared.stream.fault.FrameFault.TheVariants as frame_fault
-use Rattle.stn_session.specs.Exchange.{Stage, greeting, handing, telling, told, failed, Reception, at_stage, expecting, staged, replied, IsWaiting, IsLost, IsReceived}
+use Rattle.stn_session.specs.Exchange.{Stage, greeting, told, failed, Reception, at_stage, expecting, staged, replied, IsWaiting, IsLost, IsReceived}
 use Rattle.stn_session.specs.Reception.{SaysReplies}
 use Rattle.stn_session.specs.declared.exchange.ReplyFault.{ReplyFault}
 use Rattle.stn_session.specs.declared.exchange.ReplyFault.TheVariants.{Refused, Frame, Reply, Replica, Read, Bound, Memory}
 
 -- what a stage answers, where no reply is waited for
 abbrev pub verdict : Stage → Option (Result (List ℕ) ReplyFault)
-verdict greeting = None
-verdict handing = None
-verdict telling = None
 verdict (told bytes) = Some (Ok bytes)
 verdict (failed fault) = Some (Err fault)
+verdict stage = None
 
 waiting_none : (stage : Stage) → IsWaiting stage → verdict stage ≡ None
-waiting_none greeting waits = refl
-waiting_none handing waits = refl
-waiting_none telling waits = refl
 waiting_none (told bytes) waits = absurd waits
 waiting_none (failed fault) waits = absurd waits
+waiting_none stage waits = refl
 
 decided : (stage : Stage) → IsWaiting stage ⊎ ((answer : Result (List ℕ) ReplyFault) × (verdict stage ≡ Some answer))
-decided greeting = inl tt
-decided handing = inl tt
-decided telling = inl tt
 decided (told bytes) = inr (Ok bytes, refl)
 decided (failed fault) = inr (Err fault, refl)
+decided stage = inl tt
 
 -- frames behind the last reply change nothing
 stays : (source : PlanSource) (stage : Stage) (state : Content) (frames : List FrameContent) (answer : Result (List ℕ) ReplyFault) → verdict stage ≡ Some answer
     → replied source (at_stage stage state) frames ≡ at_stage stage state
 stays source stage state [] answer over = refl
-stays source greeting state (frame ∷ frames) answer over = absurd (cc)
-stays source handing state (frame ∷ frames) answer over = absurd (cc)
-stays source telling state (frame ∷ frames) answer over = absurd (cc)
 stays source (told bytes) state (frame ∷ frames) answer over = stays source (told bytes) state frames answer over
 stays source (failed fault) state (frame ∷ frames) answer over = stays source (failed fault) state frames answer over
+stays source stage state (frame ∷ frames) answer over = absurd (cc)
 
 -- why no further reply came, by what stands after the frames among the bytes of an input that may be read
 abbrev pub IsMissed : List ℕ → List ℕ → ReplyFault → Type 0
 IsMissed input tail Reply = (length input ≤ most_bytes) × IsFront tail unfinished
 IsMissed input tail (Frame fault) = IsFront tail (faulty (wire_fault fault))
 IsMissed input tail Bound = (most_bytes < length input) × IsFront tail unfinished
-IsMissed input tail (Refused code) = ⊥
-IsMissed input tail (Replica fault) = ⊥
-IsMissed input tail Read = ⊥
-IsMissed input tail Memory = ⊥
+IsMissed input tail fault = ⊥
 
 abbrev pub IsEnd : List ℕ → Stage → List ℕ → Result (List ℕ) ReplyFault → Type 0
 IsEnd input stage tail answer = (verdict stage ≡ Some answer) ⊎ (IsWaiting stage × ((fault : ReplyFault) × (answer ≡ Err fault) × IsMissed input tail fault))
@@ -135,10 +122,9 @@ module _ (source : PlanSource) (first : Content) (input : List ℕ) (state : Con
       ))
   misses (Frame fault) waits lost says = settles (Err (Frame fault)) lost.0 (inr (waits, (Frame fault, refl, fault_more rest (take (most_bytes - length bytes) left) (wire_fault fault) lost.1)))
   misses Bound waits lost says = settles_beyond lost.1.0 lost.1.1 lost.0 lost.1.2 lost.1.3 waits
-  misses (Refused code) waits lost says = absurd lost
-  misses (Replica fault) waits lost says = absurd lost
   misses Read waits lost says = absurd says
   misses Memory waits lost says = absurd says
+  misses fault waits lost says = absurd lost
 
 settled : (source : PlanSource) (first : Content) (input : List ℕ) (after : Option (List ℕ)) (state : Content) (answer : Result (List ℕ) ReplyFault) → IsReceived source first (Some input) after state answer → SaysReplies answer
     → Settles source first input state answer
@@ -164,18 +150,7 @@ module _ (unique : (bytes : List ℕ) (a b : Front) → IsFront bytes a → IsFr
   one_cause input tail Reply (Frame fault) p q = let clash = unique tail unfinished (faulty (wire_fault fault)) p.1 q in absurd (cc)
   one_cause input tail Reply Bound p q = absurd (omega (arith, p.0, q.0))
   one_cause input tail (Frame fault) Reply p q = let clash = unique tail unfinished (faulty (wire_fault fault)) q.1 p in absurd (cc)
-  one_cause input tail (Frame fault) (Frame other) p q = ap Frame (same_fault fault other (unique tail (faulty (wire_fault fault)) (faulty (wire_fault other)) p q))
-    where
-      same_fault : (a b : FrameFault) → faulty (wire_fault a) ≡ faulty (wire_fault b) → a ≡ b
-      same_fault frame_fault.Length frame_fault.Length e = refl
-      same_fault frame_fault.Length frame_fault.Kind e = absurd (cc)
-      same_fault frame_fault.Length frame_fault.Body e = absurd (cc)
-      same_fault frame_fault.Kind frame_fault.Length e = absurd (cc)
-      same_fault frame_fault.Kind frame_fault.Kind e = refl
-      same_fault frame_fault.Kind frame_fault.Body e = absurd (cc)
-      same_fault frame_fault.Body frame_fault.Length e = absurd (cc)
-      same_fault frame_fault.Body frame_fault.Kind e = absurd (cc)
-      same_fault frame_fault.Body frame_fault.Body e = refl
+  one_cause input tail (Frame fault) (Frame other) p q = let same = unique tail (faulty (wire_fault fault)) (faulty (wire_fault other)) p q in let faults : wire_fault fault ≡ wire_fault other = cc in ap Frame (one_fault fault other faults)
   one_cause input tail (Frame fault) Bound p q = let clash = unique tail unfinished (faulty (wire_fault fault)) q.1 p in absurd (cc)
   one_cause input tail Bound Reply p q = absurd (omega (arith, p.0, q.0))
   one_cause input tail Bound (Frame fault) p q = let clash = unique tail unfinished (faulty (wire_fault fault)) p.1 q in absurd (cc)
@@ -194,16 +169,13 @@ module _ (unique : (bytes : List ℕ) (a b : Front) → IsFront bytes a → IsFr
   no_frame input tail later frame fault is front missed = by fault missed
     where
       stands : IsFront tail (whole frame (length (spelling frame)))
-      stands = subst (λ l. IsFront l (whole frame (length (spelling frame)))) (sym front) (whole_spelled frame later is)
+      stands = whole_in_front frame tail later is front
 
       by : (fault : ReplyFault) → IsMissed input tail fault → ⊥
       by Reply missed = let clash = unique tail unfinished (whole frame (length (spelling frame))) missed.1 stands in absurd (cc)
       by (Frame cause) missed = let clash = unique tail (faulty (wire_fault cause)) (whole frame (length (spelling frame))) missed stands in absurd (cc)
       by Bound missed = let clash = unique tail unfinished (whole frame (length (spelling frame))) missed.1 stands in absurd (cc)
-      by (Refused code) missed = missed
-      by (Replica cause) missed = missed
-      by Read missed = missed
-      by Memory missed = missed
+      by fault missed = missed
 
   missed : (input tail : List ℕ) (stage : Stage) (answer : Result (List ℕ) ReplyFault) → IsWaiting stage → IsEnd input stage tail answer → (fault : ReplyFault) × (answer ≡ Err fault) × IsMissed input tail fault
   missed input tail stage answer waits = ⊎_elim (λ over. let none = waiting_none stage waits in absurd (cc)) (λ by. by.1)

@@ -3,11 +3,10 @@ use Rattle.std.proofs.Common.{◌≡◌, ◌≢◌, ℕ, ◌+◌, ◌<◌, ◌�
 use Rattle.std.specs.Prelude.{flat_map, is_some}
 use Rattle.std.specs.Io.KnownBytes.{Consumes, Appends}
 use Rattle.std.proofs.KnownBytes.{Consumes-nil, Consumes-trans, Appends-nil, Appends-trans}
-use Rattle.std.proofs.lemmas.Bool.{false≢true}
-use Rattle.std.proofs.lemmas.Grind.{flat_map-append}
 use Rattle.std.proofs.lemmas.List.Sums.{fold-append}
 use Rattle.stn_device.specs.Bytes.{AppendsPart}
 use Rattle.stn_time.proofs.Each.{each_pushed}
+use Rattle.stn_wire.proofs.Streams.{cut_more}
 use Rattle.stn_lift.specs.PlanSource.{PlanSource}
 use Rattle.stn_records.specs.Content.{Content}
 use Rattle.stn_wire.specs.Frame.{FrameContent, spelling, refused, IsFrame}
@@ -15,7 +14,7 @@ use Rattle.stn_wire.specs.Front.{IsFront, faulty, unfinished}
 use Rattle.stn_wire.specs.Stream.{wire_fault, frame_code, IsNext, IsCounted}
 use Rattle.stn_refusal.specs.declared.failure.Failure.{Failure}
 use Rattle.stn_session.specs.Keeping.{KeepsChange, KeepsEach, KeepsLast, IsKept, IsKeptBroken, IsUnkept, IsCutShort}
-use Rattle.stn_session.specs.Session.{Reply, said, Session, Answer, answer, opening, followed, advanced, talked, broken_off}
+use Rattle.stn_session.specs.Session.{Reply, said, Session, answer, opening, followed, advanced, talked, broken_off}
 use Rattle.stn_session.specs.Serving.{IsReplyBytes, AreReplies, WritesReplies, Reaches, Ends, GoesOn, Leaves, serve_fault}
 use Rattle.stn_wire.specs.declared.stream.fault.FrameFault.{FrameFault}
 use Rattle.stn_session.specs.declared.session.End.{End}
@@ -48,10 +47,7 @@ abbrev pub reaches_frame : (first : Session) (bytes : List ℕ) (session : Sessi
 reaches_frame first bytes session rest later frame r is e = record {
   frames = r.frames ++ frame ∷ [];
   each = each_pushed IsFrame r.frames frame r.each is;
-  cut = r.cut
-      ∙ (ap (λ l. flat_map spelling r.frames ++ l) (e ∙ ap (λ l. l ++ later) (sym (append-nil (spelling frame))))
-      ∙ (sym (append_assoc (flat_map spelling r.frames) (flat_map spelling (frame ∷ [])) later)
-      ∙ ap (λ l. l ++ later) (sym (flat_map-append spelling r.frames (frame ∷ [])))));
+  cut = cut_more r.frames frame bytes rest later r.cut e;
   talked = ap (λ s. advanced s frame) r.talked ∙ sym (fold-append advanced first r.frames (frame ∷ []));
 }
 
@@ -195,9 +191,7 @@ module _ {P : Type 0} {Keeps : Content → P → P → Type 0} {place kept : P} 
         → IsCutShort Keeps Fails first before last old then state place kept broken
     refusal_fails Fails code is (keeping.Serve Write) part = fault_cut_off (subst (λ k. AppendsPart new then (spelling (refused k))) is part)
     refusal_fails Fails code is (keeping.Serve Memory) none = breaks_with then state kept Memory (few_all few, writes_same old new then p.session.replies p.written none, inl p.state_is) refl
-    refusal_fails Fails code is (keeping.Serve Read) none = absurd none
-    refusal_fails Fails code is (keeping.Serve Bound) none = absurd none
-    refusal_fails Fails code is (keeping.Keep failure) none = absurd none
+    refusal_fails Fails code is fault none = absurd none
 
   -- a frame is answered, or not
   module _ (few : taken + length more ≤ 16777216) (frame : FrameContent) (later : List ℕ) (is : IsFrame frame) (front : rest ++ more ≡ spelling frame ++ later) (then : Option (List ℕ)) (now : Content) where
@@ -325,38 +319,7 @@ module _ {P : Type 0} {Keeps : Content → P → P → Type 0} {place kept : P} 
     frame_fails Fails keeps (keeping.Keep failure) wrote = frame_unkept Fails keeps failure wrote.0 wrote.1 wrote.2 wrote.3
 
 -- ---- a turn keeps the state that it changed
-pub turn_changed : (before after : Content) (changed : Bool) → IsChange before after changed → changed ≡ true → after ≢ before
-turn_changed before after true differs is = differs
-turn_changed before after false same is = absurd (false≢true is)
-
 pub turn_kept : {P : Type 0} (Keeps : Content → P → P → Type 0) (before after : Content) (place kept : P) (changed : Bool) → IsChange before after changed
     → KeepsTurn (Keeps after place kept) place kept changed → KeepsChange Keeps before after place kept
 turn_kept Keeps before after place kept true differs keeps = inr (differs, keeps)
 turn_kept Keeps before after place kept false same stays = inl (same, stays)
-
--- ---- which faults come from where
-
-pub stream_read : (fault : ReadFault) → serve_fault fault ≡ Read → fault ≡ stream.Read
-stream_read stream.Read is = refl
-stream_read stream.Bound is = absurd cc
-stream_read stream.Memory is = absurd cc
-
-pub stream_unwritten : (fault : ReadFault) → serve_fault fault ≡ Write → ⊥
-stream_unwritten stream.Read is = cc
-stream_unwritten stream.Bound is = cc
-stream_unwritten stream.Memory is = cc
-
-pub answer_unread : {P : Type 0} (Keeps : Content → P → P → Type 0) (Fails : Content → P → P → Failure → Type 0) (given : Answer) (old new : Option (List ℕ)) (before after : Content) (place kept : P)
-    (fault : KeepingFault) → WroteKept Keeps Fails given old new before after place kept (Err fault) → fault ≡ keeping.Serve Read → ⊥
-answer_unread Keeps Fails given old new before after place kept (keeping.Serve Read) wrote is = wrote.0
-answer_unread Keeps Fails given old new before after place kept (keeping.Serve Bound) wrote is = wrote.0
-answer_unread Keeps Fails given old new before after place kept (keeping.Serve Write) wrote is = cc
-answer_unread Keeps Fails given old new before after place kept (keeping.Serve Memory) wrote is = cc
-answer_unread Keeps Fails given old new before after place kept (keeping.Keep failure) wrote is = cc
-
-pub refusal_unread : (code : ℕ) (old new : Option (List ℕ)) (fault : KeepingFault) → WroteRefused code old new (Err fault) → fault ≡ keeping.Serve Read → ⊥
-refusal_unread code old new (keeping.Serve Read) none is = none
-refusal_unread code old new (keeping.Serve Bound) none is = none
-refusal_unread code old new (keeping.Serve Write) wrote is = cc
-refusal_unread code old new (keeping.Serve Memory) wrote is = cc
-refusal_unread code old new (keeping.Keep failure) none is = none

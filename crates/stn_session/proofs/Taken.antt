@@ -1,7 +1,7 @@
 -- What is answered to records that are taken in, or refused.
 use Rattle.std.proofs.Common.{◌≡◌, ◌↔◌, ℕ, Bool, true, false, inr, not, List, ◌++◌, Option, Some, None, refl, sym, ap, subst, ◌∙◌}
-use Rattle.std.specs.Prelude.{unwrap_or, is_some, option_and_then, IsTrue}
-use Rattle.std.proofs.lemmas.Bool.{false≢true}
+use Rattle.std.specs.Prelude.{is_some, option_and_then, IsTrue}
+use Rattle.std.proofs.lemmas.{Bool.false≢true, Option.same_Some}
 use Rattle.stn_refusal.specs.Refusals.{code_of}
 use Rattle.stn_records.specs.Content.{Content, IsPart, dispute_contents, join_contents, joined_contents}
 use Rattle.stn_records.specs.ContentLaws.{contents_dispute, contents_undisputed, contents_join}
@@ -10,8 +10,7 @@ use Rattle.stn_site.specs.Failures.{replica_failure}
 use Rattle.stn_site.specs.Held.{Held}
 use Rattle.stn_site.specs.Refusals.{take_refusal}
 use Rattle.stn_site.specs.declared.faults.ReplicaFault.{ReplicaFault}
-use Rattle.stn_site.specs.declared.faults.ReplicaFault.TheVariants.{Memory}
-use Rattle.stn_wire.specs.Frame.{spelling, records, refused}
+use Rattle.stn_wire.specs.Frame.{spelling, records}
 use Rattle.stn_session.specs.Session.{Answer, take_code, taking}
 use Rattle.stn_session.specs.Turns.{IsAnswered, IsChange}
 use Rattle.stn_session.specs.declared.replies.Turn.{Turn}
@@ -20,14 +19,11 @@ none_there : {X : Type 0} (o : Option X) → not (is_some o) ≡ true → o ≡ 
 none_there None e = refl
 none_there (Some x) e = absurd (false≢true e)
 
-same_some : {X : Type 0} (x y : X) → Some x ≡ Some y → x ≡ y
-same_some x y e = cc
-
 pub state_joined : (old new : Held) (theirs : Content) → Leaves old (took theirs) new → new.state ≡ joined_contents old.state theirs
 state_joined old new theirs leaves =
     let there : is_some (join_contents old.state theirs) ≡ true = ap is_some leaves.state in
     let agreed = none_there (dispute_contents old.state theirs) (sym (contents_dispute old.state theirs) ∙ there) in
-    same_some new.state (joined_contents old.state theirs) (sym leaves.state ∙ contents_undisputed old.state theirs agreed)
+    same_Some _ _ (sym leaves.state ∙ contents_undisputed old.state theirs agreed)
 
 -- the answer to a frame of records
 abbrev pub taking_of : Held → Content → Answer
@@ -39,9 +35,6 @@ refused_code fault = code_of (replica_failure fault)
 
 joining : (old : Held) (theirs : Content) → take_refusal old theirs ≡ None → taking_of old theirs ≡ taking old.state theirs None
 joining old theirs none = ap (λ (r : Option ReplicaFault). taking old.state theirs (option_and_then refused_code r)) none
-
-pub state_taken : (old new : Held) (theirs : Content) → take_refusal old theirs ≡ None → Leaves old (took theirs) new → new.state ≡ (taking_of old theirs).state
-state_taken old new theirs none leaves = state_joined old new theirs leaves ∙ ap (λ (a : Answer). a.state) (sym (joining old theirs none))
 
 -- a state that was taken in is another one exactly where not all of it was held
 pub changed_unless_held : (old new : Held) (theirs : Content) (held : Bool) → IsTrue held ↔ IsPart theirs old.state → (IsPart theirs old.state → new ≡ old) → Leaves old (took theirs) new
@@ -62,23 +55,6 @@ taken_answered old new theirs changed before after none leaves differs appended 
       left = joined;
       changed = differs;
       replied = ap (λ (s : Content). spelling (records s)) joined;
-      appended = appended;
-      greeted = refl;
-      ended = refl;
-    })
-
-coded : (refusal : Option ReplicaFault) (fault : ReplicaFault) (code : ℕ) → fault ≡ unwrap_or refusal Memory → refused_code fault ≡ Some code → option_and_then refused_code refusal ≡ Some code
-coded None fault code is given = sym (ap refused_code is) ∙ given
-coded (Some other) fault code is given = sym (ap refused_code is) ∙ given
-
-pub refusal_answered : (old new : Held) (theirs : Content) (before after : List ℕ) (fault : ReplicaFault) (code : ℕ) → fault ≡ unwrap_or (take_refusal old theirs) Memory → refused_code fault ≡ Some code
-    → new ≡ old → after ≡ before ++ spelling (refused code) → IsAnswered (taking_of old theirs) old.state new.state before after (going_on false)
-refusal_answered old new theirs before after fault code is given kept appended =
-    subst (λ (a : Answer). IsAnswered a old.state new.state before after (going_on false)) (sym (ap (taking old.state theirs) (coded (take_refusal old theirs) fault code is given))) (record {
-      bytes = spelling (refused code);
-      left = ap (λ (h : Held). h.state) kept;
-      changed = ap (λ (h : Held). h.state) kept;
-      replied = refl;
       appended = appended;
       greeted = refl;
       ended = refl;

@@ -1,18 +1,15 @@
 -- Bytes have one session.
-use Rattle.std.proofs.Common.{◌≡◌, ℕ, cond, List, [], ◌∷◌, ◌++◌, length, take, Option, Some, None, refl, sym, ap, subst, ◌∙◌, inl, ⊎_elim, arith, append_assoc, length-append}
+use Rattle.std.proofs.Common.{◌≡◌, ℕ, cond, List, [], ◌∷◌, ◌++◌, length, Option, Some, None, refl, sym, ap, subst, ◌∙◌, inl, ⊎_elim, arith, append_assoc, length-append}
 use Rattle.std.specs.Prelude.{flat_map, is_some}
 use Rattle.std.specs.List.{AllByRecursion}
-use Rattle.std.proofs.lemmas.List.{take_at}
 use Rattle.stn_wire.specs.Frame.{FrameContent, spelling, IsFrame}
 use Rattle.stn_wire.specs.Front.{Front, whole, faulty, unfinished, IsFront}
 use Rattle.stn_wire.specs.Stream.{wire_fault, frame_code}
 use Rattle.stn_session.specs.Session.{Session, answer, followed, advanced, talked, broken_off}
 use Rattle.stn_session.specs.Serving.{Ends, IsSession}
-use Rattle.stn_wire.specs.declared.stream.fault.FrameFault.{FrameFault}
-use Rattle.stn_wire.specs.declared.stream.fault.FrameFault.TheVariants.{Length, Kind, Body}
 use Rattle.stn_session.specs.declared.session.End.{End}
 use Rattle.stn_session.specs.declared.session.End.TheVariants.{Closed, Cut, Refused}
-use Rattle.stn_wire.proofs.Streams.{spelling_some}
+use Rattle.stn_wire.proofs.{Fronts.whole_in_front, Streams.one_fault, Streams.spelling_some}
 
 -- a session that has ended stays
 stays : (first : Session) (code : ℕ) → first.ended ≡ Some code → (frames : List FrameContent) → talked first frames ≡ first
@@ -26,32 +23,16 @@ ends_ended s rest Cut last code e h = let none = h.0 in absurd (cc)
 ends_ended s rest (Refused other) last code e h =
     ⊎_elim (λ by. let some = by.0 in let same : other ≡ code = cc in (ap Refused same, by.1)) (λ by. let none = by.1 in absurd (cc)) h
 
--- two faults have two codes
-code_apart : (a b : FrameFault) → wire_fault a ≡ wire_fault b → frame_code a ≡ frame_code b
-code_apart Length Length e = refl
-code_apart Length Kind e = absurd (cc)
-code_apart Length Body e = absurd (cc)
-code_apart Kind Length e = absurd (cc)
-code_apart Kind Kind e = refl
-code_apart Kind Body e = absurd (cc)
-code_apart Body Length e = absurd (cc)
-code_apart Body Kind e = absurd (cc)
-code_apart Body Body e = refl
-
 module _ (unique : (bytes : List ℕ) (a b : Front) → IsFront bytes a → IsFront bytes b → a ≡ b)
     (apart : (f g : FrameContent) (x y : List ℕ) → IsFrame f → IsFrame g → spelling f ++ x ≡ spelling g ++ y → (f ≡ g) × (x ≡ y)) where
   -- no frame stands where a session ends without a reply
   no_frame : (s : Session) (rest later : List ℕ) (frame : FrameContent) (end : End) (last : Session) → s.ended ≡ None → IsFrame frame → rest ≡ spelling frame ++ later → Ends s rest end last → ⊥
   no_frame s rest later frame Closed last on is front h = omega (arith, ap length front, ap length h.1, length-append (spelling frame) later, spelling_some frame)
-  no_frame s rest later frame Cut last on is front h = let clash = unique rest unfinished (whole frame (length (spelling frame))) h.2 (stands s rest later frame is front) in absurd (cc)
-    where
-      stands : (s : Session) (rest later : List ℕ) (frame : FrameContent) → IsFrame frame → rest ≡ spelling frame ++ later → IsFront rest (whole frame (length (spelling frame)))
-      stands s rest later frame is front =
-          (is, omega (arith, ap length front, length-append (spelling frame) later), ap (take (length (spelling frame))) front ∙ take_at (spelling frame) later (length (spelling frame)) refl)
+  no_frame s rest later frame Cut last on is front h =
+      let clash = unique rest unfinished (whole frame (length (spelling frame))) h.2 (whole_in_front frame rest later is front) in absurd (cc)
   no_frame s rest later frame (Refused code) last on is front h =
       ⊎_elim (λ by. let some = by.0 in absurd (cc))
-      (λ by. let clash = unique rest (faulty (wire_fault by.0)) (whole frame (length (spelling frame))) by.2
-      (is, omega (arith, ap length front, length-append (spelling frame) later), ap (take (length (spelling frame))) front ∙ take_at (spelling frame) later (length (spelling frame)) refl) in absurd (cc)) h
+      (λ by. let clash = unique rest (faulty (wire_fault by.0)) (whole frame (length (spelling frame))) by.2 (whole_in_front frame rest later is front) in absurd (cc)) h
 
   nothing_unfinished : (rest : List ℕ) → rest ≡ [] → IsFront rest unfinished
   nothing_unfinished rest none = inl (omega (arith, ap length none))
@@ -75,7 +56,7 @@ module _ (unique : (bytes : List ℕ) (a b : Front) → IsFront bytes a → IsFr
       (λ b.
       let fronts = unique rest (faulty (wire_fault a.0)) (faulty (wire_fault b.0)) a.2 b.2 in
       let faults : wire_fault a.0 ≡ wire_fault b.0 = cc in
-      let codes : code ≡ other = a.3 ∙ (code_apart a.0 b.0 faults ∙ sym b.3) in
+      let codes : code ≡ other = a.3 ∙ (ap frame_code (one_fault a.0 b.0 faults) ∙ sym b.3) in
       (ap Refused codes, a.4 ∙ (ap (broken_off s) codes ∙ sym b.4))) q) p
 
   walk : (F G : List FrameContent) (first : Session) (bytes rest left : List ℕ) → AllByRecursion IsFrame F → AllByRecursion IsFrame G → bytes ≡ flat_map spelling F ++ rest → bytes ≡ flat_map spelling G ++ left

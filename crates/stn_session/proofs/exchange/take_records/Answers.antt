@@ -1,41 +1,20 @@
-use Rattle.std.proofs.Common.{Err, refl, ap}
 use Rattle.std.proofs.lemmas.Result.{err_from_is_err_and}
-use Rattle.stn_session.specs.declared.exchange.ReplyFault.TheVariants.{Read}
-use Rattle.stn_device.proofs.Known.{fault_or, not_err}
 use Rattle.stn_session.proofs.Exchanges.{next_lost, next_refused, records_answered}
 use Rattle.stn_session.proofs.exchange.take_records.Goals as goal
 
-pub returns-in_err-frame : goal.returns-in_err-frame
-returns-in_err-frame g c =
+pub returns-in_err-frame-clause-leads : goal.returns-in_err-frame-clause-leads
+returns-in_err-frame-clause-leads g c =
     let p = err_from_is_err_and c.from_residual.result c.from_residual.ensures.1 in
-    rw (p.1, p.2) (record {
-      leads = λ first before came. next_lost _ _ _ _ _ c.args.frames.now c.next_reply.new.frames _ _ came tt c.in_err-frame.field-0.0 c.in_err-frame.ensures.finds;
-      source = refl;
-      site = refl;
-      read = λ e. c.in_err-frame.ensures.read (ap Err (ap (fault_or Read) e));
-      kept = λ other. c.in_err-frame.ensures.kept (λ e. other (ap Err (ap (fault_or Read) e)));
-    })
+    rw (p.1, p.2) (λ first before came. next_lost _ _ _ _ _ c.args.frames.now c.next_reply.new.frames _ _ came tt c.in_err-frame.field-0.0 c.in_err-frame.ensures.finds)
 
-pub returns-in_err-theirs : goal.returns-in_err-theirs
-returns-in_err-theirs g c =
+pub returns-in_err-theirs-clause-leads : goal.returns-in_err-theirs-clause-leads
+returns-in_err-theirs-clause-leads g c =
     let p = err_from_is_err_and c.from_residual-in_err-theirs.result c.from_residual-in_err-theirs.ensures.1 in
-    rw (p.1, p.2) (record {
-      leads = λ first before came.
-          next_refused _ _ _ _ _ c.args.frames.now c.next_reply.new.frames _ _ came c.in_ok-frame.frame c.in_ok-frame.ensures.finds c.in_err-theirs.field-0.0
-          (c.in_err-theirs.ensures.refused c.args.replica.now.source c.args.replica.now.state);
-      source = refl;
-      site = refl;
-      read = λ e. absurd (c.in_err-theirs.ensures.read (ap Err (ap (fault_or Read) e)));
-      kept = λ _. c.in_ok-frame.ensures.kept (not_err _ _);
-    })
+    rw (p.1, p.2) (λ first before came.
+    next_refused _ _ _ _ _ c.args.frames.now c.next_reply.new.frames _ _ came c.in_ok-frame.frame c.in_ok-frame.ensures.finds c.in_err-theirs.field-0.0
+    (c.in_err-theirs.ensures.refused c.args.replica.now.source c.args.replica.now.state))
 
-pub returns : goal.returns
-returns g c = record {
-  leads = λ first before came.
-      records_answered _ _ _ _ _ c.args.frames.now c.next_reply.new.frames _ came c.in_ok-frame.frame c.in_ok-frame.ensures.finds c.in_ok-theirs.theirs c.take_in-taken.new.replica.state
-      c.in_ok-theirs.ensures.records c.take_in-taken.result c.take_in-taken.ensures.taken c.take_in-taken.ensures.refused c.take_in-taken.ensures.kept;
-  source = c.take_in-taken.ensures.source;
-  site = c.take_in-taken.ensures.site;
-  read = λ e. absurd (c.take_in-taken.ensures.read e);
-  kept = λ _. c.in_ok-frame.ensures.kept (not_err _ _);
-}
+pub returns-clause-leads : goal.returns-clause-leads
+returns-clause-leads g c = λ first before came.
+    records_answered _ _ _ _ _ c.args.frames.now c.next_reply.new.frames _ came c.in_ok-frame.frame c.in_ok-frame.ensures.finds c.in_ok-theirs.theirs c.take_in-taken.new.replica.state
+    c.in_ok-theirs.ensures.records c.take_in-taken.result c.take_in-taken.ensures.taken c.take_in-taken.ensures.refused c.take_in-taken.ensures.kept

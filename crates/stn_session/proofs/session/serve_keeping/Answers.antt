@@ -1,21 +1,14 @@
-use Rattle.std.proofs.Common.{Ok, Err, ◌+◌, ◌≤◌, length, refl, sym, ap, subst, ◌∙◌, arith}
+use Rattle.std.proofs.Common.{Err, ◌+◌, ◌≤◌, length, refl, sym, ap, subst, ◌∙◌, arith}
 use Rattle.std.proofs.lemmas.Result.{err_from_is_err_and}
 use Rattle.stn_device.specs.Counted.{counted_device}
 use Rattle.stn_lift.specs.PlanSource.{PlanSource}
 use Rattle.stn_wire.specs.Frame.{content}
 use Rattle.stn_wire.specs.Stream.Held.{Stream}
 use Rattle.stn_wire.specs.Stream.{pending}
-use Rattle.stn_device.specs.declared.whole.ReadFault.{ReadFault}
-use Rattle.stn_device.specs.declared.whole.ReadFault.TheVariants as stream
 use Rattle.stn_session.specs.Session.{answer}
-use Rattle.stn_session.specs.Serving.{serve_fault}
 use Rattle.stn_session.specs.Keeping.{KeepsChange}
 use Rattle.stn_session.specs.Turns.{WroteKept}
-use Rattle.stn_session.specs.declared.session.KeepingFault.TheVariants.{Serve}
-use Rattle.stn_session.specs.declared.session.ServeFault.TheVariants.{Read, Memory}
-use Rattle.stn_device.proofs.Known.{fault_or, not_err}
-use Rattle.stn_session.proofs.Answered.{serve_fault_or, fails_more}
-use Rattle.stn_session.proofs.Sessions.{begun, closes, cuts, stream_fails, stream_read, stream_unwritten, answer_unread, refusal_unread, refuses, refusal_fails, frame_fails, frame_answered, frame_ends}
+use Rattle.stn_session.proofs.Sessions.{begun, closes, cuts, stream_fails, refuses, refusal_fails, frame_fails, frame_answered, frame_ends}
 use Rattle.stn_wire.proofs.Streams.{count_fits, measure_falls}
 use Rattle.stn_session.proofs.session.serve_keeping.Goals as goal
 
@@ -30,47 +23,27 @@ frames-init g c = record {
   writer_kept = refl;
 }
 
-pub returns-in_err-frame : goal.returns-in_err-frame
-returns-in_err-frame g c =
+pub returns-in_err-frame-clause-broken : goal.returns-in_err-frame-clause-broken
+returns-in_err-frame-clause-broken g c =
     let p = err_from_is_err_and c.from_residual.result c.from_residual.ensures.1 in
     let gave = c.in_err-frame.ensures.gives in
     let fault = c.in_err-frame.field-0.0 in
     let i = c.frames.invariant in
-    rw (p.1, p.2) (record {
-      served = tt;
-      end = tt;
-      broken = stream_fails i.progress _ gave.bytes gave.consumed g.row.A.Denot c.next.new.self fault gave.next gave.counted;
-      source = i.source;
-      site = i.site;
-      read = λ e. fails_more _ _ _ (c.in_err-frame.ensures.read (ap Err (stream_read fault (ap (serve_fault_or Memory) e)))) i.reader_kept c.requires.reader_counts;
-      write = λ e. absurd (stream_unwritten fault (ap (serve_fault_or Memory) e));
-      reader_kept = λ other. c.in_err-frame.ensures.kept (λ e. other (ap (λ (s : ReadFault). Err (Serve (serve_fault s))) (ap (fault_or stream.Read) e))) ∙ i.reader_kept;
-      writer_kept = λ _. i.writer_kept;
-    })
+    rw (p.1, p.2) (stream_fails i.progress _ gave.bytes gave.consumed g.row.A.Denot c.next.new.self fault gave.next gave.counted)
 
-pub returns-in_err-turn-in-Frame : goal.returns-in_err-turn-in-Frame
-returns-in_err-turn-in-Frame g c =
+pub returns-in_err-turn-in-Frame-clause-broken : goal.returns-in_err-turn-in-Frame-clause-broken
+returns-in_err-turn-in-Frame-clause-broken g c =
     let p = err_from_is_err_and c.from_residual-in_err-turn-in-Frame.result c.from_residual-in_err-turn-in-Frame.ensures.1 in
     let gave = rw c.in-Frame.is at c.in_ok-frame.ensures.gives in
     let fault = c.in_err-turn-in-Frame.field-0.0 in
     let lost = c.in_err-turn-in-Frame.ensures in
     let i = c.frames.invariant in
-    rw (p.1, p.2) (record {
-      served = tt;
-      end = tt;
-      broken = frame_fails i.progress _ gave.bytes gave.consumed gave.counted.1 (content c.in-Frame.frame) (pending c.next.new.self) gave.next.0 gave.next.1 _
-          c.answer_frame-answered.new.replica.state (g.K.Keeper.fails c.args.keeper.now c.args.replica.now.source) c.answer_frame-answered.new.place fault
-          (subst (λ (s : PlanSource). WroteKept (g.K.Keeper.keeps c.args.keeper.now s) (g.K.Keeper.fails c.args.keeper.now s)
-          (answer c.frames.replica.source c.frames.replica.state c.frames.greeted (content c.in-Frame.frame))
-          (g.W.Write.contents (counted_device c.frames.writer)) (g.W.Write.contents (counted_device c.answer_frame-answered.new.writer))
-          c.frames.replica.state c.answer_frame-answered.new.replica.state c.frames.place c.answer_frame-answered.new.place (Err fault)) i.source lost.wrote);
-      source = lost.source ∙ i.source;
-      site = lost.site ∙ i.site;
-      read = λ e. absurd (answer_unread (g.K.Keeper.keeps c.args.keeper.now c.frames.replica.source) (g.K.Keeper.fails c.args.keeper.now c.frames.replica.source) (answer c.frames.replica.source c.frames.replica.state c.frames.greeted (content c.in-Frame.frame)) _ _ _ _ _ _ fault lost.wrote (ap (fault_or (Serve Read)) e));
-      write = λ e. fails_more _ _ _ (lost.write (ap Err (ap (fault_or (Serve Read)) e))) i.writer_kept c.requires.writer_counts;
-      reader_kept = λ _. c.in_ok-frame.ensures.kept (not_err _ _) ∙ i.reader_kept;
-      writer_kept = λ other. lost.kept (λ e. other (ap Err (ap (fault_or (Serve Read)) e))) ∙ i.writer_kept;
-    })
+    rw (p.1, p.2) (frame_fails i.progress _ gave.bytes gave.consumed gave.counted.1 (content c.in-Frame.frame) (pending c.next.new.self) gave.next.0 gave.next.1 _
+    c.answer_frame-answered.new.replica.state (g.K.Keeper.fails c.args.keeper.now c.args.replica.now.source) c.answer_frame-answered.new.place fault
+    (subst (λ (s : PlanSource). WroteKept (g.K.Keeper.keeps c.args.keeper.now s) (g.K.Keeper.fails c.args.keeper.now s)
+    (answer c.frames.replica.source c.frames.replica.state c.frames.greeted (content c.in-Frame.frame))
+    (g.W.Write.contents (counted_device c.frames.writer)) (g.W.Write.contents (counted_device c.answer_frame-answered.new.writer))
+    c.frames.replica.state c.answer_frame-answered.new.replica.state c.frames.place c.answer_frame-answered.new.place (Err fault)) i.source lost.wrote))
 
 pub frames-smaller : goal.frames-smaller
 frames-smaller g c =
@@ -92,93 +65,43 @@ frames-preserved g c =
       source = c.in_ok-turn-in-Frame.ensures.source ∙ i.source;
       site = c.in_ok-turn-in-Frame.ensures.site ∙ i.site;
       few = count_fits (pending c.frames.frames) gave.bytes (pending c.next.new.self) (content c.in-Frame.frame) gave.next.1 c.frames.frames.count c.next.new.self.count gave.counted.0 c.frames.count i.few;
-      reader_kept = c.in_ok-frame.ensures.kept (not_err _ _) ∙ i.reader_kept;
-      writer_kept = c.in_ok-turn-in-Frame.ensures.kept (not_err _ _) ∙ i.writer_kept;
+      reader_kept = c.in_ok-frame.ensures.kept (λ e. cc) ∙ i.reader_kept;
+      writer_kept = c.in_ok-turn-in-Frame.ensures.kept (λ e. cc) ∙ i.writer_kept;
     }
 
-pub returns-in-Some : goal.returns-in-Some
-returns-in-Some g c =
+pub returns-in-Some-clause-served : goal.returns-in-Some-clause-served
+returns-in-Some-clause-served g c =
     let gave = rw c.in-Frame.is at c.in_ok-frame.ensures.gives in
     let wrote = c.in_ok-turn-in-Frame.ensures.wrote in
     let i = c.frames.invariant in
     let kept = subst (λ (s : PlanSource). KeepsChange (g.K.Keeper.keeps c.args.keeper.now s) c.frames.replica.state c.answer_frame-answered.new.replica.state
     c.frames.place c.answer_frame-answered.new.place) i.source wrote.1 in
-    record {
-      served = frame_ends i.progress _ gave.bytes gave.consumed gave.counted.1 (content c.in-Frame.frame) (pending c.next.new.self) gave.next.0 gave.next.1 _
-          c.answer_frame-answered.new.replica.state wrote.0.0 wrote.0.1 wrote.0.3 c.answer_frame-answered.new.place kept wrote.0.2 c.in_ok-turn-in-Frame.turn.greeted wrote.0.4 c.in-Some.code (sym wrote.0.5 ∙ c.in-Some.is);
-      end = tt;
-      broken = tt;
-      source = c.in_ok-turn-in-Frame.ensures.source ∙ i.source;
-      site = c.in_ok-turn-in-Frame.ensures.site ∙ i.site;
-      read = λ e. absurd (not_err _ _ e);
-      write = λ e. absurd (not_err _ _ e);
-      reader_kept = λ _. c.in_ok-frame.ensures.kept (not_err _ _) ∙ i.reader_kept;
-      writer_kept = λ _. c.in_ok-turn-in-Frame.ensures.kept (not_err _ _) ∙ i.writer_kept;
-    }
+    frame_ends i.progress _ gave.bytes gave.consumed gave.counted.1 (content c.in-Frame.frame) (pending c.next.new.self) gave.next.0 gave.next.1 _
+    c.answer_frame-answered.new.replica.state wrote.0.0 wrote.0.1 wrote.0.3 c.answer_frame-answered.new.place kept wrote.0.2 c.in_ok-turn-in-Frame.turn.greeted wrote.0.4 c.in-Some.code (sym wrote.0.5 ∙ c.in-Some.is)
 
-pub returns-in_err-refuse-in-Faulty : goal.returns-in_err-refuse-in-Faulty
-returns-in_err-refuse-in-Faulty g c =
+pub returns-in_err-refuse-in-Faulty-clause-broken : goal.returns-in_err-refuse-in-Faulty-clause-broken
+returns-in_err-refuse-in-Faulty-clause-broken g c =
     let p = err_from_is_err_and c.from_residual-in_err-refuse-in-Faulty.result c.from_residual-in_err-refuse-in-Faulty.ensures.1 in
     let gave = rw c.in-Faulty.is at c.in_ok-frame.ensures.gives in
     let fault = c.in_err-refuse-in-Faulty.field-0.0 in
     let lost = c.in_err-refuse-in-Faulty.ensures in
     let i = c.frames.invariant in
-    rw (p.1, p.2) (record {
-      served = tt;
-      end = tt;
-      broken = refusal_fails i.progress _ gave.bytes gave.consumed gave.counted.1 c.in-Faulty.fault gave.next _ (g.K.Keeper.fails c.args.keeper.now c.args.replica.now.source) c.code-code.result c.code-code.ensures fault lost.wrote;
-      source = i.source;
-      site = i.site;
-      read = λ e. absurd (refusal_unread _ _ _ fault lost.wrote (ap (fault_or (Serve Read)) e));
-      write = λ e. fails_more _ _ _ (lost.write (ap Err (ap (fault_or (Serve Read)) e))) i.writer_kept c.requires.writer_counts;
-      reader_kept = λ _. c.in_ok-frame.ensures.kept (not_err _ _) ∙ i.reader_kept;
-      writer_kept = λ other. lost.kept (λ e. other (ap Err (ap (fault_or (Serve Read)) e))) ∙ i.writer_kept;
-    })
+    rw (p.1, p.2) (refusal_fails i.progress _ gave.bytes gave.consumed gave.counted.1 c.in-Faulty.fault gave.next _ (g.K.Keeper.fails c.args.keeper.now c.args.replica.now.source) c.code-code.result c.code-code.ensures fault lost.wrote)
 
-pub returns-in-Faulty : goal.returns-in-Faulty
-returns-in-Faulty g c =
+pub returns-in-Faulty-clause-served : goal.returns-in-Faulty-clause-served
+returns-in-Faulty-clause-served g c =
     let gave = rw c.in-Faulty.is at c.in_ok-frame.ensures.gives in
     let i = c.frames.invariant in
-    record {
-      served = refuses i.progress _ gave.bytes gave.consumed gave.counted.1 c.in-Faulty.fault gave.next _ c.code-code.result c.code-code.ensures c.in_ok-refuse-in-Faulty.ensures.wrote;
-      end = tt;
-      broken = tt;
-      source = i.source;
-      site = i.site;
-      read = λ e. absurd (not_err _ _ e);
-      write = λ e. absurd (not_err _ _ e);
-      reader_kept = λ _. c.in_ok-frame.ensures.kept (not_err _ _) ∙ i.reader_kept;
-      writer_kept = λ _. c.in_ok-refuse-in-Faulty.ensures.kept (not_err _ _) ∙ i.writer_kept;
-    }
+    refuses i.progress _ gave.bytes gave.consumed gave.counted.1 c.in-Faulty.fault gave.next _ c.code-code.result c.code-code.ensures c.in_ok-refuse-in-Faulty.ensures.wrote
 
-pub returns-in-Closed : goal.returns-in-Closed
-returns-in-Closed g c =
+pub returns-in-Closed-clause-served : goal.returns-in-Closed-clause-served
+returns-in-Closed-clause-served g c =
     let gave = rw c.in-Closed.is at c.in_ok-frame.ensures.gives in
     let i = c.frames.invariant in
-    record {
-      served = closes i.progress _ gave.bytes gave.consumed gave.counted.1 gave.next;
-      end = c.in_ok-frame.ensures.closed (ap Ok c.in-Closed.is);
-      broken = tt;
-      source = i.source;
-      site = i.site;
-      read = λ e. absurd (not_err _ _ e);
-      write = λ e. absurd (not_err _ _ e);
-      reader_kept = λ _. c.in_ok-frame.ensures.kept (not_err _ _) ∙ i.reader_kept;
-      writer_kept = λ _. i.writer_kept;
-    }
+    closes i.progress _ gave.bytes gave.consumed gave.counted.1 gave.next
 
-pub returns-in-Cut : goal.returns-in-Cut
-returns-in-Cut g c =
+pub returns-in-Cut-clause-served : goal.returns-in-Cut-clause-served
+returns-in-Cut-clause-served g c =
     let gave = rw c.in-Cut.is at c.in_ok-frame.ensures.gives in
     let i = c.frames.invariant in
-    record {
-      served = cuts i.progress _ gave.bytes gave.consumed gave.counted.1 gave.next.0 gave.next.1;
-      end = c.in_ok-frame.ensures.cut (ap Ok c.in-Cut.is);
-      broken = tt;
-      source = i.source;
-      site = i.site;
-      read = λ e. absurd (not_err _ _ e);
-      write = λ e. absurd (not_err _ _ e);
-      reader_kept = λ _. c.in_ok-frame.ensures.kept (not_err _ _) ∙ i.reader_kept;
-      writer_kept = λ _. i.writer_kept;
-    }
+    cuts i.progress _ gave.bytes gave.consumed gave.counted.1 gave.next.0 gave.next.1
