@@ -48,7 +48,7 @@ named_negative bounds link links self far ordered here there named =
     }
 
 -- the links of a chain are links of the bounds
-places_of_chain : (bounds : List Difference) (links : List Link) (x y : ℕ) → IsChain bounds links x y → AllByRecursion (λ (l : Link). l.place < length bounds) links
+pub places_of_chain : (bounds : List Difference) (links : List Link) (x y : ℕ) → IsChain bounds links x y → AllByRecursion (λ (l : Link). l.place < length bounds) links
 places_of_chain bounds [] x y chain = tt
 places_of_chain bounds (link ∷ links) x y chain = (chain.0, places_of_chain bounds links _ y chain.2)
 
