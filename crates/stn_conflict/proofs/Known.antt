@@ -2,16 +2,8 @@ use Rattle.std.proofs.Common.{◌≡◌, inl, inr, ℕ, ◌<◌, ◌≤◌, List
 use Rattle.std.specs.Prelude.{ℤ, pos}
 use Rattle.std.proofs.{lemmas.Int.ints, lemmas.Bool.cases_lt, lemmas.List.length-take, lemmas.List.take-append-le, lemmas.List.take_all}
 use Rattle.stn_net.specs.{Difference.Difference, Horizon.horizon_bounds, Schedule.Meets, Schedule.HasSchedule}
-use Rattle.stn_net.proofs.Horizons.{length-horizon_bounds}
+pub use Rattle.stn_net.proofs.Horizons.{known_within, known_first}
 use Rattle.stn_net.proofs.Widest.{horizon_each}
-
--- bounds that begin with the horizon bounds are no fewer than the events
-pub known_within : (events : ℕ) (base : List Difference) → take events base ≡ horizon_bounds events → events ≤ length base
-known_within events base begins = omega (arith, ap length begins, length-take events base, length-horizon_bounds events)
-
--- with more bounds after them they still begin so
-pub known_first : (events : ℕ) (base extra : List Difference) → take events base ≡ horizon_bounds events → take events (base ++ extra) ≡ horizon_bounds events
-known_first events base extra begins = take-append-le events base extra (known_within events base begins) ∙ begins
 
 -- the horizon bounds have a schedule: all events at once
 bare_schedule : (events : ℕ) → HasSchedule (horizon_bounds events)

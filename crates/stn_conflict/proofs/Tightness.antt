@@ -8,10 +8,6 @@ use Rattle.stn_net.proofs.Tightest.{tightest_unique}
 use Rattle.stn_net.specs.Matrix.Tightest.{IsTightest}
 use Rattle.stn_conflict.specs.{declared.links.Link.Link, declared.links.Side.Side, declared.links.Side.TheVariants.Upper, declared.links.Side.TheVariants.Lower, Arcs.arc, Arcs.arc_of, Arcs.bound_at, Relaxation.NamesAmong, Named.IsTight}
 
--- what a comparison of signed numbers answers
-pub le_z_tells : (a b : ℤ) → a ≤ℤ b → le_z a b ≡ true
-le_z_tells a b less = grind (arith, ints, less)
-
 -- an event lies at 0 from itself
 pub tightest_self : (bounds : List Difference) (x : ℕ) (m : ℤ) → IsTightest bounds x x m → m ≡ pos 0
 tightest_self bounds x m far =

@@ -1,8 +1,7 @@
-use Rattle.std.proofs.Common.{subst, to_z, of_z, w64, arith}
+use Rattle.std.proofs.Common.{subst, to_z, of_z, w64, ◌≤ℤ◌, arith}
 use Rattle.std.proofs.lemmas.Int.{ints}
 use Rattle.stn_net.specs.Matrix.Tightest.{IsTightest}
 use Rattle.stn_conflict.specs.Listing.{Listing}
-use Rattle.stn_conflict.proofs.Tightness.{le_z_tells}
 use Rattle.stn_conflict.proofs.network.Network.is_within.Goals as goal
 
 pub returns-in-Some-2-clause-told : goal.returns-in-Some-2-clause-told
@@ -17,6 +16,7 @@ returns-in-Some-2-clause-told g c =
         λ is time s. (let below = tightest.bound time s in omega (arith, ints, is, below, c.get.ensures.value, c.get.ensures.within.0, c.get.ensures.within.1)),
         λ all.
             let below = all other other_is in
-            le_z_tells (to_z w64 (of_z w64 c.get.result)) (to_z w64 (of_z w64 c.args.most)) (omega (arith, ints, below, other_at, c.get.ensures.value, c.get.ensures.within.0, c.get.ensures.within.1)),
+            let less : to_z w64 (of_z w64 c.get.result) ≤ℤ to_z w64 (of_z w64 c.args.most) = omega (arith, ints, below, other_at, c.get.ensures.value, c.get.ensures.within.0, c.get.ensures.within.1) in
+            grind (arith, ints, less),
       );
     }
