@@ -2,16 +2,13 @@
 use Rattle.std.proofs.Common.{ℕ, ℤ, Bool, true, false, ◌↔◌, List, [], ◌∷◌, ◌++◌, All, IsTrue, refl}
 use Rattle.std.proofs.{lemmas.Bool.false≢true, lemmas.List.Elements.All-append, lemmas.List.Sorted.All-permutation, lemmas.List.Sorted.IsPermutation-sym}
 use Rattle.std.specs.List.Sorted.{IsPermutation}
-use Rattle.stn_time.proofs.Each.{All-left, All-right}
+use Rattle.stn_time.proofs.Each.{All-right}
 use Rattle.stn_net.specs.{Difference.Difference, Difference.NamesEvents, Schedule.IsSchedule, Schedule.HasSchedule, Schedule.Meets, Matrix.Table.Table, Matrix.Tightest.IsExact}
+pub use Rattle.stn_net.proofs.Closure.{schedule_before}
 use Rattle.stn_net.proofs.Tightest.{exact_same_schedules}
 use Rattle.stn_replica.specs.Invariant.{IsSettled}
 
--- a schedule of bounds and more is one of the bounds
-pub schedule_before : (bounds more : List Difference) (time : ℕ → ℤ) → IsSchedule (bounds ++ more) time → IsSchedule bounds time
-schedule_before bounds more time s = record { origin = s.origin; met = All-left (Meets time) bounds more s.met }
-
--- and meets those after
+-- a schedule of bounds and more meets those after
 pub met_behind : (bounds more : List Difference) (time : ℕ → ℤ) → IsSchedule (bounds ++ more) time → All (Meets time) more
 met_behind bounds more time s = All-right (Meets time) bounds more s.met
 
