@@ -7,7 +7,7 @@ use Rattle.stn_loosen.specs.Loosened.{Imply, AreKept}
 use Rattle.stn_replica.proofs.Schedules.{schedule_before, met_behind}
 
 -- what one order more makes of the orders and of those that are kept
-abbrev Pushes : List Difference → List Difference → List Difference → Difference → Type 0
+abbrev pub Pushes : List Difference → List Difference → List Difference → Difference → Type 0
 Pushes bounds orders kept order =
     (Imply (bounds ++ kept) order → AreKept bounds (orders ++ order ∷ []) kept)
     × (¬ Imply (bounds ++ kept) order → AreKept bounds (orders ++ order ∷ []) (kept ++ order ∷ []))
@@ -24,9 +24,7 @@ push_behind bounds orders kept others first order needed_first is rest =
     )
 
 -- one order more, which is implied, or is kept
-pub AreKept-push : (bounds orders kept : List Difference) (order : Difference) → AreKept bounds orders kept
-    → (Imply (bounds ++ kept) order → AreKept bounds (orders ++ order ∷ []) kept)
-    × (¬ Imply (bounds ++ kept) order → AreKept bounds (orders ++ order ∷ []) (kept ++ order ∷ []))
+pub AreKept-push : (bounds orders kept : List Difference) (order : Difference) → AreKept bounds orders kept → Pushes bounds orders kept order
 AreKept-push bounds [] kept order none =
     let same : bounds ++ kept ≡ bounds = ap (λ l. bounds ++ l) none ∙ append-nil bounds in (
       λ implied. inl (subst (λ l. Imply l order) same implied, none),

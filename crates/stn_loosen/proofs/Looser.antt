@@ -1,25 +1,23 @@
 -- Each schedule of a plan is one of the loosened plan.
-use Rattle.std.proofs.Common.{◌≡◌, ℕ, ℤ, pos, ◌≤◌, ◌≤ℤ◌, zero, suc, List, ◌++◌, sym, subst, arith, All}
+use Rattle.std.proofs.Common.{◌≡◌, ℕ, ℤ, pos, ◌≤◌, ◌≤ℤ◌, List, ◌++◌, sym, subst, arith, All}
 use Rattle.std.specs.{Prelude.slice_index_or, List.AllByRecursion, List.Sorted.IsPermutation}
 use Rattle.std.proofs.{lemmas.Int.ints, lemmas.Int.clamps, lemmas.List.Sorted.All-permutation}
 use Rattle.std.proofs.lemmas.List.Elements.{All-append, All-map, All-from_recursion, recursion_from_All}
+use Rattle.stn_net.proofs.Widest.{horizon_times}
 use Rattle.stn_time.specs.Time.{horizon}
 use Rattle.stn_time.proofs.Each.{All-left, All-right}
-use Rattle.stn_net.specs.{Difference.Difference, Difference.NamesEvents, Horizon.horizon_bound, Horizon.horizon_bounds, Schedule.Meets, Schedule.IsSchedule}
+use Rattle.stn_net.specs.{Difference.Difference, Difference.NamesEvents, Horizon.horizon_bounds, Schedule.Meets, Schedule.IsSchedule}
 use Rattle.stn_lift.specs.PlanSource.{PlanSource, events_of, base_bounds, IsSoundSource}
 use Rattle.stn_loosen.specs.Slack.{Slack, IsSlack, loose}
 use Rattle.stn_loosen.specs.Loosened.{durations_of, orders_of, bounds_with, loose_durations, AreMadeOf}
-use Rattle.stn_loosen.proofs.{Lists.horizon_at, Kept.kept_hold, Lasting.durations_last, ThreeParts.parted}
+use Rattle.stn_loosen.proofs.{Kept.kept_hold, Lasting.durations_last, ThreeParts.parted}
 
 -- a time lies from 0 to the horizon
 abbrev pub IsWithin : ℤ → Type 0
 IsWithin time = (pos 0 ≤ℤ time) × (time ≤ℤ horizon)
 
 pub within : (time : ℕ → ℤ) (events : ℕ) → time 0 ≡ pos 0 → All (Meets time) (horizon_bounds events) → (event : ℕ) → event ≤ events → IsWithin (time event)
-within time events origin met zero last = (omega (arith, ints, origin), omega (arith, ints, origin))
-within time events origin met (suc event) last =
-    let here : Meets time (horizon_bound (suc event)) = horizon_at (Meets time) events (suc event) (omega arith) last (recursion_from_All (Meets time) (horizon_bounds events) met) in
-    (omega (arith, ints, origin, here.0), omega (arith, ints, origin, here.1))
+within time events origin met = horizon_times events time (record { origin = origin; met = met })
 
 -- with slack a duration is met where it is met without
 loose_met : (slack : Slack) → IsSlack slack → (time : ℕ → ℤ) (bound : Difference) → pos 0 ≤ℤ bound.lo → IsWithin (time bound.from) → IsWithin (time bound.to)

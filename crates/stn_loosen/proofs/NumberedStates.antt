@@ -3,6 +3,7 @@ use Rattle.std.proofs.Common.{◌≡◌, ℕ, ◌+◌, ◌<◌, ◌≤◌, max, 
 use Rattle.std.specs.{Ordering.nat_cmp, Ordering.ordering_then, List.AllByRecursion, FinMap.Entries.put}
 use Rattle.std.specs.FinMap.{empty, keys, entries, entries-insert, len-entries, len-empty, get-empty, contains_key}
 use Rattle.std.proofs.lemmas.Bool.Decides.{nat_tests}
+use Rattle.std.proofs.lemmas.List.{nil_from_length}
 use Rattle.stn_net.specs.Difference.{Difference}
 use Rattle.stn_lift.specs.PlanSource.{PlanSource, bare, base_bounds, steps_of}
 use Rattle.stn_records.specs.{Id.SiteCounter, Id.id_cmp, declared.record.Record.Record, ContentLaws.ids_total}
@@ -43,12 +44,8 @@ greatest_numbered site before (bound ∷ bounds) =
     let same : eqb site site ≡ true = grind (arith, nat_tests) in
     rw same (omega (arith, rest))
 
-nothing_left : {A : Type 0} (xs : List A) → length xs ≡ 0 → xs ≡ []
-nothing_left [] none = refl
-nothing_left (x ∷ xs) none = absurd (omega arith)
-
 no_entries : {K X : Type 0} (R : K → K → Ordering) → entries (empty {X = X} {R = R}) ≡ []
-no_entries {X = X} R = nothing_left (entries (empty {X = X} {R = R})) (sym (len-entries (empty {X = X} {R = R})) ∙ len-empty R X)
+no_entries {X = X} R = nil_from_length (entries (empty {X = X} {R = R})) (sym (len-entries (empty {X = X} {R = R})) ∙ len-empty R X)
 
 -- such a state replaces nothing, so it knows what was added
 none_replaced : (additions : RecordMap) → replaced_set (record no_content { additions = additions }) ≡ empty

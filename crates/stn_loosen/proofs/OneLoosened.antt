@@ -1,7 +1,7 @@
 -- There is one loosened plan for a plan and a tolerance.
 use Rattle.std.proofs.Common.{◌≡◌, inl, inr, ℕ, ◌+◌, ◌<◌, ◌≤◌, ℤ, ◌≤ℤ◌, ◌<ℤ◌, suc, Bool, true, false, not, ◌&&◌, cond, filter, Ordering, Less, Equal, Greater, List, [], ◌∷◌, ◌++◌, length, get_or, refl, sym, ap, subst, ◌∙◌, arith, length-append}
 use Rattle.std.specs.{List.AllByRecursion, List.Sorted.ties, Ordering.int_cmp, Ordering.MatchOrdering, Ordering.is_lt, Cmp.int_ranks}
-use Rattle.std.proofs.{lemmas.Bool.false≢true, lemmas.Int.ints}
+use Rattle.std.proofs.{lemmas.Int.ints}
 use Rattle.stn_net.specs.{Difference.Difference, Horizon.horizon_bounds}
 use Rattle.stn_lift.specs.PlanSource.{PlanSource, planned_of, events_of}
 use Rattle.stn_loosen.specs.{Slack.Slack, Moved.moved_bounds, Robust.AreRobust}
@@ -9,28 +9,13 @@ use Rattle.stn_loosen.specs.Loosened.{gap, AreKept, AreNearestFirst, AreLoosened
 use Rattle.stn_loosen.proofs.Settings.{each_weaker}
 
 lt_is : (a b : ℤ) → a <ℤ b → is_lt (int_cmp a b) ≡ true
-lt_is a b less = by (int_cmp a b) (int_ranks a b)
-  where
-    by : (o : Ordering) → MatchOrdering o (a <ℤ b) (a ≡ b) (b <ℤ a) → is_lt o ≡ true
-    by Less ranks = refl
-    by Equal ranks = absurd (omega (arith, ints, ranks, less))
-    by Greater ranks = absurd (omega (arith, ints, ranks, less))
+lt_is a b less = grind (arith, ints)
 
 lt_not : (a b : ℤ) → b ≤ℤ a → is_lt (int_cmp a b) ≡ false
-lt_not a b less = by (int_cmp a b) (int_ranks a b)
-  where
-    by : (o : Ordering) → MatchOrdering o (a <ℤ b) (a ≡ b) (b <ℤ a) → is_lt o ≡ false
-    by Less ranks = absurd (omega (arith, ints, ranks, less))
-    by Equal ranks = refl
-    by Greater ranks = refl
+lt_not a b less = grind (arith, ints)
 
 le_from_not : (a b : ℤ) → is_lt (int_cmp a b) ≡ false → b ≤ℤ a
-le_from_not a b is = by (int_cmp a b) (int_ranks a b) is
-  where
-    by : (o : Ordering) → MatchOrdering o (a <ℤ b) (a ≡ b) (b <ℤ a) → is_lt o ≡ false → b ≤ℤ a
-    by Less ranks h = absurd (false≢true (sym h))
-    by Equal ranks h = omega (arith, ints, ranks)
-    by Greater ranks h = omega (arith, ints, ranks)
+le_from_not a b is = grind (arith, ints)
 
 module _ {X : Type 0} (key : X → ℤ) where
   abbrev lt : X → X → Bool

@@ -3,15 +3,16 @@ use Rattle.std.proofs.Common.{◌≡◌, ◌≢◌, ℕ, ◌<◌, ◌≤◌, ℤ
 use Rattle.std.specs.{Prelude.◌↔◌, List.AllByRecursion, List.Sorted.IsPermutation, Ordering.int_cmp}
 use Rattle.std.proofs.{lemmas.Bool.Decides.nat_tests, lemmas.Int.ints, lemmas.List.Sorted.All-permutation}
 use Rattle.std.proofs.lemmas.List.Elements.{All-append, All-from_recursion, recursion_from_All}
+use Rattle.stn_net.proofs.Widest.{horizon_each}
 use Rattle.stn_time.specs.Time.{horizon}
-use Rattle.stn_time.proofs.Each.{All-left, All-right, each_joined, each_pushed}
-use Rattle.stn_net.specs.{Difference.Difference, Horizon.horizon_bound, Horizon.horizon_bounds, Schedule.Meets, Schedule.IsSchedule, Schedule.HasSchedule, Schedule.times_of}
+use Rattle.stn_time.proofs.Each.{All-left, All-right, each_joined}
+use Rattle.stn_net.specs.{Difference.Difference, Horizon.horizon_bounds, Schedule.Meets, Schedule.IsSchedule, Schedule.HasSchedule, Schedule.times_of}
 use Rattle.stn_lift.specs.BaseBounds.{step_of, order_bound, pair_order, event_orders, orders, events_interfere, event_times}
 use Rattle.stn_lift.specs.PlanSource.{PlanSource, bare, files, events_of, planned_of, activities_of, IsSoundSource}
 use Rattle.stn_replica.proofs.Schedules.{schedule_before, met_behind, schedule_with}
 use Rattle.stn_loosen.specs.{Slack.Slack, Slack.IsSlack, Promise.Promises, Moved.moved_bounds, Robust.loose_bounds, Robust.HasPromise, Robust.AreRobust}
 use Rattle.stn_loosen.specs.Loosened.{orders_of, Imply, AreKept, bounds_with, loose_durations, AreMadeOf}
-use Rattle.stn_loosen.proofs.{Lists.horizon_at, Kept.kept_hold, Kept.all_implied, Looser.within, Looser.loose_durations_met, Looser.orders_named, Orders.orders_implied, Steps.source_steps, Steps.steps_apart, Runs.IsRobust}
+use Rattle.stn_loosen.proofs.{Kept.kept_hold, Kept.all_implied, Looser.within, Looser.loose_durations_met, Looser.orders_named, Orders.orders_implied, Steps.source_steps, Steps.steps_apart, Runs.IsRobust}
 use Rattle.stn_loosen.proofs.Settings.{AreApart, IsMetIn, each_weaker, start_kept, durations_kept, moved_promise, moved_alike, latest_at, latest_keeps, promise_met, promise_origin}
 
 -- an order is between two events
@@ -47,12 +48,6 @@ source_differs (bare steps) = tt
 source_differs (files domain plan) =
     let steps = activities_of domain plan in
     orders_differ (events_interfere steps) (times_of (event_times steps)) (events_of (files domain plan)) (events_of (files domain plan))
-
--- what holds of the horizon bound of each event holds of all horizon bounds
-each_horizon : (P : Difference → Type 0) (most : ℕ) → ((event : ℕ) → 0 < event → event ≤ most → P (horizon_bound event)) → (events : ℕ) → events ≤ most → AllByRecursion P (horizon_bounds events)
-unfolding horizon_bounds
-each_horizon P most each zero few = tt
-each_horizon P most each (suc events) few = each_pushed P (horizon_bounds events) (horizon_bound (suc events)) (each_horizon P most each events (omega arith)) (each (suc events) (omega arith) few)
 
 module _ (source : PlanSource) (sound : IsSoundSource source) (slack : Slack) (is : IsSlack slack) where
   -- the durations of the loosened plan
@@ -92,11 +87,14 @@ module _ (source : PlanSource) (sound : IsSoundSource source) (slack : Slack) (i
   })
 
   moved_horizons : AllByRecursion IsMoved (horizon_bounds (events_of source))
-  moved_horizons = each_horizon IsMoved (events_of source) (λ event first last. record {
-    differs = λ same. omega (arith, same, first);
+  moved_horizons = recursion_from_All IsMoved horizons (horizon_each IsMoved (events_of source) (λ event apart last. record {
+    differs = λ same. apart (sym same);
     named = record { from = omega arith; to = last };
-    met = λ time schedule. horizon_at (Meets time) (events_of source) event first last (recursion_from_All (Meets time) horizons (horizons_met time schedule));
-  }) (events_of source) (omega arith)
+    met = λ time schedule.
+        let there = within_horizon (durations ++ orders_of source) time schedule event last in
+        let origin = schedule.origin in
+        (omega (arith, ints, there.0), omega (arith, ints, there.1));
+  }))
 
   -- a promise meets the bounds that are moved
   module _ (promised : ℕ → ℤ) (promise : Promises (loose_durations slack source) (loose_bounds source slack) promised) where

@@ -2,8 +2,8 @@
 use Rattle.std.proofs.Common.{◌≡◌, ◌≢◌, ℕ, ℤ, pos, ◌-ℤ◌, ◌≤ℤ◌, Bool, true, false, cond, eqb, find, List, [], ◌∷◌, ◌++◌, Option, Some, None, refl, sym, ap, subst, ◌∙◌, arith, All}
 use Rattle.std.specs.{Prelude.◌↔◌, Prelude.unwrap_or, Prelude.Contains, List.AllByRecursion}
 use Rattle.std.proofs.{lemmas.Bool.Decides.nat_tests, lemmas.Int.ints}
-use Rattle.std.proofs.lemmas.List.Elements.{All-from_recursion, recursion_from_All, All-append, All-contains}
-use Rattle.stn_time.proofs.Each.{All-left, All-right}
+use Rattle.std.proofs.lemmas.List.Elements.{All-from_recursion, recursion_from_All, All-contains}
+use Rattle.stn_replica.proofs.Schedules.{schedule_before, schedule_with, met_behind}
 use Rattle.stn_net.specs.{Difference.Difference, Schedule.Meets, Schedule.IsSchedule, Schedule.HasSchedule}
 use Rattle.stn_net.specs.Windows.Window.{IsInWindow}
 use Rattle.stn_loosen.specs.{Promise.still, Promise.setting_of, Promise.Keeps, Promise.Promises, Run.Execution, Run.executed_bounds, Run.MayCome, Run.IsRun}
@@ -28,16 +28,11 @@ met_came time origin (execution ∷ run) all = (omega (arith, ints, origin, all.
 
 pub all_came : (bounds : List Difference) (run : List Execution) (time : ℕ → ℤ) → IsSchedule (bounds ++ executed_bounds run) time → AllByRecursion (Came time) run
 all_came bounds run time schedule =
-    met_came time schedule.origin run (recursion_from_All (Meets time) (executed_bounds run) (All-right (Meets time) bounds (executed_bounds run) schedule.met))
+    met_came time schedule.origin run (recursion_from_All (Meets time) (executed_bounds run) (met_behind bounds (executed_bounds run) time schedule))
 
 came_schedule : (bounds : List Difference) (run : List Execution) (time : ℕ → ℤ) → IsSchedule bounds time → AllByRecursion (Came time) run → IsSchedule (bounds ++ executed_bounds run) time
-came_schedule bounds run time schedule came = record {
-  origin = schedule.origin;
-  met = All-append (Meets time) bounds (executed_bounds run) schedule.met (All-from_recursion (Meets time) (executed_bounds run) (came_met time schedule.origin run came));
-}
-
-front_schedule : (bounds : List Difference) (run : List Execution) (time : ℕ → ℤ) → IsSchedule (bounds ++ executed_bounds run) time → IsSchedule bounds time
-front_schedule bounds run time schedule = record { origin = schedule.origin; met = All-left (Meets time) bounds (executed_bounds run) schedule.met }
+came_schedule bounds run time schedule came =
+    schedule_with bounds (executed_bounds run) time schedule (All-from_recursion (Meets time) (executed_bounds run) (came_met time schedule.origin run came))
 
 -- the times, with another of one event
 abbrev moved_to : (ℕ → ℤ) → ℕ → ℤ → ℕ → ℤ
@@ -61,10 +56,10 @@ module _ (durations bounds : List Difference) (robust : IsRobust durations bound
       (both run (all_came bounds run time schedule) (recursion_from_All (λ (execution : Execution). execution.event ≢ event) run new)))
     where
       front : IsSchedule bounds time
-      front = front_schedule bounds run time schedule
+      front = schedule_before bounds (executed_bounds run) time schedule
 
       kept : Keeps durations time time
-      kept = keeps_itself durations time (robust.lasting time (front_schedule bounds run time schedule))
+      kept = keeps_itself durations time (robust.lasting time (schedule_before bounds (executed_bounds run) time schedule))
 
       both : (rest : List Execution) → AllByRecursion (Came time) rest → AllByRecursion (λ (execution : Execution). execution.event ≢ event) rest → AllByRecursion (λ execution. (Came time execution) × (execution.event ≢ event)) rest
       both [] came others = tt
@@ -82,7 +77,7 @@ module _ (durations bounds : List Difference) (robust : IsRobust durations bound
   started_at run time schedule event start has = All-contains (Came time) run (record { event = event; time = start }) (All-from_recursion (Came time) run (all_came bounds run time schedule)) has
 
   came_more : (run : List Execution) (last : Execution) (time : ℕ → ℤ) → IsSchedule (bounds ++ executed_bounds run) time → time last.event ≡ last.time → IsSchedule (bounds ++ executed_bounds (last ∷ run)) time
-  came_more run last time schedule came = came_schedule bounds (last ∷ run) time (front_schedule bounds run time schedule) (came, all_came bounds run time schedule)
+  came_more run last time schedule came = came_schedule bounds (last ∷ run) time (schedule_before bounds (executed_bounds run) time schedule) (came, all_came bounds run time schedule)
 
   -- with an execution more there is a schedule
   one_more : (run : List Execution) (last : Execution) → All (λ execution. execution.event ≢ last.event) run → HasSchedule (bounds ++ executed_bounds run)
@@ -108,7 +103,7 @@ module _ (durations bounds : List Difference) (robust : IsRobust durations bound
   end_window run s duration has own new start started time = (
     λ within.
         let begun : within.0 duration.from ≡ start = started_at run within.0 within.1 duration.from start started in
-        let met : Meets within.0 duration = All-contains (Meets within.0) durations duration (robust.lasting within.0 (front_schedule bounds run within.0 within.1)) has in
+        let met : Meets within.0 duration = All-contains (Meets within.0) durations duration (robust.lasting within.0 (schedule_before bounds (executed_bounds run) within.0 within.1)) has in
         (omega (arith, ints, begun, within.2, met.0), omega (arith, ints, begun, within.2, met.1)),
     λ lasts.
         let begun : s.0 duration.from ≡ start = started_at run s.0 s.1 duration.from start started in (

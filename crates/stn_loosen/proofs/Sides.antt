@@ -63,11 +63,6 @@ module _ (records : List Difference) (table : Table) (network : Listing) (search
         λ implied. are.within.1 (λ time s. (let met = (implied time s).0 in omega (arith, ints))),
       )
 
-  pub ends_listed : (side.from ≤ network.events) × (side.to ≤ network.events)
-  ends_listed =
-      let events = ap (λ (l : Listing). l.events) searched.whole in
-      (omega (arith, events, named.from), omega (arith, events, named.to))
-
 -- where there is no schedule now, there is none with more
 pub cause_now : (records others : List Difference) (table : Table) (network : Listing) → IsSearched records table network → (fault : LoosenFault) → IsCauseIn network.bounds fault
     → IsCauseBehind table.events records others fault
@@ -111,9 +106,6 @@ module _ (events : ℕ) (old : List Difference) where
   cause_behind first second others middle made Memory p = tt
 
   module _ (side : Difference) where
-    pub side_implied : Imply (all_bounds events old) side → AreMadeBehind events old (side ∷ []) old
-    side_implied implied = ([], sym (append-nil old), inl (implied, refl))
-
     -- with a side that is open, needed, and no bound there is no schedule
     module _ (named : NamesEvents events side) (side_open : IsOpen side) (needed : ¬ Imply (all_bounds events old) side) (time : ℕ → ℤ) (schedule : IsSchedule (all_bounds events (old ++ side ∷ [])) time) where
       here : Meets time side

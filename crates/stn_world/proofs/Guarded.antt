@@ -3,6 +3,7 @@ use Rattle.std.proofs.Common.{◌≡◌, inl, inr, ⊎_elim, ℕ, ℤ, ◌+◌, 
 use Rattle.std.specs.{Prelude.All, Prelude.filter, Prelude.flat_map, List.range_with_len}
 use Rattle.std.proofs.{lemmas.Bool.false≢true, lemmas.Bool.and_parts, lemmas.Bool.Decides.nat_tests, lemmas.List.length-set, lemmas.List.FromFn.length-range_with_len, lemmas.List.FromFn.get_or-range_with_len}
 use Rattle.std.proofs.lemmas.List.Elements.{All-nil, All-append, All-filter, All-head, All-tail}
+use Rattle.stn_time.proofs.Each.{All-left, All-right}
 use Rattle.stn_net.specs.{Difference.Difference, Schedule.HasSchedule, Schedule.Meets}
 use Rattle.stn_net.specs.Windows.Rehearsal.{fixed_at}
 use Rattle.stn_lift.specs.PlanSource.{base_bounds}
@@ -11,9 +12,9 @@ use Rattle.stn_records.specs.Content.{Content, Item, addition, withdrawal, repla
 use Rattle.stn_records.proofs.{Counters.next_is_new, Replaced.replaced_cases, Replaced.replaced_by_withdrawal, Replaced.replaced_by_entry, Replaced.replaced_fewer}
 use Rattle.stn_site.specs.{Bounds.live_bounds, Bounds.all_bounds, Held.executed}
 use Rattle.stn_site.proofs.Items.{addition_items}
-use Rattle.stn_replica.proofs.Live.{live_from_bounds, bounds_from_live}
+use Rattle.stn_replica.proofs.Live.{live_from_bounds, bounds_from_live, All-passing, All-filter_passing}
 use Rattle.stn_guard.specs.Owners.{is_own, own_bounds}
-use Rattle.stn_guard.proofs.{Owned.all_front, Owned.all_behind, Owned.all_passing, Owned.all_filtered, Owned.all_of_pieces, Gluing.glue}
+use Rattle.stn_guard.proofs.{Owned.all_of_pieces, Gluing.glue}
 use Rattle.stn_world.specs.World.{World, HasSite, has_site, content_at, packet_at, next_id_at, with_content, make, send}
 use Rattle.stn_world.specs.Steps.{Step, added, finished, amended, withdrew, merged, sent, delivered, IsAccepted, after, stepped, run}
 use Rattle.stn_world.specs.{Whole.IsCoherent, Guarded.IsOwnItem, Guarded.IsBesideOwn, Guarded.HoldsGuarded, Guarded.KeepsToOwn}
@@ -136,7 +137,7 @@ module _ (owner : ℕ → ℕ) (state : Content) (world : World) (coherent : IsC
 
   each_own : (site : ℕ) → All (λ bound. is_own owner site bound ≡ true) (own_added site)
   each_own site = elim (has_site world site) as (λ b. All (λ bound. is_own owner site bound ≡ true) (cond b (own_live site) [])) [
-    | true ↦ all_filtered (is_own owner site) (λ bound. is_own owner site bound ≡ true) (live_bounds (content_at world site)) (λ k d h passes. passes)
+    | true ↦ All-filter_passing (is_own owner site) (λ bound. is_own owner site bound ≡ true) (live_bounds (content_at world site)) (λ k d h passes. passes)
     | false ↦ All-nil _
   ]
 
@@ -146,8 +147,8 @@ module _ (owner : ℕ → ℕ) (state : Content) (world : World) (coherent : IsC
         let content = content_at world site in
         let time = (each site there).0 in
         let schedule = (each site there).1 in
-        let all = all_passing (is_own owner site) (Meets time) (all_bounds world.source content) schedule.met in
-        let live = all_behind (λ bound. is_own owner site bound ≡ true → Meets time bound) (base_bounds world.source) (live_bounds content) all in
+        let all = All-passing (is_own owner site) (Meets time) (all_bounds world.source content) schedule.met in
+        let live = All-right (λ bound. is_own owner site bound ≡ true → Meets time bound) (base_bounds world.source) (live_bounds content) all in
         let before : All (λ bound. is_own owner site bound ≡ true → Meets time bound) (live_bounds state) =
         bounds_from_live (λ bound. is_own owner site bound ≡ true → Meets time bound) state (λ id one at is.
         let here = holds.held site there (addition id one) at in
@@ -155,11 +156,11 @@ module _ (owner : ℕ → ℕ) (state : Content) (world : World) (coherent : IsC
           time,
           record {
             origin = schedule.origin;
-            met = all_filtered (is_own owner site) (Meets time) ((all_bounds world.source state ++ []) ++ own_live site)
+            met = All-filter_passing (is_own owner site) (Meets time) ((all_bounds world.source state ++ []) ++ own_live site)
                 (All-append (λ bound. is_own owner site bound ≡ true → Meets time bound) (all_bounds world.source state ++ []) (own_live site)
                 (All-append (λ bound. is_own owner site bound ≡ true → Meets time bound) (all_bounds world.source state) []
                 (All-append (λ bound. is_own owner site bound ≡ true → Meets time bound) (base_bounds world.source) (live_bounds state)
-                (all_front (λ bound. is_own owner site bound ≡ true → Meets time bound) (base_bounds world.source) (live_bounds content) all) before)
+                (All-left (λ bound. is_own owner site bound ≡ true → Meets time bound) (base_bounds world.source) (live_bounds content) all) before)
                 (All-nil (λ bound. is_own owner site bound ≡ true → Meets time bound)))
                 (All-filter (is_own owner site) (λ bound. is_own owner site bound ≡ true → Meets time bound) (live_bounds content) live));
           },
@@ -196,7 +197,7 @@ module _ (owner : ℕ → ℕ) (state : Content) (world : World) (coherent : IsC
         let low : site - 1 < length world.sites = omega arith in
         let within : site - 1 < length numbers = omega (arith, length-range_with_len 1 (length world.sites)) in
         let at : get_or numbers (site - 1) 0 ≡ site = get_or-range_with_len 1 (length world.sites) (site - 1) 0 low ∙ (let same : 1 + (site - 1) ≡ site = omega arith in same) in
-        let all = all_of_pieces own_added (Meets glued.0) numbers (all_behind (Meets glued.0) (all_bounds world.source state ++ []) (flat_map own_added numbers) glued.1.met) in
+        let all = all_of_pieces own_added (Meets glued.0) numbers (All-right (Meets glued.0) (all_bounds world.source state ++ []) (flat_map own_added numbers) glued.1.met) in
         subst (λ (b : Bool). All (Meets glued.0) (cond b (own_live site) [])) ((site_decides world site).1 there)
         (subst (λ (n : ℕ). All (Meets glued.0) (own_added n)) at (all (site - 1) 0 within))
 
@@ -205,19 +206,19 @@ module _ (owner : ℕ → ℕ) (state : Content) (world : World) (coherent : IsC
     guarded_schedules site there =
         let time = glued.0 in
         let whole = content_at world site in
-        let before = all_front (Meets time) (all_bounds world.source state) [] (all_front (Meets time) (all_bounds world.source state ++ []) (flat_map own_added numbers) glued.1.met) in
-        let live = all_behind (Meets time) (base_bounds world.source) (live_bounds state) before in (
+        let before = All-left (Meets time) (all_bounds world.source state) [] (All-left (Meets time) (all_bounds world.source state ++ []) (flat_map own_added numbers) glued.1.met) in
+        let live = All-right (Meets time) (base_bounds world.source) (live_bounds state) before in (
           time,
           record {
             origin = glued.1.origin;
-            met = All-append (Meets time) (base_bounds world.source) (live_bounds whole) (all_front (Meets time) (base_bounds world.source) (live_bounds state) before)
+            met = All-append (Meets time) (base_bounds world.source) (live_bounds whole) (All-left (Meets time) (base_bounds world.source) (live_bounds state) before)
                 (bounds_from_live (Meets time) whole (λ id one here is. ⊎_elim
                 (λ old. live_from_bounds (Meets time) state live id one old (live_there state (λ item h. inl h) whole (holds.held site there) id one is old))
                 (λ own.
                 let content = content_at world id.site in
                 let made = coherent.1.own id one (coherent.1.sites site (addition id one) here) in
                 live_from_bounds (λ bound. is_own owner id.site bound ≡ true → Meets time bound) content
-                (all_passing (is_own owner id.site) (Meets time) (live_bounds content) (added_met id.site own.0)) id one made
+                (All-passing (is_own owner id.site) (Meets time) (live_bounds content) (added_met id.site own.0)) id one made
                 (live_there content (holds.sites id.site) whole (holds.held site there) id one is made) own.1)
                 (holds.sites site (addition id one) here)));
           },
