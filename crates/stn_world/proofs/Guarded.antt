@@ -1,8 +1,10 @@
 -- Sites that keep to what is their own keep a schedule of all that they hold.
-use Rattle.std.proofs.Common.{◌≡◌, inl, inr, ⊎_elim, ℕ, ℤ, ◌+◌, ◌-◌, ◌<◌, ◌≤◌, Bool, true, false, cond, not, ◌&&◌, ◌||◌, eqb, is_some, List, [], ◌∷◌, ◌++◌, length, get_or, refl, sym, subst, ◌∙◌, arith}
+use Rattle.std.proofs.Common.{◌≡◌, inl, inr, ⊎_elim, ℕ, ℤ, ◌+◌, ◌-◌, ◌<◌, ◌≤◌, Bool, true, false, cond, not, ◌&&◌, eqb, is_some, List, [], ◌∷◌, ◌++◌, length, get_or, refl, sym, subst, ◌∙◌, arith}
 use Rattle.std.specs.{Prelude.All, Prelude.filter, Prelude.flat_map, List.range_with_len}
 use Rattle.std.proofs.{lemmas.Bool.false≢true, lemmas.Bool.and_parts, lemmas.Bool.Decides.nat_tests, lemmas.List.length-set, lemmas.List.FromFn.length-range_with_len, lemmas.List.FromFn.get_or-range_with_len}
 use Rattle.std.proofs.lemmas.List.Elements.{All-nil, All-append, All-filter, All-head, All-tail}
+use Rattle.std.proofs.lemmas.Bool.{or_right, not-true}
+use Rattle.stn_time.proofs.Each.{All-left, All-right}
 use Rattle.stn_net.specs.{Difference.Difference, Schedule.HasSchedule, Schedule.Meets}
 use Rattle.stn_net.specs.Windows.Rehearsal.{fixed_at}
 use Rattle.stn_lift.specs.PlanSource.{base_bounds}
@@ -11,17 +13,13 @@ use Rattle.stn_records.specs.Content.{Content, Item, addition, withdrawal, repla
 use Rattle.stn_records.proofs.{Counters.next_is_new, Replaced.replaced_cases, Replaced.replaced_by_withdrawal, Replaced.replaced_by_entry, Replaced.replaced_fewer}
 use Rattle.stn_site.specs.{Bounds.live_bounds, Bounds.all_bounds, Held.executed}
 use Rattle.stn_site.proofs.Items.{addition_items}
-use Rattle.stn_replica.proofs.Live.{live_from_bounds, bounds_from_live}
+use Rattle.stn_replica.proofs.Live.{live_from_bounds, bounds_from_live, All-passing, All-filter_passing}
 use Rattle.stn_guard.specs.Owners.{is_own, own_bounds}
-use Rattle.stn_guard.proofs.{Owned.all_front, Owned.all_behind, Owned.all_passing, Owned.all_filtered, Owned.all_of_pieces, Gluing.glue}
+use Rattle.stn_guard.proofs.{Owned.all_of_pieces, Gluing.glue}
 use Rattle.stn_world.specs.World.{World, HasSite, has_site, content_at, packet_at, next_id_at, with_content, make, send}
 use Rattle.stn_world.specs.Steps.{Step, added, finished, amended, withdrew, merged, sent, delivered, IsAccepted, after, stepped, run}
 use Rattle.stn_world.specs.{Whole.IsCoherent, Guarded.IsOwnItem, Guarded.IsBesideOwn, Guarded.HoldsGuarded, Guarded.KeepsToOwn}
 use Rattle.stn_world.proofs.{Accepted.site_decides, Accepted.accepted_addition, Accepted.accepted_execution, Accepted.accepted_sending, Parts.sent_inside, Runs.for_step, Runs.coherent_stepped, Whole.each_site, Whole.each_packet, Whole.kept, Whole.sites_join, Whole.packet_joins}
-
-or_right : (a b : Bool) → b ≡ true → (a || b) ≡ true
-or_right true b e = refl
-or_right false b e = e
 
 own_execution : (owner : ℕ → ℕ) (site event : ℕ) (time : ℤ) → owner event ≡ site → is_own owner site (fixed_at time event) ≡ true
 own_execution owner site event time own =
@@ -99,12 +97,8 @@ module _ (owner : ℕ → ℕ) (state : Content) where
       (All-tail (KeepsToOwn owner) step steps own)
 
 -- ---- a record that is there is live where its id is not replaced
-not_true : (b : Bool) → not b ≡ true → b ≡ false
-not_true true e = absurd (false≢true e)
-not_true false e = refl
-
 unreplaced : (content : Content) (id : SiteCounter) → is_live content id ≡ true → is_replaced content id ≡ false
-unreplaced content id live = not_true (is_replaced content id) (and_parts (is_some _) (not (is_replaced content id)) live).1
+unreplaced content id live = not-true (is_replaced content id) (and_parts (is_some _) (not (is_replaced content id)) live).1
 
 -- ---- all that the sites hold together
 module _ (owner : ℕ → ℕ) (state : Content) (world : World) (coherent : IsCoherent world) (holds : HoldsGuarded owner state world) where
@@ -136,7 +130,7 @@ module _ (owner : ℕ → ℕ) (state : Content) (world : World) (coherent : IsC
 
   each_own : (site : ℕ) → All (λ bound. is_own owner site bound ≡ true) (own_added site)
   each_own site = elim (has_site world site) as (λ b. All (λ bound. is_own owner site bound ≡ true) (cond b (own_live site) [])) [
-    | true ↦ all_filtered (is_own owner site) (λ bound. is_own owner site bound ≡ true) (live_bounds (content_at world site)) (λ k d h passes. passes)
+    | true ↦ All-filter_passing (is_own owner site) (λ bound. is_own owner site bound ≡ true) (live_bounds (content_at world site)) (λ k d h passes. passes)
     | false ↦ All-nil _
   ]
 
@@ -146,8 +140,8 @@ module _ (owner : ℕ → ℕ) (state : Content) (world : World) (coherent : IsC
         let content = content_at world site in
         let time = (each site there).0 in
         let schedule = (each site there).1 in
-        let all = all_passing (is_own owner site) (Meets time) (all_bounds world.source content) schedule.met in
-        let live = all_behind (λ bound. is_own owner site bound ≡ true → Meets time bound) (base_bounds world.source) (live_bounds content) all in
+        let all = All-passing (is_own owner site) (Meets time) (all_bounds world.source content) schedule.met in
+        let live = All-right (λ bound. is_own owner site bound ≡ true → Meets time bound) (base_bounds world.source) (live_bounds content) all in
         let before : All (λ bound. is_own owner site bound ≡ true → Meets time bound) (live_bounds state) =
         bounds_from_live (λ bound. is_own owner site bound ≡ true → Meets time bound) state (λ id one at is.
         let here = holds.held site there (addition id one) at in
@@ -155,11 +149,11 @@ module _ (owner : ℕ → ℕ) (state : Content) (world : World) (coherent : IsC
           time,
           record {
             origin = schedule.origin;
-            met = all_filtered (is_own owner site) (Meets time) ((all_bounds world.source state ++ []) ++ own_live site)
+            met = All-filter_passing (is_own owner site) (Meets time) ((all_bounds world.source state ++ []) ++ own_live site)
                 (All-append (λ bound. is_own owner site bound ≡ true → Meets time bound) (all_bounds world.source state ++ []) (own_live site)
                 (All-append (λ bound. is_own owner site bound ≡ true → Meets time bound) (all_bounds world.source state) []
                 (All-append (λ bound. is_own owner site bound ≡ true → Meets time bound) (base_bounds world.source) (live_bounds state)
-                (all_front (λ bound. is_own owner site bound ≡ true → Meets time bound) (base_bounds world.source) (live_bounds content) all) before)
+                (All-left (λ bound. is_own owner site bound ≡ true → Meets time bound) (base_bounds world.source) (live_bounds content) all) before)
                 (All-nil (λ bound. is_own owner site bound ≡ true → Meets time bound)))
                 (All-filter (is_own owner site) (λ bound. is_own owner site bound ≡ true → Meets time bound) (live_bounds content) live));
           },
@@ -196,7 +190,7 @@ module _ (owner : ℕ → ℕ) (state : Content) (world : World) (coherent : IsC
         let low : site - 1 < length world.sites = omega arith in
         let within : site - 1 < length numbers = omega (arith, length-range_with_len 1 (length world.sites)) in
         let at : get_or numbers (site - 1) 0 ≡ site = get_or-range_with_len 1 (length world.sites) (site - 1) 0 low ∙ (let same : 1 + (site - 1) ≡ site = omega arith in same) in
-        let all = all_of_pieces own_added (Meets glued.0) numbers (all_behind (Meets glued.0) (all_bounds world.source state ++ []) (flat_map own_added numbers) glued.1.met) in
+        let all = all_of_pieces own_added (Meets glued.0) numbers (All-right (Meets glued.0) (all_bounds world.source state ++ []) (flat_map own_added numbers) glued.1.met) in
         subst (λ (b : Bool). All (Meets glued.0) (cond b (own_live site) [])) ((site_decides world site).1 there)
         (subst (λ (n : ℕ). All (Meets glued.0) (own_added n)) at (all (site - 1) 0 within))
 
@@ -205,19 +199,19 @@ module _ (owner : ℕ → ℕ) (state : Content) (world : World) (coherent : IsC
     guarded_schedules site there =
         let time = glued.0 in
         let whole = content_at world site in
-        let before = all_front (Meets time) (all_bounds world.source state) [] (all_front (Meets time) (all_bounds world.source state ++ []) (flat_map own_added numbers) glued.1.met) in
-        let live = all_behind (Meets time) (base_bounds world.source) (live_bounds state) before in (
+        let before = All-left (Meets time) (all_bounds world.source state) [] (All-left (Meets time) (all_bounds world.source state ++ []) (flat_map own_added numbers) glued.1.met) in
+        let live = All-right (Meets time) (base_bounds world.source) (live_bounds state) before in (
           time,
           record {
             origin = glued.1.origin;
-            met = All-append (Meets time) (base_bounds world.source) (live_bounds whole) (all_front (Meets time) (base_bounds world.source) (live_bounds state) before)
+            met = All-append (Meets time) (base_bounds world.source) (live_bounds whole) (All-left (Meets time) (base_bounds world.source) (live_bounds state) before)
                 (bounds_from_live (Meets time) whole (λ id one here is. ⊎_elim
                 (λ old. live_from_bounds (Meets time) state live id one old (live_there state (λ item h. inl h) whole (holds.held site there) id one is old))
                 (λ own.
                 let content = content_at world id.site in
                 let made = coherent.1.own id one (coherent.1.sites site (addition id one) here) in
                 live_from_bounds (λ bound. is_own owner id.site bound ≡ true → Meets time bound) content
-                (all_passing (is_own owner id.site) (Meets time) (live_bounds content) (added_met id.site own.0)) id one made
+                (All-passing (is_own owner id.site) (Meets time) (live_bounds content) (added_met id.site own.0)) id one made
                 (live_there content (holds.sites id.site) whole (holds.held site there) id one is made) own.1)
                 (holds.sites site (addition id one) here)));
           },
