@@ -1,14 +1,14 @@
 -- What comes next has one text, and a rehearsal has one, or one cause that refuses it.
-use Rattle.std.proofs.Common.{◌≡◌, ◌⊎◌, inl, inr, ℕ, ◌≤◌, ℤ, Bool, List, ◌++◌, append_assoc, length, take, take_all, Result, Ok, Err, OnOk, refl, sym, ap, subst, ◌∙◌}
+use Rattle.std.proofs.Common.{◌≡◌, inl, inr, ℕ, ◌≤◌, ℤ, Bool, List, ◌++◌, append_assoc, length, take, take_all, Result, Ok, Err, OnOk, sym, ap, ◌∙◌}
 use Rattle.std.specs.{Prelude.if◌then◌else◌, Prelude.is_ok, List.flat_map, Prelude.codes}
-use Rattle.stn_net.specs.{Schedule.HasSchedule, declared.windows.answers.Next.Next, declared.windows.answers.RehearseFault.RehearseFault, Windows.Rehearsal.IsRehearseFault}
+use Rattle.stn_net.specs.{declared.windows.answers.Next.Next}
 use Rattle.stn_net.specs.declared.windows.answers.Next.TheVariants.{Run, AllDone, Overdue}
 use Rattle.stn_net.specs.declared.windows.answers.RehearseFault.TheVariants as rehearse_fault
 use Rattle.stn_net.proofs.OneAnswer.{one_next, one_rehearsal}
 use Rattle.stn_lift.specs.PlanSource.{PlanSource}
 use Rattle.stn_records.specs.Content.{Content}
 use Rattle.stn_site.specs.{Bounds.all_bounds, Lines.line}
-use Rattle.stn_command.specs.Dispatch.{next_text, IsNextText, run_line, runs_text, SaysRuns, IsRestText, IsOverdueAt, IsRefusedRehearsal}
+use Rattle.stn_command.specs.Dispatch.{next_text, IsNextText, run_line, runs_text, IsRestText, IsOverdueAt}
 
 pub one_next_text : (source : PlanSource) (state : Content) (done : List Bool) (now : ℤ) (text other : List ℕ) → IsNextText source state done now text → IsNextText source state done now other → text ≡ other
 one_next_text source state done now text other (inl p) (inl q) =
@@ -16,15 +16,6 @@ one_next_text source state done now text other (inl p) (inl q) =
 one_next_text source state done now text other (inl p) (inr q) = absurd (q.conflict p.possible)
 one_next_text source state done now text other (inr p) (inl q) = absurd (p.conflict q.possible)
 one_next_text source state done now text other (inr p) (inr q) = p.said ∙ sym q.said
-
--- where some schedule runs the whole plan, no event is overdue
-runs_not_overdue : (source : PlanSource) (state : Content) (done : List Bool) (now : ℤ) (text : List ℕ) (event : ℕ) → SaysRuns source state done now text → ¬ IsOverdueAt source state done now event
-runs_not_overdue source state done now text event says late = late.overdue.1 says.rest.in_time
-
--- the rest of the plan, or a conflict: no event is overdue
-pub rest_accepted : (source : PlanSource) (state : Content) (done : List Bool) (now : ℤ) (text : List ℕ) → IsRestText source state done now text → ¬ IsRefusedRehearsal source state done now
-rest_accepted source state done now text (inl says) late = runs_not_overdue source state done now text late.0 says late.1
-rest_accepted source state done now text (inr says) late = says.conflict late.1.possible
 
 pub one_rest_text : (source : PlanSource) (state : Content) (done : List Bool) (now : ℤ) (text other : List ℕ) → IsRestText source state done now text → IsRestText source state done now other → text ≡ other
 one_rest_text source state done now text other (inl p) (inl q) =
@@ -40,18 +31,6 @@ runs_ended (Ok value) runs place old lines new past each last =
     last ∙ ap (λ (l : List ℕ). l ++ (line (codes "all done"))) (each ∙ ap (λ (l : List (ℤ × ℕ)). old ++ flat_map (λ run. run_line run.0 run.1) l) (take_all place runs past))
     ∙ append_assoc old (flat_map (λ run. run_line run.0 run.1) runs) (line (codes "all done"))
 runs_ended (Err fault) runs place old lines new past each last = tt
-
--- why a rehearsal is refused
-pub refused_as : (source : PlanSource) (state : Content) (done : List Bool) (now : ℤ) (fault : RehearseFault) → HasSchedule (all_bounds source state)
-    → IsRehearseFault (all_bounds source state) done now fault
-    → (fault ≡ rehearse_fault.Memory) ⊎ ((event : ℕ) × (fault ≡ rehearse_fault.Overdue event) × IsOverdueAt source state done now event)
-refused_as source state done now rehearse_fault.Memory possible late = inl refl
-refused_as source state done now (rehearse_fault.Overdue event) possible late = inr (event, refl, record { possible = possible; overdue = late })
-
--- and lack of memory stops only a rehearsal in which no event is
-pub lack_as : (source : PlanSource) (state : Content) (done : List Bool) (now : ℤ) (fault : RehearseFault) → IsRehearseFault (all_bounds source state) done now fault
-    → fault ≡ rehearse_fault.Memory → ¬ IsRefusedRehearsal source state done now
-lack_as source state done now fault late is refused = refused.1.overdue.1 (subst (IsRehearseFault (all_bounds source state) done now) is late)
 
 -- the event of an answer that names one as overdue
 abbrev overdue_event : Next → ℕ

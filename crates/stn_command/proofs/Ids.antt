@@ -1,5 +1,5 @@
 -- The id that a word names.
-use Rattle.std.proofs.Common.{◌≡◌, ◌≢◌, ℕ, suc, ◌+◌, ◌<◌, ◌^◌, Bool, true, false, ◌==◌, ◌&&◌, cond, List, [], ◌∷◌, ◌++◌, length, take, drop, Some, None, decimal, refl, sym, ap, ◌∙◌, arith, append_assoc, bytes_eq}
+use Rattle.std.proofs.Common.{◌≡◌, ◌≢◌, ℕ, ◌+◌, ◌<◌, ◌^◌, Bool, true, false, ◌==◌, ◌&&◌, cond, List, [], ◌∷◌, ◌++◌, length, take, drop, Some, None, decimal, refl, sym, ap, ◌∙◌, arith, append_assoc, bytes_eq}
 use Rattle.std.specs.{Prelude.nat_le, List.before_first, List.after_first, List.position_or_len, Char.is_ascii_digit, Str.all_ascii_digits, Str.Parse.digits_value}
 use Rattle.std.proofs.{lemmas.Slice.Eq.bytes_eq-Decides, lemmas.Bool.Decides.nat_tests, lemmas.Bool.and_parts, lemmas.Bool.and_from, lemmas.Fmt.digits_decimal, lemmas.Fmt.digits_value-decimal, lemmas.List.take_at, lemmas.List.drop_at, lemmas.List.length_push}
 use Rattle.stn_text.proofs.Digits.{own}
@@ -10,15 +10,12 @@ use Rattle.stn_command.specs.Words.{around_dot, is_id, id_of}
 digit_no_dot : (byte : ℕ) → is_ascii_digit byte ≡ true → (byte == 46) ≡ false
 digit_no_dot byte e = grind (arith, nat_tests)
 
-one_more : (n : ℕ) → 1 + n ≡ suc n
-one_more n = omega arith
-
 -- the first dot after digits
 dot_behind : (xs ys : List ℕ) → all_ascii_digits xs ≡ true → position_or_len (λ byte. byte == 46) (xs ++ (46 ∷ ys)) ≡ length xs
 dot_behind [] ys e = refl
 dot_behind (x ∷ xs) ys e =
     let both = and_parts _ _ e in
-    rw (digit_no_dot x both.0) (ap (λ n. 1 + n) (dot_behind xs ys both.1) ∙ one_more (length xs))
+    rw (digit_no_dot x both.0) (omega (arith, dot_behind xs ys both.1))
 
 before : (xs ys : List ℕ) → all_ascii_digits xs ≡ true → before_first (λ byte. byte == 46) (xs ++ (46 ∷ ys)) ≡ xs
 before xs ys e = ap (λ n. take n (xs ++ (46 ∷ ys))) (dot_behind xs ys e) ∙ take_at xs (46 ∷ ys) (length xs) refl

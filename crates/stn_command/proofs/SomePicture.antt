@@ -1,11 +1,10 @@
 -- Each plan and each state have a picture, with any lines of the steps.
 use Rattle.std.proofs.Common.{inl, inr, ℕ, ℤ, zero, suc, ◌≤◌, Bool, List, [], ◌∷◌, ◌++◌, neg_ℤ, refl, arith}
 use Rattle.stn_net.specs.Difference.{Difference}
-use Rattle.stn_net.proofs.WindowEnds.{window_of_ends}
 use Rattle.stn_lift.specs.PlanSource.{PlanSource, events_of}
 use Rattle.stn_records.specs.Content.{Content}
 use Rattle.stn_site.specs.{Bounds.all_bounds, Report.is_done}
-use Rattle.stn_questions.proofs.{Found.AreFound, Found.possible_found, Found.tightest_found, SomeReport.IsSoundState, SomeReport.differences, SomeReport.some_conflict}
+use Rattle.stn_questions.proofs.{Found.AreFound, Found.possible_found, Found.window_found, SomeReport.IsSoundState, SomeReport.differences, SomeReport.some_conflict}
 use Rattle.stn_questions.specs.{declared.picture.span.Span.Span, Picture.Axis.gap_of, Picture.Spans.AreSpans}
 use Rattle.stn_questions.specs.Picture.Places.{rows_end, cycle_height}
 use Rattle.stn_questions.specs.Picture.{windows_text, cycle_text, IsPicture}
@@ -15,11 +14,9 @@ some_spans : (bounds : List Difference) (events : ℕ) (far : ℕ → ℕ → �
     → (spans : List Span) × AreSpans bounds done n spans
 some_spans bounds events far done found zero within = ([], refl)
 some_spans bounds events far done found (suc n) within =
-    let (before, are) = some_spans bounds events far done found n (omega arith) in
-    let early = tightest_found bounds events far found (suc n) 0 within (omega arith) in
-    let late = tightest_found bounds events far found 0 (suc n) (omega arith) within in (
+    let (before, are) = some_spans bounds events far done found n (omega arith) in (
       before ++ record { event = suc n; earliest = neg_ℤ (far (suc n) 0); latest = far 0 (suc n); done = done (suc n) } ∷ [],
-      (before, neg_ℤ (far (suc n) 0), far 0 (suc n), are, window_of_ends bounds (suc n) (far (suc n) 0) (far 0 (suc n)) early late, refl),
+      (before, neg_ℤ (far (suc n) 0), far 0 (suc n), are, window_found bounds events far found (suc n) within, refl),
     )
 
 pub some_picture : (steps : List ℕ) (source : PlanSource) (state : Content) → IsSoundState source state → (text : List ℕ) × IsPicture steps source state text

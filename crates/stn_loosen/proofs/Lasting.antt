@@ -8,7 +8,7 @@ use Rattle.stn_text.specs.Faults.{◌>>=◌}
 use Rattle.stn_pddl.specs.Tree.Names.{is_same_word}
 use Rattle.stn_net.specs.Difference.{Difference}
 use Rattle.stn_pddl.specs.{declared.fault.DomainFault.DomainFault, Schemas.ActionSchema, Domains.domain_of, Domains.action_named, Sound.IsSound}
-use Rattle.stn_pddl.proofs.SoundActions.{domain-sound}
+use Rattle.stn_pddl.proofs.SoundActions.{domain-sound, found-sound}
 use Rattle.stn_lift.specs.{declared.plan.fault.PlanFault.PlanFault, Plan.Steps.PlannedStep, Plan.Steps.plan_of, declared.fault.LiftFault.LiftFault, BaseBounds.duration_bound, BaseBounds.duration_bounds, BaseBounds.duration_of}
 use Rattle.stn_lift.specs.declared.fault.LiftFault.TheVariants.{Arity, DurationDiffers, PastHorizon}
 use Rattle.stn_lift.specs.Activities.{Activity, activity, differs, with_action, with_found, activity_of, activities}
@@ -19,14 +19,6 @@ use Rattle.stn_loosen.specs.Loosened.{durations_of}
 -- the step takes some time, or none
 abbrev Lasts : Activity → Type 0
 Lasts step = pos 0 ≤ℤ step.duration
-
-found_sound : (test : ActionSchema → Bool) (actions : List ActionSchema) (action : ActionSchema) → AllByRecursion IsSound actions → find test actions ≡ Some action → IsSound action
-found_sound test [] action all is = cc
-found_sound test (first ∷ actions) action all is = by (test first) (found_sound test actions action all.1) is
-  where
-    by : (t : Bool) → (find test actions ≡ Some action → IsSound action) → cond t (Some first) (find test actions) ≡ Some action → IsSound action
-    by true later h = let same : first ≡ action = cc in subst IsSound same all.0
-    by false later h = later h
 
 with_action_lasts : (number : ℕ) (step : PlannedStep) (action : ActionSchema) (found : Activity) → pos 0 ≤ℤ action.duration → with_action number step action ≡ Ok found → Lasts found
 unfolding with_action
@@ -43,7 +35,7 @@ with_action_lasts number step action found lasts is =
 activity_lasts : (actions : List ActionSchema) (number : ℕ) (step : PlannedStep) (found : Activity) → AllByRecursion IsSound actions → activity_of actions number step ≡ Ok found → Lasts found
 unfolding activity_of action_named
 activity_lasts actions number step found all is =
-    by (find (λ action. is_same_word step.action action.name) actions) (λ action given. found_sound (λ action. is_same_word step.action action.name) actions action all given) is
+    by (find (λ action. is_same_word step.action action.name) actions) (λ action given. found-sound (λ action. is_same_word step.action action.name) actions action all given) is
   where
     by : (o : Option ActionSchema) → ((action : ActionSchema) → o ≡ Some action → IsSound action) → with_found number step o ≡ Ok found → Lasts found
     by None sound h = cc

@@ -6,9 +6,12 @@ use Rattle.std.specs.{Cmp.IsEquivalence, Cmp.Equal-is, Cmp.eq_by_cmp_equiv, Cmp.
 use Rattle.std.specs.Ordering.{MatchOrdering, nat_cmp, ordering_then, ordering_reverse}
 use Rattle.stn_records.specs.{Id.SiteCounter, Id.id_cmp, Content.Content, Content.is_known, Content.same_ids, ContentLaws.ids_total, ContentLaws.ids_exact, ContentLaws.ids_decide}
 use Rattle.std.specs.FinMap as fin
+use Rattle.std.proofs.lemmas.Bool.{eq-eqb, ne_eqb}
+use Rattle.std.proofs.lemmas.Bool.Decides.{same_from_decides}
+use Rattle.std.specs.Bool.{Decides}
+use Rattle.std.proofs.Math.Bool.{or_assoc, or_comm}
 use Rattle.stn_records.proofs.{KnownIds.member-append, Replaced.with_ids_member}
 use Rattle.stn_questions.specs.Records.{AreKnown}
-use Rattle.stn_questions.proofs.ReadyLists.{same_number, other_number}
 
 pub laws : IsEquivalence same_ids
 laws = eq_by_cmp_equiv ids_total
@@ -22,21 +25,14 @@ same_numbers a b = eqb a.site b.site && eqb a.counter b.counter
 
 by_numbers : (a b : SiteCounter) (sites counters : Ordering) → MatchOrdering sites (a.site < b.site) (a.site ≡ b.site) (b.site < a.site)
     → MatchOrdering counters (a.counter < b.counter) (a.counter ≡ b.counter) (b.counter < a.counter) → same_numbers a b ≡ is_eq (ordering_then sites counters)
-by_numbers a b Less counters p q = ap (λ t. t && eqb a.counter b.counter) (other_number a.site b.site (λ e. absurd (omega arith)))
-by_numbers a b Equal Less p q = (λ i. same_number a.site b.site p i && other_number a.counter b.counter (λ e. absurd (omega arith)) i)
-by_numbers a b Equal Equal p q = (λ i. same_number a.site b.site p i && same_number a.counter b.counter q i)
-by_numbers a b Equal Greater p q = (λ i. same_number a.site b.site p i && other_number a.counter b.counter (λ e. absurd (omega arith)) i)
-by_numbers a b Greater counters p q = ap (λ t. t && eqb a.counter b.counter) (other_number a.site b.site (λ e. absurd (omega arith)))
+by_numbers a b Less counters p q = ap (λ t. t && eqb a.counter b.counter) (ne_eqb a.site b.site (λ e. absurd (omega arith)))
+by_numbers a b Equal Less p q = (λ i. eq-eqb a.site b.site p i && ne_eqb a.counter b.counter (λ e. absurd (omega arith)) i)
+by_numbers a b Equal Equal p q = (λ i. eq-eqb a.site b.site p i && eq-eqb a.counter b.counter q i)
+by_numbers a b Equal Greater p q = (λ i. eq-eqb a.site b.site p i && ne_eqb a.counter b.counter (λ e. absurd (omega arith)) i)
+by_numbers a b Greater counters p q = ap (λ t. t && eqb a.counter b.counter) (ne_eqb a.site b.site (λ e. absurd (omega arith)))
 
 ties : (a b : SiteCounter) → same_numbers a b ≡ same_ids a b
 ties a b = by_numbers a b (nat_cmp a.site b.site) (nat_cmp a.counter b.counter) (ranks a.site b.site) (ranks a.counter b.counter)
-
-in_turn : (a b c : Bool) → ((a || b) || c) ≡ (a || (c || b))
-in_turn true b c = refl
-in_turn false true true = refl
-in_turn false true false = refl
-in_turn false false true = refl
-in_turn false false false = refl
 
 -- the ids that were added, then those that were withdrawn, then those that records replace
 abbrev pub listed_ids : Content → List SiteCounter
@@ -49,8 +45,9 @@ listed_member state id =
     ∙ ap (λ b. b || is_member same_ids (fin.values state.replacements) id)
     (member-append (fin.keys state.additions) (fin.keys state.tombstones) id
     ∙ (λ i. sym (contains_key-keys state.additions id) i || sym (contains_key-keys state.tombstones id) i))
-    ∙ in_turn (fin.contains_key state.additions id) (fin.contains_key state.tombstones id) (is_member same_ids (fin.values state.replacements) id)
-    ∙ ap (λ b. fin.contains_key state.additions id || b) (sym (with_ids_member state.tombstones (fin.values state.replacements) id))
+    ∙ or_assoc (fin.contains_key state.additions id) (fin.contains_key state.tombstones id) (is_member same_ids (fin.values state.replacements) id)
+    ∙ ap (λ b. fin.contains_key state.additions id || b)
+    (or_comm (fin.contains_key state.tombstones id) (is_member same_ids (fin.values state.replacements) id) ∙ sym (with_ids_member state.tombstones (fin.values state.replacements) id))
 
 -- the ids that were listed, sorted, each once
 pub known_once : (state : Content) (listed sorted ids : List SiteCounter) → listed ≡ listed_ids state → IsPermutation listed sorted → IsSorted id_cmp sorted
@@ -121,17 +118,13 @@ same_sorted (x ∷ xs) (y ∷ ys) p q same =
             ap (is_member same_ids xs) is ∙ none_below x xs p ∙ sym (ap (is_member same_ids ys) is ∙ none_below x ys q)
         by false t = sym (ap (λ s. s || is_member same_ids xs z) t) ∙ same z ∙ ap (λ s. s || is_member same_ids ys z) t
 
-same_truth : (a b : Bool) → (a ≡ true → b ≡ true) → (b ≡ true → a ≡ true) → a ≡ b
-same_truth true b f g = sym (f refl)
-same_truth false true f g = g refl
-same_truth false false f g = refl
-
 -- there is one such list
 pub one_known : (state : Content) (xs ys : List SiteCounter) → AreKnown state xs → AreKnown state ys → xs ≡ ys
 one_known state xs ys p q = same_sorted xs ys p.order q.order
-    (λ id. same_truth (is_member same_ids xs id) (is_member same_ids ys id)
-    (λ m. list_any-from_Contains laws id ys ((q.known id).1 ((p.known id).0 (Contains-from_any same_is id xs m))))
-    (λ m. list_any-from_Contains laws id xs ((p.known id).1 ((q.known id).0 (Contains-from_any same_is id ys m)))))
+    (λ id. same_from_decides (is_member same_ids xs id) (is_member same_ids ys id) (known xs p id) (known ys q id))
+  where
+    known : (ids : List SiteCounter) → AreKnown state ids → (id : SiteCounter) → Decides (is_member same_ids ids id) (is_known state id ≡ true)
+    known ids are id = (λ m. (are.known id).0 (Contains-from_any same_is id ids m), λ known. list_any-from_Contains laws id ids ((are.known id).1 known))
 
 any_value : (id : SiteCounter) (entries : List (SiteCounter × SiteCounter)) → list_any (λ entry. same_ids id entry.1) entries ≡ is_member same_ids (map (λ entry. entry.1) entries) id
 any_value id [] = refl
@@ -141,7 +134,8 @@ any_value id (entry ∷ entries) = ap (λ b. same_ids id entry.1 || b) (any_valu
 pub amended_is : (entries : List (SiteCounter × SiteCounter)) (id : SiteCounter) (so : Bool) → (IsTrue so ↔ Any (λ entry. entry.1 ≡ id) entries)
     → so ≡ is_member same_ids (map (λ entry. entry.1) entries) id
 amended_is entries id so says =
-    same_truth so (list_any (λ entry. same_ids id entry.1) entries)
-    (λ t. let one = says.0 t in list_any-from_Any (λ entry. same_ids id entry.1) entries (one.0, one.1, one.2, one.3, (ids_decide id one.1.1).1 (sym one.4)))
-    (λ t. let one = Any-from_list_any (λ entry. same_ids id entry.1) entries t in says.1 (one.0, one.1, one.2, one.3, sym ((ids_decide id one.1.1).0 one.4)))
+    same_from_decides so (list_any (λ entry. same_ids id entry.1) entries) says (
+      λ t. let one = Any-from_list_any (λ entry. same_ids id entry.1) entries t in (one.0, one.1, one.2, one.3, sym ((ids_decide id one.1.1).0 one.4)),
+      λ one. list_any-from_Any (λ entry. same_ids id entry.1) entries (one.0, one.1, one.2, one.3, (ids_decide id one.1.1).1 (sym one.4)),
+    )
     ∙ any_value id entries

@@ -3,6 +3,7 @@ use Rattle.std.proofs.Common.{◌≡◌, ℕ, ℤ, zero, suc, ◌+◌, ◌*◌, 
 use Rattle.std.proofs.lemmas.List.{get_or-drop, get_or_append_left, get_or-append_right, get_or_at}
 use Rattle.std.proofs.lemmas.Bool.{cases_lt}
 use Rattle.std.specs.Result.{result_unwrap_or}
+use Rattle.stn_lift.proofs.FewBounds.{length-duration_bounds}
 use Rattle.stn_net.specs.{Difference.Difference, Horizon.horizon_bounds, Schedule.times_of}
 use Rattle.stn_net.proofs.Horizons.{length-horizon_bounds}
 use Rattle.stn_pddl.specs.{declared.fault.DomainFault.DomainFault, Schemas.ActionSchema, Domains.domain_of}
@@ -12,21 +13,15 @@ use Rattle.stn_lift.specs.PlanSource.{files, of_lift, steps_in, lifted, activiti
 use Rattle.stn_lift.proofs.Steps.{length-activities}
 use Rattle.stn_questions.specs.{Steps.planned_steps, Durations.least_of, Durations.AreDurations}
 
-length-durations : (duration : ℕ → ℤ) (steps : ℕ) → length (duration_bounds duration steps) ≡ steps
-unfolding duration_bounds
-length-durations duration zero = refl
-length-durations duration (suc steps) =
-    omega (arith, length-append (duration_bounds duration steps) (duration_bound steps (duration steps) ∷ []), length-durations duration steps)
-
 duration_at : (duration : ℕ → ℤ) (steps place : ℕ) (d : Difference) → place < steps → get_or (duration_bounds duration steps) place d ≡ duration_bound place (duration place)
 unfolding duration_bounds
 duration_at duration zero place d within = absurd (omega arith)
 duration_at duration (suc steps) place d within =
     ⊎_elim
-    (λ before. get_or_append_left (duration_bounds duration steps) (duration_bound steps (duration steps) ∷ []) d place (omega (arith, length-durations duration steps, before))
+    (λ before. get_or_append_left (duration_bounds duration steps) (duration_bound steps (duration steps) ∷ []) d place (omega (arith, length-duration_bounds duration steps, before))
     ∙ duration_at duration steps place d before)
     (λ after. let same : steps ≡ place = omega (arith, after) in
-    get_or_at (duration_bounds duration steps) (duration_bound steps (duration steps)) [] d place (length-durations duration steps ∙ same)
+    get_or_at (duration_bounds duration steps) (duration_bound steps (duration steps)) [] d place (length-duration_bounds duration steps ∙ same)
     ∙ ap (λ n. duration_bound n (duration n)) same)
     (cases_lt place steps)
 
@@ -68,7 +63,7 @@ lifted_last steps events place e within =
     ap (λ (bound : Difference). bound.lo)
     (bounds_last (horizon_bounds (2 * length steps)) (duration_bounds (duration_of steps) (length steps))
     (orders (events_interfere steps) (times_of (event_times steps)) (2 * length steps) (2 * length steps)) events place _
-    (length-horizon_bounds (2 * length steps) ∙ sym e) (omega (arith, length-durations (duration_of steps) (length steps)))
+    (length-horizon_bounds (2 * length steps) ∙ sym e) (omega (arith, length-duration_bounds (duration_of steps) (length steps)))
     ∙ duration_at (duration_of steps) (length steps) place _ within)
 
 lifted_length : (steps : List Activity) (events : ℕ) → events ≡ 2 * length steps → length steps ≤ length (drop events (lifted_bounds steps))
@@ -76,7 +71,7 @@ lifted_length steps events e =
     let first = horizon_bounds (2 * length steps) in
     let middle = duration_bounds (duration_of steps) (length steps) in
     let last = orders (events_interfere steps) (times_of (event_times steps)) (2 * length steps) (2 * length steps) in
-    omega (arith, length-drop events ((first ++ middle) ++ last), length-append (first ++ middle) last, length-append first middle, length-horizon_bounds (2 * length steps), length-durations (duration_of steps) (length steps))
+    omega (arith, length-drop events ((first ++ middle) ++ last), length-append (first ++ middle) last, length-append first middle, length-horizon_bounds (2 * length steps), length-duration_bounds (duration_of steps) (length steps))
 
 -- what lies after the horizon bounds of a plan in a domain
 pub durations_last : (domain plan : List ℕ) (events : ℕ) → events ≡ events_of (files domain plan) → IsSoundSource (files domain plan)

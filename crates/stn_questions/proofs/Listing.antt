@@ -1,6 +1,6 @@
 -- Texts that grow by a line.
 use Rattle.std.proofs.Common.{◌≡◌, ℕ, ℤ, zero, suc, ◌+◌, List, [], ◌∷◌, ◌++◌, length, map, take, get_or, ◌<◌, refl, sym, ap, ◌∙◌, arith, append_assoc}
-use Rattle.std.proofs.lemmas.List.{append-nil, map-append, take_more, length-map, length-take, get_or_read}
+use Rattle.std.proofs.lemmas.List.{append-nil, take_more, length-map, length-take, get_or_read, map_more}
 use Rattle.std.proofs.lemmas.List.Concat.{flat_map-append}
 use Rattle.std.specs.List.{flat_map, range_with_len}
 use Rattle.stn_net.specs.Difference.{Difference}
@@ -36,15 +36,6 @@ lines_grown f xs place x front old new within is was grown =
     (sym (ap (flat_map f) (take_more xs place x within ∙ ap (λ y. take place xs ++ y ∷ []) (sym is))
     ∙ flat_map-append f (take place xs) (x ∷ []) ∙ ap (λ last. flat_map f (take place xs) ++ last) (append-nil (f x))))
 
--- the text of one element more, seen by a view
-pub mapped_more : {X Y : Type 0} (f : Y → List ℕ) (view : X → Y) (xs : List X) (place : ℕ) (x : X) → place < length xs → x ≡ get_or xs place x
-    → flat_map f (map view (take (place + 1) xs)) ≡ flat_map f (map view (take place xs)) ++ f (view x)
-mapped_more f view xs place x within is =
-    ap (λ seen. flat_map f (map view seen)) (take_more xs place x within ∙ ap (λ y. take place xs ++ y ∷ []) (sym is))
-    ∙ ap (flat_map f) (map-append view (take place xs) (x ∷ []))
-    ∙ flat_map-append f (map view (take place xs)) (view x ∷ [])
-    ∙ ap (λ last. flat_map f (map view (take place xs)) ++ last) (append-nil (f (view x)))
-
 -- the lines of one step more
 pub step_lines-push : (duration : ℕ → ℤ) (before place : ℕ) (steps : List PlannedStep) (step : PlannedStep) → before + length steps ≡ place
     → step_lines duration before (steps ++ step ∷ []) ≡ step_lines duration before steps ++ step_line (place + 1) step (duration place)
@@ -76,7 +67,7 @@ pub names_grown : {X : Type 0} (view : X → PlannedStep) (xs : List X) (place :
 names_grown view xs place x front old new within is was grown =
     let seen = map view (take place xs) in
     let more : map view (take (place + 1) xs) ≡ seen ++ view x ∷ [] =
-    ap (map view) (take_more xs place x within ∙ ap (λ y. take place xs ++ y ∷ []) (sym is)) ∙ map-append view (take place xs) (x ∷ []) in
+    map_more view xs place x within ∙ ap (λ y. seen ++ view y ∷ []) (sym is) in
     grown
     ∙ ap (λ text. text ++ line (name_text (place + 1) (view x))) was
     ∙ append_assoc front (name_lines 0 seen) (line (name_text (place + 1) (view x)))
@@ -92,7 +83,7 @@ steps_grown view xs durations place x bound duration front old new within is the
     let seen = map view (take place xs) in
     let f = least_of durations in
     let more : map view (take (place + 1) xs) ≡ seen ++ view x ∷ [] =
-    ap (map view) (take_more xs place x within ∙ ap (λ y. take place xs ++ y ∷ []) (sym is)) ∙ map-append view (take place xs) (x ∷ []) in
+    map_more view xs place x within ∙ ap (λ y. seen ++ view y ∷ []) (sym is) in
     let count : 0 + length seen ≡ place = omega (arith, length-map (take place xs) view, length-take place xs) in
     let read : duration ≡ f place = lasts ∙ ap (λ (b : Difference). b.lo) (get_or_read durations place bound there at _) in
     grown

@@ -2,10 +2,11 @@
 use Rattle.std.proofs.Common.{◌≡◌, ℕ, ℤ, zero, suc, ◌+◌, ◌<◌, Bool, true, false, cond, eqb, List, [], ◌∷◌, length, get_or, All, Some, refl, sym, ap, subst, ◌∙◌, arith, ⊎_elim}
 use Rattle.std.proofs.{lemmas.Bool.cases_lt, lemmas.Bool.Decides.nat_tests, lemmas.Int.ints, lemmas.List.Elements.All-tail, lemmas.List.Sums.sum_by-cons}
 use Rattle.std.specs.List.{AllPairs}
+use Rattle.std.proofs.lemmas.Bool.{eq-eqb}
 use Rattle.stn_net.specs.Difference.{Difference}
 use Rattle.stn_net.specs.Windows.Dispatch.{IsReady, AreReadyTimes}
 use Rattle.stn_questions.specs.{declared.ready_event.ReadyEvent.ReadyEvent, Ready.IsBefore, Ready.AreReadyEvents}
-use Rattle.stn_questions.proofs.ReadyLists.{counted, same_number, HasTimes}
+use Rattle.stn_questions.proofs.ReadyLists.{counted, HasTimes}
 
 abbrev one_or_none : Bool → ℕ
 one_or_none same = cond same 1 0
@@ -53,8 +54,8 @@ module _ (bounds : List Difference) (done : List Bool) (now : ℤ) where
   same_first x y xs ys timed other_timed order other_order same =
       let p : HasTimes bounds done now x = timed 0 x (omega arith) in
       let q : HasTimes bounds done now y = other_timed 0 y (omega arith) in
-      let there = stands (y ∷ ys) x.event (omega (arith, same x.event, head_counts x xs x.event, ap one_or_none (same_number x.event x.event refl))) in
-      let back = stands (x ∷ xs) y.event (omega (arith, same y.event, head_counts y ys y.event, ap one_or_none (same_number y.event y.event refl))) in
+      let there = stands (y ∷ ys) x.event (omega (arith, same x.event, head_counts x xs x.event, ap one_or_none (eq-eqb x.event x.event refl))) in
+      let back = stands (x ∷ xs) y.event (omega (arith, same y.event, head_counts y ys y.event, ap one_or_none (eq-eqb y.event y.event refl))) in
       let u = get_or (y ∷ ys) there.0 y in
       let v = get_or (x ∷ xs) back.0 x in
       let at_u : u ≡ x = same_event u x (other_timed there.0 y there.1) p (there.2 y) in
@@ -68,9 +69,9 @@ module _ (bounds : List Difference) (done : List Bool) (now : ℤ) where
       → ((event : ℕ) → counted xs event ≡ counted ys event) → xs ≡ ys
   same_lists [] [] timed other_timed order other_order same = refl
   same_lists [] (y ∷ ys) timed other_timed order other_order same =
-      absurd (omega (arith, same y.event, head_counts y ys y.event, ap one_or_none (same_number y.event y.event refl)))
+      absurd (omega (arith, same y.event, head_counts y ys y.event, ap one_or_none (eq-eqb y.event y.event refl)))
   same_lists (x ∷ xs) [] timed other_timed order other_order same =
-      absurd (omega (arith, same x.event, head_counts x xs x.event, ap one_or_none (same_number x.event x.event refl)))
+      absurd (omega (arith, same x.event, head_counts x xs x.event, ap one_or_none (eq-eqb x.event x.event refl)))
   same_lists (x ∷ xs) (y ∷ ys) timed other_timed order other_order same =
       let first : x ≡ y = same_first x y xs ys timed other_timed order other_order same in
       let rest : xs ≡ ys = same_lists xs ys (All-tail (HasTimes bounds done now) x xs timed) (All-tail (HasTimes bounds done now) y ys other_timed)

@@ -1,9 +1,10 @@
 -- The events that are ready: each once, and in their order.
 use Rattle.std.proofs.Common.{◌≡◌, ◌≢◌, ℕ, ℤ, ◌+◌, ◌<◌, ◌≤◌, ◌≤ℤ◌, ◌<ℤ◌, Bool, true, false, cond, eqb, List, [], ◌∷◌, ◌++◌, get_or, Some, None, Ordering, Less, Equal, Greater, sym, ap, subst, ◌∙◌, arith, ⊎_elim}
-use Rattle.std.proofs.{lemmas.Bool.false≢true, lemmas.Bool.cases_lt, lemmas.Bool.Decides.nat_tests, lemmas.Int.ints, lemmas.List.Sorted.sorted_far, lemmas.List.Sorted.ranks_by, lemmas.List.Sums.sum_by_push}
+use Rattle.std.proofs.{lemmas.Bool.false≢true, lemmas.Bool.cases_lt, lemmas.Int.ints, lemmas.List.Sorted.sorted_far, lemmas.List.Sorted.ranks_by, lemmas.List.Sums.sum_by_push}
 use Rattle.std.proofs.lemmas.Cmp.{nat_cmp_total, int_cmp_total, on_total, then_total}
 use Rattle.std.specs.{Cmp.IsTotalOrder, Cmp.ranks, Cmp.int_ranks, List.AllPairs, List.count_by, List.Sorted.IsSorted}
 use Rattle.std.specs.Ordering.{MatchOrdering, nat_cmp, int_cmp, is_lt, ordering_then}
+use Rattle.std.proofs.lemmas.Bool.{eq-eqb, ne_eqb}
 use Rattle.stn_net.specs.Difference.{Difference}
 use Rattle.stn_net.specs.Windows.Dispatch.{IsReady, AreReadyTimes}
 use Rattle.stn_questions.specs.{declared.ready_event.ReadyEvent.ReadyEvent, Ready.IsBefore}
@@ -39,23 +40,17 @@ sorted_in_order xs sorted = λ i j d before within.
 abbrev pub counted : List ReadyEvent → ℕ → ℕ
 counted ready event = count_by (λ one. eqb one.event event) ready
 
-pub same_number : (a b : ℕ) → a ≡ b → eqb a b ≡ true
-same_number a b e = grind (arith, nat_tests)
-
-pub other_number : (a b : ℕ) → a ≢ b → eqb a b ≡ false
-other_number a b e = grind (arith, nat_tests)
-
 pushed : (ready : List ReadyEvent) (one : ReadyEvent) (event : ℕ) (same : Bool) → eqb one.event event ≡ same → counted (ready ++ one ∷ []) event ≡ counted ready event + cond same 1 0
 pushed ready one event same is =
     sum_by_push (λ (x : ReadyEvent). cond (eqb x.event event) 1 0) ready one ∙ ap (λ b. counted ready event + cond b 1 0) is
 
 -- one more of another event
 pub pushed_other : (ready : List ReadyEvent) (one : ReadyEvent) (event : ℕ) → one.event ≢ event → counted (ready ++ one ∷ []) event ≡ counted ready event
-pushed_other ready one event other = omega (arith, pushed ready one event false (other_number one.event event other))
+pushed_other ready one event other = omega (arith, pushed ready one event false (ne_eqb one.event event other))
 
 -- one more of this
 pushed_same : (ready : List ReadyEvent) (one : ReadyEvent) (event : ℕ) → one.event ≡ event → counted (ready ++ one ∷ []) event ≡ counted ready event + 1
-pushed_same ready one event same = pushed ready one event true (same_number one.event event same)
+pushed_same ready one event same = pushed ready one event true (eq-eqb one.event event same)
 
 module _ (bounds : List Difference) (done : List Bool) (now : ℤ) where
   -- the times from now on at which the event may run are those from its first to its last

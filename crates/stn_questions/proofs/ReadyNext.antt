@@ -1,7 +1,7 @@
 -- The first of the events that are ready is the one that comes next, and all may run until the same time.
-use Rattle.std.proofs.Common.{◌≡◌, ◌⊎◌, ℕ, ℤ, ◌+ℤ◌, ◌-ℤ◌, ◌≤ℤ◌, ◌<ℤ◌, suc, Bool, List, [], ◌∷◌, get_or, All, Ordering, Less, Equal, Greater, sym, ap, subst, ◌∙◌, arith, ⊎_elim, inl, inr}
-use Rattle.std.proofs.lemmas.Int.{ints, clamps}
-use Rattle.std.specs.{Cmp.int_ranks, Int.int_min, List.flat_map, Ordering.MatchOrdering, Ordering.int_cmp}
+use Rattle.std.proofs.Common.{◌≡◌, ◌⊎◌, ℕ, ℤ, ◌+ℤ◌, ◌-ℤ◌, ◌≤ℤ◌, ◌<ℤ◌, suc, Bool, List, [], ◌∷◌, get_or, All, sym, ap, subst, ◌∙◌, arith, ⊎_elim}
+use Rattle.std.proofs.lemmas.Int.{ints, clamps, by_lt_z}
+use Rattle.std.specs.{Int.int_min, List.flat_map}
 use Rattle.stn_net.specs.{Difference.Difference, Schedule.IsSchedule, declared.windows.answers.Next.TheVariants.Run, Windows.Dispatch.LeavesNoneBefore, Windows.Dispatch.IsReady, Windows.Dispatch.IsFirstReady}
 use Rattle.stn_net.proofs.{OneAnswer.one_next, WindowEnds.lesser_schedule}
 use Rattle.stn_lift.specs.PlanSource.{PlanSource}
@@ -9,14 +9,6 @@ use Rattle.stn_records.specs.Content.{Content}
 use Rattle.stn_site.specs.{Bounds.all_bounds, Report.done_events}
 use Rattle.stn_questions.specs.{declared.ready_event.ReadyEvent.ReadyEvent, Ready.AreReadyEvents, Ready.AreReadyLines, Ready.IsReadyAnswer, Ready.IsReadyText, Ready.ready_line, Ready.BeginsWithNext}
 use Rattle.stn_questions.proofs.{OneReady.stands, OneReady.first_before, ReadyLists.HasTimes}
-
-at_or_after : (a b : ℤ) → (a ≤ℤ b) ⊎ (b <ℤ a)
-at_or_after a b = by (int_cmp a b) (int_ranks a b)
-  where
-    by : (order : Ordering) → MatchOrdering order (a <ℤ b) (a ≡ b) (b <ℤ a) → (a ≤ℤ b) ⊎ (b <ℤ a)
-    by Less is = inl (omega (arith, ints))
-    by Equal is = inl (omega (arith, ints))
-    by Greater is = inr is
 
 module _ (bounds : List Difference) (done : List Bool) (now : ℤ) where
   -- an event that is ready is so later too, as long as in some schedule no event that is left comes before that
@@ -41,12 +33,11 @@ module _ (bounds : List Difference) (done : List Bool) (now : ℤ) where
   none_after x y p q =
       let last = (q.1 y.last).1 (q.0, omega (arith, ints)) in
       let first = (p.1 x.first).1 (omega (arith, ints), p.0) in
-      ⊎_elim
+      by_lt_z y.last x.first
+      (λ (before : y.last <ℤ x.first). let order = p.0 in omega (arith, ints))
       (λ (after : x.first ≤ℤ y.last).
       let moved = ready_later x.event x.first y.last last.1.possible.0 first.1 after last.1.possible.1 last.1.possible.3 in
       ((p.1 y.last).0 (last.0, moved)).1)
-      (λ (before : y.last <ℤ x.first). let order = p.0 in omega (arith, ints))
-      (at_or_after x.first y.last)
 
   -- the list of the events that are ready, where this one comes next
   next_first : (time : ℤ) (event : ℕ) (ready : List ReadyEvent) → IsFirstReady bounds done now time event → AreReadyEvents bounds done now ready

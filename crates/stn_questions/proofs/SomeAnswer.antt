@@ -1,15 +1,15 @@
 -- Each plan and each state have an answer to each question about events that the plan has.
-use Rattle.std.proofs.Common.{◌≡◌, inl, inr, ℕ, ℤ, ◌⊎◌, ◌≤◌, ◌<◌, true, ◌||◌, List, [], ◌∷◌, ◌++◌, neg_ℤ, map, Ordering, Less, Equal, Greater, refl, sym, ap, ◌∙◌, arith}
-use Rattle.std.specs.{List.AllByRecursion, List.flat_map, List.Sorted.IsStrictlySortedBy, Ordering.is_lt, Set.is_member, FinMap.is_sorted, FinMap.contains_key-keys, FinMap.Entries.below_all}
+use Rattle.std.proofs.Common.{◌≡◌, inl, inr, ℕ, ℤ, ◌⊎◌, ◌≤◌, ◌<◌, true, ◌||◌, List, [], ◌∷◌, ◌++◌, neg_ℤ, map, Less, refl, sym, ap, ◌∙◌, arith}
+use Rattle.std.specs.{List.AllByRecursion, List.flat_map, List.Sorted.IsStrictlySortedBy, Set.is_member, FinMap.is_sorted, FinMap.contains_key-keys, FinMap.Entries.below_all}
 use Rattle.std.specs.FinMap as fin
-use Rattle.std.proofs.lemmas.Bool.{cases_lt, and_parts, false≢true}
+use Rattle.std.proofs.lemmas.Bool.{cases_lt, and_parts}
 use Rattle.std.proofs.lemmas.Map.Views.{Contains-from_any, list_any-from_Contains}
 use Rattle.stn_net.specs.{Difference.Difference, Matrix.Tightest.IsTightest}
 use Rattle.stn_net.specs.Windows.Window.{IsWindow}
 use Rattle.stn_net.proofs.WindowEnds.{window_of_ends}
 use Rattle.stn_lift.specs.PlanSource.{PlanSource, events_of}
 use Rattle.stn_records.specs.{Id.SiteCounter, Id.id_cmp, Id.same_ids, Content.Content, Content.IdSet, Content.with_ids, Content.replaced_set, Content.is_known}
-use Rattle.stn_records.proofs.{Entries.in_order, Replaced.with_ids_member}
+use Rattle.stn_records.proofs.{Entries.in_order, Entries.less_is, Replaced.with_ids_member}
 use Rattle.stn_conflict.specs.{declared.links.Link.Link, Arcs.weight_of, Named.IsWay}
 use Rattle.stn_conflict.proofs.CycleSums.{weight_of_way}
 use Rattle.stn_site.specs.{Bounds.all_bounds, Report.IsConflictPart}
@@ -21,15 +21,10 @@ use Rattle.stn_questions.specs.Why.{end_text, IsReasonPart}
 use Rattle.stn_questions.proofs.{Found.AreFound, Found.possible_found, Found.tightest_found, Levels.some_way, SomeReport.IsSoundState, SomeReport.differences, SomeReport.some_conflict, KnownOnce.laws, KnownOnce.same_is}
 
 -- ---- the known ids
-less_of : (order : Ordering) → is_lt order ≡ true → order ≡ Less
-less_of Less e = refl
-less_of Equal e = absurd (false≢true e)
-less_of Greater e = absurd (false≢true e)
-
 module _ {X : Type 0} where
   all_below : (key : SiteCounter) (entries : List (SiteCounter × X)) → below_all id_cmp key entries ≡ true → AllByRecursion (λ other. id_cmp key other ≡ Less) (map (λ entry. entry.0) entries)
   all_below key [] e = tt
-  all_below key (entry ∷ entries) e = let both = and_parts _ _ e in (less_of _ both.0, all_below key entries both.1)
+  all_below key (entry ∷ entries) e = let both = and_parts _ _ e in (less_is _ both.0, all_below key entries both.1)
 
   keys_rise : (entries : List (SiteCounter × X)) → is_sorted id_cmp entries ≡ true → IsStrictlySortedBy id_cmp (map (λ entry. entry.0) entries)
   unfolding IsStrictlySortedBy

@@ -1,7 +1,8 @@
 -- What refuses a step, and what an accepted step tells.
-use Rattle.std.proofs.Common.{◌≡◌, ◌≢◌, ℕ, ℤ, ◌<◌, ◌≤◌, Bool, true, false, not, ◌&&◌, cond, leb, Option, Some, None, length, ap, sym, ◌∙◌, arith}
+use Rattle.std.proofs.Common.{◌≡◌, ◌≢◌, ℕ, ℤ, ◌<◌, ◌≤◌, Bool, true, not, ◌&&◌, cond, leb, Option, Some, None, length, ap, sym, ◌∙◌, arith}
 use Rattle.std.specs.{Prelude.◌==◌, Prelude.unwrap_or, Prelude.option_map, Bool.Decides, Bool.then_some, Option.option_or}
 use Rattle.std.proofs.{lemmas.Bool.false_from_ne_true, lemmas.Bool.Decides.nat_tests}
+use Rattle.std.proofs.lemmas.Bool.{eq-eqb, ne_eqb, lt-leb}
 use Rattle.stn_net.specs.Difference.{Difference}
 use Rattle.stn_records.specs.{Id.SiteCounter, Content.Content}
 use Rattle.stn_site.specs.declared.faults.ReplicaFault.{ReplicaFault}
@@ -40,10 +41,6 @@ no_site world site refusal missing =
 pub at_packet : (world : World) (number : ℕ) (refusal : Option WorldFault) → HasPacket world number → option_or (then_some (not (has_packet world number)) NoPacket) refusal ≡ refusal
 at_packet world number refusal there = ap (λ b. option_or (then_some (not b) NoPacket) refusal) ((packet_decides world number).1 there)
 
-no_packet : (world : World) (number : ℕ) (refusal : Option WorldFault) → ¬ HasPacket world number → option_or (then_some (not (has_packet world number)) NoPacket) refusal ≡ Some NoPacket
-no_packet world number refusal missing =
-    ap (λ b. option_or (then_some (not b) NoPacket) refusal) (false_from_ne_true (has_packet world number) (λ e. missing ((packet_decides world number).0 e)))
-
 -- the fault of a call at a site that is not there
 pub site_missing : (world : World) (site : ℕ) (refusal : Option WorldFault) (fault : WorldFault) → fault ≡ NoSite → ¬ HasSite world site
     → fault ≡ unwrap_or (option_or (missing world site) refusal) Memory
@@ -61,26 +58,22 @@ accepted_site world site refusal e =
     let both = or_none (missing world site) refusal e in
     ((site_decides world site).0 (untested (has_site world site) NoSite both.0), both.1)
 
+-- a call at a site is accepted where the site is there and its replica accepts it
+accepted_call : (world : World) (site : ℕ) (refusal : Option ReplicaFault) → option_or (missing world site) (option_map of_replica_fault refusal) ≡ None → HasSite world site × (refusal ≡ None)
+accepted_call world site refusal e = let both = accepted_site world site (option_map of_replica_fault refusal) e in (both.0, mapped_none of_replica_fault refusal both.1)
+
 pub accepted_addition : (world : World) (site : ℕ) (bound : Difference) → IsAccepted world (added site bound) → HasSite world site × (add_refusal (held_at world site) bound ≡ None)
-accepted_addition world site bound e =
-    let both = accepted_site world site (option_map of_replica_fault (add_refusal (held_at world site) bound)) e in
-    (both.0, mapped_none of_replica_fault (add_refusal (held_at world site) bound) both.1)
+accepted_addition world site bound e = accepted_call world site (add_refusal (held_at world site) bound) e
 
 pub accepted_execution : (world : World) (site event : ℕ) (time : ℤ) → IsAccepted world (finished site event time) → HasSite world site × (done_refusal (held_at world site) event ≡ None)
-accepted_execution world site event time e =
-    let both = accepted_site world site (option_map of_replica_fault (done_refusal (held_at world site) event)) e in
-    (both.0, mapped_none of_replica_fault (done_refusal (held_at world site) event) both.1)
+accepted_execution world site event time e = accepted_call world site (done_refusal (held_at world site) event) e
 
 pub accepted_amendment : (world : World) (site : ℕ) (old : SiteCounter) (bound : Difference) → IsAccepted world (amended site old bound)
     → HasSite world site × (amend_refusal (held_at world site) old bound ≡ None)
-accepted_amendment world site old bound e =
-    let both = accepted_site world site (option_map of_replica_fault (amend_refusal (held_at world site) old bound)) e in
-    (both.0, mapped_none of_replica_fault (amend_refusal (held_at world site) old bound) both.1)
+accepted_amendment world site old bound e = accepted_call world site (amend_refusal (held_at world site) old bound) e
 
 pub accepted_withdrawal : (world : World) (site : ℕ) (id : SiteCounter) → IsAccepted world (withdrew site id) → HasSite world site × (withdraw_refusal (held_at world site) id ≡ None)
-accepted_withdrawal world site id e =
-    let both = accepted_site world site (option_map of_replica_fault (withdraw_refusal (held_at world site) id)) e in
-    (both.0, mapped_none of_replica_fault (withdraw_refusal (held_at world site) id) both.1)
+accepted_withdrawal world site id e = accepted_call world site (withdraw_refusal (held_at world site) id) e
 
 pub accepted_merge : (world : World) (site other : ℕ) → IsAccepted world (merged site other) → HasSite world site × HasSite world other
 accepted_merge world site other e =
@@ -88,12 +81,6 @@ accepted_merge world site other e =
     (first.0, (accepted_site world other _ first.1).0)
 
 -- ---- merges
-same_sites : (site other : ℕ) → site ≡ other → (site == other) ≡ true
-same_sites site other e = grind (arith, nat_tests)
-
-other_sites : (site other : ℕ) → site ≢ other → (site == other) ≡ false
-other_sites site other e = grind (arith, nat_tests)
-
 merge_there : (world : World) (site other : ℕ) → HasSite world site → HasSite world other
     → step_refusal world (merged site other) ≡ cond (site == other) None (option_map of_replica_fault (take_refusal (held_at world site) (content_at world other)))
 merge_there world site other there other_there = at_site world site _ there ∙ at_site world other _ other_there
@@ -101,13 +88,13 @@ merge_there world site other there other_there = at_site world site _ there ∙ 
 -- a site that merges itself
 pub merge_itself : (world : World) (site other : ℕ) → HasSite world site → HasSite world other → site ≡ other → IsAccepted world (merged site other)
 merge_itself world site other there other_there same =
-    merge_there world site other there other_there ∙ ap (λ b. cond b None (option_map of_replica_fault (take_refusal (held_at world site) (content_at world other)))) (same_sites site other same)
+    merge_there world site other there other_there ∙ ap (λ b. cond b None (option_map of_replica_fault (take_refusal (held_at world site) (content_at world other)))) (eq-eqb site other same)
 
 -- two sites
 pub merge_refusal : (world : World) (site other : ℕ) → HasSite world site → HasSite world other → site ≢ other
     → step_refusal world (merged site other) ≡ option_map of_replica_fault (take_refusal (held_at world site) (content_at world other))
 merge_refusal world site other there other_there apart =
-    merge_there world site other there other_there ∙ ap (λ b. cond b None (option_map of_replica_fault (take_refusal (held_at world site) (content_at world other)))) (other_sites site other apart)
+    merge_there world site other there other_there ∙ ap (λ b. cond b None (option_map of_replica_fault (take_refusal (held_at world site) (content_at world other)))) (ne_eqb site other apart)
 
 pub merge_free : (world : World) (site other : ℕ) → HasSite world site → HasSite world other → site ≢ other → take_refusal (held_at world site) (content_at world other) ≡ None
     → IsAccepted world (merged site other)
@@ -138,25 +125,12 @@ sending_free world site part there inside =
     at_site world site (then_some (not (is_part part (content_at world site))) (Replica replica_fault.Unknown)) there
     ∙ ap (λ b. then_some (not b) (Replica replica_fault.Unknown)) ((part_decides part (content_at world site)).1 inside)
 
-room_left : (a b : ℕ) → a < b → leb b a ≡ false
-room_left a b h = grind (arith, nat_tests)
-
-no_room : (a b : ℕ) → b ≤ a → leb b a ≡ true
-no_room a b h = grind (arith, nat_tests)
-
--- where there is room for a packet more, and where there is none
+-- where there is room for a packet more
 pub send_with_room : (world : World) (site : ℕ) (held : Bool) → HasSite world site → length world.packets < most_packets
     → send_refusal world site held ≡ then_some (not held) (Replica replica_fault.Unknown)
 send_with_room world site held there room =
     at_site world site _ there
-    ∙ ap (λ b. option_or (then_some b TooManyPackets) (then_some (not held) (Replica replica_fault.Unknown))) (room_left (length world.packets) most_packets room)
-
-pub too_many_packets : (world : World) (site : ℕ) (held : Bool) (fault : WorldFault) → HasSite world site → fault ≡ TooManyPackets → most_packets ≤ length world.packets
-    → fault ≡ unwrap_or (send_refusal world site held) Memory
-too_many_packets world site held fault there is full =
-    let cause : send_refusal world site held ≡ Some TooManyPackets =
-    at_site world site _ there ∙ ap (λ b. option_or (then_some b TooManyPackets) (then_some (not held) (Replica replica_fault.Unknown))) (no_room (length world.packets) most_packets full) in
-    is ∙ ap (λ o. unwrap_or o Memory) (sym cause)
+    ∙ ap (λ b. option_or (then_some b TooManyPackets) (then_some (not held) (Replica replica_fault.Unknown))) (lt-leb most_packets (length world.packets) room)
 
 -- ---- deliveries
 pub accepted_delivery : (world : World) (site number : ℕ) → IsAccepted world (delivered site number)
@@ -169,10 +143,3 @@ accepted_delivery world site number e =
 pub delivery_refusal : (world : World) (site number : ℕ) → HasSite world site → HasPacket world number
     → step_refusal world (delivered site number) ≡ option_map of_replica_fault (take_refusal (held_at world site) (packet_at world number))
 delivery_refusal world site number there packet_there = at_site world site _ there ∙ at_packet world number _ packet_there
-
--- the packet is not there
-pub packet_missing : (world : World) (site number : ℕ) (fault : WorldFault) → HasSite world site → fault ≡ NoPacket → ¬ HasPacket world number
-    → fault ≡ unwrap_or (step_refusal world (delivered site number)) Memory
-packet_missing world site number fault there is gone =
-    let cause : step_refusal world (delivered site number) ≡ Some NoPacket = at_site world site _ there ∙ no_packet world number _ gone in
-    is ∙ ap (λ o. unwrap_or o Memory) (sym cause)

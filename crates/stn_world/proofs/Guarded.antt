@@ -1,8 +1,9 @@
 -- Sites that keep to what is their own keep a schedule of all that they hold.
-use Rattle.std.proofs.Common.{◌≡◌, inl, inr, ⊎_elim, ℕ, ℤ, ◌+◌, ◌-◌, ◌<◌, ◌≤◌, Bool, true, false, cond, not, ◌&&◌, ◌||◌, eqb, is_some, List, [], ◌∷◌, ◌++◌, length, get_or, refl, sym, subst, ◌∙◌, arith}
+use Rattle.std.proofs.Common.{◌≡◌, inl, inr, ⊎_elim, ℕ, ℤ, ◌+◌, ◌-◌, ◌<◌, ◌≤◌, Bool, true, false, cond, not, ◌&&◌, eqb, is_some, List, [], ◌∷◌, ◌++◌, length, get_or, refl, sym, subst, ◌∙◌, arith}
 use Rattle.std.specs.{Prelude.All, Prelude.filter, Prelude.flat_map, List.range_with_len}
 use Rattle.std.proofs.{lemmas.Bool.false≢true, lemmas.Bool.and_parts, lemmas.Bool.Decides.nat_tests, lemmas.List.length-set, lemmas.List.FromFn.length-range_with_len, lemmas.List.FromFn.get_or-range_with_len}
 use Rattle.std.proofs.lemmas.List.Elements.{All-nil, All-append, All-filter, All-head, All-tail}
+use Rattle.std.proofs.lemmas.Bool.{or_right, not-true}
 use Rattle.stn_time.proofs.Each.{All-left, All-right}
 use Rattle.stn_net.specs.{Difference.Difference, Schedule.HasSchedule, Schedule.Meets}
 use Rattle.stn_net.specs.Windows.Rehearsal.{fixed_at}
@@ -19,10 +20,6 @@ use Rattle.stn_world.specs.World.{World, HasSite, has_site, content_at, packet_a
 use Rattle.stn_world.specs.Steps.{Step, added, finished, amended, withdrew, merged, sent, delivered, IsAccepted, after, stepped, run}
 use Rattle.stn_world.specs.{Whole.IsCoherent, Guarded.IsOwnItem, Guarded.IsBesideOwn, Guarded.HoldsGuarded, Guarded.KeepsToOwn}
 use Rattle.stn_world.proofs.{Accepted.site_decides, Accepted.accepted_addition, Accepted.accepted_execution, Accepted.accepted_sending, Parts.sent_inside, Runs.for_step, Runs.coherent_stepped, Whole.each_site, Whole.each_packet, Whole.kept, Whole.sites_join, Whole.packet_joins}
-
-or_right : (a b : Bool) → b ≡ true → (a || b) ≡ true
-or_right true b e = refl
-or_right false b e = e
 
 own_execution : (owner : ℕ → ℕ) (site event : ℕ) (time : ℤ) → owner event ≡ site → is_own owner site (fixed_at time event) ≡ true
 own_execution owner site event time own =
@@ -100,12 +97,8 @@ module _ (owner : ℕ → ℕ) (state : Content) where
       (All-tail (KeepsToOwn owner) step steps own)
 
 -- ---- a record that is there is live where its id is not replaced
-not_true : (b : Bool) → not b ≡ true → b ≡ false
-not_true true e = absurd (false≢true e)
-not_true false e = refl
-
 unreplaced : (content : Content) (id : SiteCounter) → is_live content id ≡ true → is_replaced content id ≡ false
-unreplaced content id live = not_true (is_replaced content id) (and_parts (is_some _) (not (is_replaced content id)) live).1
+unreplaced content id live = not-true (is_replaced content id) (and_parts (is_some _) (not (is_replaced content id)) live).1
 
 -- ---- all that the sites hold together
 module _ (owner : ℕ → ℕ) (state : Content) (world : World) (coherent : IsCoherent world) (holds : HoldsGuarded owner state world) where

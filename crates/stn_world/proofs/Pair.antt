@@ -1,34 +1,17 @@
 -- Two replicas of a list, of which one takes in what the other holds.
-use Rattle.std.proofs.Common.{◌≡◌, ◌≢◌, ℕ, zero, suc, ◌-◌, ◌<◌, ◌≤◌, List, [], ◌∷◌, ◌++◌, length, set, get_or, take, drop, refl, ap, sym, ◌∙◌, arith, subst, length-append}
-use Rattle.std.proofs.lemmas.List.{length-set, set-get_or, get_or-set_same, get_or_append_left, get_or_default}
+use Rattle.std.proofs.Common.{◌≡◌, ◌≢◌, ℕ, ◌-◌, ◌<◌, ◌≤◌, List, ◌++◌, length, set, get_or, take, drop, ap, sym, ◌∙◌, arith, subst, length-append}
+use Rattle.std.proofs.lemmas.List.{length-set, set-get_or, get_or-set_same, get_or_append_left, get_or_default, set-append_left, set-append_right, get_or-append_right, take_at}
 use Rattle.stn_lift.specs.PlanSource.{PlanSource}
 use Rattle.stn_records.specs.Content.{Content, IsPart, no_content, joined_contents}
 use Rattle.stn_site.specs.{Held.Held, Calls.took, Calls.Leaves, Refusals.take_refusal}
 use Rattle.stn_world.specs.{World.World, World.HasSite, World.content_at, World.with_content, World.merge, Sites.world_of, Whole.IsSites, Whole.held_in, Whole.IsCoherent, Whole.IsSoundWorld}
 use Rattle.stn_world.proofs.Sites.{IsHeldAt, held_at_place, world_set, sites_set, join_is_joined, joined_itself}
 
-set_front : {X : Type 0} (front back : List X) (i : ℕ) (x : X) → i < length front → set front i x ++ back ≡ set (front ++ back) i x
-set_front [] back i x lt = absurd (omega arith)
-set_front (y ∷ front) back zero x lt = refl
-set_front (y ∷ front) back (suc i) x lt = ap (λ l. y ∷ l) (set_front front back i x (omega arith))
-
 set_back : {X : Type 0} (front back : List X) (i : ℕ) (x : X) → length front ≡ i → front ++ set back 0 x ≡ set (front ++ back) i x
-set_back [] back zero x e = refl
-set_back [] back (suc i) x e = absurd (omega arith)
-set_back (y ∷ front) back zero x e = absurd (omega arith)
-set_back (y ∷ front) back (suc i) x e = ap (λ l. y ∷ l) (set_back front back i x (omega arith))
+set_back front back i x e = sym (set-append_right front back i i x e (omega arith) ∙ (let here : i - i ≡ 0 = omega arith in ap (λ k. front ++ set back k x) here))
 
 get_back : {X : Type 0} (front back : List X) (i : ℕ) (d : X) → length front ≡ i → get_or (front ++ back) i d ≡ get_or back 0 d
-get_back [] back zero d e = refl
-get_back [] back (suc i) d e = absurd (omega arith)
-get_back (y ∷ front) back zero d e = absurd (omega arith)
-get_back (y ∷ front) back (suc i) d e = get_back front back i d (omega arith)
-
-take_all : {X : Type 0} (xs zs : List X) (n : ℕ) → length xs ≡ n → take n (xs ++ zs) ≡ xs
-take_all [] zs zero e = refl
-take_all [] zs (suc n) e = absurd (omega arith)
-take_all (x ∷ xs) zs zero e = absurd (omega arith)
-take_all (x ∷ xs) zs (suc n) e = ap (λ l. x ∷ l) (take_all xs zs n (omega arith))
+get_back front back i d e = get_or-append_right front back i i d e (omega arith) ∙ (let here : i - i ≡ 0 = omega arith in ap (λ k. get_or back k d) here)
 
 within_front : (front back : List Held) (i : ℕ) → i < length front → i < length (front ++ back)
 within_front front back i lt = omega (arith, length-append front back)
@@ -48,7 +31,7 @@ one_back xs front back i one e at lt is =
 -- a replica that has changed, in either part
 got_front : (front back : List Held) (i : ℕ) (next : Held) → i < length front → next ≡ held_in (set front i next ++ back) i
 got_front front back i next lt =
-    sym (ap (λ (l : List Held). held_in l i) (set_front front back i next lt) ∙ get_or-set_same (front ++ back) i next _ (within_front front back i lt))
+    sym (ap (λ (l : List Held). held_in l i) (sym (set-append_left front back i next lt)) ∙ get_or-set_same (front ++ back) i next _ (within_front front back i lt))
 
 got_back : (front back : List Held) (i : ℕ) (next : Held) → length front ≡ i → 0 < length back → next ≡ held_in (front ++ set back 0 next) i
 got_back front back i next at lt =
@@ -57,7 +40,7 @@ got_back front back i next at lt =
 pub changed_front : (xs front back : List Held) (i : ℕ) (next : Held) → xs ≡ front ++ back → i < length front
     → set front i next ++ back ≡ set xs i (held_in (set front i next ++ back) i)
 changed_front xs front back i next e lt =
-    set_front front back i next lt ∙ (ap (λ (l : List Held). set l i next) (sym e) ∙ ap (set xs i) (got_front front back i next lt))
+    sym (set-append_left front back i next lt) ∙ (ap (λ (l : List Held). set l i next) (sym e) ∙ ap (set xs i) (got_front front back i next lt))
 
 pub changed_back : (xs front back : List Held) (i : ℕ) (next : Held) → xs ≡ front ++ back → length front ≡ i → 0 < length back
     → front ++ set back 0 next ≡ set xs i (held_in (front ++ set back 0 next) i)
@@ -67,7 +50,7 @@ changed_back xs front back i next e at lt =
 -- a replica that has stayed as it was
 pub kept_front : (xs front back : List Held) (i : ℕ) (one next : Held) → xs ≡ front ++ back → i < length front → one ≡ get_or front i one → next ≡ one → set front i next ++ back ≡ xs
 kept_front xs front back i one next e lt is same =
-    set_front front back i next lt ∙ (ap (λ (l : List Held). set l i next) (sym e)
+    sym (set-append_left front back i next lt) ∙ (ap (λ (l : List Held). set l i next) (sym e)
     ∙ (ap (set xs i) (same ∙ one_front xs front back i one e lt is) ∙ set-get_or xs i _))
 
 pub kept_back : (xs front back : List Held) (i : ℕ) (one next : Held) → xs ≡ front ++ back → length front ≡ i → 0 < length back → one ≡ get_or back 0 one → next ≡ one → front ++ set back 0 next ≡ xs
@@ -96,7 +79,7 @@ moved_part one other a b e f inside = subst (λ (c : Content). IsPart c one.stat
 
 -- the replicas after a borrowed slice that was given back
 back_again : (replicas new : List Held) (len : ℕ) → length new ≡ len → take len (new ++ drop (length new) replicas) ≡ new
-back_again replicas new len lengths = take_all new (drop (length new) replicas) len lengths
+back_again replicas new len lengths = take_at new (drop (length new) replicas) len lengths
 
 set_again : (replicas borrowed new : List Held) (place len : ℕ) → borrowed ≡ replicas → length borrowed ≡ len → new ≡ set borrowed place (held_in new place)
     → take len (new ++ drop (length new) replicas) ≡ set replicas place (held_in new place)

@@ -4,6 +4,7 @@ use Rattle.std.specs.{Prelude.IsTrue, Bool.Decides, List.list_all, Option.option
 use Rattle.std.specs.FinMap as fin
 use Rattle.std.proofs.lemmas.Bool.{false≢true}
 use Rattle.std.proofs.lemmas.Bool.Decides.{Decides-by_and, Decides-and, Decides-like}
+use Rattle.std.proofs.lemmas.Option.{same_Some}
 use Rattle.stn_records.specs.{Id.SiteCounter, Id.id_cmp, Id.same_ids, declared.record.Record.Record, Record.same_records}
 use Rattle.stn_records.specs.Content.{Content, addition, withdrawal, replacement, HasItem, AllHeld, AllAmend, part_of, plain, IsPart}
 use Rattle.stn_records.specs.ContentLaws.{ids_total, ids_exact, ids_decide, records_decide}
@@ -15,10 +16,7 @@ options_decide : {X : Type 0} (same : X → X → Bool) → ((x y : X) → Decid
 options_decide same decides None None = (λ _. refl, λ _. refl)
 options_decide same decides None (Some y) = (λ e. absurd (false≢true e), λ e. absurd (false≢true (ap is_some e)))
 options_decide same decides (Some x) None = (λ e. absurd (false≢true e), λ e. absurd (false≢true (sym (ap is_some e))))
-options_decide same decides (Some x) (Some y) = (λ e. ap Some ((decides x y).0 e), λ e. (decides x y).1 (value_of e))
-  where
-    value_of : Some x ≡ Some y → x ≡ y
-    value_of e = cc
+options_decide same decides (Some x) (Some y) = (λ e. ap Some ((decides x y).0 e), λ e. (decides x y).1 (same_Some x y e))
 
 key_decides : {X : Type 0} (o : Option X) → Decides (is_some o) ((x : X) × (o ≡ Some x))
 key_decides None = (λ e. absurd (false≢true e), λ h. absurd (false≢true (ap is_some h.1)))

@@ -1,7 +1,7 @@
 -- The replicas of a world, as they are made and as one of them changes.
-use Rattle.std.proofs.Common.{◌≡◌, true, false, ltb, not, is_some, Some, None, Option, ℕ, zero, suc, ◌+◌, ◌-◌, ◌<◌, ◌≤◌, List, [], ◌∷◌, ◌++◌, length, map, replicate, set, get_or, refl, ap, sym, ◌∙◌, arith, subst}
+use Rattle.std.proofs.Common.{◌≡◌, true, false, ltb, not, is_some, Some, None, Option, ℕ, zero, suc, ◌+◌, ◌-◌, ◌<◌, ◌≤◌, List, [], ◌∷◌, ◌++◌, length, map, replicate, set, get_or, refl, ap, sym, ◌∙◌, arith, subst, add-one}
 use Rattle.std.proofs.{lemmas.Bool.false≢true, lemmas.List.FromFn.get_or-range_with_len, Math.Seq.map-set_same}
-use Rattle.std.proofs.lemmas.List.{get_or_default, map-append, map-set, length-set, length-append, get_or-map, length-map}
+use Rattle.std.proofs.lemmas.List.{get_or_default, map-append, map-set, length-set, length-append, get_or-map, length-map, replicate_more, get_or-replicate}
 use Rattle.std.specs.List.{range_with_len}
 use Rattle.stn_lift.specs.PlanSource.{PlanSource}
 use Rattle.stn_records.specs.Content.{Content, IsPart, no_content, dispute_contents, join_contents, joined_contents}
@@ -17,11 +17,6 @@ pub range_more : (a n : ℕ) → range_with_len a (suc n) ≡ range_with_len a n
 range_more a zero = ap (λ k. k ∷ []) (omega arith)
 range_more a (suc n) = ap (λ ks. a ∷ ks) (range_more (a + 1) n ∙ ap (λ k. range_with_len (a + 1) n ++ k ∷ []) (omega arith))
 
--- one more of the same
-pub replicate_more : {A : Type 0} (n : ℕ) (x : A) → replicate (suc n) x ≡ replicate n x ++ x ∷ []
-replicate_more zero x = refl
-replicate_more (suc n) x = ap (λ xs. x ∷ xs) (replicate_more n x)
-
 -- so many replicas of one plan, in order of site from 1 on, that hold nothing
 pub record IsStarted (source : PlanSource) (count : ℕ) (replicas : List Held) : Type 0 where
   pub counted : length replicas ≡ count
@@ -35,8 +30,8 @@ pub started_more : (source : PlanSource) (count : ℕ) (replicas : List Held) (o
 started_more source count replicas one so_far site src state = let site_is : one.site ≡ 1 + count = omega arith in record {
   counted = length-append replicas (one ∷ []) ∙ omega (arith, so_far.counted);
   numbers = map-append (λ (r : Held). r.site) replicas (one ∷ []) ∙ (ap (λ ks. ks ++ one.site ∷ []) so_far.numbers ∙ (ap (λ k. range_with_len 1 count ++ k ∷ []) site_is ∙ sym (range_more 1 count)));
-  sources = map-append (λ (r : Held). r.source) replicas (one ∷ []) ∙ (ap (λ ks. ks ++ one.source ∷ []) so_far.sources ∙ (ap (λ k. replicate count source ++ k ∷ []) src ∙ sym (replicate_more count source)));
-  nothing = map-append (λ (r : Held). r.state) replicas (one ∷ []) ∙ (ap (λ ks. ks ++ one.state ∷ []) so_far.nothing ∙ (ap (λ k. replicate count no_content ++ k ∷ []) state ∙ sym (replicate_more count no_content)));
+  sources = map-append (λ (r : Held). r.source) replicas (one ∷ []) ∙ (ap (λ ks. ks ++ one.source ∷ []) so_far.sources ∙ (ap (λ k. replicate count source ++ k ∷ []) src ∙ (replicate_more count source ∙ ap (λ (n : ℕ). replicate n source) (add-one count))));
+  nothing = map-append (λ (r : Held). r.state) replicas (one ∷ []) ∙ (ap (λ ks. ks ++ one.state ∷ []) so_far.nothing ∙ (ap (λ k. replicate count no_content ++ k ∷ []) state ∙ (replicate_more count no_content ∙ ap (λ (n : ℕ). replicate n no_content) (add-one count))));
 }
 
 -- and they are a world's
@@ -58,16 +53,11 @@ pub site_at : (source : PlanSource) (replicas : List Held) (place : ℕ) (d : He
 site_at source replicas place d sites there =
     sym (get_or-map (λ (r : Held). r.site) replicas place d 0 there) ∙ (ap (λ ks. get_or ks place 0) sites.numbers ∙ (get_or-range_with_len 1 (length replicas) place 0 there ∙ omega arith))
 
-get_or-replicate : {A : Type 0} (n : ℕ) (x d : A) (i : ℕ) → i < n → get_or (replicate n x) i d ≡ x
-get_or-replicate zero x d i there = absurd (omega arith)
-get_or-replicate (suc n) x d zero there = refl
-get_or-replicate (suc n) x d (suc i) there = get_or-replicate n x d i (omega arith)
-
 -- a replica is of the world's plan
 pub source_at : (source : PlanSource) (replicas : List Held) (place : ℕ) (d : Held) → IsSites source replicas → place < length replicas
     → (get_or replicas place d).source ≡ source
 source_at source replicas place d sites there =
-    sym (get_or-map (λ (r : Held). r.source) replicas place d source there) ∙ (ap (λ ks. get_or ks place source) sites.sources ∙ get_or-replicate (length replicas) source source place there)
+    sym (get_or-map (λ (r : Held). r.source) replicas place d source there) ∙ (ap (λ ks. get_or ks place source) sites.sources ∙ get_or-replicate (length replicas) place source source there)
 
 -- a replica changes, and its site and its plan stay
 pub sites_set : (source : PlanSource) (replicas : List Held) (place : ℕ) (one d : Held) → IsSites source replicas

@@ -1,7 +1,8 @@
 -- The sites of a world stay parts of a whole.
-use Rattle.std.proofs.Common.{◌≡◌, ◌≢◌, ◌↔◌, ◌⊎◌, inl, inr, ⊎_elim, ℕ, zero, suc, ◌-◌, Bool, true, false, not, ◌||◌, is_some, Option, Some, None, List, [], ◌∷◌, ◌++◌, set, get_or, replicate, All, refl, ap, sym, subst, ◌∙◌, arith}
+use Rattle.std.proofs.Common.{◌≡◌, ◌≢◌, ◌↔◌, ◌⊎◌, inl, inr, ⊎_elim, ℕ, zero, suc, ◌-◌, Bool, true, false, not, ◌||◌, is_some, Option, Some, None, List, [], ◌∷◌, ◌++◌, set, get_or, All, refl, ap, sym, subst, ◌∙◌, arith}
 use Rattle.std.proofs.{lemmas.Bool.false≢true, lemmas.Bool.or_cases, lemmas.List.get_or-set_same}
 use Rattle.std.specs.FinMap as fin
+use Rattle.stn_site.proofs.Flags.{get_or-replicate_same}
 use Rattle.stn_net.specs.Difference.{Difference, NamesEvents, IsBoundWithin}
 use Rattle.stn_lift.specs.PlanSource.{PlanSource, events_of}
 use Rattle.stn_records.specs.{Id.SiteCounter, declared.record.Record.Record}
@@ -333,13 +334,8 @@ grows_after world (delivered at number) coherent site item there =
     kept world at (joined_contents (content_at world at) (packet_at world number)) site item
     (λ i h. (contents_join.union (content_at world at) (packet_at world number) (joined_contents (content_at world at) (packet_at world number)) (packet_joins world coherent at number) i).1 (inl h)) there
 
-get_same : {X : Type 0} (n : ℕ) (x : X) (i : ℕ) → get_or (replicate n x) i x ≡ x
-get_same zero x i = refl
-get_same (suc n) x zero = refl
-get_same (suc n) x (suc i) = get_same n x i
-
 pub nothing_at_first : (source : PlanSource) (sites site : ℕ) → content_at (opening_world source sites) site ≡ no_content
-nothing_at_first source sites site = get_same sites no_content (site - 1)
+nothing_at_first source sites site = get_or-replicate_same sites no_content (site - 1)
 
 nothing_amends : AllAmend no_content
 nothing_amends id old there = absurd (nothing_there (replacement id old) there)

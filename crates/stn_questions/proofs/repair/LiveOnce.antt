@@ -4,6 +4,7 @@ use Rattle.std.specs.{List.Contains, FinMap.entries, FinMap.get}
 use Rattle.stn_records.specs.{Id.SiteCounter, declared.record.Record.Record, Content.Content, Content.is_replaced, Content.live_of, ContentLaws.ids_total, ContentLaws.ids_exact}
 use Rattle.stn_records.proofs.Gets.{entries_from_get}
 use Rattle.std.proofs.lemmas.List.Elements.{All-contains}
+use Rattle.std.proofs.lemmas.Option.{same_Some}
 use Rattle.stn_questions.proofs.repair.Elements.{from_filter}
 
 added : (state : Content) (id : SiteCounter) (one : Record) → Contains (entries state.additions) (id, one) → get state.additions id ≡ Some one
@@ -11,11 +12,8 @@ added state id one there =
     All-contains (λ (entry : SiteCounter × Record). get state.additions entry.0 ≡ Some entry.1) (entries state.additions) (id, one)
     (entries_from_get ids_total ids_exact state.additions (λ (entry : SiteCounter × Record). get state.additions entry.0 ≡ Some entry.1) (λ q v e. e)) there
 
-same_value : {X : Type 0} (x y : X) → Some x ≡ Some y → x ≡ y
-same_value x y e = cc
-
 pub live_once : (state : Content) (id : SiteCounter) (one other : Record) → Contains (live_of state) (id, one) → Contains (live_of state) (id, other) → one ≡ other
 live_once state id one other here there =
-    same_value one other
+    same_Some one other
     (sym (added state id one (from_filter (λ (entry : SiteCounter × Record). not (is_replaced state entry.0)) (entries state.additions) (id, one) here).0)
     ∙ added state id other (from_filter (λ (entry : SiteCounter × Record). not (is_replaced state entry.0)) (entries state.additions) (id, other) there).0)

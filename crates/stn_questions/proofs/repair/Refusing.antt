@@ -1,6 +1,6 @@
 -- Which records are refused, one after another.
-use Rattle.std.proofs.Common.{◌≡◌, ◌↔◌, IsTrue, Bool, false, ℕ, ℤ, length-drop, ◌+◌, ◌-◌, ◌<◌, ◌≤◌, List, [], ◌∷◌, ◌++◌, length, take, drop, get_or, refl, sym, ap, subst, ◌∙◌, inl, inr, arith, add-one, append_assoc}
-use Rattle.std.proofs.{lemmas.Bool.false≢true, Math.Seq.drop-cons, Math.ListN.drop_of_length-le, lemmas.List.Elements.All-take}
+use Rattle.std.proofs.Common.{◌≡◌, ◌↔◌, IsTrue, Bool, ℕ, ℤ, length-drop, ◌+◌, ◌-◌, ◌<◌, ◌≤◌, List, [], ◌∷◌, ◌++◌, length, take, drop, get_or, refl, sym, ap, subst, ◌∙◌, inl, inr, arith, add-one, append_assoc}
+use Rattle.std.proofs.{Math.Seq.drop-cons, Math.ListN.drop_of_length-le, lemmas.List.Elements.All-take}
 use Rattle.std.proofs.lemmas.List.{append-nil, take_more, take_all, take_rest, get_or-drop}
 use Rattle.stn_net.specs.{Difference.Difference, Schedule.Meets, Schedule.IsSchedule, Schedule.HasSchedule, Horizon.horizon_bounds, Matrix.Table.Table, Matrix.Tightest.IsExact}
 use Rattle.stn_lift.specs.PlanSource.{PlanSource, base_bounds, events_of, planned_of, IsSoundSource}
@@ -13,9 +13,6 @@ pub record IsRefusedSoFar (base : List Difference) (order : List (SiteCounter ×
   pub kept : List Difference
   pub exact : IsExact kept table
   pub rest : (later : List SiteCounter) → AreRefused kept (drop place order) later → AreRefused base order (refused ++ later)
-
-pub none_so_far : (base : List Difference) (order : List (SiteCounter × Record)) (table : Table) → IsExact base table → IsRefusedSoFar base order 0 [] table
-none_so_far base order table exact = record { kept = base; exact = exact; rest = λ later h. h }
 
 module _ (base : List Difference) (order : List (SiteCounter × Record)) (place : ℕ) (entry : SiteCounter × Record) (refused : List SiteCounter) (old new : Table)
     (there : place < length order) (is_at : entry ≡ get_or order place entry) (so_far : IsRefusedSoFar base order place refused old) where
@@ -50,10 +47,6 @@ all_refused base order place refused table past so_far =
 -- the first bounds of some that have a schedule have one
 pub first_have : (bounds : List Difference) (count : ℕ) (time : ℕ → ℤ) → IsSchedule bounds time → HasSchedule (take count bounds)
 first_have bounds count time is = (time, record { origin = is.origin; met = All-take (Meets time) count bounds is.met })
-
--- what is not so where a test that decides it fails
-pub refuted : {P : Type 0} (so : Bool) → (IsTrue so ↔ P) → so ≡ false → P → ⊥
-refuted so says e p = false≢true (sym e ∙ says.1 p)
 
 -- the plan's bounds up to one more of those after its horizon bounds
 module _ (source : PlanSource) (sound : IsSoundSource source) (bounds : List Difference) (from index : ℕ) (bound : Difference) (are : bounds ≡ base_bounds source) (begins : from ≡ events_of source)

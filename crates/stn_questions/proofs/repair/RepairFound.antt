@@ -1,11 +1,12 @@
 -- The repair by a record, by the tightest differences of its events over the others.
 use Rattle.std.proofs.Common.{◌≡◌, ℕ, ℤ, pos, neg_ℤ, ◌+◌, ◌<◌, ◌≤◌, List, ◌++◌, length, get_or, refl, sym, ap, subst, ◌∙◌, arith, All}
-use Rattle.std.specs.List.{AllByRecursion, Any}
+use Rattle.std.specs.List.{Any}
 use Rattle.std.proofs.{lemmas.List.get_or_read, lemmas.List.length-map, lemmas.List.Elements.All-from_recursion, lemmas.List.Elements.All-weaker}
-use Rattle.std.proofs.Common.{length-append, [], ◌∷◌}
+use Rattle.std.proofs.Common.{length-append}
+use Rattle.stn_conflict.proofs.CycleSums.{places_of_chain}
 use Rattle.stn_net.specs.{Difference.Difference, Difference.NamesEvents, Schedule.HasSchedule, Schedule.times_of}
 use Rattle.stn_net.specs.Matrix.Tightest.{IsTightest}
-use Rattle.stn_conflict.specs.{declared.links.Link.Link, Arcs.IsChain, Arcs.IsNegativeCycle, Distances.AreDistancesFrom, Distances.AreDistancesTo}
+use Rattle.stn_conflict.specs.{declared.links.Link.Link, Arcs.IsNegativeCycle, Distances.AreDistancesFrom, Distances.AreDistancesTo}
 use Rattle.stn_records.specs.{Id.SiteCounter, declared.record.Record.Record}
 use Rattle.stn_site.specs.Bounds.{bounds_of}
 use Rattle.stn_questions.specs.{Repair.Ranges.IsRange, Repair.Repairs.others, Repair.Repairs.IsRepair, Repair.Links.IsLinkOf}
@@ -40,18 +41,13 @@ repair_found base own rest events n id bound from to place back least far there 
           (range_of_ends (base ++ rest) bound.from bound.to (times_of here bound.to) (times_of there bound.to) home onward));
     }
 
--- the links of a chain are of the bounds
-chain_places : (bounds : List Difference) (links : List Link) (x y : ℕ) → IsChain bounds links x y → AllByRecursion (λ (link : Link). link.place < length bounds) links
-chain_places bounds [] x y chain = tt
-chain_places bounds (link ∷ links) x y chain = (chain.0, chain_places bounds links _ y chain.2)
-
 pub cycle_places : (base own : List Difference) (live : List (SiteCounter × Record)) (links : List Link) → own ≡ base → IsNegativeCycle (base ++ bounds_of live) links
     → All (λ (link : Link). link.place < length own + length live) links
 cycle_places base own live links own_is cycle =
     All-weaker (λ (link : Link). link.place < length (base ++ bounds_of live)) (λ (link : Link). link.place < length own + length live)
     (λ link below. omega (arith, below, length-append base (bounds_of live), length-map live (λ (entry : SiteCounter × Record). entry.1.bound), ap length own_is))
     links
-    (All-from_recursion (λ (link : Link). link.place < length (base ++ bounds_of live)) links (chain_places (base ++ bounds_of live) links cycle.closed.0 cycle.closed.0 cycle.closed.1))
+    (All-from_recursion (λ (link : Link). link.place < length (base ++ bounds_of live)) links (places_of_chain (base ++ bounds_of live) links cycle.closed.0 cycle.closed.0 cycle.closed.1))
 
 -- where the cycle has no link of a record, the others have no schedule
 pub not_on_cycle : (base own : List Difference) (live : List (SiteCounter × Record)) (id : SiteCounter) (links : List Link) → own ≡ base → IsNegativeCycle (base ++ bounds_of live) links

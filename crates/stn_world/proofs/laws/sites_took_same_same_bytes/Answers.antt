@@ -1,6 +1,7 @@
 use Rattle.stn_world.specs.{World.opening_world, World.content_at, Steps.run}
-use Rattle.stn_world.proofs.{Runs.sites_are_unions, Runs.same_unions, Alike.alike_unions}
+use Rattle.stn_world.proofs.{Runs.sites_are_unions, Runs.same_unions}
 use Rattle.stn_world.proofs.laws.sites_took_same_same_bytes.Goals as goal
+use Rattle.stn_site.proofs.Counts.{alike_unions}
 
 pub returns-clause-bytes : goal.returns-clause-bytes
 returns-clause-bytes c = λ source sites others ours theirs site other there other_there same.

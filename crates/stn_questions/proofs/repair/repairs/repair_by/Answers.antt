@@ -1,9 +1,10 @@
 use Rattle.std.proofs.Common.{◌≡◌, List, All, sym, ap, subst, ◌++◌, ◌∙◌, IfOk, MatchOption}
+use Rattle.std.proofs.lemmas.Bool.{iff_false}
 use Rattle.stn_net.specs.{Difference.Difference, Difference.NamesEvents, Schedule.HasSchedule}
 use Rattle.stn_lift.specs.PlanSource.{base_bounds, events_of}
 use Rattle.stn_site.specs.Bounds.{bounds_of}
 use Rattle.stn_questions.specs.Repair.Repairs.{without, IsRepair}
-use Rattle.stn_questions.proofs.{repair.Listing.others_named, repair.Refusing.refuted, repair.RepairFound.cycle_places, repair.RepairFound.not_on_cycle}
+use Rattle.stn_questions.proofs.{repair.Listing.others_named, repair.RepairFound.cycle_places, repair.RepairFound.not_on_cycle}
 use Rattle.stn_questions.proofs.repair.repairs.repair_by.Goals as goal
 
 pub has_link_of-requires : goal.has_link_of-requires
@@ -12,7 +13,7 @@ has_link_of-requires g c = cycle_places (base_bounds c.args.base.now) c.bounds.r
 pub returns-then-not-has_link_of : goal.returns-then-not-has_link_of
 returns-then-not-has_link_of g c =
     not_on_cycle (base_bounds c.args.base.now) c.bounds.result.now c.args.live.now c.args.id c.args.cycle.now c.bounds.ensures.value c.requires.negative
-    (refuted c.has_link_of.result c.has_link_of.ensures c.if-not-has_link_of.true)
+    (iff_false c.has_link_of.ensures c.if-not-has_link_of.true)
 
 pub repair_over-requires-clause-named : goal.repair_over-requires-clause-named
 repair_over-requires-clause-named g c =
