@@ -5,6 +5,15 @@ use Rattle.std.specs.Io.KnownBytes.{Appends, Consumes}
 use Rattle.std.specs.Result.{is_ok, OnOk}
 use Rattle.stn_device.specs.Bytes.{ConsumesAtMost}
 
+-- the fault of an answer
+abbrev pub fault_or : {X E : Type 0} → E → Result X E → E
+fault_or other (Ok given) = other
+fault_or other (Err fault) = fault
+
+-- an answer that was given is no fault
+pub not_err : {X E : Type 0} (given : X) (fault : E) → (let answer : Result X E = Ok given in answer) ≡ Err fault → ⊥
+not_err given fault is = cc
+
 -- what an answer ensures where it was given
 pub on_given : {X E P : Type 0} (answer : Result X E) → true ≡ is_ok answer → OnOk answer P → P
 on_given (Ok given) is p = p
